@@ -1,0 +1,38 @@
+-- A group of writes: some words are put, their lines flushed, and a fence made.
+use Rattle.std.specs.Prelude.{◌≡◌, ◌⊎◌, ◌==◌, ℕ, ◌/◌, ◌<◌, if◌then◌else◌, List, [], ◌∷◌, ◌++◌, length, map, slice_index}
+use Rattle.pmem_trait.specs.declared.call.Call.{Call}
+use Rattle.pmem_trait.specs.declared.call.Call.TheVariants.{Put, Flush, Fence}
+use Rattle.pmem_trait.specs.Words.{Point, IsIn, MayBe, newest, still}
+
+-- a put for each pair of a place and a value
+abbrev pub put_pairs : List (ℕ × ℕ) → List Call
+put_pairs [] = []
+put_pairs (w ∷ ws) = Put w.0 w.1 ∷ put_pairs ws
+
+-- a flush for each line
+abbrev pub flush_lines : List ℕ → List Call
+flush_lines [] = []
+flush_lines (l ∷ ls) = Flush l ∷ flush_lines ls
+
+-- the puts, the flushes, and the fence
+unfoldable pub group_calls : List (ℕ × ℕ) → List ℕ → List Call
+group_calls ws ls = put_pairs ws ++ (flush_lines ls ++ Fence ∷ [])
+
+-- the values written at place k, in order
+abbrev pub written : List (ℕ × ℕ) → ℕ → List ℕ
+written [] k = []
+written (w ∷ ws) k = if k == w.0 then w.1 ∷ written ws k else written ws k
+
+-- the last value written at place k, or x where there is none
+abbrev pub final : List (ℕ × ℕ) → ℕ → ℕ → ℕ
+final ws k x = newest x (written ws k)
+
+-- an image in which each word is as it may have been before, or as some write has it
+pub record OldOrNew (len : ℕ) (p : Point) (ws : List (ℕ × ℕ)) (image : List ℕ) : Type 0 where
+  pub size : length image ≡ len
+  pub each : (k : ℕ) → k < len → MayBe (p.word k) (slice_index image k) ⊎ IsIn (slice_index image k) (written ws k)
+
+-- after the group each word whose line was flushed is settled at the last value written there
+abbrev pub SettlesGroup : List (ℕ × ℕ) → List ℕ → Point → Point → Type 0
+SettlesGroup ws ls p q =
+    (k x : ℕ) → p.word k ≡ still x → (written ws k ≡ []) ⊎ IsIn (k / 8) ls → q.word k ≡ still (final ws k x)

@@ -1,0 +1,4 @@
+pub mod Groups
+pub mod Listed
+pub mod Sights
+pub mod Words

@@ -1,0 +1,19 @@
+-- What the list of calls made says of a caller: exactly these, or a front of them whose last one failed.
+use Rattle.std.specs.Prelude.{◌≡◌, ℕ, ◌<◌, false, true, List, [], ◌∷◌, ◌++◌, map, length, IsTrue, take, slice_index_or}
+use Rattle.pmem_trait.specs.declared.call.Call.{Call}
+use Rattle.pmem_trait.specs.declared.made.Made.{Made}
+use Rattle.pmem_trait.specs.Sights.{Sight}
+
+-- a call that was made and didn't fail
+abbrev pub was_made : Call → Made
+was_made c = record { call = c; failed = false }
+
+-- these calls were made and none of them failed
+abbrev pub AllMade : List Call → Sight → Sight → Type 0
+AllMade cs s t = IsTrue t.lists → t.made ≡ s.made ++ map was_made cs
+
+-- a front of these calls was made, the last of which failed and no other
+abbrev pub FrontMade : List Call → Sight → Sight → Type 0
+FrontMade cs s t = IsTrue t.lists →
+    (front : List Call) × (last : Call) × (rest : List Call)
+    × (cs ≡ front ++ last ∷ rest) × (t.made ≡ s.made ++ (map was_made front ++ record { call = last; failed = true } ∷ []))

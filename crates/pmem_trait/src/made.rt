@@ -1,0 +1,8 @@
+use crate::call::Call;
+
+/// A call that was made on a medium, and whether it failed.
+#[derive(Clone, Copy, Debug, PartialEq, Eq)]
+pub struct Made {
+    pub call: Call,
+    pub failed: bool,
+}
