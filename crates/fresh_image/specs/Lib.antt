@@ -1,0 +1,4 @@
+pub mod Fresh
+pub mod Layout
+pub mod Record
+pub mod Recovery
