@@ -1,0 +1,4 @@
+pub mod GroupLaw
+pub mod Images
+pub mod Laws
+pub mod Runs
