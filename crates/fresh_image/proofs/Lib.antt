@@ -1,1 +1,4 @@
+pub mod Groups
+pub mod Lists
 pub mod Shown
+pub mod UpdateLaw

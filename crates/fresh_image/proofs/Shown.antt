@@ -2,6 +2,8 @@
 use Rattle.std.proofs.Common.{◌≡◌, ◌≢◌, ℕ, ◌+◌, ◌-◌, ◌*◌, ◌/◌, ◌%◌, ◌^◌, ◌<◌, ◌≤◌, List, [], ◌∷◌, length, take, drop, refl, sym, ◌∙◌, ap, arith, get_or, subst, inl, inr, ◌⊎◌, map}
 use Rattle.std.specs.List.{range_with_len}
 use Rattle.std.proofs.Math.Nat.{eq-zero-or-pos}
+use Rattle.std.proofs.lemmas.List.{get_or-take, get_or-drop, length-take, length-drop}
+use Rattle.std.proofs.lemmas.Grind.{same_number_lists}
 use Rattle.std.specs.Prelude.{slice_index, slice_range, slice_set, All, AllPairs}
 use Rattle.fresh_image.specs.Layout.{Sizes, AreSizes, sizes_of, mark_of, magic, number_limit, pages_for, place_in_cell, home_of, home_start, home_length, image_length}
 use Rattle.fresh_image.specs.Record.{Cell, IsCell, IsComplete, kind_of, number_of, head_tag, tag_of, cell_word, cell_after, count_of, cells_for, write_of, writes_of}
@@ -9,7 +11,7 @@ use Rattle.fresh_image.specs.Recovery.{IsFormatted, IsNewHead, IsUndamaged, HasR
 use Rattle.fresh_image.specs.Fresh.{fresh_sizes, fresh_length, fresh_home_length, fresh_home_start, fresh_header}
 
 -- The words of an image that recovery looks at, but for the home words and the first cell's body.
-pub record Shows (subscribers mark tag : ℕ) (image : List ℕ) : Type 0 where
+pub record HasWords (subscribers mark tag : ℕ) (image : List ℕ) : Type 0 where
   pub header : (k : ℕ) → k < 8 → slice_index image k ≡ slice_index (fresh_header subscribers) k
   pub mark_is : slice_index image 8 ≡ mark
   pub tag_is : slice_index image 16 ≡ tag
@@ -17,7 +19,7 @@ pub record Shows (subscribers mark tag : ℕ) (image : List ℕ) : Type 0 where
   pub long : fresh_length subscribers ≤ length image
 
 -- the image is formatted with the sizes of so many subscribers
-pub shows_sizes : {S m t : ℕ} {image : List ℕ} → Shows S m t image → sizes_of image ≡ fresh_sizes S
+pub shows_sizes : {S m t : ℕ} {image : List ℕ} → HasWords S m t image → sizes_of image ≡ fresh_sizes S
 shows_sizes {S} sh =
     let e2 = sh.header 2 (omega arith) in
     let e3 = sh.header 3 (omega arith) in
@@ -31,7 +33,7 @@ fresh_sizes_are S low high = record {
     subscribers = (low, high); calls = (omega arith, omega arith); rings = (omega arith, omega arith);
     cells = (omega arith, omega arith); pages = refl }
 
-pub shows_formatted : {S m t : ℕ} {image : List ℕ} → 1 ≤ S → S ≤ 10000 → Shows S m t image → IsFormatted 0 image
+pub shows_formatted : {S m t : ℕ} {image : List ℕ} → 1 ≤ S → S ≤ 10000 → HasWords S m t image → IsFormatted 0 image
 shows_formatted {S} {image = image} low high sh =
     let es = shows_sizes sh in
     record {
@@ -48,7 +50,7 @@ pub place_of_cell : (s : Sizes) (c : Cell) (word : ℕ) → c.ring ≡ 0 → pla
 place_of_cell s c word z = rw z (omega arith)
 
 -- a cell of the image is one of the sixteen of ring 0
-pub shows_cell : {S m t : ℕ} {image : List ℕ} → Shows S m t image → (c : Cell) → IsCell (sizes_of image) c → (c.ring ≡ 0) × (c.place < 16)
+pub shows_cell : {S m t : ℕ} {image : List ℕ} → HasWords S m t image → (c : Cell) → IsCell (sizes_of image) c → (c.ring ≡ 0) × (c.place < 16)
 shows_cell {S} {image = image} sh c is =
     let e4 = sh.header 4 (omega arith) in
     let e5 = sh.header 5 (omega arith) in
@@ -57,7 +59,7 @@ shows_cell {S} {image = image} sh c is =
     (omega arith, omega arith)
 
 -- its tag, where it isn't the first cell, is 0
-pub shows_clear : {S m t : ℕ} {image : List ℕ} → Shows S m t image → (c : Cell) → c.ring ≡ 0 → c.place < 16 → c.place ≢ 0 → tag_of image c ≡ 0
+pub shows_clear : {S m t : ℕ} {image : List ℕ} → HasWords S m t image → (c : Cell) → c.ring ≡ 0 → c.place < 16 → c.place ≢ 0 → tag_of image c ≡ 0
 shows_clear {image = image} sh c z small ne =
     ap (slice_index image) (place_of_cell (sizes_of image) c 0 z) ∙ sh.cells (16 + c.place * 8 + 0) (omega arith) (omega arith)
 
@@ -69,7 +71,7 @@ cell_is c r p =
     ap by_ring r ∙ ap by_place p
 
 -- a head over the mark is the first cell
-pub shows_first : {S m t : ℕ} {image : List ℕ} → Shows S m t image → (c : Cell) → IsNewHead image c → c ≡ record { ring = 0; place = 0 }
+pub shows_first : {S m t : ℕ} {image : List ℕ} → HasWords S m t image → (c : Cell) → IsNewHead image c → c ≡ record { ring = 0; place = 0 }
 shows_first {image = image} sh c new =
     let w = shows_cell sh c new.cell in
     elim (eq-zero-or-pos c.place) [
@@ -86,11 +88,11 @@ shows_word image c word e =
     ap (slice_index image) at
 
 -- the tag of a head over the mark is that of the first cell
-pub shows_tag : {S m t : ℕ} {image : List ℕ} → Shows S m t image → (c : Cell) → IsNewHead image c → tag_of image c ≡ t
+pub shows_tag : {S m t : ℕ} {image : List ℕ} → HasWords S m t image → (c : Cell) → IsNewHead image c → tag_of image c ≡ t
 shows_tag {image = image} sh c new = shows_word image c 0 (shows_first sh c new) ∙ sh.tag_is
 
 -- Where the first cell has no head over the mark, the image recovers to the mark and the home words.
-pub shows_rest : {S m t : ℕ} {image : List ℕ} → 1 ≤ S → S ≤ 10000 → m ≤ number_limit → t ≤ head_tag m → Shows S m t image
+pub shows_rest : {S m t : ℕ} {image : List ℕ} → 1 ≤ S → S ≤ 10000 → m ≤ number_limit → t ≤ head_tag m → HasWords S m t image
     → Recovers 0 image m (home_of (sizes_of image) image)
 shows_rest {S} {m} {t} {image} low high small old sh =
     record {
@@ -118,7 +120,7 @@ abbrev first : Cell
 first = record { ring = 0; place = 0 }
 
 -- the writes of the first cell's record, where it has one
-writes_first : {S m t : ℕ} {image : List ℕ} (at value : ℕ) → Shows S m t image
+writes_first : {S m t : ℕ} {image : List ℕ} (at value : ℕ) → HasWords S m t image
     → slice_index image 17 ≡ 1 → slice_index image 18 ≡ at → slice_index image 19 ≡ value
     → writes_of image first ≡ (at, value) ∷ []
 writes_first {image = image} at value sh one at_is value_is =
@@ -127,13 +129,13 @@ writes_first {image = image} at value sh one at_is value_is =
     where
       same : cell_after image first 0 ≡ first
       same = cell_is (cell_after image first 0) refl (let e : slice_index image 5 ≡ 16 = sh.header 5 (omega arith) in rw e refl)
-      pair_is : {a b c d : ℕ} → a ≡ c → b ≡ d → (a, b) ≡ (c, d)
+      pair_is : {a b c d : ℕ} → a ≡ c → b ≡ d → ◌≡◌ {A = ℕ × ℕ} (a, b) (c, d)
       pair_is p q = cc
 
 -- Where the first cell has the head after the mark, with one write, the image recovers to that number, with the write
 -- in the home words.
 pub shows_next : {S m : ℕ} {image : List ℕ} (at value : ℕ) → 1 ≤ S → S ≤ 10000 → m + 1 ≤ number_limit
-    → Shows S m (head_tag (m + 1)) image
+    → HasWords S m (head_tag (m + 1)) image
     → slice_index image 17 ≡ 1 → slice_index image 18 ≡ at → slice_index image 19 ≡ value → at < fresh_home_length S
     → Recovers 0 image (m + 1) (slice_set (home_of (sizes_of image) image) at value)
 shows_next {S} {m} {image} at value low high small sh one at_is value_is inside =
@@ -167,15 +169,28 @@ shows_next {S} {m} {image} at value low high small sh one at_is value_is inside 
         cell = record { ring = omega (arith, sh.header 4 (omega arith)); place = omega (arith, sh.header 5 (omega arith)) };
         kind = kind_is;
         new = omega (arith, mark_is, tag_number) }
+      none : (k : ℕ) → 1 ≤ k → k < 1 → ⊥
+      none k a b = omega arith
       complete_first : IsComplete image first
       complete_first = record {
         kind = kind_is;
         number = (omega (arith, tag_number), omega (arith, tag_number));
         count = omega (arith, count_is);
         continued = λ k positive below. absurd (none k positive (rw count_is at below));
-        places = rw writes_is ?;
-        distinct = rw writes_is ?;
+        places = rw writes_is (λ k d below. let z : k ≡ 0 = omega arith in rw z (let e : slice_index image 6 ≡ pages_for S (12 * S) = sh.header 6 (omega arith) in omega arith));
+        distinct = rw writes_is (λ i j d before below _. omega arith);
       }
-      where
-        none : (k : ℕ) → 1 ≤ k → k < 1 → ⊥
-        none k a b = omega arith
+
+-- the home words of an image, from their values
+pub shows_home : {S m t : ℕ} {image : List ℕ} (home : List ℕ) → HasWords S m t image → length home ≡ fresh_home_length S
+    → ((k : ℕ) → k < length home → slice_index image (fresh_home_start + k) ≡ slice_index home k)
+    → home_of (sizes_of image) image ≡ home
+shows_home {S} {image = image} home sh count each =
+    let P : Sizes → Type 0 = λ s. home_of s image ≡ home in
+    subst P (sym (shows_sizes sh)) (same_number_lists (home_of (fresh_sizes S) image) home sizes same)
+    where
+      sizes : length (home_of (fresh_sizes S) image) ≡ length home
+      sizes = simp (length-take, length-drop) (omega (arith, sh.long))
+      same : (k : ℕ) → k < length (home_of (fresh_sizes S) image) → slice_index (home_of (fresh_sizes S) image) k ≡ slice_index home k
+      same k below = let small : k < length home = omega (arith, sizes) in
+          get_or-take _ (drop 144 image) k 0 (omega arith) ∙ (get_or-drop 144 image k 0 ∙ each k small)

@@ -1,3 +1,4 @@
+pub mod Calls
 pub mod Fresh
 pub mod Layout
 pub mod Record
