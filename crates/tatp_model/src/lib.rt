@@ -8,9 +8,13 @@ pub mod done;
 pub mod fac_row;
 pub mod numbers;
 pub mod reply;
+mod lookups;
+mod reads;
 pub mod request;
+pub mod step;
 pub mod sub_row;
 pub mod tables;
+mod writes;
 
 pub use access_row::{AccessData, AccessRow};
 pub use call_row::CallRow;
