@@ -1,2 +1,5 @@
+mod Calls
+mod NumbersLemmas
+mod Rising
 mod Rows
 mod WorkedReplies
