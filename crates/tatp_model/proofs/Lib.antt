@@ -1,0 +1,5 @@
+mod Calls
+mod NumbersLemmas
+mod Rising
+mod Rows
+mod WorkedReplies
