@@ -1,4 +1,5 @@
 pub mod Groups
+pub mod MediumLaws
 pub mod Listed
 pub mod Rounds
 pub mod Sights
