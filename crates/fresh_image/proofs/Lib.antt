@@ -1,3 +1,4 @@
+pub mod FormatLaw
 pub mod Groups
 pub mod Lists
 pub mod Shown

@@ -6,7 +6,7 @@ use Rattle.std.proofs.lemmas.Bool.{cases_eq, cases_order}
 use Rattle.std.specs.Prelude.{slice_index, slice_set}
 use Rattle.pmem_trait.specs.declared.call.Call.{Call}
 use Rattle.pmem_trait.specs.declared.call.Call.TheVariants.{Tell}
-use Rattle.pmem_trait.specs.Words.{newest, Point, IsIn, still, after, after_all, Leaves, Along, end, more}
+use Rattle.pmem_trait.specs.Words.{newest, Point, IsIn, IsImage, still, after, after_all, Leaves, Along, end, more}
 use Rattle.pmem_trait.specs.Groups.{group_calls, OldOrNew, written, final}
 use Rattle.pmem_trait.proofs.GroupLaw.{group_law, group_word, group_told}
 use Rattle.pmem_trait.proofs.Laws.{along_then, along_call, after_all_then}
@@ -147,14 +147,24 @@ body_within at value =
     (omega arith, omega arith, (omega arith, omega arith, (omega arith, omega arith, (omega arith, omega arith,
       (omega arith, omega arith, (omega arith, omega arith, (omega arith, omega arith, tt)))))))
 
--- The first group: the record's body. Each image is as before.
-pub body_images : {S n t len : ℕ} {home : List ℕ} {p : Point} {image : List ℕ} (at value : ℕ) → 1 ≤ S → S ≤ 10000 → fresh_length S ≤ len
-    → n ≤ number_limit → t ≤ head_tag n → Stands S n t home p → OldOrNew len p (record_body at value) image → Recovers 0 image n home
-body_images {S} {n} {home = home} {image = image} at value low high long small old st mix =
+-- Where writes touch at most the first cell's body, each image is as before. So it is with the record's body.
+pub body_images : {S n t len : ℕ} {home : List ℕ} {p : Point} {image : List ℕ} (ws : List (ℕ × ℕ)) → Within 17 24 ws → 1 ≤ S → S ≤ 10000 → fresh_length S ≤ len
+    → n ≤ number_limit → t ≤ head_tag n → Stands S n t home p → OldOrNew len p ws image → Recovers 0 image n home
+body_images {S} {n} {home = home} {image = image} ws inside low high long small old st mix =
     let P : List ℕ → Type 0 = λ h. Recovers 0 image n h in
-    let has = mix_words 17 24 long mix (body_within at value) st (inl (omega arith, omega arith)) in
-    subst P (shows_home home has st.count (λ k below. kept 17 24 mix (body_within at value) (fresh_home_start + k) _ (omega (arith, long, st.count)) (inr (omega arith)) (st.words k below)))
+    let has = mix_words 17 24 long mix inside st (inl (omega arith, omega arith)) in
+    subst P (shows_home home has st.count (λ k below. kept 17 24 mix inside (fresh_home_start + k) _ (omega (arith, long, st.count)) (inr (omega arith)) (st.words k below)))
         (shows_rest low high small old has)
+
+-- all but the first cell's body of a medium at rest
+pub rests_stand : {S n : ℕ} {home : List ℕ} {p : Point} (rests : Rests S n home p) → Stands S n rests.head.0 home p
+rests_stand rests = record { header = rests.header; mark_is = rests.mark; tag_is = rests.head.2; cells = rests.cells; count = rests.count; words = rests.words }
+
+-- Each image of a medium at rest recovers to its number and its home words.
+pub rest_images : {S n len : ℕ} {home : List ℕ} {p : Point} → 1 ≤ S → S ≤ 10000 → fresh_length S ≤ len → n ≤ number_limit → Rests S n home p
+    → (image : List ℕ) → IsImage len p image → Recovers 0 image n home
+rest_images low high long small rests image is =
+    body_images [] tt low high long small rests.head.1 (rests_stand rests) (record { size = is.size; each = λ k below. inl (is.each k below) })
 
 -- The second group: the record's tag. Each image is as before, or has the update.
 pub tag_images : {S n t len : ℕ} {home : List ℕ} {p : Point} {image : List ℕ} (at value : ℕ) → 1 ≤ S → S ≤ 10000 → fresh_length S ≤ len
@@ -297,9 +307,9 @@ update_images {S} {n} {len} {home} {p} before at value low high long small insid
       P : List ℕ → List ℕ → Type 0
       P = ShowsEither before n home (slice_set home at value)
       stands : Stands S n rests.head.0 home p
-      stands = record { header = rests.header; mark_is = rests.mark; tag_is = rests.head.2; cells = rests.cells; count = rests.count; words = rests.words }
+      stands = rests_stand rests
       along_body : Along (Leaves len P) p (group_calls (record_body at value) (2 ∷ []))
-      along_body = group_law (record_body at value) (λ image mix. inl (body_images at value low high long (omega arith) rests.head.1 stands mix, floor)) (2 ∷ [])
+      along_body = group_law (record_body at value) (λ image mix. inl (body_images (record_body at value) (body_within at value) low high long (omega arith) rests.head.1 stands mix, floor)) (2 ∷ [])
       p1 : Point
       p1 = after_body at value p
       stands1 : Stands S n rests.head.0 home p1
@@ -374,7 +384,7 @@ update_rests {S} {n} {home} p at value inside rests =
       whole = after_all_then (body ++ tag) (Tell (n + 1) ∷ (store ++ mark)) p
           ∙ (ap (λ (q : Point). after_all (store ++ mark) (after (Tell (n + 1)) q)) (after_all_then body tag p) ∙ after_all_then store mark p3)
       stands : Stands S n rests.head.0 home p
-      stands = record { header = rests.header; mark_is = rests.mark; tag_is = rests.head.2; cells = rests.cells; count = rests.count; words = rests.words }
+      stands = rests_stand rests
       stands2 : Stands S n (head_tag (n + 1)) home p2
       stands2 = stands_past_tag (n + 1) (stands_past_body (record_body at value) (2 ∷ []) (body_within at value) stands)
       stands3 : Stands S n (head_tag (n + 1)) home p3
