@@ -1,13 +1,13 @@
 -- The calls that log one update: the record's body and then its tag are made durable, the number is told, then the home
 -- word and at last the mark are made durable.
-use Rattle.std.specs.Prelude.{◌≡◌, ◌⊎◌, ℕ, ◌+◌, ◌/◌, ◌≤◌, List, [], ◌∷◌, ◌++◌, drop}
+use Rattle.std.specs.Prelude.{◌≡◌, ◌⊎◌, ℕ, ◌+◌, ◌/◌, ◌<◌, ◌≤◌, List, [], ◌∷◌, ◌++◌, length, drop}
 use Rattle.pmem_trait.specs.declared.call.Call.{Call}
 use Rattle.pmem_trait.specs.declared.call.Call.TheVariants.{Tell}
-use Rattle.pmem_trait.specs.Words.{IsIn}
+use Rattle.pmem_trait.specs.Words.{IsIn, Point}
 use Rattle.pmem_trait.specs.Groups.{group_calls}
 use Rattle.fresh_image.specs.Record.{head_tag}
 use Rattle.fresh_image.specs.Recovery.{Recovers}
-use Rattle.fresh_image.specs.Fresh.{fresh_home_start}
+use Rattle.fresh_image.specs.Fresh.{Rests, fresh_home_start}
 
 -- words 1 to 7 of the first cell: one write, and zeros
 abbrev pub record_body : ℕ → ℕ → List (ℕ × ℕ)
@@ -46,3 +46,12 @@ Shows before number home told image = Recovers 0 image number home × AtLeast be
 abbrev pub ShowsEither : ℕ → ℕ → List ℕ → List ℕ → List ℕ → List ℕ → Type 0
 ShowsEither before number home next told image =
     Shows before number home told image ⊎ Shows before (number + 1) next told image
+
+-- the medium rests before an update of this home word, and the numbers told are at most its number
+abbrev pub StepsFrom : ℕ → ℕ → ℕ → List ℕ → ℕ → Point → Type 0
+StepsFrom subscribers before number home at p =
+    (at < length home) × Rests subscribers number home p × AtLeast before p.told number
+
+-- the medium rests at this number and these home words, and the number was told
+abbrev pub RestsTold : ℕ → ℕ → List ℕ → Point → Point → Type 0
+RestsTold subscribers number home old new = Rests subscribers number home new × (new.told ≡ old.told ++ number ∷ [])

@@ -6,7 +6,10 @@ use Rattle.pmem_trait.specs.declared.call.Call.{Call}
 use Rattle.pmem_trait.specs.declared.call.Call.TheVariants.{Tell}
 use Rattle.pmem_trait.specs.Groups.{group_calls}
 use Rattle.fresh_image.specs.Layout.{magic, pages_for}
-use Rattle.fresh_image.specs.Fresh.{fresh_length}
+use Rattle.pmem_trait.specs.Words.{Point}
+use Rattle.tatp_model.specs.Population.{population}
+use Rattle.fresh_image.specs.Fresh.{fresh_length, Rests}
+use Rattle.fresh_image.specs.Rows.{home_words}
 use Rattle.fresh_image.specs.Recovery.{Recovers}
 
 -- the words of the sixteen cells
@@ -37,3 +40,8 @@ format_calls subscribers home =
 -- nothing was told yet, or the image recovers to 0 and these home words
 abbrev pub ShowsOnceTold : List ℕ → List ℕ → List ℕ → List ℕ → Type 0
 ShowsOnceTold before home told image = (told ≡ before) ⊎ ((told ≡ before ++ 0 ∷ []) × Recovers 0 image 0 home)
+
+-- the medium rests at 0 with the population's home words, and 0 was told
+abbrev pub RestsFormatted : ℕ → Point → Point → Type 0
+RestsFormatted subscribers old new =
+    Rests subscribers 0 (home_words subscribers (population subscribers).subscribers) new × (new.told ≡ old.told ++ 0 ∷ [])
