@@ -1,7 +1,9 @@
-mod Calls
-mod Facilities
-mod NumbersLemmas
-mod Retained
-mod Rising
-mod Rows
-mod WorkedReplies
+pub mod Calls
+pub mod Facilities
+pub mod NumbersLemmas
+pub mod Retained
+pub mod Rising
+pub mod Rows
+pub mod Run
+pub mod Sequential
+pub mod WorkedReplies
