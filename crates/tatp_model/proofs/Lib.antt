@@ -1,5 +1,7 @@
 pub mod Calls
 pub mod Facilities
+pub mod InOrder
+pub mod Numbered
 pub mod NumbersLemmas
 pub mod Retained
 pub mod Rising
