@@ -5,3 +5,7 @@ pub mod Script
 pub mod MemFile
 pub mod MemFiles
 pub mod MemSink
+pub mod FaultCount
+pub mod Clock
+pub mod Silent
+pub mod Line

@@ -1,15 +1,12 @@
 -- Which calls on a thing in memory fail.
 use Rattle.std.specs.Prelude.{◌≡◌, ◌==◌, ℕ, ◌+◌, ◌-◌, ◌^◌, min, Bool, List}
 use Rattle.std.specs.List.{list_any}
+use Rattle.dude_io.specs.FaultCount.{up_to_last}
 use Rattle.dude_io.specs.declared.script.Script.{Script}
-
--- a count of 64 bits stays at its last value
-abbrev pub last_count : ℕ → ℕ
-last_count n = min n (2 ^ 64 - 1)
 
 -- the number of the next call
 abbrev pub next_call : Script → ℕ
-next_call script = last_count (script.made + 1)
+next_call script = up_to_last (script.made + 1)
 
 -- the next call is one of those that are to fail
 abbrev pub is_to_fail : Script → Bool
@@ -24,6 +21,6 @@ pub record CountsCall (old new : Script) : Type 0 where
 -- nothing was called yet, and this is the plan
 pub record IsNewScript (most : ℕ) (failing : List ℕ) (script : Script) : Type 0 where
   pub made : script.made ≡ 0
-  pub faults : script.faults ≡ 0
+  pub faults : script.faults.count ≡ 0
   pub fail : script.fail.items ≡ failing
   pub chunk : script.chunk ≡ most
