@@ -1,6 +1,6 @@
 -- From what the log notes of a call to what the trait says of it.
-use Rattle.std.proofs.Common.{◌≡◌, ◌⊎◌, inl, inr, ⊎_elim, ℕ, zero, suc, ◌/◌, ◌==◌, eqb-true, get_or-set_same, get_or-set_other, ◌+◌, ◌-◌, ◌^◌, ◌<◌, ◌≤◌, min, Bool, true, false, not, ◌&&◌, if◌then◌else◌, nat_lt, nat_le, IsTrue, List, [], ◌∷◌, ◌++◌, length, take, drop, set, slice_index, refl, sym, ap, ◌∙◌, arith, take_all, ltb-true, ltb-false, leb-true, le-leb}
-use Rattle.std.proofs.lemmas.List.{take-append-le}
+use Rattle.std.proofs.Common.{◌≡◌, get_or, ◌⊎◌, inl, inr, ⊎_elim, ℕ, zero, suc, ◌/◌, ◌==◌, eqb-true, get_or-set_same, get_or-set_other, ◌+◌, ◌-◌, ◌^◌, ◌<◌, ◌≤◌, min, Bool, true, false, not, ◌&&◌, if◌then◌else◌, nat_lt, nat_le, IsTrue, List, [], ◌∷◌, ◌++◌, length, take, drop, set, slice_index, refl, sym, ap, ◌∙◌, arith, take_all, ltb-true, ltb-false, leb-true, le-leb}
+use Rattle.std.proofs.lemmas.List.{take-append-le, take_more}
 use Rattle.std.proofs.lemmas.Bool.{eqb-false}
 use Rattle.pmem_trait.specs.declared.call.Call.{Call}
 use Rattle.pmem_trait.specs.declared.call.Call.TheVariants.{Put, Flush, Fence}
@@ -19,6 +19,11 @@ log_sight start log = sight_of start log.calls.items log.now log.budget log.faul
 after_more : (ms : List Made) (m : Made) (p : Point) → after_made (ms ++ m ∷ []) p ≡ (if m.failed then after_made ms p else after m.call (after_made ms p))
 after_more [] m p = refl
 after_more (x ∷ xs) m p = after_more xs m (if x.failed then p else after x.call p)
+
+-- the state after the first i calls and the next one
+pub made_next : (calls : List Made) (i : ℕ) (d : Made) (p : Point) → i < length calls
+    → after_made (take (i + 1) calls) p ≡ (if (get_or calls i d).failed then after_made (take i calls) p else after (get_or calls i d).call (after_made (take i calls) p))
+made_next calls i d p below = ap (λ (ms : List Made). after_made ms p) (take_more calls i d below) ∙ after_more (take i calls) (get_or calls i d) p
 
 -- the state now is the one after all calls
 pub here_now : (start : List ℕ) (log : Log) → here (log_sight start log) ≡ after_made log.calls.items (start_point start)

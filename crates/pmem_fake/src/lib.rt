@@ -4,7 +4,11 @@
 //! can be made to fail by their count. A crash can be taken at each moment, with any choice of what it leaves.
 #![tactic(auto)]
 
+mod image_fault;
 mod log;
 mod mem_pmem;
+mod replay;
+mod word_state;
 
+pub use image_fault::ImageFault;
 pub use mem_pmem::MemPmem;

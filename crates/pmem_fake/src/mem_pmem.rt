@@ -2,7 +2,9 @@ ghost use Rattle.std.specs.Prelude.{◌≡◌, ℕ, ◌<◌, length, slice_index
 ghost use Rattle.pmem_trait.specs.Words.{value_of};
 ghost use Rattle.pmem_fake.specs.History.{after_made, start_point};
 
+use crate::image_fault::ImageFault;
 use crate::log::Log;
+use crate::replay::image_after;
 use pmem_trait::{Call, Failed, Made, Medium};
 use std::alloc::{AllocError, Global};
 
@@ -17,10 +19,10 @@ pub struct MemPmem {
 }
 
 impl MemPmem {
-    ghost use Rattle.std.specs.Prelude.{◌≡◌, ℕ, ◌<◌, ◌≤◌, length, slice_index, IfOk};
-    ghost use Rattle.pmem_trait.specs.Words.{value_of};
+    ghost use Rattle.std.specs.Prelude.{◌≡◌, ℕ, ◌<◌, ◌≤◌, length, slice_index, IfOk, IfErr, IsErrOf, ◌⊎◌, ◌↔◌};
+    ghost use Rattle.pmem_trait.specs.Words.{value_of, IsImage};
     ghost use Rattle.pmem_trait.specs.Sights.{here};
-    ghost use Rattle.pmem_fake.specs.History.{Opening};
+    ghost use Rattle.pmem_fake.specs.History.{Opening, IsPicked, EachIsPicked};
     ghost use Rattle.pmem_fake.specs.Fakes.{sight, allowed, failing};
 
     /// A medium that is settled at these words. Of its calls, counted from 1, those over `budget` fail and do nothing,
@@ -49,6 +51,38 @@ impl MemPmem {
         ensures value { (k : ℕ) → k < (sight self.now).len → slice_index result.now k ≡ value_of ((here (sight self.now)).word k) }
     {
         &self.words
+    }
+
+    /// An image that a crash may leave now. Word k takes its allowed value number `picks[k]`, modulo their count: the
+    /// settled value first, and then the later ones in order of their puts. An absent pick takes the settled value.
+    pub fn crash(&self, alloc: Global, picks: &[u64]) -> Result<Vec<u64>, AllocError>
+        ensures picked { IfOk result (λ image. IsPicked (sight self.now).len (here (sight self.now)) picks.now image.items) }
+        ensures allowed { IfOk result (λ image. IsImage (sight self.now).len (here (sight self.now)) image.items) }
+        ensures every { EachIsPicked (sight self.now).len (here (sight self.now)) }
+    {
+        image_after(alloc, &self.start, &self.log.calls, picks)
+    }
+
+    /// The same at an earlier moment.
+    pub fn images_at(
+        &self,
+        alloc: Global,
+        moment: u64,
+        picks: &[u64],
+    ) -> Result<Vec<u64>, ImageFault>
+        ensures picked { IfOk result (λ image. IsPicked (sight self.now).len ((sight self.now).point moment) picks.now image.items) }
+        ensures allowed { IfOk result (λ image. IsImage (sight self.now).len ((sight self.now).point moment) image.items) }
+        ensures every { EachIsPicked (sight self.now).len ((sight self.now).point moment) }
+        ensures later { (sight self.now).now < moment ↔ IsErrOf result (ImageFault.Later moment (sight self.now).now) }
+        ensures fault { IfErr result (λ fault. (fault ≡ ImageFault.Later moment (sight self.now).now) ⊎ (fault ≡ ImageFault.NoMemory)) }
+    {
+        let now = self.log.now;
+        if moment > now {
+            return Err(ImageFault::Later { moment, now });
+        }
+        let made = self.log.calls.as_slice();
+        let count = made.len().min(moment as usize);
+        Ok(image_after(alloc, &self.start, &made[..count], picks)?)
     }
 }
 
