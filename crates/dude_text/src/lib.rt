@@ -5,6 +5,14 @@
 mod command;
 mod fault;
 mod number;
+mod output;
+mod record;
+mod reply_text;
+mod request_file;
+mod text_fault;
 
 pub use command::{Command, command_of};
 pub use fault::{Fault, fault_text};
+pub use output::{write_done, write_last};
+pub use request_file::read_requests;
+pub use text_fault::TextFault;
