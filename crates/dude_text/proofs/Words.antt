@@ -1,8 +1,8 @@
 -- Lemmas on lists of three.
-use Rattle.std.proofs.Common.{ℕ, ◌≡◌, ◌≤◌, ◌<◌, Bool, true, List, [], ◌∷◌, length, get_or, cond, sym, ap, refl, arith, map}
+use Rattle.std.proofs.Common.{ℕ, ◌≡◌, ◌≤◌, ◌<◌, true, List, [], ◌∷◌, length, get_or, cond, ap, arith}
 use Rattle.std.specs.Str.{bytes_eq}
 use Rattle.std.specs.Prelude.{codes, None}
-use Rattle.dude_text.specs.Command.{Meaning, meaning_of, fresh_of}
+use Rattle.dude_text.specs.Command.{meaning_of, fresh_of}
 
 -- a list with three items is these
 pub list_of_three : {X : Type 0} (xs : List X) (a b c : X) → 3 ≤ length xs → length xs < 4 → a ≡ get_or xs 0 a → b ≡ get_or xs 1 b → c ≡ get_or xs 2 c → xs ≡ a ∷ b ∷ c ∷ []

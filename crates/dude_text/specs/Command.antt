@@ -1,5 +1,5 @@
 -- What command words mean.
-use Rattle.std.specs.Prelude.{ℕ, Bool, false, not, ◌&&◌, ◌==◌, Option, Some, None, if◌then◌else◌, List, [], ◌∷◌, codes}
+use Rattle.std.specs.Prelude.{ℕ, ◌≤◌, Bool, false, not, ◌==◌, Option, None, if◌then◌else◌, List, [], ◌∷◌, codes}
 use Rattle.std.specs.Option.{option_map}
 use Rattle.std.specs.Str.{bytes_eq}
 use Rattle.dude_text.specs.Number.{number_in}
@@ -29,3 +29,7 @@ meaning_of _ = None
 -- what a command of the code says
 abbrev pub meant : Command → Meaning
 meant (Fresh subscribers file) = FreshRun subscribers file.now
+
+-- the numbers of a command are in their limits
+abbrev pub IsInLimits : Command → Type 0
+IsInLimits (Fresh subscribers file) = (1 ≤ subscribers) × (subscribers ≤ 10000)

@@ -1,9 +1,11 @@
 -- What a request file means.
-use Rattle.std.specs.Prelude.{ℕ, ◌==◌, ◌<◌, ◌≤◌, nat_le, Bool, not, ◌&&◌, Option, Some, None, is_some, if◌then◌else◌, List, [], length, filter, All}
+use Rattle.std.specs.Prelude.{ℕ, ⊤, ◌≡◌, ◌==◌, nat_le, Bool, not, ◌&&◌, Option, Some, None, is_some, if◌then◌else◌, List, length, filter, All}
 use Rattle.std.specs.List.{slice_split, list_all, filter_map}
 use Rattle.tatp_model.specs.declared.request.Request.{Request}
 use Rattle.tatp_model.specs.declared.request.Request.TheVariants.{GetSubscriber, UpdateLocation}
 use Rattle.tatp_model.specs.Ranges.{IsId, IsPhone, IsLocation}
+use Rattle.dude_text.specs.declared.text_fault.TextFault.{TextFault}
+use Rattle.dude_text.specs.declared.text_fault.TextFault.TheVariants.{Bad, NoMemory}
 use Rattle.dude_text.specs.Record.{request_of}
 
 -- the lines of a file: what stands between LFs, where it isn't empty
@@ -21,6 +23,11 @@ is_request_file bytes =
 -- the requests of a file, in its order; none where the file is bad
 abbrev pub requests_of : List ℕ → Option (List Request)
 requests_of bytes = if is_request_file bytes then Some (filter_map request_of (lines_of bytes)) else None
+
+-- why a file is refused: it is bad, and no place in it is named; or there is no memory, which comes freely
+abbrev pub HasCause : List ℕ → TextFault → Type 0
+HasCause bytes (Bad row field) = (row ≡ 0) × (field ≡ 0) × (requests_of bytes ≡ None)
+HasCause bytes NoMemory = ⊤
 
 -- a request that files may hold, with its fields in their ranges
 abbrev pub IsServed : Request → Type 0

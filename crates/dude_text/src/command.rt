@@ -1,9 +1,9 @@
 //! The command words.
 
-ghost use Rattle.std.specs.Prelude.{◌≡◌, map};
+ghost use Rattle.std.specs.Prelude.{◌≡◌, map, IfSome};
 ghost use Rattle.std.specs.Option.{option_map};
 ghost use Rattle.std.specs.Rc.{rc_str_bytes};
-ghost use Rattle.dude_text.specs.Command.{meaning_of, fresh_of, meant};
+ghost use Rattle.dude_text.specs.Command.{meaning_of, fresh_of, meant, IsInLimits};
 
 use crate::number::number_in;
 use std::rc::RcStr;
@@ -24,7 +24,8 @@ pub enum Command<'a> {
 
 /// The command that the words mean; none where they are refused.
 pub fn command_of(words: &[RcStr]) -> Option<Command<'_>>
-    ensures { option_map meant result ≡ meaning_of (map rc_str_bytes words.now) }
+    ensures meaning { option_map meant result ≡ meaning_of (map rc_str_bytes words.now) }
+    ensures limits { IfSome result IsInLimits }
 {
     match words {
         [name, subscribers, file] if name.as_str() == "fresh" => {
@@ -36,7 +37,8 @@ pub fn command_of(words: &[RcStr]) -> Option<Command<'_>>
 
 // `fresh` with its two words.
 fn fresh<'a>(subscribers: &str, file: &'a str) -> Option<Command<'a>>
-    ensures { option_map meant result ≡ fresh_of subscribers.now file.now }
+    ensures meaning { option_map meant result ≡ fresh_of subscribers.now file.now }
+    ensures limits { IfSome result IsInLimits }
 {
     if file.is_empty() || file.starts_with('-') {
         return None;

@@ -3,11 +3,9 @@
 ghost use Rattle.std.specs.Prelude.{◌≡◌, ◌++◌, OnOk, OnErr};
 ghost use Rattle.dude_text.specs.Output.{line_of, last_line};
 
-use std::alloc::AllocError;
-
-use tatp_model::Done;
-
 use crate::reply_text::{push_number, push_reply};
+use std::alloc::AllocError;
+use tatp_model::Done;
 
 /// Appends the line of a request that was carried out. `out` is as it was where there is no memory.
 pub fn write_done(done: &Done, out: &mut Vec<u8>) -> Result<(), AllocError>

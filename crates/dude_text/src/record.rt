@@ -1,11 +1,10 @@
 //! The records of request files.
 
-ghost use Rattle.std.specs.Prelude.{◌≡◌, ◌∷◌, [], MatchOption};
+ghost use Rattle.std.specs.Prelude.{◌≡◌, ◌==◌, ◌∷◌, [], MatchOption, position};
 ghost use Rattle.dude_text.specs.Record.{fields_of, get_subscriber_of, update_location_of, request_of};
 
-use tatp_model::Request;
-
 use crate::number::{number_in, phone_in};
+use tatp_model::Request;
 
 /// The most digits that a number in a record may have.
 const FIELD_DIGITS: usize = 10;
@@ -30,7 +29,7 @@ pub fn request_of(line: &[u8]) -> Option<Request>
 fn get_subscriber(fields: &[u8]) -> Option<Request>
     ensures { result ≡ get_subscriber_of (fields_of fields.now) }
 {
-    if first_field(fields).is_some() {
+    if let Some(_more) = first_field(fields) {
         return None;
     }
     let s_id = number_in(fields, FIELD_DIGITS, 1, MOST)?;
@@ -41,7 +40,7 @@ fn update_location(fields: &[u8]) -> Option<Request>
     ensures { result ≡ update_location_of (fields_of fields.now) }
 {
     let (sub_nbr, vlr) = first_field(fields)?;
-    if first_field(vlr).is_some() {
+    if let Some(_more) = first_field(vlr) {
         return None;
     }
     let sub_nbr = phone_in(sub_nbr)?;
@@ -53,6 +52,15 @@ fn update_location(fields: &[u8]) -> Option<Request>
 fn first_field(line: &[u8]) -> Option<(&[u8], &[u8])>
     ensures { MatchOption result (fields_of line.now ≡ line.now ∷ []) (λ parts. fields_of line.now ≡ parts.0.now ∷ fields_of parts.1.now) }
 {
-    let end = line.iter().position(|byte| *byte == b',')?;
-    Some((&line[..end], &line[end + 1..]))
+    match first_comma(line) {
+        Some(end) => Some((&line[..end], &line[end + 1..])),
+        None => None,
+    }
+}
+
+// Where the first comma stands.
+fn first_comma(line: &[u8]) -> Option<usize>
+    ensures { result ≡ position (λ b. b == 44) line.now }
+{
+    line.iter().position(|byte| *byte == b',')
 }

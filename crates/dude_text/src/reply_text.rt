@@ -6,9 +6,8 @@ ghost use Rattle.std.specs.List.{flat_map, join_with_byte};
 ghost use Rattle.dude_text.specs.ReplyText.{phone_text, row_fields, access_fields, reply_text};
 ghost use Rattle.tatp_model.specs.Numbers.{list_of};
 
-use std::alloc::AllocError;
-
 use itoa::Buffer;
+use std::alloc::AllocError;
 use tatp_model::{AccessData, Numbers, Reply, SubRow};
 
 /// How many digits a phone number prints with at least.
@@ -25,7 +24,7 @@ pub fn push_reply(reply: &Reply, line: &mut Vec<u8>) -> Result<(), AllocError>
         }
         Reply::Destinations(numbers) => {
             line.extend_from_slice(b"OK ")?;
-            push_phones(numbers, line)
+            push_phones(list(numbers), line)
         }
         Reply::Access(info) => {
             line.extend_from_slice(b"OK ")?;
@@ -70,12 +69,10 @@ fn push_access(info: &AccessData, line: &mut Vec<u8>) -> Result<(), AllocError>
 }
 
 // Phone numbers, with commas between.
-fn push_phones(numbers: &Numbers, line: &mut Vec<u8>) -> Result<(), AllocError>
-    ensures { OnOk result (line.new.items ≡ line.old.items ++ join_with_byte 44 (map phone_text (list_of numbers.now))) }
+fn push_phones(numbers: &[u64], line: &mut Vec<u8>) -> Result<(), AllocError>
+    ensures { OnOk result (line.new.items ≡ line.old.items ++ join_with_byte 44 (map phone_text numbers.now)) }
 {
-    let count = usize::try_from(numbers.count).unwrap_or(numbers.items.len());
-    let phones = &numbers.items[..count.min(numbers.items.len())];
-    if let Some((first, others)) = phones.split_first() {
+    if let Some((first, others)) = numbers.split_first() {
         push_phone(*first, line)?;
         for other in others {
             line.push(b',')?;
@@ -83,6 +80,17 @@ fn push_phones(numbers: &Numbers, line: &mut Vec<u8>) -> Result<(), AllocError>
         }
     }
     Ok(())
+}
+
+// The list that the places hold.
+fn list(numbers: &Numbers) -> &[u64]
+    ensures { result.now ≡ list_of numbers.now }
+{
+    let places = numbers.items.as_slice();
+    match usize::try_from(numbers.count) {
+        Ok(count) => &places[..count.min(places.len())],
+        Err(_) => places,
+    }
 }
 
 // Numbers, each behind a comma.
@@ -102,7 +110,7 @@ fn push_phone(number: u64, line: &mut Vec<u8>) -> Result<(), AllocError>
 {
     let mut buffer = Buffer::new();
     let digits = buffer.format(number).as_bytes();
-    for _ in digits.len()..PHONE_DIGITS {
+    for _zero in 0..PHONE_DIGITS.saturating_sub(digits.len()) {
         line.push(b'0')?;
     }
     line.extend_from_slice(digits)

@@ -1,14 +1,12 @@
 //! The request files.
 
-ghost use Rattle.std.specs.Prelude.{◌≡◌, ℕ, Some, None, Err, IfOk};
-ghost use Rattle.dude_text.specs.RequestFile.{requests_of, AreServed};
-
-use std::alloc::Global;
-
-use tatp_model::Request;
+ghost use Rattle.std.specs.Prelude.{◌≡◌, Some, IfOk, IfErr};
+ghost use Rattle.dude_text.specs.RequestFile.{requests_of, AreServed, HasCause};
 
 use crate::record::request_of;
 use crate::text_fault::TextFault;
+use std::alloc::Global;
+use tatp_model::Request;
 
 /// The most bytes that a request file may have.
 const MAX_BYTES: usize = 16_777_216;
@@ -19,11 +17,11 @@ const MAX_RECORDS: usize = 100_000;
 /// What a bad file is answered with.
 const BAD: TextFault = TextFault::Bad { row: 0, field: 0 };
 
-/// Reads a request file. A bad file is answered with record 0 and field 0.
+/// Reads a request file, in time that grows with its bytes. A bad file is answered with record 0 and field 0.
 pub fn read_requests(alloc: Global, bytes: &[u8]) -> Result<Vec<Request>, TextFault>
     ensures read { IfOk result (λ requests. requests_of bytes.now ≡ Some requests.items) }
     ensures served { IfOk result (λ requests. AreServed requests.items) }
-    ensures bad { (row field : ℕ) → result ≡ Err (TextFault.Bad row field) → (row ≡ 0) × (field ≡ 0) × (requests_of bytes.now ≡ None) }
+    ensures refused { IfErr result (HasCause bytes.now) }
 {
     if bytes.len() > MAX_BYTES {
         return Err(BAD);
