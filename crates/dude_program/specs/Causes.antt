@@ -1,0 +1,77 @@
+-- With which fault a command may end, and where.
+use Rattle.std.specs.Prelude.{◌≡◌, ◌⊎◌, ℕ, ◌<◌, ◌≤◌, ⊤, Option, Some, None, IsTrue, List}
+use Rattle.pmem_trait.specs.Sights.{Sight, Risen}
+use Rattle.tatp_model.specs.declared.done.Done.{Done}
+use Rattle.tatp_model.specs.declared.request.Request.{Request}
+use Rattle.dude_text.specs.declared.fault.Fault.{Fault}
+use Rattle.dude_text.specs.declared.fault.Fault.TheVariants.{Usage, File, Text, Small, TooFew, Unformatted, Damaged, NotDb, ManyFiles, Frames, FewSubscribers, Numbers, Device, Output, Memory}
+use Rattle.dude_text.specs.Command.{Meaning, Meaning.FreshRun, meaning_of}
+use Rattle.dude_io.specs.Files.{FilesSight}
+use Rattle.dude_io.specs.Sink.{SinkSight}
+use Rattle.fresh_image.specs.Fresh.{fresh_length}
+use Rattle.dude_program.specs.Opening.{FilesMean, HasBadFile}
+use Rattle.dude_program.specs.Headline.{Prints, PrintsFront, PrintsNothing}
+
+-- What the command sees at entry, and what it leaves: the medium, the files, the sink.
+pub record World : Type 0 where
+  pub medium : Sight
+  pub files : FilesSight
+  pub sink : SinkSight
+
+-- how many words the image of the command needs
+abbrev pub words_needed : Meaning → ℕ
+words_needed (FreshRun subscribers file) = fresh_length subscribers
+
+-- Why the command ended with this fault, if any. Want of memory is free.
+abbrev pub HasCause : Option Meaning → World → World → Option Fault → Type 0
+HasCause meaning old new None = ⊤
+HasCause meaning old new (Some Usage) = meaning ≡ None
+HasCause meaning old new (Some (File file)) = (file ≡ 1) × Risen old.files.faults new.files.faults
+HasCause meaning old new (Some (Text file row field)) =
+    (file ≡ 1) × (row ≡ 0) × (field ≡ 0)
+    × (IsTrue old.files.tells → (own : Meaning) × (meaning ≡ Some own) × HasBadFile own old.files)
+HasCause meaning old new (Some (Small has needs)) =
+    (has ≡ old.medium.len) × (has < needs) × (own : Meaning) × (meaning ≡ Some own) × (needs ≡ words_needed own)
+HasCause meaning old new (Some Device) = Risen old.medium.faults new.medium.faults
+HasCause meaning old new (Some Output) = Risen old.sink.faults new.sink.faults
+HasCause meaning old new (Some Memory) = ⊤
+-- no other fault comes
+HasCause meaning old new (Some _) = ⊥
+
+-- reading the files came first: it failed, or there was no memory
+abbrev pub StoppedEarlier : Option Fault → Type 0
+StoppedEarlier fault = (fault ≡ Some (File 1)) ⊎ (fault ≡ Some Memory)
+
+-- A bad file is answered as such, unless the command stopped earlier.
+abbrev pub RefusesBadFile : Option Meaning → World → Option Fault → Type 0
+RefusesBadFile meaning old fault =
+    (own : Meaning) → meaning ≡ Some own → IsTrue old.files.tells → HasBadFile own old.files
+    → (fault ≡ Some (Text 1 0 0)) ⊎ StoppedEarlier fault
+
+-- So is a medium that is too short, where the files are good.
+abbrev pub RefusesSmall : Option Meaning → World → Option Fault → Type 0
+RefusesSmall meaning old fault =
+    (own : Meaning) (requests : List (List Request)) → meaning ≡ Some own → IsTrue old.files.tells → FilesMean own old.files requests
+    → old.medium.len < words_needed own → (fault ≡ Some (Small old.medium.len (words_needed own))) ⊎ StoppedEarlier fault
+
+-- Completeness: where words and files are accepted, the medium is long enough and no count of faults rose, the command
+-- carries all out, or there was no memory.
+abbrev pub IsComplete : Option Meaning → World → World → Option Fault → Type 0
+IsComplete meaning old new fault =
+    (own : Meaning) (requests : List (List Request)) → meaning ≡ Some own → IsTrue old.files.tells → FilesMean own old.files requests
+    → words_needed own ≤ old.medium.len
+    → (Risen old.medium.faults new.medium.faults → ⊥) → (Risen old.files.faults new.files.faults → ⊥) → (Risen old.sink.faults new.sink.faults → ⊥)
+    → (fault ≡ None) ⊎ (fault ≡ Some Memory)
+
+-- all requests are done: the command ended well, or only its output failed
+abbrev pub OnAllDone : Option Fault → Type 0 → Type 0
+OnAllDone None P = P
+OnAllDone (Some Output) P = P
+OnAllDone (Some _) P = ⊤
+
+-- What the sink took: all of the output; a prefix, where the sink failed or there was no memory; else nothing.
+abbrev pub Bytes : Meaning → List Done → World → World → Option Fault → Type 0
+Bytes meaning done old new None = Prints meaning done old.sink new.sink
+Bytes meaning done old new (Some Output) = PrintsFront meaning done old.sink new.sink
+Bytes meaning done old new (Some Memory) = PrintsFront meaning done old.sink new.sink
+Bytes meaning done old new (Some _) = PrintsNothing old.sink new.sink

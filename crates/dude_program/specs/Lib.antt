@@ -1,0 +1,6 @@
+pub mod Causes
+pub mod Headline
+pub mod Opening
+pub mod Plans
+pub mod Printing
+pub mod Serving

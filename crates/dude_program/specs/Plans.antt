@@ -1,0 +1,46 @@
+-- What the words and the files of a command say.
+use Rattle.std.specs.Prelude.{◌≡◌, ℕ, ◌≤◌, ⊤, Option, Some, None, IsSome, IsTrue, List, [], ◌∷◌, length}
+use Rattle.pmem_trait.specs.Sights.{Risen}
+use Rattle.tatp_model.specs.declared.request.Request.{Request}
+use Rattle.dude_text.specs.declared.fault.Fault.{Fault}
+use Rattle.dude_text.specs.declared.fault.Fault.TheVariants.{Usage, File, Text, Small, TooFew, Unformatted, Damaged, NotDb, ManyFiles, Frames, FewSubscribers, Numbers, Device, Output, Memory}
+use Rattle.dude_text.specs.Command.{Meaning, Meaning.FreshRun}
+use Rattle.dude_text.specs.RequestFile.{requests_of, AreServed}
+use Rattle.dude_io.specs.Files.{FilesSight}
+use Rattle.dude_program.specs.Opening.{FilesMean, HasBadFile}
+
+-- The words mean `fresh` for so many subscribers, and these are the requests of its file.
+pub record IsPlan (meaning : Option Meaning) (files : FilesSight) (subscribers : ℕ) (requests : List Request) : Type 0 where
+  pub file : List ℕ
+  pub meant : meaning ≡ Some (FreshRun subscribers file)
+  pub some : 1 ≤ subscribers
+  pub limited : subscribers ≤ 10000
+  pub read : IsTrue files.tells → FilesMean (FreshRun subscribers file) files (requests ∷ [])
+  pub served : AreServed requests
+  pub few : length requests ≤ 100000
+
+-- why there is no plan
+abbrev pub HasPlanFault : Option Meaning → FilesSight → FilesSight → Fault → Type 0
+HasPlanFault meaning old new Usage = meaning ≡ None
+HasPlanFault meaning old new (File file) = IsSome meaning × (file ≡ 1) × Risen old.faults new.faults
+HasPlanFault meaning old new (Text file row field) =
+    IsSome meaning × (file ≡ 1) × (row ≡ 0) × (field ≡ 0)
+    × (IsTrue old.tells → (own : Meaning) × (meaning ≡ Some own) × HasBadFile own old)
+HasPlanFault meaning old new Memory = IsSome meaning
+HasPlanFault meaning old new _ = ⊥
+
+-- the file of this name is there, and these are its requests
+abbrev pub HasRequests : FilesSight → List ℕ → List Request → Type 0
+HasRequests files name requests = (text : List ℕ) × (files.text name ≡ Some text) × (requests_of text ≡ Some requests)
+
+-- the file of this name is there and bad
+abbrev pub IsBadFile : FilesSight → List ℕ → Type 0
+IsBadFile files name = (text : List ℕ) × (files.text name ≡ Some text) × (requests_of text ≡ None)
+
+-- why the one file was not read
+abbrev pub HasFileFault : FilesSight → FilesSight → List ℕ → Fault → Type 0
+HasFileFault old new name (File file) = (file ≡ 1) × Risen old.faults new.faults
+HasFileFault old new name (Text file row field) =
+    (file ≡ 1) × (row ≡ 0) × (field ≡ 0) × (IsTrue old.tells → IsBadFile old name)
+HasFileFault old new name Memory = ⊤
+HasFileFault old new name _ = ⊥

@@ -1,0 +1,7 @@
+//! The program `dude`.
+#![tactic(auto)]
+
+mod plan;
+mod printing;
+
+fn main() {}
