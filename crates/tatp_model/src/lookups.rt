@@ -34,8 +34,7 @@ pub(crate) fn access(rows: &[AccessRow], s_id: u64, ai_type: u64) -> Option<Acce
 pub(crate) fn has_facility(rows: &[FacRow], s_id: u64, sf_type: u64) -> bool
     ensures { result ≡ list_any (is_facility s_id sf_type) rows.now }
 {
-    rows.iter()
-        .any(|r| r.s_id == s_id && r.sf_type == sf_type)
+    rows.iter().any(|r| r.s_id == s_id && r.sf_type == sf_type)
 }
 
 /// Where the subscriber with this number stands.
@@ -71,16 +70,14 @@ pub(crate) fn numbered(rows: &[SubRow], sub_nbr: u64) -> Option<SubRow>
 pub(crate) fn has_call(rows: &[CallRow], s_id: u64, sf_type: u64, start_time: u64) -> bool
     ensures { result ≡ list_any (is_call s_id sf_type start_time) rows.now }
 {
-    rows.iter()
-        .any(|r| r.s_id == s_id && r.sf_type == sf_type && r.start_time == start_time)
+    rows.iter().any(|r| r.s_id == s_id && r.sf_type == sf_type && r.start_time == start_time)
 }
 
 /// Whether the facility with this key is there, and active.
 pub(crate) fn has_active_facility(rows: &[FacRow], s_id: u64, sf_type: u64) -> bool
     ensures { result ≡ list_any (is_active_facility s_id sf_type) rows.now }
 {
-    rows.iter()
-        .any(|r| r.s_id == s_id && r.sf_type == sf_type && r.is_active == 1)
+    rows.iter().any(|r| r.s_id == s_id && r.sf_type == sf_type && r.is_active == 1)
 }
 
 /// Where a call row with this key belongs: before the first row with a key

@@ -1,4 +1,4 @@
-use Rattle.std.proofs.Common.{◌≡◌, ◌<◌, ◌∙◌, sym, arith, ap, length, take, map}
+use Rattle.std.proofs.Common.{◌<◌, ◌∙◌, sym, arith, ap, length, take}
 use Rattle.std.specs.List.{filter}
 use Rattle.std.proofs.lemmas.List.{length-map}
 use Rattle.tatp_model.specs.declared.numbers.Numbers.{Numbers}

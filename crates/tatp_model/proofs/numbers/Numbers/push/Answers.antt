@@ -1,4 +1,4 @@
-use Rattle.std.proofs.Common.{◌≡◌, ◌∙◌, ap, arith, length, ◌<◌}
+use Rattle.std.proofs.Common.{◌∙◌, ap, arith, length, ◌<◌}
 use Rattle.tatp_model.specs.declared.numbers.Numbers.{Numbers}
 use Rattle.tatp_model.proofs.NumbersLemmas.{pushed, numbers_of-push}
 use Rattle.tatp_model.proofs.numbers.Numbers.push.Goals as goal
