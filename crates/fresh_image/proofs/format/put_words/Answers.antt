@@ -1,4 +1,4 @@
-use Rattle.std.proofs.Common.{◌≡◌, is_ok, false, ◌-◌, refl, arith, rules}
+use Rattle.std.proofs.Common.{◌≡◌, is_ok, true, false, ◌-◌, refl, arith, rules}
 use Rattle.pmem_trait.specs.Sights.{Makes.none}
 use Rattle.pmem_trait.proofs.Runs.{makes_cut, makes_whole}
 use Rattle.tatp_model.specs.Population.{population}

@@ -1,0 +1,19 @@
+-- Writing a list piece by piece.
+use Rattle.std.proofs.Common.{◌≡◌, ℕ, ◌+◌, ◌≤◌, IsTrue, List, [], ◌++◌, length, take, drop, refl, sym, ◌∙◌, ap, arith, append_assoc, append-nil}
+use Rattle.std.proofs.Math.Seq.{take-add}
+use Rattle.dude_io.specs.Sink.{SinkSight, Took}
+
+pub took_none : {s : SinkSight} → Took [] s s
+took_none {s} = record { faults = omega arith; tells = refl; taken = λ told. sym (append-nil s.taken) }
+
+-- one list behind another
+pub took-then : {xs ys : List ℕ} {s t u : SinkSight} → Took xs s t → Took ys t u → Took (xs ++ ys) s u
+took-then {xs} {ys} {s} {t} {u} a b = record {
+  faults = omega arith;
+  tells = b.tells ∙ a.tells;
+  taken = λ told. b.taken (rw a.tells told) ∙ ap (λ z. z ++ ys) (a.taken told) ∙ append_assoc s.taken xs ys;
+}
+
+-- the front of a list grows by the piece that was taken of its rest
+pub took_more : (n m : ℕ) (all : List ℕ) {s t u : SinkSight} → Took (take n all) s t → Took (take m (drop n all)) t u → Took (take (n + m) all) s u
+took_more n m all a b = rw (take-add n m all) (took-then a b)

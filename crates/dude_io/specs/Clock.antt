@@ -1,0 +1,17 @@
+-- What clauses see of a medium that tells no content.
+use Rattle.std.specs.Prelude.{ℕ, false, []}
+use Rattle.pmem_trait.specs.Words.{still}
+use Rattle.pmem_trait.specs.Sights.{Sight}
+use Rattle.dude_io.specs.declared.clock.Clock.{Clock}
+
+-- its length, its moment and its faults, and nothing else
+abbrev pub silent_medium : ℕ → Clock → Sight
+silent_medium len clock = record {
+  len = len;
+  now = clock.now;
+  faults = clock.faults.count;
+  tells = false;
+  point = λ _. record { word = λ _. still 0; told = [] };
+  lists = false;
+  made = []
+}

@@ -1,0 +1,22 @@
+-- What reading a whole file finds.
+use Rattle.std.specs.Prelude.{◌≡◌, ℕ, ◌<◌, ◌≤◌, ⊤, List, length}
+use Rattle.dude_io.specs.declared.file_text.FileText.{FileText}
+use Rattle.dude_io.specs.declared.file_text.FileText.TheVariants.{Whole, TooLong}
+use Rattle.dude_io.specs.declared.file_fault.FileFault.{FileFault}
+use Rattle.dude_io.specs.declared.file_fault.FileFault.TheVariants.{Failed, NoMemory}
+use Rattle.pmem_trait.specs.Sights.{Risen}
+
+-- a text that is handed out is no longer than the limit
+abbrev pub IsBounded : ℕ → FileText → Type 0
+IsBounded limit (Whole bytes) = length bytes.items ≤ limit
+IsBounded limit TooLong = ⊤
+
+-- the whole text, or that it is longer than the limit
+abbrev pub ShowsText : ℕ → FileText → List ℕ → Type 0
+ShowsText limit (Whole bytes) text = bytes.items ≡ text
+ShowsText limit TooLong text = limit < length text
+
+-- a fault of the files comes only where their count rose; want of memory is free
+abbrev pub HasCause : ℕ → ℕ → FileFault → Type 0
+HasCause old new Failed = Risen old new
+HasCause old new NoMemory = ⊤

@@ -1,0 +1,35 @@
+-- What may be known of files, and what a read of one does.
+use Rattle.std.specs.Prelude.{◌≡◌, ℕ, ◌-◌, ◌≤◌, Bool, IsTrue, List, length, take, drop, Option, IsSomeAnd, Result, Ok, Err}
+use Rattle.pmem_trait.specs.declared.failed.Failed.{Failed}
+use Rattle.pmem_trait.specs.Sights.{Risen}
+
+-- what may be known of files: the count of their faults, whether their texts are told, and the text of
+-- each file by the bytes of its name, none where it isn't there
+pub record FilesSight : Type 0 where
+  pub faults : ℕ
+  pub tells : Bool
+  pub text : List ℕ → Option (List ℕ)
+
+-- the count of faults doesn't fall, and the texts stay
+pub record FilesStay (s t : FilesSight) : Type 0 where
+  pub faults : s.faults ≤ t.faults
+  pub tells : t.tells ≡ s.tells
+  pub text : IsTrue s.tells → t.text ≡ s.text
+
+-- a buffer begins with n bytes of the text from `at` on, is as it was behind them, and n is 0 only at the end
+pub record Gives (text : List ℕ) (at n : ℕ) (old new : List ℕ) : Type 0 where
+  pub within : n ≤ length text - at
+  pub bytes : take n new ≡ take n (drop at text)
+  pub behind : drop n new ≡ drop n old
+  pub end : n ≡ 0 → length text ≤ at
+
+-- a read that was answered: the file is there, and the buffer has its bytes
+pub record Gave (name : List ℕ) (at n : ℕ) (old new : List ℕ) (s t : FilesSight) : Type 0 where
+  pub stays : FilesStay s t
+  pub most : n ≤ length old
+  pub told : IsTrue s.tells → IsSomeAnd (s.text name) (λ text. Gives text at n old new)
+
+-- one read: it is answered, or it failed, and then the count of faults rose
+abbrev pub Reads : List ℕ → ℕ → List ℕ → List ℕ → Result ℕ Failed → FilesSight → FilesSight → Type 0
+Reads name at old new (Ok n) s t = Gave name at n old new s t
+Reads name at old new (Err e) s t = FilesStay s t × Risen s.faults t.faults

@@ -1,0 +1,11 @@
+pub mod Files
+pub mod Sink
+pub mod FileText
+pub mod Script
+pub mod MemFile
+pub mod MemFiles
+pub mod MemSink
+pub mod FaultCount
+pub mod Clock
+pub mod Silent
+pub mod Line

@@ -1,0 +1,24 @@
+-- What clauses see of a sink in memory.
+use Rattle.std.specs.Prelude.{◌≡◌, ℕ, ◌-◌, List, [], length, true}
+use Rattle.dude_io.specs.declared.mem_sink.MemSink.{MemSink}
+use Rattle.dude_io.specs.declared.script.Script.{Script}
+use Rattle.dude_io.specs.Sink.{SinkSight}
+use Rattle.dude_io.specs.Script.{IsNewScript}
+
+-- it tells what it took
+abbrev pub sink_sight : MemSink → SinkSight
+sink_sight m = record { faults = m.script.faults.count; tells = true; taken = m.taken.items }
+
+-- which calls fail, and how much a write takes
+abbrev pub sink_script : MemSink → Script
+sink_script m = m.script
+
+-- how many bytes it still takes
+abbrev pub room_left : MemSink → ℕ
+room_left m = m.room - length m.taken.items
+
+-- an empty sink of this room, on which no call was made
+pub record IsNewSink (size most : ℕ) (failing : List ℕ) (m : MemSink) : Type 0 where
+  pub taken : (sink_sight m).taken ≡ []
+  pub room : room_left m ≡ size
+  pub script : IsNewScript most failing (sink_script m)

@@ -1,0 +1,23 @@
+ghost use Rattle.std.specs.Prelude.{◌≡◌, ◌+◌, ◌^◌, ◌<◌};
+ghost use Rattle.dude_io.specs.FaultCount.{up_to_last};
+
+/// How many calls on a thing outside failed. The count stays at its last value.
+#[derive(Debug, Drop)]
+pub struct FaultCount {
+    pub count: u64,
+    ghost fits: { count < 2 ^ 64 },
+}
+
+impl FaultCount {
+    pub(crate) fn new() -> Self
+        ensures { result.count ≡ 0 }
+    {
+        FaultCount { count: 0 }
+    }
+
+    pub(crate) fn rise(&mut self)
+        ensures { self.new.count ≡ up_to_last (self.old.count + 1) }
+    {
+        self.count = self.count.saturating_add(1);
+    }
+}

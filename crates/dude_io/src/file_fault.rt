@@ -1,0 +1,28 @@
+ghost use Rattle.std.specs.Prelude.{◌≡◌};
+ghost use Rattle.dude_io.specs.declared.file_fault.FileFault.TheVariants.{Failed as FileFailed, NoMemory};
+
+use pmem_trait::Failed;
+use std::alloc::AllocError;
+
+/// Why a file has no text.
+#[derive(Clone, Copy, Debug, PartialEq, Eq)]
+pub enum FileFault {
+    Failed,
+    NoMemory,
+}
+
+impl From<Failed> for FileFault {
+    ghost from_gives = { λ _ fault. fault ≡ FileFailed };
+
+    fn from(_: Failed) -> Self {
+        FileFault::Failed
+    }
+}
+
+impl From<AllocError> for FileFault {
+    ghost from_gives = { λ _ fault. fault ≡ NoMemory };
+
+    fn from(_: AllocError) -> Self {
+        FileFault::NoMemory
+    }
+}

@@ -1,0 +1,16 @@
+ghost use Rattle.std.specs.Prelude.{◌<◌, length};
+ghost use Rattle.dude_io.specs.Files.{FilesSight, Reads};
+
+use pmem_trait::Failed;
+
+/// Files that are read by name.
+pub trait Files {
+    /// What is known of the files: the count of their faults, and their texts where these are told.
+    ghost sight: { Self → FilesSight };
+
+    /// Reads bytes of the file from place `at` on into the front of `into`, and answers how many.
+    /// An answer of 0 is the file's end. A file that isn't there is a fault.
+    fn read(&mut self, name: &str, at: u64, into: &mut [u8]) -> Result<u64, Failed>
+        requires { 0 < length into.old }
+        ensures { Reads name.now at into.old into.new result (sight self.old) (sight self.new) };
+}

@@ -1,0 +1,38 @@
+//! Files, sinks and image files: the program's edge.
+#![tactic(auto)]
+
+mod clock;
+mod edge_fault;
+mod fault_count;
+mod file_fault;
+mod file_text;
+mod file_pmem;
+mod files;
+mod image;
+mod image_file;
+mod line;
+mod mem_file;
+mod mem_files;
+mod mem_sink;
+mod reading;
+mod real_files;
+mod real_sink;
+mod script;
+mod sink;
+#[cfg(test)]
+mod tests;
+mod writing;
+
+pub use edge_fault::EdgeFault;
+pub use file_fault::FileFault;
+pub use file_text::FileText;
+pub use file_pmem::FilePmem;
+pub use files::Files;
+pub use mem_file::MemFile;
+pub use mem_files::MemFiles;
+pub use mem_sink::MemSink;
+pub use real_files::RealFiles;
+pub use real_sink::RealSink;
+pub use reading::read_file;
+pub use sink::Sink;
+pub use writing::write_all;

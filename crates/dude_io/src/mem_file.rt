@@ -1,0 +1,6 @@
+/// A file in memory.
+#[derive(Debug, Drop)]
+pub struct MemFile {
+    pub name: String,
+    pub bytes: Vec<u8>,
+}

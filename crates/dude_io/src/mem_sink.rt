@@ -1,0 +1,85 @@
+ghost use Rattle.std.specs.Prelude.{◌≡◌, ◌<◌, ◌≤◌, ◌-◌, ◌+◌, ◌++◌, [], min, length, vec_len, vec_capacity};
+
+use crate::Sink;
+use crate::script::Script;
+use pmem_trait::Failed;
+use std::alloc::{AllocError, Global};
+
+/// A sink in memory, of which chosen calls fail. It has room for so many bytes and takes no memory after it is made.
+#[derive(Drop)]
+pub struct MemSink {
+    taken: Vec<u8>,
+    room: u64,
+    script: Script,
+    ghost within: { vec_len taken ≤ room },
+    ghost reserved: { room ≤ vec_capacity taken },
+}
+
+impl MemSink {
+    ghost use Rattle.std.specs.Prelude.{◌≡◌, ◌≤◌, IfOk};
+    ghost use Rattle.dude_io.specs.MemSink.{IsNewSink, sink_sight};
+
+    /// A sink with room for `room` bytes, that takes at most `chunk` in a call. Calls are counted from 1, and those
+    /// in `fail` fail.
+    pub fn new(alloc: Global, room: u64, chunk: u64, fail: Vec<u64>) -> Result<MemSink, AllocError>
+        requires { 1 ≤ chunk }
+        ensures { IfOk result (IsNewSink room chunk fail.items) }
+    {
+        let taken = Vec::with_capacity(alloc, room as usize)?;
+        Ok(MemSink {
+            taken,
+            room,
+            script: Script::new(fail, chunk),
+        })
+    }
+
+    /// What was taken.
+    pub fn bytes(&self) -> &[u8]
+        ensures { result.now ≡ (sink_sight self.now).taken }
+    {
+        self.taken.as_slice()
+    }
+}
+
+impl Sink for MemSink {
+    ghost use Rattle.std.specs.Prelude.{◌≡◌, ◌<◌, ◌-◌, ◌==◌, min, length, is_err, ◌||◌, IfOk};
+    ghost use Rattle.dude_io.specs.Sink.{Writes};
+    ghost use Rattle.dude_io.specs.Script.{is_to_fail, CountsCall};
+    ghost use Rattle.dude_io.specs.MemSink.{sink_sight, sink_script, room_left};
+
+    ghost sight = { sink_sight };
+
+    fn write(&mut self, piece: &[u8]) -> Result<u64, Failed>
+        requires { 0 < length piece.now }
+        ensures writes { Writes piece.now result (sink_sight self.old) (sink_sight self.new) }
+
+        // It fails exactly where it is to fail or no room is left.
+        ensures fails { is_err result ≡ (is_to_fail (sink_script self.old) || room_left self.old == 0) }
+        ensures most { IfOk result (λ n. n ≡ min (sink_script self.old).chunk (min (length piece.now) (room_left self.old))) }
+        ensures counts { CountsCall (sink_script self.old) (sink_script self.new) }
+    {
+        if self.script.fails_next() {
+            return Err(Failed);
+        }
+        let left = self.room - self.taken.len() as u64;
+        if left == 0 {
+            self.script.count_fault();
+            return Err(Failed);
+        }
+        let takes = self.script.chunk.min(left.min(piece.len() as u64));
+        append(&mut self.taken, &piece[..takes as usize]);
+        Ok(takes)
+    }
+}
+
+/// Appends bytes for which there is room.
+fn append(taken: &mut Vec<u8>, bytes: &[u8])
+    requires { vec_len taken.old + length bytes.now ≤ vec_capacity taken.old }
+    ensures items { taken.new.items ≡ taken.old.items ++ bytes.now }
+    ensures len { vec_len taken.new ≡ vec_len taken.old + length bytes.now }
+    ensures capacity { vec_capacity taken.new ≡ vec_capacity taken.old }
+{
+    for byte in bytes {
+        taken.push_reserved(*byte);
+    }
+}

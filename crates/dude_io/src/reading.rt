@@ -1,0 +1,38 @@
+ghost use Rattle.std.specs.Prelude.{ℕ, IfOk, IfErr, IsTrue, IsSomeAnd};
+ghost use Rattle.dude_io.specs.Files.{FilesStay};
+ghost use Rattle.dude_io.specs.FileText.{IsBounded, HasCause, ShowsText};
+
+use crate::{FileFault, FileText, Files};
+use std::alloc::Global;
+
+const PIECE: usize = 4096;
+
+/// Reads a file to its end, or until more than `limit` bytes came.
+/// Each call but the last gives at least one byte, so there are at most `limit + 1` that do.
+pub fn read_file<F: Files>(
+    alloc: Global,
+    files: &mut F,
+    name: &str,
+    limit: u64,
+) -> Result<FileText, FileFault>
+    ensures stays { FilesStay (F.sight files.old) (F.sight files.new) }
+    ensures bounded { IfOk result (IsBounded limit) }
+
+    // Where the texts are told, a file that isn't there has no text, and is too long exactly over the limit.
+    ensures text { IfOk result (λ found. IsTrue (F.sight files.old).tells →
+        IsSomeAnd ((F.sight files.old).text name.now) (ShowsText limit found)) }
+    ensures cause { IfErr result (HasCause (F.sight files.old).faults (F.sight files.new).faults) }
+{
+    let mut bytes = Vec::new(alloc);
+    let mut piece = [0; PIECE];
+    'pieces: loop {
+        let given = files.read(name, bytes.len() as u64, &mut piece)?;
+        if given == 0 {
+            return Ok(FileText::Whole(bytes));
+        }
+        if limit - (bytes.len() as u64) < given {
+            return Ok(FileText::TooLong);
+        }
+        bytes.extend_from_slice(&piece[..given as usize])?;
+    }
+}

@@ -1,0 +1,49 @@
+ghost use Rattle.std.specs.Prelude.{◌≡◌, ◌≤◌, length, IfOk};
+ghost use Rattle.dude_io.specs.Silent.{silent_files};
+
+use crate::Files;
+use crate::fault_count::FaultCount;
+use pmem_trait::Failed;
+use std::io::{Read, Seek, SeekFrom};
+use std::rt::Files as FileSystem;
+use std::{fs, io};
+
+/// The files of the system, by their paths. What they hold is not told.
+#[derive(Drop)]
+pub struct RealFiles<R: FileSystem> {
+    rt: R,
+    faults: FaultCount,
+}
+
+impl<R: FileSystem> RealFiles<R> {
+    pub fn new(rt: R) -> RealFiles<R>
+        ensures { ⟦<RealFiles<R> as Files>⟧.sight result ≡ silent_files 0 }
+    {
+        RealFiles {
+            rt,
+            faults: FaultCount::new(),
+        }
+    }
+}
+
+impl<R: FileSystem> Files for RealFiles<R> {
+    ghost sight = { λ files. silent_files files.faults.count };
+
+    fn read(&mut self, name: &str, at: u64, into: &mut [u8]) -> Result<u64, Failed> {
+        match read_at(&self.rt, name, at, into) {
+            Ok(given) => Ok(given as u64),
+            Err(_) => {
+                self.faults.rise();
+                Err(Failed)
+            }
+        }
+    }
+}
+
+fn read_at(rt: &impl FileSystem, name: &str, at: u64, into: &mut [u8]) -> io::Result<usize>
+    ensures { IfOk result (λ n. n ≤ length into.old) }
+{
+    let mut file = fs::open(rt, name)?;
+    file.seek(SeekFrom::Start(at))?;
+    file.read(into)
+}

@@ -1,0 +1,39 @@
+ghost use Rattle.std.specs.Prelude.{◌≡◌};
+ghost use Rattle.dude_io.specs.Silent.{silent_sink};
+
+use crate::Sink;
+use crate::fault_count::FaultCount;
+use pmem_trait::Failed;
+
+/// Standard output. What it took is not told.
+#[derive(Drop)]
+pub struct RealSink<R: Print> {
+    rt: R,
+    faults: FaultCount,
+}
+
+impl<R: Print> RealSink<R> {
+    pub fn new(rt: R) -> RealSink<R>
+        ensures { ⟦<RealSink<R> as Sink>⟧.sight result ≡ silent_sink 0 }
+    {
+        RealSink {
+            rt,
+            faults: FaultCount::new(),
+        }
+    }
+}
+
+impl<R: Print> Sink for RealSink<R> {
+    ghost sight = { λ sink. silent_sink sink.faults.count };
+
+    /// Nothing taken is a fault too.
+    fn write(&mut self, piece: &[u8]) -> Result<u64, Failed> {
+        match self.rt.write_some(piece) {
+            Ok(taken) if taken > 0 => Ok(taken as u64),
+            _ => {
+                self.faults.rise();
+                Err(Failed)
+            }
+        }
+    }
+}

@@ -1,0 +1,15 @@
+ghost use Rattle.std.specs.Prelude.{◌<◌, length};
+ghost use Rattle.dude_io.specs.Sink.{SinkSight, Writes};
+
+use pmem_trait::Failed;
+
+/// What takes the program's output.
+pub trait Sink {
+    /// What is known of the sink: the count of its faults, and the bytes taken where these are told.
+    ghost sight: { Self → SinkSight };
+
+    /// Takes a front of the piece, at least one byte, and answers how many.
+    fn write(&mut self, piece: &[u8]) -> Result<u64, Failed>
+        requires { 0 < length piece.now }
+        ensures { Writes piece.now result (sight self.old) (sight self.new) };
+}

@@ -1,0 +1,17 @@
+ghost use Rattle.std.specs.Prelude.{◌≡◌, [], ℕ};
+ghost use Rattle.dude_io.specs.Sink.{WritesAll};
+
+use crate::Sink;
+use pmem_trait::Failed;
+
+/// Writes all the bytes. After an `Err` the sink has a front of them.
+pub fn write_all<K: Sink>(sink: &mut K, bytes: &[u8]) -> Result<(), Failed>
+    ensures writes { WritesAll bytes.now result (K.sight sink.old) (K.sight sink.new) }
+    ensures untouched { bytes.now ≡ [] → sink.new ≡ sink.old }
+{
+    let mut done = 0;
+    'pieces: while done < bytes.len() {
+        done += sink.write(&bytes[done..])? as usize;
+    }
+    Ok(())
+}
