@@ -6,3 +6,4 @@ pub mod Loops
 pub mod RowWords
 pub mod Shown
 pub mod UpdateLaw
+pub mod Stores

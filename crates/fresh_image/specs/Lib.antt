@@ -5,3 +5,4 @@ pub mod Layout
 pub mod Record
 pub mod Recovery
 pub mod Rows
+pub mod Store

@@ -7,10 +7,13 @@
 
 mod format;
 mod population;
+mod row;
 mod sizes;
+mod store;
 mod update;
 
 pub use format::format_image;
 pub use sizes::ImageSizes;
+pub use store::Store;
 pub use update::log_update;
 
