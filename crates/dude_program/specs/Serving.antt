@@ -1,37 +1,83 @@
--- One request of `fresh`: what it adds to what is done, and what it leaves of the medium.
-use Rattle.std.specs.Prelude.{◌≡◌, ℕ, ◌+◌, ◌*◌, ◌≤◌, Bool, true, List, [], ◌∷◌, ◌++◌, length, if◌then◌else◌}
+-- Requests of `fresh`, one after another: what each adds to what is done, and what it leaves of the medium.
+use Rattle.std.specs.Prelude.{◌≡◌, ◌⊎◌, ℕ, ◌+◌, ◌*◌, ◌≤◌, Bool, true, IsTrue, List, [], ◌∷◌, ◌++◌, length, if◌then◌else◌}
 use Rattle.pmem_trait.specs.Words.{Point}
+use Rattle.pmem_trait.specs.Sights.{Sight, here, Keeps, Ran}
 use Rattle.tatp_model.specs.declared.done.Done.{Done}
 use Rattle.tatp_model.specs.declared.request.Request.{Request}
 use Rattle.tatp_model.specs.Database.{Database}
+use Rattle.tatp_model.specs.Population.{population}
 use Rattle.tatp_model.specs.Transaction.{reply_to, after_request}
-use Rattle.tatp_model.specs.OneThread.{is_changed}
+use Rattle.tatp_model.specs.OneThread.{is_changed, HoldsAll, IsPrintedOrder}
+use Rattle.tatp_model.specs.OneThread.{Replies as RepliesAreOneThreads}
+use Rattle.dude_text.specs.Command.{Meaning, Meaning.FreshRun}
 use Rattle.fresh_image.specs.Fresh.{Rests}
 use Rattle.fresh_image.specs.Rows.{home_words}
-use Rattle.fresh_image.specs.Calls.{AtLeast}
+use Rattle.fresh_image.specs.Calls.{AtLeast, Shows}
+use Rattle.dude_program.specs.Headline.{last_of, database_after, RecoversSince}
+
+-- Where a run stands: the last number drawn, the database, and what is done.
+pub record Stage : Type 0 where
+  pub last : ℕ
+  pub db : Database
+  pub done : List Done
 
 -- Between two requests the medium rests at the last number and the database's home words; the last number was told
 -- last, since the first so many numbers.
-pub record Idle (subscribers before last : ℕ) (db : Database) (p : Point) : Type 0 where
-  pub rests : Rests subscribers last (home_words subscribers db.subscribers) p
-  pub floor : AtLeast before p.told last
-  pub told : (front : List ℕ) × (p.told ≡ front ++ last ∷ []) × (before ≤ length front)
+pub record Idle (subscribers before : ℕ) (stage : Stage) (p : Point) : Type 0 where
+  pub rests : Rests subscribers stage.last (home_words subscribers stage.db.subscribers) p
+  pub floor : AtLeast before p.told stage.last
+  pub told : (front : List ℕ) × (p.told ≡ front ++ stage.last ∷ []) × (before ≤ length front)
 
--- One request more is done: its reply is one thread's at this database, and where it is `Changed` it drew the next number.
-pub record Adds (subscribers last index : ℕ) (db : Database) (request : Request) (old new : List Done) : Type 0 where
+-- whether a request changes the database
+abbrev pub changes_it : ℕ → Database → Request → Bool
+changes_it subscribers db request = is_changed (reply_to (12 * subscribers) db request)
+
+-- the last number after a request, and the database
+abbrev pub next_number : ℕ → Stage → Request → ℕ
+next_number subscribers stage request =
+    if changes_it subscribers stage.db request then stage.last + 1 else stage.last
+
+abbrev pub next_database : ℕ → Stage → Request → Database
+next_database subscribers stage request = after_request (12 * subscribers) stage.db request
+
+-- One request more is done: its reply is one thread's at this database, and where it changes it, it drew the next number.
+pub record Adds (subscribers index : ℕ) (request : Request) (stage : Stage) (new : List Done) : Type 0 where
   pub entry : Done
-  pub added : new ≡ old ++ entry ∷ []
+  pub added : new ≡ stage.done ++ entry ∷ []
   pub asked : entry.request ≡ request
   pub place : (entry.file ≡ 0) × (entry.index ≡ index)
-  pub reply : entry.reply ≡ reply_to (12 * subscribers) db request
-  pub wrote : entry.wrote ≡ is_changed entry.reply
-  pub number : entry.number ≡ (if entry.wrote then last + 1 else last)
+  pub reply : entry.reply ≡ reply_to (12 * subscribers) stage.db request
+  pub wrote : entry.wrote ≡ changes_it subscribers stage.db request
+  pub number : entry.number ≡ next_number subscribers stage request
 
--- the last number after a request
-abbrev pub next_number : ℕ → ℕ → Database → Request → ℕ
-next_number subscribers last db request =
-    if is_changed (reply_to (12 * subscribers) db request) then last + 1 else last
+-- an image is as before the request, or as after it, where it changes the database
+abbrev pub ShowsStep : ℕ → ℕ → Stage → Request → List ℕ → List ℕ → Type 0
+ShowsStep subscribers before stage request told image =
+    Shows before stage.last (home_words subscribers stage.db.subscribers) told image
+    ⊎ (IsTrue (changes_it subscribers stage.db request)
+      × Shows before (stage.last + 1) (home_words subscribers (next_database subscribers stage request).subscribers) told image)
 
--- the database after a request
-abbrev pub next_database : ℕ → Database → Request → Database
-next_database subscribers db request = after_request (12 * subscribers) db request
+-- One request was carried out, or the medium failed on the way.
+pub record Serves (subscribers index : ℕ) (request : Request) (ok : Bool) (old new : Stage) (s t : Sight) : Type 0 where
+  pub adds : Adds subscribers index request old new.done
+  pub moves : (new.last ≡ next_number subscribers old request) × (new.db ≡ next_database subscribers old request)
+  pub idle : ok ≡ true → (before : ℕ) → IsTrue s.tells → Idle subscribers before old (here s) → Idle subscribers before new (here t)
+  pub images : (before : ℕ) → (IsTrue s.tells → Idle subscribers before old (here s)) → Keeps (ShowsStep subscribers before old request) s t
+  pub ran : Ran ok s t
+
+-- the population, with nothing done
+abbrev pub opening_stage : ℕ → Stage
+opening_stage subscribers = record { last = 0; db = population subscribers; done = [] }
+
+-- The requests were carried out from the population on, or the medium failed on the way.
+pub record ServesAll (subscribers : ℕ) (file : List ℕ) (requests : List Request) (ok : Bool) (new : Stage) (s t : Sight) : Type 0 where
+  pub replies : RepliesAreOneThreads 0 (12 * subscribers) (population subscribers) (requests ∷ []) new.done
+  pub printed : IsPrintedOrder new.done new.done
+  pub keeps : (before : ℕ) → (IsTrue s.tells → Idle subscribers before (opening_stage subscribers) (here s))
+      → Keeps (RecoversSince before (FreshRun subscribers file) new.done) s t
+  pub ran : Ran ok s t
+  pub all : ok ≡ true → HoldsAll (requests ∷ []) new.done
+  pub last : ok ≡ true → new.last ≡ last_of 0 new.done
+  pub db : ok ≡ true → new.db ≡ database_after (FreshRun subscribers file) new.done new.last
+  pub idle : ok ≡ true → (before : ℕ) → IsTrue s.tells → Idle subscribers before (opening_stage subscribers) (here s)
+      → Idle subscribers before new (here t)

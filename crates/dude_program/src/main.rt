@@ -3,5 +3,6 @@
 
 mod plan;
 mod printing;
+mod run;
 
 fn main() {}
