@@ -291,7 +291,7 @@ goes_none S requests s low high long = record {
     ran = ran_here s }
 
 -- the medium tells its states as it did
-still_tells : {ok : Bool} {s t : Sight} → Ran ok s t → IsTrue t.tells → IsTrue s.tells
+pub still_tells : {ok : Bool} {s t : Sight} → Ran ok s t → IsTrue t.tells → IsTrue s.tells
 still_tells ran tells = subst (λ (b : Bool). IsTrue b) (makes_later ran.1).tells tells
 
 -- Images so far and in one step more.
@@ -333,7 +333,7 @@ goes_next {S} {T} {i} {requests} d {old} {new} {s} {t} {u} same below served goe
     ran = ran_then goes.ran step.ran }
 
 -- what is said of the whole, where a front of the requests is done
-serves_front : {S : ℕ} {front requests : List Request} {stage : Stage} → Going S front stage → IsFront front requests
+pub serves_front : {S : ℕ} {front requests : List Request} {stage : Stage} → Going S front stage → IsFront front requests
     → Replies 0 (12 * S) (population S) (requests ∷ []) stage.done × IsPrintedOrder stage.done stage.done
 serves_front {S} {front} {requests} {stage} going is =
     (Replies-from_sequential 0 stage.last (12 * S) (population S) front requests stage.done going.run is, own_order stage.done going.run.asked going.run.sorted)
@@ -353,11 +353,14 @@ goes_stops {S} {T} {i} {requests} d {old} {new} {s} {t} {u} file same below serv
       all = λ no. absurd (let never : ⊥ = cc in never);
       last = λ no. absurd (let never : ⊥ = cc in never);
       db = λ no. absurd (let never : ⊥ = cc in never);
-      idle = λ no. absurd (let never : ⊥ = cc in never) }
+      idle = λ no. absurd (let never : ⊥ = cc in never);
+      within = λ no. absurd (let never : ⊥ = cc in never);
+      small = λ no. absurd (let never : ⊥ = cc in never);
+      others = λ no. absurd (let never : ⊥ = cc in never) }
 
 -- All requests were carried out.
-pub goes_ends : {S i : ℕ} {requests : List Request} {stage : Stage} {s t : Sight} (file : List ℕ) → length requests ≤ i → GoesOn S i requests stage s t → ServesAll S file requests true stage s t
-goes_ends {S} {i} {requests} {stage} file past goes =
+pub goes_ends : {S i : ℕ} {requests : List Request} {stage : Stage} {s t : Sight} (file : List ℕ) → length requests ≤ i → stage.last ≤ number_limit → GoesOn S i requests stage s t → ServesAll S file requests true stage s t
+goes_ends {S} {i} {requests} {stage} file past small goes =
     let going : Going S requests stage = subst (λ (front : List Request). Going S front stage) (take_all i requests past) goes.going in
     let front = serves_front going ([], sym (append-nil requests)) in
     record {
@@ -368,4 +371,7 @@ goes_ends {S} {i} {requests} {stage} file past goes =
       all = λ _. going.run.held;
       last = λ _. going.last_is;
       db = λ _. sym (going_database stage.last (omega arith) going);
-      idle = λ _. goes.idle }
+      idle = λ _. goes.idle;
+      within = λ _. going.run.within;
+      small = λ _. small;
+      others = λ _. (going.others.access, going.others.facilities, going.others.calls) }

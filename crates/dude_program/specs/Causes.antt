@@ -5,18 +5,22 @@ use Rattle.tatp_model.specs.declared.done.Done.{Done}
 use Rattle.tatp_model.specs.declared.request.Request.{Request}
 use Rattle.dude_text.specs.declared.fault.Fault.{Fault}
 use Rattle.dude_text.specs.declared.fault.Fault.TheVariants.{Usage, File, Text, Small, TooFew, Unformatted, Damaged, NotDb, ManyFiles, Frames, FewSubscribers, Numbers, Device, Output, Memory}
+use Rattle.dude_text.specs.Fault.{status_of}
 use Rattle.dude_text.specs.Command.{Meaning, Meaning.FreshRun, meaning_of}
 use Rattle.dude_io.specs.Files.{FilesSight}
 use Rattle.dude_io.specs.Sink.{SinkSight}
 use Rattle.fresh_image.specs.Fresh.{fresh_length}
 use Rattle.dude_program.specs.Opening.{FilesMean, HasBadFile}
-use Rattle.dude_program.specs.Headline.{Prints, PrintsFront, PrintsNothing}
+use Rattle.dude_program.specs.Headline.{RepliesToAll, End, Prints, PrintsFront, PrintsNothing}
 
 -- What the command sees at entry, and what it leaves: the medium, the files, the sink.
 pub record World : Type 0 where
   pub medium : Sight
   pub files : FilesSight
   pub sink : SinkSight
+
+abbrev pub world_of : Sight → FilesSight → SinkSight → World
+world_of medium files sink = record { medium = medium; files = files; sink = sink }
 
 -- how many words the image of the command needs
 abbrev pub words_needed : Meaning → ℕ
@@ -68,6 +72,19 @@ abbrev pub OnAllDone : Option Fault → Type 0 → Type 0
 OnAllDone None P = P
 OnAllDone (Some Output) P = P
 OnAllDone (Some _) P = ⊤
+
+-- all requests of the command are done, with one thread's replies
+abbrev pub AllDone : Option Meaning → World → List Done → Type 0
+AllDone meaning old done = (own : Meaning) × (meaning ≡ Some own) × RepliesToAll own old.files done
+
+-- and what was told at the end is told of all of them
+abbrev pub EndsDone : Option Meaning → World → World → List Done → Type 0
+EndsDone meaning old new done =
+    (own : Meaning) → meaning ≡ Some own → IsTrue old.medium.tells → End own done old.medium new.medium
+
+-- words, files or the medium were refused: the statuses 2 to 5
+abbrev pub OnRefusal : Option Fault → Type 0 → Type 0
+OnRefusal fault P = 2 ≤ status_of fault → status_of fault ≤ 5 → P
 
 -- What the sink took: all of the output; a prefix, where the sink failed or there was no memory; else nothing.
 abbrev pub Bytes : Meaning → List Done → World → World → Option Fault → Type 0

@@ -57,11 +57,11 @@ pub record Crash (meaning : Meaning) (done : List Done) (s t : Sight) : Type 0 w
   pub printed : IsPrintedOrder done order
   pub keeps : Keeps (RecoversSince (length (here s).told) meaning order) s t
 
--- End: the last number told is the last of the requests done, and every image at exit recovers to it.
+-- End: the last number told, in this call, is the last of the requests done, and every image at exit recovers to it.
 pub record End (meaning : Meaning) (done : List Done) (s t : Sight) : Type 0 where
   pub order : List Done
   pub printed : IsPrintedOrder done order
-  pub told : (front : List ℕ) × ((here t).told ≡ (here s).told ++ front ++ last_of (opening_of meaning).number done ∷ [])
+  pub told : (front : List ℕ) × ((here t).told ≡ front ++ last_of (opening_of meaning).number done ∷ []) × (length (here s).told ≤ length front)
   pub least : All (λ d. d.number ≤ last_of (opening_of meaning).number done) done
   pub images : Leaves t.len (λ told image. RecoversTo meaning image (last_of (opening_of meaning).number done)
       (database_after meaning order (last_of (opening_of meaning).number done))) (here t)

@@ -1,6 +1,8 @@
 pub mod Causes
+pub mod Ending
 pub mod Headline
 pub mod Opening
+pub mod Outcome
 pub mod Plans
 pub mod Printing
 pub mod Run

@@ -1,5 +1,7 @@
 -- Output that is handed to a sink in pieces.
-use Rattle.std.specs.Prelude.{◌≡◌, ◌⊎◌, ℕ, List, ◌++◌}
+use Rattle.std.specs.Prelude.{◌≡◌, ◌⊎◌, ℕ, Option, Some, None, List, ◌++◌}
+use Rattle.tatp_model.specs.declared.done.Done.{Done}
+use Rattle.dude_text.specs.Output.{output_of}
 use Rattle.pmem_trait.specs.Sights.{Risen}
 use Rattle.dude_text.specs.declared.fault.Fault.{Fault}
 use Rattle.dude_text.specs.declared.fault.Fault.TheVariants.{Output, Memory}
@@ -19,3 +21,9 @@ pub record StopsIn (text : List ℕ) (s t : SinkSight) (fault : Fault) : Type 0 
   pub took : Took front s t
   pub cause : fault ≡ Output → Risen s.faults t.faults
   pub only : (fault ≡ Output) ⊎ (fault ≡ Memory)
+
+-- What is done was printed, or a front of it, unless a fault came before.
+abbrev pub PrintsOutcome : List Done → ℕ → Option Fault → Option Fault → SinkSight → SinkSight → Type 0
+PrintsOutcome done last (Some earlier) fault s t = (fault ≡ Some earlier) × (t ≡ s)
+PrintsOutcome done last None None s t = Took (output_of done last) s t
+PrintsOutcome done last None (Some fault) s t = StopsIn (output_of done last) s t fault

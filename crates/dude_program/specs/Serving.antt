@@ -1,5 +1,5 @@
 -- Requests of `fresh`, one after another: what each adds to what is done, and what it leaves of the medium.
-use Rattle.std.specs.Prelude.{◌≡◌, ◌⊎◌, ℕ, ◌+◌, ◌*◌, ◌≤◌, Bool, true, IsTrue, List, [], ◌∷◌, ◌++◌, length, if◌then◌else◌}
+use Rattle.std.specs.Prelude.{◌≡◌, ◌⊎◌, ℕ, ◌+◌, ◌*◌, ◌≤◌, Bool, true, IsTrue, List, [], ◌∷◌, ◌++◌, length, if◌then◌else◌, All}
 use Rattle.pmem_trait.specs.Words.{Point}
 use Rattle.pmem_trait.specs.Sights.{Sight, here, Keeps, Ran}
 use Rattle.tatp_model.specs.declared.done.Done.{Done}
@@ -10,6 +10,7 @@ use Rattle.tatp_model.specs.Transaction.{reply_to, after_request}
 use Rattle.tatp_model.specs.OneThread.{is_changed, HoldsAll, IsPrintedOrder}
 use Rattle.tatp_model.specs.OneThread.{Replies as RepliesAreOneThreads}
 use Rattle.dude_text.specs.Command.{Meaning, Meaning.FreshRun}
+use Rattle.fresh_image.specs.Layout.{number_limit}
 use Rattle.fresh_image.specs.Fresh.{Rests}
 use Rattle.fresh_image.specs.Rows.{home_words}
 use Rattle.fresh_image.specs.Calls.{AtLeast, Shows}
@@ -81,3 +82,7 @@ pub record ServesAll (subscribers : ℕ) (file : List ℕ) (requests : List Requ
   pub db : ok ≡ true → new.db ≡ database_after (FreshRun subscribers file) new.done new.last
   pub idle : ok ≡ true → (before : ℕ) → IsTrue s.tells → Idle subscribers before (opening_stage subscribers) (here s)
       → Idle subscribers before new (here t)
+  pub within : ok ≡ true → All (λ d. d.number ≤ new.last) new.done
+  pub small : ok ≡ true → new.last ≤ number_limit
+  pub others : ok ≡ true → (new.db.access ≡ (population subscribers).access)
+      × (new.db.facilities ≡ (population subscribers).facilities) × (new.db.calls ≡ (population subscribers).calls)

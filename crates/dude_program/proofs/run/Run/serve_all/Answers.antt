@@ -36,4 +36,4 @@ returns-in_err-serve-clause-serves g c file =
     rw err (goes_stops _ file (ap (λ (z : ImageSizes). z.subscribers) i.sizes) c.loop-index-test.true (c.requires.served c.loop-index.index _ c.loop-index-test.true) i.goes c.in_err-serve.ensures.serves)
 
 pub returns-clause-serves : goal.returns-clause-serves
-returns-clause-serves g c file = goes_ends file c.loop-index-test.false c.loop-index.invariant.goes
+returns-clause-serves g c file = goes_ends file c.loop-index-test.false (omega (arith, c.loop-index.invariant.goes.few, c.requires.few)) c.loop-index.invariant.goes

@@ -1,0 +1,37 @@
+ghost use Rattle.std.specs.Prelude.{◌≡◌};
+ghost use Rattle.dude_text.specs.Fault.{status_of};
+
+use dude_text::Fault;
+use tatp_model::Done;
+
+/// How a command ended.
+#[derive(Drop)]
+pub struct Ended<M> {
+    /// 0 where it was carried out, else the fault's status.
+    pub status: u8,
+    pub fault: Option<Fault>,
+    /// The medium that was handed in.
+    pub medium: M,
+    /// The requests done, in order of file and index.
+    pub done: Vec<Done>,
+}
+
+impl<M> Ended<M> {
+    pub fn new(fault: Option<Fault>, medium: M, done: Vec<Done>) -> Ended<M>
+        ensures status { result.status ≡ status_of result.fault }
+        ensures fault { result.fault ≡ fault }
+        ensures medium { result.medium ≡ medium }
+        ensures done { result.done ≡ done }
+    {
+        let status = match &fault {
+            None => 0,
+            Some(fault) => fault.status(),
+        };
+        Ended {
+            status,
+            fault,
+            medium,
+            done,
+        }
+    }
+}
