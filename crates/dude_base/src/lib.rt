@@ -2,5 +2,7 @@
 #![tactic(auto)]
 
 pub mod limits;
+pub mod redo;
 pub mod wide;
 pub mod write;
+pub mod write_list;
