@@ -1,11 +1,12 @@
 -- Arrays that are overwritten by writes.
-use Rattle.std.proofs.Common.{◌≡◌, ◌≢◌, ◌==◌, ℕ, ◌<◌, true, false, List, [], ◌∷◌, ◌++◌, length, length-set, map, slice_index, slice_set, Option, Some, None, is_some, unwrap_or, if◌then◌else◌, refl, sym, ap, ◌∙◌, ⊎_elim, get_or-set_same, get_or-set_other, inl, inr, arith}
+use Rattle.std.proofs.Common.{◌≡◌, ◌≢◌, ◌==◌, ℕ, ◌<◌, true, false, List, [], ◌∷◌, ◌++◌, length, length-set, length-take-le, take, All, slice_get, get_or, ◌+◌, map, slice_index, slice_set, Option, Some, None, is_some, unwrap_or, if◌then◌else◌, refl, sym, ap, ◌∙◌, ⊎_elim, get_or-set_same, get_or-set_other, inl, inr, arith}
 use Rattle.std.proofs.lemmas.Bool.{cases_eq, cases_Bool}
-use Rattle.std.proofs.lemmas.List.{set-set, set_comm}
+use Rattle.std.proofs.lemmas.List.{set-set, set_comm, get_or-take, get_or_default, take_more}
+use Rattle.std.proofs.lemmas.Option.{slice_get_within, get_or_from_slice_get}
 use Rattle.std.proofs.lemmas.Grind.{common_steps}
 use Rattle.dude_base.specs.declared.write.Write.{Write}
-use Rattle.dude_base.proofs.WriteLists.{None-from_is_some}
-use Rattle.dude_base.specs.Writes.{written, put_write, overwritten}
+use Rattle.dude_base.proofs.WriteLists.{None-from_is_some, written_absent}
+use Rattle.dude_base.specs.Writes.{written, put_write, overwritten, HasDistinctPlaces}
 
 pub length-overwritten : (ws : List Write) (array : List ℕ) → length (overwritten ws array) ≡ length array
 length-overwritten [] array = refl
@@ -83,3 +84,15 @@ written-put ws w i = elim (cases_Bool (is_some (written ws w.at))) [
   ]
   | inr new ↦ rw new (written-new w ws i (None-from_is_some _ new))
 ]
+
+-- the first k + 1 writes, where the writes have distinct places
+pub overwritten-more : (ws : List Write) (array : List ℕ) (k : ℕ) (w : Write) → HasDistinctPlaces ws → slice_get ws k ≡ Some w → overwritten (take (k + 1) ws) array ≡ slice_set (overwritten (take k ws) array) w.at w.value
+overwritten-more ws array k w distinct there =
+    let lt : k < length ws = slice_get_within ws k w there in
+    let is : get_or ws k w ≡ w = get_or_from_slice_get ws k w w there in
+    let long : length (take k ws) ≡ k = length-take-le k ws (omega arith) in
+    let apart : All (λ v. v.at ≢ w.at) (take k ws) = λ i d below.
+            let small : i < k = omega arith in
+            λ same. distinct i k d small lt (sym (ap (λ (v : Write). v.at) (get_or-take k ws i d small)) ∙ same ∙ sym (ap (λ (v : Write). v.at) (get_or_default ws k d w lt ∙ is))) in
+    let front : take (k + 1) ws ≡ take k ws ++ w ∷ [] = take_more ws k w lt ∙ ap (λ v. take k ws ++ v ∷ []) is in
+    ap (λ vs. overwritten vs array) front ∙ overwritten-new w (take k ws) array (written_absent (take k ws) w.at apart)

@@ -1,5 +1,5 @@
-ghost use Rattle.std.specs.Prelude.{◌≡◌, ◌<◌, ◌↔◌, [], length, slice_get, OnOk, OnErr, IsErr};
-ghost use Rattle.dude_base.specs.Writes.{put_write, IsWide, IsWriteList};
+ghost use Rattle.std.specs.Prelude.{◌≡◌, ◌<◌, ◌↔◌, [], length, slice_get, All, OnOk, OnErr, IsErr};
+ghost use Rattle.dude_base.specs.Writes.{put_write, overwritten, IsWide, IsWriteList};
 
 use crate::wide::Wide;
 use crate::write::Write;
@@ -66,5 +66,13 @@ impl Redo {
         ensures wide { IsErr result ↔ IsWide self.old.writes w.at }
     {
         self.writes.put(w)
+    }
+
+    /// Overwrites an array by the writes of this record.
+    pub fn apply_to(&self, words: &mut [u64])
+        requires inside { All (λ w. w.at < length words.old) self.now.writes }
+        ensures { words.new ≡ overwritten self.now.writes words.old }
+    {
+        self.writes.apply_to(words)
     }
 }

@@ -1,6 +1,6 @@
 ghost use Rattle.std.specs.Prelude.{◌≡◌, ◌≢◌, ◌<◌, ◌↔◌, [], ◌∷◌, ◌++◌, length, slice_get, slice_set, All, OnOk, OnErr, IsErr, IfSome, IfNone};
 ghost use Rattle.std.specs.List.{HoldsAt};
-ghost use Rattle.dude_base.specs.Writes.{written, put_write, IsWide, IsWriteList};
+ghost use Rattle.dude_base.specs.Writes.{written, put_write, overwritten, IsWide, IsWriteList};
 
 use crate::limits::MAX_WRITES;
 use crate::wide::Wide;
@@ -76,6 +76,17 @@ impl WriteList {
             None => return Err(Wide),
         }
         Ok(())
+    }
+
+    /// Overwrites an array by these writes.
+    pub fn apply_to(&self, words: &mut [u64])
+        requires inside { All (λ w. w.at < length words.old) self.now }
+        ensures { words.new ≡ overwritten self.now words.old }
+    {
+        for k in 0..self.len() {
+            let w = self.get(k);
+            words[w.at as usize] = w.value;
+        }
     }
 
     fn place_of(&self, at: u64) -> Option<u64>

@@ -3,5 +3,7 @@
 
 #[cfg(test)]
 mod callers;
+pub mod read_set;
 pub mod stop;
 pub mod words;
+pub mod write_set;
