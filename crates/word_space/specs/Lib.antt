@@ -1,3 +1,5 @@
 pub mod Callers
+pub mod Flats
 pub mod Sights
+pub mod Sound
 pub mod Steps

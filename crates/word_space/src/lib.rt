@@ -3,6 +3,7 @@
 
 #[cfg(test)]
 mod callers;
+pub mod flat;
 pub mod read_set;
 pub mod stop;
 pub mod words;
