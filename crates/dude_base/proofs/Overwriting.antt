@@ -1,5 +1,5 @@
 -- Arrays that are overwritten by writes.
-use Rattle.std.proofs.Common.{◌≡◌, ◌≢◌, ◌==◌, ℕ, ◌<◌, true, false, List, [], ◌∷◌, ◌++◌, length, length-set, length-take-le, take, All, slice_get, get_or, ◌+◌, map, slice_index, slice_set, Option, Some, None, is_some, unwrap_or, if◌then◌else◌, refl, sym, ap, ◌∙◌, ⊎_elim, get_or-set_same, get_or-set_other, inl, inr, arith}
+use Rattle.std.proofs.Common.{◌≡◌, ◌≢◌, ◌==◌, ℕ, ◌<◌, true, List, [], ◌∷◌, ◌++◌, length, length-set, length-take-le, take, All, slice_get, get_or, ◌+◌, map, slice_index, slice_set, Some, None, is_some, unwrap_or, if◌then◌else◌, refl, sym, ap, ◌∙◌, get_or-set_same, get_or-set_other, inl, inr, arith}
 use Rattle.std.proofs.lemmas.Bool.{cases_eq, cases_Bool}
 use Rattle.std.proofs.lemmas.List.{set-set, set_comm, get_or-take, get_or_default, take_more}
 use Rattle.std.proofs.lemmas.Option.{slice_get_within, get_or_from_slice_get}
@@ -92,7 +92,7 @@ overwritten-more ws array k w distinct there =
     let is : get_or ws k w ≡ w = get_or_from_slice_get ws k w w there in
     let long : length (take k ws) ≡ k = length-take-le k ws (omega arith) in
     let apart : All (λ v. v.at ≢ w.at) (take k ws) = λ i d below.
-            let small : i < k = omega arith in
-            λ same. distinct i k d small lt (sym (ap (λ (v : Write). v.at) (get_or-take k ws i d small)) ∙ same ∙ sym (ap (λ (v : Write). v.at) (get_or_default ws k d w lt ∙ is))) in
+    let small : i < k = omega arith in
+    λ same. distinct i k d small lt (sym (ap (λ (v : Write). v.at) (get_or-take k ws i d small)) ∙ same ∙ sym (ap (λ (v : Write). v.at) (get_or_default ws k d w lt ∙ is))) in
     let front : take (k + 1) ws ≡ take k ws ++ w ∷ [] = take_more ws k w lt ∙ ap (λ v. take k ws ++ v ∷ []) is in
     ap (λ vs. overwritten vs array) front ∙ overwritten-new w (take k ws) array (written_absent (take k ws) w.at apart)

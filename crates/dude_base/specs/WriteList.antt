@@ -1,6 +1,5 @@
 -- What a `WriteList` keeps of its fields.
 use Rattle.std.specs.Prelude.{◌≡◌, ◌≤◌, length, take}
-use Rattle.dude_base.specs.declared.limits.TheConstants.{MAX_WRITES}
 use Rattle.dude_base.specs.declared.write_list.WriteList.TheInside.{Inside}
 use Rattle.dude_base.specs.Writes.{HasDistinctPlaces}
 

@@ -1,4 +1,4 @@
-use Rattle.std.proofs.Common.{◌≡◌, take, length}
+use Rattle.std.proofs.Common.{◌≡◌, take}
 use Rattle.dude_base.specs.Writes.{overwritten}
 use Rattle.dude_base.proofs.write_list.WriteList.apply_to.Given as goal
 

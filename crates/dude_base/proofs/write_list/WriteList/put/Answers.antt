@@ -1,4 +1,4 @@
-use Rattle.std.proofs.Common.{sym, ap, ◌∙◌, arith, ◌≡◌, refl}
+use Rattle.std.proofs.Common.{sym, ◌∙◌, arith, refl}
 use Rattle.dude_base.proofs.WriteLists.{written_absent, written_at, put_absent, put_at}
 use Rattle.dude_base.proofs.write_list.WriteList.put.Goals as goal
 
