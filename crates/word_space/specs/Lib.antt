@@ -3,3 +3,5 @@ pub mod Flats
 pub mod Sights
 pub mod Sound
 pub mod Steps
+pub mod Stoppings
+pub mod Stops

@@ -4,6 +4,7 @@ use crate::read_set::ReadSet;
 use crate::stop::Stop;
 use crate::words::Words;
 use crate::write_set::WriteSet;
+use dude_base::limits::MAX_WRITES;
 use dude_base::redo::Redo;
 use dude_base::wide::Wide;
 use dude_base::write::Write;
@@ -21,8 +22,8 @@ pub struct Flat {
 }
 
 impl Flat {
-    ghost use Rattle.std.specs.Prelude.{◌≡◌, [], None};
-    ghost use Rattle.dude_base.specs.Writes.{overwritten};
+    ghost use Rattle.std.specs.Prelude.{◌≡◌, ◌↔◌, [], None, IsTrue};
+    ghost use Rattle.dude_base.specs.Writes.{overwritten, IsWide};
     ghost use Rattle.word_space.specs.Flats.{words_of, sight_of, fresh};
     ghost use Rattle.word_space.specs.Sights.{IsBelow};
     ghost use Rattle.word_space.specs.Sound.{IsWideOrNoMemory};
@@ -50,6 +51,13 @@ impl Flat {
         ensures stops { IsWideOrNoMemory (sight_of self.now).stopped }
     {
         &self.words
+    }
+
+    /// Whether a write of the word `at` would be of a word too many.
+    pub fn is_wide(&self, at: u64) -> bool
+        ensures { IsTrue result ↔ IsWide (sight_of self.now).writes at }
+    {
+        self.writes.len() == MAX_WRITES && self.writes.find(at).is_none()
     }
 
     /// The pending writes as the record of this number. They are applied to the array, and both lists

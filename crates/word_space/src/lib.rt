@@ -6,5 +6,6 @@ mod callers;
 pub mod flat;
 pub mod read_set;
 pub mod stop;
+pub mod stopping;
 pub mod words;
 pub mod write_set;
