@@ -9,3 +9,6 @@ pub mod stop;
 pub mod stopping;
 pub mod words;
 pub mod write_set;
+
+#[cfg(test)]
+mod tests;
