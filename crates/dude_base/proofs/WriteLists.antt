@@ -1,5 +1,5 @@
 -- Lists of writes with distinct places: what they write, and one more write.
-use Rattle.std.proofs.Common.{◌≡◌, ◌≢◌, ◌==◌, ℕ, ◌<◌, ◌≤◌, zero, suc, false, List, [], ◌∷◌, ◌++◌, length, length-set, length-take-le, take, get_or, set, map, All, Option, Some, None, is_some, if◌then◌else◌, refl, sym, ap, ◌∙◌, subst, inl, inr, ⊎_elim, arith, get_or-set_same, get_or-set_other}
+use Rattle.std.proofs.Common.{true, ◌+◌, ◌≡◌, ◌≢◌, ◌==◌, ℕ, ◌<◌, ◌≤◌, zero, suc, false, List, [], ◌∷◌, ◌++◌, length, length-set, length-take-le, take, get_or, set, map, All, Option, Some, None, is_some, if◌then◌else◌, refl, sym, ap, ◌∙◌, subst, inl, inr, ⊎_elim, arith, get_or-set_same, get_or-set_other}
 use Rattle.std.proofs.Math.Seq.{take-set-lt}
 use Rattle.std.proofs.lemmas.Bool.{cases_eq, cases_Bool}
 use Rattle.std.proofs.lemmas.List.{length-map, length_push}
@@ -123,3 +123,21 @@ module _ (w : Write) where
         }
         )
   ]
+
+nonempty_from_written : (ws : List Write) (i : ℕ) → is_some (written ws i) ≡ true → 0 < length ws
+nonempty_from_written [] i there = cc
+nonempty_from_written (v ∷ vs) i there = omega arith
+
+-- one more write makes the list at most one longer, and never empty
+pub length-put_write : (ws : List Write) (w : Write) → (length ws ≤ length (put_write ws w)) × (length (put_write ws w) ≤ length ws + 1) × (0 < length (put_write ws w))
+length-put_write ws w = elim (cases_Bool (is_some (written ws w.at))) [
+  | inl there ↦ rw there (
+      let long = length-map ws (λ (v : Write). if v.at == w.at then w else v) in
+      let some : 0 < length ws = nonempty_from_written ws w.at there in
+      (omega arith, omega arith, omega arith)
+      )
+  | inr new ↦ rw new (
+      let long = length_push ws w in
+      (omega arith, omega arith, omega arith)
+      )
+]
