@@ -7,8 +7,7 @@ pub mod flat;
 pub mod read_set;
 pub mod stop;
 pub mod stopping;
-pub mod words;
-pub mod write_set;
-
 #[cfg(test)]
 mod tests;
+pub mod words;
+pub mod write_set;

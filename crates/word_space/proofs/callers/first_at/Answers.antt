@@ -9,6 +9,6 @@ loop-i-preserved g c =
     record {
       looked = looked_then {stop = None} before.looked step.reads.looked;
       turns = λ x led. step.turns x (before.turns x led);
-      absent = λ array below. below_more _ _ (before.absent array (below_looked step.reads.looked below))
+      absent = λ array below. below_more _ _ (before.absent array (below_looked {stop = None} step.reads.looked below))
           (λ same. c.if-branch-key.false (step.value array below ∙ ap (λ words. slice_index words c.loop-i.i) (shown_looked before.looked array) ∙ same));
     }
