@@ -34,7 +34,7 @@ rising_from_pairs key (r ∷ rows) pairs k within =
     omega (arith, lower, upper, pairs k (k + 1) r (omega arith) (omega (arith, long, within)))
 
 -- pairs of one list, of another, and from the one to the other
-AllPairs-append : {R : Type 0} (P : R → R → Type 0) (xs ys : List R) → AllPairs P xs → AllPairs P ys → All (λ x. All (P x) ys) xs → AllPairs P (xs ++ ys)
+pub AllPairs-append : {R : Type 0} (P : R → R → Type 0) (xs ys : List R) → AllPairs P xs → AllPairs P ys → All (λ x. All (P x) ys) xs → AllPairs P (xs ++ ys)
 AllPairs-append P [] ys hx hy across = hy
 AllPairs-append P (x ∷ xs) ys hx hy across =
     AllPairs-cons P x (xs ++ ys) (All-append (P x) xs ys (λ k d h. hx 0 (suc k) d (omega arith) (omega arith)) (across 0 x (omega arith)))

@@ -1,5 +1,5 @@
 -- A run has one printed order at most.
-use Rattle.std.proofs.Common.{◌≡◌, ℕ, zero, suc, ◌+◌, ◌<◌, ◌≤◌, List, [], ◌∷◌, length, get_or, refl, ap, ap₂, sym, ◌∙◌, arith, inl, inr, ⊎_elim, ◌⊎◌, subst}
+use Rattle.std.proofs.Common.{◌≡◌, zero, suc, List, [], ◌∷◌, refl, ap₂, sym, ◌∙◌, arith, inl, inr, ⊎_elim, ◌⊎◌, subst}
 use Rattle.std.specs.List.{AllPairs, Contains, filter}
 use Rattle.std.specs.Prelude.{not, IsPermutation}
 use Rattle.std.proofs.lemmas.Bool.{both_ways}
@@ -26,12 +26,12 @@ module _ {X : Type 0} (R : X → X → Type 0) (asymmetric : (x y : X) → R x y
   same_from_order (x ∷ xs) [] px py to back = absurd (omega (arith, (to x (0, omega arith, refl)).1))
   same_from_order (x ∷ xs) (y ∷ ys) px py to back =
       let same : y ≡ x =
-          ⊎_elim (λ e. e) (λ before. ⊎_elim (λ e. sym e) (λ after. absurd (asymmetric x y after.0 before.0)) (first_or_later x xs y px (back y (0, omega arith, refl)))) (first_or_later y ys x py (to x (0, omega arith, refl))) in
+      ⊎_elim (λ e. e) (λ before. ⊎_elim (λ e. sym e) (λ after. absurd (asymmetric x y after.0 before.0)) (first_or_later x xs y px (back y (0, omega arith, refl)))) (first_or_later y ys x py (to x (0, omega arith, refl))) in
       let irreflexive : (z : X) → R z z → ⊥ = λ z r. asymmetric z z r r in
       let forth : (z : X) → Contains xs z → Contains ys z =
-          λ z there. ⊎_elim (λ e. absurd (irreflexive z (subst (λ (w : X). R w z) (sym same ∙ e) (after_first x xs z px there)))) (λ found. found.1) (first_or_later y ys z py (to z (later x xs z there))) in
+      λ z there. ⊎_elim (λ e. absurd (irreflexive z (subst (λ (w : X). R w z) (sym same ∙ e) (after_first x xs z px there)))) (λ found. found.1) (first_or_later y ys z py (to z (later x xs z there))) in
       let hither : (z : X) → Contains ys z → Contains xs z =
-          λ z there. ⊎_elim (λ e. absurd (irreflexive z (subst (λ (w : X). R w z) (same ∙ e) (after_first y ys z py there)))) (λ found. found.1) (first_or_later x xs z px (back z (later y ys z there))) in
+      λ z there. ⊎_elim (λ e. absurd (irreflexive z (subst (λ (w : X). R w z) (same ∙ e) (after_first y ys z py there)))) (λ found. found.1) (first_or_later x xs z px (back z (later y ys z there))) in
       ap₂ (λ (w : X) (ws : List X). w ∷ ws) (sym same) (same_from_order xs ys (λ i j d h l. px (suc i) (suc j) d (omega arith) (omega arith)) (λ i j d h l. py (suc i) (suc j) d (omega arith) (omega arith)) forth hither)
 
 -- two requests of a run stand in one order alone
