@@ -1,6 +1,7 @@
 -- Each request keeps the tables in order.
 use Rattle.std.proofs.Common.{◌≡◌, ◌≢◌, ℕ, suc, ◌+◌, ◌-◌, ◌*◌, ◌<◌, ◌≤◌, Bool, true, false, cond, not, List, [], ◌∷◌, ◌++◌, length, get_or, map, Option, Some, None, refl, ap, ap₂, sym, ◌∙◌, arith, ⊎_elim, subst, length-append}
 use Rattle.std.specs.Prelude.{nat_lt, nat_le, slice_set, ◌==◌, ◌&&◌}
+use Rattle.std.specs.Prelude.{Result, Ok, Err, OnOk, OnErr}
 use Rattle.std.specs.Option.{option_map_or}
 use Rattle.std.specs.List.{All, AllPairs, Any, filter, find, list_any}
 use Rattle.std.specs.List.Sorted.{IsStrictlyIncreasing}
@@ -218,3 +219,12 @@ KeepsOrder-after_request limit db (DeleteCall n f t) range kept =
       room = omega (arith, kept.room, length-filter_both (is_call r.s_id f t) (λ c. not (is_call r.s_id f t c)) (λ c. refl) db.calls);
     }) (λ _. kept)) kept
 KeepsOrder-after_request limit db Sync range kept = kept
+
+-- the tables that a step leaves
+pub KeepsOrder-step : (limit : ℕ) (db after : Database) (request : Request) → IsInRange request → IsInOrder db → length db.calls ≤ limit → after ≡ after_request limit db request → KeepsOrder limit after
+KeepsOrder-step limit db after request range order room is = subst (KeepsOrder limit) (sym is) (KeepsOrder-after_request limit db request range (record { order = order; room = room }))
+
+-- what follows from either outcome of a call
+pub from_either : {T E : Type 0} (r : Result T E) (P Q G : Type 0) → OnOk r P → OnErr r Q → (P → G) → (Q → G) → G
+from_either (Ok x) P Q G ok err f g = f ok
+from_either (Err e) P Q G ok err f g = g err
