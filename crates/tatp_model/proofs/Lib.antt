@@ -3,6 +3,8 @@ pub mod Facilities
 pub mod InOrder
 pub mod Numbered
 pub mod NumbersLemmas
+pub mod PopulationInOrder
+pub mod PrintedOrder
 pub mod Retained
 pub mod Rising
 pub mod Rows

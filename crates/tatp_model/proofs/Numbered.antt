@@ -1,8 +1,8 @@
 -- Rows whose keys are consecutive numbers stand at the place that their key tells.
-use Rattle.std.proofs.Common.{◌≡◌, ◌≢◌, ℕ, zero, suc, ◌+◌, ◌-◌, ◌<◌, ◌≤◌, Bool, true, false, cond, eqb, ltb, List, [], ◌∷◌, ◌++◌, length, get_or, set, map, Option, Some, None, refl, ap, ap₂, sym, ◌∙◌, arith, ⊎_elim, ◌⊎◌, subst}
+use Rattle.std.proofs.Common.{◌≡◌, ℕ, zero, suc, ◌+◌, ◌<◌, ◌≤◌, Bool, true, false, cond, eqb, List, [], ◌∷◌, length, get_or, set, map, None, refl, ap, ap₂, sym, ◌∙◌, arith, ⊎_elim, ◌⊎◌, subst}
 use Rattle.std.specs.Prelude.{slice_get, is_some}
-use Rattle.std.specs.List.{All, filter, find, list_any, range_with_len}
-use Rattle.std.proofs.lemmas.Bool.{cases_lt, cases_Bool, eq-eqb, ne_eqb}
+use Rattle.std.specs.List.{filter, find, list_any, range_with_len}
+use Rattle.std.proofs.lemmas.Bool.{cases_Bool, eq-eqb, ne_eqb}
 use Rattle.std.proofs.lemmas.List.{length-map}
 use Rattle.std.proofs.lemmas.List.FromFn.{get_or-map-range_with_len, length-range_with_len}
 use Rattle.std.proofs.lemmas.Option.{slice_get_past}
@@ -13,7 +13,7 @@ use Rattle.tatp_model.specs.declared.request.Request.TheVariants.{UpdateLocation
 use Rattle.tatp_model.specs.declared.reply.Reply.TheVariants.{Missing}
 use Rattle.tatp_model.specs.Database.{Database}
 use Rattle.tatp_model.specs.Population.{population, subscriber_at}
-use Rattle.tatp_model.proofs.Rows.{update_where-at, update_where-none}
+use Rattle.tatp_model.proofs.Rows.{update_where-at}
 
 -- the keys of the rows are a, a + 1 and so on
 pub record KeysFrom {R : Type 0} (key : R → ℕ) (a : ℕ) (rows : List R) : Type 0 where
@@ -88,7 +88,7 @@ list_any-find p [] = refl
 list_any-find p (r ∷ rows) = ⊎_elim (λ e. rw e refl) (λ e. rw e (list_any-find p rows)) (cases_Bool (p r))
 
 -- a rewrite that keeps the keys
-keys-update_where : {R : Type 0} (key : R → ℕ) (p : R → Bool) (f : R → R) (rows : List R) → ((r : R) → key (f r) ≡ key r) → map key (update_where p f rows) ≡ map key rows
+pub keys-update_where : {R : Type 0} (key : R → ℕ) (p : R → Bool) (f : R → R) (rows : List R) → ((r : R) → key (f r) ≡ key r) → map key (update_where p f rows) ≡ map key rows
 keys-update_where key p f [] same = refl
 keys-update_where key p f (r ∷ rows) same =
     ⊎_elim (λ e. rw e (ap₂ (λ x (xs : List ℕ). x ∷ xs) (same r) (keys-update_where key p f rows same))) (λ e. rw e (ap (λ (xs : List ℕ). key r ∷ xs) (keys-update_where key p f rows same))) (cases_Bool (p r))
@@ -151,10 +151,10 @@ update_location-missing limit db n vlr numbered out =
     rw none refl
 
 -- UPDATE_LOCATION answers by whether the number is there
-update_location-there : (limit : ℕ) (db : Database) (n vlr : ℕ) → list_any (has_number n) db.subscribers ≡ true → outcome_of limit db (UpdateLocation n vlr) ≡ changes (record db { subscribers = update_where (has_number n) (λ r. record r { vlr = vlr }) db.subscribers })
+pub update_location-there : (limit : ℕ) (db : Database) (n vlr : ℕ) → list_any (has_number n) db.subscribers ≡ true → outcome_of limit db (UpdateLocation n vlr) ≡ changes (record db { subscribers = update_where (has_number n) (λ r. record r { vlr = vlr }) db.subscribers })
 update_location-there limit db n vlr there = rw there refl
 
-update_location-none : (limit : ℕ) (db : Database) (n vlr : ℕ) → list_any (has_number n) db.subscribers ≡ false → outcome_of limit db (UpdateLocation n vlr) ≡ answers db Missing
+pub update_location-none : (limit : ℕ) (db : Database) (n vlr : ℕ) → list_any (has_number n) db.subscribers ≡ false → outcome_of limit db (UpdateLocation n vlr) ≡ answers db Missing
 update_location-none limit db n vlr none = rw none refl
 
 -- UPDATE_LOCATION keeps the subscribers numbered, and as many

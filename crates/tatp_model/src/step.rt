@@ -1,8 +1,8 @@
 //! The plain step.
 
-ghost use Rattle.std.specs.Prelude.{◌≡◌, ◌≤◌, IfOk, OnOk, OnErr, length};
+ghost use Rattle.std.specs.Prelude.{◌≡◌, ◌≤◌, IfOk, OnOk, OnErr, IsTrue, length};
 ghost use Rattle.tatp_model.specs.Database.{database_of, IsInOrder};
-ghost use Rattle.tatp_model.specs.Request.{IsInRange};
+ghost use Rattle.tatp_model.specs.Request.{IsInRange, is_insert};
 ghost use Rattle.tatp_model.specs.Transaction.{reply_to, after_request};
 
 use crate::call_row::CallRow;
@@ -21,6 +21,9 @@ pub fn step(_alloc: Global, t: &mut Tables, limit: u64, q: &Request) -> Result<R
     requires room { length (database_of t.old).calls ≤ limit }
     ensures reply { IfOk result (λ r. r ≡ reply_to limit (database_of t.old) q.now) }
     ensures after { OnOk result (database_of t.new ≡ after_request limit (database_of t.old) q.now) }
+    ensures in_order { IsInOrder (database_of t.new) }
+    ensures room { length (database_of t.new).calls ≤ limit }
+    ensures only_inserts_take_memory { OnErr result (IsTrue (is_insert q.now)) }
     ensures unchanged { OnErr result (database_of t.new ≡ database_of t.old) }
 {
     match *q {
@@ -70,3 +73,6 @@ pub fn step(_alloc: Global, t: &mut Tables, limit: u64, q: &Request) -> Result<R
         Request::Sync => Ok(Reply::Durable),
     }
 }
+
+#[cfg(test)]
+mod tests;
