@@ -87,7 +87,10 @@ fn sync_folder(rt: &impl FileSystem, name: &str) -> io::Result<()> {
 }
 
 /// The whole words of a file. What stands behind them is not read.
-pub(crate) fn read_words<F: Read + OpenFile>(alloc: Global, file: &mut F) -> Result<Vec<u64>, EdgeFault>
+pub(crate) fn read_words<F: Read + OpenFile>(
+    alloc: Global,
+    file: &mut F,
+) -> Result<Vec<u64>, EdgeFault>
     ensures { IfOk result (λ words. vec_len words < 2 ^ 61) }
 {
     let count = file.metadata()?.len() / 8;
@@ -115,7 +118,10 @@ fn append_words(words: &mut Vec<u64>, bytes: &[u8])
 }
 
 /// Writes the lines in order and syncs the file.
-pub(crate) fn write_lines<F: Write + Seek + OpenFile>(file: &mut F, lines: &[Line]) -> io::Result<()> {
+pub(crate) fn write_lines<F: Write + Seek + OpenFile>(
+    file: &mut F,
+    lines: &[Line],
+) -> io::Result<()> {
     let mut rest = lines;
     while !rest.is_empty() {
         let written = write_run(file, rest)?;
