@@ -1,4 +1,4 @@
-use Rattle.std.proofs.Common.{rules, arith, ◌≡◌, length, IsTrue, ap, refl, sym, ◌∙◌}
+use Rattle.std.proofs.Common.{rules, arith, ◌≡◌, length, ◌∙◌}
 use Rattle.std.proofs.lemmas.List.{length-take}
 use Rattle.dude_io.proofs.ReadLaws.{read_none, read_more, read_end}
 use Rattle.dude_io.proofs.reading.read_file.Goals as goal
