@@ -1,0 +1,6 @@
+pub mod GroupLaw
+pub mod GroupLists
+pub mod GroupRuns
+pub mod Images
+pub mod Laws
+pub mod Runs

@@ -1,5 +1,5 @@
 -- A group of writes: some words are put, their lines flushed, and a fence made.
-use Rattle.std.specs.Prelude.{◌≡◌, ◌⊎◌, ◌==◌, ℕ, ◌/◌, ◌<◌, if◌then◌else◌, List, [], ◌∷◌, ◌++◌, length, map, slice_index}
+use Rattle.std.specs.Prelude.{All, ◌*◌, ◌+◌, ◌≤◌, ◌≡◌, ◌⊎◌, ◌==◌, ℕ, ◌/◌, ◌<◌, if◌then◌else◌, List, [], ◌∷◌, ◌++◌, length, slice_index}
 use Rattle.pmem_trait.specs.declared.call.Call.{Call}
 use Rattle.pmem_trait.specs.declared.call.Call.TheVariants.{Put, Flush, Fence}
 use Rattle.pmem_trait.specs.Words.{Point, IsIn, MayBe, newest, still}
@@ -36,3 +36,18 @@ pub record OldOrNew (len : ℕ) (p : Point) (ws : List (ℕ × ℕ)) (image : Li
 abbrev pub SettlesGroup : List (ℕ × ℕ) → List ℕ → Point → Point → Type 0
 SettlesGroup ws ls p q =
     (k x : ℕ) → p.word k ≡ still x → (written ws k ≡ []) ⊎ IsIn (k / 8) ls → q.word k ≡ still (final ws k x)
+
+-- the numbers told stay, and the image is such a mix
+abbrev pub MixOf : ℕ → Point → List (ℕ × ℕ) → List ℕ → List ℕ → Type 0
+MixOf len p ws told image = (told ≡ p.told) × OldOrNew len p ws image
+
+-- the line of each place that is written is flushed
+abbrev pub Covers : List (ℕ × ℕ) → List ℕ → Type 0
+Covers ws ls = (k : ℕ) → (written ws k ≡ []) ⊎ IsIn (k / 8) ls
+
+-- each place is below the length, and each line within it
+abbrev pub PlacesFit : ℕ → List (ℕ × ℕ) → Type 0
+PlacesFit len ws = All (λ w. w.0 < len) ws
+
+abbrev pub LinesFit : ℕ → List ℕ → Type 0
+LinesFit len ls = All (λ l. 8 * l + 8 ≤ len) ls

@@ -1,4 +1,6 @@
 pub mod Groups
+pub mod MediumLaws
 pub mod Listed
+pub mod Rounds
 pub mod Sights
 pub mod Words

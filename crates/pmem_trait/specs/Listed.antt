@@ -1,5 +1,5 @@
 -- What the list of calls made says of a caller: exactly these, or a front of them whose last one failed.
-use Rattle.std.specs.Prelude.{◌≡◌, ℕ, ◌<◌, false, true, List, [], ◌∷◌, ◌++◌, map, length, IsTrue, take, slice_index_or}
+use Rattle.std.specs.Prelude.{◌≡◌, false, true, List, [], ◌∷◌, ◌++◌, map, IsTrue}
 use Rattle.pmem_trait.specs.declared.call.Call.{Call}
 use Rattle.pmem_trait.specs.declared.made.Made.{Made}
 use Rattle.pmem_trait.specs.Sights.{Sight}

@@ -8,10 +8,14 @@
 
 mod call;
 mod failed;
+mod group;
 mod made;
 mod medium;
+mod medium_laws;
 
 pub use call::Call;
 pub use failed::Failed;
+pub use group::{flush_all, put_all, settle_group};
 pub use made::Made;
 pub use medium::Medium;
+pub use medium_laws::{OfImages, law_of_calls, law_of_groups, law_of_settling};

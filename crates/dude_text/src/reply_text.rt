@@ -1,0 +1,125 @@
+//! How replies print. These functions append to a line that is being made: what they leave where there is no memory
+//! is of no use.
+
+ghost use Rattle.std.specs.Prelude.{◌≡◌, ◌++◌, ◌∷◌, map, decimal, OnOk};
+ghost use Rattle.std.specs.List.{flat_map, join_with_byte};
+ghost use Rattle.dude_text.specs.ReplyText.{phone_text, row_fields, access_fields, reply_text};
+ghost use Rattle.tatp_model.specs.Numbers.{list_of};
+
+use itoa::Buffer;
+use std::alloc::AllocError;
+use tatp_model::{AccessData, Numbers, Reply, SubRow};
+
+/// How many digits a phone number prints with at least.
+const PHONE_DIGITS: usize = 15;
+
+/// Appends a reply.
+pub fn push_reply(reply: &Reply, line: &mut Vec<u8>) -> Result<(), AllocError>
+    ensures { OnOk result (line.new.items ≡ line.old.items ++ reply_text reply.now) }
+{
+    match reply {
+        Reply::Subscriber(row) => {
+            line.extend_from_slice(b"OK ")?;
+            push_row(row, line)
+        }
+        Reply::Destinations(numbers) => {
+            line.extend_from_slice(b"OK ")?;
+            push_phones(list(numbers), line)
+        }
+        Reply::Access(info) => {
+            line.extend_from_slice(b"OK ")?;
+            push_access(info, line)
+        }
+        Reply::Changed => line.extend_from_slice(b"OK"),
+        Reply::Missing => line.extend_from_slice(b"NONE"),
+        Reply::NoFacility => line.extend_from_slice(b"NOFAC"),
+        Reply::Duplicate => line.extend_from_slice(b"DUP"),
+        Reply::FullTable => line.extend_from_slice(b"FULL"),
+        Reply::Durable => line.extend_from_slice(b"DURABLE"),
+    }
+}
+
+// The fields of a subscriber's row.
+fn push_row(row: &SubRow, line: &mut Vec<u8>) -> Result<(), AllocError>
+    ensures { OnOk result (line.new.items ≡ line.old.items ++ join_with_byte 44 (row_fields row.now)) }
+{
+    push_number(row.s_id, line)?;
+    line.push(b',')?;
+    push_phone(row.sub_nbr, line)?;
+    push_more(&row.bits, line)?;
+    push_more(&row.hexes, line)?;
+    push_more(&row.bytes, line)?;
+    line.push(b',')?;
+    push_number(row.msc, line)?;
+    line.push(b',')?;
+    push_number(row.vlr, line)
+}
+
+// The fields of an access row's data.
+fn push_access(info: &AccessData, line: &mut Vec<u8>) -> Result<(), AllocError>
+    ensures { OnOk result (line.new.items ≡ line.old.items ++ join_with_byte 44 (access_fields info.now)) }
+{
+    push_number(u64::from(info.data1), line)?;
+    line.push(b',')?;
+    push_number(u64::from(info.data2), line)?;
+    line.push(b',')?;
+    line.extend_from_slice(&info.data3)?;
+    line.push(b',')?;
+    line.extend_from_slice(&info.data4)
+}
+
+// Phone numbers, with commas between.
+fn push_phones(numbers: &[u64], line: &mut Vec<u8>) -> Result<(), AllocError>
+    ensures { OnOk result (line.new.items ≡ line.old.items ++ join_with_byte 44 (map phone_text numbers.now)) }
+{
+    if let Some((first, others)) = numbers.split_first() {
+        push_phone(*first, line)?;
+        for other in others {
+            line.push(b',')?;
+            push_phone(*other, line)?;
+        }
+    }
+    Ok(())
+}
+
+// The list that the places hold.
+fn list(numbers: &Numbers) -> &[u64]
+    ensures { result.now ≡ list_of numbers.now }
+{
+    let places = numbers.items.as_slice();
+    match usize::try_from(numbers.count) {
+        Ok(count) => &places[..count.min(places.len())],
+        Err(_) => places,
+    }
+}
+
+// Numbers, each behind a comma.
+fn push_more(numbers: &[u8], line: &mut Vec<u8>) -> Result<(), AllocError>
+    ensures { OnOk result (line.new.items ≡ line.old.items ++ flat_map (λ n. 44 ∷ decimal n) numbers.now) }
+{
+    for number in numbers {
+        line.push(b',')?;
+        push_number(u64::from(*number), line)?;
+    }
+    Ok(())
+}
+
+// A phone number.
+fn push_phone(number: u64, line: &mut Vec<u8>) -> Result<(), AllocError>
+    ensures { OnOk result (line.new.items ≡ line.old.items ++ phone_text number) }
+{
+    let mut buffer = Buffer::new();
+    let digits = buffer.format(number).as_bytes();
+    for _zero in 0..PHONE_DIGITS.saturating_sub(digits.len()) {
+        line.push(b'0')?;
+    }
+    line.extend_from_slice(digits)
+}
+
+/// Appends a number in decimal digits.
+pub fn push_number(number: u64, line: &mut Vec<u8>) -> Result<(), AllocError>
+    ensures { OnOk result (line.new.items ≡ line.old.items ++ decimal number) }
+{
+    let mut buffer = Buffer::new();
+    line.extend_from_slice(buffer.format(number).as_bytes())
+}

@@ -1,0 +1,43 @@
+//! The request files.
+
+ghost use Rattle.std.specs.Prelude.{◌≡◌, Some, IfOk, IfErr};
+ghost use Rattle.dude_text.specs.RequestFile.{requests_of, AreServed, HasCause};
+
+use crate::record::request_of;
+use crate::text_fault::TextFault;
+use std::alloc::Global;
+use tatp_model::Request;
+
+/// The most bytes that a request file may have.
+const MAX_BYTES: usize = 16_777_216;
+
+/// The most records that a request file may have.
+const MAX_RECORDS: usize = 100_000;
+
+/// What a bad file is answered with.
+const BAD: TextFault = TextFault::Bad { row: 0, field: 0 };
+
+/// Reads a request file, in time that grows with its bytes. A bad file is answered with record 0 and field 0.
+pub fn read_requests(alloc: Global, bytes: &[u8]) -> Result<Vec<Request>, TextFault>
+    ensures read { IfOk result (λ requests. requests_of bytes.now ≡ Some requests.items) }
+    ensures served { IfOk result (λ requests. AreServed requests.items) }
+    ensures refused { IfErr result (HasCause bytes.now) }
+{
+    if bytes.len() > MAX_BYTES {
+        return Err(BAD);
+    }
+    let mut requests = Vec::new(alloc);
+    let lines = bytes
+        .split(|byte| *byte == b'\n')
+        .filter(|line| !line.is_empty());
+    for line in lines {
+        if requests.len() == MAX_RECORDS {
+            return Err(BAD);
+        }
+        let Some(request) = request_of(line) else {
+            return Err(BAD);
+        };
+        requests.push(request)?;
+    }
+    Ok(requests)
+}

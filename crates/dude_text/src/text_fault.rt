@@ -1,0 +1,34 @@
+//! Why a request file was not read.
+
+use std::alloc::{AllocError, AllocFailed};
+
+/// Why a request file was not read.
+#[derive(Clone, Copy, Debug, PartialEq, Eq)]
+pub enum TextFault {
+    /// The first bad record, counted from 1, and its first bad field. Where the file is too long both are 0.
+    Bad { row: u64, field: u64 },
+    /// There was no memory for the requests.
+    NoMemory,
+}
+
+impl From<AllocError> for TextFault {
+    ghost use Rattle.dude_text.specs.declared.text_fault.TextFault.TheVariants.{NoMemory};
+    ghost use Rattle.std.specs.Prelude.{◌≡◌};
+
+    ghost from_gives = { λ _ fault. fault ≡ NoMemory };
+
+    fn from(_: AllocError) -> TextFault {
+        TextFault::NoMemory
+    }
+}
+
+impl<T: Drop> From<AllocFailed<T>> for TextFault {
+    ghost use Rattle.dude_text.specs.declared.text_fault.TextFault.TheVariants.{NoMemory};
+    ghost use Rattle.std.specs.Prelude.{◌≡◌};
+
+    ghost from_gives = { λ _ fault. fault ≡ NoMemory };
+
+    fn from(_: AllocFailed<T>) -> TextFault {
+        TextFault::NoMemory
+    }
+}

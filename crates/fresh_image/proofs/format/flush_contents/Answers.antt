@@ -1,0 +1,21 @@
+use Rattle.std.proofs.Common.{◌≡◌, ◌-◌, is_ok, false, refl, arith, rules}
+use Rattle.pmem_trait.specs.Sights.{Makes.none}
+use Rattle.pmem_trait.proofs.Runs.{makes_cut, makes_whole}
+use Rattle.fresh_image.proofs.Loops.{flush_turn, length-lines}
+use Rattle.fresh_image.proofs.format.flush_contents.Goals as goal
+
+pub loop-line-init : goal.loop-line-init
+loop-line-init g c = record { len = refl; made = none }
+
+pub returns-in_err-flush-clause-made : goal.returns-in_err-flush-clause-made
+returns-in_err-flush-clause-made g c =
+    let err : is_ok c.from_residual.result ≡ false = search rules in
+    rw err (makes_cut _ _ (flush_turn c.args.sizes.now.subscribers c.loop-line.line {ok = false} (omega arith) (omega arith) c.loop-line.invariant.made c.in_err-flush.ensures))
+
+pub loop-line-preserved : goal.loop-line-preserved
+loop-line-preserved g c = record {
+  len = omega arith;
+  made = flush_turn c.args.sizes.now.subscribers c.loop-line.line (omega arith) (omega arith) c.loop-line.invariant.made c.in_ok-flush.ensures }
+
+pub returns-clause-made : goal.returns-clause-made
+returns-clause-made g c = makes_whole _ (c.loop-line.line - 1) (omega (arith, length-lines c.args.sizes.now.subscribers)) c.loop-line.invariant.made

@@ -1,0 +1,47 @@
+-- The calls that format an image: the magic number is cleared; the mark, the cells and the home words are made durable;
+-- then the header; then the magic number; at last 0 is told.
+use Rattle.std.specs.Prelude.{◌≡◌, ◌⊎◌, ℕ, ◌+◌, ◌-◌, ◌*◌, ◌/◌, List, [], ◌∷◌, ◌++◌, replicate}
+use Rattle.std.specs.List.{range_with_len, enumerate_from}
+use Rattle.pmem_trait.specs.declared.call.Call.{Call}
+use Rattle.pmem_trait.specs.declared.call.Call.TheVariants.{Tell}
+use Rattle.pmem_trait.specs.Groups.{group_calls}
+use Rattle.fresh_image.specs.Layout.{magic, pages_for}
+use Rattle.pmem_trait.specs.Words.{Point}
+use Rattle.tatp_model.specs.Population.{population}
+use Rattle.fresh_image.specs.Fresh.{fresh_length, Rests}
+use Rattle.fresh_image.specs.Rows.{home_words}
+use Rattle.fresh_image.specs.Recovery.{Recovers}
+
+-- the words of the sixteen cells
+unfoldable pub clear_cells : List ℕ
+clear_cells = replicate 128 0
+
+-- the mark, the cells' words and the home words
+abbrev pub content_writes : List ℕ → List (ℕ × ℕ)
+content_writes home = (8, 0) ∷ enumerate_from 16 (clear_cells ++ home)
+
+-- their lines
+abbrev pub content_lines : ℕ → List ℕ
+content_lines subscribers = range_with_len 1 (fresh_length subscribers / 8 - 1)
+
+-- words 1 to 7
+abbrev pub header_writes : ℕ → List (ℕ × ℕ)
+header_writes subscribers =
+    (1, 0) ∷ (2, subscribers) ∷ (3, 12 * subscribers) ∷ (4, 1) ∷ (5, 16) ∷ (6, pages_for subscribers (12 * subscribers)) ∷ (7, 0) ∷ []
+
+abbrev pub magic_write : ℕ → List (ℕ × ℕ)
+magic_write value = (0, value) ∷ []
+
+unfoldable pub format_calls : ℕ → List ℕ → List Call
+format_calls subscribers home =
+    group_calls (magic_write 0) (0 ∷ []) ++ (group_calls (content_writes home) (content_lines subscribers)
+    ++ (group_calls (header_writes subscribers) (0 ∷ []) ++ (group_calls (magic_write magic) (0 ∷ []) ++ Tell 0 ∷ [])))
+
+-- nothing was told yet, or the image recovers to 0 and these home words
+abbrev pub ShowsOnceTold : List ℕ → List ℕ → List ℕ → List ℕ → Type 0
+ShowsOnceTold before home told image = (told ≡ before) ⊎ ((told ≡ before ++ 0 ∷ []) × Recovers 0 image 0 home)
+
+-- the medium rests at 0 with the population's home words, and 0 was told
+abbrev pub RestsFormatted : ℕ → Point → Point → Type 0
+RestsFormatted subscribers old new =
+    Rests subscribers 0 (home_words subscribers (population subscribers).subscribers) new × (new.told ≡ old.told ++ 0 ∷ [])

@@ -1,0 +1,70 @@
+-- The state of a medium in memory after the calls made on it, and what a crash then leaves.
+use Rattle.std.specs.Prelude.{◌≡◌, ℕ, ◌%◌, ◌<◌, ◌^◌, true, if◌then◌else◌, nat_le, List, [], ◌∷◌, take, length, slice_index, slice_index_or, IsTrue, All}
+use Rattle.pmem_trait.specs.declared.call.Call.{Call}
+use Rattle.pmem_trait.specs.declared.made.Made.{Made}
+use Rattle.pmem_trait.specs.Words.{Word, Point, still, word_after, after, IsImage}
+use Rattle.pmem_trait.specs.Sights.{Sight, here}
+
+-- settled at these words, and nothing told
+abbrev pub start_point : List ℕ → Point
+start_point words = record { word = λ k. still (slice_index words k); told = [] }
+
+-- the state after these calls, of which a failed one has done nothing
+abbrev pub after_made : List Made → Point → Point
+after_made [] p = p
+after_made (m ∷ ms) p = after_made ms (if m.failed then p else after m.call p)
+
+-- What is seen of a medium that began with these words: the state at each moment is the one after the calls up to it.
+-- Calls over the budget aren't listed, and have done nothing.
+abbrev pub sight_of : List ℕ → List Made → ℕ → ℕ → ℕ → Sight
+sight_of start calls now budget faults = record {
+  len = length start;
+  now = now;
+  faults = faults;
+  tells = true;
+  point = λ moment. after_made (take moment calls) (start_point start);
+  lists = nat_le now budget;
+  made = calls;
+}
+
+-- settled at these words, at moment 0, with no fault, no call and nothing told
+pub record Opening (words : List ℕ) (s : Sight) : Type 0 where
+  pub len : s.len ≡ length words
+  pub now : s.now ≡ 0
+  pub faults : s.faults ≡ 0
+  pub tells : IsTrue s.tells
+  pub point : here s ≡ start_point words
+  pub lists : IsTrue s.lists
+  pub made : s.made ≡ []
+
+-- what a crash may leave of a word: its settled value, and then its later values in order of their puts
+abbrev pub choices : Word → List ℕ
+choices w = w.settled ∷ w.later
+
+-- the one that a pick takes, modulo their number
+abbrev pub picked : Word → ℕ → ℕ
+picked w pick = slice_index (choices w) (pick % length (choices w))
+
+-- The image that these picks take. An absent pick counts as 0.
+pub record IsPicked (len : ℕ) (p : Point) (picks image : List ℕ) : Type 0 where
+  pub size : length image ≡ len
+  pub each : (k : ℕ) → k < len → slice_index image k ≡ picked (p.word k) (slice_index picks k)
+
+-- each image that a crash may leave is taken by some picks of 64 bits
+abbrev pub EachIsPicked : ℕ → Point → Type 0
+EachIsPicked len p = (image : List ℕ) → IsImage len p image → (picks : List ℕ) × All (λ pick. pick < 2 ^ 64) picks × IsPicked len p picks image
+
+-- the words of a medium stand as at this point
+pub record StandsAt (len : ℕ) (words : List Word) (p : Point) : Type 0 where
+  pub size : length words ≡ len
+  pub each : (k : ℕ) → k < len → slice_index_or words k (still 0) ≡ p.word k
+
+-- each word is as a call leaves it
+pub record Steps (c : Call) (old new : List Word) : Type 0 where
+  pub size : length new ≡ length old
+  pub each : (k : ℕ) → k < length old → slice_index_or new k (still 0) ≡ word_after c k (slice_index_or old k (still 0))
+
+-- this value is taken of each word
+pub record Takes (words : List Word) (picks image : List ℕ) : Type 0 where
+  pub size : length image ≡ length words
+  pub each : (k : ℕ) → k < length words → slice_index image k ≡ picked (slice_index_or words k (still 0)) (slice_index picks k)

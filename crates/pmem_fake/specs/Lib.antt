@@ -1,0 +1,4 @@
+pub mod Entries
+pub mod Fakes
+pub mod History
+pub mod Sizes

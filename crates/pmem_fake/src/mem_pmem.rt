@@ -1,0 +1,166 @@
+ghost use Rattle.std.specs.Prelude.{◌≡◌, ℕ, ◌<◌, length, slice_index};
+ghost use Rattle.pmem_trait.specs.Words.{value_of};
+ghost use Rattle.pmem_fake.specs.History.{after_made, start_point};
+
+use crate::image_fault::ImageFault;
+use crate::log::Log;
+use crate::replay::image_after;
+use pmem_trait::{Call, Failed, Made, Medium};
+use std::alloc::{AllocError, Global};
+
+/// Persistent memory in memory, with its whole history.
+#[derive(Drop)]
+pub struct MemPmem {
+    start: Vec<u64>,
+    words: Vec<u64>,
+    log: Log,
+    ghost same_len: { length words.items ≡ length start.items },
+    ghost content: { (k : ℕ) → k < length start.items → slice_index words.items k ≡ value_of ((after_made log.calls.items (start_point start.items)).word k) },
+}
+
+impl MemPmem {
+    ghost use Rattle.std.specs.Prelude.{◌≡◌, ℕ, ◌<◌, ◌≤◌, length, slice_index, IfOk, IfErr, IsErrOf, ◌⊎◌, ◌↔◌};
+    ghost use Rattle.pmem_trait.specs.Words.{value_of, IsImage};
+    ghost use Rattle.pmem_trait.specs.Sights.{here};
+    ghost use Rattle.pmem_fake.specs.History.{Opening, IsPicked, EachIsPicked};
+    ghost use Rattle.pmem_fake.specs.Fakes.{sight, allowed, failing};
+
+    /// A medium that is settled at these words. Of its calls, counted from 1, those over `budget` fail and do nothing,
+    /// and so do those whose count is in `fail`. It takes memory for `budget` calls here, and none later.
+    pub fn new(
+        alloc: Global,
+        words: Vec<u64>,
+        budget: u64,
+        fail: Vec<u64>,
+    ) -> Result<MemPmem, AllocError>
+        requires { budget ≤ 10000000 }
+        ensures opening { IfOk result (λ medium. Opening words.items (sight medium)) }
+        ensures budget { IfOk result (λ medium. allowed medium ≡ budget) }
+        ensures fail { IfOk result (λ medium. failing medium ≡ fail.items) }
+    {
+        Ok(MemPmem {
+            start: words.to_vec(alloc)?,
+            words,
+            log: Log::new(alloc, budget, fail)?,
+        })
+    }
+
+    /// What reads give, by place.
+    pub fn content(&self) -> &[u64]
+        ensures len { length result.now ≡ (sight self.now).len }
+        ensures value { (k : ℕ) → k < (sight self.now).len → slice_index result.now k ≡ value_of ((here (sight self.now)).word k) }
+    {
+        &self.words
+    }
+
+    /// An image that a crash may leave now. Word k takes its allowed value number `picks[k]`, modulo their count: the
+    /// settled value first, and then the later ones in order of their puts. An absent pick takes the settled value.
+    pub fn crash(&self, alloc: Global, picks: &[u64]) -> Result<Vec<u64>, AllocError>
+        ensures picked { IfOk result (λ image. IsPicked (sight self.now).len (here (sight self.now)) picks.now image.items) }
+        ensures allowed { IfOk result (λ image. IsImage (sight self.now).len (here (sight self.now)) image.items) }
+        ensures every { EachIsPicked (sight self.now).len (here (sight self.now)) }
+    {
+        image_after(alloc, &self.start, &self.log.calls, picks)
+    }
+
+    /// The same at an earlier moment.
+    pub fn images_at(
+        &self,
+        alloc: Global,
+        moment: u64,
+        picks: &[u64],
+    ) -> Result<Vec<u64>, ImageFault>
+        ensures picked { IfOk result (λ image. IsPicked (sight self.now).len ((sight self.now).point moment) picks.now image.items) }
+        ensures allowed { IfOk result (λ image. IsImage (sight self.now).len ((sight self.now).point moment) image.items) }
+        ensures every { EachIsPicked (sight self.now).len ((sight self.now).point moment) }
+        ensures later { (sight self.now).now < moment ↔ IsErrOf result (ImageFault.Later moment (sight self.now).now) }
+        ensures fault { IfErr result (λ fault. (fault ≡ ImageFault.Later moment (sight self.now).now) ⊎ (fault ≡ ImageFault.NoMemory)) }
+    {
+        let now = self.log.now;
+        if moment > now {
+            return Err(ImageFault::Later { moment, now });
+        }
+        let made = self.log.calls.as_slice();
+        let count = made.len().min(moment as usize);
+        Ok(image_after(alloc, &self.start, &made[..count], picks)?)
+    }
+}
+
+impl Medium for MemPmem {
+    ghost use Rattle.std.specs.Prelude.{◌≡◌, ℕ, ◌+◌, ◌*◌, ◌<◌, ◌≤◌, is_ok, IfOk, OnErr, IsTrue};
+    ghost use Rattle.pmem_trait.specs.declared.call.Call.TheVariants.{Read, Put, Flush, Fence, Tell};
+    ghost use Rattle.pmem_trait.specs.Words.{value_of};
+    ghost use Rattle.pmem_trait.specs.Sights.{here, Goes};
+    ghost use Rattle.pmem_fake.specs.Entries.{faults_after};
+    ghost use Rattle.pmem_fake.specs.Sizes.{items_fit};
+    ghost use Rattle.pmem_fake.specs.Fakes.{sight, is_next_done, SameLimits};
+
+    ghost sight = { λ medium. sight medium };
+
+    fn len(&self) -> u64 {
+        self.start.len() as u64
+    }
+
+    fn now(&self) -> u64 {
+        self.log.now
+    }
+
+    fn read(&mut self, at: u64) -> Result<u64, Failed>
+        requires { at < (sight self.old).len }
+        ensures goes { Goes (Read at) (is_ok result) (sight self.old) (sight self.new) }
+        ensures value { IfOk result (λ v. IsTrue (sight self.old).tells → v ≡ value_of ((here (sight self.old)).word at)) }
+        ensures exact { is_ok result ≡ is_next_done self.old }
+        ensures undone { OnErr result (here (sight self.new) ≡ here (sight self.old)) }
+        ensures faults { (sight self.new).faults ≡ faults_after (is_ok result) (sight self.old).faults }
+        ensures limits { SameLimits self.old self.new }
+    {
+        self.log.enter(Call::Read(at))?;
+        Ok(self.words[at as usize])
+    }
+
+    fn put(&mut self, at: u64, value: u64) -> Result<(), Failed>
+        requires { at < (sight self.old).len }
+        ensures goes { Goes (Put at value) (is_ok result) (sight self.old) (sight self.new) }
+        ensures exact { is_ok result ≡ is_next_done self.old }
+        ensures undone { OnErr result (here (sight self.new) ≡ here (sight self.old)) }
+        ensures faults { (sight self.new).faults ≡ faults_after (is_ok result) (sight self.old).faults }
+        ensures limits { SameLimits self.old self.new }
+    {
+        self.log.enter(Call::Put { at, value })?;
+        self.words[at as usize] = value;
+        Ok(())
+    }
+
+    fn flush(&mut self, line: u64) -> Result<(), Failed>
+        requires { 8 * line + 8 ≤ (sight self.old).len }
+        ensures goes { Goes (Flush line) (is_ok result) (sight self.old) (sight self.new) }
+        ensures exact { is_ok result ≡ is_next_done self.old }
+        ensures undone { OnErr result (here (sight self.new) ≡ here (sight self.old)) }
+        ensures faults { (sight self.new).faults ≡ faults_after (is_ok result) (sight self.old).faults }
+        ensures limits { SameLimits self.old self.new }
+    {
+        self.log.enter(Call::Flush(line))
+    }
+
+    fn fence(&mut self) -> Result<(), Failed>
+        ensures goes { Goes Fence (is_ok result) (sight self.old) (sight self.new) }
+        ensures exact { is_ok result ≡ is_next_done self.old }
+        ensures undone { OnErr result (here (sight self.new) ≡ here (sight self.old)) }
+        ensures faults { (sight self.new).faults ≡ faults_after (is_ok result) (sight self.old).faults }
+        ensures limits { SameLimits self.old self.new }
+    {
+        self.log.enter(Call::Fence)
+    }
+
+    fn tell(&mut self, number: u64) -> Result<(), Failed>
+        ensures goes { Goes (Tell number) (is_ok result) (sight self.old) (sight self.new) }
+        ensures exact { is_ok result ≡ is_next_done self.old }
+        ensures undone { OnErr result (here (sight self.new) ≡ here (sight self.old)) }
+        ensures faults { (sight self.new).faults ≡ faults_after (is_ok result) (sight self.old).faults }
+        ensures limits { SameLimits self.old self.new }
+    {
+        self.log.enter(Call::Tell(number))
+    }
+
+    ghost fits = { λ medium. (items_fit medium.start, medium.log.numbers_fit.0) };
+}

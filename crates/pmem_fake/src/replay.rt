@@ -1,0 +1,120 @@
+ghost use Rattle.std.specs.Prelude.{◌≡◌, length, slice_index, IfOk, OnOk, if◌then◌else◌};
+ghost use Rattle.pmem_trait.specs.declared.call.Call.TheVariants.{Put, Flush, Fence};
+ghost use Rattle.pmem_trait.specs.Words.{Point, after};
+ghost use Rattle.pmem_fake.specs.History.{start_point, after_made, IsPicked, StandsAt, Steps, Takes};
+
+use crate::word_state::WordState;
+use pmem_trait::{Call, Made};
+use std::alloc::{AllocError, Global};
+
+// The words at the opening.
+fn open_words(alloc: Global, start: &[u64]) -> Result<Vec<WordState>, AllocError>
+    ensures { IfOk result (λ words. StandsAt (length start.now) words.items (start_point start.now)) }
+{
+    let mut words = Vec::with_capacity(alloc, start.len())?;
+    for value in start {
+        words.push(WordState::new(alloc, *value))?;
+    }
+    Ok(words)
+}
+
+fn put_word(words: &mut [WordState], at: u64, value: u64) -> Result<(), AllocError>
+    ensures { OnOk result (Steps (Put at value) words.old words.new) }
+{
+    let at = at as usize;
+    if at < words.len() {
+        words[at].put(value)
+    } else {
+        Ok(())
+    }
+}
+
+fn note_line(words: &mut [WordState], line: u64)
+    ensures { Steps (Flush line) words.old words.new }
+{
+    let first = (line.saturating_mul(8) as usize).min(words.len());
+    let end = first.saturating_add(8).min(words.len());
+    for k in first..end {
+        words[k].note();
+    }
+}
+
+fn settle_words(words: &mut [WordState])
+    ensures { Steps Fence words.old words.new }
+{
+    for k in 0..words.len() {
+        words[k].fence();
+    }
+}
+
+// Does a call again.
+fn repeat(words: &mut [WordState], call: Call) -> Result<(), AllocError>
+    ensures { OnOk result (Steps call words.old words.new) }
+{
+    match call {
+        Call::Put { at, value } => put_word(words, at, value),
+        Call::Flush(line) => {
+            note_line(words, line);
+            Ok(())
+        }
+        Call::Fence => {
+            settle_words(words);
+            Ok(())
+        }
+        Call::Read(_) | Call::Tell(_) => Ok(()),
+    }
+}
+
+// Does a call again, unless it failed.
+fn repeat_made(words: &mut [WordState], made: &Made) -> Result<(), AllocError>
+    ensures len { OnOk result (length words.new ≡ length words.old) }
+    ensures state { OnOk result ((p : Point) → StandsAt (length words.old) words.old p → StandsAt (length words.old) words.new (if made.now.failed then p else after made.now.call p)) }
+{
+    if made.failed {
+        Ok(())
+    } else {
+        repeat(words, made.call)
+    }
+}
+
+// The words after these calls.
+fn replay(alloc: Global, start: &[u64], calls: &[Made]) -> Result<Vec<WordState>, AllocError>
+    ensures { IfOk result (λ words. StandsAt (length start.now) words.items (after_made calls.now (start_point start.now))) }
+{
+    let mut words = open_words(alloc, start)?;
+    for made in calls {
+        repeat_made(&mut words, made)?;
+    }
+    Ok(words)
+}
+
+// The pick for this place, 0 where there is none.
+fn pick_at(picks: &[u64], k: usize) -> u64
+    ensures { result ≡ slice_index picks.now k }
+{
+    if k < picks.len() { picks[k] } else { 0 }
+}
+
+// The image that the picks take of these words.
+fn take_picks(alloc: Global, words: &[WordState], picks: &[u64]) -> Result<Vec<u64>, AllocError>
+    ensures { IfOk result (λ image. Takes words.now picks.now image.items) }
+{
+    let mut image = Vec::with_capacity(alloc, words.len())?;
+    for (k, word) in words.iter().enumerate() {
+        image.push(word.pick(pick_at(picks, k)))?;
+    }
+    Ok(image)
+}
+
+/// The image that the picks take after these calls, on a medium that began with these words.
+pub fn image_after(
+    alloc: Global,
+    start: &[u64],
+    calls: &[Made],
+    picks: &[u64],
+) -> Result<Vec<u64>, AllocError>
+    ensures { IfOk result (λ image. IsPicked (length start.now) (after_made calls.now (start_point start.now)) picks.now image.items) }
+{
+    let words = replay(alloc, start, calls)?;
+    take_picks(alloc, &words, picks)
+}

@@ -1,0 +1,54 @@
+-- The lists of calls of a group, call by call.
+use Rattle.std.proofs.Common.{◌≡◌, ℕ, zero, suc, ◌+◌, ◌<◌, ◌==◌, Bool, true, false, if◌then◌else◌, List, [], ◌∷◌, ◌++◌, length, get_or, take, refl, ap, arith}
+use Rattle.pmem_trait.specs.declared.call.Call.{Call}
+use Rattle.pmem_trait.specs.declared.call.Call.TheVariants.{Put, Flush}
+use Rattle.pmem_trait.specs.Sights.{Sight, Goes, Makes}
+use Rattle.pmem_trait.specs.Groups.{put_pairs, flush_lines, written}
+use Rattle.pmem_trait.proofs.Runs.{makes_next}
+
+pub length-put_pairs : (ws : List (ℕ × ℕ)) → length (put_pairs ws) ≡ length ws
+length-put_pairs [] = refl
+length-put_pairs (w ∷ ws) = ap suc (length-put_pairs ws)
+
+pub length-flush_lines : (ls : List ℕ) → length (flush_lines ls) ≡ length ls
+length-flush_lines [] = refl
+length-flush_lines (l ∷ ls) = ap suc (length-flush_lines ls)
+
+-- the i-th put, by the i-th write, and the i-th flush, by the i-th line
+pub put_pairs_at : (ws : List (ℕ × ℕ)) (i : ℕ) (d : ℕ × ℕ) (c : Call) → i < length ws → get_or (put_pairs ws) i c ≡ Put (get_or ws i d).0 (get_or ws i d).1
+put_pairs_at [] i d c below = absurd (omega arith)
+put_pairs_at (w ∷ ws) zero d c below = refl
+put_pairs_at (w ∷ ws) (suc i) d c below = put_pairs_at ws i d c (omega arith)
+
+pub flush_lines_at : (ls : List ℕ) (i : ℕ) (d : ℕ) (c : Call) → i < length ls → get_or (flush_lines ls) i c ≡ Flush (get_or ls i d)
+flush_lines_at [] i d c below = absurd (omega arith)
+flush_lines_at (l ∷ ls) zero d c below = refl
+flush_lines_at (l ∷ ls) (suc i) d c below = flush_lines_at ls i d c (omega arith)
+
+-- two lists of writes, or of lines, one behind the other
+pub put_pairs-append : (ws vs : List (ℕ × ℕ)) → put_pairs (ws ++ vs) ≡ put_pairs ws ++ put_pairs vs
+put_pairs-append [] vs = refl
+put_pairs-append (w ∷ ws) vs = ap (λ (l : List Call). Put w.0 w.1 ∷ l) (put_pairs-append ws vs)
+
+pub flush_lines-append : (ls ks : List ℕ) → flush_lines (ls ++ ks) ≡ flush_lines ls ++ flush_lines ks
+flush_lines-append [] ks = refl
+flush_lines-append (l ∷ ls) ks = ap (λ (r : List Call). Flush l ∷ r) (flush_lines-append ls ks)
+
+pub written-append : (ws vs : List (ℕ × ℕ)) (k : ℕ) → written (ws ++ vs) k ≡ written ws k ++ written vs k
+written-append [] vs k = refl
+written-append (w ∷ ws) vs k = one_more (k == w.0) w.1 (written ws k) (written vs k) (written (ws ++ vs) k) (written-append ws vs k)
+  where
+    one_more : (b : Bool) (v : ℕ) (xs ys zs : List ℕ) → zs ≡ xs ++ ys → (if b then v ∷ zs else zs) ≡ (if b then v ∷ xs else xs) ++ ys
+    one_more true v xs ys zs is = ap (λ (l : List ℕ). v ∷ l) is
+    one_more false v xs ys zs is = is
+
+-- A loop over the writes, or over the lines: one turn more.
+pub puts_next : (ws : List (ℕ × ℕ)) (i : ℕ) (d : ℕ × ℕ) {ok : Bool} {s t u : Sight} → i < length ws → Makes (take i (put_pairs ws)) true s t
+    → Goes (Put (get_or ws i d).0 (get_or ws i d).1) ok t u → Makes (take (i + 1) (put_pairs ws)) ok s u
+puts_next ws i d below made g =
+    makes_next (put_pairs ws) i (Put (get_or ws i d).0 (get_or ws i d).1) (omega (arith, length-put_pairs ws)) (put_pairs_at ws i d _ below) made g
+
+pub flushes_next : (ls : List ℕ) (i : ℕ) (d : ℕ) {ok : Bool} {s t u : Sight} → i < length ls → Makes (take i (flush_lines ls)) true s t
+    → Goes (Flush (get_or ls i d)) ok t u → Makes (take (i + 1) (flush_lines ls)) ok s u
+flushes_next ls i d below made g =
+    makes_next (flush_lines ls) i (Flush (get_or ls i d)) (omega (arith, length-flush_lines ls)) (flush_lines_at ls i d _ below) made g

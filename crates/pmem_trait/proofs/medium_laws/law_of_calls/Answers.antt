@@ -1,0 +1,5 @@
+use Rattle.pmem_trait.proofs.Laws.{makes_keep}
+use Rattle.pmem_trait.proofs.medium_laws.law_of_calls.Goals as goal
+
+pub returns : goal.returns
+returns g c cs ok s t makes law = makes_keep g.P.OfImages.has makes law

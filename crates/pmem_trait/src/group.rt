@@ -1,0 +1,63 @@
+ghost use Rattle.std.specs.Prelude.{◌≡◌, IsTrue, OnOk, is_ok};
+ghost use Rattle.pmem_trait.specs.Sights.{here, Makes, Keeps};
+ghost use Rattle.pmem_trait.specs.Groups.{put_pairs, flush_lines, group_calls, PlacesFit, LinesFit, MixOf, SettlesGroup};
+
+use crate::failed::Failed;
+use crate::medium::Medium;
+
+/// Puts each value at its place, in order. A pair is a place and a value.
+pub fn put_all<M: Medium>(m: &mut M, writes: &[(u64, u64)]) -> Result<(), Failed>
+    requires { PlacesFit (M.sight m.old).len writes.now }
+    ensures len { (M.sight m.new).len ≡ (M.sight m.old).len }
+    ensures made { Makes (put_pairs writes.now) (is_ok result) (M.sight m.old) (M.sight m.new) }
+{
+    for &(at, value) in writes {
+        m.put(at, value)?;
+    }
+    Ok(())
+}
+
+/// Flushes each line, in order.
+pub fn flush_all<M: Medium>(m: &mut M, lines: &[u64]) -> Result<(), Failed>
+    requires { LinesFit (M.sight m.old).len lines.now }
+    ensures len { (M.sight m.new).len ≡ (M.sight m.old).len }
+    ensures made { Makes (flush_lines lines.now) (is_ok result) (M.sight m.old) (M.sight m.new) }
+{
+    for line in lines {
+        m.flush(*line)?;
+    }
+    Ok(())
+}
+
+// The calls of `settle_group`.
+#[tactic(auto, using(crate::proofs::Runs::making), unfolding(crate::specs::Groups::group_calls))]
+fn make_group<M: Medium>(m: &mut M, writes: &[(u64, u64)], lines: &[u64]) -> Result<(), Failed>
+    requires places { PlacesFit (M.sight m.old).len writes.now }
+    requires whole { LinesFit (M.sight m.old).len lines.now }
+    ensures len { (M.sight m.new).len ≡ (M.sight m.old).len }
+    ensures made { Makes (group_calls writes.now lines.now) (is_ok result) (M.sight m.old) (M.sight m.new) }
+{
+    put_all(m, writes)?;
+    flush_all(m, lines)?;
+    m.fence()
+}
+
+/// Makes a group of writes: puts each value at its place, flushes these lines, and fences.
+///
+/// A crash on the way leaves a mix: each word as it was, or as some write has it. At `Ok` every word that was settled
+/// before, and whose line was flushed, is settled at the last value written there. Let `lines` name the line of each
+/// place, `place / 8`.
+pub fn settle_group<M: Medium>(
+    m: &mut M,
+    writes: &[(u64, u64)],
+    lines: &[u64],
+) -> Result<(), Failed>
+    requires places { PlacesFit (M.sight m.old).len writes.now }
+    requires whole { LinesFit (M.sight m.old).len lines.now }
+    ensures len { (M.sight m.new).len ≡ (M.sight m.old).len }
+    ensures made { Makes (group_calls writes.now lines.now) (is_ok result) (M.sight m.old) (M.sight m.new) }
+    ensures mix { Keeps (MixOf (M.sight m.old).len (here (M.sight m.old)) writes.now) (M.sight m.old) (M.sight m.new) }
+    ensures settles { OnOk result (IsTrue (M.sight m.old).tells → SettlesGroup writes.now lines.now (here (M.sight m.old)) (here (M.sight m.new))) }
+{
+    make_group(m, writes, lines)
+}

@@ -1,0 +1,11 @@
+pub mod Calls
+pub mod Facilities
+pub mod InOrder
+pub mod Numbered
+pub mod NumbersLemmas
+pub mod Retained
+pub mod Rising
+pub mod Rows
+pub mod Run
+pub mod Sequential
+pub mod WorkedReplies

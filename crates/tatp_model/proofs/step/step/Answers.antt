@@ -1,0 +1,34 @@
+use Rattle.std.proofs.Common.{◌≡◌, Some}
+use Rattle.std.specs.List.{find}
+use Rattle.tatp_model.specs.Database.{IsSubRow}
+use Rattle.tatp_model.specs.Transaction.{has_number}
+use Rattle.tatp_model.proofs.Rows.{All-find}
+use Rattle.tatp_model.proofs.step.step.Goals as goal
+
+pub returns-in-GetSubscriber-clause-reply : goal.returns-in-GetSubscriber-clause-reply
+returns-in-GetSubscriber-clause-reply c = rw c.in-GetSubscriber.is (c.get_subscriber.ensures c.args.limit)
+
+pub returns-in-GetDestination-clause-reply : goal.returns-in-GetDestination-clause-reply
+returns-in-GetDestination-clause-reply c = rw c.in-GetDestination.is (c.get_destination.ensures c.args.limit)
+
+pub returns-in-GetAccess-clause-reply : goal.returns-in-GetAccess-clause-reply
+returns-in-GetAccess-clause-reply c = rw c.in-GetAccess.is (c.get_access.ensures c.args.limit)
+
+pub returns-in-UpdateSubscriber-clause-reply : goal.returns-in-UpdateSubscriber-clause-reply
+returns-in-UpdateSubscriber-clause-reply c = rw c.in-UpdateSubscriber.is (c.update_subscriber.ensures.reply c.args.limit)
+
+pub returns-in-UpdateSubscriber-clause-after : goal.returns-in-UpdateSubscriber-clause-after
+returns-in-UpdateSubscriber-clause-after c = rw c.in-UpdateSubscriber.is (c.update_subscriber.ensures.after c.args.limit)
+
+pub returns-in-UpdateLocation-clause-reply : goal.returns-in-UpdateLocation-clause-reply
+returns-in-UpdateLocation-clause-reply c = rw c.in-UpdateLocation.is (c.update_location.ensures.reply c.args.limit)
+
+pub returns-in-UpdateLocation-clause-after : goal.returns-in-UpdateLocation-clause-after
+returns-in-UpdateLocation-clause-after c = rw c.in-UpdateLocation.is (c.update_location.ensures.after c.args.limit)
+
+pub insert_call-requires-clause-in_range : goal.insert_call-requires-clause-in_range
+insert_call-requires-clause-in_range c =
+    let ranges = rw c.in-InsertCall.is at c.requires.in_range in
+    let found : find (has_number c.in-InsertCall.sub_nbr) c.args.t.now.subscribers.items ≡ Some c.in-Some.row = cc in
+    let row = All-find IsSubRow (has_number c.in-InsertCall.sub_nbr) c.args.t.now.subscribers.items c.in-Some.row c.requires.in_order.subscribers_in_range found in
+    record { s_id = row.s_id; sf_type = ranges.1; start_time = ranges.2; end_time = ranges.3; numberx = ranges.4 }

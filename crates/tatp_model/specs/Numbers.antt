@@ -1,0 +1,11 @@
+-- A list of at most three numbers, and the three places that hold it.
+use Rattle.std.specs.Prelude.{ℕ, List, [], ◌∷◌, ◌++◌, length, take}
+use Rattle.tatp_model.specs.declared.numbers.Numbers.{Numbers}
+
+-- the value that holds this list: the places past it are 0
+abbrev pub numbers_of : List ℕ → Numbers
+numbers_of xs = record { count = length xs; items = take 3 (xs ++ 0 ∷ 0 ∷ 0 ∷ []) }
+
+-- the list that a value holds
+abbrev pub list_of : Numbers → List ℕ
+list_of n = take n.count n.items

@@ -1,0 +1,20 @@
+//! What a run tells of a request that it carried out.
+
+use crate::reply::Reply;
+use crate::request::Request;
+
+/// A request of a run, with its reply.
+#[derive(Clone, Copy, Debug, PartialEq, Eq)]
+pub struct Done {
+    /// Which file of the run it stands in, from 0.
+    pub file: u64,
+    /// Which request of that file it is, from 0.
+    pub index: u64,
+    /// The number that it drew where it wrote; of a `SYNC` a number that is
+    /// durable; of another request the number after which it read.
+    pub number: u64,
+    /// Whether it wrote.
+    pub wrote: bool,
+    pub request: Request,
+    pub reply: Reply,
+}
