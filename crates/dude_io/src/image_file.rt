@@ -35,7 +35,15 @@ pub(crate) fn open<R: FileSystem + AllocGlobal>(rt: &R, name: &str) -> Result<R:
         return Err(EdgeFault::Failed);
     }
     file.sync_all()?;
-    Ok(file)
+    Ok(past_streams(file)?)
+}
+
+/// The file at a place behind the standard streams. What is meant for a stream that was closed must not land in it.
+fn past_streams<F: OpenFile + Drop>(file: F) -> io::Result<F> {
+    match file.try_clone() {
+        Err(error) if error.kind() == io::ErrorKind::Unsupported => Ok(file),
+        clone => clone,
+    }
 }
 
 fn open_old<R: FileSystem>(rt: &R, name: &str) -> io::Result<R::File> {
