@@ -1,5 +1,5 @@
 -- Reading a file piece by piece.
-use Rattle.std.proofs.Common.{◌≡◌, ℕ, ◌+◌, ◌-◌, ◌<◌, ◌≤◌, IsTrue, List, [], ◌∷◌, ◌++◌, length, take, drop, Option, Some, None, refl, sym, ◌∙◌, ap, subst, arith, append_assoc, length-append, length-drop, append-nil}
+use Rattle.std.proofs.Common.{◌≡◌, ℕ, ◌+◌, ◌≤◌, IsTrue, List, [], ◌∷◌, ◌++◌, length, take, drop, Option, Some, None, refl, sym, ◌∙◌, ap, subst, arith, append_assoc, length-append, append-nil}
 use Rattle.std.specs.Prelude.{IsSomeAnd}
 use Rattle.std.proofs.lemmas.List.{take-append-drop}
 use Rattle.std.proofs.Math.Seq.{drop-append_seam}
@@ -40,7 +40,7 @@ front_is_all {bytes} {text} (x ∷ rest) e short = absurd (let long : length tex
 module _ {name bytes : List ℕ} {at n : ℕ} {old new : List ℕ} {s t u : FilesSight} where
   -- the file is there, a front of its text was read, and the next piece is given
   given : at ≡ length bytes → ReadSoFar name bytes s t → Gave name at n old new t u → IsTrue s.tells
-    → IsSomeAnd (s.text name) (λ text. Gives text (length bytes) n old new)
+      → IsSomeAnd (s.text name) (λ text. Gives text (length bytes) n old new)
   given here sofar gave told = rw (← here, ← sofar.stays.text told) (gave.told (rw sofar.stays.tells told))
 
   -- the piece lengthens the front
@@ -48,21 +48,15 @@ module _ {name bytes : List ℕ} {at n : ℕ} {old new : List ℕ} {s t u : File
   read_more here sofar gave = record {
     stays = files_stay-then sofar.stays gave.stays;
     front = λ told text is.
-      let had = sofar.front told text is in
-      let gives = some_and (s.text name) text (λ text. Gives text (length bytes) n old new) is (given here sofar gave told) in
-      let piece : take n new ≡ take n had.0 = gives.bytes ∙ ap (λ z. take n (drop (length bytes) z)) had.1 ∙ ap (take n) (drop-append_seam bytes had.0) in
-      (drop n had.0, had.1 ∙ ap (λ z. bytes ++ z) (sym (take-append-drop n had.0)) ∙ sym (append_assoc bytes (take n had.0) (drop n had.0)) ∙ ap (λ z. (bytes ++ z) ++ drop n had.0) (sym piece));
+        let had = sofar.front told text is in
+        let gives = some_and (s.text name) text (λ text. Gives text (length bytes) n old new) is (given here sofar gave told) in
+        let piece : take n new ≡ take n had.0 = gives.bytes ∙ ap (λ z. take n (drop (length bytes) z)) had.1 ∙ ap (take n) (drop-append_seam bytes had.0) in
+        (drop n had.0, had.1 ∙ ap (λ z. bytes ++ z) (sym (take-append-drop n had.0)) ∙ sym (append_assoc bytes (take n had.0) (drop n had.0)) ∙ ap (λ z. (bytes ++ z) ++ drop n had.0) (sym piece));
   }
 
   -- an empty piece comes at the end of the text
   pub read_end : at ≡ length bytes → ReadSoFar name bytes s t → Gave name at n old new t u → n ≡ 0 → IsTrue s.tells
-    → IsSomeAnd (s.text name) (λ text. bytes ≡ text)
+      → IsSomeAnd (s.text name) (λ text. bytes ≡ text)
   read_end here sofar gave empty told =
-    and_some (s.text name) (λ text. Gives text (length bytes) n old new) (λ text. bytes ≡ text) (given here sofar gave told) (λ text is gives.
+      and_some (s.text name) (λ text. Gives text (length bytes) n old new) (λ text. bytes ≡ text) (given here sofar gave told) (λ text is gives.
       let had = sofar.front told text is in front_is_all had.0 had.1 (gives.end empty))
-
-  -- a piece that goes past a limit shows that the text does
-  pub read_past : at ≡ length bytes → Gave name at n old new t u → ReadSoFar name bytes s t → (limit : ℕ) → limit < length bytes + n → length bytes ≤ limit → IsTrue s.tells
-    → IsSomeAnd (s.text name) (λ text. limit < length text)
-  read_past here gave sofar limit past below told =
-    and_some (s.text name) (λ text. Gives text (length bytes) n old new) (λ text. limit < length text) (given here sofar gave told) (λ text is gives. omega arith)

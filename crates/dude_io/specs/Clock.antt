@@ -13,5 +13,5 @@ silent_medium len clock = record {
   tells = false;
   point = λ _. record { word = λ _. still 0; told = [] };
   lists = false;
-  made = []
+  made = [];
 }

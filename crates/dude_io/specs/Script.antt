@@ -1,5 +1,5 @@
 -- Which calls on a thing in memory fail.
-use Rattle.std.specs.Prelude.{◌≡◌, ◌==◌, ℕ, ◌+◌, ◌-◌, ◌^◌, min, Bool, List}
+use Rattle.std.specs.Prelude.{◌≡◌, ◌==◌, ℕ, ◌+◌, Bool, List}
 use Rattle.std.specs.List.{list_any}
 use Rattle.dude_io.specs.FaultCount.{up_to_last}
 use Rattle.dude_io.specs.declared.script.Script.{Script}

@@ -1,3 +1,6 @@
+ghost use Rattle.std.specs.Prelude.{◌≡◌};
+ghost use Rattle.dude_io.specs.declared.edge_fault.EdgeFault.TheVariants.{Failed as EdgeFailed, NoMemory};
+
 use std::alloc::AllocError;
 use std::io;
 
@@ -10,12 +13,16 @@ pub enum EdgeFault {
 }
 
 impl From<io::Error> for EdgeFault {
+    ghost from_gives = { λ _ fault. fault ≡ EdgeFailed };
+
     fn from(_: io::Error) -> Self {
         EdgeFault::Failed
     }
 }
 
 impl From<AllocError> for EdgeFault {
+    ghost from_gives = { λ _ fault. fault ≡ NoMemory };
+
     fn from(_: AllocError) -> Self {
         EdgeFault::NoMemory
     }

@@ -36,7 +36,7 @@ impl<R: FileSystem + AllocGlobal + Eprint + Drop> FilePmem<R> {
     }
 }
 
-impl<R: FileSystem + AllocGlobal + Eprint> Medium for FilePmem<R> {
+impl<R: FileSystem + Eprint> Medium for FilePmem<R> {
     ghost use Rattle.std.specs.Prelude.{vec_len};
     ghost use Rattle.std.proofs.Common.{rules};
     ghost use Rattle.dude_io.specs.Clock.{silent_medium};

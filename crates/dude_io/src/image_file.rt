@@ -1,4 +1,4 @@
-ghost use Rattle.std.specs.Prelude.{◌≡◌, ◌+◌, ◌*◌, ◌^◌, ◌<◌, ◌≤◌, ℕ, length, IfOk, vec_len, vec_capacity, ◌/◌, ◌++◌, map};
+ghost use Rattle.std.specs.Prelude.{◌≡◌, ◌+◌, ◌*◌, ◌^◌, ◌<◌, ◌≤◌, length, IfOk, vec_len, vec_capacity, ◌/◌, ◌++◌, map};
 ghost use Rattle.std.specs.Int.{w64, from_le_bytes};
 ghost use Rattle.std.specs.Simd.{first_chunks};
 
@@ -35,7 +35,15 @@ pub(crate) fn open<R: FileSystem + AllocGlobal>(rt: &R, name: &str) -> Result<R:
         return Err(EdgeFault::Failed);
     }
     file.sync_all()?;
-    Ok(file)
+    Ok(past_streams(file)?)
+}
+
+/// The file at a place behind the standard streams. What is meant for a stream that was closed must not land in it.
+fn past_streams<F: OpenFile + Drop>(file: F) -> io::Result<F> {
+    match file.try_clone() {
+        Err(error) if error.kind() == io::ErrorKind::Unsupported => Ok(file),
+        clone => clone,
+    }
 }
 
 fn open_old<R: FileSystem>(rt: &R, name: &str) -> io::Result<R::File> {
@@ -87,7 +95,10 @@ fn sync_folder(rt: &impl FileSystem, name: &str) -> io::Result<()> {
 }
 
 /// The whole words of a file. What stands behind them is not read.
-pub(crate) fn read_words<F: Read + OpenFile>(alloc: Global, file: &mut F) -> Result<Vec<u64>, EdgeFault>
+pub(crate) fn read_words<F: Read + OpenFile>(
+    alloc: Global,
+    file: &mut F,
+) -> Result<Vec<u64>, EdgeFault>
     ensures { IfOk result (λ words. vec_len words < 2 ^ 61) }
 {
     let count = file.metadata()?.len() / 8;
@@ -115,7 +126,10 @@ fn append_words(words: &mut Vec<u64>, bytes: &[u8])
 }
 
 /// Writes the lines in order and syncs the file.
-pub(crate) fn write_lines<F: Write + Seek + OpenFile>(file: &mut F, lines: &[Line]) -> io::Result<()> {
+pub(crate) fn write_lines<F: Write + Seek + OpenFile>(
+    file: &mut F,
+    lines: &[Line],
+) -> io::Result<()> {
     let mut rest = lines;
     while !rest.is_empty() {
         let written = write_run(file, rest)?;

@@ -1,12 +1,20 @@
 //! Files, sinks and image files: the program's edge.
+//!
+//! Callers are generic over `Files` and `Sink`. Each has one ghost member of plain data, its sight: the count of its
+//! faults, and, where they are told, the texts of the files or the bytes taken. `read_file` and `write_all` are the
+//! loops over them. `MemFiles` and `MemSink` tell all, and their contracts say which calls fail.
+//!
+//! `RealFiles`, `RealSink` and `FilePmem` are the real edges. They tell no content: what is proved of them is that
+//! they are safe, that each call returns, and that a call fails only where the count of faults rose. What the system
+//! reads, writes and syncs is trusted.
 #![tactic(auto)]
 
 mod clock;
 mod edge_fault;
 mod fault_count;
 mod file_fault;
-mod file_text;
 mod file_pmem;
+mod file_text;
 mod files;
 mod image;
 mod image_file;
@@ -25,14 +33,14 @@ mod writing;
 
 pub use edge_fault::EdgeFault;
 pub use file_fault::FileFault;
-pub use file_text::FileText;
 pub use file_pmem::FilePmem;
+pub use file_text::FileText;
 pub use files::Files;
 pub use mem_file::MemFile;
 pub use mem_files::MemFiles;
 pub use mem_sink::MemSink;
+pub use reading::read_file;
 pub use real_files::RealFiles;
 pub use real_sink::RealSink;
-pub use reading::read_file;
 pub use sink::Sink;
 pub use writing::write_all;

@@ -1,6 +1,6 @@
-ghost use Rattle.std.specs.Prelude.{◌≡◌, ◌<◌, ◌≤◌, ◌-◌, [], min, length, is_err, is_none, ◌||◌, IfOk, IfSome, IsOkAnd, option_copied};
+ghost use Rattle.std.specs.Prelude.{◌≡◌, ◌<◌, ◌≤◌, ◌-◌, min, length};
 ghost use Rattle.std.specs.Option.{option_copied};
-ghost use Rattle.dude_io.specs.Files.{Gives, Reads};
+ghost use Rattle.dude_io.specs.Files.{Gives};
 ghost use Rattle.dude_io.specs.MemFile.{text_of};
 
 use crate::Files;
@@ -17,7 +17,7 @@ pub struct MemFiles {
 }
 
 impl MemFiles {
-    ghost use Rattle.std.specs.Prelude.{◌≡◌, ◌≤◌, IsOkAnd};
+    ghost use Rattle.std.specs.Prelude.{◌≤◌, IsOkAnd};
     ghost use Rattle.dude_io.specs.MemFiles.{IsNewFiles};
 
     /// Files of which a read gives at most `chunk` bytes. Calls are counted from 1, and those in `fail` fail.

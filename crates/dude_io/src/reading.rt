@@ -1,4 +1,4 @@
-ghost use Rattle.std.specs.Prelude.{ℕ, IfOk, IfErr, IsTrue, IsSomeAnd};
+ghost use Rattle.std.specs.Prelude.{IfOk, IfErr, IsTrue, IsSomeAnd};
 ghost use Rattle.dude_io.specs.Files.{FilesStay};
 ghost use Rattle.dude_io.specs.FileText.{IsBounded, HasCause, ShowsText};
 

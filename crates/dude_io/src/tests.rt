@@ -1,19 +1,17 @@
-ghost use Rattle.std.specs.Prelude.{◌≡◌, ◌≤◌, ℕ};
+ghost use Rattle.std.specs.Prelude.{◌≡◌, ◌≤◌};
 
 use crate::{
-    EdgeFault, FileFault, FilePmem, FileText, MemFile, MemFiles, MemSink, RealFiles, RealSink, Sink, read_file,
-    write_all,
+    EdgeFault, FileFault, FilePmem, FileText, MemFile, MemFiles, MemSink, RealFiles, RealSink,
+    Sink, read_file, write_all,
 };
 use pmem_trait::{Failed, Medium};
 use std::fs;
 use std::test::Fail;
 
-const FOLDER: &str = "dude_io_tests";
-
 fn folder(rt: HostRuntime, name: &str) -> Result<String, Fail> {
-    let path = format!(in rt.alloc(); "{FOLDER}/{name}")?;
+    let path = format!(in rt.alloc(); "dude_io_test_{name}")?;
     let _ = fs::remove_dir_all(&rt, path.as_str());
-    fs::create_dir_all(&rt, path.as_str())?;
+    fs::create_dir(&rt, path.as_str())?;
     Ok(path)
 }
 
@@ -22,7 +20,11 @@ fn two_files(rt: HostRuntime, chunk: u64, fail: &[u64]) -> Result<MemFiles, Fail
 {
     let alloc = rt.alloc();
     let mut files = Vec::new(alloc);
-    for (name, text) in [("a", b"SYNC\n".as_slice()), ("b", b"".as_slice()), ("a", b"late".as_slice())] {
+    for (name, text) in [
+        ("a", b"SYNC\n".as_slice()),
+        ("b", b"".as_slice()),
+        ("a", b"late".as_slice()),
+    ] {
         files.push(MemFile {
             name: String::from_str(alloc, name)?,
             bytes: text.to_vec(alloc)?,
@@ -88,13 +90,24 @@ fn real_files(rt: HostRuntime) -> Result<(), Fail> {
     let folder = folder(rt, "files")?;
     let path = format!(in alloc; "{folder}/requests.csv")?;
     let mut files = RealFiles::new(rt);
-    assert!(rt; matches!(read_file(alloc, &mut files, path.as_str(), 9), Err(FileFault::Failed)));
+    assert!(rt;
+        matches!(
+            read_file(alloc, &mut files, path.as_str(), 9),
+            Err(FileFault::Failed)
+        )
+    );
     fs::write(&rt, path.as_str(), b"SYNC\nSYNC\n".as_slice())?;
     match read_file(alloc, &mut files, path.as_str(), 10)? {
         FileText::Whole(bytes) => assert_eq!(rt; bytes.as_slice(), b"SYNC\nSYNC\n".as_slice()),
         FileText::TooLong => panic!(rt; "ten bytes are within ten"),
     }
-    assert!(rt; matches!(read_file(alloc, &mut files, path.as_str(), 9), Ok(FileText::TooLong)));
+    assert!(rt;
+        matches!(
+            read_file(alloc, &mut files, path.as_str(), 9),
+            Ok(FileText::TooLong)
+        )
+    );
+    fs::remove_dir_all(&rt, folder.as_str())?;
     Ok(())
 }
 
@@ -135,7 +148,14 @@ fn a_new_image(rt: HostRuntime) -> Result<(), Fail> {
     let mut again = FilePmem::open(rt, path.as_str())?;
     assert_eq!(rt; again.len(), 4_194_304);
     assert_eq!(rt; again.read(0)?, 0x0102_0304);
+    fs::remove_dir_all(&rt, folder.as_str())?;
     Ok(())
+}
+
+fn crosses_threads<T: Send>(value: T) -> T
+    ensures { result ≡ value }
+{
+    value
 }
 
 #[test]
@@ -143,18 +163,24 @@ fn an_old_image(rt: HostRuntime) -> Result<(), Fail> {
     let alloc = rt.alloc();
     let folder = folder(rt, "old")?;
     let path = format!(in alloc; "{folder}/tatp.img")?;
-    for (len, words) in [(0, 0), (7, 0), (67, 8), (128, 16)] {
+    for (len, words, first, last) in [
+        (0, 0, None, None),
+        (7, 0, Some(9), Some(9)),
+        (67, 8, Some(1), Some(9)),
+        (128, 16, Some(1), Some(9)),
+    ] {
         fs::write(&rt, path.as_str(), vec![in alloc; 9; len]?.as_slice())?;
-        let mut medium = FilePmem::open(rt, path.as_str())?;
+        let mut medium = crosses_threads(FilePmem::open(rt, path.as_str())?);
         assert_eq!(rt; medium.len(), words);
         if medium.len() >= 8 {
             settle_first(&mut medium, 1, 2)?;
         }
         let bytes = fs::read(&rt, path.as_str())?;
         assert_eq!(rt; bytes.len(), len);
-        assert_eq!(rt; bytes.first().copied(), if words == 0 { None } else { Some(1) });
-        assert_eq!(rt; bytes.last().copied(), if len == 0 { None } else { Some(9) });
+        assert_eq!(rt; bytes.first().copied(), first);
+        assert_eq!(rt; bytes.last().copied(), last);
     }
+    fs::remove_dir_all(&rt, folder.as_str())?;
     Ok(())
 }
 
@@ -163,7 +189,14 @@ fn no_image(rt: HostRuntime) -> Result<(), Fail> {
     let alloc = rt.alloc();
     let folder = folder(rt, "none")?;
     let path = format!(in alloc; "{folder}/none/tatp.img")?;
-    assert_eq!(rt; FilePmem::open(rt, folder.as_str()).err(), Some(EdgeFault::Failed));
-    assert_eq!(rt; FilePmem::open(rt, path.as_str()).err(), Some(EdgeFault::Failed));
+    assert_eq!(rt;
+        FilePmem::open(rt, folder.as_str()).err(),
+        Some(EdgeFault::Failed)
+    );
+    assert_eq!(rt;
+        FilePmem::open(rt, path.as_str()).err(),
+        Some(EdgeFault::Failed)
+    );
+    fs::remove_dir_all(&rt, folder.as_str())?;
     Ok(())
 }

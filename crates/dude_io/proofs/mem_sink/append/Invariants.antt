@@ -5,5 +5,5 @@ abbrev pub invariant-loop-byte : goal.invariant-loop-byte
 invariant-loop-byte l = record {
   items : l.taken.items ≡ l.initial.taken.items ++ take l.byte-index l.bytes;
   len : vec_len l.taken ≡ vec_len l.initial.taken + l.byte-index;
-  capacity : vec_capacity l.taken ≡ vec_capacity l.initial.taken
+  capacity : vec_capacity l.taken ≡ vec_capacity l.initial.taken;
 }

@@ -5,9 +5,9 @@ use Rattle.dude_io.proofs.writing.write_all.Goals as goal
 
 pub pieces-preserved : goal.pieces-preserved
 pieces-preserved g c =
-  let front = rw take_rest at c.in_ok-done.ensures in
-  record {
-    within = omega (arith, front.most, length-drop c.pieces.done c.args.bytes.now);
-    took = took_more c.pieces.done c.in_ok-done.field-0 c.args.bytes.now {u = g.K.Sink.sight c.write.new.self} c.pieces.invariant.took front.took;
-    same = λ none. absurd (omega (arith, front.some));
-  }
+    let front = rw take_rest at c.in_ok-done.ensures in
+    record {
+      within = omega (arith, front.most, length-drop c.pieces.done c.args.bytes.now);
+      took = took_more c.pieces.done c.in_ok-done.field-0 c.args.bytes.now {u = g.K.Sink.sight c.write.new.self} c.pieces.invariant.took front.took;
+      same = λ none. absurd (omega (arith, front.some));
+    }

@@ -6,7 +6,7 @@ abbrev pub invariant-pieces : goal.invariant-pieces
 invariant-pieces g l = record {
   within : l.done ≤ length l.bytes;
   took : Took (take l.done l.bytes) (g.K.Sink.sight l.initial.sink) (g.K.Sink.sight l.sink);
-  same : l.done ≡ 0 → l.sink ≡ l.initial.sink
+  same : l.done ≡ 0 → l.sink ≡ l.initial.sink;
 }
 
 abbrev pub decreases-pieces : goal.decreases-pieces
