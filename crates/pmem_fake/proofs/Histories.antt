@@ -5,11 +5,11 @@ use Rattle.std.proofs.lemmas.Bool.{eqb-false}
 use Rattle.pmem_trait.specs.declared.call.Call.{Call}
 use Rattle.pmem_trait.specs.declared.call.Call.TheVariants.{Put, Flush, Fence, Tell}
 use Rattle.pmem_trait.specs.declared.made.Made.{Made}
-use Rattle.pmem_trait.specs.Words.{last_told, Word, Point, newest, value_of, with_later, with_note, word_after, after}
+use Rattle.pmem_trait.specs.Words.{IsSettled, last_told, Word, Point, newest, value_of, with_later, with_note, word_after, after}
 use Rattle.pmem_trait.specs.Sights.{Sight, here, Does, Goes}
 use Rattle.pmem_fake.specs.declared.log.Log.{Log}
 use Rattle.pmem_fake.specs.Entries.{is_done, faults_after, Entered}
-use Rattle.pmem_fake.specs.History.{start_point, after_made, sight_of}
+use Rattle.pmem_fake.specs.History.{Opening, start_point, after_made, sight_of}
 
 -- what is seen of a medium by its opening words and its log
 abbrev pub log_sight : List ℕ → Log → Sight
@@ -186,3 +186,7 @@ told_last m n p done is = by m.failed done
     by : (b : Bool) → b ≡ false → Some n ≡ last_told (if b then p else after m.call p).told
     by true none = absurd (true≢false none)
     by false _ = last p.told ∙ ap (λ (c : Call). last_told (after c p).told) (sym is)
+
+-- a medium is settled when it is made
+pub opening_settled : {words : List ℕ} {s : Sight} → Opening words s → IsSettled (here s)
+opening_settled {words} {s} opening k = (slice_index words k, ap (λ (p : Point). p.word k) opening.point)

@@ -1,8 +1,7 @@
-use Rattle.std.proofs.Common.{◌≡◌, ◌⊎◌, inl, inr, ⊎_elim, ℕ, ◌+◌, ◌<◌, ◌≤◌, Bool, true, false, if◌then◌else◌, List, [], ◌∷◌, ◌++◌, slice_index, refl, sym, subst, arith, lt_of_lt_of_le}
-use Rattle.pmem_trait.specs.declared.call.Call.{Call}
+use Rattle.std.proofs.Common.{◌≡◌, ◌⊎◌, inl, inr, ⊎_elim, ℕ, ◌<◌, Bool, true, false, if◌then◌else◌, List, [], ◌∷◌, ◌++◌, slice_index, refl, subst, arith}
 use Rattle.pmem_trait.specs.declared.call.Call.TheVariants.{Tell}
-use Rattle.pmem_trait.specs.Words.{Word, Point, MayBe, Leaves, Along, Along.end, Along.more, IsImage, after, after_all, still}
-use Rattle.pmem_trait.specs.Groups.{group_calls, OldOrNew}
+use Rattle.pmem_trait.specs.Words.{Word, Point, MayBe, Leaves, Along, Along.end, Along.more, after_all, still}
+use Rattle.pmem_trait.specs.Groups.{group_calls}
 use Rattle.pmem_trait.proofs.Laws.{makes_keep, along_then}
 use Rattle.pmem_trait.proofs.GroupLaw.{group_law, group_word}
 use Rattle.pmem_fake.proofs.tests.save_safe.Goals as goal
