@@ -1,7 +1,8 @@
 ghost use Rattle.std.specs.Prelude.{◌≡◌, ℕ, List, length, slice_index, IfOk, OnOk, if◌then◌else◌};
 ghost use Rattle.pmem_trait.specs.declared.call.Call.TheVariants.{Put, Flush, Fence};
 ghost use Rattle.pmem_trait.specs.Words.{Point, after, last_told};
-ghost use Rattle.pmem_fake.specs.History.{start_point, after_made, IsPicked, StandsAt, Steps, Takes};
+ghost use Rattle.pmem_fake.specs.History.{start_point, after_made, IsPicked};
+ghost use Rattle.pmem_fake.specs.Replays.{StandsAt, Steps, Takes};
 
 use crate::word_state::WordState;
 use pmem_trait::{Call, Made};
