@@ -56,7 +56,12 @@ fn a_put_after_the_flush_stays_later(rt: HostRuntime) -> Result<(), Fail> {
         medium.images_at(alloc, 1, &[1])?.as_slice(),
         [5, 0, 0, 0, 0, 0, 0, 0].as_slice()
     );
-    assert!(rt; medium.images_at(alloc, 5, &[]) == Err(ImageFault::Later { moment: 5, now: 4 }));
+    let later = ImageFault::Later { moment: 5, now: 4 };
+    assert!(rt; medium.images_at(alloc, 5, &[]) == Err(later));
+    assert_eq!(rt;
+        format!(in alloc; "{later}")?.as_str(),
+        "moment 5 is later than 4"
+    );
     assert_eq!(rt; medium.content(), [6, 0, 0, 0, 0, 0, 0, 0].as_slice());
     assert_eq!(rt; medium.read(0)?, 6);
     Ok(())
