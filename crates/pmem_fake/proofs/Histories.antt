@@ -1,15 +1,15 @@
 -- From what the log notes of a call to what the trait says of it.
-use Rattle.std.proofs.Common.{◌≡◌, get_or, ◌⊎◌, inl, inr, ⊎_elim, ℕ, zero, suc, ◌/◌, ◌==◌, eqb-true, get_or-set_same, get_or-set_other, ◌+◌, ◌-◌, ◌^◌, ◌<◌, ◌≤◌, min, Bool, true, false, not, ◌&&◌, if◌then◌else◌, nat_lt, nat_le, IsTrue, List, [], ◌∷◌, ◌++◌, length, take, drop, set, slice_index, refl, sym, ap, ◌∙◌, arith, take_all, ltb-true, ltb-false, leb-true, le-leb}
+use Rattle.std.proofs.Common.{true≢false, Some, ◌≡◌, get_or, ◌⊎◌, inl, inr, ⊎_elim, ℕ, zero, suc, ◌/◌, ◌==◌, eqb-true, get_or-set_same, get_or-set_other, ◌+◌, ◌-◌, ◌^◌, ◌<◌, ◌≤◌, min, Bool, true, false, not, ◌&&◌, if◌then◌else◌, nat_lt, nat_le, IsTrue, List, [], ◌∷◌, ◌++◌, length, take, drop, set, slice_index, refl, sym, ap, ◌∙◌, arith, take_all, ltb-true, ltb-false, leb-true, le-leb}
 use Rattle.std.proofs.lemmas.List.{take-append-le, take_more}
 use Rattle.std.proofs.lemmas.Bool.{eqb-false}
 use Rattle.pmem_trait.specs.declared.call.Call.{Call}
-use Rattle.pmem_trait.specs.declared.call.Call.TheVariants.{Put, Flush, Fence}
+use Rattle.pmem_trait.specs.declared.call.Call.TheVariants.{Put, Flush, Fence, Tell}
 use Rattle.pmem_trait.specs.declared.made.Made.{Made}
-use Rattle.pmem_trait.specs.Words.{Word, Point, newest, value_of, with_later, with_note, word_after, after}
+use Rattle.pmem_trait.specs.Words.{IsSettled, last_told, Word, Point, newest, value_of, with_later, with_note, word_after, after}
 use Rattle.pmem_trait.specs.Sights.{Sight, here, Does, Goes}
 use Rattle.pmem_fake.specs.declared.log.Log.{Log}
 use Rattle.pmem_fake.specs.Entries.{is_done, faults_after, Entered}
-use Rattle.pmem_fake.specs.History.{start_point, after_made, sight_of}
+use Rattle.pmem_fake.specs.History.{Opening, start_point, after_made, sight_of}
 
 -- what is seen of a medium by its opening words and its log
 abbrev pub log_sight : List ℕ → Log → Sight
@@ -174,3 +174,19 @@ content_put at value {old} {new} start words e inside holds k below =
         let w = (after_made old.calls.items (start_point start)).word k in
         ap (λ (j : ℕ). slice_index (set words at value) j) (eqb-true k at is) ∙ get_or-set_same words at value 0 inside ∙ sym (newest-more w.settled value w.later)
     by false is = get_or-set_other words at k value 0 (eqb-false k at is) ∙ holds k below
+
+-- a number told is the last one
+pub told_last : (m : Made) (n : ℕ) (p : Point) → m.failed ≡ false → m.call ≡ Tell n → Some n ≡ last_told (if m.failed then p else after m.call p).told
+told_last m n p done is = by m.failed done
+  where
+    last : (ns : List ℕ) → Some n ≡ last_told (ns ++ n ∷ [])
+    last [] = refl
+    last (x ∷ xs) = ap (λ (k : ℕ). Some k) (sym (newest-more x n xs))
+
+    by : (b : Bool) → b ≡ false → Some n ≡ last_told (if b then p else after m.call p).told
+    by true none = absurd (true≢false none)
+    by false _ = last p.told ∙ ap (λ (c : Call). last_told (after c p).told) (sym is)
+
+-- a medium is settled when it is made
+pub opening_settled : {words : List ℕ} {s : Sight} → Opening words s → IsSettled (here s)
+opening_settled {words} {s} opening k = (slice_index words k, ap (λ (p : Point). p.word k) opening.point)

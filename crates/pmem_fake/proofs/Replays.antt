@@ -4,7 +4,8 @@ use Rattle.std.proofs.lemmas.List.{drop-drop, get_or-drop}
 use Rattle.pmem_trait.specs.declared.call.Call.{Call}
 use Rattle.pmem_trait.specs.declared.made.Made.{Made}
 use Rattle.pmem_trait.specs.Words.{after, Word, Point, newest, still, settle, word_after}
-use Rattle.pmem_fake.specs.History.{StandsAt, after_made}
+use Rattle.pmem_fake.specs.History.{after_made}
+use Rattle.pmem_fake.specs.Replays.{StandsAt}
 use Rattle.pmem_fake.proofs.Histories.{made_next}
 
 -- the last of the first n + 1 values

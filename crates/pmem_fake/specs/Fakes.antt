@@ -18,7 +18,7 @@ failing m = m.log.fail.items
 
 -- the next call succeeds
 abbrev pub is_next_done : MemPmem → Bool
-is_next_done m = is_done (m.log.now + 1) (allowed m) (failing m)
+is_next_done m = is_done ((sight m).now + 1) (allowed m) (failing m)
 
 -- the budget and the counts of the calls that are to fail stay
 pub record SameLimits (old new : MemPmem) : Type 0 where

@@ -1,8 +1,7 @@
 -- The state of a medium in memory after the calls made on it, and what a crash then leaves.
-use Rattle.std.specs.Prelude.{◌≡◌, ℕ, ◌%◌, ◌<◌, ◌^◌, true, if◌then◌else◌, nat_le, List, [], ◌∷◌, take, length, slice_index, slice_index_or, IsTrue, All}
-use Rattle.pmem_trait.specs.declared.call.Call.{Call}
+use Rattle.std.specs.Prelude.{◌≡◌, ℕ, ◌%◌, ◌<◌, ◌^◌, true, if◌then◌else◌, nat_le, List, [], ◌∷◌, take, length, slice_index, IsTrue, All}
 use Rattle.pmem_trait.specs.declared.made.Made.{Made}
-use Rattle.pmem_trait.specs.Words.{Word, Point, still, word_after, after, IsImage}
+use Rattle.pmem_trait.specs.Words.{Word, Point, still, after, IsImage}
 use Rattle.pmem_trait.specs.Sights.{Sight, here}
 
 -- settled at these words, and nothing told
@@ -53,18 +52,3 @@ pub record IsPicked (len : ℕ) (p : Point) (picks image : List ℕ) : Type 0 wh
 -- each image that a crash may leave is taken by some picks of 64 bits
 abbrev pub EachIsPicked : ℕ → Point → Type 0
 EachIsPicked len p = (image : List ℕ) → IsImage len p image → (picks : List ℕ) × All (λ pick. pick < 2 ^ 64) picks × IsPicked len p picks image
-
--- the words of a medium stand as at this point
-pub record StandsAt (len : ℕ) (words : List Word) (p : Point) : Type 0 where
-  pub size : length words ≡ len
-  pub each : (k : ℕ) → k < len → slice_index_or words k (still 0) ≡ p.word k
-
--- each word is as a call leaves it
-pub record Steps (c : Call) (old new : List Word) : Type 0 where
-  pub size : length new ≡ length old
-  pub each : (k : ℕ) → k < length old → slice_index_or new k (still 0) ≡ word_after c k (slice_index_or old k (still 0))
-
--- this value is taken of each word
-pub record Takes (words : List Word) (picks image : List ℕ) : Type 0 where
-  pub size : length image ≡ length words
-  pub each : (k : ℕ) → k < length words → slice_index image k ≡ picked (slice_index_or words k (still 0)) (slice_index picks k)

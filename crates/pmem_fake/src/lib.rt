@@ -12,3 +12,6 @@ mod word_state;
 
 pub use image_fault::ImageFault;
 pub use mem_pmem::MemPmem;
+
+#[cfg(test)]
+mod tests;

@@ -4,7 +4,7 @@ ghost use Rattle.pmem_fake.specs.History.{after_made, start_point};
 
 use crate::image_fault::ImageFault;
 use crate::log::Log;
-use crate::replay::image_after;
+use crate::replay::{image_after, last_told_by};
 use pmem_trait::{Call, Failed, Made, Medium};
 use std::alloc::{AllocError, Global};
 
@@ -20,7 +20,7 @@ pub struct MemPmem {
 
 impl MemPmem {
     ghost use Rattle.std.specs.Prelude.{◌≡◌, ℕ, ◌<◌, ◌≤◌, length, slice_index, IfOk, IfErr, IsErrOf, ◌⊎◌, ◌↔◌};
-    ghost use Rattle.pmem_trait.specs.Words.{value_of, IsImage};
+    ghost use Rattle.pmem_trait.specs.Words.{last_told, value_of, IsImage};
     ghost use Rattle.pmem_trait.specs.Sights.{here};
     ghost use Rattle.pmem_fake.specs.History.{Opening, IsPicked, EachIsPicked};
     ghost use Rattle.pmem_fake.specs.Fakes.{sight, allowed, failing};
@@ -51,6 +51,27 @@ impl MemPmem {
         ensures value { (k : ℕ) → k < (sight self.now).len → slice_index result.now k ≡ value_of ((here (sight self.now)).word k) }
     {
         &self.words
+    }
+
+    /// The calls made so far, but for those over the budget.
+    pub fn made(&self) -> &[Made]
+        ensures { result.now ≡ (sight self.now).made }
+    {
+        &self.log.calls
+    }
+
+    /// How many calls failed, up to 2^64 - 1.
+    pub fn faults(&self) -> u64
+        ensures { result ≡ (sight self.now).faults }
+    {
+        self.log.faults
+    }
+
+    /// The last number told.
+    pub fn told(&self) -> Option<u64>
+        ensures { result ≡ last_told (here (sight self.now)).told }
+    {
+        last_told_by(&self.log.calls)
     }
 
     /// An image that a crash may leave now. Word k takes its allowed value number `picks[k]`, modulo their count: the

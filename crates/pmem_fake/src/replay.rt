@@ -1,7 +1,8 @@
-ghost use Rattle.std.specs.Prelude.{◌≡◌, length, slice_index, IfOk, OnOk, if◌then◌else◌};
+ghost use Rattle.std.specs.Prelude.{◌≡◌, ℕ, List, length, slice_index, IfOk, OnOk, if◌then◌else◌};
 ghost use Rattle.pmem_trait.specs.declared.call.Call.TheVariants.{Put, Flush, Fence};
-ghost use Rattle.pmem_trait.specs.Words.{Point, after};
-ghost use Rattle.pmem_fake.specs.History.{start_point, after_made, IsPicked, StandsAt, Steps, Takes};
+ghost use Rattle.pmem_trait.specs.Words.{Point, after, last_told};
+ghost use Rattle.pmem_fake.specs.History.{start_point, after_made, IsPicked};
+ghost use Rattle.pmem_fake.specs.Replays.{StandsAt, Steps, Takes};
 
 use crate::word_state::WordState;
 use pmem_trait::{Call, Made};
@@ -117,4 +118,25 @@ pub fn image_after(
 {
     let words = replay(alloc, start, calls)?;
     take_picks(alloc, &words, picks)
+}
+
+// The last number told after a call, by the last one before it.
+fn told_after_made(before: Option<u64>, made: &Made) -> Option<u64>
+    ensures { (p : Point) → before ≡ last_told p.told → result ≡ last_told (if made.now.failed then p else after made.now.call p).told }
+{
+    match made.call {
+        Call::Tell(number) if !made.failed => Some(number),
+        _ => before,
+    }
+}
+
+/// The last number told in these calls.
+pub fn last_told_by(calls: &[Made]) -> Option<u64>
+    ensures { (start : List ℕ) → result ≡ last_told (after_made calls.now (start_point start)).told }
+{
+    let mut told = None;
+    for made in calls {
+        told = told_after_made(told, made);
+    }
+    told
 }

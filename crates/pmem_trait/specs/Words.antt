@@ -1,5 +1,5 @@
 -- The medium model: the state of each word, what a call does to it, and what a crash may leave.
-use Rattle.std.specs.Prelude.{◌≡◌, ◌⊎◌, ◌==◌, ℕ, ◌/◌, ◌<◌, if◌then◌else◌, List, [], ◌∷◌, ◌++◌, length, take, drop, slice_index}
+use Rattle.std.specs.Prelude.{◌≡◌, ◌⊎◌, ◌==◌, ℕ, ◌/◌, ◌<◌, if◌then◌else◌, List, [], ◌∷◌, ◌++◌, length, take, drop, slice_index, Option, Some, None}
 use Rattle.pmem_trait.specs.declared.call.Call.{Call}
 use Rattle.pmem_trait.specs.declared.call.Call.TheVariants.{Read, Put, Flush, Fence, Tell}
 
@@ -24,6 +24,11 @@ pub record Point : Type 0 where
 abbrev pub newest : ℕ → List ℕ → ℕ
 newest x [] = x
 newest x (y ∷ ys) = newest y ys
+
+-- the last number told, or none
+abbrev pub last_told : List ℕ → Option ℕ
+last_told [] = None
+last_told (n ∷ ns) = Some (newest n ns)
 
 -- what a read gives: the last value put, or the settled one
 abbrev pub value_of : Word → ℕ

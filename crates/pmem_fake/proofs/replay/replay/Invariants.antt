@@ -1,5 +1,6 @@
 use Rattle.std.proofs.Common.{length, take}
-use Rattle.pmem_fake.specs.History.{StandsAt, start_point, after_made}
+use Rattle.pmem_fake.specs.History.{start_point, after_made}
+use Rattle.pmem_fake.specs.Replays.{StandsAt}
 use Rattle.pmem_fake.proofs.replay.replay.Given as goal
 
 -- the words after the calls gone over so far
