@@ -1,2 +1,13 @@
-mod Rows
-mod WorkedReplies
+pub mod Calls
+pub mod Facilities
+pub mod InOrder
+pub mod Numbered
+pub mod NumbersLemmas
+pub mod PopulationInOrder
+pub mod PrintedOrder
+pub mod Retained
+pub mod Rising
+pub mod Rows
+pub mod Run
+pub mod Sequential
+pub mod WorkedReplies

@@ -1,9 +1,11 @@
 -- Lists of rows, of which at most one passes a test.
-use Rattle.std.proofs.Common.{◌≡◌, ℕ, zero, suc, ◌+◌, ◌<◌, ◌≤◌, Bool, true, false, cond, List, [], ◌∷◌, ◌++◌, length, get_or, take, drop, map, set, refl, ap, sym, ◌∙◌, arith, Option, Some, None, ◌≢◌, ⊎_elim, subst}
-use Rattle.std.proofs.lemmas.Bool.{cases_Bool, cases_lt, lt-ltb, both_ways}
+use Rattle.std.proofs.Common.{◌≡◌, ℕ, zero, suc, ◌<◌, ◌≤◌, Bool, true, false, List, [], ◌∷◌, length, get_or, take, drop, set, refl, ap, sym, ◌∙◌, arith, Some, None, ◌≢◌, ⊎_elim, subst}
+use Rattle.std.proofs.lemmas.Bool.{cases_Bool, cases_lt, lt-ltb, eq-eqb, ne_eqb}
 use Rattle.std.proofs.lemmas.List.Quantifiers.{position-Some}
 use Rattle.std.proofs.lemmas.List.Folds.{list_any_at}
-use Rattle.std.specs.List.{list_any, filter, position, position_or_len, AllPairs}
+use Rattle.std.specs.List.{list_any, filter, position, position_or_len, AllPairs, All, find}
+use Rattle.std.proofs.Common.{not, eqb}
+use Rattle.std.proofs.lemmas.List.Elements.{All-head, All-tail}
 use Rattle.tatp_model.specs.Transaction.{update_where}
 
 -- a test that doesn't pass fails
@@ -37,8 +39,9 @@ pub list_any-position_None : {R : Type 0} (p : R → Bool) (rows : List R) → p
 list_any-position_None p rows e =
     ⊎_elim (λ h. let within = lt-ltb (position_or_len p rows) (length rows) h in let found = rw within at e in cc) (λ h. none_from_len p rows h) (cases_lt (position_or_len p rows) (length rows))
 
-pub list_any-position_Some : {R : Type 0} (p : R → Bool) (rows : List R) (i : ℕ) (d : R) → position p rows ≡ Some i → list_any p rows ≡ true
-list_any-position_Some p rows i d e = let at = position-Some p rows i d e in list_any_at p rows i d at.0 at.1
+pub position_Some-any : {R : Type 0} (p : R → Bool) (rows : List R) (i : ℕ) → position p rows ≡ Some i → list_any p rows ≡ true
+position_Some-any p [] i e = cc
+position_Some-any p (r ∷ rows) i e = let at = position-Some p (r ∷ rows) i r e in list_any_at p (r ∷ rows) i r at.0 at.1
 
 -- at most one row passes: rows that pass have one key, and no two have
 pub record AtMostOne {R : Type 0} (p : R → Bool) (rows : List R) : Type 0 where
@@ -57,3 +60,52 @@ set-position p f rows i r one e is = ap (λ x. set rows i (f x)) is ∙ sym (upd
 -- a row that a test of its key names is the only one
 pub AtMostOne-from_keys : {R : Type 0} (p : R → Bool) (key : R → ℕ) (k : ℕ) (rows : List R) → ((r : R) → p r ≡ true → key r ≡ k) → AllPairs (λ r s. key r ≢ key s) rows → AtMostOne p rows
 AtMostOne-from_keys p key k rows names differ = record { apart = λ i j d h l pi pj. differ i j d h l (names _ pi ∙ sym (names _ pj)) }
+
+-- a row passes exactly where the filter keeps some
+list_any-filter : {R : Type 0} (p : R → Bool) (rows : List R) → list_any p rows ≡ not (eqb (length (filter p rows)) 0)
+list_any-filter p [] = refl
+list_any-filter p (r ∷ rows) =
+    ⊎_elim (λ e. rw e (sym (ap not (ne_eqb (suc (length (filter p rows))) 0 (λ same. absurd (omega (arith, same))))))) (λ e. rw e (list_any-filter p rows)) (cases_Bool (p r))
+
+pub list_any-from_none : {R : Type 0} (p : R → Bool) (rows : List R) → length (filter p rows) ≡ 0 → list_any p rows ≡ false
+list_any-from_none p rows none = list_any-filter p rows ∙ ap not (eq-eqb (length (filter p rows)) 0 none)
+
+pub list_any-from_some : {R : Type 0} (p : R → Bool) (rows : List R) → (length (filter p rows) ≡ 0 → ⊥) → list_any p rows ≡ true
+list_any-from_some p rows some = list_any-filter p rows ∙ ap not (ne_eqb (length (filter p rows)) 0 some)
+
+-- the row found is one of the rows
+pub All-find : {R : Type 0} (P : R → Type 0) (p : R → Bool) (rows : List R) (r : R) → All P rows → find p rows ≡ Some r → P r
+All-find P p [] r all e = cc
+All-find P p (s ∷ rows) r all e =
+    ⊎_elim (λ h. let is : s ≡ r = (let found = rw h at e in cc) in subst P is (All-head P s rows all)) (λ h. let later = rw h at e in All-find P p rows r (All-tail P s rows all) later) (cases_Bool (p s))
+
+-- a filter that each row passes keeps all, and one that none passes keeps none
+filter-all : {R : Type 0} (p : R → Bool) (rows : List R) → ((k : ℕ) (d : R) → k < length rows → p (get_or rows k d) ≡ true) → filter p rows ≡ rows
+filter-all p [] all = refl
+filter-all p (r ∷ rows) all =
+    let here : p r ≡ true = all 0 r (omega arith) in
+    rw here (ap (λ rest. r ∷ rest) (filter-all p rows (λ k d h. all (suc k) d (omega arith))))
+
+filter-none : {R : Type 0} (p : R → Bool) (rows : List R) → ((k : ℕ) (d : R) → k < length rows → p (get_or rows k d) ≡ false) → filter p rows ≡ []
+filter-none p [] none = refl
+filter-none p (r ∷ rows) none =
+    let here : p r ≡ false = none 0 r (omega arith) in
+    rw here (filter-none p rows (λ k d h. none (suc k) d (omega arith)))
+
+-- rows that pass before place i, and fail from there on
+pub filter-front : {R : Type 0} (p : R → Bool) (rows : List R) (i : ℕ) → ((k : ℕ) (d : R) → k < i → k < length rows → p (get_or rows k d) ≡ true) → ((k : ℕ) (d : R) → i ≤ k → k < length rows → p (get_or rows k d) ≡ false) → filter p rows ≡ take i rows
+filter-front p [] zero before after = refl
+filter-front p [] (suc i) before after = refl
+filter-front p (r ∷ rows) zero before after = filter-none p (r ∷ rows) (λ k d h. after k d (omega arith) h)
+filter-front p (r ∷ rows) (suc i) before after =
+    let here : p r ≡ true = before 0 r (omega arith) (omega arith) in
+    rw here (ap (λ rest. r ∷ rest) (filter-front p rows i (λ k d h l. before (suc k) d (omega arith) (omega arith)) (λ k d h l. after (suc k) d (omega arith) (omega arith))))
+
+-- rows that fail before place i, and pass from there on
+pub filter-back : {R : Type 0} (p : R → Bool) (rows : List R) (i : ℕ) → ((k : ℕ) (d : R) → k < i → k < length rows → p (get_or rows k d) ≡ false) → ((k : ℕ) (d : R) → i ≤ k → k < length rows → p (get_or rows k d) ≡ true) → filter p rows ≡ drop i rows
+filter-back p [] zero before after = refl
+filter-back p [] (suc i) before after = refl
+filter-back p (r ∷ rows) zero before after = filter-all p (r ∷ rows) (λ k d h. after k d (omega arith) h)
+filter-back p (r ∷ rows) (suc i) before after =
+    let here : p r ≡ false = before 0 r (omega arith) (omega arith) in
+    rw here (filter-back p rows i (λ k d h l. before (suc k) d (omega arith) (omega arith)) (λ k d h l. after (suc k) d (omega arith) (omega arith)))

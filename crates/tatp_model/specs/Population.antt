@@ -61,11 +61,14 @@ call_at s f k = record {
 abbrev pub access_of : ℕ → List AccessRow
 access_of s = map (access_at s) (range_with_len 1 (1 + s % 4))
 
+abbrev pub facility_types : ℕ → List ℕ
+facility_types s = range_with_len 1 (1 + (s + 1) % 4)
+
 abbrev pub facilities_of : ℕ → List FacRow
-facilities_of s = map (facility_at s) (range_with_len 1 (1 + (s + 1) % 4))
+facilities_of s = map (facility_at s) (facility_types s)
 
 abbrev pub calls_of : ℕ → List CallRow
-calls_of s = flat_map (λ f. map (call_at s f.sf_type) (range_with_len 0 ((s + f.sf_type) % 4))) (facilities_of s)
+calls_of s = flat_map (λ f. map (call_at s f) (range_with_len 0 ((s + f) % 4))) (facility_types s)
 
 -- the rows of subscribers 1 to S
 abbrev pub population : ℕ → Database

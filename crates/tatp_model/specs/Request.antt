@@ -1,5 +1,5 @@
 -- The ranges of a request's fields.
-use Rattle.std.specs.Prelude.{⊤}
+use Rattle.std.specs.Prelude.{⊤, Bool, true, false}
 use Rattle.tatp_model.specs.declared.request.Request.{Request}
 use Rattle.tatp_model.specs.declared.request.Request.TheVariants.{GetSubscriber, GetDestination, GetAccess, UpdateSubscriber, UpdateLocation, InsertCall, DeleteCall, Sync}
 use Rattle.tatp_model.specs.Ranges.{IsId, IsPhone, IsKind, IsStartTime, IsEndTime, IsLocation, IsByte, IsBit}
@@ -16,3 +16,8 @@ IsInRange (InsertCall sub_nbr sf_type start_time end_time numberx) =
     IsPhone sub_nbr × IsKind sf_type × IsStartTime start_time × IsEndTime end_time × IsPhone numberx
 IsInRange (DeleteCall sub_nbr sf_type start_time) = IsPhone sub_nbr × IsKind sf_type × IsStartTime start_time
 IsInRange Sync = ⊤
+
+-- whether it may add a row
+abbrev pub is_insert : Request → Bool
+is_insert (InsertCall sub_nbr sf_type start_time end_time numberx) = true
+is_insert _ = false

@@ -1,12 +1,17 @@
 //! The rows that a request names.
 
 ghost use Rattle.std.specs.Prelude.{◌≡◌, find, position};
+ghost use Rattle.std.specs.Prelude.{ℕ, ◌<◌, ◌≤◌, length, slice_index_or, All, map, filter};
 ghost use Rattle.std.specs.List.{list_any};
-ghost use Rattle.tatp_model.specs.Transaction.{is_subscriber, has_number, is_access, is_facility, is_active_facility, is_call};
+ghost use Rattle.std.specs.List.Sorted.{IsStrictlyIncreasing};
+ghost use Rattle.tatp_model.specs.Database.{call_key, IsCallRow};
+ghost use Rattle.tatp_model.specs.Numbers.{numbers_of};
+ghost use Rattle.tatp_model.specs.Transaction.{is_subscriber, has_number, is_access, is_facility, is_active_facility, is_call, forwards};
 
 use crate::access_row::AccessRow;
 use crate::call_row::CallRow;
 use crate::fac_row::FacRow;
+use crate::numbers::Numbers;
 use crate::sub_row::SubRow;
 
 /// The subscriber with this id.
@@ -29,8 +34,7 @@ pub(crate) fn access(rows: &[AccessRow], s_id: u64, ai_type: u64) -> Option<Acce
 pub(crate) fn has_facility(rows: &[FacRow], s_id: u64, sf_type: u64) -> bool
     ensures { result ≡ list_any (is_facility s_id sf_type) rows.now }
 {
-    rows.iter()
-        .any(|r| r.s_id == s_id && r.sf_type == sf_type)
+    rows.iter().any(|r| r.s_id == s_id && r.sf_type == sf_type)
 }
 
 /// Where the subscriber with this number stands.
@@ -66,14 +70,50 @@ pub(crate) fn numbered(rows: &[SubRow], sub_nbr: u64) -> Option<SubRow>
 pub(crate) fn has_call(rows: &[CallRow], s_id: u64, sf_type: u64, start_time: u64) -> bool
     ensures { result ≡ list_any (is_call s_id sf_type start_time) rows.now }
 {
-    rows.iter()
-        .any(|r| r.s_id == s_id && r.sf_type == sf_type && r.start_time == start_time)
+    rows.iter().any(|r| r.s_id == s_id && r.sf_type == sf_type && r.start_time == start_time)
 }
 
 /// Whether the facility with this key is there, and active.
 pub(crate) fn has_active_facility(rows: &[FacRow], s_id: u64, sf_type: u64) -> bool
     ensures { result ≡ list_any (is_active_facility s_id sf_type) rows.now }
 {
-    rows.iter()
-        .any(|r| r.s_id == s_id && r.sf_type == sf_type && r.is_active == 1)
+    rows.iter().any(|r| r.s_id == s_id && r.sf_type == sf_type && r.is_active == 1)
+}
+
+/// Where a call row with this key belongs: before the first row with a key
+/// that isn't less.
+pub(crate) fn place_of_key(rows: &[CallRow], key: u64) -> usize
+    requires { All IsCallRow rows.now }
+    ensures within { result ≤ length rows.now }
+    ensures before { (k : ℕ) (d : CallRow) → k < result → call_key (slice_index_or rows.now k d) < key }
+    ensures at { (d : CallRow) → result < length rows.now → key ≤ call_key (slice_index_or rows.now result d) }
+{
+    for (i, row) in rows.iter().enumerate() {
+        if key <= row.key() {
+            return i;
+        }
+    }
+    rows.len()
+}
+
+/// The numbers that the facility's calls from `start_time` to `end_time` are
+/// forwarded to.
+pub(crate) fn destinations(
+    rows: &[CallRow],
+    s_id: u64,
+    sf_type: u64,
+    start_time: u64,
+    end_time: u64,
+) -> Numbers
+    requires in_range { All IsCallRow rows.now }
+    requires rise { IsStrictlyIncreasing (map call_key rows.now) }
+    ensures { result ≡ numbers_of (map (λ r. r.numberx) (filter (forwards s_id sf_type start_time end_time) rows.now)) }
+{
+    let mut numbers = Numbers::new();
+    for row in rows {
+        if row.forwards(s_id, sf_type, start_time, end_time) {
+            numbers.push(row.numberx);
+        }
+    }
+    numbers
 }

@@ -9,3 +9,48 @@ pub struct Numbers {
     pub count: u64,
     pub items: [u64; 3],
 }
+
+impl Numbers {
+    ghost use Rattle.std.specs.Prelude.{◌≡◌, ℕ, ◌<◌, ◌≤◌, ◌==◌, List, [], ◌∷◌, ◌++◌, length, IsTrue, ◌↔◌};
+    ghost use Rattle.tatp_model.specs.Numbers.{numbers_of, list_of};
+
+    /// The empty list.
+    pub fn new() -> Self
+        ensures { result ≡ numbers_of [] }
+    {
+        Numbers {
+            count: 0,
+            items: [0; 3],
+        }
+    }
+
+    /// The numbers.
+    pub fn as_slice(&self) -> &[u64]
+        requires { self.now.count ≤ 3 }
+        ensures { result.now ≡ list_of self.now }
+    {
+        &self.items[..self.count as usize]
+    }
+
+    /// Whether the list has no number.
+    pub fn is_empty(&self) -> bool
+        ensures { result ≡ (self.now.count == 0) }
+    {
+        self.count == 0
+    }
+
+    /// Adds a number at the end.
+    pub fn push(&mut self, number: u64)
+        requires { self.old.count < 3 }
+        ensures { (xs : List ℕ) → self.old ≡ numbers_of xs → self.new ≡ numbers_of (xs ++ number ∷ []) }
+    {
+        self.items[self.count as usize] = number;
+        self.count += 1;
+    }
+}
+
+impl Default for Numbers {
+    fn default() -> Self {
+        Self::new()
+    }
+}

@@ -1,7 +1,7 @@
 //! The three requests that only read.
 
 ghost use Rattle.std.specs.Prelude.{◌≡◌, ℕ};
-ghost use Rattle.tatp_model.specs.Database.{database_of};
+ghost use Rattle.tatp_model.specs.Database.{database_of, IsInOrder};
 ghost use Rattle.tatp_model.specs.Transaction.{reply_to};
 
 use crate::lookups;
@@ -25,4 +25,24 @@ pub(crate) fn get_access(t: &Tables, s_id: u64, ai_type: u64) -> Reply
         Some(row) => Reply::Access(row.info),
         None => Reply::Missing,
     }
+}
+
+pub(crate) fn get_destination(
+    t: &Tables,
+    s_id: u64,
+    sf_type: u64,
+    start_time: u64,
+    end_time: u64,
+) -> Reply
+    requires { IsInOrder (database_of t.now) }
+    ensures { (limit : ℕ) → result ≡ reply_to limit (database_of t.now) (Request.GetDestination s_id sf_type start_time end_time) }
+{
+    if !lookups::has_active_facility(&t.facilities, s_id, sf_type) {
+        return Reply::Missing;
+    }
+    let numbers = lookups::destinations(&t.calls, s_id, sf_type, start_time, end_time);
+    if numbers.is_empty() {
+        return Reply::Missing;
+    }
+    Reply::Destinations(numbers)
 }

@@ -1,1 +1,78 @@
 //! The plain step.
+
+ghost use Rattle.std.specs.Prelude.{◌≡◌, ◌≤◌, IfOk, OnOk, OnErr, IsTrue, length};
+ghost use Rattle.tatp_model.specs.Database.{database_of, IsInOrder};
+ghost use Rattle.tatp_model.specs.Request.{IsInRange, is_insert};
+ghost use Rattle.tatp_model.specs.Transaction.{reply_to, after_request};
+
+use crate::call_row::CallRow;
+use crate::reply::Reply;
+use crate::request::Request;
+use crate::tables::Tables;
+use crate::{lookups, reads, writes};
+use std::alloc::{AllocError, Global};
+
+/// Carries out one request on the tables, where at most `limit` call rows may
+/// stand: the measure for every other way of running a request. A row that is
+/// added takes memory of the tables' own allocator.
+pub fn step(_alloc: Global, t: &mut Tables, limit: u64, q: &Request) -> Result<Reply, AllocError>
+    requires in_range { IsInRange q.now }
+    requires in_order { IsInOrder (database_of t.old) }
+    requires room { length (database_of t.old).calls ≤ limit }
+    ensures reply { IfOk result (λ r. r ≡ reply_to limit (database_of t.old) q.now) }
+    ensures after { OnOk result (database_of t.new ≡ after_request limit (database_of t.old) q.now) }
+    ensures in_order { IsInOrder (database_of t.new) }
+    ensures room { length (database_of t.new).calls ≤ limit }
+    ensures only_inserts_take_memory { OnErr result (IsTrue (is_insert q.now)) }
+    ensures unchanged { OnErr result (database_of t.new ≡ database_of t.old) }
+{
+    match *q {
+        Request::GetSubscriber { s_id } => Ok(reads::get_subscriber(t, s_id)),
+        Request::GetDestination {
+            s_id,
+            sf_type,
+            start_time,
+            end_time,
+        } => Ok(reads::get_destination(t, s_id, sf_type, start_time, end_time)),
+        Request::GetAccess { s_id, ai_type } => Ok(reads::get_access(t, s_id, ai_type)),
+        Request::UpdateSubscriber {
+            s_id,
+            bit_1,
+            sf_type,
+            data_a,
+        } => Ok(writes::update_subscriber(t, s_id, bit_1, sf_type, data_a)),
+        Request::UpdateLocation { sub_nbr, vlr } => Ok(writes::update_location(t, sub_nbr, vlr)),
+        Request::InsertCall {
+            sub_nbr,
+            sf_type,
+            start_time,
+            end_time,
+            numberx,
+        } => match lookups::numbered(&t.subscribers, sub_nbr) {
+            Some(row) => writes::insert_call(
+                t,
+                limit,
+                CallRow {
+                    s_id: row.s_id,
+                    sf_type,
+                    start_time,
+                    end_time,
+                    numberx,
+                },
+            ),
+            None => Ok(Reply::Missing),
+        },
+        Request::DeleteCall {
+            sub_nbr,
+            sf_type,
+            start_time,
+        } => match lookups::numbered(&t.subscribers, sub_nbr) {
+            Some(row) => Ok(writes::delete_call(t, row.s_id, sf_type, start_time)),
+            None => Ok(Reply::Missing),
+        },
+        Request::Sync => Ok(Reply::Durable),
+    }
+}
+
+#[cfg(test)]
+mod tests;

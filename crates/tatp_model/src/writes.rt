@@ -1,13 +1,17 @@
 //! The four requests that may write.
 
-ghost use Rattle.std.specs.Prelude.{◌≡◌, ℕ};
-ghost use Rattle.tatp_model.specs.Database.{database_of, IsInOrder};
-ghost use Rattle.tatp_model.specs.Transaction.{reply_to, after_request};
+ghost use Rattle.std.specs.Prelude.{◌≡◌, ℕ, IfOk, OnOk, OnErr, filter, not};
+ghost use Rattle.tatp_model.specs.Database.{database_of, IsInOrder, IsCallRow};
+ghost use Rattle.tatp_model.specs.Request.{IsInRange};
+ghost use Rattle.tatp_model.specs.Transaction as outcomes;
+ghost use Rattle.tatp_model.specs.Transaction.{reply_to, after_request, is_call};
 
+use crate::call_row::CallRow;
 use crate::lookups;
 use crate::reply::Reply;
 use crate::request::Request;
 use crate::tables::Tables;
+use std::alloc::AllocError;
 
 pub(crate) fn update_location(t: &mut Tables, sub_nbr: u64, vlr: u64) -> Reply
     requires { IsInOrder (database_of t.old) }
@@ -21,4 +25,68 @@ pub(crate) fn update_location(t: &mut Tables, sub_nbr: u64, vlr: u64) -> Reply
         }
         None => Reply::Missing,
     }
+}
+
+pub(crate) fn update_subscriber(
+    t: &mut Tables,
+    s_id: u64,
+    bit_1: u64,
+    sf_type: u64,
+    data_a: u64,
+) -> Reply
+    requires in_range { IsInRange (Request.UpdateSubscriber s_id bit_1 sf_type data_a) }
+    requires in_order { IsInOrder (database_of t.old) }
+    ensures reply { (limit : ℕ) → result ≡ reply_to limit (database_of t.old) (Request.UpdateSubscriber s_id bit_1 sf_type data_a) }
+    ensures after { (limit : ℕ) → database_of t.new ≡ after_request limit (database_of t.old) (Request.UpdateSubscriber s_id bit_1 sf_type data_a) }
+{
+    let Some(subscriber) = lookups::place_of_subscriber(&t.subscribers, s_id) else {
+        return Reply::Missing;
+    };
+    let Some(facility) = lookups::place_of_facility(&t.facilities, s_id, sf_type) else {
+        return Reply::Missing;
+    };
+    t.subscribers[subscriber].bits[0] = bit_1 as u8;
+    t.facilities[facility].data_a = data_a as u8;
+    Reply::Changed
+}
+
+/// Adds a call row, whose subscriber is there.
+pub(crate) fn insert_call(t: &mut Tables, limit: u64, row: CallRow) -> Result<Reply, AllocError>
+    requires in_range { IsCallRow row }
+    requires in_order { IsInOrder (database_of t.old) }
+    ensures reply { IfOk result (λ r. r ≡ (outcomes.insert_call limit (database_of t.old) row).reply) }
+    ensures after { OnOk result (database_of t.new ≡ (outcomes.insert_call limit (database_of t.old) row).after) }
+    ensures unchanged { OnErr result (database_of t.new ≡ database_of t.old) }
+{
+    if !lookups::has_facility(&t.facilities, row.s_id, row.sf_type) {
+        return Ok(Reply::NoFacility);
+    }
+    if lookups::has_call(&t.calls, row.s_id, row.sf_type, row.start_time) {
+        return Ok(Reply::Duplicate);
+    }
+    if limit <= t.calls.len() as u64 {
+        return Ok(Reply::FullTable);
+    }
+    let at = lookups::place_of_key(&t.calls, row.key());
+    t.calls.insert(at, row)?;
+    Ok(Reply::Changed)
+}
+
+/// Removes a call row, whose subscriber is there.
+pub(crate) fn delete_call(t: &mut Tables, s_id: u64, sf_type: u64, start_time: u64) -> Reply
+    ensures reply { result ≡ (outcomes.delete_call (database_of t.old) s_id sf_type start_time).reply }
+    ensures after { database_of t.new ≡ (outcomes.delete_call (database_of t.old) s_id sf_type start_time).after }
+{
+    if !lookups::has_call(&t.calls, s_id, sf_type, start_time) {
+        return Reply::Missing;
+    }
+    drop_call(&mut t.calls, s_id, sf_type, start_time);
+    Reply::Changed
+}
+
+/// Keeps all rows but the one with this key.
+fn drop_call(rows: &mut Vec<CallRow>, s_id: u64, sf_type: u64, start_time: u64)
+    ensures { rows.new.items ≡ filter (λ r. not (is_call s_id sf_type start_time r)) rows.old.items }
+{
+    rows.retain(|r| !(r.s_id == s_id && r.sf_type == sf_type && r.start_time == start_time));
 }

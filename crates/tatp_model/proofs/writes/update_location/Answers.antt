@@ -1,16 +1,16 @@
-use Rattle.std.proofs.Common.{◌≡◌, Some, None, refl, ap, sym, ◌∙◌}
+use Rattle.std.proofs.Common.{◌≡◌, Some, None, refl, ap}
 use Rattle.std.proofs.lemmas.Bool.{eqb-true}
 use Rattle.std.specs.List.{position}
-use Rattle.tatp_model.specs.Database.{database_of, Database}
+use Rattle.tatp_model.specs.Database.{database_of}
 use Rattle.tatp_model.specs.Transaction.{has_number}
 use Rattle.tatp_model.specs.declared.sub_row.SubRow.{SubRow}
-use Rattle.tatp_model.proofs.Rows.{list_any-position_None, list_any-position_Some, set-position, AtMostOne-from_keys}
+use Rattle.tatp_model.proofs.Rows.{list_any-position_None, position_Some-any, set-position, AtMostOne-from_keys}
 use Rattle.tatp_model.proofs.writes.update_location.Goals as goal
 
 pub returns-in-Some-clause-reply : goal.returns-in-Some-clause-reply
 returns-in-Some-clause-reply c limit =
     let found : position (has_number c.args.sub_nbr) c.args.t.now.subscribers.items ≡ Some c.in-Some.at = cc in
-    rw (list_any-position_Some (has_number c.args.sub_nbr) c.args.t.now.subscribers.items c.in-Some.at c.index_mut.result.now found) refl
+    rw (position_Some-any (has_number c.args.sub_nbr) c.args.t.now.subscribers.items c.in-Some.at found) refl
 
 pub returns-in-Some-clause-after : goal.returns-in-Some-clause-after
 returns-in-Some-clause-after c limit =
@@ -18,7 +18,7 @@ returns-in-Some-clause-after c limit =
     let names = has_number c.args.sub_nbr in
     let found : position names rows ≡ Some c.in-Some.at = cc in
     let one = AtMostOne-from_keys names (λ r. r.sub_nbr) c.args.sub_nbr rows (λ r e. eqb-true _ _ e) c.requires.numbers_differ in
-    rw (list_any-position_Some names rows c.in-Some.at c.index_mut.result.now found)
+    rw (position_Some-any names rows c.in-Some.at found)
     (let written : _ = set-position names (λ (r : SubRow). record r { vlr = c.args.vlr }) rows c.in-Some.at c.index_mut.result.now one found c.index_mut.ensures.value in
     ap (λ after. record (database_of c.args.t.now) { subscribers = after }) written)
 

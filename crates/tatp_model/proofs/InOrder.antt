@@ -1,0 +1,230 @@
+-- Each request keeps the tables in order.
+use Rattle.std.proofs.Common.{◌≡◌, ◌≢◌, ℕ, suc, ◌+◌, ◌-◌, ◌*◌, ◌<◌, ◌≤◌, Bool, true, false, cond, not, List, [], ◌∷◌, ◌++◌, length, get_or, map, Option, Some, None, refl, ap, ap₂, sym, ◌∙◌, arith, ⊎_elim, subst, length-append}
+use Rattle.std.specs.Prelude.{nat_lt, nat_le, slice_set, ◌==◌, ◌&&◌}
+use Rattle.std.specs.Prelude.{Result, Ok, Err, OnOk, OnErr}
+use Rattle.std.specs.Option.{option_map_or}
+use Rattle.std.specs.List.{All, AllPairs, Any, filter, find, list_any}
+use Rattle.std.specs.List.Sorted.{IsStrictlyIncreasing}
+use Rattle.std.proofs.lemmas.Bool.{cases_Bool, ltb-true, le-ltb, eqb-true, and_parts, not-false, leb-false}
+use Rattle.std.proofs.lemmas.List.Folds.{Any-from_list_any}
+use Rattle.std.proofs.lemmas.List.Filters.{length-filter_both}
+use Rattle.std.proofs.lemmas.List.{length-map, get_or-map}
+use Rattle.std.proofs.lemmas.List.Elements.{All-map, All-weaker, All-filter, All-append, All-cons, All-set, filter_passes}
+use Rattle.std.proofs.lemmas.List.Kept.{AllPairs-filter, AllPairs-cons}
+use Rattle.tatp_model.specs.declared.sub_row.SubRow.{SubRow}
+use Rattle.tatp_model.specs.declared.fac_row.FacRow.{FacRow}
+use Rattle.tatp_model.specs.declared.call_row.CallRow.{CallRow}
+use Rattle.tatp_model.specs.Database.{Database, IsInOrder, IsSubRow, IsFacRow, IsCallRow, facility_key, call_key}
+use Rattle.tatp_model.specs.Transaction.{update_where, is_subscriber, has_number, is_facility, is_call, with_call, Outcome, answers, changes, insert_call, delete_call, after_request}
+use Rattle.tatp_model.specs.Ranges.{IsBit}
+use Rattle.tatp_model.specs.Request.{IsInRange}
+use Rattle.tatp_model.specs.declared.request.Request.{Request}
+use Rattle.tatp_model.specs.declared.request.Request.TheVariants.{GetSubscriber, GetDestination, GetAccess, UpdateSubscriber, UpdateLocation, InsertCall, DeleteCall, Sync}
+use Rattle.tatp_model.specs.declared.reply.Reply.TheVariants.{Missing, NoFacility, Duplicate, FullTable}
+use Rattle.tatp_model.proofs.Rows.{All-find}
+use Rattle.tatp_model.proofs.Rising.{pairs_from_rising}
+use Rattle.tatp_model.proofs.Numbered.{keys-update_where}
+
+-- rows that rise pair by pair rise
+pub rising_from_pairs : {R : Type 0} (key : R → ℕ) (rows : List R) → AllPairs (λ r s. key r < key s) rows → IsStrictlyIncreasing (map key rows)
+rising_from_pairs key [] pairs k within = absurd (omega arith)
+rising_from_pairs key (r ∷ rows) pairs k within =
+    let long : length (map key (r ∷ rows)) ≡ length (r ∷ rows) = length-map (r ∷ rows) key in
+    let lower : get_or (map key (r ∷ rows)) k 0 ≡ key (get_or (r ∷ rows) k r) = get_or-map key (r ∷ rows) k r 0 (omega (arith, long, within)) in
+    let upper : get_or (map key (r ∷ rows)) (k + 1) 0 ≡ key (get_or (r ∷ rows) (k + 1) r) = get_or-map key (r ∷ rows) (k + 1) r 0 (omega (arith, long, within)) in
+    omega (arith, lower, upper, pairs k (k + 1) r (omega arith) (omega (arith, long, within)))
+
+-- pairs of one list, of another, and from the one to the other
+pub AllPairs-append : {R : Type 0} (P : R → R → Type 0) (xs ys : List R) → AllPairs P xs → AllPairs P ys → All (λ x. All (P x) ys) xs → AllPairs P (xs ++ ys)
+AllPairs-append P [] ys hx hy across = hy
+AllPairs-append P (x ∷ xs) ys hx hy across =
+    AllPairs-cons P x (xs ++ ys) (All-append (P x) xs ys (λ k d h. hx 0 (suc k) d (omega arith) (omega arith)) (across 0 x (omega arith)))
+    (AllPairs-append P xs ys (λ i j d h l. hx (suc i) (suc j) d (omega arith) (omega arith)) hy (λ k d h. across (suc k) d (omega arith)))
+
+-- pairs of rewritten rows
+AllPairs-map : {R : Type 0} (P : R → R → Type 0) (f : R → R) (rows : List R) → AllPairs (λ r s. P (f r) (f s)) rows → AllPairs P (map f rows)
+AllPairs-map P f rows pairs i j d before within =
+    let long : length (map f rows) ≡ length rows = length-map rows f in
+    let lower : get_or (map f rows) i d ≡ f (get_or rows i d) = get_or-map f rows i d d (omega (arith, long, within)) in
+    let upper : get_or (map f rows) j d ≡ f (get_or rows j d) = get_or-map f rows j d d (omega (arith, long, within)) in
+    rw (lower, upper) (pairs i j d before (omega (arith, long, within)))
+
+-- a row that is there stays there, rewritten
+Any-map : {R : Type 0} (P Q : R → Type 0) (f : R → R) (rows : List R) → ((r : R) → P r → Q (f r)) → Any P rows → Any Q (map f rows)
+Any-map P Q f rows keeps there =
+    (there.0, f there.1, omega (arith, there.2, length-map rows f), get_or-map f rows there.0 there.1 (f there.1) there.2 ∙ ap f there.3, keeps there.1 there.4)
+
+-- a rewrite of some rows, by cases on whether a row passes
+choice : {R : Type 0} (P : R → Type 0) (p : R → Bool) (f : R → R) (r : R) → P r → P (f r) → P (cond (p r) (f r) r)
+choice P p f r kept rewritten = ⊎_elim (λ e. rw e rewritten) (λ e. rw e kept) (cases_Bool (p r))
+
+-- rewritten subscribers that keep their names and ranges
+IsInOrder-subscribers : (db : Database) (p : SubRow → Bool) (f : SubRow → SubRow) → ((r : SubRow) → (f r).s_id ≡ r.s_id) → ((r : SubRow) → (f r).sub_nbr ≡ r.sub_nbr) → ((r : SubRow) → IsSubRow r → IsSubRow (f r)) → IsInOrder db → IsInOrder (record db { subscribers = update_where p f db.subscribers })
+IsInOrder-subscribers db p f same_id same_number in_range order =
+    let g = λ (r : SubRow). cond (p r) (f r) r in
+    let id : (r : SubRow) → (g r).s_id ≡ r.s_id = λ r. choice (λ x. x.s_id ≡ r.s_id) p f r refl (same_id r) in
+    let number : (r : SubRow) → (g r).sub_nbr ≡ r.sub_nbr = λ r. choice (λ x. x.sub_nbr ≡ r.sub_nbr) p f r refl (same_number r) in
+    record {
+      subscribers_rise = subst IsStrictlyIncreasing (sym (keys-update_where (λ r. r.s_id) p f db.subscribers same_id)) order.subscribers_rise;
+      access_rise = order.access_rise;
+      facilities_rise = order.facilities_rise;
+      calls_rise = order.calls_rise;
+      subscribers_in_range = All-map IsSubRow g db.subscribers (All-weaker IsSubRow (λ r. IsSubRow (g r)) (λ r h. choice IsSubRow p f r h (in_range r h)) db.subscribers order.subscribers_in_range);
+      access_in_range = order.access_in_range;
+      facilities_in_range = order.facilities_in_range;
+      calls_in_range = order.calls_in_range;
+      numbers_differ = AllPairs-map (λ r s. r.sub_nbr ≢ s.sub_nbr) g db.subscribers (λ i j d h l e. order.numbers_differ i j d h l (sym (number (get_or db.subscribers i d)) ∙ e ∙ number (get_or db.subscribers j d)));
+      access_belongs = All-weaker (λ a. Any (λ r. r.s_id ≡ a.s_id) db.subscribers) (λ a. Any (λ r. r.s_id ≡ a.s_id) (map g db.subscribers)) (λ a there. Any-map (λ r. r.s_id ≡ a.s_id) (λ r. r.s_id ≡ a.s_id) g db.subscribers (λ r e. id r ∙ e) there) db.access order.access_belongs;
+      facilities_belong = All-weaker (λ a. Any (λ r. r.s_id ≡ a.s_id) db.subscribers) (λ a. Any (λ r. r.s_id ≡ a.s_id) (map g db.subscribers)) (λ a there. Any-map (λ r. r.s_id ≡ a.s_id) (λ r. r.s_id ≡ a.s_id) g db.subscribers (λ r e. id r ∙ e) there) db.facilities order.facilities_belong;
+      calls_belong = order.calls_belong;
+    }
+
+-- rewritten facilities that keep their names and ranges
+IsInOrder-facilities : (db : Database) (p : FacRow → Bool) (f : FacRow → FacRow) → ((r : FacRow) → (f r).s_id ≡ r.s_id) → ((r : FacRow) → (f r).sf_type ≡ r.sf_type) → ((r : FacRow) → IsFacRow r → IsFacRow (f r)) → IsInOrder db → IsInOrder (record db { facilities = update_where p f db.facilities })
+IsInOrder-facilities db p f same_id same_type in_range order =
+    let g = λ (r : FacRow). cond (p r) (f r) r in
+    let id : (r : FacRow) → (g r).s_id ≡ r.s_id = λ r. choice (λ x. x.s_id ≡ r.s_id) p f r refl (same_id r) in
+    let type : (r : FacRow) → (g r).sf_type ≡ r.sf_type = λ r. choice (λ x. x.sf_type ≡ r.sf_type) p f r refl (same_type r) in
+    let key : (r : FacRow) → facility_key (f r) ≡ facility_key r = λ r. ap₂ (λ s t. 4 * s + t - 1) (same_id r) (same_type r) in
+    record {
+      subscribers_rise = order.subscribers_rise;
+      access_rise = order.access_rise;
+      facilities_rise = subst IsStrictlyIncreasing (sym (keys-update_where facility_key p f db.facilities key)) order.facilities_rise;
+      calls_rise = order.calls_rise;
+      subscribers_in_range = order.subscribers_in_range;
+      access_in_range = order.access_in_range;
+      facilities_in_range = All-map IsFacRow g db.facilities (All-weaker IsFacRow (λ r. IsFacRow (g r)) (λ r h. choice IsFacRow p f r h (in_range r h)) db.facilities order.facilities_in_range);
+      calls_in_range = order.calls_in_range;
+      numbers_differ = order.numbers_differ;
+      access_belongs = order.access_belongs;
+      facilities_belong = All-map (λ a. Any (λ r. r.s_id ≡ a.s_id) db.subscribers) g db.facilities (All-weaker (λ a. Any (λ r. r.s_id ≡ a.s_id) db.subscribers) (λ a. Any (λ r. r.s_id ≡ (g a).s_id) db.subscribers) (λ a there. (there.0, there.1, there.2, there.3, there.4 ∙ sym (id a))) db.facilities order.facilities_belong);
+      calls_belong = All-weaker (λ c. Any (λ r. (r.s_id ≡ c.s_id) × (r.sf_type ≡ c.sf_type)) db.facilities) (λ c. Any (λ r. (r.s_id ≡ c.s_id) × (r.sf_type ≡ c.sf_type)) (map g db.facilities)) (λ c there. Any-map (λ r. (r.s_id ≡ c.s_id) × (r.sf_type ≡ c.sf_type)) (λ r. (r.s_id ≡ c.s_id) × (r.sf_type ≡ c.sf_type)) g db.facilities (λ r e. (id r ∙ e.0, type r ∙ e.1)) there) db.calls order.calls_belong;
+    }
+
+-- other call rows that rise, are in range and have their facilities
+IsInOrder-calls : (db : Database) (calls : List CallRow) → AllPairs (λ r s. call_key r < call_key s) calls → All IsCallRow calls → All (λ c. Any (λ f. (f.s_id ≡ c.s_id) × (f.sf_type ≡ c.sf_type)) db.facilities) calls → IsInOrder db → IsInOrder (record db { calls = calls })
+IsInOrder-calls db calls rise in_range belong order = record {
+  subscribers_rise = order.subscribers_rise;
+  access_rise = order.access_rise;
+  facilities_rise = order.facilities_rise;
+  calls_rise = rising_from_pairs call_key calls rise;
+  subscribers_in_range = order.subscribers_in_range;
+  access_in_range = order.access_in_range;
+  facilities_in_range = order.facilities_in_range;
+  calls_in_range = in_range;
+  numbers_differ = order.numbers_differ;
+  access_belongs = order.access_belongs;
+  facilities_belong = order.facilities_belong;
+  calls_belong = belong;
+}
+
+-- a filter of the call rows
+IsInOrder-filter : (db : Database) (p : CallRow → Bool) → IsInOrder db → IsInOrder (record db { calls = filter p db.calls })
+IsInOrder-filter db p order =
+    IsInOrder-calls db (filter p db.calls) (AllPairs-filter (λ r s. call_key r < call_key s) p db.calls (pairs_from_rising call_key db.calls order.calls_rise)) (All-filter p IsCallRow db.calls order.calls_in_range)
+    (All-filter p (λ c. Any (λ f. (f.s_id ≡ c.s_id) × (f.sf_type ≡ c.sf_type)) db.facilities) db.calls order.calls_belong) order
+
+-- one call row more, with its facility
+IsInOrder-with_call : (db : Database) (row : CallRow) → IsCallRow row → Any (λ f. (f.s_id ≡ row.s_id) × (f.sf_type ≡ row.sf_type)) db.facilities → IsInOrder db → IsInOrder (record db { calls = with_call row db.calls })
+IsInOrder-with_call db row in_range there order =
+    let below = λ (r : CallRow). nat_lt (call_key r) (call_key row) in
+    let above = λ (r : CallRow). nat_lt (call_key row) (call_key r) in
+    let low = filter below db.calls in
+    let high = filter above db.calls in
+    let Rises = λ (r s : CallRow). call_key r < call_key s in
+    let Belongs = λ (c : CallRow). Any (λ f. (f.s_id ≡ c.s_id) × (f.sf_type ≡ c.sf_type)) db.facilities in
+    let pairs = pairs_from_rising call_key db.calls order.calls_rise in
+    let under : All (λ r. call_key r < call_key row) low = λ k d h. ltb-true _ _ (filter_passes below db.calls k d h) in
+    let over : All (λ r. call_key row < call_key r) high = λ k d h. ltb-true _ _ (filter_passes above db.calls k d h) in
+    let across : All (λ r. All (Rises r) (row ∷ high)) low = λ k d h. All-cons (Rises (get_or low k d)) row high (under k d h) (λ j e l. omega (arith, under k d h, over j e l)) in
+    IsInOrder-calls db (low ++ row ∷ high)
+    (AllPairs-append Rises low (row ∷ high) (AllPairs-filter Rises below db.calls pairs) (AllPairs-cons Rises row high over (AllPairs-filter Rises above db.calls pairs)) across)
+    (All-append IsCallRow low (row ∷ high) (All-filter below IsCallRow db.calls order.calls_in_range) (All-cons IsCallRow row high in_range (All-filter above IsCallRow db.calls order.calls_in_range)))
+    (All-append Belongs low (row ∷ high) (All-filter below Belongs db.calls order.calls_belong) (All-cons Belongs row high there (All-filter above Belongs db.calls order.calls_belong))) order
+
+-- a row that passes a filter, or that doesn't
+length-filter_kept : {R : Type 0} (p : R → Bool) (r : R) (rows : List R) → p r ≡ true → length (filter p (r ∷ rows)) ≡ length (filter p rows) + 1
+length-filter_kept p r rows e = rw e (omega arith)
+
+length-filter_dropped : {R : Type 0} (p : R → Bool) (r : R) (rows : List R) → p r ≡ false → length (filter p (r ∷ rows)) ≡ length (filter p rows)
+length-filter_dropped p r rows e = rw e refl
+
+-- two filters that pass no row in common keep at most as many together
+length-filter_apart : {R : Type 0} (p q : R → Bool) (rows : List R) → ((r : R) → p r ≡ true → q r ≡ false) → length (filter p rows) + length (filter q rows) ≤ length rows
+length-filter_apart p q [] apart = omega arith
+length-filter_apart p q (r ∷ rows) apart =
+    let rest = length-filter_apart p q rows apart in
+    ⊎_elim (λ e. omega (arith, rest, length-filter_kept p r rows e, length-filter_dropped q r rows (apart r e)))
+    (λ e. ⊎_elim (λ h. omega (arith, rest, length-filter_dropped p r rows e, length-filter_kept q r rows h)) (λ h. omega (arith, rest, length-filter_dropped p r rows e, length-filter_dropped q r rows h)) (cases_Bool (q r))) (cases_Bool (p r))
+
+pub length-with_call : (row : CallRow) (rows : List CallRow) → length (with_call row rows) ≤ length rows + 1
+length-with_call row rows =
+    let below = λ (r : CallRow). nat_lt (call_key r) (call_key row) in
+    let above = λ (r : CallRow). nat_lt (call_key row) (call_key r) in
+    let both = length-filter_apart below above rows (λ r e. le-ltb _ _ (omega (arith, ltb-true (call_key r) (call_key row) e))) in
+    omega (arith, length-append (filter below rows) (row ∷ filter above rows), both)
+
+-- a row that some test names is there
+named : {R : Type 0} (P : R → Type 0) (p : R → Bool) (rows : List R) → ((r : R) → p r ≡ true → P r) → list_any p rows ≡ true → Any P rows
+named P p rows says e = let there = Any-from_list_any p rows e in (there.0, there.1, there.2, there.3, says there.1 there.4)
+
+-- the tables are in order, and at most limit call rows stand
+pub record KeepsOrder (limit : ℕ) (db : Database) : Type 0 where
+  pub order : IsInOrder db
+  pub room : length db.calls ≤ limit
+
+keeps_cond : (limit : ℕ) (b : Bool) (x y : Outcome) → (b ≡ true → KeepsOrder limit x.after) → (b ≡ false → KeepsOrder limit y.after) → KeepsOrder limit (cond b x y).after
+keeps_cond limit true x y hx hy = hx refl
+keeps_cond limit false x y hx hy = hy refl
+
+keeps_find : (limit : ℕ) (f : SubRow → Outcome) (o : Option SubRow) (y : Outcome) → ((r : SubRow) → o ≡ Some r → KeepsOrder limit (f r).after) → KeepsOrder limit y.after → KeepsOrder limit (option_map_or f o y).after
+keeps_find limit f None y hf hy = hy
+keeps_find limit f (Some r) y hf hy = hf r refl
+
+keeps_insert : (limit : ℕ) (db : Database) (row : CallRow) → IsCallRow row → KeepsOrder limit db → KeepsOrder limit (insert_call limit db row).after
+keeps_insert limit db row in_range kept =
+    keeps_cond limit (not (list_any (is_facility row.s_id row.sf_type) db.facilities)) (answers db NoFacility) _ (λ _. kept) (λ there.
+    keeps_cond limit (list_any (is_call row.s_id row.sf_type row.start_time) db.calls) (answers db Duplicate) _ (λ _. kept) (λ _.
+    keeps_cond limit (nat_le limit (length db.calls)) (answers db FullTable) (changes (record db { calls = with_call row db.calls })) (λ _. kept) (λ room. record {
+      order = IsInOrder-with_call db row in_range (named (λ f. (f.s_id ≡ row.s_id) × (f.sf_type ≡ row.sf_type)) (is_facility row.s_id row.sf_type) db.facilities (λ r e. let names = and_parts (r.s_id == row.s_id) (r.sf_type == row.sf_type) e in (eqb-true _ _ names.0, eqb-true _ _ names.1)) (not-false _ there)) kept.order;
+      room = omega (arith, length-with_call row db.calls, leb-false limit (length db.calls) room);
+    })))
+
+-- each request in range keeps the tables in order, with at most limit call rows
+pub KeepsOrder-after_request : (limit : ℕ) (db : Database) (request : Request) → IsInRange request → KeepsOrder limit db → KeepsOrder limit (after_request limit db request)
+KeepsOrder-after_request limit db (GetSubscriber s) range kept = kept
+KeepsOrder-after_request limit db (GetDestination s f t e) range kept = kept
+KeepsOrder-after_request limit db (GetAccess s a) range kept = kept
+KeepsOrder-after_request limit db (UpdateSubscriber s b f d) range kept =
+    let rows = update_where (is_subscriber s) (λ r. record r { bits = slice_set r.bits 0 b }) db.subscribers in
+    let facilities = update_where (is_facility s f) (λ r. record r { data_a = d }) db.facilities in
+    keeps_cond limit (list_any (is_subscriber s) db.subscribers && list_any (is_facility s f) db.facilities) (changes (record db { subscribers = rows; facilities = facilities })) (answers db Missing) (λ _. record {
+      order =
+          IsInOrder-facilities (record db { subscribers = rows }) (is_facility s f) (λ r. record r { data_a = d }) (λ r. refl) (λ r. refl) (λ r h. record { s_id = h.s_id; sf_type = h.sf_type; is_active = h.is_active; error_cntrl = h.error_cntrl; data_a = range.3; data_b = h.data_b })
+          (IsInOrder-subscribers db (is_subscriber s) (λ r. record r { bits = slice_set r.bits 0 b }) (λ r. refl) (λ r. refl) (λ r h. record { s_id = h.s_id; sub_nbr = h.sub_nbr; bits = All-set IsBit r.bits 0 b range.1 h.bits; hexes = h.hexes; bytes = h.bytes; msc = h.msc; vlr = h.vlr }) kept.order);
+      room = kept.room;
+    }) (λ _. kept)
+KeepsOrder-after_request limit db (UpdateLocation n v) range kept =
+    keeps_cond limit (list_any (has_number n) db.subscribers) (changes (record db { subscribers = update_where (has_number n) (λ r. record r { vlr = v }) db.subscribers })) (answers db Missing) (λ _. record {
+      order = IsInOrder-subscribers db (has_number n) (λ r. record r { vlr = v }) (λ r. refl) (λ r. refl) (λ r h. record { s_id = h.s_id; sub_nbr = h.sub_nbr; bits = h.bits; hexes = h.hexes; bytes = h.bytes; msc = h.msc; vlr = range.1 }) kept.order;
+      room = kept.room;
+    }) (λ _. kept)
+KeepsOrder-after_request limit db (InsertCall n f t e x) range kept =
+    keeps_find limit (λ r. insert_call limit db (record { s_id = r.s_id; sf_type = f; start_time = t; end_time = e; numberx = x })) (find (has_number n) db.subscribers) (answers db Missing) (λ r found.
+    keeps_insert limit db (record { s_id = r.s_id; sf_type = f; start_time = t; end_time = e; numberx = x }) (record { s_id = (All-find IsSubRow (has_number n) db.subscribers r kept.order.subscribers_in_range found).s_id; sf_type = range.1; start_time = range.2; end_time = range.3; numberx = range.4 }) kept) kept
+KeepsOrder-after_request limit db (DeleteCall n f t) range kept =
+    keeps_find limit (λ r. delete_call db r.s_id f t) (find (has_number n) db.subscribers) (answers db Missing) (λ r found.
+    keeps_cond limit (list_any (is_call r.s_id f t) db.calls) (changes (record db { calls = filter (λ c. not (is_call r.s_id f t c)) db.calls })) (answers db Missing) (λ _. record {
+      order = IsInOrder-filter db (λ c. not (is_call r.s_id f t c)) kept.order;
+      room = omega (arith, kept.room, length-filter_both (is_call r.s_id f t) (λ c. not (is_call r.s_id f t c)) (λ c. refl) db.calls);
+    }) (λ _. kept)) kept
+KeepsOrder-after_request limit db Sync range kept = kept
+
+-- the tables that a step leaves
+pub KeepsOrder-step : (limit : ℕ) (db after : Database) (request : Request) → IsInRange request → IsInOrder db → length db.calls ≤ limit → after ≡ after_request limit db request → KeepsOrder limit after
+KeepsOrder-step limit db after request range order room is = subst (KeepsOrder limit) (sym is) (KeepsOrder-after_request limit db request range (record { order = order; room = room }))
+
+-- what follows from either outcome of a call
+pub from_either : {T E : Type 0} (r : Result T E) (P Q G : Type 0) → OnOk r P → OnErr r Q → (P → G) → (Q → G) → G
+from_either (Ok x) P Q G ok err f g = f ok
+from_either (Err e) P Q G ok err f g = g err
