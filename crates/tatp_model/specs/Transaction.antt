@@ -74,7 +74,7 @@ delete_call db s_id sf_type start_time =
     then changes (record db { calls = filter (λ r. not (is_call s_id sf_type start_time r)) db.calls })
     else answers db Missing
 
--- the cases of each request, the first that fits
+-- the cases of each request, the first that fits; destinations come in the order of the call rows, by rising start
 abbrev pub outcome_of : ℕ → Database → Request → Outcome
 outcome_of limit db (GetSubscriber s_id) =
     answers db (option_map_or Subscriber (find (is_subscriber s_id) db.subscribers) Missing)

@@ -107,7 +107,8 @@ pub(crate) fn destinations(
 ) -> Numbers
     requires in_range { All IsCallRow rows.now }
     requires rise { IsStrictlyIncreasing (map call_key rows.now) }
-    ensures { result ≡ numbers_of (map (λ r. r.numberx) (filter (forwards s_id sf_type start_time end_time) rows.now)) }
+    ensures { result ≡ numbers_of (map (λ r. r.numberx)
+        (filter (forwards s_id sf_type start_time end_time) rows.now)) }
 {
     let mut numbers = Numbers::new();
     for row in rows {

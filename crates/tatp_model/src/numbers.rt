@@ -11,7 +11,7 @@ pub struct Numbers {
 }
 
 impl Numbers {
-    ghost use Rattle.std.specs.Prelude.{◌≡◌, ℕ, ◌<◌, ◌≤◌, ◌==◌, List, [], ◌∷◌, ◌++◌, length, IsTrue, ◌↔◌};
+    ghost use Rattle.std.specs.Prelude.{◌≡◌, ℕ, ◌+◌, ◌<◌, ◌≤◌, ◌==◌, List, [], ◌∷◌, ◌++◌};
     ghost use Rattle.tatp_model.specs.Numbers.{numbers_of, list_of};
 
     /// The empty list.
@@ -42,7 +42,8 @@ impl Numbers {
     /// Adds a number at the end.
     pub fn push(&mut self, number: u64)
         requires { self.old.count < 3 }
-        ensures { (xs : List ℕ) → self.old ≡ numbers_of xs → self.new ≡ numbers_of (xs ++ number ∷ []) }
+        ensures counted { self.new.count ≡ self.old.count + 1 }
+        ensures appended { (xs : List ℕ) → self.old ≡ numbers_of xs → self.new ≡ numbers_of (xs ++ number ∷ []) }
     {
         self.items[self.count as usize] = number;
         self.count += 1;

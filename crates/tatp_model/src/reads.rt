@@ -35,7 +35,8 @@ pub(crate) fn get_destination(
     end_time: u64,
 ) -> Reply
     requires { IsInOrder (database_of t.now) }
-    ensures { (limit : ℕ) → result ≡ reply_to limit (database_of t.now) (Request.GetDestination s_id sf_type start_time end_time) }
+    ensures { (limit : ℕ) → result ≡ reply_to limit (database_of t.now)
+        (Request.GetDestination s_id sf_type start_time end_time) }
 {
     if !lookups::has_active_facility(&t.facilities, s_id, sf_type) {
         return Reply::Missing;

@@ -15,8 +15,10 @@ use std::alloc::AllocError;
 
 pub(crate) fn update_location(t: &mut Tables, sub_nbr: u64, vlr: u64) -> Reply
     requires { IsInOrder (database_of t.old) }
-    ensures reply { (limit : ℕ) → result ≡ reply_to limit (database_of t.old) (Request.UpdateLocation sub_nbr vlr) }
-    ensures after { (limit : ℕ) → database_of t.new ≡ after_request limit (database_of t.old) (Request.UpdateLocation sub_nbr vlr) }
+    ensures reply { (limit : ℕ) → result ≡ reply_to limit (database_of t.old)
+        (Request.UpdateLocation sub_nbr vlr) }
+    ensures after { (limit : ℕ) → database_of t.new ≡ after_request limit (database_of t.old)
+        (Request.UpdateLocation sub_nbr vlr) }
 {
     match lookups::place_of_number(&t.subscribers, sub_nbr) {
         Some(at) => {
@@ -36,8 +38,10 @@ pub(crate) fn update_subscriber(
 ) -> Reply
     requires in_range { IsInRange (Request.UpdateSubscriber s_id bit_1 sf_type data_a) }
     requires in_order { IsInOrder (database_of t.old) }
-    ensures reply { (limit : ℕ) → result ≡ reply_to limit (database_of t.old) (Request.UpdateSubscriber s_id bit_1 sf_type data_a) }
-    ensures after { (limit : ℕ) → database_of t.new ≡ after_request limit (database_of t.old) (Request.UpdateSubscriber s_id bit_1 sf_type data_a) }
+    ensures reply { (limit : ℕ) → result ≡ reply_to limit (database_of t.old)
+        (Request.UpdateSubscriber s_id bit_1 sf_type data_a) }
+    ensures after { (limit : ℕ) → database_of t.new ≡ after_request limit (database_of t.old)
+        (Request.UpdateSubscriber s_id bit_1 sf_type data_a) }
 {
     let Some(subscriber) = lookups::place_of_subscriber(&t.subscribers, s_id) else {
         return Reply::Missing;

@@ -3,7 +3,7 @@ use Rattle.tatp_model.specs.declared.numbers.Numbers.{Numbers}
 use Rattle.tatp_model.proofs.NumbersLemmas.{pushed, numbers_of-push}
 use Rattle.tatp_model.proofs.numbers.Numbers.push.Goals as goal
 
-pub returns : goal.returns
-returns c xs held =
+pub returns-clause-appended : goal.returns-clause-appended
+returns-clause-appended c xs held =
     let room : length xs < 3 = omega (arith, ap (λ (n : Numbers). n.count) held) in
     ap (λ (n : Numbers). pushed n c.args.number) held ∙ numbers_of-push xs c.args.number room

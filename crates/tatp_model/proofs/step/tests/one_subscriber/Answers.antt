@@ -1,10 +1,6 @@
 -- The rows are those of a new database of one subscriber, which are in order.
-use Rattle.std.proofs.Common.{◌≡◌, ◌∙◌, sym, subst, ap, List, [], ◌∷◌, length, arith}
-use Rattle.tatp_model.specs.declared.sub_row.SubRow.{SubRow}
-use Rattle.tatp_model.specs.declared.access_row.AccessRow.{AccessRow}
-use Rattle.tatp_model.specs.declared.fac_row.FacRow.{FacRow}
-use Rattle.tatp_model.specs.declared.call_row.CallRow.{CallRow}
-use Rattle.tatp_model.specs.Database.{Database, IsInOrder}
+use Rattle.std.proofs.Common.{◌≡◌, ◌∙◌, sym, subst, ap, [], ◌∷◌, length, arith}
+use Rattle.tatp_model.specs.Database.{IsInOrder}
 use Rattle.tatp_model.specs.Population.{population}
 use Rattle.tatp_model.proofs.PopulationInOrder.{IsInOrder-population}
 use Rattle.tatp_model.proofs.step.tests.one_subscriber.Goals as goal
