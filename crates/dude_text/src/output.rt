@@ -30,3 +30,104 @@ pub fn write_last(number: u64, out: &mut Vec<u8>) -> Result<(), AllocError>
     line.push(b'\n')?;
     out.extend_from_slice(&line)
 }
+
+#[cfg(test)]
+mod tests {
+    use super::*;
+    use std::test::Fail;
+    use tatp_model::{AccessData, Numbers, Reply, Request, SubRow};
+
+    const ROW: SubRow = SubRow {
+        s_id: 1,
+        sub_nbr: 1,
+        bits: [0, 1, 0, 1, 0, 1, 0, 1, 0, 1],
+        hexes: [2, 3, 4, 5, 6, 7, 8, 9, 10, 11],
+        bytes: [8, 9, 10, 11, 12, 13, 14, 15, 16, 17],
+        msc: 1,
+        vlr: 1_000_001,
+    };
+
+    fn done(number: u64, reply: Reply) -> Done {
+        Done {
+            file: 0,
+            index: 0,
+            number,
+            wrote: false,
+            request: Request::Sync,
+            reply,
+        }
+    }
+
+    #[test]
+    fn lines(rt: HostRuntime) -> Result<(), Fail> {
+        let cases: [(Done, &[u8]); 10] = [
+            (
+                done(0, Reply::Subscriber(ROW)),
+                b"0 OK 1,000000000000001,0,1,0,1,0,1,0,1,0,1,2,3,4,5,6,7,8,9,10,11,8,9,10,11,12,13,14,15,16,17,1,1000001\n",
+            ),
+            (done(1, Reply::Changed), b"1 OK\n"),
+            (
+                done(1, Reply::Subscriber(SubRow { vlr: 7, ..ROW })),
+                b"1 OK 1,000000000000001,0,1,0,1,0,1,0,1,0,1,2,3,4,5,6,7,8,9,10,11,8,9,10,11,12,13,14,15,16,17,1,7\n",
+            ),
+            (done(0, Reply::Missing), b"0 NONE\n"),
+            (
+                done(
+                    0,
+                    Reply::Destinations(Numbers {
+                        count: 2,
+                        items: [110, 111, 0],
+                    }),
+                ),
+                b"0 OK 000000000000110,000000000000111\n",
+            ),
+            (
+                done(
+                    0,
+                    Reply::Access(AccessData {
+                        data1: 2,
+                        data2: 1,
+                        data3: *b"CDE",
+                        data4: *b"DEFGH",
+                    }),
+                ),
+                b"0 OK 2,1,CDE,DEFGH\n",
+            ),
+            (done(0, Reply::NoFacility), b"0 NOFAC\n"),
+            (done(1, Reply::Duplicate), b"1 DUP\n"),
+            (done(0, Reply::FullTable), b"0 FULL\n"),
+            (
+                done(281_474_976_710_654, Reply::Durable),
+                b"281474976710654 DURABLE\n",
+            ),
+        ];
+        for (done, line) in cases {
+            let mut out = Vec::from_slice(rt.alloc(), b"> ")?;
+            write_done(&done, &mut out)?;
+            assert_eq!(rt; &out[2..], line);
+        }
+        let mut out = Vec::new(rt.alloc());
+        write_last(0, &mut out)?;
+        write_last(281_474_976_710_654, &mut out)?;
+        assert_eq!(rt;
+            out.as_slice(),
+            b"last 0\nlast 281474976710654\n".as_slice()
+        );
+        Ok(())
+    }
+
+    #[test]
+    fn long_phone_numbers(rt: HostRuntime) -> Result<(), Fail> {
+        let long = Numbers {
+            count: 3,
+            items: [999_999_999_999_999, 1_000_000_000_000_000, u64::MAX],
+        };
+        let mut out = Vec::new(rt.alloc());
+        write_done(&done(0, Reply::Destinations(long)), &mut out)?;
+        assert_eq!(rt;
+            out.as_slice(),
+            b"0 OK 999999999999999,1000000000000000,18446744073709551615\n".as_slice()
+        );
+        Ok(())
+    }
+}
