@@ -1,0 +1,4 @@
+//! Pools of records of one size over an array of words.
+#![tactic(auto)]
+
+pub mod pool;
