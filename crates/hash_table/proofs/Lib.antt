@@ -1,0 +1,5 @@
+pub mod Chains
+pub mod Insertions
+pub mod Maps
+pub mod Removals
+pub mod Walks
