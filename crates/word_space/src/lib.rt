@@ -3,5 +3,11 @@
 
 #[cfg(test)]
 mod callers;
+pub mod flat;
+pub mod read_set;
 pub mod stop;
+pub mod stopping;
+#[cfg(test)]
+mod tests;
 pub mod words;
+pub mod write_set;
