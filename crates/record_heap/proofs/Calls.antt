@@ -1,7 +1,8 @@
 -- How many writes calls make, one after another.
 use Rattle.std.proofs.Common.{◌≡◌, ℕ, ◌+◌, List, [], ◌∷◌, ◌++◌, length, length-append, length-set, None, Some, Ok, refl, sym, ap, ◌∙◌}
 use Rattle.dude_base.specs.declared.write.Write.{Write}
-use Rattle.dude_base.specs.Writes.{put_write, overwritten}
+use Rattle.dude_base.specs.Writes.{put_write}
+use Rattle.dude_base.proofs.Overwriting.{length-overwritten}
 use Rattle.word_space.specs.Sights.{Sight, IsBelow, shown}
 use Rattle.word_space.specs.Steps.{Looked, Writes}
 use Rattle.word_space.proofs.Runs.{below_back, below_looked, shown_looked}
@@ -27,13 +28,9 @@ wrote_then {m} {n} {s} a b = record {
       writes = b.writes ∙ ap (λ ws. put_writes ws b.made) a.writes ∙ sym (put_writes-append a.made s.writes b.made);
     }
 
-length_overwritten : (ws : List Write) (a : List ℕ) → length (overwritten ws a) ≡ length a
-length_overwritten [] a = refl
-length_overwritten (w ∷ ws) a = length-set (overwritten ws a) w.at w.value ∙ length_overwritten ws a
-
 -- as many words are seen as there are
 pub length_shown : {s : Sight} {array : List ℕ} → IsBelow s array → length (shown s array) ≡ s.count
-length_shown {s} {array} below = length_overwritten s.writes array ∙ below.size
+length_shown {s} {array} below = length-overwritten s.writes array ∙ below.size
 
 -- for clauses on what is left
 pub ruleset calling = (below_back, below_looked, shown_looked, wrote_none, wrote_one, wrote_then)

@@ -1,6 +1,6 @@
 -- What `take` and `give` do to a lawful pool, on plain arrays.
 use Rattle.std.proofs.Common.{◌≡◌, ◌≢◌, ℕ, ◌+◌, ◌-◌, ◌*◌, ◌^◌, ◌<◌, ◌≤◌, min, List, [], ◌∷◌, ◌++◌, length, length-append, length-set, None, Some, slice_index, slice_set, Contains, refl, sym, ap, ◌∙◌, subst, arith, inl, inr, get_or-set_other, get_or-set_same, add-one}
-use Rattle.std.proofs.Math.Nat.{mul-le-mul_right}
+use Rattle.std.proofs.Math.Nat.{mul-le-mul_left, mul-le-mul_right}
 use Rattle.std.proofs.lemmas.Bool.{cases_lt}
 use Rattle.std.proofs.lemmas.List.Sorted.{IsPermutation-append_right, IsPermutation-middle, IsPermutation-remove, IsPermutation-sym, IsPermutation-trans, length_permutation}
 use Rattle.std.proofs.lemmas.List.Elements.{Contains-append_cases}
@@ -108,4 +108,18 @@ gives_back {pool} {n} {a} {b} {at} {first} {live} {less} fits size there header 
           once = moved;
         };
       changes = changes_by (λ i none. (none.1.1.0, (none.1.0, (none.0, tt)))) changes;
+    }
+
+-- a pool whose records lie behind its header
+pub fits_behind : (pool : Pool) (n : ℕ) → pool.base + 2 ≤ pool.first → 2 ≤ pool.size → pool.first + pool.size * pool.count ≤ n → FitsPool pool n
+fits_behind pool n behind wide whole =
+    let ends : (at : ℕ) → IsRecord pool at → at + pool.size ≤ pool.first + pool.size * pool.count = λ at r.
+          let step : pool.size * (r.number + 1) ≤ pool.size * pool.count = mul-le-mul_left pool.size (omega (arith, r.below)) in
+          omega (arith, r.is, step) in
+    record {
+      header = omega (arith, behind, whole);
+      size = wide;
+      front = λ at r. omega (arith, r.is, behind);
+      inside = λ at r. omega (arith, ends at r, whole);
+      apart = λ at r. inl (omega (arith, r.is, behind));
     }

@@ -1,4 +1,4 @@
-use Rattle.std.proofs.Common.{◌+◌, arith, sym, ap, ◌∙◌, subst, slice_index}
+use Rattle.std.proofs.Common.{None, ◌+◌, arith, sym, ap, ◌∙◌, subst, slice_index}
 use Rattle.std.proofs.lemmas.Bool.{false≢true}
 use Rattle.word_space.specs.Sights.{shown}
 use Rattle.word_space.proofs.Runs.{looked_here, looked_then, below_looked, shown_looked}
@@ -22,7 +22,7 @@ returns-then-not-has-clause-seeks g c = λ array below chain linked records few.
     let step = c.in_ok-record.ensures in
     let words = shown (g.W.Words.sight c.args.w.now) array in
     seeks_end c.in_ok-record.record
-        (before.passes array (below_looked step.reads.looked below) chain (subst (λ place. Linked words place chain) (sym c.link_of-link.ensures) linked) records)
+        (before.passes array (below_looked {stop = None} step.reads.looked below) chain (subst (λ place. Linked words place chain) (sym c.link_of-link.ensures) linked) records)
         records (λ there. false≢true (c.if-not-has.ensures.1 there))
         (step.value array below ∙ ap (λ seen. slice_index seen c.loop.link) (shown_looked before.looked array))
 
@@ -33,11 +33,11 @@ returns-then-branch-key-clause-seeks g c = λ array below chain linked records f
     let key_step = c.in_ok-read.ensures in
     let words = shown (g.W.Words.sight c.args.w.now) array in
     let found = c.in_ok-record.record in
-    let below_step = below_looked key_step.reads.looked below in
+    let below_step = below_looked {stop = None} key_step.reads.looked below in
     let spot : Spot = record { link = c.loop.link; «record» = found } in
     subst (λ place. IsAmid words place c.args.key chain spot) c.link_of-link.ensures
         (seeks_found
-            (before.passes array (below_looked step.reads.looked below_step) chain (subst (λ place. Linked words place chain) (sym c.link_of-link.ensures) linked) records)
+            (before.passes array (below_looked {stop = None} step.reads.looked below_step) chain (subst (λ place. Linked words place chain) (sym c.link_of-link.ensures) linked) records)
             (c.requires.fits.pool.front found (c.has.ensures.0 c.if-not-has.false))
             (step.value array below_step ∙ ap (λ seen. slice_index seen c.loop.link) (shown_looked before.looked array))
             (sym (key_step.value array below ∙ ap (λ seen. slice_index seen found) (shown_looked (looked_then before.looked step.reads.looked) array)) ∙ c.if-branch-key.true))
@@ -55,8 +55,8 @@ loop-preserved g c =
       turns = λ x led. key_step.turns x (step.turns x (before.turns x led));
       inside = omega (arith, looked.ran.count, c.requires.fits.pool.inside found there, c.requires.fits.pool.size);
       passes = λ array below chain linked records.
-          let below_step = below_looked key_step.reads.looked below in
-          passes_more found (before.passes array (below_looked step.reads.looked below_step) chain linked records)
+          let below_step = below_looked {stop = None} key_step.reads.looked below in
+          passes_more found (before.passes array (below_looked {stop = None} step.reads.looked below_step) chain linked records)
               (c.requires.fits.pool.front found there)
               (step.value array below_step ∙ ap (λ seen. slice_index seen c.loop.link) (shown_looked before.looked array))
               (λ same. c.if-branch-key.false (key_step.value array below ∙ ap (λ seen. slice_index seen found) (shown_looked (looked_then before.looked step.reads.looked) array) ∙ same));
