@@ -1,0 +1,152 @@
+ghost use Rattle.std.specs.Prelude.{◌≡◌, ◌+◌, ◌%◌, ◌^◌, ◌<◌, ◌≤◌, ℕ, List, length, if◌then◌else◌, IfOk, IfSome, OnOk, All, slice_index, slice_set};
+ghost use Rattle.word_space.specs.Sights.{IsBelow, shown};
+ghost use Rattle.word_space.specs.Steps.{GoesOn, Looked, Ran, stop_of};
+ghost use Rattle.record_heap.specs.Changes.{Wrote};
+ghost use Rattle.record_heap.specs.Links.{Linked};
+ghost use Rattle.record_heap.specs.Pool.{IsRecord};
+ghost use Rattle.hash_table.specs.Seek.{Seeks};
+ghost use Rattle.hash_table.specs.Table.{FitsTable, Inserts, IsTable, Removes, record_of, records_in, writes_of};
+
+use record_heap::pool::Pool;
+use word_space::stop::Stop;
+use word_space::words::Words;
+
+use crate::put::Put;
+
+/// Chains of the records of a pool, one for each of `buckets` buckets, whose links stand in the
+/// words from `at` on.
+///
+/// Word 0 of a record is its key, and word 1 links the next record of its chain. A key is in the
+/// chain of the bucket `key mod buckets`. A link is the place of a record, or 0 for none.
+///
+/// In an array that is no lawful table, a link that is not the place of a record counts as the end
+/// of its chain, and a chain ends after as many records as the pool has.
+#[derive(Clone, Copy, Debug, PartialEq, Eq)]
+pub struct Table {
+    pub buckets: u64,
+    pub at: u64,
+    pub pool: Pool,
+}
+
+/// A record of a chain, and the word that links it.
+#[derive(Clone, Copy)]
+struct Spot {
+    link: u64,
+    record: u64,
+}
+
+impl Table {
+    /// The place of the record with this key.
+    #[tactic(auto, using(record_heap::proofs::Calls::calling))]
+    pub fn find<W: Words>(&self, w: &mut W, key: u64) -> Result<Option<u64>, Stop>
+        requires fits { FitsTable self.now (W.sight w.old).count }
+        ensures looked { Looked (stop_of result) (W.sight w.old) (W.sight w.new) }
+        ensures turns { GoesOn W.turns_into w.old w.new }
+        ensures found { IfOk result (λ r. (array : List ℕ) → IsBelow (W.sight w.new) array → (chains : List (List ℕ)) (free : List ℕ) →
+            IsTable self.now (shown (W.sight w.old) array) chains free →
+            r ≡ record_of (shown (W.sight w.old) array) (records_in chains) key) }
+    {
+        match self.seek(w, key)? {
+            Some(spot) => Ok(Some(spot.record)),
+            None => Ok(None),
+        }
+    }
+
+    /// Puts the key into a free record at the front of its chain, unless the key is there.
+    ///
+    /// The other words of the record are left as they were.
+    #[tactic(auto, using(record_heap::proofs::Calls::calling))]
+    pub fn insert<W: Words>(&self, w: &mut W, key: u64) -> Result<Put, Stop>
+        requires fits { FitsTable self.now (W.sight w.old).count }
+        ensures ran { Ran (stop_of result) (W.sight w.old) (W.sight w.new) }
+        ensures turns { GoesOn W.turns_into w.old w.new }
+        ensures wrote { IfOk result (λ put. Wrote (writes_of put) (W.sight w.old) (W.sight w.new)) }
+        ensures inserts { IfOk result (λ put. (array : List ℕ) → IsBelow (W.sight w.new) array → (chains : List (List ℕ)) (free : List ℕ) →
+            IsTable self.now (shown (W.sight w.old) array) chains free →
+            Inserts self.now key chains free put (shown (W.sight w.old) array) (shown (W.sight w.new) array)) }
+    {
+        if let Some(spot) = self.seek(w, key)? {
+            return Ok(Put::There(spot.record));
+        }
+        let head = w.read(self.link_of(key))?;
+        let Some(at) = self.pool.take(w)? else {
+            return Ok(Put::Full);
+        };
+        self.put_front(w, key, at, head)?;
+        Ok(Put::Stored(at))
+    }
+
+    /// Takes the record with this key out of its chain and gives it back to the pool. Answers
+    /// whether the key was there.
+    #[tactic(auto, using(record_heap::proofs::Calls::calling))]
+    pub fn remove<W: Words>(&self, w: &mut W, key: u64) -> Result<bool, Stop>
+        requires fits { FitsTable self.now (W.sight w.old).count }
+        ensures ran { Ran (stop_of result) (W.sight w.old) (W.sight w.new) }
+        ensures turns { GoesOn W.turns_into w.old w.new }
+        ensures wrote { IfOk result (λ was. Wrote (if was then 4 else 0) (W.sight w.old) (W.sight w.new)) }
+        ensures removes { IfOk result (λ was. (array : List ℕ) → IsBelow (W.sight w.new) array → (chains : List (List ℕ)) (free : List ℕ) →
+            IsTable self.now (shown (W.sight w.old) array) chains free →
+            Removes self.now key chains free was (shown (W.sight w.old) array) (shown (W.sight w.new) array)) }
+    {
+        let Some(spot) = self.seek(w, key)? else {
+            return Ok(false);
+        };
+        let next = w.read(spot.record + 1)?;
+        self.pool.give(w, spot.record)?;
+        w.write(spot.link, next)?;
+        Ok(true)
+    }
+
+    // The word that links the first record of the key's chain.
+    fn link_of(&self, key: u64) -> u64
+        requires buckets { 0 < self.now.buckets }
+        requires fits { self.now.at + self.now.buckets < 2 ^ 64 }
+        ensures { result ≡ self.now.at + key % self.now.buckets }
+    {
+        self.at + key % self.buckets
+    }
+
+    // Walks along the key's chain to the record with the key.
+    #[tactic(auto, using(record_heap::proofs::Calls::calling))]
+    fn seek<W: Words>(&self, w: &mut W, key: u64) -> Result<Option<Spot>, Stop>
+        requires fits { FitsTable self.now (W.sight w.old).count }
+        ensures looked { Looked (stop_of result) (W.sight w.old) (W.sight w.new) }
+        ensures turns { GoesOn W.turns_into w.old w.new }
+        ensures record { IfOk result (λ r. IfSome r (λ s. IsRecord self.now.pool s.record)) }
+        ensures link { IfOk result (λ r. IfSome r (λ s. s.link < (W.sight w.old).count)) }
+        ensures seeks { IfOk result (λ r. (array : List ℕ) → IsBelow (W.sight w.new) array → (chain : List ℕ) →
+            Linked (shown (W.sight w.old) array) (self.now.at + key % self.now.buckets) chain →
+            All (IsRecord self.now.pool) chain → length chain ≤ self.now.pool.count →
+            Seeks (shown (W.sight w.old) array) (self.now.at + key % self.now.buckets) key chain r) }
+    {
+        let mut link = self.link_of(key);
+        for _ in 0..self.pool.count {
+            let record = w.read(link)?;
+            if !self.pool.has(record) {
+                return Ok(None);
+            }
+            if w.read(record)? == key {
+                return Ok(Some(Spot { link, record }));
+            }
+            link = record + 1;
+        }
+        Ok(None)
+    }
+
+    // Writes the key and the link into the record at `at`, and makes it the first of its chain.
+    #[tactic(auto, using(record_heap::proofs::Calls::calling))]
+    fn put_front<W: Words>(&self, w: &mut W, key: u64, at: u64, head: u64) -> Result<(), Stop>
+        requires fits { FitsTable self.now (W.sight w.old).count }
+        requires record { IsRecord self.now.pool at }
+        ensures ran { Ran (stop_of result) (W.sight w.old) (W.sight w.new) }
+        ensures turns { GoesOn W.turns_into w.old w.new }
+        ensures wrote { OnOk result (Wrote 3 (W.sight w.old) (W.sight w.new)) }
+        ensures shown { OnOk result ((array : List ℕ) → shown (W.sight w.new) array ≡
+            slice_set (slice_set (slice_set (shown (W.sight w.old) array) at key) (at + 1) head) (self.now.at + key % self.now.buckets) at) }
+    {
+        w.write(at, key)?;
+        w.write(at + 1, head)?;
+        w.write(self.link_of(key), at)?;
+        Ok(())
+    }
+}

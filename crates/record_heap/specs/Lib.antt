@@ -1,0 +1,4 @@
+pub mod Callers
+pub mod Changes
+pub mod Links
+pub mod Pool
