@@ -1,8 +1,8 @@
 -- How a command ended, case by case.
-use Rattle.std.proofs.Common.{◌≡◌, ℕ, ◌*◌, ◌<◌, ◌≤◌, Bool, true, false, IsTrue, List, [], ◌∷◌, ◌++◌, length, take, drop, refl, sym, ◌∙◌, ap, subst, arith, inl, inr, ◌⊎◌, Option, Some, None, append-nil}
-use Rattle.std.specs.Prelude.{◌↔◌, IsSome, ⊤}
+use Rattle.std.proofs.Common.{◌≡◌, ℕ, ◌<◌, ◌≤◌, true, IsTrue, List, [], ◌∷◌, ◌++◌, length, take, refl, sym, ◌∙◌, ap, subst, arith, inl, inr, ◌⊎◌, Option, Some, None, append-nil}
+use Rattle.std.specs.Prelude.{◌↔◌, IsSome}
 use Rattle.std.proofs.Math.Seq.{drop-length, take-append_seam}
-use Rattle.pmem_trait.specs.Sights.{Sight, here, Keeps, Ran, Risen}
+use Rattle.pmem_trait.specs.Sights.{Sight, here, Risen}
 use Rattle.pmem_trait.proofs.Laws.{keeps_here}
 use Rattle.pmem_trait.proofs.Runs.{ran_here}
 use Rattle.tatp_model.specs.declared.done.Done.{Done}
@@ -15,11 +15,11 @@ use Rattle.dude_io.specs.Files.{FilesSight, FilesStay}
 use Rattle.dude_io.specs.Sink.{SinkSight, Took}
 use Rattle.fresh_image.specs.Fresh.{fresh_length}
 use Rattle.dude_program.specs.Opening.{FilesMean, HasBadFile}
-use Rattle.dude_program.specs.Headline.{Replies, RepliesToAll, Crash, End, RecoversSince, PrintsNothing, PrintsFront, last_of}
+use Rattle.dude_program.specs.Headline.{Replies, Crash, End, RecoversSince, last_of}
 use Rattle.dude_program.specs.Plans.{IsPlan, HasPlanFault}
-use Rattle.dude_program.specs.Outcome.{CarriesOut, HasRunFault}
+use Rattle.dude_program.specs.Outcome.{CarriesOut}
 use Rattle.dude_program.specs.Printing.{StopsIn, PrintsOutcome}
-use Rattle.dude_program.specs.Causes.{World, world_of, words_needed, HasCause, StoppedEarlier, RefusesBadFile, RefusesSmall, IsComplete, OnAllDone, AllDone, EndsDone, OnRefusal, Bytes}
+use Rattle.dude_program.specs.Causes.{world_of, words_needed, HasCause, StoppedEarlier, RefusesBadFile, RefusesSmall, IsComplete, OnAllDone, AllDone, EndsDone, OnRefusal, Bytes}
 use Rattle.dude_program.specs.Ending.{Ends}
 use Rattle.dude_program.proofs.Runs.{going_none, serves_front}
 
@@ -31,9 +31,10 @@ good_not_bad (FreshRun S file) files requests good bad =
 -- nothing is done
 crash_nothing : (own : Meaning) (s : Sight) → Crash own [] s s
 crash_nothing own s = record {
-    order = [];
-    printed = (serves_front (going_none 1) ([], refl)).1;
-    keeps = keeps_here (RecoversSince (length (here s).told) own []) (λ tells. record { each = λ image is. inl (drop-length (here s).told) }) }
+  order = [];
+  printed = (serves_front (going_none 1) ([], refl)).1;
+  keeps = keeps_here (RecoversSince (length (here s).told) own []) (λ tells. record { each = λ image is. inl (drop-length (here s).told) });
+}
 
 -- what is known alike where words or files were refused
 refused : {meaning : Option Meaning} {s : Sight} {f g : FilesSight} {k : SinkSight} (fault : Fault) → FilesStay f g
@@ -44,20 +45,21 @@ refused : {meaning : Option Meaning} {s : Sight} {f g : FilesSight} {k : SinkSig
     → IsComplete meaning (world_of s f k) (world_of s g k) (Some fault)
     → Ends meaning (world_of s f k) (world_of s g k) [] (Some fault)
 refused {meaning} {s} {f} {g} {k} fault files bytes all end cause usage bad_file too_small complete = record {
-    replies = λ own is. inl refl;
-    all = all;
-    crash = λ own is. crash_nothing own s;
-    bytes = bytes;
-    silent = λ none tells. refl;
-    end = end;
-    cause = cause;
-    usage = usage;
-    bad_file = bad_file;
-    too_small = too_small;
-    complete = complete;
-    untouched = λ low high. (refl, refl);
-    ran = (true, ran_here s);
-    files = files }
+  replies = λ own is. inl refl;
+  all = all;
+  crash = λ own is. crash_nothing own s;
+  bytes = bytes;
+  silent = λ none tells. refl;
+  end = end;
+  cause = cause;
+  usage = usage;
+  bad_file = bad_file;
+  too_small = too_small;
+  complete = complete;
+  untouched = λ low high. (refl, refl);
+  ran = (true, ran_here s);
+  files = files;
+}
 
 -- words that mean something don't mean nothing
 means : (meaning : Option Meaning) → IsSome meaning → meaning ≡ None → ⊥
@@ -73,28 +75,29 @@ pub ends_refused : {meaning : Option Meaning} {s : Sight} {f g : FilesSight} {k 
     → Ends meaning (world_of s f k) (world_of s g k) [] (Some fault)
 ends_refused {meaning} Usage files none =
     refused Usage files (λ own is tells. refl) tt tt none (λ _. none, λ _. refl)
-      (λ own is tells bad. absurd (let no : ⊥ = cc in no)) (λ own requests is tells good short. absurd (let no : ⊥ = cc in no))
-      (λ own requests is tells good long a b c. absurd (let no : ⊥ = cc in no))
+    (λ own is tells bad. absurd (let no : ⊥ = cc in no)) (λ own requests is tells good short. absurd (let no : ⊥ = cc in no))
+    (λ own requests is tells good long a b c. absurd (let no : ⊥ = cc in no))
 ends_refused (File n) files h =
     let one : ◌≡◌ {A = Option Fault} (Some (File n)) (Some (File 1)) = ap (λ (k : ℕ). let o : Option Fault = Some (File k) in o) h.1 in
     refused (File n) files (λ own is tells. refl) tt tt (h.1, h.2) (not_usage (Some (File n)) (λ e. let no : ⊥ = cc in no) h.0)
-      (λ own is tells bad. inr (inl one)) (λ own requests is tells good short. inr (inl one))
-      (λ own requests is tells good long a b c. absurd (b h.2))
+    (λ own is tells bad. inr (inl one)) (λ own requests is tells good short. inr (inl one))
+    (λ own requests is tells good long a b c. absurd (b h.2))
 ends_refused {meaning} {f = f} (Text n r c) files h =
     let same : ◌≡◌ {A = Option Fault} (Some (Text n r c)) (Some (Text 1 0 0)) = text_is h.1 h.2 h.3 in
     refused (Text n r c) files (λ own is tells. refl) tt tt (h.1, h.2, h.3, h.4) (not_usage (Some (Text n r c)) (λ e. let no : ⊥ = cc in no) h.0)
-      (λ own is tells bad. inl same) (λ own requests is tells good short. absurd (contradicts own requests is good (h.4 tells)))
-      (λ own requests is tells good long x y z. absurd (contradicts own requests is good (h.4 tells)))
-    where
-      text_is : {n r c : ℕ} → n ≡ 1 → r ≡ 0 → c ≡ 0 → ◌≡◌ {A = Option Fault} (Some (Text n r c)) (Some (Text 1 0 0))
-      text_is a b d = cc
-      contradicts : (own : Meaning) (requests : List (List Request)) → meaning ≡ Some own → FilesMean own f requests → (other : Meaning) × (meaning ≡ Some other) × HasBadFile other f → ⊥
-      contradicts own requests is good bad =
-          let same : bad.0 ≡ own = (let e = bad.1 in cc) in
-          good_not_bad own f requests good (subst (λ (m : Meaning). HasBadFile m f) same bad.2)
+    (λ own is tells bad. inl same) (λ own requests is tells good short. absurd (contradicts own requests is good (h.4 tells)))
+    (λ own requests is tells good long x y z. absurd (contradicts own requests is good (h.4 tells)))
+  where
+    text_is : {n r c : ℕ} → n ≡ 1 → r ≡ 0 → c ≡ 0 → ◌≡◌ {A = Option Fault} (Some (Text n r c)) (Some (Text 1 0 0))
+    text_is a b d = cc
+
+    contradicts : (own : Meaning) (requests : List (List Request)) → meaning ≡ Some own → FilesMean own f requests → (other : Meaning) × (meaning ≡ Some other) × HasBadFile other f → ⊥
+    contradicts own requests is good bad =
+        let same : bad.0 ≡ own = (let e = bad.1 in cc) in
+        good_not_bad own f requests good (subst (λ (m : Meaning). HasBadFile m f) same bad.2)
 ends_refused {k = k} Memory files some =
     refused Memory files (λ own is tells. (0, sym (append-nil k.taken))) tt tt tt (not_usage (Some Memory) (λ e. let no : ⊥ = cc in no) some)
-      (λ own is tells bad. inr (inr refl)) (λ own requests is tells good short. inr (inr refl)) (λ own requests is tells good long a b c. inr refl)
+    (λ own is tells bad. inr (inr refl)) (λ own requests is tells good short. inr (inr refl)) (λ own requests is tells good long a b c. inr refl)
 ends_refused (Small a b) files h = absurd h
 ends_refused (TooFew a b) files h = absurd h
 ends_refused Unformatted files h = absurd h
@@ -124,24 +127,25 @@ tried : {meaning : Option Meaning} {S : ℕ} {requests : List Request} {done : L
     → OnRefusal fault ((t ≡ s) × (done ≡ []))
     → Ends meaning (world_of s f k) (world_of t g l) done fault
 tried {meaning} {S} {requests} {done} {last} {earlier} {s} {t} {f} {g} {k} {l} fault it all bytes end cause other small complete untouched = record {
-    replies = λ own is. inr (subst (λ (m : Meaning). Replies m f done) (same own is) (record { requests = requests ∷ []; read = it.plan.read; answered = it.carried.replies }));
-    all = all;
-    crash = λ own is. subst (λ (m : Meaning). Crash m done s t) (same own is) (record { order = done; printed = it.carried.printed; keeps = it.carried.keeps });
-    bytes = λ own is. subst (λ (m : Meaning). Bytes m done (world_of s f k) (world_of t g l) fault) (same own is) bytes;
-    silent = λ none. absurd (let e = it.plan.meant in let no : ⊥ = cc in no);
-    end = end;
-    cause = cause;
-    usage = (λ is. absurd (other is), λ none. absurd (let e = it.plan.meant in let no : ⊥ = cc in no));
-    bad_file = λ own is tells bad. absurd (good_not_bad own f (requests ∷ []) (subst (λ (m : Meaning). FilesMean m f (requests ∷ [])) (same own is) (it.plan.read tells)) bad);
-    too_small = λ own reqs is tells good short. subst (λ (m : Meaning). (fault ≡ Some (Small s.len (words_needed m))) ⊎ StoppedEarlier fault) (same own is)
-        (small (subst (λ (m : Meaning). s.len < words_needed m) (sym (same own is)) short));
-    complete = λ own reqs is tells good long a b c. complete (subst (λ (m : Meaning). words_needed m ≤ s.len) (sym (same own is)) long) a c;
-    untouched = untouched;
-    ran = it.carried.ran;
-    files = it.files }
-    where
-      same : (own : Meaning) → meaning ≡ Some own → FreshRun S it.plan.file ≡ own
-      same own is = let e = it.plan.meant in cc
+  replies = λ own is. inr (subst (λ (m : Meaning). Replies m f done) (same own is) (record { requests = requests ∷ []; read = it.plan.read; answered = it.carried.replies }));
+  all = all;
+  crash = λ own is. subst (λ (m : Meaning). Crash m done s t) (same own is) (record { order = done; printed = it.carried.printed; keeps = it.carried.keeps });
+  bytes = λ own is. subst (λ (m : Meaning). Bytes m done (world_of s f k) (world_of t g l) fault) (same own is) bytes;
+  silent = λ none. absurd (let e = it.plan.meant in let no : ⊥ = cc in no);
+  end = end;
+  cause = cause;
+  usage = (λ is. absurd (other is), λ none. absurd (let e = it.plan.meant in let no : ⊥ = cc in no));
+  bad_file = λ own is tells bad. absurd (good_not_bad own f (requests ∷ []) (subst (λ (m : Meaning). FilesMean m f (requests ∷ [])) (same own is) (it.plan.read tells)) bad);
+  too_small = λ own reqs is tells good short. subst (λ (m : Meaning). (fault ≡ Some (Small s.len (words_needed m))) ⊎ StoppedEarlier fault) (same own is)
+      (small (subst (λ (m : Meaning). s.len < words_needed m) (sym (same own is)) short));
+  complete = λ own reqs is tells good long a b c. complete (subst (λ (m : Meaning). words_needed m ≤ s.len) (sym (same own is)) long) a c;
+  untouched = untouched;
+  ran = it.carried.ran;
+  files = it.files;
+}
+  where
+    same : (own : Meaning) → meaning ≡ Some own → FreshRun S it.plan.file ≡ own
+    same own is = let e = it.plan.meant in cc
 
 -- all requests are done
 all_done : {meaning : Option Meaning} {S : ℕ} {requests : List Request} {done : List Done} {last : ℕ} {s t : Sight} {f g : FilesSight} (k : SinkSight)
@@ -161,13 +165,13 @@ pub ends_faulted : {meaning : Option Meaning} {S : ℕ} {requests : List Request
 ends_faulted {S = S} {s = s} (Small has needs) it =
     let c = it.carried.cause in
     tried (Some (Small has needs)) it tt (λ tells. refl) tt (c.2, omega (arith, c.2, c.3, c.4), FreshRun S it.plan.file, it.plan.meant, c.3) (λ e. let no : ⊥ = cc in no)
-      (λ short. inl (small_is c.2 c.3)) (λ long a b. absurd (omega (arith, c.2, c.3, c.4))) (λ low high. (c.1, c.0))
-    where
-      small_is : {a b n m : ℕ} → a ≡ b → n ≡ m → ◌≡◌ {A = Option Fault} (Some (Small a n)) (Some (Small b m))
-      small_is p q = cc
+    (λ short. inl (small_is c.2 c.3)) (λ long a b. absurd (omega (arith, c.2, c.3, c.4))) (λ low high. (c.1, c.0))
+  where
+    small_is : {a b n m : ℕ} → a ≡ b → n ≡ m → ◌≡◌ {A = Option Fault} (Some (Small a n)) (Some (Small b m))
+    small_is p q = cc
 ends_faulted {k = k} Memory it =
     tried (Some Memory) it tt (λ tells. (0, sym (append-nil k.taken))) tt tt (λ e. let no : ⊥ = cc in no) (λ short. inr (inr refl)) (λ long a b. inr refl)
-      (λ low high. (it.carried.cause.1, it.carried.cause.0))
+    (λ low high. (it.carried.cause.1, it.carried.cause.0))
 ends_faulted Device it =
     let c = it.carried.cause in
     tried (Some Device) it tt (λ tells. refl) tt c.1 (λ e. let no : ⊥ = cc in no) (λ short. absurd (omega (arith, c.0))) (λ long a b. absurd (a c.1)) (λ low high. absurd (omega arith))
@@ -189,38 +193,43 @@ pub ends_whole : {meaning : Option Meaning} {S : ℕ} {requests : List Request} 
     → Tried meaning S requests done last None s t f g → Took (output_of done last) k l → Ends meaning (world_of s f k) (world_of t g l) done None
 ends_whole {done = done} {k = k} {l = l} it took =
     tried None it (all_done k it) (λ tells. took.taken tells ∙ ap (λ (n : ℕ). k.taken ++ output_of done n) (it.carried.last_is refl)) (ends_done k l it) tt (λ e. let no : ⊥ = cc in no)
-      (λ short. absurd (omega (arith, it.carried.cause))) (λ long a b. inl refl) (λ low high. absurd (omega arith))
+    (λ short. absurd (omega (arith, it.carried.cause))) (λ long a b. inl refl) (λ low high. absurd (omega arith))
 
 -- the front of the output that was taken
 took_front : (done : List Done) (last : ℕ) {k l : SinkSight} {fault : Fault} → last ≡ last_of 0 done → StopsIn (output_of done last) k l fault
     → IsTrue k.tells → (n : ℕ) × (l.taken ≡ k.taken ++ take n (output_of done (last_of 0 done)))
-took_front done last {k} {l} is stops tells =
-    (length stops.front, stops.took.taken tells ∙ ap (λ (x : List ℕ). k.taken ++ x)
-      (sym (ap (λ (n : ℕ). take (length stops.front) (output_of done n)) (sym is) ∙ (ap (take (length stops.front)) stops.split ∙ take-append_seam stops.front stops.rest))))
+took_front done last {k} {l} is stops tells = (
+  length stops.front,
+  stops.took.taken tells ∙ ap (λ (x : List ℕ). k.taken ++ x)
+      (sym (ap (λ (n : ℕ). take (length stops.front) (output_of done n)) (sym is) ∙ (ap (take (length stops.front)) stops.split ∙ take-append_seam stops.front stops.rest))),
+)
 
 -- All was carried out, and a front of it printed.
 pub ends_unprinted : {meaning : Option Meaning} {S : ℕ} {requests : List Request} {done : List Done} {last : ℕ} {s t : Sight} {f g : FilesSight} {k l : SinkSight} (fault : Fault)
     → Tried meaning S requests done last None s t f g → StopsIn (output_of done last) k l fault → Ends meaning (world_of s f k) (world_of t g l) done (Some fault)
 ends_unprinted {meaning} {done = done} {last = last} {s = s} {t = t} {f = f} {g = g} {k = k} {l = l} fault it stops =
     by_fault stops.only
-    where
-      P : Fault → Type 0
-      P x = Ends meaning (world_of s f k) (world_of t g l) done (Some x)
-      at_output : Risen k.faults l.faults → P Output
-      at_output risen = tried (Some Output) it (all_done k it) (took_front done last (it.carried.last_is refl) stops) (ends_done k l it) risen (λ e. let no : ⊥ = cc in no)
-          (λ short. absurd (omega (arith, it.carried.cause))) (λ long a b. absurd (b risen)) (λ low high. absurd (omega arith))
-      at_memory : P Memory
-      at_memory = tried (Some Memory) it tt (took_front done last (it.carried.last_is refl) stops) tt tt (λ e. let no : ⊥ = cc in no)
-          (λ short. absurd (omega (arith, it.carried.cause))) (λ long a b. inr refl) (λ low high. absurd (omega arith))
-      by_fault : (fault ≡ Output) ⊎ (fault ≡ Memory) → P fault
-      by_fault (inl is) = subst P (sym is) (at_output (stops.cause is))
-      by_fault (inr is) = subst P (sym is) at_memory
+  where
+    P : Fault → Type 0
+    P x = Ends meaning (world_of s f k) (world_of t g l) done (Some x)
+
+    at_output : Risen k.faults l.faults → P Output
+    at_output risen = tried (Some Output) it (all_done k it) (took_front done last (it.carried.last_is refl) stops) (ends_done k l it) risen (λ e. let no : ⊥ = cc in no)
+        (λ short. absurd (omega (arith, it.carried.cause))) (λ long a b. absurd (b risen)) (λ low high. absurd (omega arith))
+
+    at_memory : P Memory
+    at_memory = tried (Some Memory) it tt (took_front done last (it.carried.last_is refl) stops) tt tt (λ e. let no : ⊥ = cc in no)
+        (λ short. absurd (omega (arith, it.carried.cause))) (λ long a b. inr refl) (λ low high. absurd (omega arith))
+
+    by_fault : (fault ≡ Output) ⊎ (fault ≡ Memory) → P fault
+    by_fault (inl is) = subst P (sym is) (at_output (stops.cause is))
+    by_fault (inr is) = subst P (sym is) at_memory
 
 -- What is printed decides how the command ends.
 pub ends_printed : {meaning : Option Meaning} {S : ℕ} {requests : List Request} {done : List Done} {last : ℕ} {s t : Sight} {f g : FilesSight} {k l : SinkSight} (earlier fault : Option Fault)
     → Tried meaning S requests done last earlier s t f g → PrintsOutcome done last earlier fault k l → Ends meaning (world_of s f k) (world_of t g l) done fault
 ends_printed {meaning} {done = done} {s = s} {t = t} {f = f} {g = g} {k = k} {l = l} (Some earlier) fault it printed =
     subst (λ (o : Option Fault). Ends meaning (world_of s f k) (world_of t g l) done o) (sym printed.0)
-      (subst (λ (x : SinkSight). Ends meaning (world_of s f k) (world_of t g x) done (Some earlier)) (sym printed.1) (ends_faulted earlier it))
+    (subst (λ (x : SinkSight). Ends meaning (world_of s f k) (world_of t g x) done (Some earlier)) (sym printed.1) (ends_faulted earlier it))
 ends_printed None None it printed = ends_whole it printed
 ends_printed None (Some fault) it printed = ends_unprinted fault it printed

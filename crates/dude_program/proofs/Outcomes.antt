@@ -1,9 +1,8 @@
 -- A format and the run behind it, as one.
-use Rattle.std.proofs.Common.{◌≡◌, ℕ, ◌+◌, ◌*◌, ◌<◌, ◌≤◌, Bool, true, false, cond, ◌&&◌, IsTrue, List, [], ◌∷◌, ◌++◌, length, drop, map, refl, sym, ◌∙◌, ap, subst, arith, inl, inr, ◌⊎◌, Option, Some, None}
+use Rattle.std.proofs.Common.{◌≡◌, ℕ, ◌*◌, ◌<◌, ◌≤◌, Bool, true, false, cond, ◌&&◌, IsTrue, List, [], ◌∷◌, ◌++◌, length, drop, map, refl, sym, ◌∙◌, ap, subst, arith, inl, inr, Option, Some}
 use Rattle.std.specs.Prelude.{nat_le}
 use Rattle.std.specs.List.{All, filter}
-use Rattle.std.proofs.lemmas.Bool.{cases_Bool, lt-leb}
-use Rattle.std.proofs.lemmas.List.{length-append}
+use Rattle.std.proofs.lemmas.Bool.{lt-leb}
 use Rattle.std.proofs.lemmas.List.Elements.{All-nil, All-head, All-tail}
 use Rattle.std.proofs.Math.Seq.{drop-append_seam, drop-length}
 use Rattle.pmem_trait.specs.Words.{Point, IsIn, Leaves}
@@ -16,10 +15,9 @@ use Rattle.tatp_model.specs.Database.{Database}
 use Rattle.tatp_model.specs.Population.{population}
 use Rattle.tatp_model.specs.OneThread.{after_number, after_requests, IsPrintedOrder}
 use Rattle.tatp_model.specs.OneThread.{Replies}
-use Rattle.dude_text.specs.Command.{Meaning, Meaning.FreshRun}
-use Rattle.fresh_image.specs.Fresh.{Rests, fresh_length}
-use Rattle.fresh_image.specs.Layout.{number_limit}
-use Rattle.fresh_image.specs.Rows.{home_words, StandsFor}
+use Rattle.dude_text.specs.Command.{Meaning.FreshRun}
+use Rattle.fresh_image.specs.Fresh.{fresh_length}
+use Rattle.fresh_image.specs.Rows.{home_words}
 use Rattle.fresh_image.specs.Calls.{AtLeast}
 use Rattle.fresh_image.specs.FormatCalls.{ShowsOnceTold, RestsFormatted}
 use Rattle.fresh_image.proofs.UpdateLaw.{rest_images}
@@ -33,16 +31,17 @@ use Rattle.dude_program.proofs.Runs.{going_none, serves_front, still_tells}
 skip_written : (limit : ℕ) (db : Database) (d : Done) (done : List Done) → (d.wrote && nat_le d.number 0) ≡ false → after_number limit db done 0 ≡ db → after_number limit db (d ∷ done) 0 ≡ db
 skip_written limit db d done uncounted h =
     ap (λ (b : Bool). after_requests limit db (map (λ e. e.request) (cond b (d ∷ rest) rest))) uncounted ∙ h
-    where
-      rest : List Done
-      rest = filter (λ e. e.wrote && nat_le e.number 0) done
+  where
+    rest : List Done
+    rest = filter (λ e. e.wrote && nat_le e.number 0) done
 
 -- those that wrote, but for the first
 over_rest : (d : Done) (done : List Done) (b : Bool) → d.wrote ≡ b → All (λ e. 0 < e.number) (cond b (d ∷ filter (λ e. e.wrote) done) (filter (λ e. e.wrote) done))
     → ((d.wrote && nat_le d.number 0) ≡ false) × All (λ e. 0 < e.number) (filter (λ e. e.wrote) done)
-over_rest d done true is over =
-    (ap (λ (b : Bool). b && nat_le d.number 0) is ∙ lt-leb d.number 0 (All-head (λ e. 0 < e.number) d (filter (λ e. e.wrote) done) over),
-      All-tail (λ e. 0 < e.number) d (filter (λ e. e.wrote) done) over)
+over_rest d done true is over = (
+  ap (λ (b : Bool). b && nat_le d.number 0) is ∙ lt-leb d.number 0 (All-head (λ e. 0 < e.number) d (filter (λ e. e.wrote) done) over),
+  All-tail (λ e. 0 < e.number) d (filter (λ e. e.wrote) done) over,
+)
 over_rest d done false is over = (ap (λ (b : Bool). b && nat_le d.number 0) is, over)
 
 -- no request counts up to the opening number
@@ -65,8 +64,13 @@ opening_shows : (S : ℕ) (file : List ℕ) (before told image : List ℕ) (done
     → ShowsOnceTold before (home_words S (population S).subscribers) told image → RecoversSince (length before) (FreshRun S file) done told image
 opening_shows S file before told image done over (inl same) = inl (ap (drop (length before)) same ∙ drop-length before)
 opening_shows S file before told image done over (inr shown) =
-    inr (0, floor_zero before told shown.0, omega arith, subst (λ (db : Database). RecoversTo (FreshRun S file) image 0 db) (sym (none_at_opening (12 * S) (population S) done over))
-      (home_words S (population S).subscribers, shown.1, record { rows = refl; access = refl; facilities = refl; calls = refl }))
+    inr (
+      0,
+      floor_zero before told shown.0,
+      omega arith,
+      subst (λ (db : Database). RecoversTo (FreshRun S file) image 0 db) (sym (none_at_opening (12 * S) (population S) done over))
+          (home_words S (population S).subscribers, shown.1, record { rows = refl; access = refl; facilities = refl; calls = refl }),
+    )
 
 -- the medium is idle at the population
 formatted_idle : (S : ℕ) (p q : Point) → RestsFormatted S p q → Idle S (length p.told) (opening_stage S) q
@@ -84,29 +88,35 @@ idle_end {S} {file} {requests} {stage} {s} {m} {t} low high long serves idle =
       told = subst (λ (n : ℕ). (front : List ℕ) × ((here t).told ≡ front ++ n ∷ []) × (length (here s).told ≤ length front)) last idle.told;
       least = subst (λ (n : ℕ). All (λ d. d.number ≤ n) stage.done) last (serves.within refl);
       images = subst (λ (n : ℕ). Leaves t.len (λ told image. RecoversTo (FreshRun S file) image n (database_after (FreshRun S file) stage.done n)) (here t)) last
-        (record { each = λ image is. subst (λ (db : Database). RecoversTo (FreshRun S file) image stage.last db) (serves.db refl)
-          (home_words S stage.db.subscribers, rest_images low high long (serves.small refl) idle.rests image is,
-            record { rows = refl; access = others.0; facilities = others.1; calls = others.2 }) }) }
+          (record {
+            each = λ image is. subst (λ (db : Database). RecoversTo (FreshRun S file) image stage.last db) (serves.db refl) (
+              home_words S stage.db.subscribers,
+              rest_images low high long (serves.small refl) idle.rests image is,
+              record { rows = refl; access = others.0; facilities = others.1; calls = others.2 },
+            );
+          });
+    }
 
 -- A format, and a run behind it.
 pub formats_serves : {S : ℕ} {file : List ℕ} {requests : List Request} (ok : Bool) {stage : Stage} {s m t : Sight} → 1 ≤ S → S ≤ 10000 → fresh_length S ≤ s.len
     → Keeps (ShowsOnceTold (here s).told (home_words S (population S).subscribers)) s m → (IsTrue s.tells → RestsFormatted S (here s) (here m)) → Ran true s m
     → ServesAll S file requests ok stage m t → FormatsAndServes S file requests ok stage s t
 formats_serves {S} {file} {requests} ok {stage} {s} {m} {t} low high long images rests ran serves = record {
-    replies = serves.replies;
-    printed = serves.printed;
-    keeps = keeps_then (keeps_weaker (λ told image size shown. opening_shows S file (here s).told told image stage.done serves.replies.over shown) images)
+  replies = serves.replies;
+  printed = serves.printed;
+  keeps = keeps_then (keeps_weaker (λ told image size shown. opening_shows S file (here s).told told image stage.done serves.replies.over shown) images)
       (serves.keeps (length (here s).told) (λ tells. formatted_idle S (here s) (here m) (rests (still_tells ran tells))));
-    ran = ran_then ran serves.ran;
-    all = serves.all;
-    last_is = serves.last;
-    end = end }
-    where
-      end : ok ≡ true → IsTrue s.tells → End (FreshRun S file) stage.done s t
-      end is tells =
-          let there : IsTrue m.tells = subst (λ (b : Bool). IsTrue b) (sym (makes_later ran.1).tells) tells in
-          let whole : ServesAll S file requests true stage m t = subst (λ (b : Bool). ServesAll S file requests b stage m t) is serves in
-          idle_end low high (omega (arith, (makes_later ran.1).len, (makes_later serves.ran.1).len)) whole (whole.idle refl (length (here s).told) there (formatted_idle S (here s) (here m) (rests tells)))
+  ran = ran_then ran serves.ran;
+  all = serves.all;
+  last_is = serves.last;
+  end = end;
+}
+  where
+    end : ok ≡ true → IsTrue s.tells → End (FreshRun S file) stage.done s t
+    end is tells =
+        let there : IsTrue m.tells = subst (λ (b : Bool). IsTrue b) (sym (makes_later ran.1).tells) tells in
+        let whole : ServesAll S file requests true stage m t = subst (λ (b : Bool). ServesAll S file requests b stage m t) is serves in
+        idle_end low high (omega (arith, (makes_later ran.1).len, (makes_later serves.ran.1).len)) whole (whole.idle refl (length (here s).told) there (formatted_idle S (here s) (here m) (rests tells)))
 
 -- A format that failed.
 pub format_stops : {S : ℕ} {file : List ℕ} {requests : List Request} {stage : Stage} {s t : Sight} → stage ≡ opening_stage S
@@ -120,7 +130,8 @@ format_stops {S} {file} {requests} {stage} {s} {t} opening images ran =
       ran = ran;
       all = λ no. absurd (let never : ⊥ = cc in never);
       last_is = λ no. absurd (let never : ⊥ = cc in never);
-      end = λ no. absurd (let never : ⊥ = cc in never) })
+      end = λ no. absurd (let never : ⊥ = cc in never);
+    })
 
 -- A plan that wasn't begun.
 pub refuses : {S : ℕ} (file : List ℕ) (requests : List Request) {done : List Done} (last : ℕ) {fault : Option Fault} (f : Fault) {s : Sight} → done ≡ [] → fault ≡ Some f
@@ -135,7 +146,8 @@ refuses {S} file requests {done} last {fault} f {s} none is cause =
       cause = cause;
       all = λ no. absurd (let never : ⊥ = cc in never);
       last_is = λ no. absurd (let never : ⊥ = cc in never);
-      end = λ no. absurd (let never : ⊥ = cc in never) }))
+      end = λ no. absurd (let never : ⊥ = cc in never);
+    }))
 
 -- A plan that was begun.
 pub carries : {S T : ℕ} {file : List ℕ} {requests : List Request} (ok : Bool) {stage : Stage} {s t : Sight} → T ≡ S → fresh_length S ≤ s.len
@@ -145,5 +157,13 @@ carries {S} {T} {file} {requests} true {stage} {s} {t} same long was =
     record { replies = r.replies; printed = r.printed; keeps = r.keeps; ran = (true, r.ran); cause = long; all = λ _. r.all refl; last_is = λ _. r.last_is refl; end = λ _. r.end refl }
 carries {S} {T} {file} {requests} false {stage} {s} {t} same long was =
     let r : FormatsAndServes S file requests false stage s t = subst (λ (z : ℕ). FormatsAndServes z file requests false stage s t) same was in
-    record { replies = r.replies; printed = r.printed; keeps = r.keeps; ran = (false, r.ran); cause = (long, makes_cause r.ran.1);
-      all = λ no. absurd (let never : ⊥ = cc in never); last_is = λ no. absurd (let never : ⊥ = cc in never); end = λ no. absurd (let never : ⊥ = cc in never) }
+    record {
+      replies = r.replies;
+      printed = r.printed;
+      keeps = r.keeps;
+      ran = (false, r.ran);
+      cause = (long, makes_cause r.ran.1);
+      all = λ no. absurd (let never : ⊥ = cc in never);
+      last_is = λ no. absurd (let never : ⊥ = cc in never);
+      end = λ no. absurd (let never : ⊥ = cc in never);
+    }

@@ -24,6 +24,7 @@ few_requests bytes requests is = by_test (is_request_file bytes) (λ t. few t) i
         let short : Bool = nat_le (length bytes) 16777216 in
         let lines : Bool = nat_le (length (lines_of bytes)) 100000 in
         leb-true (length (lines_of bytes)) 100000 (and_parts short lines (and_parts (short && lines) (list_all is_record (lines_of bytes)) t).0).1
+
     by_test : (b : Bool) → (b ≡ true → length (lines_of bytes) ≤ 100000) → cond b (Some (filter_map request_of (lines_of bytes))) None ≡ Some requests → length requests ≤ 100000
     by_test true h is =
         let same : filter_map request_of (lines_of bytes) ≡ requests = cc in

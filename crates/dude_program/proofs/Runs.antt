@@ -1,14 +1,14 @@
 -- A run of `fresh` grows by one request: what one thread did so far, and what the images show.
-use Rattle.std.proofs.Common.{◌≡◌, ℕ, ◌+◌, ◌*◌, ◌<◌, ◌≤◌, Bool, true, false, cond, ◌&&◌, IsTrue, List, [], ◌∷◌, ◌++◌, length, get_or, take, drop, refl, sym, ◌∙◌, ap, subst, arith, inl, inr, ◌⊎◌, max, add-one, Option, Some, None, Result, Ok, Err, is_ok, not, append-nil}
+use Rattle.std.proofs.Common.{◌≡◌, ℕ, ◌+◌, ◌*◌, ◌<◌, ◌≤◌, Bool, true, false, cond, ◌&&◌, IsTrue, List, [], ◌∷◌, ◌++◌, length, get_or, take, drop, refl, sym, ◌∙◌, ap, subst, arith, inl, inr, max, Option, Some, None, Result, Ok, Err, is_ok, not, append-nil}
 use Rattle.std.specs.Prelude.{nat_le, find, OnOk, slice_set}
 use Rattle.std.specs.Option.{option_map_or}
 use Rattle.tatp_model.specs.declared.sub_row.SubRow.{SubRow}
 use Rattle.std.specs.List.{list_any, All, AllPairs, filter}
-use Rattle.std.proofs.lemmas.Bool.{cases_Bool, lt-leb, le-leb}
+use Rattle.std.proofs.lemmas.Bool.{lt-leb}
 use Rattle.std.proofs.lemmas.List.{take_more, take_all, take-append-drop, length-take-le, length-append}
 use Rattle.std.proofs.lemmas.List.Elements.{All-weaker, All-head, All-tail}
 use Rattle.std.proofs.lemmas.List.Sorted.{IsPermutation-refl}
-use Rattle.pmem_trait.specs.Words.{Point, Leaves, IsImage, IsIn}
+use Rattle.pmem_trait.specs.Words.{Point, IsIn}
 use Rattle.pmem_trait.specs.Sights.{Sight, here, Keeps, Ran}
 use Rattle.pmem_trait.proofs.Laws.{keeps_here, keeps_then, keeps_weaker}
 use Rattle.pmem_trait.proofs.Runs.{ran_here, ran_then, makes_later}
@@ -19,20 +19,19 @@ use Rattle.tatp_model.specs.Database.{Database}
 use Rattle.tatp_model.specs.Population.{population}
 use Rattle.tatp_model.specs.Transaction.{Outcome, answers, changes, update_where, has_number, is_subscriber, reply_to, after_request}
 use Rattle.tatp_model.specs.declared.reply.Reply.TheVariants.{Missing, Subscriber}
-use Rattle.tatp_model.specs.OneThread.{is_changed, is_sync, after_number, IsPrintedOrder, HoldsAll, IsFront, Precedes, Replies}
+use Rattle.tatp_model.specs.OneThread.{is_changed, is_sync, after_number, IsPrintedOrder, IsFront, Precedes, Replies}
 use Rattle.tatp_model.proofs.Run.{after_order, after_order-push, after_number-push, after_number-all}
 use Rattle.tatp_model.proofs.Sequential.{Sequential, Sequential-start, IsNext, Sequential-push, Replies-from_sequential}
-use Rattle.dude_text.specs.Command.{Meaning, Meaning.FreshRun}
+use Rattle.dude_text.specs.Command.{Meaning.FreshRun}
 use Rattle.dude_text.specs.RequestFile.{IsServed}
 use Rattle.fresh_image.specs.Fresh.{Rests, fresh_length}
 use Rattle.fresh_image.specs.Layout.{number_limit}
 use Rattle.fresh_image.proofs.UpdateLaw.{rest_images}
 use Rattle.fresh_image.proofs.RowWords.{rows_fit}
 use Rattle.fresh_image.proofs.Lists.{IsIn-drop_push}
-use Rattle.fresh_image.specs.Recovery.{Recovers}
 use Rattle.fresh_image.specs.Rows.{home_words, StandsFor}
-use Rattle.fresh_image.specs.Calls.{AtLeast, Shows, ShowsEither, StepsFrom, RestsTold}
-use Rattle.dude_program.specs.Headline.{last_of, database_after, RecoversTo, RecoversSince}
+use Rattle.fresh_image.specs.Calls.{AtLeast, ShowsEither, StepsFrom, RestsTold}
+use Rattle.dude_program.specs.Headline.{last_of, RecoversTo, RecoversSince}
 use Rattle.dude_program.specs.Serving.{Stage, Idle, Adds, Serves, ServesAll, ShowsStep, opening_stage, changes_it, next_number, next_database}
 
 -- the lists that `fresh` never changes are the population's
@@ -48,10 +47,10 @@ others_cond S false x y h k = k
 -- no request that is served changes them
 pub others_next : (S : ℕ) (stage : Stage) (request : Request) → IsServed request → OthersStay S stage.db → OthersStay S (next_database S stage request)
 others_next S stage (GetSubscriber s_id) served h = h
-others_next S stage (UpdateLocation sub_nbr vlr) served h = 
+others_next S stage (UpdateLocation sub_nbr vlr) served h =
     others_cond S (list_any (has_number sub_nbr) stage.db.subscribers)
-      (changes (record stage.db { subscribers = update_where (has_number sub_nbr) (λ r. record r { vlr = vlr }) stage.db.subscribers })) (answers stage.db Missing)
-      (record { access = h.access; facilities = h.facilities; calls = h.calls }) h
+    (changes (record stage.db { subscribers = update_where (has_number sub_nbr) (λ r. record r { vlr = vlr }) stage.db.subscribers })) (answers stage.db Missing)
+    (record { access = h.access; facilities = h.facilities; calls = h.calls }) h
 others_next S stage (GetDestination a b c d) served h = absurd served
 others_next S stage (GetAccess a b) served h = absurd served
 others_next S stage (UpdateSubscriber a b c d) served h = absurd served
@@ -101,25 +100,29 @@ going_next S front request {stage} {new} served going adds =
     let P : List Done → Type 0 = λ done. Going S (front ++ request ∷ []) (stage_after S stage request done) in
     subst P (sym adds.added) (record {
       run = subst (λ (n : ℕ). Sequential 0 n (12 * S) (population S) (front ++ request ∷ []) (stage.done ++ adds.entry ∷ [])) adds.number
-        (subst (λ (q : Request). Sequential 0 adds.entry.number (12 * S) (population S) (front ++ q ∷ []) (stage.done ++ adds.entry ∷ [])) adds.asked
+          (subst (λ (q : Request). Sequential 0 adds.entry.number (12 * S) (population S) (front ++ q ∷ []) (stage.done ++ adds.entry ∷ [])) adds.asked
           (Sequential-push 0 stage.last (12 * S) (population S) front stage.done adds.entry going.run next));
       db_is = ap (λ (d : Database). after_request (12 * S) d request) going.db_is
-        ∙ (ap (λ (q : Request). after_request (12 * S) (after_order (12 * S) (population S) stage.done) q) (sym adds.asked) ∙ sym (after_order-push (12 * S) (population S) stage.done adds.entry));
+          ∙ (ap (λ (q : Request). after_request (12 * S) (after_order (12 * S) (population S) stage.done) q) (sym adds.asked) ∙ sym (after_order-push (12 * S) (population S) stage.done adds.entry));
       last_is = number_is ∙ sym (last_of-push 0 stage.done adds.entry);
-      others = others_next S stage request served going.others })
-    where
-      db_is : stage.db ≡ after_order (12 * S) (population S) stage.done
-      db_is = going.db_is
-      next : IsNext stage.last (length front) (12 * S) (after_order (12 * S) (population S) stage.done) adds.entry
-      next = record {
-        file = adds.place.0;
-        index = adds.place.1;
-        asked = ap is_sync adds.asked ∙ served_no_sync request served;
-        reply = adds.reply ∙ (ap (λ (d : Database). reply_to (12 * S) d request) db_is ∙ ap (reply_to (12 * S) (after_order (12 * S) (population S) stage.done)) (sym adds.asked));
-        wrote = adds.wrote ∙ ap is_changed (sym adds.reply);
-        number = adds.number ∙ ap (λ (b : Bool). cond b (stage.last + 1) stage.last) (sym adds.wrote) }
-      number_is : next_number S stage request ≡ max (last_of 0 stage.done) adds.entry.number
-      number_is = let l = going.last_is in let n = adds.number in let h = next_from (changes_it S stage.db request) stage.last in omega arith
+      others = others_next S stage request served going.others;
+    })
+  where
+    db_is : stage.db ≡ after_order (12 * S) (population S) stage.done
+    db_is = going.db_is
+
+    next : IsNext stage.last (length front) (12 * S) (after_order (12 * S) (population S) stage.done) adds.entry
+    next = record {
+      file = adds.place.0;
+      index = adds.place.1;
+      asked = ap is_sync adds.asked ∙ served_no_sync request served;
+      reply = adds.reply ∙ (ap (λ (d : Database). reply_to (12 * S) d request) db_is ∙ ap (reply_to (12 * S) (after_order (12 * S) (population S) stage.done)) (sym adds.asked));
+      wrote = adds.wrote ∙ ap is_changed (sym adds.reply);
+      number = adds.number ∙ ap (λ (b : Bool). cond b (stage.last + 1) stage.last) (sym adds.wrote);
+    }
+
+    number_is : next_number S stage request ≡ max (last_of 0 stage.done) adds.entry.number
+    number_is = let l = going.last_is in let n = adds.number in let h = next_from (changes_it S stage.db request) stage.last in omega arith
 
 -- A request with a number past n doesn't count up to n.
 not_counted : (S : ℕ) {index : ℕ} {request : Request} {stage : Stage} {new : List Done} (n : ℕ) → n ≤ stage.last → Adds S index request stage new
@@ -128,12 +131,13 @@ not_counted S {request = request} {stage = stage} n low adds =
     ap (λ (done : List Done). after_number (12 * S) (population S) done n) adds.added
     ∙ (after_number-push (12 * S) (population S) stage.done adds.entry n
     ∙ ap (λ (b : Bool). cond b (after_request (12 * S) (after_number (12 * S) (population S) stage.done n) adds.entry.request) (after_number (12 * S) (population S) stage.done n)) uncounted)
-    where
-      by_change : (b : Bool) (number : ℕ) → number ≡ cond b (stage.last + 1) stage.last → (b && nat_le number n) ≡ false
-      by_change true number is = lt-leb number n (omega arith)
-      by_change false number is = refl
-      uncounted : (adds.entry.wrote && nat_le adds.entry.number n) ≡ false
-      uncounted = ap (λ (b : Bool). b && nat_le adds.entry.number n) adds.wrote ∙ by_change (changes_it S stage.db request) adds.entry.number adds.number
+  where
+    by_change : (b : Bool) (number : ℕ) → number ≡ cond b (stage.last + 1) stage.last → (b && nat_le number n) ≡ false
+    by_change true number is = lt-leb number n (omega arith)
+    by_change false number is = refl
+
+    uncounted : (adds.entry.wrote && nat_le adds.entry.number n) ≡ false
+    uncounted = ap (λ (b : Bool). b && nat_le adds.entry.number n) adds.wrote ∙ by_change (changes_it S stage.db request) adds.entry.number adds.number
 
 -- up to its last number a run's database is the one where it stands
 going_database : {S : ℕ} {front : List Request} {stage : Stage} (n : ℕ) → stage.last ≤ n → Going S front stage → after_number (12 * S) (population S) stage.done n ≡ stage.db
@@ -153,8 +157,12 @@ recovers_more {S} {front} {request} {stage} {new} file before served going adds 
 recovers_more {S} {front} {request} {stage} {new} file before served going adds told image (inr r) =
     let within : r.0 ≤ stage.last = omega (arith, r.2, going.last_is) in
     let after = going_next S front request served going adds in
-    inr (r.0, r.1, omega (arith, within, after.last_is, next_at_least S stage request),
-      subst (λ (db : Database). RecoversTo (FreshRun S file) image r.0 db) (sym (not_counted S r.0 within adds)) r.3)
+    inr (
+      r.0,
+      r.1,
+      omega (arith, within, after.last_is, next_at_least S stage request),
+      subst (λ (db : Database). RecoversTo (FreshRun S file) image r.0 db) (sym (not_counted S r.0 within adds)) r.3,
+    )
 
 -- What an image shows of a step, it shows of the requests with one more.
 recovers_step : {S : ℕ} {front : List Request} {request : Request} {stage : Stage} {new : List Done} (file : List ℕ) (before : ℕ) → IsServed request
@@ -164,8 +172,12 @@ recovers_step {S} {front} {request} {stage} {new} file before served going adds 
     let after = going_next S front request served going adds in
     let db_is : stage.db ≡ after_number (12 * S) (population S) new stage.last = sym (not_counted S stage.last (omega arith) adds ∙ going_database stage.last (omega arith) going) in
     let stands : StandsFor S (home_words S stage.db.subscribers) stage.db = record { rows = refl; access = going.others.access; facilities = going.others.facilities; calls = going.others.calls } in
-    inr (stage.last, shows.1, omega (arith, after.last_is, next_at_least S stage request),
-      subst (λ (db : Database). RecoversTo (FreshRun S file) image stage.last db) db_is (home_words S stage.db.subscribers, shows.0, stands))
+    inr (
+      stage.last,
+      shows.1,
+      omega (arith, after.last_is, next_at_least S stage request),
+      subst (λ (db : Database). RecoversTo (FreshRun S file) image stage.last db) db_is (home_words S stage.db.subscribers, shows.0, stands),
+    )
 recovers_step {S} {front} {request} {stage} {new} file before served going adds told image (inr shows) =
     let after = going_next S front request served going adds in
     let number_is : next_number S stage request ≡ stage.last + 1 = rw shows.0 refl in
@@ -173,39 +185,47 @@ recovers_step {S} {front} {request} {stage} {new} file before served going adds 
     let others = after.others in
     let db_is : db ≡ after_number (12 * S) (population S) new (stage.last + 1) = sym (going_database (stage.last + 1) (omega (arith, number_is)) after) in
     let stands : StandsFor S (home_words S db.subscribers) db = record { rows = refl; access = others.access; facilities = others.facilities; calls = others.calls } in
-    inr (stage.last + 1, shows.1.1, omega (arith, after.last_is, number_is),
-      subst (λ (x : Database). RecoversTo (FreshRun S file) image (stage.last + 1) x) db_is (home_words S db.subscribers, shows.1.0, stands))
+    inr (
+      stage.last + 1,
+      shows.1.1,
+      omega (arith, after.last_is, number_is),
+      subst (λ (x : Database). RecoversTo (FreshRun S file) image (stage.last + 1) x) db_is (home_words S db.subscribers, shows.1.0, stands),
+    )
 
 -- A run whose stage has other requests noted, and is else as it was.
 pub idle_same : {S before : ℕ} {old new : Stage} {p : Point} → new.last ≡ old.last → new.db ≡ old.db → Idle S before old p → Idle S before new p
 idle_same {S} {before} {old} {new} {p} last db idle = record {
-    rests = subst (λ (d : Database). Rests S new.last (home_words S d.subscribers) p) (sym db) (subst (λ (n : ℕ). Rests S n (home_words S old.db.subscribers) p) (sym last) idle.rests);
-    floor = subst (λ (n : ℕ). AtLeast before p.told n) (sym last) idle.floor;
-    told = subst (λ (n : ℕ). (front : List ℕ) × (p.told ≡ front ++ n ∷ []) × (before ≤ length front)) (sym last) idle.told }
+  rests = subst (λ (d : Database). Rests S new.last (home_words S d.subscribers) p) (sym db) (subst (λ (n : ℕ). Rests S n (home_words S old.db.subscribers) p) (sym last) idle.rests);
+  floor = subst (λ (n : ℕ). AtLeast before p.told n) (sym last) idle.floor;
+  told = subst (λ (n : ℕ). (front : List ℕ) × (p.told ≡ front ++ n ∷ []) × (before ≤ length front)) (sym last) idle.told;
+}
 
 -- A request that changes nothing makes no call.
 pub serves_unchanged : (S index : ℕ) (request : Request) (old new : Stage) (s : Sight) → 1 ≤ S → S ≤ 10000 → fresh_length S ≤ s.len → old.last ≤ number_limit
     → changes_it S old.db request ≡ false → next_database S old request ≡ old.db → new.last ≡ old.last → new.db ≡ old.db → Adds S index request old new.done
     → Serves S index request true old new s s
 serves_unchanged S index request old new s low high long small unchanged db_is last_same db_same adds = record {
-    adds = adds;
-    moves = (last_same ∙ ap (λ (b : Bool). cond b (old.last + 1) old.last) (sym unchanged), db_same ∙ sym db_is);
-    idle = λ ok before tells idle. idle_same last_same db_same idle;
-    images = λ before idle. keeps_here (ShowsStep S before old request) (λ tells. let i = idle tells in
-        record { each = λ image is. inl (rest_images low high long small i.rests image is, i.floor) });
-    ran = ran_here s }
+  adds = adds;
+  moves = (last_same ∙ ap (λ (b : Bool). cond b (old.last + 1) old.last) (sym unchanged), db_same ∙ sym db_is);
+  idle = λ ok before tells idle. idle_same last_same db_same idle;
+  images = λ before idle. keeps_here (ShowsStep S before old request) (λ tells. let i = idle tells in
+      record { each = λ image is. inl (rest_images low high long small i.rests image is, i.floor) });
+  ran = ran_here s;
+}
 
 -- an update whose number is told leaves the medium idle
 pub idle_next : {S before : ℕ} {old new : Stage} {p q : Point} → new.last ≡ old.last + 1 → RestsTold S new.last (home_words S new.db.subscribers) p q → Idle S before old p → Idle S before new q
 idle_next {S} {before} {old} {new} {p} {q} next rests idle = record {
-    rests = rests.0;
-    floor = λ x is. elim (IsIn-drop_push before x new.last p.told (subst (λ (told : List ℕ). IsIn x (drop before told)) rests.1 is)) [
-        inl earlier ↦ (let h = idle.floor x earlier in omega arith)
-      | inr now ↦ omega arith ];
-    told = (p.told, rests.1, longer) }
-    where
-      longer : before ≤ length p.told
-      longer = omega (arith, idle.told.2, ap length idle.told.1, length-append idle.told.0 (old.last ∷ []))
+  rests = rests.0;
+  floor = λ x is. elim (IsIn-drop_push before x new.last p.told (subst (λ (told : List ℕ). IsIn x (drop before told)) rests.1 is)) [
+    | inl earlier ↦ (let h = idle.floor x earlier in omega arith)
+    | inr now ↦ omega arith
+  ];
+  told = (p.told, rests.1, longer);
+}
+  where
+    longer : before ≤ length p.told
+    longer = omega (arith, idle.told.2, ap length idle.told.1, length-append idle.told.0 (old.last ∷ []))
 
 -- An update makes the calls that log it.
 pub serves_changed : (S index : ℕ) (request : Request) (ok : Bool) (old new : Stage) (s t : Sight) → changes_it S old.db request ≡ true
@@ -214,16 +234,17 @@ pub serves_changed : (S index : ℕ) (request : Request) (ok : Bool) (old new : 
     → (ok ≡ true → IsTrue s.tells → Rests S old.last (home_words S old.db.subscribers) (here s) → RestsTold S new.last (home_words S new.db.subscribers) (here s) (here t))
     → Ran ok s t → Serves S index request ok old new s t
 serves_changed S index request ok old new s t changes next db_is adds images rests ran = record {
-    adds = adds;
-    moves = (next ∙ ap (λ (b : Bool). cond b (old.last + 1) old.last) (sym changes), db_is);
-    idle = λ done before tells idle. idle_next next (rests done tells idle.rests) idle;
-    images = λ before idle. keeps_weaker (λ told image size either. step before told image either) (images before idle);
-    ran = ran }
-    where
-      step : (before : ℕ) (told image : List ℕ) → ShowsEither before old.last (home_words S old.db.subscribers) (home_words S (next_database S old request).subscribers) told image
-          → ShowsStep S before old request told image
-      step before told image (inl shows) = inl shows
-      step before told image (inr shows) = inr (changes, shows)
+  adds = adds;
+  moves = (next ∙ ap (λ (b : Bool). cond b (old.last + 1) old.last) (sym changes), db_is);
+  idle = λ done before tells idle. idle_next next (rests done tells idle.rests) idle;
+  images = λ before idle. keeps_weaker (λ told image size either. step before told image either) (images before idle);
+  ran = ran;
+}
+  where
+    step : (before : ℕ) (told image : List ℕ) → ShowsEither before old.last (home_words S old.db.subscribers) (home_words S (next_database S old request).subscribers) told image
+        → ShowsStep S before old request told image
+    step before told image (inl shows) = inl shows
+    step before told image (inr shows) = inr (changes, shows)
 
 -- no look changes the database
 pub look_unchanged : (limit : ℕ) (db : Database) (s_id : ℕ) → is_changed (reply_to limit db (GetSubscriber s_id)) ≡ false
@@ -247,19 +268,20 @@ pub serves_logged : (S T index number at vlr : ℕ) (request : Request) (ok : Bo
     → Ran ok s t → Serves S index request ok old new s t
 serves_logged S T index number at vlr request ok old new s t same changes next number_is db_is adds inside home images rests ran =
     serves_changed S index request ok old new s t changes next db_is adds
-      (λ before idle. subst (λ (h : List ℕ). Keeps (ShowsEither before old.last old_home h) s t) (home ∙ ap (λ (d : Database). home_words S d.subscribers) db_is)
-        (images before old.last old_home (sym next ∙ sym number_is) (λ tells. let i = idle tells in
-          subst (λ (z : ℕ). StepsFrom z before old.last old_home at (here s)) (sym same) (there i.rests, i.rests, i.floor))))
-      (λ done tells r. subst (λ (h : List ℕ). RestsTold S new.last h (here s) (here t)) home
-        (subst (λ (n : ℕ). RestsTold S n (slice_set old_home at vlr) (here s) (here t)) number_is
-        (subst (λ (z : ℕ). RestsTold z number (slice_set old_home at vlr) (here s) (here t)) same
-          (rests done old.last old_home (sym next ∙ sym number_is) (there r) tells (subst (λ (z : ℕ). Rests z old.last old_home (here s)) (sym same) r)))))
-      ran
-    where
-      old_home : List ℕ
-      old_home = home_words S old.db.subscribers
-      there : Rests S old.last old_home (here s) → at < length old_home
-      there r = omega (arith, r.count, rows_fit S)
+    (λ before idle. subst (λ (h : List ℕ). Keeps (ShowsEither before old.last old_home h) s t) (home ∙ ap (λ (d : Database). home_words S d.subscribers) db_is)
+    (images before old.last old_home (sym next ∙ sym number_is) (λ tells. let i = idle tells in
+    subst (λ (z : ℕ). StepsFrom z before old.last old_home at (here s)) (sym same) (there i.rests, i.rests, i.floor))))
+    (λ done tells r. subst (λ (h : List ℕ). RestsTold S new.last h (here s) (here t)) home
+    (subst (λ (n : ℕ). RestsTold S n (slice_set old_home at vlr) (here s) (here t)) number_is
+    (subst (λ (z : ℕ). RestsTold z number (slice_set old_home at vlr) (here s) (here t)) same
+    (rests done old.last old_home (sym next ∙ sym number_is) (there r) tells (subst (λ (z : ℕ). Rests z old.last old_home (here s)) (sym same) r)))))
+    ran
+  where
+    old_home : List ℕ
+    old_home = home_words S old.db.subscribers
+
+    there : Rests S old.last old_home (here s) → at < length old_home
+    there r = omega (arith, r.count, rows_fit S)
 
 -- A list of requests without `SYNC` that is sorted is its own printed order.
 own_order : (done : List Done) → All (λ d. is_sync d.request ≡ false) done → AllPairs Precedes done → IsPrintedOrder done done
@@ -282,13 +304,24 @@ pub record GoesOn (S i : ℕ) (requests : List Request) (stage : Stage) (s t : S
 -- nothing was carried out yet
 pub goes_none : (S : ℕ) (requests : List Request) (s : Sight) → 1 ≤ S → S ≤ 10000 → fresh_length S ≤ s.len → GoesOn S 0 requests (opening_stage S) s s
 goes_none S requests s low high long = record {
-    going = going_none S;
-    few = omega arith;
-    kept = λ file before idle. keeps_here (RecoversSince before (FreshRun S file) []) (λ tells. let i = idle tells in
-        record { each = λ image is. inr (0, i.floor, omega arith, (home_words S (population S).subscribers, rest_images low high long (omega arith) i.rests image is,
-          record { rows = refl; access = refl; facilities = refl; calls = refl })) });
-    idle = λ before tells idle. idle;
-    ran = ran_here s }
+  going = going_none S;
+  few = omega arith;
+  kept = λ file before idle. keeps_here (RecoversSince before (FreshRun S file) []) (λ tells. let i = idle tells in
+      record {
+        each = λ image is. inr (
+          0,
+          i.floor,
+          omega arith,
+          (
+            home_words S (population S).subscribers,
+            rest_images low high long (omega arith) i.rests image is,
+            record { rows = refl; access = refl; facilities = refl; calls = refl },
+          ),
+        );
+      });
+  idle = λ before tells idle. idle;
+  ran = ran_here s;
+}
 
 -- the medium tells its states as it did
 pub still_tells : {ok : Bool} {s t : Sight} → Ran ok s t → IsTrue t.tells → IsTrue s.tells
@@ -301,8 +334,8 @@ kept_more : {S i : ℕ} {requests : List Request} {request : Request} {ok : Bool
 kept_more {S} {i} {requests} {request} {old = old} {new = new} below served goes step file before idle =
     let adds : Adds S (length (take i requests)) request old new.done = subst (λ (n : ℕ). Adds S n request old new.done) (sym (length-take-le i requests below)) step.adds in
     keeps_then (keeps_weaker (λ told image size shown. recovers_more file before served goes.going adds told image shown) (goes.kept file before idle))
-      (keeps_weaker (λ told image size shown. recovers_step file before served goes.going adds told image shown)
-        (step.images before (λ tells. let was = still_tells goes.ran tells in goes.idle before was (idle was))))
+    (keeps_weaker (λ told image size shown. recovers_step file before served goes.going adds told image shown)
+    (step.images before (λ tells. let was = still_tells goes.ran tells in goes.idle before was (idle was))))
 
 -- where the run stands after a step
 stage_is : {S i : ℕ} {request : Request} {ok : Bool} {old new : Stage} {s t : Sight} → Serves S i request ok old new s t → stage_after S old request new.done ≡ new
@@ -326,11 +359,12 @@ pub goes_next : {S T i : ℕ} {requests : List Request} (d : Request) {old new :
     → GoesOn S i requests old s t → Serves T i (get_or requests i d) true old new t u → GoesOn S (i + 1) requests new s u
 goes_next {S} {T} {i} {requests} d {old} {new} {s} {t} {u} same below served goes was =
     let step : Serves S i (get_or requests i d) true old new t u = subst (λ (z : ℕ). Serves z i (get_or requests i d) true old new t u) same was in record {
-    going = subst (λ (front : List Request). Going S front new) (sym (take_more requests i d below)) (going_more (omega arith) served goes step);
-    few = omega (arith, goes.few, step.moves.0, number_grows (changes_it S old.db (get_or requests i d)) old.last);
-    kept = kept_more (omega arith) served goes step;
-    idle = λ before tells idle. step.idle refl before (subst (λ (b : Bool). IsTrue b) (sym (makes_later goes.ran.1).tells) tells) (goes.idle before tells idle);
-    ran = ran_then goes.ran step.ran }
+      going = subst (λ (front : List Request). Going S front new) (sym (take_more requests i d below)) (going_more (omega arith) served goes step);
+      few = omega (arith, goes.few, step.moves.0, number_grows (changes_it S old.db (get_or requests i d)) old.last);
+      kept = kept_more (omega arith) served goes step;
+      idle = λ before tells idle. step.idle refl before (subst (λ (b : Bool). IsTrue b) (sym (makes_later goes.ran.1).tells) tells) (goes.idle before tells idle);
+      ran = ran_then goes.ran step.ran;
+    }
 
 -- what is said of the whole, where a front of the requests is done
 pub serves_front : {S : ℕ} {front requests : List Request} {stage : Stage} → Going S front stage → IsFront front requests
@@ -356,7 +390,8 @@ goes_stops {S} {T} {i} {requests} d {old} {new} {s} {t} {u} file same below serv
       idle = λ no. absurd (let never : ⊥ = cc in never);
       within = λ no. absurd (let never : ⊥ = cc in never);
       small = λ no. absurd (let never : ⊥ = cc in never);
-      others = λ no. absurd (let never : ⊥ = cc in never) }
+      others = λ no. absurd (let never : ⊥ = cc in never);
+    }
 
 -- All requests were carried out.
 pub goes_ends : {S i : ℕ} {requests : List Request} {stage : Stage} {s t : Sight} (file : List ℕ) → length requests ≤ i → stage.last ≤ number_limit → GoesOn S i requests stage s t → ServesAll S file requests true stage s t
@@ -374,4 +409,5 @@ goes_ends {S} {i} {requests} {stage} file past small goes =
       idle = λ _. goes.idle;
       within = λ _. going.run.within;
       small = λ _. small;
-      others = λ _. (going.others.access, going.others.facilities, going.others.calls) }
+      others = λ _. (going.others.access, going.others.facilities, going.others.calls);
+    }

@@ -4,9 +4,9 @@ use Rattle.pmem_trait.specs.Sights.{Sight, Risen}
 use Rattle.tatp_model.specs.declared.done.Done.{Done}
 use Rattle.tatp_model.specs.declared.request.Request.{Request}
 use Rattle.dude_text.specs.declared.fault.Fault.{Fault}
-use Rattle.dude_text.specs.declared.fault.Fault.TheVariants.{Usage, File, Text, Small, TooFew, Unformatted, Damaged, NotDb, ManyFiles, Frames, FewSubscribers, Numbers, Device, Output, Memory}
+use Rattle.dude_text.specs.declared.fault.Fault.TheVariants.{Usage, File, Text, Small, Device, Output, Memory}
 use Rattle.dude_text.specs.Fault.{status_of}
-use Rattle.dude_text.specs.Command.{Meaning, Meaning.FreshRun, meaning_of}
+use Rattle.dude_text.specs.Command.{Meaning, Meaning.FreshRun}
 use Rattle.dude_io.specs.Files.{FilesSight}
 use Rattle.dude_io.specs.Sink.{SinkSight}
 use Rattle.fresh_image.specs.Fresh.{fresh_length}

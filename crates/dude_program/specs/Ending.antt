@@ -1,6 +1,6 @@
 -- All that is said of how a command ended, as one record.
-use Rattle.std.specs.Prelude.{◌≡◌, ◌⊎◌, ◌↔◌, ℕ, Bool, Option, Some, None, List, []}
-use Rattle.pmem_trait.specs.Sights.{Sight, Ran}
+use Rattle.std.specs.Prelude.{◌≡◌, ◌⊎◌, ◌↔◌, Bool, Option, Some, None, List, []}
+use Rattle.pmem_trait.specs.Sights.{Ran}
 use Rattle.tatp_model.specs.declared.done.Done.{Done}
 use Rattle.dude_text.specs.declared.fault.Fault.{Fault}
 use Rattle.dude_text.specs.declared.fault.Fault.TheVariants.{Usage}

@@ -3,7 +3,7 @@
 -- crash may leave recovers to the database after a prefix of that order, with everything up to the last number told as
 -- durable.
 use Rattle.std.specs.Prelude.{◌≡◌, ◌⊎◌, ℕ, ◌≤◌, max, IsTrue, List, [], ◌∷◌, ◌++◌, drop, take, length, fold, All}
-use Rattle.pmem_trait.specs.Words.{Point, Leaves}
+use Rattle.pmem_trait.specs.Words.{Leaves}
 use Rattle.pmem_trait.specs.Sights.{Sight, Keeps, here}
 use Rattle.tatp_model.specs.declared.done.Done.{Done}
 use Rattle.tatp_model.specs.declared.request.Request.{Request}
@@ -17,7 +17,7 @@ use Rattle.dude_io.specs.Sink.{SinkSight}
 use Rattle.fresh_image.specs.Recovery.{Recovers}
 use Rattle.fresh_image.specs.Rows.{StandsFor}
 use Rattle.fresh_image.specs.Calls.{AtLeast}
-use Rattle.dude_program.specs.Opening.{Opening, opening_of, FilesMean}
+use Rattle.dude_program.specs.Opening.{opening_of, FilesMean}
 
 -- Replies: some files, which are the command's where that is told, have these requests done, each file's first ones in
 -- its order, each once; and the replies are those of one thread along the printed order.
@@ -49,7 +49,7 @@ RecoversTo (FreshRun subscribers file) image number db =
 abbrev pub RecoversSince : ℕ → Meaning → List Done → List ℕ → List ℕ → Type 0
 RecoversSince before meaning order told image =
     (drop before told ≡ []) ⊎ ((n : ℕ) × AtLeast before told n × (n ≤ last_of (opening_of meaning).number order)
-      × RecoversTo meaning image n (database_after meaning order n))
+    × RecoversTo meaning image n (database_after meaning order n))
 
 -- Crash: at each moment of the call each image that a crash may leave recovers so, along the printed order.
 pub record Crash (meaning : Meaning) (done : List Done) (s t : Sight) : Type 0 where

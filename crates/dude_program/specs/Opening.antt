@@ -1,5 +1,5 @@
 -- What a command starts from, and the requests that it runs.
-use Rattle.std.specs.Prelude.{◌≡◌, ℕ, ◌*◌, Option, Some, None, IsTrue, List, [], ◌∷◌}
+use Rattle.std.specs.Prelude.{◌≡◌, ℕ, ◌*◌, Some, None, List, [], ◌∷◌}
 use Rattle.tatp_model.specs.declared.request.Request.{Request}
 use Rattle.tatp_model.specs.Database.{Database}
 use Rattle.tatp_model.specs.Population.{population}

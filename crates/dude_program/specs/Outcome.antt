@@ -1,5 +1,5 @@
 -- What became of a plan: what is done, the last number, and the fault, if any.
-use Rattle.std.specs.Prelude.{◌≡◌, ℕ, ◌<◌, ◌≤◌, ◌*◌, ⊤, Bool, true, false, Option, Some, None, IsTrue, List, [], ◌∷◌, length}
+use Rattle.std.specs.Prelude.{◌≡◌, ℕ, ◌<◌, ◌≤◌, ◌*◌, Bool, true, false, Option, Some, None, IsTrue, List, [], ◌∷◌, length}
 use Rattle.pmem_trait.specs.Sights.{Sight, here, Keeps, Ran, Risen}
 use Rattle.tatp_model.specs.declared.done.Done.{Done}
 use Rattle.tatp_model.specs.declared.request.Request.{Request}
@@ -8,7 +8,7 @@ use Rattle.tatp_model.specs.OneThread.{HoldsAll, IsPrintedOrder}
 use Rattle.tatp_model.specs.OneThread.{Replies as RepliesAreOneThreads}
 use Rattle.dude_text.specs.declared.fault.Fault.{Fault}
 use Rattle.dude_text.specs.declared.fault.Fault.TheVariants.{Small, Device, Memory}
-use Rattle.dude_text.specs.Command.{Meaning, Meaning.FreshRun}
+use Rattle.dude_text.specs.Command.{Meaning.FreshRun}
 use Rattle.fresh_image.specs.Fresh.{fresh_length}
 use Rattle.dude_program.specs.Headline.{last_of, RecoversSince, End}
 use Rattle.dude_program.specs.Serving.{Stage}

@@ -3,7 +3,7 @@ use Rattle.std.specs.Prelude.{◌≡◌, ℕ, ◌≤◌, ⊤, Option, Some, None
 use Rattle.pmem_trait.specs.Sights.{Risen}
 use Rattle.tatp_model.specs.declared.request.Request.{Request}
 use Rattle.dude_text.specs.declared.fault.Fault.{Fault}
-use Rattle.dude_text.specs.declared.fault.Fault.TheVariants.{Usage, File, Text, Small, TooFew, Unformatted, Damaged, NotDb, ManyFiles, Frames, FewSubscribers, Numbers, Device, Output, Memory}
+use Rattle.dude_text.specs.declared.fault.Fault.TheVariants.{Usage, File, Text, Memory}
 use Rattle.dude_text.specs.Command.{Meaning, Meaning.FreshRun}
 use Rattle.dude_text.specs.RequestFile.{requests_of, AreServed}
 use Rattle.dude_io.specs.Files.{FilesSight}

@@ -1,6 +1,6 @@
 -- Where a run stands, as its fields say.
 use Rattle.std.specs.Prelude.{◌≡◌, ℕ, ◌+◌, vec_len, vec_capacity}
-use Rattle.fresh_image.specs.Store.{count_of, database_of}
+use Rattle.fresh_image.specs.Store.{database_of}
 use Rattle.dude_program.specs.declared.run.Run.{Run}
 use Rattle.dude_program.specs.Serving.{Stage}
 

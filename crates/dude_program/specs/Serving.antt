@@ -9,7 +9,7 @@ use Rattle.tatp_model.specs.Population.{population}
 use Rattle.tatp_model.specs.Transaction.{reply_to, after_request}
 use Rattle.tatp_model.specs.OneThread.{is_changed, HoldsAll, IsPrintedOrder}
 use Rattle.tatp_model.specs.OneThread.{Replies as RepliesAreOneThreads}
-use Rattle.dude_text.specs.Command.{Meaning, Meaning.FreshRun}
+use Rattle.dude_text.specs.Command.{Meaning.FreshRun}
 use Rattle.fresh_image.specs.Layout.{number_limit}
 use Rattle.fresh_image.specs.Fresh.{Rests}
 use Rattle.fresh_image.specs.Rows.{home_words}
@@ -56,7 +56,7 @@ abbrev pub ShowsStep : ℕ → ℕ → Stage → Request → List ℕ → List �
 ShowsStep subscribers before stage request told image =
     Shows before stage.last (home_words subscribers stage.db.subscribers) told image
     ⊎ (IsTrue (changes_it subscribers stage.db request)
-      × Shows before (stage.last + 1) (home_words subscribers (next_database subscribers stage request).subscribers) told image)
+    × Shows before (stage.last + 1) (home_words subscribers (next_database subscribers stage request).subscribers) told image)
 
 -- One request was carried out, or the medium failed on the way.
 pub record Serves (subscribers index : ℕ) (request : Request) (ok : Bool) (old new : Stage) (s t : Sight) : Type 0 where

@@ -13,10 +13,9 @@ mod top;
 
 use dude_io::{EdgeFault, FilePmem, RealFiles, RealSink};
 use dude_text::{Fault, fault_text};
-use std::env;
-use std::io;
 use std::process::ExitCode;
 use std::rc::RcStr;
+use std::{env, io};
 use top::dude;
 
 /// What `--help` prints.

@@ -37,7 +37,12 @@ fn format_and_serve<M: Medium>(m: &mut M, run: &mut Run, requests: &[Request]) -
 }
 
 /// Formats a medium for so many subscribers and carries out the requests. A medium that is too short is left alone.
-pub fn carry_out<M: Medium>(alloc: Global, subscribers: u64, requests: &[Request], m: &mut M) -> Outcome
+pub fn carry_out<M: Medium>(
+    alloc: Global,
+    subscribers: u64,
+    requests: &[Request],
+    m: &mut M,
+) -> Outcome
     requires some { 1 ≤ subscribers }
     requires limited { subscribers ≤ 10000 }
     requires few { length requests.now ≤ 100000 }

@@ -43,7 +43,11 @@ fn read_bytes<F: Files>(alloc: Global, name: &str, files: &mut F) -> Result<Vec<
 }
 
 /// The requests of the file of this name.
-fn read_own_requests<F: Files>(alloc: Global, name: &str, files: &mut F) -> Result<Vec<Request>, Fault>
+fn read_own_requests<F: Files>(
+    alloc: Global,
+    name: &str,
+    files: &mut F,
+) -> Result<Vec<Request>, Fault>
     ensures stays { FilesStay (F.sight files.old) (F.sight files.new) }
     ensures read { IfOk result (λ requests. IsTrue (F.sight files.old).tells → HasRequests (F.sight files.old) name.now requests.items) }
     ensures served { IfOk result (λ requests. AreServed requests.items) }

@@ -28,7 +28,7 @@ power_room base number digit k count low small d below fits =
 pub digits_next : (start base from count done number : ℕ) → done < count
     → number ≡ from_digits base (map (λ i. (start + i) % base) (range_with_len (from + (count - done)) done))
     → number * base + (start + (from + (count - 1 - done))) % base
-      ≡ from_digits base (map (λ i. (start + i) % base) (range_with_len (from + (count - (done + 1))) (done + 1)))
+    ≡ from_digits base (map (λ i. (start + i) % base) (range_with_len (from + (count - (done + 1))) (done + 1)))
 digits_next start base from count done number below is =
     let same : from + (count - 1 - done) ≡ from + (count - (done + 1)) = omega arith in
     let next : from + (count - done) ≡ from + (count - (done + 1)) + 1 = omega arith in

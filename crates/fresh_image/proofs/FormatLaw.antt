@@ -1,20 +1,18 @@
 -- The law of the format's calls: from the moment that 0 is told on, each image recovers to 0 and the home words.
-use Rattle.std.proofs.Common.{◌≡◌, ◌≢◌, ℕ, zero, suc, ◌+◌, ◌-◌, ◌*◌, ◌/◌, ◌<◌, ◌≤◌, List, [], ◌∷◌, ◌++◌, length, replicate, refl, sym, ◌∙◌, ap, arith, inl, inr, ◌⊎◌, subst, eq-eqb, ne_eqb}
+use Rattle.std.proofs.Common.{◌≡◌, ℕ, zero, suc, ◌+◌, ◌-◌, ◌/◌, ◌<◌, ◌≤◌, List, [], ◌∷◌, ◌++◌, length, replicate, refl, sym, ◌∙◌, ap, arith, inl, inr, ◌⊎◌, subst, eq-eqb, ne_eqb}
 use Rattle.std.proofs.lemmas.Bool.{cases_eq}
 use Rattle.std.proofs.lemmas.List.{length-append, length-replicate, get_or-replicate, get_or_append_left, get_or-append_right}
 use Rattle.std.specs.Prelude.{slice_index}
 use Rattle.std.specs.List.{range_with_len, enumerate_from}
-use Rattle.pmem_trait.specs.declared.call.Call.{Call}
 use Rattle.pmem_trait.specs.declared.call.Call.TheVariants.{Tell}
 use Rattle.pmem_trait.specs.Words.{newest, Point, IsIn, IsSettled, still, after, after_all, Leaves, Along, end, more}
-use Rattle.pmem_trait.specs.Groups.{group_calls, OldOrNew, written, final}
+use Rattle.pmem_trait.specs.Groups.{group_calls, written, final}
 use Rattle.pmem_trait.proofs.GroupLaw.{group_law, group_word, group_told}
 use Rattle.pmem_trait.proofs.Laws.{along_then, after_all_then}
-use Rattle.fresh_image.specs.Layout.{magic, number_limit, sizes_of, home_of}
-use Rattle.fresh_image.specs.Recovery.{Recovers}
-use Rattle.fresh_image.specs.Fresh.{Rests, fresh_header, fresh_home_length, fresh_home_start, fresh_length}
+use Rattle.fresh_image.specs.Layout.{magic}
+use Rattle.fresh_image.specs.Fresh.{Rests, fresh_header, fresh_home_length, fresh_length}
 use Rattle.fresh_image.specs.FormatCalls.{clear_cells, content_writes, content_lines, header_writes, magic_write, format_calls, ShowsOnceTold}
-use Rattle.fresh_image.proofs.Groups.{Within, written-outside, kept, left}
+use Rattle.fresh_image.proofs.Groups.{Within, written-outside, left}
 use Rattle.fresh_image.proofs.UpdateLaw.{rest_images}
 
 -- a number of a range is in its list
@@ -33,7 +31,7 @@ written-enumerate from [] j below = absurd (omega arith)
 written-enumerate from (v ∷ vs) zero below =
     let e : from + 0 ≡ from = omega arith in
     rw (e, eq-eqb from from refl) (ap (λ (l : List ℕ). v ∷ l) (written-outside (from + 1) (from + 1 + length vs) _ from
-      (within-enumerate (from + 1) vs _ _ (omega arith) (omega arith)) (inl (omega arith))))
+    (within-enumerate (from + 1) vs _ _ (omega arith) (omega arith)) (inl (omega arith))))
 written-enumerate from (v ∷ vs) (suc j) below =
     let e : from + suc j ≡ from + 1 + j = omega arith in
     rw (e, ne_eqb (from + 1 + j) from (λ q. omega arith)) (written-enumerate (from + 1) vs j (omega arith))
@@ -65,14 +63,17 @@ content_word : (S : ℕ) (home : List ℕ) (p : Point) (j x : ℕ) → length ho
 content_word S home p j x count below is =
     group_word (content_writes home) (content_lines S) p (16 + j) x is (inr (IsIn-range 1 (fresh_length S / 8 - 1) ((16 + j) / 8) (omega arith) (omega (arith, count))))
     ∙ ap (λ (l : List ℕ). still (newest x l)) written_is
-    where
-      written_is : written (content_writes home) (16 + j) ≡ slice_index (clear_cells ++ home) j ∷ []
-      written_is = rw (ne_eqb (16 + j) 8 (λ e. omega arith)) (written-enumerate 16 (clear_cells ++ home) j (omega (arith, length-append clear_cells home, length-clear_cells)))
+  where
+    written_is : written (content_writes home) (16 + j) ≡ slice_index (clear_cells ++ home) j ∷ []
+    written_is = rw (ne_eqb (16 + j) 8 (λ e. omega arith)) (written-enumerate 16 (clear_cells ++ home) j (omega (arith, length-append clear_cells home, length-clear_cells)))
 
 -- the places of the contents
 within_contents : (S : ℕ) (home : List ℕ) → length home ≡ fresh_home_length S → Within 8 (fresh_length S) (content_writes home)
-within_contents S home count = (omega arith, omega arith,
-    within-enumerate 16 (clear_cells ++ home) 8 (fresh_length S) (omega arith) (omega (arith, length-append clear_cells home, length-clear_cells, count)))
+within_contents S home count = (
+  omega arith,
+  omega arith,
+  within-enumerate 16 (clear_cells ++ home) 8 (fresh_length S) (omega arith) (omega (arith, length-append clear_cells home, length-clear_cells, count)),
+)
 
 -- the medium after each group of the format
 abbrev after_clear : Point → Point
@@ -88,8 +89,23 @@ abbrev after_magic : Point → Point
 after_magic p = after_all (group_calls (magic_write magic) (0 ∷ [])) p
 
 within_header : (S : ℕ) → Within 1 8 (header_writes S)
-within_header S = (omega arith, omega arith, (omega arith, omega arith, (omega arith, omega arith, (omega arith, omega arith,
-    (omega arith, omega arith, (omega arith, omega arith, (omega arith, omega arith, tt)))))))
+within_header S = (
+  omega arith,
+  omega arith,
+  (
+    omega arith,
+    omega arith,
+    (
+      omega arith,
+      omega arith,
+      (
+        omega arith,
+        omega arith,
+        (omega arith, omega arith, (omega arith, omega arith, (omega arith, omega arith, tt))),
+      ),
+    ),
+  ),
+)
 
 -- nothing is told by the groups
 told1 : (p : Point) → (after_clear p).told ≡ p.told
@@ -108,58 +124,68 @@ formatted_told S home p = group_told (magic_write magic) (0 ∷ []) (after_heade
 formatted_rests : (S : ℕ) (home : List ℕ) (p : Point) → length home ≡ fresh_home_length S → IsSettled p
     → Rests S 0 home (after_magic (after_header S (after_contents S home (after_clear p))))
 formatted_rests S home p count settled = record {
-      header = header;
-      mark = last 8 0 (inr (omega arith)) (left 1 8 p2 (header_writes S) (0 ∷ []) (within_header S) 8 _ (inr (omega arith)) mark2);
-      head = (0, omega arith, far 16 (omega arith) (omega arith) (omega arith));
-      body = λ k from below. (0, far k (omega arith) (omega arith) (omega arith));
-      cells = λ k from below. far k (omega arith) (omega arith) (omega arith);
-      count = count;
-      words = λ k below. past (144 + k) _ (omega arith) (subst (λ (i : ℕ). p2.word i ≡ still (slice_index (clear_cells ++ home) (128 + k))) (omega arith) (content_word S home p1 (128 + k) _ count (omega arith) (at_first (16 + (128 + k)) (omega arith)).1)
-          ∙ ap still (home_value home k));
-    }
-    where
-      p1 : Point
-      p1 = after_clear p
-      p2 : Point
-      p2 = after_contents S home p1
-      p3 : Point
-      p3 = after_header S p2
-      -- a word behind the first is settled after the first group
-      at_first : (k : ℕ) → 1 ≤ k → (x : ℕ) × (p1.word k ≡ still x)
-      at_first k from = let s = settled k in (s.0, left 0 1 p (magic_write 0) (0 ∷ []) (omega arith, omega arith, tt) k s.0 (inr from) s.1)
-      last : (k x : ℕ) → (k < 0) ⊎ (1 ≤ k) → p3.word k ≡ still x → (after_magic p3).word k ≡ still x
-      last k x out is = left 0 1 p3 (magic_write magic) (0 ∷ []) (omega arith, omega arith, tt) k x out is
-      past : (k x : ℕ) → 8 ≤ k → p2.word k ≡ still x → (after_magic p3).word k ≡ still x
-      past k x from is = last k x (inr (omega arith)) (left 1 8 p2 (header_writes S) (0 ∷ []) (within_header S) k x (inr from) is)
-      mark2 : p2.word 8 ≡ still 0
-      mark2 =
-          let s = at_first 8 (omega arith) in
-          let w : written (content_writes home) 8 ≡ 0 ∷ [] = ap (λ (l : List ℕ). 0 ∷ l) (written-outside 16 (fresh_length S) (enumerate_from 16 (clear_cells ++ home)) 8
-              (within-enumerate 16 (clear_cells ++ home) 16 (fresh_length S) (omega arith) (omega (arith, length-append clear_cells home, length-clear_cells, count))) (inl (omega arith))) in
-          group_word (content_writes home) (content_lines S) p1 8 s.0 s.1 (inr (IsIn-range 1 (fresh_length S / 8 - 1) 1 (omega arith) (omega arith)))
-          ∙ ap (λ (l : List ℕ). still (newest s.0 l)) w
-      far : (k : ℕ) → 16 ≤ k → k < 144 → 16 ≤ k → (after_magic p3).word k ≡ still 0
-      far k from below _ = past k 0 (omega arith) (subst (λ (i : ℕ). p2.word i ≡ still 0) (omega arith)
-          (content_word S home p1 (k - 16) _ count (omega arith) (at_first (16 + (k - 16)) (omega arith)).1 ∙ ap still (cell_value home (k - 16) (omega arith))))
-      at_second : (k : ℕ) → 1 ≤ k → k < 8 → (x : ℕ) × (p2.word k ≡ still x)
-      at_second k from below = let s = at_first k from in (s.0, left 8 (fresh_length S) p1 (content_writes home) (content_lines S) (within_contents S home count) k s.0 (inl below) s.1)
-      by_header : (k : ℕ) → (from : 1 ≤ k) → (below : k < 8) → (after_magic p3).word k ≡ still (final (header_writes S) k (at_second k from below).0)
-      by_header k from below = let s = at_second k from below in
-          last k _ (inr from) (group_word (header_writes S) (0 ∷ []) p2 k s.0 s.1 (inr (inl (omega arith))))
-      header : (k : ℕ) → k < 8 → (after_magic p3).word k ≡ still (slice_index (fresh_header S) k)
-      header zero below =
-          let s = settled 0 in
-          group_word (magic_write magic) (0 ∷ []) p3 0 0 (left 1 8 p2 (header_writes S) (0 ∷ []) (within_header S) 0 0 (inl (omega arith))
-            (left 8 (fresh_length S) p1 (content_writes home) (content_lines S) (within_contents S home count) 0 0 (inl (omega arith))
-              (group_word (magic_write 0) (0 ∷ []) p 0 s.0 s.1 (inr (inl refl))))) (inr (inl refl))
-      header (suc zero) below = by_header 1 (omega arith) (omega arith)
-      header (suc (suc zero)) below = by_header 2 (omega arith) (omega arith)
-      header (suc (suc (suc zero))) below = by_header 3 (omega arith) (omega arith)
-      header (suc (suc (suc (suc zero)))) below = by_header 4 (omega arith) (omega arith)
-      header (suc (suc (suc (suc (suc zero))))) below = by_header 5 (omega arith) (omega arith)
-      header (suc (suc (suc (suc (suc (suc zero)))))) below = by_header 6 (omega arith) (omega arith)
-      header (suc (suc (suc (suc (suc (suc (suc zero))))))) below = by_header 7 (omega arith) (omega arith)
-      header (suc (suc (suc (suc (suc (suc (suc (suc k)))))))) below = absurd (omega arith)
+  header = header;
+  mark = last 8 0 (inr (omega arith)) (left 1 8 p2 (header_writes S) (0 ∷ []) (within_header S) 8 _ (inr (omega arith)) mark2);
+  head = (0, omega arith, far 16 (omega arith) (omega arith) (omega arith));
+  body = λ k from below. (0, far k (omega arith) (omega arith) (omega arith));
+  cells = λ k from below. far k (omega arith) (omega arith) (omega arith);
+  count = count;
+  words = λ k below. past (144 + k) _ (omega arith) (subst (λ (i : ℕ). p2.word i ≡ still (slice_index (clear_cells ++ home) (128 + k))) (omega arith) (content_word S home p1 (128 + k) _ count (omega arith) (at_first (16 + (128 + k)) (omega arith)).1)
+      ∙ ap still (home_value home k));
+}
+  where
+    p1 : Point
+    p1 = after_clear p
+
+    p2 : Point
+    p2 = after_contents S home p1
+
+    p3 : Point
+    p3 = after_header S p2
+
+    -- a word behind the first is settled after the first group
+    at_first : (k : ℕ) → 1 ≤ k → (x : ℕ) × (p1.word k ≡ still x)
+    at_first k from = let s = settled k in (s.0, left 0 1 p (magic_write 0) (0 ∷ []) (omega arith, omega arith, tt) k s.0 (inr from) s.1)
+
+    last : (k x : ℕ) → (k < 0) ⊎ (1 ≤ k) → p3.word k ≡ still x → (after_magic p3).word k ≡ still x
+    last k x out is = left 0 1 p3 (magic_write magic) (0 ∷ []) (omega arith, omega arith, tt) k x out is
+
+    past : (k x : ℕ) → 8 ≤ k → p2.word k ≡ still x → (after_magic p3).word k ≡ still x
+    past k x from is = last k x (inr (omega arith)) (left 1 8 p2 (header_writes S) (0 ∷ []) (within_header S) k x (inr from) is)
+
+    mark2 : p2.word 8 ≡ still 0
+    mark2 =
+        let s = at_first 8 (omega arith) in
+        let w : written (content_writes home) 8 ≡ 0 ∷ [] = ap (λ (l : List ℕ). 0 ∷ l) (written-outside 16 (fresh_length S) (enumerate_from 16 (clear_cells ++ home)) 8
+        (within-enumerate 16 (clear_cells ++ home) 16 (fresh_length S) (omega arith) (omega (arith, length-append clear_cells home, length-clear_cells, count))) (inl (omega arith))) in
+        group_word (content_writes home) (content_lines S) p1 8 s.0 s.1 (inr (IsIn-range 1 (fresh_length S / 8 - 1) 1 (omega arith) (omega arith)))
+        ∙ ap (λ (l : List ℕ). still (newest s.0 l)) w
+
+    far : (k : ℕ) → 16 ≤ k → k < 144 → 16 ≤ k → (after_magic p3).word k ≡ still 0
+    far k from below _ = past k 0 (omega arith) (subst (λ (i : ℕ). p2.word i ≡ still 0) (omega arith)
+        (content_word S home p1 (k - 16) _ count (omega arith) (at_first (16 + (k - 16)) (omega arith)).1 ∙ ap still (cell_value home (k - 16) (omega arith))))
+
+    at_second : (k : ℕ) → 1 ≤ k → k < 8 → (x : ℕ) × (p2.word k ≡ still x)
+    at_second k from below = let s = at_first k from in (s.0, left 8 (fresh_length S) p1 (content_writes home) (content_lines S) (within_contents S home count) k s.0 (inl below) s.1)
+
+    by_header : (k : ℕ) → (from : 1 ≤ k) → (below : k < 8) → (after_magic p3).word k ≡ still (final (header_writes S) k (at_second k from below).0)
+    by_header k from below = let s = at_second k from below in
+        last k _ (inr from) (group_word (header_writes S) (0 ∷ []) p2 k s.0 s.1 (inr (inl (omega arith))))
+
+    header : (k : ℕ) → k < 8 → (after_magic p3).word k ≡ still (slice_index (fresh_header S) k)
+    header zero below =
+        let s = settled 0 in
+        group_word (magic_write magic) (0 ∷ []) p3 0 0 (left 1 8 p2 (header_writes S) (0 ∷ []) (within_header S) 0 0 (inl (omega arith))
+        (left 8 (fresh_length S) p1 (content_writes home) (content_lines S) (within_contents S home count) 0 0 (inl (omega arith))
+        (group_word (magic_write 0) (0 ∷ []) p 0 s.0 s.1 (inr (inl refl))))) (inr (inl refl))
+    header (suc zero) below = by_header 1 (omega arith) (omega arith)
+    header (suc (suc zero)) below = by_header 2 (omega arith) (omega arith)
+    header (suc (suc (suc zero))) below = by_header 3 (omega arith) (omega arith)
+    header (suc (suc (suc (suc zero)))) below = by_header 4 (omega arith) (omega arith)
+    header (suc (suc (suc (suc (suc zero))))) below = by_header 5 (omega arith) (omega arith)
+    header (suc (suc (suc (suc (suc (suc zero)))))) below = by_header 6 (omega arith) (omega arith)
+    header (suc (suc (suc (suc (suc (suc (suc zero))))))) below = by_header 7 (omega arith) (omega arith)
+    header (suc (suc (suc (suc (suc (suc (suc (suc k)))))))) below = absurd (omega arith)
 
 -- After the format the medium rests at 0, and 0 was told.
 pub format_rests : (S : ℕ) (home : List ℕ) (p : Point) → length home ≡ fresh_home_length S → IsSettled p
@@ -167,18 +193,22 @@ pub format_rests : (S : ℕ) (home : List ℕ) (p : Point) → length home ≡ f
 unfolding format_calls
 format_rests S home p count settled =
     let Q : Point → Type 0 = λ q. Rests S 0 home q × (q.told ≡ p.told ++ 0 ∷ []) in
-    subst Q (sym whole) (record { header = r.header; mark = r.mark; head = r.head; body = r.body; cells = r.cells; count = r.count; words = r.words },
-        ap (λ (told : List ℕ). told ++ 0 ∷ []) (formatted_told S home p))
-    where
-      p4 : Point
-      p4 = after_magic (after_header S (after_contents S home (after_clear p)))
-      r : Rests S 0 home p4
-      r = formatted_rests S home p count settled
-      whole : after_all (group_calls (magic_write 0) (0 ∷ []) ++ (group_calls (content_writes home) (content_lines S)
-          ++ (group_calls (header_writes S) (0 ∷ []) ++ (group_calls (magic_write magic) (0 ∷ []) ++ Tell 0 ∷ [])))) p ≡ after (Tell 0) p4
-      whole = after_all_then (group_calls (magic_write 0) (0 ∷ [])) _ p ∙ (after_all_then (group_calls (content_writes home) (content_lines S)) _ (after_clear p)
-          ∙ (after_all_then (group_calls (header_writes S) (0 ∷ [])) _ (after_contents S home (after_clear p))
-          ∙ after_all_then (group_calls (magic_write magic) (0 ∷ [])) (Tell 0 ∷ []) (after_header S (after_contents S home (after_clear p)))))
+    subst Q (sym whole) (
+      record { header = r.header; mark = r.mark; head = r.head; body = r.body; cells = r.cells; count = r.count; words = r.words },
+      ap (λ (told : List ℕ). told ++ 0 ∷ []) (formatted_told S home p),
+    )
+  where
+    p4 : Point
+    p4 = after_magic (after_header S (after_contents S home (after_clear p)))
+
+    r : Rests S 0 home p4
+    r = formatted_rests S home p count settled
+
+    whole : after_all (group_calls (magic_write 0) (0 ∷ []) ++ (group_calls (content_writes home) (content_lines S)
+        ++ (group_calls (header_writes S) (0 ∷ []) ++ (group_calls (magic_write magic) (0 ∷ []) ++ Tell 0 ∷ [])))) p ≡ after (Tell 0) p4
+    whole = after_all_then (group_calls (magic_write 0) (0 ∷ [])) _ p ∙ (after_all_then (group_calls (content_writes home) (content_lines S)) _ (after_clear p)
+        ∙ (after_all_then (group_calls (header_writes S) (0 ∷ [])) _ (after_contents S home (after_clear p))
+        ∙ after_all_then (group_calls (magic_write magic) (0 ∷ [])) (Tell 0 ∷ []) (after_header S (after_contents S home (after_clear p)))))
 
 -- From a settled medium each image at each moment of the format has this: nothing was told yet, or the image recovers
 -- to 0 and these home words.
@@ -191,5 +221,9 @@ format_images {S} {len} {home} {p} low high long count settled =
     (along_then (group_law (header_writes S) (λ image mix. inl (told2 S home p)) (0 ∷ []))
     (along_then (group_law (magic_write magic) (λ image mix. inl (told3 S home p)) (0 ∷ []))
     (more (record { each = λ image is. inl (formatted_told S home p) })
-      (end (record { each = λ image is. inr (ap (λ (told : List ℕ). told ++ 0 ∷ []) (formatted_told S home p),
-          rest_images low high long (omega arith) (formatted_rests S home p count settled) image (record { size = is.size; each = is.each })) }))))))
+    (end (record {
+      each = λ image is. inr (
+        ap (λ (told : List ℕ). told ++ 0 ∷ []) (formatted_told S home p),
+        rest_images low high long (omega arith) (formatted_rests S home p count settled) image (record { size = is.size; each = is.each }),
+      );
+    }))))))

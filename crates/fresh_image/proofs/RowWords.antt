@@ -3,7 +3,6 @@ use Rattle.std.proofs.Common.{◌≡◌, ℕ, zero, suc, ◌+◌, ◌-◌, ◌*�
 use Rattle.std.proofs.lemmas.List.{length-append, length-replicate, get_or_append_left, get_or-append_right, get_or-replicate, get_or_past, length-map}
 use Rattle.std.proofs.lemmas.List.FromFn.{get_or-map-range_with_len, length-range_with_len}
 use Rattle.std.proofs.lemmas.Bool.{cases_lt}
-use Rattle.std.specs.List.{range_with_len}
 use Rattle.std.specs.Prelude.{slice_index, slice_set, flat_map, replicate}
 use Rattle.tatp_model.specs.declared.sub_row.SubRow.{SubRow}
 use Rattle.tatp_model.specs.Population.{population, subscriber_at}
@@ -29,7 +28,7 @@ word_of_row (r ∷ rows) (suc k) j d below small =
 -- the home words where a row gets another location
 pub home_with_location : (rows : List SubRow) (rest : List ℕ) (k vlr : ℕ) (d : SubRow) → k < length rows
     → slice_set (flat_map row_words rows ++ rest) (8 * k + 6) vlr
-      ≡ flat_map row_words (slice_set rows k (record (get_or rows k d) { vlr = vlr })) ++ rest
+    ≡ flat_map row_words (slice_set rows k (record (get_or rows k d) { vlr = vlr })) ++ rest
 home_with_location [] rest k vlr d below = absurd (omega arith)
 home_with_location (r ∷ rows) rest zero vlr d below = refl
 home_with_location (r ∷ rows) rest (suc k) vlr d below =
@@ -44,8 +43,13 @@ rows_fit S = omega arith
 -- the length of the home words
 pub length-home_words : (S : ℕ) (rows : List SubRow) → length rows ≡ S → length (home_words S rows) ≡ fresh_home_length S
 length-home_words S rows is =
-    omega (arith, rows_fit S, length-rows rows, length-append (flat_map row_words rows) (replicate (fresh_home_length S - 8 * S) 0),
-      length-replicate {A = ℕ} (fresh_home_length S - 8 * S) 0)
+    omega (
+      arith,
+      rows_fit S,
+      length-rows rows,
+      length-append (flat_map row_words rows) (replicate (fresh_home_length S - 8 * S) 0),
+      length-replicate {A = ℕ} (fresh_home_length S - 8 * S) 0,
+    )
 
 -- how many rows the population has, and which
 pub length-population : (S : ℕ) → length (population S).subscribers ≡ S
@@ -57,8 +61,9 @@ population_row S k d below = get_or-map-range_with_len subscriber_at 1 S k (k + 
 -- zeros are zeros, and so is what is past them
 zeros_anywhere : (n i : ℕ) → slice_index (replicate n 0) i ≡ 0
 zeros_anywhere n i = elim (cases_lt i n) [
-    inl below ↦ get_or-replicate n i 0 0 below
-  | inr past ↦ get_or_past (replicate n 0) i 0 (omega (arith, length-replicate {A = ℕ} n 0)) ]
+  | inl below ↦ get_or-replicate n i 0 0 below
+  | inr past ↦ get_or_past (replicate n 0) i 0 (omega (arith, length-replicate {A = ℕ} n 0))
+]
 
 -- a word of the home words: of a row, or 0
 pub home_word_of : (S : ℕ) (rows : List SubRow) (place : ℕ) (d : SubRow) → length rows ≡ S → place < 8 * S
@@ -77,4 +82,4 @@ population_word S place below =
 pub population_zero : (S place : ℕ) → 8 * S ≤ place → 0 ≡ slice_index (home_words S (population S).subscribers) place
 population_zero S place past =
     sym (get_or-append_right (flat_map row_words (population S).subscribers) (replicate (fresh_home_length S - 8 * S) 0) (8 * S) place 0
-      (length-rows (population S).subscribers ∙ ap (λ (n : ℕ). 8 * n) (length-population S)) past ∙ zeros_anywhere (fresh_home_length S - 8 * S) (place - 8 * S))
+    (length-rows (population S).subscribers ∙ ap (λ (n : ℕ). 8 * n) (length-population S)) past ∙ zeros_anywhere (fresh_home_length S - 8 * S) (place - 8 * S))

@@ -1,13 +1,13 @@
 -- What an image of the command `fresh` recovers to, from the values of its words.
-use Rattle.std.proofs.Common.{◌≡◌, ◌≢◌, ℕ, ◌+◌, ◌-◌, ◌*◌, ◌/◌, ◌%◌, ◌^◌, ◌<◌, ◌≤◌, List, [], ◌∷◌, length, take, drop, refl, sym, ◌∙◌, ap, arith, get_or, subst, inl, inr, ◌⊎◌, map}
+use Rattle.std.proofs.Common.{◌≡◌, ◌≢◌, ℕ, ◌+◌, ◌-◌, ◌*◌, ◌<◌, ◌≤◌, List, [], ◌∷◌, length, drop, refl, sym, ◌∙◌, ap, arith, subst, inl, inr, map}
 use Rattle.std.specs.List.{range_with_len}
 use Rattle.std.proofs.Math.Nat.{eq-zero-or-pos}
 use Rattle.std.proofs.lemmas.List.{get_or-take, get_or-drop, length-take, length-drop}
 use Rattle.std.proofs.lemmas.Grind.{same_number_lists}
-use Rattle.std.specs.Prelude.{slice_index, slice_range, slice_set, All, AllPairs}
-use Rattle.fresh_image.specs.Layout.{Sizes, AreSizes, sizes_of, mark_of, magic, number_limit, pages_for, place_in_cell, home_of, home_start, home_length, image_length}
-use Rattle.fresh_image.specs.Record.{Cell, IsCell, IsComplete, kind_of, number_of, head_tag, tag_of, cell_word, cell_after, count_of, cells_for, write_of, writes_of}
-use Rattle.fresh_image.specs.Recovery.{IsFormatted, IsNewHead, IsUndamaged, HasRecord, Recovers, overwritten}
+use Rattle.std.specs.Prelude.{slice_index, slice_set}
+use Rattle.fresh_image.specs.Layout.{Sizes, AreSizes, sizes_of, mark_of, number_limit, pages_for, place_in_cell, home_of, image_length}
+use Rattle.fresh_image.specs.Record.{Cell, IsCell, IsComplete, kind_of, number_of, head_tag, tag_of, cell_word, cell_after, count_of, write_of, writes_of}
+use Rattle.fresh_image.specs.Recovery.{IsFormatted, IsNewHead, Recovers}
 use Rattle.fresh_image.specs.Fresh.{fresh_sizes, fresh_length, fresh_home_length, fresh_home_start, fresh_header}
 
 -- The words of an image that recovery looks at, but for the home words and the first cell's body.
@@ -30,8 +30,12 @@ shows_sizes {S} sh =
 
 pub fresh_sizes_are : (S : ℕ) → 1 ≤ S → S ≤ 10000 → AreSizes (fresh_sizes S)
 fresh_sizes_are S low high = record {
-    subscribers = (low, high); calls = (omega arith, omega arith); rings = (omega arith, omega arith);
-    cells = (omega arith, omega arith); pages = refl }
+  subscribers = (low, high);
+  calls = (omega arith, omega arith);
+  rings = (omega arith, omega arith);
+  cells = (omega arith, omega arith);
+  pages = refl;
+}
 
 pub shows_formatted : {S m t : ℕ} {image : List ℕ} → 1 ≤ S → S ≤ 10000 → HasWords S m t image → IsFormatted 0 image
 shows_formatted {S} {image = image} low high sh =
@@ -75,8 +79,8 @@ pub shows_first : {S m t : ℕ} {image : List ℕ} → HasWords S m t image → 
 shows_first {image = image} sh c new =
     let w = shows_cell sh c new.cell in
     elim (eq-zero-or-pos c.place) [
-      inl e ↦ cell_is c w.0 e
-    | inr pos ↦ absurd (let h = shows_clear sh c w.0 w.1 (omega arith) in let k = new.kind in omega arith)
+      | inl e ↦ cell_is c w.0 e
+      | inr pos ↦ absurd (let h = shows_clear sh c w.0 w.1 (omega arith) in let k = new.kind in omega arith)
     ]
 
 -- a word of the first cell
@@ -100,21 +104,22 @@ shows_rest {S} {m} {t} {image} low high small old sh =
       undamaged = record {
         mark = let e = sh.mark_is in omega arith;
         complete = λ c new. absurd (none c new);
-        single = λ c d new _ _. absurd (none c new) };
+        single = λ c d new _ _. absurd (none c new);
+      };
       writes = λ k. [];
       from = let e = sh.mark_is in omega arith;
       logged = λ k over upto. absurd (let e = sh.mark_is in omega arith);
       greatest = λ c new. absurd (none c new);
       array = let z : m - mark_of image ≡ 0 = (let e = sh.mark_is in omega arith) in rw z refl;
     }
-    where
-      none : (c : Cell) → IsNewHead image c → ⊥
-      none c new =
-          let e = shows_tag sh c new in
-          let f = sh.mark_is in
-          let k = new.kind in
-          let n = new.new in
-          omega arith
+  where
+    none : (c : Cell) → IsNewHead image c → ⊥
+    none c new =
+        let e = shows_tag sh c new in
+        let f = sh.mark_is in
+        let k = new.kind in
+        let n = new.new in
+        omega arith
 
 abbrev first : Cell
 first = record { ring = 0; place = 0 }
@@ -126,11 +131,12 @@ writes_first : {S m t : ℕ} {image : List ℕ} (at value : ℕ) → HasWords S 
 writes_first {image = image} at value sh one at_is value_is =
     ap (λ n. map (write_of image first) (range_with_len 0 n)) (shows_word image first 1 refl ∙ one)
     ∙ ap (λ w. w ∷ []) (pair_is (shows_word image (cell_after image first 0) 2 same ∙ at_is) (shows_word image (cell_after image first 0) 3 same ∙ value_is))
-    where
-      same : cell_after image first 0 ≡ first
-      same = cell_is (cell_after image first 0) refl (let e : slice_index image 5 ≡ 16 = sh.header 5 (omega arith) in rw e refl)
-      pair_is : {a b c d : ℕ} → a ≡ c → b ≡ d → ◌≡◌ {A = ℕ × ℕ} (a, b) (c, d)
-      pair_is p q = cc
+  where
+    same : cell_after image first 0 ≡ first
+    same = cell_is (cell_after image first 0) refl (let e : slice_index image 5 ≡ 16 = sh.header 5 (omega arith) in rw e refl)
+
+    pair_is : {a b c d : ℕ} → a ≡ c → b ≡ d → ◌≡◌ {A = ℕ × ℕ} (a, b) (c, d)
+    pair_is p q = cc
 
 -- Where the first cell has the head after the mark, with one write, the image recovers to that number, with the write
 -- in the home words.
@@ -144,42 +150,52 @@ shows_next {S} {m} {image} at value low high small sh one at_is value_is inside 
       undamaged = record {
         mark = omega (arith, mark_is);
         complete = λ c new. subst (IsComplete image) (sym (shows_first sh c new)) complete_first;
-        single = λ c d new other _. shows_first sh c new ∙ sym (shows_first sh d other) };
+        single = λ c d new other _. shows_first sh c new ∙ sym (shows_first sh d other);
+      };
       writes = λ k. (at, value) ∷ [];
       from = omega (arith, mark_is);
       logged = λ k over upto. (first, new_first, tag_number ∙ omega (arith, mark_is), sym writes_is);
       greatest = λ c new e. omega (arith, shows_tag sh c new);
       array = let z : m + 1 - mark_of image ≡ 1 = omega (arith, mark_is) in rw z refl;
     }
-    where
-      mark_is : mark_of image ≡ m
-      mark_is = sh.mark_is
-      tag_is : tag_of image first ≡ head_tag (m + 1)
-      tag_is = shows_word image first 0 refl ∙ sh.tag_is
-      kind_is : kind_of (tag_of image first) ≡ 1
-      kind_is = omega (arith, tag_is)
-      tag_number : number_of (tag_of image first) ≡ m + 1
-      tag_number = omega (arith, tag_is)
-      count_is : count_of image first ≡ 1
-      count_is = shows_word image first 1 refl ∙ one
-      writes_is : writes_of image first ≡ (at, value) ∷ []
-      writes_is = writes_first at value sh one at_is value_is
-      new_first : IsNewHead image first
-      new_first = record {
-        cell = record { ring = omega (arith, sh.header 4 (omega arith)); place = omega (arith, sh.header 5 (omega arith)) };
-        kind = kind_is;
-        new = omega (arith, mark_is, tag_number) }
-      none : (k : ℕ) → 1 ≤ k → k < 1 → ⊥
-      none k a b = omega arith
-      complete_first : IsComplete image first
-      complete_first = record {
-        kind = kind_is;
-        number = (omega (arith, tag_number), omega (arith, tag_number));
-        count = omega (arith, count_is);
-        continued = λ k positive below. absurd (none k positive (rw count_is at below));
-        places = rw writes_is (λ k d below. let z : k ≡ 0 = omega arith in rw z (let e : slice_index image 6 ≡ pages_for S (12 * S) = sh.header 6 (omega arith) in omega arith));
-        distinct = rw writes_is (λ i j d before below _. omega arith);
-      }
+  where
+    mark_is : mark_of image ≡ m
+    mark_is = sh.mark_is
+
+    tag_is : tag_of image first ≡ head_tag (m + 1)
+    tag_is = shows_word image first 0 refl ∙ sh.tag_is
+
+    kind_is : kind_of (tag_of image first) ≡ 1
+    kind_is = omega (arith, tag_is)
+
+    tag_number : number_of (tag_of image first) ≡ m + 1
+    tag_number = omega (arith, tag_is)
+
+    count_is : count_of image first ≡ 1
+    count_is = shows_word image first 1 refl ∙ one
+
+    writes_is : writes_of image first ≡ (at, value) ∷ []
+    writes_is = writes_first at value sh one at_is value_is
+
+    new_first : IsNewHead image first
+    new_first = record {
+      cell = record { ring = omega (arith, sh.header 4 (omega arith)); place = omega (arith, sh.header 5 (omega arith)) };
+      kind = kind_is;
+      new = omega (arith, mark_is, tag_number);
+    }
+
+    none : (k : ℕ) → 1 ≤ k → k < 1 → ⊥
+    none k a b = omega arith
+
+    complete_first : IsComplete image first
+    complete_first = record {
+      kind = kind_is;
+      number = (omega (arith, tag_number), omega (arith, tag_number));
+      count = omega (arith, count_is);
+      continued = λ k positive below. absurd (none k positive (rw count_is at below));
+      places = rw writes_is (λ k d below. let z : k ≡ 0 = omega arith in rw z (let e : slice_index image 6 ≡ pages_for S (12 * S) = sh.header 6 (omega arith) in omega arith));
+      distinct = rw writes_is (λ i j d before below _. omega arith);
+    }
 
 -- the home words of an image, from their values
 pub shows_home : {S m t : ℕ} {image : List ℕ} (home : List ℕ) → HasWords S m t image → length home ≡ fresh_home_length S
@@ -188,9 +204,10 @@ pub shows_home : {S m t : ℕ} {image : List ℕ} (home : List ℕ) → HasWords
 shows_home {S} {image = image} home sh count each =
     let P : Sizes → Type 0 = λ s. home_of s image ≡ home in
     subst P (sym (shows_sizes sh)) (same_number_lists (home_of (fresh_sizes S) image) home sizes same)
-    where
-      sizes : length (home_of (fresh_sizes S) image) ≡ length home
-      sizes = simp (length-take, length-drop) (omega (arith, sh.long))
-      same : (k : ℕ) → k < length (home_of (fresh_sizes S) image) → slice_index (home_of (fresh_sizes S) image) k ≡ slice_index home k
-      same k below = let small : k < length home = omega (arith, sizes) in
-          get_or-take _ (drop 144 image) k 0 (omega arith) ∙ (get_or-drop 144 image k 0 ∙ each k small)
+  where
+    sizes : length (home_of (fresh_sizes S) image) ≡ length home
+    sizes = simp (length-take, length-drop) (omega (arith, sh.long))
+
+    same : (k : ℕ) → k < length (home_of (fresh_sizes S) image) → slice_index (home_of (fresh_sizes S) image) k ≡ slice_index home k
+    same k below = let small : k < length home = omega (arith, sizes) in
+        get_or-take _ (drop 144 image) k 0 (omega arith) ∙ (get_or-drop 144 image k 0 ∙ each k small)

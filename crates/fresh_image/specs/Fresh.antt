@@ -1,5 +1,5 @@
 -- The image of the command `fresh`: version 0, one ring of sixteen cells, of which it uses the first.
-use Rattle.std.specs.Prelude.{◌≡◌, ℕ, ◌+◌, ◌*◌, ◌^◌, ◌<◌, ◌≤◌, List, [], ◌∷◌, length, slice_index}
+use Rattle.std.specs.Prelude.{◌≡◌, ℕ, ◌+◌, ◌*◌, ◌<◌, ◌≤◌, List, [], ◌∷◌, length, slice_index}
 use Rattle.pmem_trait.specs.Words.{Point, still}
 use Rattle.fresh_image.specs.Layout.{Sizes, magic, pages_for}
 use Rattle.fresh_image.specs.Record.{head_tag}
@@ -7,8 +7,12 @@ use Rattle.fresh_image.specs.Record.{head_tag}
 -- the sizes of the image for so many subscribers
 abbrev pub fresh_sizes : ℕ → Sizes
 fresh_sizes subscribers = record {
-    subscribers = subscribers; calls = 12 * subscribers; rings = 1; cells = 16;
-    pages = pages_for subscribers (12 * subscribers) }
+  subscribers = subscribers;
+  calls = 12 * subscribers;
+  rings = 1;
+  cells = 16;
+  pages = pages_for subscribers (12 * subscribers);
+}
 
 -- how many home words there are, and where they begin
 abbrev pub fresh_home_length : ℕ → ℕ

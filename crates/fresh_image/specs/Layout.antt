@@ -46,8 +46,12 @@ pub record AreSizes (s : Sizes) : Type 0 where
 -- the sizes that an image names
 abbrev pub sizes_of : List ℕ → Sizes
 sizes_of image = record {
-    subscribers = slice_index image 2; calls = slice_index image 3; rings = slice_index image 4;
-    cells = slice_index image 5; pages = slice_index image 6 }
+  subscribers = slice_index image 2;
+  calls = slice_index image 3;
+  rings = slice_index image 4;
+  cells = slice_index image 5;
+  pages = slice_index image 6;
+}
 
 -- the mark: the number up to which the home words have all writes
 abbrev pub mark_of : List ℕ → ℕ

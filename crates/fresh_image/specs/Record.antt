@@ -1,5 +1,5 @@
 -- The redo log on the medium: what a head with its cells has to be for its record to count.
-use Rattle.std.specs.Prelude.{◌≡◌, ◌≢◌, ℕ, ◌+◌, ◌-◌, ◌*◌, ◌/◌, ◌%◌, ◌^◌, ◌<◌, ◌≤◌, List, [], ◌∷◌, slice_index, if◌then◌else◌, nat_le, map, length, All, AllPairs}
+use Rattle.std.specs.Prelude.{◌≡◌, ◌≢◌, ℕ, ◌+◌, ◌*◌, ◌/◌, ◌%◌, ◌^◌, ◌<◌, ◌≤◌, List, slice_index, if◌then◌else◌, nat_le, map, All, AllPairs}
 use Rattle.std.specs.List.{range_with_len}
 use Rattle.fresh_image.specs.Layout.{Sizes, sizes_of, number_limit, place_in_cell, home_length}
 

@@ -16,4 +16,3 @@ pub use format::format_image;
 pub use sizes::ImageSizes;
 pub use store::Store;
 pub use update::log_update;
-

@@ -31,7 +31,13 @@ fn append<M: Medium>(m: &mut M, number: u64, at: u64, value: u64) -> Result<(), 
 }
 
 #[tactic(auto, using(pmem_trait::proofs::Runs::making), unfolding(crate::specs::Calls::reproduce_calls))]
-fn reproduce<M: Medium>(m: &mut M, sizes: &ImageSizes, number: u64, at: u64, value: u64) -> Result<(), Failed>
+fn reproduce<M: Medium>(
+    m: &mut M,
+    sizes: &ImageSizes,
+    number: u64,
+    at: u64,
+    value: u64,
+) -> Result<(), Failed>
     requires inside { at < fresh_home_length sizes.now.subscribers }
     requires room { fresh_length sizes.now.subscribers ≤ (M.sight m.old).len }
     ensures len { (M.sight m.new).len ≡ (M.sight m.old).len }
@@ -44,7 +50,13 @@ fn reproduce<M: Medium>(m: &mut M, sizes: &ImageSizes, number: u64, at: u64, val
 
 // The calls of an update.
 #[tactic(auto, using(pmem_trait::proofs::Runs::making), unfolding(crate::specs::Calls::update_calls))]
-fn make_update<M: Medium>(m: &mut M, sizes: &ImageSizes, number: u64, at: u64, value: u64) -> Result<(), Failed>
+fn make_update<M: Medium>(
+    m: &mut M,
+    sizes: &ImageSizes,
+    number: u64,
+    at: u64,
+    value: u64,
+) -> Result<(), Failed>
     requires small { number ≤ number_limit }
     requires inside { at < fresh_home_length sizes.now.subscribers }
     requires room { fresh_length sizes.now.subscribers ≤ (M.sight m.old).len }
@@ -59,7 +71,13 @@ fn make_update<M: Medium>(m: &mut M, sizes: &ImageSizes, number: u64, at: u64, v
 /// Logs the update of one home word under the next number, tells the number, and stores the word.
 ///
 /// `number` is one more than the number at which the medium rests, and `at` counts home words from 0.
-pub fn log_update<M: Medium>(m: &mut M, sizes: &ImageSizes, number: u64, at: u64, value: u64) -> Result<(), Failed>
+pub fn log_update<M: Medium>(
+    m: &mut M,
+    sizes: &ImageSizes,
+    number: u64,
+    at: u64,
+    value: u64,
+) -> Result<(), Failed>
     requires small { number ≤ number_limit }
     requires inside { at < fresh_home_length sizes.now.subscribers }
     requires room { fresh_length sizes.now.subscribers ≤ (M.sight m.old).len }

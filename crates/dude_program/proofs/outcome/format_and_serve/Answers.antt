@@ -1,5 +1,4 @@
-use Rattle.std.proofs.Common.{◌≡◌, ap, subst, is_ok, true, false, rules, IsTrue, ℕ}
-use Rattle.pmem_trait.specs.Sights.{Ran, Makes}
+use Rattle.std.proofs.Common.{◌≡◌, is_ok, false, rules}
 use Rattle.tatp_model.specs.Population.{population}
 use Rattle.fresh_image.specs.Rows.{home_words}
 use Rattle.fresh_image.specs.FormatCalls.{format_calls}
@@ -12,10 +11,10 @@ returns-in_err-format_image g c file =
     let S = subscribers_of c.args.run.now in
     let err : is_ok c.from_residual.result ≡ false = search rules in
     rw err (format_stops c.requires.opening c.in_err-format_image.ensures.images
-      (format_calls S (home_words S (population S).subscribers), c.in_err-format_image.ensures.made))
+    (format_calls S (home_words S (population S).subscribers), c.in_err-format_image.ensures.made))
 
 pub returns : goal.returns
 returns g c file =
     let S = subscribers_of c.args.run.now in
     formats_serves (is_ok c.serve_all.result) c.args.run.now.sizes.some c.args.run.now.sizes.limited c.requires.medium c.in_ok-format_image.ensures.images c.in_ok-format_image.ensures.rests
-      (format_calls S (home_words S (population S).subscribers), c.in_ok-format_image.ensures.made) (c.serve_all.ensures.serves file)
+    (format_calls S (home_words S (population S).subscribers), c.in_ok-format_image.ensures.made) (c.serve_all.ensures.serves file)

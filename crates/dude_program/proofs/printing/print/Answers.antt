@@ -10,7 +10,7 @@ loop-entry-preserved g c = printed_more c.args.done.now c.loop-entry.entry-index
 pub returns-in-Err-clause-err : goal.returns-in-Err-clause-err
 returns-in-Err-clause-err g c =
     later_stops _ (flat_map line_of (drop (c.loop-entry.entry-index + 1) c.args.done.now) ++ last_line c.args.last) _
-      (output_is c.args.done.now c.loop-entry.entry-index _ c.args.last c.loop-entry-test.true refl c.loop-entry.invariant) c.loop-entry.invariant.took c.in-Err.ensures.err
+    (output_is c.args.done.now c.loop-entry.entry-index _ c.args.last c.loop-entry-test.true refl c.loop-entry.invariant) c.loop-entry.invariant.took c.in-Err.ensures.err
 
 pub returns-clause-err : goal.returns-clause-err
 returns-clause-err g c =

@@ -14,13 +14,13 @@ returns-in-Err g c =
     let s = g.M.Medium.sight c.args.m.now in
     let k = g.K.Sink.sight c.args.out.now in
     subst (λ (done : List Done). Ends (meaning_of (map rc_str_bytes c.args.words.now)) (world_of s (g.F.Files.sight c.args.files.now) k)
-        (world_of s (g.F.Files.sight c.read_plan.new.files) k) done (Some c.in-Err.fault))
-      (sym c.new.ensures.items) (ends_refused c.in-Err.fault c.in-Err.ensures.stays c.in-Err.ensures.fault)
+    (world_of s (g.F.Files.sight c.read_plan.new.files) k) done (Some c.in-Err.fault))
+    (sym c.new.ensures.items) (ends_refused c.in-Err.fault c.in-Err.ensures.stays c.in-Err.ensures.fault)
 
 pub returns : goal.returns
 returns g c =
     let plan = c.in-Ok.ensures.plan in
     let outcome = c.carry_out-outcome.result in
     let carried = subst (λ (requests : List Request). CarriesOut c.in-Ok.plan.subscribers plan.file requests outcome.done.items outcome.last outcome.fault
-        (g.M.Medium.sight c.args.m.now) (g.M.Medium.sight c.carry_out-outcome.new.m)) c.deref.ensures.value (c.carry_out-outcome.ensures plan.file) in
+    (g.M.Medium.sight c.args.m.now) (g.M.Medium.sight c.carry_out-outcome.new.m)) c.deref.ensures.value (c.carry_out-outcome.ensures plan.file) in
     ends_printed outcome.fault c.print_outcome-fault.result (record { plan = plan; carried = carried; files = c.in-Ok.ensures.stays }) c.print_outcome-fault.ensures

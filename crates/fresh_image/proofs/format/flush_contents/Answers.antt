@@ -15,7 +15,8 @@ returns-in_err-flush-clause-made g c =
 pub loop-line-preserved : goal.loop-line-preserved
 loop-line-preserved g c = record {
   len = omega arith;
-  made = flush_turn c.args.sizes.now.subscribers c.loop-line.line (omega arith) (omega arith) c.loop-line.invariant.made c.in_ok-flush.ensures }
+  made = flush_turn c.args.sizes.now.subscribers c.loop-line.line (omega arith) (omega arith) c.loop-line.invariant.made c.in_ok-flush.ensures;
+}
 
 pub returns-clause-made : goal.returns-clause-made
 returns-clause-made g c = makes_whole _ (c.loop-line.line - 1) (omega (arith, length-lines c.args.sizes.now.subscribers)) c.loop-line.invariant.made

@@ -7,4 +7,5 @@ use Rattle.fresh_image.proofs.format.flush_contents.Given as goal
 abbrev pub invariant-loop-line : goal.invariant-loop-line
 invariant-loop-line g l = record {
   len : (g.M.Medium.sight l.m).len ≡ (g.M.Medium.sight l.initial.m).len;
-  made : Makes (take (l.line - 1) (flush_lines (content_lines l.sizes.subscribers))) true (g.M.Medium.sight l.initial.m) (g.M.Medium.sight l.m) }
+  made : Makes (take (l.line - 1) (flush_lines (content_lines l.sizes.subscribers))) true (g.M.Medium.sight l.initial.m) (g.M.Medium.sight l.m);
+}

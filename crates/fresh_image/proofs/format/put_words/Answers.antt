@@ -15,7 +15,7 @@ returns-in_err-put-clause-made g c =
     let err : is_ok c.from_residual.result ≡ false = search rules in
     let S = c.args.sizes.now.subscribers in
     rw err (makes_cut _ _ (put_turn (home_words S (population S).subscribers) S c.loop-place.place c.initial_word.result {ok = false}
-      (length-home_words S (population S).subscribers (length-population S)) (omega arith) (omega arith) c.initial_word.ensures c.loop-place.invariant.made c.in_err-put.ensures))
+    (length-home_words S (population S).subscribers (length-population S)) (omega arith) (omega arith) c.initial_word.ensures c.loop-place.invariant.made c.in_err-put.ensures))
 
 pub loop-place-preserved : goal.loop-place-preserved
 loop-place-preserved g c =
@@ -23,7 +23,8 @@ loop-place-preserved g c =
     record {
       len = omega arith;
       made = put_turn (home_words S (population S).subscribers) S c.loop-place.place c.initial_word.result {ok = true}
-        (length-home_words S (population S).subscribers (length-population S)) (omega arith) (omega arith) c.initial_word.ensures c.loop-place.invariant.made c.in_ok-put.ensures }
+          (length-home_words S (population S).subscribers (length-population S)) (omega arith) (omega arith) c.initial_word.ensures c.loop-place.invariant.made c.in_ok-put.ensures;
+    }
 
 pub returns-clause-made : goal.returns-clause-made
 returns-clause-made g c =

@@ -10,4 +10,5 @@ use Rattle.fresh_image.proofs.format.put_words.Given as goal
 abbrev pub invariant-loop-place : goal.invariant-loop-place
 invariant-loop-place g l = record {
   len : (g.M.Medium.sight l.m).len ≡ (g.M.Medium.sight l.initial.m).len;
-  made : Makes (take (l.place - 16) (put_pairs (enumerate_from 16 (clear_cells ++ home_words l.sizes.subscribers (population l.sizes.subscribers).subscribers)))) true (g.M.Medium.sight l.initial.m) (g.M.Medium.sight l.m) }
+  made : Makes (take (l.place - 16) (put_pairs (enumerate_from 16 (clear_cells ++ home_words l.sizes.subscribers (population l.sizes.subscribers).subscribers)))) true (g.M.Medium.sight l.initial.m) (g.M.Medium.sight l.m);
+}

@@ -1,4 +1,4 @@
-use Rattle.std.proofs.Common.{◌∙◌, arith}
+use Rattle.std.proofs.Common.{◌∙◌}
 use Rattle.fresh_image.proofs.RowWords.{population_word, population_zero}
 use Rattle.fresh_image.proofs.population.home_word.Goals as goal
 

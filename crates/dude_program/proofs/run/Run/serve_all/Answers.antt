@@ -1,8 +1,7 @@
-use Rattle.std.proofs.Common.{◌≡◌, ◌∙◌, ap, sym, subst, refl, arith, length, is_ok, false, rules, ℕ}
-use Rattle.pmem_trait.specs.Sights.{Sight}
+use Rattle.std.proofs.Common.{◌≡◌, ◌∙◌, ap, sym, subst, refl, arith, length, is_ok, false, rules}
 use Rattle.fresh_image.specs.declared.sizes.ImageSizes.{ImageSizes}
-use Rattle.dude_program.specs.Run.{stage_of, subscribers_of}
-use Rattle.dude_program.specs.Serving.{Stage, ServesAll}
+use Rattle.dude_program.specs.Run.{subscribers_of}
+use Rattle.dude_program.specs.Serving.{Stage}
 use Rattle.dude_program.proofs.Runs.{GoesOn, goes_none, goes_next, goes_stops, goes_ends}
 use Rattle.dude_program.proofs.run.Run.serve_all.Goals as goal
 
@@ -12,11 +11,12 @@ loop-index-init g c =
     let s = g.M.Medium.sight c.args.m.now in
     record {
       goes = subst (λ (stage : Stage). GoesOn (subscribers_of self) 0 c.args.requests.now stage s s) (sym c.requires.opening)
-        (goes_none (subscribers_of self) c.args.requests.now s self.sizes.some self.sizes.limited c.requires.medium);
+          (goes_none (subscribers_of self) c.args.requests.now s self.sizes.some self.sizes.limited c.requires.medium);
       sizes = refl;
       room = refl;
       count = omega (arith, ap (λ (z : Stage). length z.done) c.requires.opening);
-      len = refl }
+      len = refl;
+    }
 
 pub loop-index-preserved : goal.loop-index-preserved
 loop-index-preserved g c =
@@ -27,7 +27,8 @@ loop-index-preserved g c =
       sizes = notes.sizes ∙ i.sizes;
       room = notes.room ∙ i.room;
       count = omega (arith, notes.count, i.count);
-      len = omega (arith, i.len, c.in_ok-serve.ensures.len) }
+      len = omega (arith, i.len, c.in_ok-serve.ensures.len);
+    }
 
 pub returns-in_err-serve-clause-serves : goal.returns-in_err-serve-clause-serves
 returns-in_err-serve-clause-serves g c file =

@@ -10,4 +10,5 @@ invariant-loop-index g l = record {
   sizes : l.self.sizes ≡ l.initial.self.sizes;
   room : room_of l.self ≡ room_of l.initial.self;
   count : vec_len l.self.done ≡ l.index;
-  len : (g.M.Medium.sight l.m).len ≡ (g.M.Medium.sight l.initial.m).len }
+  len : (g.M.Medium.sight l.m).len ≡ (g.M.Medium.sight l.initial.m).len;
+}

@@ -1,4 +1,4 @@
-use Rattle.std.proofs.Common.{◌≡◌, ◌*◌, ◌∙◌, ap, refl, arith, ◌≤◌}
+use Rattle.std.proofs.Common.{◌*◌, ◌∙◌, ap, refl}
 use Rattle.tatp_model.specs.declared.request.Request.TheVariants.{GetSubscriber}
 use Rattle.tatp_model.specs.OneThread.{is_changed}
 use Rattle.dude_program.specs.Run.{stage_of, subscribers_of}
@@ -18,5 +18,5 @@ returns-clause-serves g c =
     let S = subscribers_of c.args.self.now in
     let old = stage_of c.args.self.now in
     serves_unchanged S c.args.index (GetSubscriber c.args.s_id) old (stage_of c.note.new.self) (g.M.Medium.sight c.args.m.now)
-      c.args.self.now.sizes.some c.args.self.now.sizes.limited c.requires.medium c.requires.number (look_unchanged (12 * S) old.db c.args.s_id) refl
-      c.note.ensures.stays.0 c.note.ensures.stays.1 c.note.ensures.adds
+    c.args.self.now.sizes.some c.args.self.now.sizes.limited c.requires.medium c.requires.number (look_unchanged (12 * S) old.db c.args.s_id) refl
+    c.note.ensures.stays.0 c.note.ensures.stays.1 c.note.ensures.adds
