@@ -1,10 +1,8 @@
 -- What an implementation owes beside its lists follows from them.
 use Rattle.std.proofs.Common.{◌≡◌, ℕ, ◌<◌, List, [], ◌∷◌, ◌++◌, length, length-append, slice_index, slice_set, get_or, Option, Some, None, Ok, MatchOption, unwrap_or, refl, sym, ap, ◌∙◌, subst, arith}
 use Rattle.std.proofs.lemmas.List.{get_or_push}
-use Rattle.dude_base.specs.declared.write.Write.{Write}
-use Rattle.dude_base.specs.Writes.{written, put_write, overwritten}
+use Rattle.dude_base.specs.Writes.{written, overwritten}
 use Rattle.dude_base.proofs.Overwriting.{index-overwritten, overwritten-put}
-use Rattle.word_space.specs.declared.stop.Stop.{Stop}
 use Rattle.word_space.specs.Sights.{Sight, IsBelow, shown}
 use Rattle.word_space.specs.Steps.{DoesRead, DoesWrite}
 

@@ -1,5 +1,5 @@
 -- What contracts see of a value that reads and writes an array of words.
-use Rattle.std.specs.Prelude.{◌≡◌, ℕ, ◌^◌, ◌<◌, List, [], ◌∷◌, ◌++◌, length, Option, All, slice_index}
+use Rattle.std.specs.Prelude.{◌≡◌, ℕ, ◌^◌, ◌<◌, List, length, Option, All, slice_index}
 use Rattle.dude_base.specs.declared.write.Write.{Write}
 use Rattle.dude_base.specs.Writes.{IsWriteList, overwritten}
 use Rattle.word_space.specs.declared.stop.Stop.{Stop}

@@ -1,5 +1,5 @@
 -- What a `Flat` keeps.
-use Rattle.std.specs.Prelude.{◌≡◌, ◌≢◌, ℕ, ◌^◌, ◌<◌, List, length, All, Option, Some}
+use Rattle.std.specs.Prelude.{◌≢◌, ℕ, ◌^◌, ◌<◌, List, length, All, Option, Some}
 use Rattle.dude_base.specs.declared.write.Write.{Write}
 use Rattle.dude_base.specs.Writes.{IsWriteList}
 use Rattle.word_space.specs.declared.stop.Stop.{Stop}

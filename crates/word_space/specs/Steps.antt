@@ -1,6 +1,5 @@
 -- What a call leaves of what is seen, and what several calls leave together.
-use Rattle.std.specs.Prelude.{◌≡◌, ◌≢◌, ℕ, ◌^◌, ◌<◌, ◌⊎◌, ◌↔◌, List, [], ◌∷◌, ◌++◌, length, Option, Some, None, Result, Ok, Err, MatchOption}
-use Rattle.dude_base.specs.declared.write.Write.{Write}
+use Rattle.std.specs.Prelude.{◌≡◌, ◌≢◌, ℕ, ◌⊎◌, ◌↔◌, List, [], ◌∷◌, ◌++◌, length, Option, Some, None, Result, Ok, Err, MatchOption}
 use Rattle.dude_base.specs.Writes.{written, put_write, IsWide}
 use Rattle.word_space.specs.declared.stop.Stop.{Stop}
 use Rattle.word_space.specs.declared.stop.Stop.TheVariants.{Wide, NoMemory}
