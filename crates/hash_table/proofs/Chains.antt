@@ -1,5 +1,5 @@
 -- Lists of chains: whose elements they are, and one chain exchanged for another.
-use Rattle.std.proofs.Common.{◌≡◌, ◌≢◌, ℕ, ◌+◌, ◌<◌, ◌⊎◌, inl, inr, suc, zero, List, [], ◌∷◌, ◌++◌, length, All, Contains, get_or, slice_set, refl, sym, ap, ◌∙◌, subst, arith, false, eqb, append_assoc, length-set, get_or-set_same, get_or-set_other}
+use Rattle.std.proofs.Common.{◌≡◌, ◌≢◌, ℕ, ◌<◌, ◌⊎◌, inl, inr, suc, zero, List, [], ◌∷◌, ◌++◌, length, Contains, get_or, slice_set, refl, sym, ◌∙◌, subst, arith, false, eqb, append_assoc, length-set, get_or-set_same}
 use Rattle.std.proofs.lemmas.List.{set-set}
 use Rattle.std.proofs.lemmas.List.Elements.{Contains-append_cases, Contains-append_left, Contains-append_right, Contains-get_or, All-contains, All-from_recursion, recursion_from_All}
 use Rattle.std.proofs.lemmas.List.Sorted.{IsPermutation-refl, IsPermutation-sym, IsPermutation-trans, IsPermutation-cons, IsPermutation-append_left, IsPermutation-append_right, IsPermutation-append_comm, IsPermutation-middle}
@@ -25,8 +25,8 @@ only_one x y (suc k) below is = absurd (omega arith)
 pub first_or_other : (x y : ℕ) (ys : List ℕ) → Contains (y ∷ ys) x → (x ≡ y) ⊎ Contains ys x
 first_or_other x y ys c =
     elim (Contains-append_cases (y ∷ []) ys x c) [
-      inl h ↦ inl (only_one x y h.0 h.1 h.2)
-    | inr h ↦ inr h
+      | inl h ↦ inl (only_one x y h.0 h.1 h.2)
+      | inr h ↦ inr h
     ]
 
 pub first_among : (x : ℕ) (xs : List ℕ) → Contains (x ∷ xs) x
@@ -43,8 +43,8 @@ pub differ_across : (x y : ℕ) (xs ys : List ℕ) → IsDistinct eqb (xs ++ ys)
 differ_across x y [] ys distinct cx cy same = no_element x cx
 differ_across x y (z ∷ zs) ys distinct cx cy same =
     elim (first_or_other x z zs cx) [
-      inl first ↦ eqb-false z y (each_at (λ v. eqb z v ≡ false) (zs ++ ys) y (IsDistinct-head eqb z (zs ++ ys) distinct) (Contains-append_right zs ys y cy)) (sym first ∙ same)
-    | inr other ↦ differ_across x y zs ys (IsDistinct-tail eqb z (zs ++ ys) distinct) other cy same
+      | inl first ↦ eqb-false z y (each_at (λ v. eqb z v ≡ false) (zs ++ ys) y (IsDistinct-head eqb z (zs ++ ys) distinct) (Contains-append_right zs ys y cy)) (sym first ∙ same)
+      | inr other ↦ differ_across x y zs ys (IsDistinct-tail eqb z (zs ++ ys) distinct) other cy same
     ]
 
 -- the front of a list without repetition has none
@@ -65,14 +65,14 @@ pub chain_with : (chains : List (List ℕ)) (x : ℕ) → Contains (records_in c
 chain_with [] x c = absurd (no_element x c)
 chain_with (chain ∷ chains) x c =
     elim (Contains-append_cases chain (records_in chains) x c) [
-      inl here ↦ (0, omega arith, here)
-    | inr there ↦ let found = chain_with chains x there in (suc found.0, omega (arith, found.1), found.2)
+      | inl here ↦ (0, omega arith, here)
+      | inr there ↦ let found = chain_with chains x there in (suc found.0, omega (arith, found.1), found.2)
     ]
 
 move_front : (xs ys zs : List ℕ) → IsPermutation (xs ++ (ys ++ zs)) (ys ++ (xs ++ zs))
 move_front xs ys zs =
     subst (λ l. IsPermutation l (ys ++ (xs ++ zs))) (append_assoc xs ys zs)
-        (subst (λ l. IsPermutation (xs ++ ys ++ zs) l) (append_assoc ys xs zs) (IsPermutation-append_left zs (xs ++ ys) (ys ++ xs) (IsPermutation-append_comm xs ys)))
+    (subst (λ l. IsPermutation (xs ++ ys ++ zs) l) (append_assoc ys xs zs) (IsPermutation-append_left zs (xs ++ ys) (ys ++ xs) (IsPermutation-append_comm xs ys)))
 
 -- one chain, and those of the other buckets
 chain_apart : (chains : List (List ℕ)) (bucket : ℕ) → bucket < length chains → IsPermutation (records_in chains) (chain_of chains bucket ++ records_in (slice_set chains bucket []))
@@ -80,27 +80,27 @@ chain_apart [] bucket below = absurd (omega arith)
 chain_apart (chain ∷ chains) zero below = IsPermutation-refl (chain ++ records_in chains)
 chain_apart (chain ∷ chains) (suc bucket) below =
     IsPermutation-trans _ _ _
-        (IsPermutation-append_right chain (records_in chains) (chain_of chains bucket ++ records_in (slice_set chains bucket [])) (chain_apart chains bucket (omega arith)))
-        (move_front chain (chain_of chains bucket) (records_in (slice_set chains bucket [])))
+    (IsPermutation-append_right chain (records_in chains) (chain_of chains bucket ++ records_in (slice_set chains bucket [])) (chain_apart chains bucket (omega arith)))
+    (move_front chain (chain_of chains bucket) (records_in (slice_set chains bucket [])))
 
 pub chain_put : (chains : List (List ℕ)) (bucket : ℕ) (chain : List ℕ) → bucket < length chains → IsPermutation (records_in (slice_set chains bucket chain)) (chain ++ records_in (slice_set chains bucket []))
 chain_put chains bucket chain below =
     subst (λ l. IsPermutation (records_in (slice_set chains bucket chain)) (l ++ records_in (slice_set chains bucket []))) (get_or-set_same chains bucket chain [] below)
-        (subst (λ l. IsPermutation (records_in (slice_set chains bucket chain)) (chain_of (slice_set chains bucket chain) bucket ++ records_in l)) (set-set chains bucket chain [])
-            (chain_apart (slice_set chains bucket chain) bucket (omega (arith, length-set chains bucket chain))))
+    (subst (λ l. IsPermutation (records_in (slice_set chains bucket chain)) (chain_of (slice_set chains bucket chain) bucket ++ records_in l)) (set-set chains bucket chain [])
+    (chain_apart (slice_set chains bucket chain) bucket (omega (arith, length-set chains bucket chain))))
 
 -- one more record at the front of a chain
 pub records_more : (chains : List (List ℕ)) (bucket at : ℕ) → bucket < length chains → IsPermutation (at ∷ records_in chains) (records_in (slice_set chains bucket (at ∷ chain_of chains bucket)))
 records_more chains bucket at below =
     IsPermutation-trans _ _ _
-        (IsPermutation-cons at _ _ (chain_apart chains bucket below))
-        (IsPermutation-sym _ _ (chain_put chains bucket (at ∷ chain_of chains bucket) below))
+    (IsPermutation-cons at _ _ (chain_apart chains bucket below))
+    (IsPermutation-sym _ _ (chain_put chains bucket (at ∷ chain_of chains bucket) below))
 
 -- one record of a chain fewer
 pub records_less : (chains : List (List ℕ)) (bucket at : ℕ) (before behind : List ℕ) → bucket < length chains → chain_of chains bucket ≡ before ++ at ∷ behind → IsPermutation (records_in chains) (at ∷ records_in (slice_set chains bucket (before ++ behind)))
 records_less chains bucket at before behind below is =
     let others = records_in (slice_set chains bucket []) in
     IsPermutation-trans _ _ _ (chain_apart chains bucket below)
-        (IsPermutation-trans _ _ _
-            (subst (λ l. IsPermutation (l ++ others) (at ∷ ((before ++ behind) ++ others))) (sym is) (IsPermutation-append_left others (before ++ at ∷ behind) (at ∷ (before ++ behind)) (IsPermutation-middle before at behind)))
-            (IsPermutation-cons at _ _ (IsPermutation-sym _ _ (chain_put chains bucket (before ++ behind) below))))
+    (IsPermutation-trans _ _ _
+    (subst (λ l. IsPermutation (l ++ others) (at ∷ ((before ++ behind) ++ others))) (sym is) (IsPermutation-append_left others (before ++ at ∷ behind) (at ∷ (before ++ behind)) (IsPermutation-middle before at behind)))
+    (IsPermutation-cons at _ _ (IsPermutation-sym _ _ (chain_put chains bucket (before ++ behind) below))))

@@ -1,5 +1,5 @@
 -- Tables that may be used, by the runs of their words.
-use Rattle.std.proofs.Common.{◌≡◌, ℕ, ◌+◌, ◌*◌, ◌<◌, ◌≤◌, ◌⊎◌, inl, inr, arith}
+use Rattle.std.proofs.Common.{ℕ, ◌+◌, ◌*◌, ◌<◌, ◌≤◌, inl, inr, arith}
 use Rattle.std.proofs.Math.Nat.{mul-le-mul_left}
 use Rattle.record_heap.specs.declared.pool.Pool.{Pool}
 use Rattle.record_heap.specs.Pool.{IsRecord, AreApart}
@@ -16,14 +16,14 @@ record_ends {pool} r =
 pub table_fits : (table : Table) (n : ℕ) → 0 < table.buckets → table.pool.base + 2 ≤ table.pool.first → 2 ≤ table.pool.size → table.pool.first + table.pool.size * table.pool.count ≤ n → table.at + table.buckets ≤ n →
     AreApart table.at table.buckets table.pool.base 2 → AreApart table.at table.buckets table.pool.first (table.pool.size * table.pool.count) → FitsTable table n
 table_fits table n some behind wide whole links header records = record {
-      buckets = some;
-      pool = fits_behind table.pool n behind wide whole;
-      links = links;
-      header = header;
-      records = λ at r.
-          let ends = record_ends r in
-          elim records [
-            inl before ↦ inl (omega (arith, before, ends.0))
-          | inr after ↦ inr (omega (arith, after, ends.1))
-          ];
-    }
+  buckets = some;
+  pool = fits_behind table.pool n behind wide whole;
+  links = links;
+  header = header;
+  records = λ at r.
+      let ends = record_ends r in
+      elim records [
+        | inl before ↦ inl (omega (arith, before, ends.0))
+        | inr after ↦ inr (omega (arith, after, ends.1))
+      ];
+}

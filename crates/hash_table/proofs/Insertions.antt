@@ -1,17 +1,15 @@
 -- What `find` and `insert` do to a lawful table, on plain arrays.
-use Rattle.std.proofs.Common.{◌≡◌, ◌≢◌, ℕ, ◌+◌, ◌%◌, ◌<◌, ◌≤◌, ◌⊎◌, inl, inr, zero, suc, List, [], ◌∷◌, ◌++◌, length, length-append, length-set, All, Contains, Option, Some, None, slice_index, slice_set, get_or, refl, sym, ap, ◌∙◌, subst, arith, eqb, get_or-set_other, get_or-set_same, add-zero}
+use Rattle.std.proofs.Common.{◌≡◌, ◌≢◌, ℕ, ◌+◌, ◌%◌, ◌<◌, ◌≤◌, ◌⊎◌, inl, inr, zero, suc, List, [], ◌∷◌, ◌++◌, length, length-append, length-set, All, Contains, Option, Some, None, slice_index, slice_set, refl, sym, ap, ◌∙◌, subst, arith, get_or-set_other, get_or-set_same, add-zero}
 use Rattle.std.proofs.lemmas.Bool.{cases_eq}
-use Rattle.std.proofs.lemmas.List.Elements.{All-cons, All-contains, All-from_recursion, Contains-append_left, Contains-append_right, Contains-get_or}
+use Rattle.std.proofs.lemmas.List.Elements.{All-cons, All-contains, All-from_recursion, Contains-append_left, Contains-append_right}
 use Rattle.std.proofs.lemmas.List.Sorted.{Contains-permutation, IsPermutation-append_right, IsPermutation-sym, IsPermutation-trans, length_permutation}
-use Rattle.std.specs.List.{AllByRecursion, IsDistinct}
-use Rattle.std.specs.List.Sorted.{IsPermutation}
+use Rattle.std.specs.List.{AllByRecursion}
 use Rattle.record_heap.specs.Changes.{IsNoneOf, ChangesOnly}
 use Rattle.record_heap.specs.Links.{Linked}
-use Rattle.record_heap.specs.Pool.{records_of, IsRecord, IsPool, Takes}
+use Rattle.record_heap.specs.Pool.{IsRecord, IsPool, Takes}
 use Rattle.record_heap.proofs.Arrays.{linked_from, changes_none, changes_more, changes_by}
 use Rattle.record_heap.proofs.Places.{records_apart, each_is_record, as_many, none_twice, others_differ}
-use Rattle.hash_table.specs.declared.put.Put.{Put}
-use Rattle.hash_table.specs.declared.put.Put.TheVariants.{There, Full, Stored}
+use Rattle.hash_table.specs.declared.put.Put.TheVariants.{Full, Stored}
 use Rattle.hash_table.specs.declared.table.Spot.{Spot}
 use Rattle.hash_table.specs.declared.table.Table.{Table}
 use Rattle.hash_table.specs.Seek.{IsAmid, Seeks}
@@ -30,7 +28,7 @@ each_record {table} chains free lawful x c = each_at (IsRecord table.pool) (free
 pub chain_records : {table : Table} {a : List ℕ} (chains : List (List ℕ)) (free : List ℕ) → IsTable table a chains free → (bucket : ℕ) → All (IsRecord table.pool) (chain_of chains bucket)
 chain_records {table} chains free lawful bucket =
     All-from_recursion (IsRecord table.pool) (chain_of chains bucket)
-        (each_from (IsRecord table.pool) (chain_of chains bucket) (λ x c. each_record chains free lawful x (Contains-append_right free (records_in chains) x (chain_among chains bucket x c))))
+    (each_from (IsRecord table.pool) (chain_of chains bucket) (λ x c. each_record chains free lawful x (Contains-append_right free (records_in chains) x (chain_among chains bucket x c))))
 
 chain_short : (chains : List (List ℕ)) (bucket : ℕ) → length (chain_of chains bucket) ≤ length (records_in chains)
 chain_short [] bucket = omega arith
@@ -52,7 +50,7 @@ in_chain {table} {a = a} chains free key fits lawful x c holds =
 pub absent_everywhere : {table : Table} {n : ℕ} {a : List ℕ} (chains : List (List ℕ)) (free : List ℕ) (key : ℕ) → FitsTable table n → IsTable table a chains free → All (λ at. slice_index a at ≢ key) (chain_of chains (key % table.buckets)) → record_of a (records_in chains) key ≡ None
 absent_everywhere {table} {a = a} chains free key fits lawful absent =
     record_of-is a (records_in chains) key lawful.keys None
-        (λ x c holds. All-contains (λ at. slice_index a at ≢ key) (chain_of chains (key % table.buckets)) x absent (in_chain chains free key fits lawful x c holds) holds)
+    (λ x c holds. All-contains (λ at. slice_index a at ≢ key) (chain_of chains (key % table.buckets)) x absent (in_chain chains free key fits lawful x c holds) holds)
 
 pub amid_among : (before behind : List ℕ) (x : ℕ) → Contains (before ++ x ∷ behind) x
 amid_among before behind x = Contains-append_right before (x ∷ behind) x (first_among x behind)
@@ -60,7 +58,7 @@ amid_among before behind x = Contains-append_right before (x ∷ behind) x (firs
 pub found_there : {table : Table} {a : List ℕ} (chains : List (List ℕ)) (free : List ℕ) (key : ℕ) (spot : Spot) → IsTable table a chains free → IsAmid a (table.at + key % table.buckets) key (chain_of chains (key % table.buckets)) spot → record_of a (records_in chains) key ≡ Some spot.record
 found_there {table} {a} chains free key spot lawful amid =
     record_of-is a (records_in chains) key lawful.keys (Some spot.record)
-        (chain_among chains (key % table.buckets) spot.record (subst (λ l. Contains l spot.record) (sym amid.split) (amid_among amid.before amid.behind spot.record)), amid.holds)
+    (chain_among chains (key % table.buckets) spot.record (subst (λ l. Contains l spot.record) (sym amid.split) (amid_among amid.before amid.behind spot.record)), amid.holds)
 
 -- what `seek` says at the key's chain
 pub sought : {table : Table} {n : ℕ} {a : List ℕ} (key : ℕ) (r : Option Spot) (chains : List (List ℕ)) (free : List ℕ) → FitsTable table n → IsTable table a chains free →
@@ -122,9 +120,9 @@ record IsTaken (table : Table) (at : ℕ) (left chained : List ℕ) : Type 0 whe
 
 taken_is : {table : Table} {n at : ℕ} {a : List ℕ} (chains : List (List ℕ)) (left : List ℕ) → FitsTable table n → IsTable table a chains (at ∷ left) → IsTaken table at left (records_in chains)
 taken_is {table} {at = at} chains left fits lawful = record {
-      records = λ x c. each_record chains (at ∷ left) lawful x (other_among x at (left ++ records_in chains) c);
-      differ = λ x c. each_at (λ y. y ≢ at) (left ++ records_in chains) x (others_differ at (left ++ records_in chains) (none_twice table.pool (at ∷ (left ++ records_in chains)) lawful.pool.once (omega (arith, fits.pool.size)))) c;
-    }
+  records = λ x c. each_record chains (at ∷ left) lawful x (other_among x at (left ++ records_in chains) c);
+  differ = λ x c. each_at (λ y. y ≢ at) (left ++ records_in chains) x (others_differ at (left ++ records_in chains) (none_twice table.pool (at ∷ (left ++ records_in chains)) lawful.pool.once (omega (arith, fits.pool.size)))) c;
+}
 
 -- the pool is lawful still
 put_pool : {table : Table} {n key at : ℕ} {a b c : List ℕ} (chains : List (List ℕ)) (left : List ℕ) → FitsTable table n → IsRecord table.pool at → IsTaken table at left (records_in chains) → IsPut table key at a b c → length chains ≡ table.buckets → IsPool table.pool b left (at ∷ records_in chains) → IsPool table.pool c left (records_in (slice_set chains (key % table.buckets) (at ∷ chain_of chains (key % table.buckets))))
@@ -138,9 +136,9 @@ put_pool {table} {n} {key} {at} {a} {b} {c} chains left fits there taken put who
       links = linked_from b c pool.base pool.base left
           (put.later.others pool.base (omega (arith, fits.header, home), (omega (arith, header, fits.pool.size), (omega (arith, header, fits.pool.size), tt))))
           (each_from (λ x. slice_index c (x + 1) ≡ slice_index b (x + 1)) left (λ x among.
-              let kept = Contains-append_left left (records_in chains) x among in
-              let none = word_apart key at x 1 fits there (taken.records x kept) (taken.differ x kept) (omega arith) in
-              put.later.others (x + 1) (none.1.1.1.1.0, (none.1.0, (none.0, tt)))))
+          let kept = Contains-append_left left (records_in chains) x among in
+          let none = word_apart key at x 1 fits there (taken.records x kept) (taken.differ x kept) (omega arith) in
+          put.later.others (x + 1) (none.1.1.1.1.0, (none.1.0, (none.0, tt)))))
           lawful.links;
       live = put.later.others (pool.base + 1) (omega (arith, fits.header, home), (omega (arith, header, fits.pool.size), (omega (arith, header, fits.pool.size), tt))) ∙ lawful.live ∙ sym (length_permutation _ _ moves);
       once = IsPermutation-trans _ _ _ lawful.once (IsPermutation-append_right left (at ∷ records_in chains) _ moves);
@@ -154,7 +152,6 @@ front_other chains bucket other chain differ = get_or-set_other chains bucket ot
 
 module _ {table : Table} {n key at : ℕ} {a b c : List ℕ} (chains : List (List ℕ)) (left : List ℕ)
     (fits : FitsTable table n) (there : IsRecord table.pool at) (lawful : IsTable table a chains (at ∷ left)) (put : IsPut table key at a b c) where
-
   others_kept : (x j : ℕ) → Contains (records_in chains) x → j < 2 → slice_index c (x + j) ≡ slice_index a (x + j)
   others_kept x j among small =
       let taken = taken_is chains left fits lawful in
@@ -172,28 +169,28 @@ module _ {table : Table} {n key at : ℕ} {a b c : List ℕ} (chains : List (Lis
       let home = key % table.buckets in
       let chain = chain_of chains home in
       elim (cases_eq bucket home) [
-        inl same ↦ subst (λ d. Linked c (table.at + d) (chain_of (slice_set chains home (at ∷ chain)) d)) (sym same)
+        | inl same ↦ subst (λ d. Linked c (table.at + d) (chain_of (slice_set chains home (at ∷ chain)) d)) (sym same)
             (subst (λ l. Linked c (table.at + home) l) (sym (front_same chains home (at ∷ chain) (omega (arith, lawful.buckets, bucket_below key fits))))
-                (put.front, linked_from a c (table.at + home) (at + 1) chain put.link (links_kept home) (lawful.links home (bucket_below key fits))))
-      | inr differ ↦ subst (λ l. Linked c (table.at + bucket) l) (sym (front_other chains home bucket (at ∷ chain) differ))
+            (put.front, linked_from a c (table.at + home) (at + 1) chain put.link (links_kept home) (lawful.links home (bucket_below key fits))))
+        | inr differ ↦ subst (λ l. Linked c (table.at + bucket) l) (sym (front_other chains home bucket (at ∷ chain) differ))
             (linked_from a c (table.at + bucket) (table.at + bucket) (chain_of chains bucket)
-                (put.changes.others (table.at + bucket) (link_apart key at bucket fits there below differ)) (links_kept bucket) (lawful.links bucket below))
+            (put.changes.others (table.at + bucket) (link_apart key at bucket fits there below differ)) (links_kept bucket) (lawful.links bucket below))
       ]
 
   homes_kept : (bucket : ℕ) → bucket < table.buckets → All (λ x. slice_index c x % table.buckets ≡ bucket) (chain_of chains bucket)
   homes_kept bucket below = All-from_recursion (λ x. slice_index c x % table.buckets ≡ bucket) (chain_of chains bucket)
       (each_from (λ x. slice_index c x % table.buckets ≡ bucket) (chain_of chains bucket) (λ x among.
-          ap (λ k. k % table.buckets) (keys_kept x (chain_among chains bucket x among)) ∙ All-contains (λ y. slice_index a y % table.buckets ≡ bucket) (chain_of chains bucket) x (lawful.homes bucket below) among))
+      ap (λ k. k % table.buckets) (keys_kept x (chain_among chains bucket x among)) ∙ All-contains (λ y. slice_index a y % table.buckets ≡ bucket) (chain_of chains bucket) x (lawful.homes bucket below) among))
 
   put_homes : (bucket : ℕ) → bucket < table.buckets → All (λ x. slice_index c x % table.buckets ≡ bucket) (chain_of (slice_set chains (key % table.buckets) (at ∷ chain_of chains (key % table.buckets))) bucket)
   put_homes bucket below =
       let home = key % table.buckets in
       let chain = chain_of chains home in
       elim (cases_eq bucket home) [
-        inl same ↦ subst (λ d. All (λ x. slice_index c x % table.buckets ≡ d) (chain_of (slice_set chains home (at ∷ chain)) d)) (sym same)
+        | inl same ↦ subst (λ d. All (λ x. slice_index c x % table.buckets ≡ d) (chain_of (slice_set chains home (at ∷ chain)) d)) (sym same)
             (subst (λ l. All (λ x. slice_index c x % table.buckets ≡ home) l) (sym (front_same chains home (at ∷ chain) (omega (arith, lawful.buckets, bucket_below key fits))))
-                (All-cons (λ x. slice_index c x % table.buckets ≡ home) at chain (ap (λ k. k % table.buckets) put.holds) (homes_kept home (bucket_below key fits))))
-      | inr differ ↦ subst (λ l. All (λ x. slice_index c x % table.buckets ≡ bucket) l) (sym (front_other chains home bucket (at ∷ chain) differ)) (homes_kept bucket below)
+            (All-cons (λ x. slice_index c x % table.buckets ≡ home) at chain (ap (λ k. k % table.buckets) put.holds) (homes_kept home (bucket_below key fits))))
+        | inr differ ↦ subst (λ l. All (λ x. slice_index c x % table.buckets ≡ bucket) l) (sym (front_other chains home bucket (at ∷ chain) differ)) (homes_kept bucket below)
       ]
 
   -- the records of the chains afterwards
@@ -205,47 +202,46 @@ module _ {table : Table} {n key at : ℕ} {a b c : List ℕ} (chains : List (Lis
   still_among x among = Contains-permutation _ _ x (records_more chains (key % table.buckets) at (omega (arith, lawful.buckets, bucket_below key fits))) among
 
   module _ (absent : record_of a (records_in chains) key ≡ None) where
-
     none_has : (x : ℕ) → Contains (records_in chains) x → slice_index a x ≢ key
     none_has = subst (λ r. IsAt a (records_in chains) key r) absent (record_of-is_at a (records_in chains) key)
 
     put_keys : HasKeysApart c (records_in (slice_set chains (key % table.buckets) (at ∷ chain_of chains (key % table.buckets))))
     put_keys x y cx cy same =
         elim (among_after x cx) [
-          inl xat ↦ elim (among_after y cy) [
-            inl yat ↦ xat ∙ sym yat
-          | inr yin ↦ absurd (none_has y yin (sym (keys_kept y yin) ∙ sym same ∙ ap (λ z. slice_index c z) xat ∙ put.holds))
+          | inl xat ↦ elim (among_after y cy) [
+            | inl yat ↦ xat ∙ sym yat
+            | inr yin ↦ absurd (none_has y yin (sym (keys_kept y yin) ∙ sym same ∙ ap (λ z. slice_index c z) xat ∙ put.holds))
           ]
-        | inr xin ↦ elim (among_after y cy) [
-            inl yat ↦ absurd (none_has x xin (sym (keys_kept x xin) ∙ same ∙ ap (λ z. slice_index c z) yat ∙ put.holds))
-          | inr yin ↦ lawful.keys x y xin yin (sym (keys_kept x xin) ∙ same ∙ keys_kept y yin)
+          | inr xin ↦ elim (among_after y cy) [
+            | inl yat ↦ absurd (none_has x xin (sym (keys_kept x xin) ∙ same ∙ ap (λ z. slice_index c z) yat ∙ put.holds))
+            | inr yin ↦ lawful.keys x y xin yin (sym (keys_kept x xin) ∙ same ∙ keys_kept y yin)
           ]
         ]
 
     -- `insert` stores a key that was not there
     pub stores : IsPool table.pool b left (at ∷ records_in chains) → Stores table key at chains (at ∷ left) a c
     stores took = record {
-          left = left;
-          first = refl;
-          absent = absent;
-          after = slice_set chains (key % table.buckets) (at ∷ chain_of chains (key % table.buckets));
-          front = refl;
-          lawful = record {
-              pool = put_pool chains left fits there (taken_is chains left fits lawful) put lawful.buckets took;
-              buckets = length-set chains (key % table.buckets) (at ∷ chain_of chains (key % table.buckets)) ∙ lawful.buckets;
-              links = put_links;
-              homes = put_homes;
-              keys = put_keys;
-            };
-          there = record_of-is c _ key put_keys (Some at) (still_among at (first_among at (records_in chains)), put.holds);
-          others = λ k differ. record_of-same a c (records_in chains) _ k put_keys
-              (λ x among holds. (still_among x (other_among x at (records_in chains) among), keys_kept x among ∙ holds))
-              (λ y among holds. elim (among_after y among) [
-                  inl yat ↦ absurd (differ (sym holds ∙ ap (λ z. slice_index c z) yat ∙ put.holds))
-                | inr yin ↦ (yin, sym (keys_kept y yin) ∙ holds)
-                ]);
-          changes = put.changes;
-        }
+      left = left;
+      first = refl;
+      absent = absent;
+      after = slice_set chains (key % table.buckets) (at ∷ chain_of chains (key % table.buckets));
+      front = refl;
+      lawful = record {
+        pool = put_pool chains left fits there (taken_is chains left fits lawful) put lawful.buckets took;
+        buckets = length-set chains (key % table.buckets) (at ∷ chain_of chains (key % table.buckets)) ∙ lawful.buckets;
+        links = put_links;
+        homes = put_homes;
+        keys = put_keys;
+      };
+      there = record_of-is c _ key put_keys (Some at) (still_among at (first_among at (records_in chains)), put.holds);
+      others = λ k differ. record_of-same a c (records_in chains) _ k put_keys
+          (λ x among holds. (still_among x (other_among x at (records_in chains) among), keys_kept x among ∙ holds))
+          (λ y among holds. elim (among_after y among) [
+            | inl yat ↦ absurd (differ (sym holds ∙ ap (λ z. slice_index c z) yat ∙ put.holds))
+            | inr yin ↦ (yin, sym (keys_kept y yin) ∙ holds)
+          ]);
+      changes = put.changes;
+    }
 
 -- what `insert` does where a record was taken
 pub inserts_stored : {table : Table} {n key at head : ℕ} {a c : List ℕ} (b : List ℕ) → FitsTable table n → length a ≡ n → IsRecord table.pool at → head ≡ slice_index a (table.at + key % table.buckets) →
@@ -255,8 +251,8 @@ inserts_stored b fits long there read is chains [] lawful absent takes = absurd 
 inserts_stored {table} {n} {key} {at} {head} {a} {c} b fits long there read is chains (first ∷ left) lawful absent takes =
     let same : at ≡ first = cc (takes.0) in
     subst (λ x. Stores table key at chains (x ∷ left) a c) same
-        (stores chains left fits there (subst (λ x. IsTable table a chains (x ∷ left)) (sym same) lawful) (put_is fits long there takes.2 read is) absent
-            (subst (λ x. IsPool table.pool b left (x ∷ records_in chains)) (sym same) takes.1))
+    (stores chains left fits there (subst (λ x. IsTable table a chains (x ∷ left)) (sym same) lawful) (put_is fits long there takes.2 read is) absent
+    (subst (λ x. IsPool table.pool b left (x ∷ records_in chains)) (sym same) takes.1))
 
 -- what `insert` does where none was free
 pub inserts_full : (table : Table) (key : ℕ) {a b : List ℕ} (chains : List (List ℕ)) (free : List ℕ) → record_of a (records_in chains) key ≡ None → Takes table.pool free (records_in chains) None a b → Inserts table key chains free Full a b

@@ -1,5 +1,5 @@
 -- The map from keys to records that an array and a list of records make.
-use Rattle.std.proofs.Common.{◌≡◌, ◌≢◌, ℕ, ◌<◌, ◌⊎◌, inl, inr, List, [], ◌∷◌, Contains, Option, Some, None, MatchOption, slice_index, refl, sym, ap, ◌∙◌, subst, true, false, cond, eqb, arith}
+use Rattle.std.proofs.Common.{◌≡◌, ◌≢◌, ℕ, inl, inr, List, [], ◌∷◌, Contains, Option, Some, None, slice_index, refl, sym, ap, ◌∙◌, subst, cond, arith}
 use Rattle.std.proofs.lemmas.Bool.{cases_eq, eq-eqb, ne_eqb}
 use Rattle.hash_table.specs.Table.{record_of}
 use Rattle.hash_table.proofs.Chains.{first_or_other, first_among, other_among}
@@ -26,8 +26,8 @@ pub record_of-is_at : (array xs : List ℕ) (key : ℕ) → IsAt array xs key (r
 record_of-is_at array [] key = λ x c same. omega (arith, c.1)
 record_of-is_at array (x ∷ xs) key =
     elim (cases_eq (slice_index array x) key) [
-      inl same ↦ along (IsAt array (x ∷ xs) key) _ _ (sym (step_here array x xs key same)) (first_among x xs, same)
-    | inr differ ↦ along (IsAt array (x ∷ xs) key) _ _ (sym (step_on array x xs key differ)) (is_at_on array x xs key _ differ (record_of-is_at array xs key))
+      | inl same ↦ along (IsAt array (x ∷ xs) key) _ _ (sym (step_here array x xs key same)) (first_among x xs, same)
+      | inr differ ↦ along (IsAt array (x ∷ xs) key) _ _ (sym (step_on array x xs key differ)) (is_at_on array x xs key _ differ (record_of-is_at array xs key))
     ]
 
 -- no two records have one key

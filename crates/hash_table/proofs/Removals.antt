@@ -1,12 +1,12 @@
 -- What `remove` does to a lawful table, on plain arrays.
-use Rattle.std.proofs.Common.{◌≡◌, ◌≢◌, ℕ, ◌+◌, ◌%◌, ◌<◌, ◌≤◌, ◌⊎◌, inl, inr, List, [], ◌∷◌, ◌++◌, length, length-append, length-set, All, Contains, Option, Some, None, slice_index, slice_set, get_or, refl, sym, ap, ◌∙◌, subst, arith, false, eqb, get_or-set_other, get_or-set_same, add-zero}
+use Rattle.std.proofs.Common.{◌≡◌, ◌≢◌, ℕ, ◌+◌, ◌%◌, ◌<◌, ◌⊎◌, inl, inr, List, [], ◌∷◌, ◌++◌, length, length-set, All, Contains, Some, None, slice_index, slice_set, refl, sym, ap, ◌∙◌, subst, arith, false, eqb, get_or-set_same, add-zero}
 use Rattle.std.proofs.lemmas.Bool.{cases_eq, eqb-false}
 use Rattle.std.proofs.lemmas.List.Elements.{All-contains, All-from_recursion, Contains-append_cases, Contains-append_left, Contains-append_right}
 use Rattle.std.proofs.lemmas.List.Sorted.{Contains-permutation, IsPermutation-append_comm, IsPermutation-append_left, IsPermutation-append_right, IsPermutation-middle, IsPermutation-sym, IsPermutation-trans, length_permutation}
 use Rattle.std.proofs.lemmas.Map.Keys.{IsDistinct-head, IsDistinct-tail}
 use Rattle.std.specs.List.{AllByRecursion, IsDistinct}
 use Rattle.std.specs.List.Sorted.{IsPermutation}
-use Rattle.record_heap.specs.Changes.{IsNoneOf, ChangesOnly}
+use Rattle.record_heap.specs.Changes.{ChangesOnly}
 use Rattle.record_heap.specs.Links.{Linked}
 use Rattle.record_heap.specs.Pool.{records_of, IsRecord, IsPool, Gives}
 use Rattle.record_heap.proofs.Arrays.{linked_from, changes_none, changes_more, changes_by}
@@ -15,9 +15,9 @@ use Rattle.hash_table.specs.declared.table.Spot.{Spot}
 use Rattle.hash_table.specs.declared.table.Table.{Table}
 use Rattle.hash_table.specs.Seek.{IsAmid}
 use Rattle.hash_table.specs.Table.{FitsTable, IsTable, Drops, chain_of, records_in, record_of, link_after}
-use Rattle.hash_table.proofs.Chains.{each_from, each_at, first_or_other, first_among, other_among, no_element, differ_across, distinct_front, chain_among, chain_put, records_less}
-use Rattle.hash_table.proofs.Insertions.{bucket_below, each_record, found_there, front_same, front_other, amid_among}
-use Rattle.hash_table.proofs.Maps.{IsAt, HasKeysApart, record_of-is, record_of-same}
+use Rattle.hash_table.proofs.Chains.{each_from, each_at, first_or_other, first_among, other_among, differ_across, distinct_front, chain_among, chain_put, records_less}
+use Rattle.hash_table.proofs.Insertions.{bucket_below, found_there, front_same, front_other, amid_among}
+use Rattle.hash_table.proofs.Maps.{HasKeysApart, record_of-is, record_of-same}
 
 -- ---- one chain
 
@@ -26,16 +26,16 @@ link_cases : (place : ℕ) (before : List ℕ) → (link_after place before ≡ 
 link_cases place [] = inl refl
 link_cases place (x ∷ xs) =
     elim (link_cases (x + 1) xs) [
-      inl same ↦ inr (x, first_among x xs, same)
-    | inr other ↦ inr (other.0, other_among other.0 x xs other.1, other.2)
+      | inl same ↦ inr (x, first_among x xs, same)
+      | inr other ↦ inr (other.0, other_among other.0 x xs other.1, other.2)
     ]
 
 -- where it is not the chain's own
 link_differs : (place : ℕ) (x : ℕ) (xs : List ℕ) → ((y : ℕ) → Contains (x ∷ xs) y → place ≢ y + 1) → place ≢ link_after (x + 1) xs
 link_differs place x xs apart same =
     elim (link_cases (x + 1) xs) [
-      inl own ↦ apart x (first_among x xs) (same ∙ own)
-    | inr other ↦ apart other.0 (other_among other.0 x xs other.1) (same ∙ other.2)
+      | inl own ↦ apart x (first_among x xs) (same ∙ own)
+      | inr other ↦ apart other.0 (other_among other.0 x xs other.1) (same ∙ other.2)
     ]
 
 -- A record is taken out of a chain: the link that led to it leads to the next one now, and the other
@@ -43,11 +43,12 @@ link_differs place x xs apart same =
 unlinked : (a b : List ℕ) (at place : ℕ) (before behind : List ℕ) → Linked a place (before ++ at ∷ behind) → slice_index b (link_after place before) ≡ slice_index a (at + 1) → IsDistinct eqb before → ((y : ℕ) → Contains before y → place ≢ y + 1) →
     (place ≢ link_after place before → slice_index b place ≡ slice_index a place) → ((y : ℕ) → Contains before y → y + 1 ≢ link_after place before → slice_index b (y + 1) ≡ slice_index a (y + 1)) → AllByRecursion (λ x. slice_index b (x + 1) ≡ slice_index a (x + 1)) behind → Linked b place (before ++ behind)
 unlinked a b at place [] behind linked leads distinct apart here kept rest = linked_from a b (at + 1) place behind leads rest linked.1
-unlinked a b at place (x ∷ xs) behind linked leads distinct apart here kept rest =
-    (here (link_differs place x xs apart) ∙ linked.0,
-     unlinked a b at (x + 1) xs behind linked.1 leads (IsDistinct-tail eqb x xs distinct)
-         (λ y among same. eqb-false x y (each_at (λ v. eqb x v ≡ false) xs y (IsDistinct-head eqb x xs distinct) among) (omega (arith, same)))
-         (kept x (first_among x xs)) (λ y among. kept y (other_among y x xs among)) rest)
+unlinked a b at place (x ∷ xs) behind linked leads distinct apart here kept rest = (
+  here (link_differs place x xs apart) ∙ linked.0,
+  unlinked a b at (x + 1) xs behind linked.1 leads (IsDistinct-tail eqb x xs distinct)
+      (λ y among same. eqb-false x y (each_at (λ v. eqb x v ≡ false) xs y (IsDistinct-head eqb x xs distinct) among) (omega (arith, same)))
+      (kept x (first_among x xs)) (λ y among. kept y (other_among y x xs among)) rest,
+)
 
 -- ---- the table
 
@@ -70,7 +71,6 @@ cut_is {table} {n} {key} {at} {next} {link} {before} {a} {c} b long inside gave 
 
 module _ {table : Table} {n key at : ℕ} {a b c : List ℕ} (chains : List (List ℕ)) (free before behind : List ℕ)
     (fits : FitsTable table n) (lawful : IsTable table a chains free) (split : chain_of chains (key % table.buckets) ≡ before ++ at ∷ behind) (cut : IsCut table key at before a b c) where
-
   home_below : key % table.buckets < length chains
   home_below = omega (arith, lawful.buckets, bucket_below key fits)
 
@@ -110,34 +110,34 @@ module _ {table : Table} {n key at : ℕ} {a b c : List ℕ} (chains : List (Lis
   link_no_key : (x : ℕ) → IsRecord table.pool x → x ≢ link_after (table.at + key % table.buckets) before
   link_no_key x rx same =
       elim link_word [
-        inl own ↦ omega (arith, same, own, fits.records x rx, bucket_below key fits, fits.pool.size)
-      | inr other ↦
-          let ry = record_left other.0 (before_left other.0 other.1) in
-          elim (cases_eq x other.0) [
-            inl one ↦ omega (arith, same, other.2, one)
-          | inr two ↦ omega (arith, same, other.2, records_apart rx ry two, fits.pool.size)
-          ]
+        | inl own ↦ omega (arith, same, own, fits.records x rx, bucket_below key fits, fits.pool.size)
+        | inr other ↦
+            let ry = record_left other.0 (before_left other.0 other.1) in
+            elim (cases_eq x other.0) [
+              | inl one ↦ omega (arith, same, other.2, one)
+              | inr two ↦ omega (arith, same, other.2, records_apart rx ry two, fits.pool.size)
+            ]
       ]
 
   link_no_header : (i : ℕ) → i < 2 → table.pool.base + i ≢ link_after (table.at + key % table.buckets) before
   link_no_header i small same =
       elim link_word [
-        inl own ↦ omega (arith, same, own, fits.header, bucket_below key fits, small)
-      | inr other ↦ omega (arith, same, other.2, fits.pool.apart other.0 (record_left other.0 (before_left other.0 other.1)), fits.pool.size, small)
+        | inl own ↦ omega (arith, same, own, fits.header, bucket_below key fits, small)
+        | inr other ↦ omega (arith, same, other.2, fits.pool.apart other.0 (record_left other.0 (before_left other.0 other.1)), fits.pool.size, small)
       ]
 
   link_no_other : (x : ℕ) → IsRecord table.pool x → ((y : ℕ) → Contains before y → y ≢ x) → x + 1 ≢ link_after (table.at + key % table.buckets) before
   link_no_other x rx apart same =
       elim link_word [
-        inl own ↦ omega (arith, same, own, fits.records x rx, bucket_below key fits, fits.pool.size)
-      | inr other ↦ apart other.0 other.1 (omega (arith, same, other.2))
+        | inl own ↦ omega (arith, same, own, fits.records x rx, bucket_below key fits, fits.pool.size)
+        | inr other ↦ apart other.0 other.1 (omega (arith, same, other.2))
       ]
 
   link_no_bucket : (bucket : ℕ) → bucket < table.buckets → bucket ≢ key % table.buckets → table.at + bucket ≢ link_after (table.at + key % table.buckets) before
   link_no_bucket bucket below differ same =
       elim link_word [
-        inl own ↦ differ (omega (arith, same, own))
-      | inr other ↦ omega (arith, same, other.2, fits.records other.0 (record_left other.0 (before_left other.0 other.1)), below, fits.pool.size)
+        | inl own ↦ differ (omega (arith, same, own))
+        | inr other ↦ omega (arith, same, other.2, fits.records other.0 (record_left other.0 (before_left other.0 other.1)), below, fits.pool.size)
       ]
 
   -- the keys of the records that stay
@@ -168,14 +168,14 @@ module _ {table : Table} {n key at : ℕ} {a b c : List ℕ} (chains : List (Lis
   cut_pool others were gave =
       let pool = table.pool in
       let free_apart : (x : ℕ) → Contains (at ∷ free) x → (y : ℕ) → Contains before y → y ≢ x = λ x among y early. elim (first_or_other x at free among) [
-            inl given ↦ λ same. differs y (before_left y early) (same ∙ given)
-          | inr kept ↦ λ same. differ_across x y free _ (IsDistinct-tail eqb at _ (none_twice pool _ once_at (omega (arith, fits.pool.size)))) kept (in_left y (Contains-append_left before behind y early)) (sym same)
-          ] in
+        | inl given ↦ λ same. differs y (before_left y early) (same ∙ given)
+        | inr kept ↦ λ same. differ_across x y free _ (IsDistinct-tail eqb at _ (none_twice pool _ once_at (omega (arith, fits.pool.size)))) kept (in_left y (Contains-append_left before behind y early)) (sym same)
+      ] in
       record {
         links = linked_from b c pool.base pool.base (at ∷ free)
             (cut.later.others pool.base ((λ same. link_no_header 0 (omega arith) (add-zero pool.base ∙ same)), tt))
             (each_from (λ x. slice_index c (x + 1) ≡ slice_index b (x + 1)) (at ∷ free) (λ x among.
-                cut.later.others (x + 1) (link_no_other x (each_at (IsRecord pool) ((at ∷ free) ++ _) x (each_is_record pool _ once_at) (Contains-append_left (at ∷ free) _ x among)) (free_apart x among), tt)))
+            cut.later.others (x + 1) (link_no_other x (each_at (IsRecord pool) ((at ∷ free) ++ _) x (each_is_record pool _ once_at) (Contains-append_left (at ∷ free) _ x among)) (free_apart x among), tt)))
             gave.links;
         live = cut.later.others (pool.base + 1) (link_no_header 1 (omega arith), tt) ∙ gave.live ∙ omega (arith, length_permutation _ _ were, length_permutation _ _ fewer);
         once = once_at;
@@ -184,10 +184,10 @@ module _ {table : Table} {n key at : ℕ} {a b c : List ℕ} (chains : List (Lis
   distinct_chain : IsDistinct eqb (before ++ behind)
   distinct_chain = distinct_front (before ++ behind) _ (distinct_front ((before ++ behind) ++ records_in (slice_set chains (key % table.buckets) [])) (at ∷ free)
       (none_twice table.pool _
-          (IsPermutation-trans _ _ _ once_at
-              (IsPermutation-trans _ _ _ (IsPermutation-append_comm (at ∷ free) (records_in (slice_set chains (key % table.buckets) (before ++ behind))))
-                  (IsPermutation-append_left (at ∷ free) _ _ (chain_put chains (key % table.buckets) (before ++ behind) home_below))))
-          (omega (arith, fits.pool.size))))
+      (IsPermutation-trans _ _ _ once_at
+      (IsPermutation-trans _ _ _ (IsPermutation-append_comm (at ∷ free) (records_in (slice_set chains (key % table.buckets) (before ++ behind))))
+      (IsPermutation-append_left (at ∷ free) _ _ (chain_put chains (key % table.buckets) (before ++ behind) home_below))))
+      (omega (arith, fits.pool.size))))
 
   -- the chain without the record
   cut_chain : Linked c (table.at + key % table.buckets) (before ++ behind)
@@ -199,8 +199,8 @@ module _ {table : Table} {n key at : ℕ} {a b c : List ℕ} (chains : List (Lis
       (cut_bucket (key % table.buckets) (bucket_below key fits))
       (λ y early. cut_link y (in_left y (Contains-append_left before behind y early)))
       (each_from (λ x. slice_index c (x + 1) ≡ slice_index a (x + 1)) behind (λ x late.
-          let among = in_left x (Contains-append_right before behind x late) in
-          cut_link x among (link_no_other x (record_left x (Contains-append_right free _ x among)) (λ y early. differ_across y x before behind distinct_chain early late))))
+      let among = in_left x (Contains-append_right before behind x late) in
+      cut_link x among (link_no_other x (record_left x (Contains-append_right free _ x among)) (λ y early. differ_across y x before behind distinct_chain early late))))
 
   home_of : (bucket x : ℕ) → bucket < table.buckets → Contains (chain_of chains bucket) x → slice_index a x % table.buckets ≡ bucket
   home_of bucket x below among = All-contains (λ y. slice_index a y % table.buckets ≡ bucket) (chain_of chains bucket) x (lawful.homes bucket below) among
@@ -208,40 +208,40 @@ module _ {table : Table} {n key at : ℕ} {a b c : List ℕ} (chains : List (Lis
   more_amid : (x : ℕ) → Contains (before ++ behind) x → Contains (chain_of chains (key % table.buckets)) x
   more_amid x among = subst (λ l. Contains l x) (sym split)
       (elim (Contains-append_cases before behind x among) [
-          inl early ↦ Contains-append_left before (at ∷ behind) x early
+        | inl early ↦ Contains-append_left before (at ∷ behind) x early
         | inr late ↦ Contains-append_right before (at ∷ behind) x (other_among x at behind late)
-        ])
+      ])
 
   -- another chain
   other_chain : (bucket : ℕ) → bucket < table.buckets → bucket ≢ key % table.buckets → Linked c (table.at + bucket) (chain_of chains bucket)
   other_chain bucket below differ = linked_from a c (table.at + bucket) (table.at + bucket) (chain_of chains bucket)
       (cut_bucket bucket below (link_no_bucket bucket below differ))
       (each_from (λ x. slice_index c (x + 1) ≡ slice_index a (x + 1)) (chain_of chains bucket) (λ x in_other.
-          let among = chain_among (slice_set chains (key % table.buckets) (before ++ behind)) bucket x (subst (λ l. Contains l x) (sym (front_other chains (key % table.buckets) bucket (before ++ behind) differ)) in_other) in
-          cut_link x among (link_no_other x (record_left x (Contains-append_right free _ x among)) (λ y early same.
-              differ (sym (home_of bucket x below in_other) ∙ ap (λ z. slice_index a z % table.buckets) (sym same) ∙ home_of (key % table.buckets) y (bucket_below key fits) (more_amid y (Contains-append_left before behind y early)))))))
+      let among = chain_among (slice_set chains (key % table.buckets) (before ++ behind)) bucket x (subst (λ l. Contains l x) (sym (front_other chains (key % table.buckets) bucket (before ++ behind) differ)) in_other) in
+      cut_link x among (link_no_other x (record_left x (Contains-append_right free _ x among)) (λ y early same.
+      differ (sym (home_of bucket x below in_other) ∙ ap (λ z. slice_index a z % table.buckets) (sym same) ∙ home_of (key % table.buckets) y (bucket_below key fits) (more_amid y (Contains-append_left before behind y early)))))))
       (lawful.links bucket below)
 
   cut_links : (bucket : ℕ) → bucket < table.buckets → Linked c (table.at + bucket) (chain_of (slice_set chains (key % table.buckets) (before ++ behind)) bucket)
   cut_links bucket below =
       elim (cases_eq bucket (key % table.buckets)) [
-        inl same ↦ subst (λ d. Linked c (table.at + d) (chain_of (slice_set chains (key % table.buckets) (before ++ behind)) d)) (sym same)
+        | inl same ↦ subst (λ d. Linked c (table.at + d) (chain_of (slice_set chains (key % table.buckets) (before ++ behind)) d)) (sym same)
             (subst (λ l. Linked c (table.at + key % table.buckets) l) (sym (front_same chains (key % table.buckets) (before ++ behind) home_below)) cut_chain)
-      | inr differ ↦ subst (λ l. Linked c (table.at + bucket) l) (sym (front_other chains (key % table.buckets) bucket (before ++ behind) differ)) (other_chain bucket below differ)
+        | inr differ ↦ subst (λ l. Linked c (table.at + bucket) l) (sym (front_other chains (key % table.buckets) bucket (before ++ behind) differ)) (other_chain bucket below differ)
       ]
 
   was_in_chain : (bucket x : ℕ) → bucket < table.buckets → Contains (chain_of (slice_set chains (key % table.buckets) (before ++ behind)) bucket) x → Contains (chain_of chains bucket) x
   was_in_chain bucket x below among =
       elim (cases_eq bucket (key % table.buckets)) [
-        inl same ↦ subst (λ d. Contains (chain_of chains d) x) (sym same)
+        | inl same ↦ subst (λ d. Contains (chain_of chains d) x) (sym same)
             (more_amid x (subst (λ l. Contains l x) (front_same chains (key % table.buckets) (before ++ behind) home_below) (subst (λ d. Contains (chain_of (slice_set chains (key % table.buckets) (before ++ behind)) d) x) same among)))
-      | inr differ ↦ subst (λ l. Contains l x) (front_other chains (key % table.buckets) bucket (before ++ behind) differ) among
+        | inr differ ↦ subst (λ l. Contains l x) (front_other chains (key % table.buckets) bucket (before ++ behind) differ) among
       ]
 
   cut_homes : (bucket : ℕ) → bucket < table.buckets → All (λ x. slice_index c x % table.buckets ≡ bucket) (chain_of (slice_set chains (key % table.buckets) (before ++ behind)) bucket)
   cut_homes bucket below = All-from_recursion (λ x. slice_index c x % table.buckets ≡ bucket) _
       (each_from (λ x. slice_index c x % table.buckets ≡ bucket) _ (λ x among.
-          ap (λ k. k % table.buckets) (cut_key x (chain_among (slice_set chains (key % table.buckets) (before ++ behind)) bucket x among)) ∙ home_of bucket x below (was_in_chain bucket x below among)))
+      ap (λ k. k % table.buckets) (cut_key x (chain_among (slice_set chains (key % table.buckets) (before ++ behind)) bucket x among)) ∙ home_of bucket x below (was_in_chain bucket x below among)))
 
   cut_keys : HasKeysApart c (records_in (slice_set chains (key % table.buckets) (before ++ behind)))
   cut_keys x y cx cy same = lawful.keys x y (was_among x cx) (was_among y cy) (sym (cut_key x cx) ∙ same ∙ cut_key y cy)
@@ -252,39 +252,39 @@ module _ {table : Table} {n key at : ℕ} {a b c : List ℕ} (chains : List (Lis
   -- `remove` drops the record of a key that was there
   pub drops : slice_index a at ≡ key → record_of a (records_in chains) key ≡ Some at → (others : List ℕ) → IsPermutation (records_in chains) (at ∷ others) → IsPool table.pool b (at ∷ free) others → Drops table key chains free a c
   drops holds there others were gave = record {
-        at = at;
-        there = there;
-        before = before;
-        behind = behind;
-        chain = split;
-        after = slice_set chains (key % table.buckets) (before ++ behind);
-        rest = refl;
-        lawful = record {
-            pool = cut_pool others were gave;
-            buckets = length-set chains (key % table.buckets) (before ++ behind) ∙ lawful.buckets;
-            links = cut_links;
-            homes = cut_homes;
-            keys = cut_keys;
-          };
-        gone = record_of-is c _ key cut_keys None (λ x among has. differs x (Contains-append_right free _ x among) (lawful.keys x at (was_among x among) at_among (sym (cut_key x among) ∙ has ∙ sym holds)));
-        others = λ k differ. record_of-same a c (records_in chains) _ k cut_keys
-            (λ x among has. elim (still_or_at x among) [
-                inl xat ↦ absurd (differ (sym has ∙ ap (λ z. slice_index a z) xat ∙ holds))
-              | inr left ↦ (left, cut_key x left ∙ has)
-              ])
-            (λ y among has. (was_among y among, sym (cut_key y among) ∙ has));
-        changes = cut.changes;
-      }
+    at = at;
+    there = there;
+    before = before;
+    behind = behind;
+    chain = split;
+    after = slice_set chains (key % table.buckets) (before ++ behind);
+    rest = refl;
+    lawful = record {
+      pool = cut_pool others were gave;
+      buckets = length-set chains (key % table.buckets) (before ++ behind) ∙ lawful.buckets;
+      links = cut_links;
+      homes = cut_homes;
+      keys = cut_keys;
+    };
+    gone = record_of-is c _ key cut_keys None (λ x among has. differs x (Contains-append_right free _ x among) (lawful.keys x at (was_among x among) at_among (sym (cut_key x among) ∙ has ∙ sym holds)));
+    others = λ k differ. record_of-same a c (records_in chains) _ k cut_keys
+        (λ x among has. elim (still_or_at x among) [
+          | inl xat ↦ absurd (differ (sym has ∙ ap (λ z. slice_index a z) xat ∙ holds))
+          | inr left ↦ (left, cut_key x left ∙ has)
+        ])
+        (λ y among has. (was_among y among, sym (cut_key y among) ∙ has));
+    changes = cut.changes;
+  }
 
 -- what `remove` does where the key was found
 pub removes_found : {table : Table} {n key next : ℕ} {a c : List ℕ} (b : List ℕ) (spot : Spot) (chains : List (List ℕ)) (free : List ℕ) → FitsTable table n → length a ≡ n → spot.link < n → IsTable table a chains free →
     IsAmid a (table.at + key % table.buckets) key (chain_of chains (key % table.buckets)) spot → Gives table.pool spot.record free (records_in chains) a b → next ≡ slice_index a (spot.record + 1) → c ≡ slice_set b spot.link next → Drops table key chains free a c
 removes_found {table} {n} {key} b spot chains free fits long inside lawful amid gives read is =
     drops chains free amid.before amid.behind fits lawful amid.split (cut_is b long inside gives.changes amid.link read is)
-        amid.holds (found_there chains free key spot lawful amid) gives.others gives.were gives.lawful
+    amid.holds (found_there chains free key spot lawful amid) gives.others gives.were gives.lawful
 
 -- a record of a chain is not free
 pub not_free : {table : Table} {n : ℕ} {a : List ℕ} (chains : List (List ℕ)) (free : List ℕ) (key : ℕ) (spot : Spot) → FitsTable table n → IsTable table a chains free → IsAmid a (table.at + key % table.buckets) key (chain_of chains (key % table.buckets)) spot → ¬ Contains free spot.record
 not_free {table} chains free key spot fits lawful amid kept =
     differ_across spot.record spot.record free (records_in chains) (none_twice table.pool (free ++ records_in chains) lawful.pool.once (omega (arith, fits.pool.size))) kept
-        (chain_among chains (key % table.buckets) spot.record (subst (λ l. Contains l spot.record) (sym amid.split) (amid_among amid.before amid.behind spot.record))) refl
+    (chain_among chains (key % table.buckets) spot.record (subst (λ l. Contains l spot.record) (sym amid.split) (amid_among amid.before amid.behind spot.record))) refl

@@ -1,12 +1,12 @@
 -- Walks along one chain: what is known at each step, and what is found.
-use Rattle.std.proofs.Common.{◌≡◌, ◌≢◌, ℕ, ◌+◌, ◌<◌, ◌≤◌, ◌⊎◌, inl, inr, List, [], ◌∷◌, ◌++◌, length, All, Contains, Option, Some, None, slice_index, refl, sym, ap, ◌∙◌, subst, arith, append_assoc, length-append}
+use Rattle.std.proofs.Common.{◌≡◌, ◌≢◌, ℕ, ◌+◌, ◌<◌, ◌≤◌, List, [], ◌∷◌, ◌++◌, length, All, Some, slice_index, refl, sym, ap, ◌∙◌, subst, arith, append_assoc, length-append}
 use Rattle.std.proofs.lemmas.List.{append-nil, length_push, nil_from_length}
 use Rattle.std.proofs.lemmas.List.Elements.{All-push, All-nil, All-tail, All-contains, All-same}
 use Rattle.record_heap.specs.Links.{Linked}
 use Rattle.record_heap.specs.declared.pool.Pool.{Pool}
 use Rattle.record_heap.specs.Pool.{IsRecord}
 use Rattle.hash_table.specs.declared.table.Spot.{Spot}
-use Rattle.hash_table.specs.Seek.{IsAmid, Seeks}
+use Rattle.hash_table.specs.Seek.{Seeks}
 use Rattle.hash_table.specs.Table.{link_after}
 use Rattle.hash_table.proofs.Chains.{first_among}
 

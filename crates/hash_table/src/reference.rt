@@ -9,7 +9,11 @@ pub fn word_at(words: &[u64], at: u64) -> u64 {
 }
 
 /// The keys of all chains, ascending, or `None` where a chain is not lawful.
-pub fn keys_of(alloc: Global, words: &[u64], table: &Table) -> Result<Option<Vec<u64>>, AllocError> {
+pub fn keys_of(
+    alloc: Global,
+    words: &[u64],
+    table: &Table,
+) -> Result<Option<Vec<u64>>, AllocError> {
     let mut places: Vec<u64> = Vec::new(alloc);
     let mut keys: Vec<u64> = Vec::new(alloc);
     for bucket in 0..table.buckets {

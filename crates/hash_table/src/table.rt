@@ -7,11 +7,10 @@ ghost use Rattle.record_heap.specs.Pool.{IsRecord};
 ghost use Rattle.hash_table.specs.Seek.{Seeks};
 ghost use Rattle.hash_table.specs.Table.{FitsTable, Inserts, IsTable, Removes, record_of, records_in, writes_of};
 
+use crate::put::Put;
 use record_heap::pool::Pool;
 use word_space::stop::Stop;
 use word_space::words::Words;
-
-use crate::put::Put;
 
 /// Chains of the records of a pool, one for each of `buckets` buckets, whose links stand in the
 /// words from `at` on.

@@ -1,5 +1,5 @@
 -- Linked lists in arrays that differ in a few words.
-use Rattle.std.proofs.Common.{◌≡◌, ◌≢◌, ℕ, ◌+◌, ◌<◌, List, [], ◌∷◌, length, slice_index, slice_set, refl, sym, ap, ◌∙◌, arith, length-set, get_or-set_other, get_or-set_same}
+use Rattle.std.proofs.Common.{◌≡◌, ℕ, ◌+◌, List, [], ◌∷◌, slice_index, slice_set, refl, ◌∙◌, length-set, get_or-set_other}
 use Rattle.std.specs.List.{AllByRecursion}
 use Rattle.record_heap.specs.Changes.{IsNoneOf, ChangesOnly}
 use Rattle.record_heap.specs.Links.{Linked}
@@ -17,9 +17,9 @@ changes_none {a} = record { size = refl; others = λ i none. refl }
 -- one more word was written
 pub changes_more : {places : List ℕ} {a b : List ℕ} (place value : ℕ) → ChangesOnly places a b → ChangesOnly (place ∷ places) a (slice_set b place value)
 changes_more {places} {a} {b} place value changes = record {
-      size = length-set b place value ∙ changes.size;
-      others = λ i none. get_or-set_other b place i value 0 none.0 ∙ changes.others i none.1;
-    }
+  size = length-set b place value ∙ changes.size;
+  others = λ i none. get_or-set_other b place i value 0 none.0 ∙ changes.others i none.1;
+}
 
 -- fewer places bound the change more closely
 pub changes_by : {places others : List ℕ} {a b : List ℕ} → ((i : ℕ) → IsNoneOf others i → IsNoneOf places i) → ChangesOnly places a b → ChangesOnly others a b

@@ -1,12 +1,12 @@
 -- The records of a pool: they lie apart, and a list that has each of them once has no other place.
-use Rattle.std.proofs.Common.{◌≡◌, ◌≢◌, ℕ, ◌+◌, ◌-◌, ◌*◌, ◌/◌, ◌%◌, ◌<◌, ◌≤◌, ◌⊎◌, inl, inr, List, [], ◌∷◌, ◌++◌, length, map, All, Contains, slice_index_or, get_or, eqb, true, false, refl, sym, ap, ◌∙◌, subst, arith, ⊎_elim}
+use Rattle.std.proofs.Common.{◌≡◌, ◌≢◌, ℕ, ◌+◌, ◌-◌, ◌*◌, ◌/◌, ◌%◌, ◌<◌, ◌≤◌, inl, inr, List, [], ◌∷◌, length, All, Contains, eqb, false, sym, ap, ◌∙◌, subst, arith}
 use Rattle.std.proofs.Math.Nat.{mul-le-mul_left, mul-mod_right, mul-div_cancel_left, div-add-mod}
-use Rattle.std.proofs.lemmas.Bool.{eqb-false, ne_eqb, cases_lt, cases_eq, cases_order}
-use Rattle.std.proofs.lemmas.Map.Keys.{IsDistinct-head, IsDistinct-tail, IsDistinct-cons, IsDistinct-from_apart, IsDistinct-IsPermutation}
-use Rattle.std.proofs.lemmas.List.Elements.{All-contains, Contains-get_or, recursion_from_All, All-from_get_or}
+use Rattle.std.proofs.lemmas.Bool.{eqb-false, ne_eqb, cases_eq, cases_order}
+use Rattle.std.proofs.lemmas.Map.Keys.{IsDistinct-head, IsDistinct-from_apart, IsDistinct-IsPermutation}
+use Rattle.std.proofs.lemmas.List.Elements.{Contains-get_or, recursion_from_All, All-from_get_or}
 use Rattle.std.proofs.lemmas.List.Sorted.{All-permutation, Contains-permutation, length_permutation}
 use Rattle.std.proofs.lemmas.List.FromFn.{length-map-range_with_len, get_or-map-range_with_len}
-use Rattle.std.specs.List.{range_with_len, AllByRecursion, IsDistinct}
+use Rattle.std.specs.List.{AllByRecursion, IsDistinct}
 use Rattle.std.specs.List.Sorted.{IsPermutation}
 use Rattle.record_heap.specs.declared.pool.Pool.{Pool}
 use Rattle.record_heap.specs.Pool.{records_of, IsRecord, AreApart}
@@ -15,10 +15,10 @@ use Rattle.record_heap.specs.Pool.{records_of, IsRecord, AreApart}
 pub records_apart : {pool : Pool} {x y : ℕ} → IsRecord pool x → IsRecord pool y → x ≢ y → AreApart x pool.size y pool.size
 records_apart {pool} {x} {y} rx ry differ =
     elim (cases_order rx.number ry.number) [
-      inl same ↦ absurd (differ (rx.is ∙ ap (λ k. pool.first + pool.size * k) same ∙ sym ry.is))
-    | inr order ↦ elim order [
-        inl before ↦ inl (let step : pool.size * (rx.number + 1) ≤ pool.size * ry.number = mul-le-mul_left pool.size (omega arith) in omega (arith, rx.is, ry.is, step))
-      | inr behind ↦ inr (let step : pool.size * (ry.number + 1) ≤ pool.size * rx.number = mul-le-mul_left pool.size (omega arith) in omega (arith, rx.is, ry.is, step))
+      | inl same ↦ absurd (differ (rx.is ∙ ap (λ k. pool.first + pool.size * k) same ∙ sym ry.is))
+      | inr order ↦ elim order [
+        | inl before ↦ inl (let step : pool.size * (rx.number + 1) ≤ pool.size * ry.number = mul-le-mul_left pool.size (omega arith) in omega (arith, rx.is, ry.is, step))
+        | inr behind ↦ inr (let step : pool.size * (ry.number + 1) ≤ pool.size * rx.number = mul-le-mul_left pool.size (omega arith) in omega (arith, rx.is, ry.is, step))
       ]
     ]
 
@@ -33,8 +33,8 @@ all_records pool = All-from_get_or (IsRecord pool) (records_of pool) 0 (λ i lt.
 record_among : {pool : Pool} {at : ℕ} → IsRecord pool at → Contains (records_of pool) at
 record_among {pool} {at} r =
     subst (λ x. Contains (records_of pool) x)
-        (get_or-map-range_with_len (λ k. pool.first + pool.size * k) 0 pool.count r.number r.number 0 r.below (omega arith) ∙ sym r.is)
-        (Contains-get_or (records_of pool) r.number 0 (omega (arith, length_records pool, r.below)))
+    (get_or-map-range_with_len (λ k. pool.first + pool.size * k) 0 pool.count r.number r.number 0 r.below (omega arith) ∙ sym r.is)
+    (Contains-get_or (records_of pool) r.number 0 (omega (arith, length_records pool, r.below)))
 
 distinct_records : (pool : Pool) → 0 < pool.size → IsDistinct eqb (records_of pool)
 distinct_records pool wide = IsDistinct-from_apart eqb (records_of pool) (λ i j d lt below.
@@ -46,13 +46,12 @@ distinct_records pool wide = IsDistinct-from_apart eqb (records_of pool) (λ i j
 
 flips : (x y : ℕ) → eqb x y ≡ eqb y x
 flips x y = elim (cases_eq x y) [
-      inl same ↦ ap (λ z. eqb z y) same ∙ ap (λ z. eqb y z) (sym same)
-    | inr differ ↦ ne_eqb x y differ ∙ sym (ne_eqb y x (λ e. differ (sym e)))
-    ]
+  | inl same ↦ ap (λ z. eqb z y) same ∙ ap (λ z. eqb y z) (sym same)
+  | inr differ ↦ ne_eqb x y differ ∙ sym (ne_eqb y x (λ e. differ (sym e)))
+]
 
 -- In a list that has each record once:
 module _ (pool : Pool) (xs : List ℕ) (once : IsPermutation (records_of pool) xs) where
-
   -- each element is a record
   pub each_is_record : AllByRecursion (IsRecord pool) xs
   each_is_record = recursion_from_All (IsRecord pool) xs (All-permutation (IsRecord pool) (records_of pool) xs once (all_records pool))

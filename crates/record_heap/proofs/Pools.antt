@@ -1,5 +1,5 @@
 -- What `take` and `give` do to a lawful pool, on plain arrays.
-use Rattle.std.proofs.Common.{◌≡◌, ◌≢◌, ℕ, ◌+◌, ◌-◌, ◌*◌, ◌^◌, ◌<◌, ◌≤◌, min, List, [], ◌∷◌, ◌++◌, length, length-append, length-set, None, Some, slice_index, slice_set, Contains, refl, sym, ap, ◌∙◌, subst, arith, inl, inr, get_or-set_other, get_or-set_same, add-one}
+use Rattle.std.proofs.Common.{◌≡◌, ◌≢◌, ℕ, ◌+◌, ◌-◌, ◌*◌, ◌^◌, ◌<◌, ◌≤◌, min, List, [], ◌∷◌, ◌++◌, length, length-append, length-set, None, Some, slice_index, slice_set, Contains, refl, sym, ap, ◌∙◌, subst, arith, inl, inr, get_or-set_other, get_or-set_same}
 use Rattle.std.proofs.Math.Nat.{mul-le-mul_left, mul-le-mul_right}
 use Rattle.std.proofs.lemmas.Bool.{cases_lt}
 use Rattle.std.proofs.lemmas.List.Sorted.{IsPermutation-append_right, IsPermutation-middle, IsPermutation-remove, IsPermutation-sym, IsPermutation-trans, length_permutation}
@@ -8,8 +8,7 @@ use Rattle.std.specs.List.{AllByRecursion, remove}
 use Rattle.std.specs.List.Sorted.{IsPermutation}
 use Rattle.record_heap.specs.declared.pool.Pool.{Pool}
 use Rattle.record_heap.specs.Changes.{IsNoneOf, ChangesOnly}
-use Rattle.record_heap.specs.Links.{Linked}
-use Rattle.record_heap.specs.Pool.{records_of, IsRecord, FitsPool, IsHeader, IsPool, Takes, Gives}
+use Rattle.record_heap.specs.Pool.{IsRecord, FitsPool, IsHeader, IsPool, Takes, Gives}
 use Rattle.record_heap.proofs.Arrays.{linked_from, changes_none, changes_more, changes_by, links_agree}
 use Rattle.record_heap.proofs.Places.{each_is_record, has_record, as_many, none_twice, others_differ}
 
@@ -45,11 +44,11 @@ links_apart fits at (x ∷ xs) ys all differ =
 pub count_fits : {pool : Pool} {n : ℕ} → FitsPool pool n → pool.count ≤ n
 count_fits {pool} {n} fits =
     elim (cases_lt 0 pool.count) [
-      inl some ↦
-        let last : IsRecord pool (pool.first + pool.size * (pool.count - 1)) = record { number = pool.count - 1; below = omega arith; is = refl } in
-        let wide : 1 * (pool.count - 1) ≤ pool.size * (pool.count - 1) = mul-le-mul_right (pool.count - 1) (omega (arith, fits.size)) in
-        omega (arith, fits.inside _ last, wide, fits.size)
-    | inr none ↦ omega arith
+      | inl some ↦
+          let last : IsRecord pool (pool.first + pool.size * (pool.count - 1)) = record { number = pool.count - 1; below = omega arith; is = refl } in
+          let wide : 1 * (pool.count - 1) ≤ pool.size * (pool.count - 1) = mul-le-mul_right (pool.count - 1) (omega (arith, fits.size)) in
+          omega (arith, fits.inside _ last, wide, fits.size)
+      | inr none ↦ omega arith
     ]
 
 -- the first free record is taken
@@ -60,23 +59,26 @@ takes_first {pool} {n} {a} {b} {first} {live} {next} {more} fits small size ther
     let same : first ≡ at = header.first ∙ lawful.links.0 in
     let changes : ChangesOnly ((pool.base + 1) ∷ pool.base ∷ []) a b = subst (λ x. ChangesOnly ((pool.base + 1) ∷ pool.base ∷ []) a x) (sym set) (changes_more (pool.base + 1) _ (changes_more pool.base next changes_none)) in
     let begins : slice_index b pool.base ≡ slice_index a (at + 1) =
-        ap (λ x. slice_index x pool.base) set ∙ get_or-set_other (slice_set a pool.base next) (pool.base + 1) pool.base _ 0 (omega arith) ∙ get_or-set_same a pool.base next 0 (omega (arith, fits.header)) ∙ read ∙ ap (λ x. slice_index a (x + 1)) same in
+    ap (λ x. slice_index x pool.base) set ∙ get_or-set_other (slice_set a pool.base next) (pool.base + 1) pool.base _ 0 (omega arith) ∙ get_or-set_same a pool.base next 0 (omega (arith, fits.header)) ∙ read ∙ ap (λ x. slice_index a (x + 1)) same in
     let counts : slice_index b (pool.base + 1) ≡ more =
-        ap (λ x. slice_index x (pool.base + 1)) set ∙ get_or-set_same (slice_set a pool.base next) (pool.base + 1) _ 0 (omega (arith, fits.header, size, length-set a pool.base next)) in
+    ap (λ x. slice_index x (pool.base + 1)) set ∙ get_or-set_same (slice_set a pool.base next) (pool.base + 1) _ 0 (omega (arith, fits.header, size, length-set a pool.base next)) in
     let many : length (at ∷ (free ++ taken)) ≡ pool.count = as_many pool (at ∷ (free ++ taken)) lawful.once in
-    let all = free_records lawful in
-    (ap Some same, record {
+    let all = free_records lawful in (
+      ap Some same,
+      record {
         links = linked_from a b (at + 1) pool.base free begins (links_agree changes free (header_apart fits free all.1)) lawful.links.1;
         live = counts ∙ omega (arith, rises, header.live, lawful.live, many, length-append free taken, count_fits fits);
         once = IsPermutation-trans _ _ _ lawful.once (IsPermutation-sym _ _ (IsPermutation-middle free at taken));
-      }, changes_by (λ i none. (none.1.0, (none.0, tt))) changes)
+      },
+      changes_by (λ i none. (none.1.0, (none.0, tt))) changes,
+    )
 
 -- a record that is not free is a taken one
 taken_others : {pool : Pool} {a : List ℕ} {at : ℕ} (free taken : List ℕ) → IsPool pool a free taken → IsRecord pool at → ¬ Contains free at → (others : List ℕ) × IsPermutation taken (at ∷ others)
 taken_others {pool} {a} {at} free taken lawful there kept =
     elim (Contains-append_cases free taken at (has_record pool (free ++ taken) lawful.once there)) [
-      inl free_one ↦ absurd (kept free_one)
-    | inr k ↦ (remove taken k.0, IsPermutation-remove taken k.0 at k.1 (sym k.2))
+      | inl free_one ↦ absurd (kept free_one)
+      | inr k ↦ (remove taken k.0, IsPermutation-remove taken k.0 at k.1 (sym k.2))
     ]
 
 -- a record that is not free is given back
@@ -92,21 +94,21 @@ gives_back {pool} {n} {a} {b} {at} {first} {live} {less} fits size there header 
     let long : length a2 ≡ n = length-set a1 pool.base at ∙ length-set a (at + 1) first ∙ size in
     let changes : ChangesOnly ((pool.base + 1) ∷ pool.base ∷ (at + 1) ∷ []) a b = subst (λ x. ChangesOnly ((pool.base + 1) ∷ pool.base ∷ (at + 1) ∷ []) a x) (sym set) (changes_more (pool.base + 1) _ (changes_more pool.base at (changes_more (at + 1) first changes_none))) in
     let begins : slice_index b pool.base ≡ at =
-        ap (λ x. slice_index x pool.base) set ∙ get_or-set_other a2 (pool.base + 1) pool.base _ 0 (omega arith) ∙ get_or-set_same a1 pool.base at 0 (omega (arith, fits.header, size, length-set a (at + 1) first)) in
+    ap (λ x. slice_index x pool.base) set ∙ get_or-set_other a2 (pool.base + 1) pool.base _ 0 (omega arith) ∙ get_or-set_same a1 pool.base at 0 (omega (arith, fits.header, size, length-set a (at + 1) first)) in
     let counts : slice_index b (pool.base + 1) ≡ less =
-        ap (λ x. slice_index x (pool.base + 1)) set ∙ get_or-set_same a2 (pool.base + 1) _ 0 (omega (arith, fits.header, long)) in
+    ap (λ x. slice_index x (pool.base + 1)) set ∙ get_or-set_same a2 (pool.base + 1) _ 0 (omega (arith, fits.header, long)) in
     let goes : slice_index b (at + 1) ≡ slice_index a pool.base =
-        ap (λ x. slice_index x (at + 1)) set ∙ get_or-set_other a2 (pool.base + 1) (at + 1) _ 0 (omega (arith, apart, fits.size)) ∙ get_or-set_other a1 pool.base (at + 1) at 0 (omega (arith, apart, fits.size)) ∙ get_or-set_same a (at + 1) first 0 (omega (arith, inside, fits.size, size)) ∙ header.first in
+    ap (λ x. slice_index x (at + 1)) set ∙ get_or-set_other a2 (pool.base + 1) (at + 1) _ 0 (omega (arith, apart, fits.size)) ∙ get_or-set_other a1 pool.base (at + 1) at 0 (omega (arith, apart, fits.size)) ∙ get_or-set_same a (at + 1) first 0 (omega (arith, inside, fits.size, size)) ∙ header.first in
     let moved = IsPermutation-trans _ _ _ (IsPermutation-trans _ _ _ lawful.once (IsPermutation-append_right free taken (at ∷ others) split.1)) (IsPermutation-middle free at others) in
     let differ = others_differ at (free ++ others) (none_twice pool _ moved (omega (arith, fits.size))) in
     record {
       others = others;
       were = split.1;
       lawful = record {
-          links = (begins, linked_from a b pool.base (at + 1) free goes (links_agree changes free (links_apart fits at free others (free_records lawful) differ)) lawful.links);
-          live = counts ∙ omega (arith, falls, header.live, lawful.live, length_permutation taken (at ∷ others) split.1);
-          once = moved;
-        };
+        links = (begins, linked_from a b pool.base (at + 1) free goes (links_agree changes free (links_apart fits at free others (free_records lawful) differ)) lawful.links);
+        live = counts ∙ omega (arith, falls, header.live, lawful.live, length_permutation taken (at ∷ others) split.1);
+        once = moved;
+      };
       changes = changes_by (λ i none. (none.1.1.0, (none.1.0, (none.0, tt)))) changes;
     }
 
@@ -114,8 +116,8 @@ gives_back {pool} {n} {a} {b} {at} {first} {live} {less} fits size there header 
 pub fits_behind : (pool : Pool) (n : ℕ) → pool.base + 2 ≤ pool.first → 2 ≤ pool.size → pool.first + pool.size * pool.count ≤ n → FitsPool pool n
 fits_behind pool n behind wide whole =
     let ends : (at : ℕ) → IsRecord pool at → at + pool.size ≤ pool.first + pool.size * pool.count = λ at r.
-          let step : pool.size * (r.number + 1) ≤ pool.size * pool.count = mul-le-mul_left pool.size (omega (arith, r.below)) in
-          omega (arith, r.is, step) in
+    let step : pool.size * (r.number + 1) ≤ pool.size * pool.count = mul-le-mul_left pool.size (omega (arith, r.below)) in
+    omega (arith, r.is, step) in
     record {
       header = omega (arith, behind, whole);
       size = wide;

@@ -27,7 +27,11 @@ pub fn places_of(alloc: Global, pool: &Pool) -> Result<Vec<u64>, AllocError> {
 }
 
 /// The records of a lawful pool, or `None` where the pool is not lawful.
-pub fn records_of(alloc: Global, words: &[u64], pool: &Pool) -> Result<Option<Records>, AllocError> {
+pub fn records_of(
+    alloc: Global,
+    words: &[u64],
+    pool: &Pool,
+) -> Result<Option<Records>, AllocError> {
     let places = places_of(alloc, pool)?;
     let mut free: Vec<u64> = Vec::new(alloc);
     let mut link = word_at(words, pool.base);

@@ -1,4 +1,4 @@
-use Rattle.std.proofs.Common.{◌≡◌, ◌≤◌, ℕ, List, [], arith, drop, length, length-append, subst}
+use Rattle.std.proofs.Common.{◌≤◌, arith, drop, length, length-append, subst}
 use Rattle.std.proofs.lemmas.List.{drop_all}
 use Rattle.word_space.specs.Sights.{shown}
 use Rattle.word_space.proofs.Runs.{below_back, ran_then}
@@ -12,7 +12,7 @@ returns-then-is_none-clause-drained g c = λ array below free taken lawful.
     let step = c.in_ok-take.ensures in
     let so_far = c.loop-number.invariant.took array (below_back step.ran below) free taken lawful in
     takes_last c.args.pool.now free so_far.1.0 c.loop-number.number c.in_ok-take.field-0 _ _ so_far.0 so_far.1.1 c.if-is_none.ensures
-        (step.takes array below (drop c.loop-number.number free) so_far.1.0 so_far.1.1)
+    (step.takes array below (drop c.loop-number.number free) so_far.1.0 so_far.1.1)
 
 pub loop-number-preserved : goal.loop-number-preserved
 loop-number-preserved g c =
@@ -23,7 +23,7 @@ loop-number-preserved g c =
       took = λ array below free taken lawful.
           let so_far = c.loop-number.invariant.took array (below_back step.ran below) free taken lawful in
           takes_more c.args.pool.now free so_far.1.0 c.loop-number.number c.in_ok-take.field-0 _ _ so_far.0 c.if-is_none.ensures
-              (step.takes array below (drop c.loop-number.number free) so_far.1.0 so_far.1.1);
+          (step.takes array below (drop c.loop-number.number free) so_far.1.0 so_far.1.1);
     }
 
 pub returns-clause-drained : goal.returns-clause-drained

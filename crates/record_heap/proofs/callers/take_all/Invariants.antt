@@ -1,4 +1,4 @@
-use Rattle.std.proofs.Common.{None, ℕ, List, ◌≡◌, ◌≤◌, drop, length}
+use Rattle.std.proofs.Common.{None, ℕ, List, ◌≤◌, drop, length}
 use Rattle.word_space.specs.Sights.{IsBelow, shown}
 use Rattle.word_space.specs.Steps.{GoesOn, Ran}
 use Rattle.record_heap.specs.Pool.{IsPool}

@@ -12,8 +12,8 @@ returns-in-Some-clause-found g c = λ array below chains free lawful.
     let words = shown (g.W.Words.sight c.args.w.now) array in
     let r = c.in_ok-spot.field-0 in
     sym (found_there chains free key c.in-Some.spot lawful
-        (subst (λ o. Seeks words (table.at + key % table.buckets) key (chain_of chains (key % table.buckets)) o) c.in-Some.is
-            (sought key r chains free c.requires.fits lawful (c.in_ok-spot.ensures.seeks array below))))
+    (subst (λ o. Seeks words (table.at + key % table.buckets) key (chain_of chains (key % table.buckets)) o) c.in-Some.is
+    (sought key r chains free c.requires.fits lawful (c.in_ok-spot.ensures.seeks array below))))
 
 pub returns-in-None-clause-found : goal.returns-in-None-clause-found
 returns-in-None-clause-found g c = λ array below chains free lawful.
@@ -22,5 +22,5 @@ returns-in-None-clause-found g c = λ array below chains free lawful.
     let words = shown (g.W.Words.sight c.args.w.now) array in
     let r = c.in_ok-spot.field-0 in
     sym (absent_everywhere chains free key c.requires.fits lawful
-        (subst (λ o. Seeks words (table.at + key % table.buckets) key (chain_of chains (key % table.buckets)) o) c.in-None.is
-            (sought key r chains free c.requires.fits lawful (c.in_ok-spot.ensures.seeks array below))))
+    (subst (λ o. Seeks words (table.at + key % table.buckets) key (chain_of chains (key % table.buckets)) o) c.in-None.is
+    (sought key r chains free c.requires.fits lawful (c.in_ok-spot.ensures.seeks array below))))

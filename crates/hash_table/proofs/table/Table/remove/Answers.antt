@@ -1,7 +1,7 @@
-use Rattle.std.proofs.Common.{◌+◌, ◌%◌, IfSome, ℕ, ◌<◌, sym, subst, ap, ◌∙◌, arith, slice_index, slice_set}
+use Rattle.std.proofs.Common.{◌+◌, ◌%◌, IfSome, ◌<◌, sym, subst, ap, ◌∙◌, slice_index}
 use Rattle.word_space.specs.Sights.{shown}
 use Rattle.word_space.proofs.Runs.{below_back, below_looked, shown_looked, looked_then}
-use Rattle.record_heap.specs.Pool.{Gives, IsPool, IsRecord}
+use Rattle.record_heap.specs.Pool.{Gives, IsPool}
 use Rattle.record_heap.proofs.Calls.{length_shown, wrote_none, wrote_one, wrote_then}
 use Rattle.hash_table.specs.declared.table.Spot.{Spot}
 use Rattle.hash_table.specs.Seek.{Seeks}
@@ -14,11 +14,12 @@ pub returns-in_default-clause-removes : goal.returns-in_default-clause-removes
 returns-in_default-clause-removes g c = λ array below chains free lawful.
     let table = c.args.self.now in
     let key = c.args.key in
-    let words = shown (g.W.Words.sight c.args.w.now) array in
-    (absent_everywhere chains free key c.requires.fits lawful
-        (subst (λ o. Seeks words (table.at + key % table.buckets) key (chain_of chains (key % table.buckets)) o) c.in_default.is
-            (sought key c.in_ok-spot.field-0 chains free c.requires.fits lawful (c.in_ok-spot.ensures.seeks array below))),
-     shown_looked c.in_ok-spot.ensures.looked array)
+    let words = shown (g.W.Words.sight c.args.w.now) array in (
+      absent_everywhere chains free key c.requires.fits lawful
+          (subst (λ o. Seeks words (table.at + key % table.buckets) key (chain_of chains (key % table.buckets)) o) c.in_default.is
+          (sought key c.in_ok-spot.field-0 chains free c.requires.fits lawful (c.in_ok-spot.ensures.seeks array below))),
+      shown_looked c.in_ok-spot.ensures.looked array,
+    )
 
 pub returns-clause-wrote : goal.returns-clause-wrote
 returns-clause-wrote g c = wrote_then (wrote_none (looked_then c.in_ok-spot.ensures.looked c.in_ok-next.ensures.reads.looked)) (wrote_then c.in_ok-give.ensures.wrote (wrote_one c.in_ok-write.ensures.writes))
@@ -40,11 +41,11 @@ returns-clause-removes g c = λ array below chains free lawful.
     let below_seek = below_looked next_step.reads.looked below_next in
     let same = shown_looked (looked_then seek_step.looked next_step.reads.looked) array in
     let amid = subst (λ o. Seeks words (table.at + key % table.buckets) key (chain_of chains (key % table.buckets)) o) c.in-Some.is
-            (sought key c.in_ok-spot.field-0 chains free c.requires.fits lawful (seek_step.seeks array below_seek)) in
+    (sought key c.in_ok-spot.field-0 chains free c.requires.fits lawful (seek_step.seeks array below_seek)) in
     removes_found middle spot chains free c.requires.fits (length_shown (below_looked seek_step.looked below_seek))
-        (subst (λ o. IfSome o (λ (s : Spot). s.link < (g.W.Words.sight c.args.w.now).count)) c.in-Some.is seek_step.link)
-        lawful amid
-        (subst (λ old. Gives table.pool spot.record free records old middle) same
-            (give_step.gives array below_give free records (subst (λ old. IsPool table.pool old free records) (sym same) lawful.pool) (not_free chains free key spot c.requires.fits lawful amid)))
-        (next_step.value array below_next ∙ ap (λ seen. slice_index seen (spot.record + 1)) (shown_looked seek_step.looked array))
-        (write_step.shown array)
+    (subst (λ o. IfSome o (λ (s : Spot). s.link < (g.W.Words.sight c.args.w.now).count)) c.in-Some.is seek_step.link)
+    lawful amid
+    (subst (λ old. Gives table.pool spot.record free records old middle) same
+    (give_step.gives array below_give free records (subst (λ old. IsPool table.pool old free records) (sym same) lawful.pool) (not_free chains free key spot c.requires.fits lawful amid)))
+    (next_step.value array below_next ∙ ap (λ seen. slice_index seen (spot.record + 1)) (shown_looked seek_step.looked array))
+    (write_step.shown array)

@@ -1,4 +1,4 @@
-use Rattle.std.proofs.Common.{None, ◌+◌, arith, sym, ap, ◌∙◌, subst, slice_index}
+use Rattle.std.proofs.Common.{None, arith, sym, ap, ◌∙◌, subst, slice_index}
 use Rattle.std.proofs.lemmas.Bool.{false≢true}
 use Rattle.word_space.specs.Sights.{shown}
 use Rattle.word_space.proofs.Runs.{looked_here, looked_then, below_looked, shown_looked}
@@ -10,11 +10,11 @@ use Rattle.hash_table.proofs.table.Table.seek.Goals as goal
 
 pub loop-init : goal.loop-init
 loop-init g c = record {
-      looked = looked_here;
-      turns = λ x led. led;
-      inside = omega (arith, c.requires.fits.links, c.requires.fits.buckets, c.link_of-link.ensures);
-      passes = λ array below chain linked records. passes_none linked;
-    }
+  looked = looked_here;
+  turns = λ x led. led;
+  inside = omega (arith, c.requires.fits.links, c.requires.fits.buckets, c.link_of-link.ensures);
+  passes = λ array below chain linked records. passes_none linked;
+}
 
 pub returns-then-not-has-clause-seeks : goal.returns-then-not-has-clause-seeks
 returns-then-not-has-clause-seeks g c = λ array below chain linked records few.
@@ -22,9 +22,9 @@ returns-then-not-has-clause-seeks g c = λ array below chain linked records few.
     let step = c.in_ok-record.ensures in
     let words = shown (g.W.Words.sight c.args.w.now) array in
     seeks_end c.in_ok-record.record
-        (before.passes array (below_looked {stop = None} step.reads.looked below) chain (subst (λ place. Linked words place chain) (sym c.link_of-link.ensures) linked) records)
-        records (λ there. false≢true (c.if-not-has.ensures.1 there))
-        (step.value array below ∙ ap (λ seen. slice_index seen c.loop.link) (shown_looked before.looked array))
+    (before.passes array (below_looked {stop = None} step.reads.looked below) chain (subst (λ place. Linked words place chain) (sym c.link_of-link.ensures) linked) records)
+    records (λ there. false≢true (c.if-not-has.ensures.1 there))
+    (step.value array below ∙ ap (λ seen. slice_index seen c.loop.link) (shown_looked before.looked array))
 
 pub returns-then-branch-key-clause-seeks : goal.returns-then-branch-key-clause-seeks
 returns-then-branch-key-clause-seeks g c = λ array below chain linked records few.
@@ -36,11 +36,11 @@ returns-then-branch-key-clause-seeks g c = λ array below chain linked records f
     let below_step = below_looked {stop = None} key_step.reads.looked below in
     let spot : Spot = record { link = c.loop.link; «record» = found } in
     subst (λ place. IsAmid words place c.args.key chain spot) c.link_of-link.ensures
-        (seeks_found
-            (before.passes array (below_looked {stop = None} step.reads.looked below_step) chain (subst (λ place. Linked words place chain) (sym c.link_of-link.ensures) linked) records)
-            (c.requires.fits.pool.front found (c.has.ensures.0 c.if-not-has.false))
-            (step.value array below_step ∙ ap (λ seen. slice_index seen c.loop.link) (shown_looked before.looked array))
-            (sym (key_step.value array below ∙ ap (λ seen. slice_index seen found) (shown_looked (looked_then before.looked step.reads.looked) array)) ∙ c.if-branch-key.true))
+    (seeks_found
+    (before.passes array (below_looked {stop = None} step.reads.looked below_step) chain (subst (λ place. Linked words place chain) (sym c.link_of-link.ensures) linked) records)
+    (c.requires.fits.pool.front found (c.has.ensures.0 c.if-not-has.false))
+    (step.value array below_step ∙ ap (λ seen. slice_index seen c.loop.link) (shown_looked before.looked array))
+    (sym (key_step.value array below ∙ ap (λ seen. slice_index seen found) (shown_looked (looked_then before.looked step.reads.looked) array)) ∙ c.if-branch-key.true))
 
 pub loop-preserved : goal.loop-preserved
 loop-preserved g c =
@@ -57,7 +57,7 @@ loop-preserved g c =
       passes = λ array below chain linked records.
           let below_step = below_looked {stop = None} key_step.reads.looked below in
           passes_more found (before.passes array (below_looked {stop = None} step.reads.looked below_step) chain linked records)
-              (c.requires.fits.pool.front found there)
-              (step.value array below_step ∙ ap (λ seen. slice_index seen c.loop.link) (shown_looked before.looked array))
-              (λ same. c.if-branch-key.false (key_step.value array below ∙ ap (λ seen. slice_index seen found) (shown_looked (looked_then before.looked step.reads.looked) array) ∙ same));
+          (c.requires.fits.pool.front found there)
+          (step.value array below_step ∙ ap (λ seen. slice_index seen c.loop.link) (shown_looked before.looked array))
+          (λ same. c.if-branch-key.false (key_step.value array below ∙ ap (λ seen. slice_index seen found) (shown_looked (looked_then before.looked step.reads.looked) array) ∙ same));
     }

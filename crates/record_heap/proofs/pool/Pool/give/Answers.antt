@@ -24,6 +24,6 @@ returns-clause-gives g c = λ array below free taken lawful kept.
     let put_step = c.in_ok-put_header.ensures in
     let below_header = below_back link_step.writes.ran (below_back put_step.ran below) in
     gives_back c.requires.fits (length_shown (below_looked header_step.looked below_header)) c.requires.record
-        (header_step.words array below_header) c.saturating_sub-live.ensures
-        (put_step.shown array ∙ ap (λ words. slice_set (slice_set words pool.base at) (pool.base + 1) less) (link_step.shown array ∙ ap (λ words. slice_set words (at + 1) first) (shown_looked header_step.looked array)))
-        free taken lawful kept
+    (header_step.words array below_header) c.saturating_sub-live.ensures
+    (put_step.shown array ∙ ap (λ words. slice_set (slice_set words pool.base at) (pool.base + 1) less) (link_step.shown array ∙ ap (λ words. slice_set words (at + 1) first) (shown_looked header_step.looked array)))
+    free taken lawful kept

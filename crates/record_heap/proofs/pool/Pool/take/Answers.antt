@@ -12,7 +12,7 @@ returns-then-not-has-clause-takes g c = λ array below free taken lawful.
     let seen = c.in_ok-header.ensures in
     let old = shown (g.W.Words.sight c.args.w.now) array in
     subst (λ new. Takes c.args.self.now free taken None old new) (sym (shown_looked seen.looked array))
-        (takes_none (seen.words array below).first (λ there. false≢true (c.if-not-has.ensures.1 there)) free taken lawful)
+    (takes_none (seen.words array below).first (λ there. false≢true (c.if-not-has.ensures.1 there)) free taken lawful)
 
 pub returns-clause-takes : goal.returns-clause-takes
 returns-clause-takes g c = λ array below free taken lawful.
@@ -27,9 +27,9 @@ returns-clause-takes g c = λ array below free taken lawful.
     let below_header = below_looked next_step.reads.looked below_next in
     let below_old = below_looked header_step.looked below_header in
     takes_first c.requires.fits (g.met.W.Words.fits c.args.w.now).count (length_shown below_old)
-        (c.has.ensures.0 c.if-not-has.false)
-        (header_step.words array below_header)
-        (next_step.value array below_next ∙ ap (λ words. slice_index words (first + 1)) (shown_looked header_step.looked array))
-        c.saturating_add-live.ensures
-        (put_step.shown array ∙ ap (λ words. slice_set (slice_set words pool.base next) (pool.base + 1) more) (shown_looked (looked_then header_step.looked next_step.reads.looked) array))
-        free taken lawful
+    (c.has.ensures.0 c.if-not-has.false)
+    (header_step.words array below_header)
+    (next_step.value array below_next ∙ ap (λ words. slice_index words (first + 1)) (shown_looked header_step.looked array))
+    c.saturating_add-live.ensures
+    (put_step.shown array ∙ ap (λ words. slice_set (slice_set words pool.base next) (pool.base + 1) more) (shown_looked (looked_then header_step.looked next_step.reads.looked) array))
+    free taken lawful
