@@ -1,0 +1,6 @@
+-- What a `Place` keeps of its fields.
+use Rattle.dude_base.specs.declared.place.Place.TheInside.{Inside}
+use Rattle.dude_base.specs.Sizes.{IsAccepted}
+
+abbrev pub IsPlace : Inside → Type 0
+IsPlace p = IsAccepted p.sizes

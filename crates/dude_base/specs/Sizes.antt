@@ -1,0 +1,45 @@
+-- Which sizes an image may have.
+use Rattle.std.specs.Prelude.{◌≡◌, ℕ, ◌<◌, ◌≤◌}
+use Rattle.dude_base.specs.declared.field.Field.{Field}
+use Rattle.dude_base.specs.declared.field.Field.TheVariants.{Subscribers, Calls, Rings, Cells, Pages}
+use Rattle.dude_base.specs.declared.limits.TheConstants.{MAX_SUBSCRIBERS, MAX_CALLS, MAX_RINGS, MIN_CELLS, MAX_CELLS}
+use Rattle.dude_base.specs.declared.sizes.Sizes.{Sizes}
+use Rattle.dude_base.specs.Home.{pages_for}
+
+-- x is a number from least to most
+pub record IsFrom (least most x : ℕ) : Type 0 where
+  pub low : least ≤ x
+  pub high : x ≤ most
+
+-- what each field has to be
+abbrev pub IsWithin : Field → Sizes → Type 0
+IsWithin Subscribers s = IsFrom 1 MAX_SUBSCRIBERS s.subscribers
+IsWithin Calls s = IsFrom 1 MAX_CALLS s.calls
+IsWithin Rings s = IsFrom 1 MAX_RINGS s.rings
+IsWithin Cells s = IsFrom MIN_CELLS MAX_CELLS s.cells
+IsWithin Pages s = s.pages ≡ pages_for s.subscribers s.calls
+
+-- each field is within its limits
+pub record IsAccepted (s : Sizes) : Type 0 where
+  pub subscribers : IsWithin Subscribers s
+  pub calls : IsWithin Calls s
+  pub rings : IsWithin Rings s
+  pub cells : IsWithin Cells s
+  pub pages : IsWithin Pages s
+
+-- the order of the fields in the struct
+abbrev pub rank : Field → ℕ
+rank Subscribers = 0
+rank Calls = 1
+rank Rings = 2
+rank Cells = 3
+rank Pages = 4
+
+-- this field is out of its limits, and each one before it is within them
+pub record IsFirstOut (field : Field) (s : Sizes) : Type 0 where
+  pub out : ¬ IsWithin field s
+  pub before : (other : Field) → rank other < rank field → IsWithin other s
+
+-- the sizes with the pages that the tables need
+abbrev pub sized : ℕ → ℕ → ℕ → ℕ → Sizes
+sized subscribers calls rings cells = record { subscribers = subscribers; calls = calls; rings = rings; cells = cells; pages = pages_for subscribers calls }

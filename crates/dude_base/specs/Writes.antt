@@ -1,0 +1,32 @@
+-- Lists of writes, and an array that they overwrite.
+use Rattle.std.specs.Prelude.{◌≡◌, ◌≢◌, ◌==◌, ℕ, ◌≤◌, List, [], ◌∷◌, ◌++◌, length, map, Option, Some, None, is_some, if◌then◌else◌, AllPairs, slice_set}
+use Rattle.dude_base.specs.declared.limits.TheConstants.{MAX_WRITES}
+use Rattle.dude_base.specs.declared.write.Write.{Write}
+
+-- what a list of writes puts into the word i, or None where none of them has this place
+abbrev pub written : List Write → ℕ → Option ℕ
+written [] i = None
+written (w ∷ ws) i = if w.at == i then Some w.value else written ws i
+
+-- the places of the writes differ
+abbrev pub HasDistinctPlaces : List Write → Type 0
+HasDistinctPlaces ws = AllPairs (λ v w. v.at ≢ w.at) ws
+
+-- at most MAX_WRITES writes of different words
+pub record IsWriteList (ws : List Write) : Type 0 where
+  pub few : length ws ≤ MAX_WRITES
+  pub distinct : HasDistinctPlaces ws
+
+-- w takes the place of the write of the same word; where there is none, it comes last
+abbrev pub put_write : List Write → Write → List Write
+put_write ws w = if is_some (written ws w.at) then map (λ v. if v.at == w.at then w else v) ws else ws ++ w ∷ []
+
+-- one more write of the word i would be too many
+pub record IsWide (ws : List Write) (i : ℕ) : Type 0 where
+  pub full : length ws ≡ MAX_WRITES
+  pub new : written ws i ≡ None
+
+-- the array with each written word overwritten; the places differ, so that the order does not matter
+abbrev pub overwritten : List Write → List ℕ → List ℕ
+overwritten [] a = a
+overwritten (w ∷ ws) a = slice_set (overwritten ws a) w.at w.value

@@ -1,0 +1,72 @@
+ghost use Rattle.std.specs.Prelude.{◌≡◌, ◌<◌, ◌≤◌, ◌+◌, ◌*◌};
+ghost use Rattle.dude_base.specs.Image.{cell_front, home_word, image_words};
+ghost use Rattle.dude_base.specs.Sizes.{IsAccepted};
+
+use crate::limits::{HEAD, LINE, PAGE};
+use crate::sizes::Sizes;
+use std::marker::Model;
+
+/// Where the parts of an image of accepted sizes stand, as word numbers of the medium.
+#[derive(Clone, Copy, Debug)]
+pub struct Place {
+    sizes: Sizes,
+}
+
+impl Model for Place {
+    ghost use Rattle.dude_base.specs.declared.sizes.Sizes.{Sizes};
+    ghost use Rattle.dude_base.specs.Place.{IsPlace};
+
+    ghost Value = { Sizes };
+
+    ghost view = { λ p. p.sizes };
+
+    ghost invariant = { IsPlace };
+
+    ghost inverse = { λ s. record { sizes = s } };
+}
+
+impl Place {
+    pub fn of(sizes: &Sizes) -> Place
+        requires { IsAccepted sizes.now }
+        ensures { result ≡ sizes.now }
+    {
+        Place { sizes: *sizes }
+    }
+
+    /// The sizes of the image.
+    pub fn sizes(&self) -> Sizes
+        ensures sizes { result ≡ self.now }
+        ensures accepted { IsAccepted self.now }
+    {
+        self.sizes
+    }
+
+    /// The front of a cell of a ring.
+    pub fn cell(&self, ring: u64, cell: u64) -> u64
+        requires ring { ring < self.now.rings }
+        requires cell { cell < self.now.cells }
+        ensures place { result ≡ cell_front self.now ring cell }
+        ensures inside { result + LINE ≤ home_word self.now 0 }
+    {
+        let sizes = &self.sizes;
+        HEAD + (ring * sizes.cells + cell) * LINE
+    }
+
+    /// A word of the home.
+    pub fn home(&self, word: u64) -> u64
+        requires { word < self.now.pages * PAGE }
+        ensures place { result ≡ home_word self.now word }
+        ensures inside { result < image_words self.now }
+    {
+        let sizes = &self.sizes;
+        HEAD + sizes.rings * sizes.cells * LINE + word
+    }
+
+    /// The length of the image.
+    pub fn words(&self) -> u64
+        ensures { result ≡ image_words self.now }
+    {
+        let sizes = &self.sizes;
+        HEAD + sizes.rings * sizes.cells * LINE + sizes.pages * PAGE
+    }
+}

@@ -1,0 +1,78 @@
+ghost use Rattle.std.specs.Prelude.{◌≡◌, ◌<◌, ◌↔◌, [], length, slice_get, All, OnOk, OnErr, IsErr};
+ghost use Rattle.dude_base.specs.Writes.{put_write, overwritten, IsWide, IsWriteList};
+
+use crate::wide::Wide;
+use crate::write::Write;
+use crate::write_list::WriteList;
+use std::marker::Model;
+
+/// The redo record of a transaction: its number, and at most `MAX_WRITES` writes of different words.
+#[derive(Drop)]
+pub struct Redo {
+    number: u64,
+    writes: WriteList,
+}
+
+impl Model for Redo {
+    ghost use Rattle.dude_base.specs.Records.{RedoRecord};
+
+    ghost Value = { RedoRecord };
+
+    ghost view = { λ r. record { number = r.number; writes = r.writes } };
+}
+
+impl Redo {
+    pub fn new(number: u64) -> Self
+        ensures { result ≡ record { number = number; writes = [] } }
+    {
+        Redo {
+            number,
+            writes: WriteList::new(),
+        }
+    }
+
+    /// The record of this number with these writes.
+    pub fn of(number: u64, writes: WriteList) -> Self
+        ensures { result ≡ record { number = number; writes = writes } }
+    {
+        Redo { number, writes }
+    }
+
+    pub fn number(&self) -> u64
+        ensures { result ≡ self.now.number }
+    {
+        self.number
+    }
+
+    pub fn len(&self) -> u64
+        ensures len { result ≡ length self.now.writes }
+        ensures writes { IsWriteList self.now.writes }
+    {
+        self.writes.len()
+    }
+
+    /// The write at place `k`, counted from 0.
+    pub fn write_at(&self, k: u64) -> Write
+        requires { k < length self.now.writes }
+        ensures { slice_get self.now.writes k ≡ Some result }
+    {
+        self.writes.get(k)
+    }
+
+    /// Takes a write in: in place of the one of the same word, or else at the end.
+    pub fn push(&mut self, w: Write) -> Result<(), Wide>
+        ensures ok { OnOk result (self.new ≡ record self.old { writes = put_write self.old.writes w }) }
+        ensures err { OnErr result (self.new ≡ self.old) }
+        ensures wide { IsErr result ↔ IsWide self.old.writes w.at }
+    {
+        self.writes.put(w)
+    }
+
+    /// Overwrites an array by the writes of this record.
+    pub fn apply_to(&self, words: &mut [u64])
+        requires inside { All (λ w. w.at < length words.old) self.now.writes }
+        ensures { words.new ≡ overwritten self.now.writes words.old }
+    {
+        self.writes.apply_to(words)
+    }
+}

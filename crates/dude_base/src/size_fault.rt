@@ -1,0 +1,23 @@
+use crate::field::Field;
+use std::error::Error;
+use std::fmt;
+
+/// The first field of `Sizes` that is out of its limits.
+#[derive(Clone, Copy, Debug, PartialEq, Eq)]
+pub struct SizeFault {
+    pub field: Field,
+}
+
+impl fmt::Display for SizeFault {
+    fn fmt<W: fmt::Write>(&self, f: &mut fmt::Formatter<W>) -> fmt::Result {
+        f.write_str(match self.field {
+            Field::Subscribers => "the number of subscribers is out of its limits",
+            Field::Calls => "the number of call forwardings is out of its limits",
+            Field::Rings => "the number of rings is out of its limits",
+            Field::Cells => "the number of cells is out of its limits",
+            Field::Pages => "the number of pages isn't the one that the tables need",
+        })
+    }
+}
+
+impl Error for SizeFault {}

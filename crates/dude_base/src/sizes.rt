@@ -1,0 +1,107 @@
+ghost use Rattle.std.specs.Prelude.{◌≡◌, ◌<◌, ◌≤◌, ◌+◌, ◌*◌, ℕ, IfOk, IfErr, OnOk};
+ghost use Rattle.dude_base.specs.declared.field.Field.{Field};
+ghost use Rattle.dude_base.specs.Home.{up8, table_words, pages_for};
+ghost use Rattle.dude_base.specs.Sizes.{IsAccepted, IsFirstOut, IsFrom, IsWithin, rank, sized};
+
+use crate::field::Field;
+use crate::limits::{LINE, MAX_CALLS, MAX_CELLS, MAX_RINGS, MAX_SUBSCRIBERS, MIN_CELLS, PAGE};
+use crate::size_fault::SizeFault;
+
+/// How large an image is.
+#[derive(Clone, Copy, Debug, PartialEq, Eq)]
+pub struct Sizes {
+    /// Subscribers, from 1 to `MAX_SUBSCRIBERS`.
+    pub subscribers: u64,
+    /// Room for call forwardings, from 1 to `MAX_CALLS`.
+    pub calls: u64,
+    /// Log rings, from 1 to `MAX_RINGS`.
+    pub rings: u64,
+    /// Cells of each ring, from `MIN_CELLS` to `MAX_CELLS`.
+    pub cells: u64,
+    /// Pages of the home, as many as its tables need.
+    pub pages: u64,
+}
+
+impl Sizes {
+    /// The sizes with the pages that these tables need.
+    pub fn of(subscribers: u64, calls: u64, rings: u64, cells: u64) -> Result<Sizes, SizeFault>
+        ensures ok { IfOk result (λ s. (s ≡ sized subscribers calls rings cells) × IsAccepted s) }
+        ensures fault { IfErr result (λ e. IsFirstOut e.field (sized subscribers calls rings cells)) }
+    {
+        let mut sizes = Sizes {
+            subscribers,
+            calls,
+            rings,
+            cells,
+            pages: 0,
+        };
+        sizes.check_counts()?;
+        sizes.pages = pages_of_tables(subscribers, calls);
+        Ok(sizes)
+    }
+
+    /// Whether an image may have these sizes.
+    pub fn check(&self) -> Result<(), SizeFault>
+        ensures ok { OnOk result (IsAccepted self.now) }
+        ensures fault { IfErr result (λ e. IsFirstOut e.field self.now) }
+    {
+        self.check_counts()?;
+        if self.pages != pages_of_tables(self.subscribers, self.calls) {
+            return Err(SizeFault {
+                field: Field::Pages,
+            });
+        }
+        Ok(())
+    }
+
+    // The fields but for the pages.
+    fn check_counts(&self) -> Result<(), SizeFault>
+        ensures ok { OnOk result ((f : Field) → rank f < rank Field.Pages → IsWithin f self.now) }
+        ensures fault { IfErr result (λ e. IsFirstOut e.field self.now × (rank e.field < rank Field.Pages)) }
+    {
+        within(Field::Subscribers, self.subscribers, 1, MAX_SUBSCRIBERS)?;
+        within(Field::Calls, self.calls, 1, MAX_CALLS)?;
+        within(Field::Rings, self.rings, 1, MAX_RINGS)?;
+        within(Field::Cells, self.cells, MIN_CELLS, MAX_CELLS)
+    }
+}
+
+fn within(field: Field, value: u64, least: u64, most: u64) -> Result<(), SizeFault>
+    ensures ok { OnOk result (IsFrom least most value) }
+    ensures fault { IfErr result (λ e. (e.field ≡ field) × ¬ IsFrom least most value) }
+{
+    if least <= value && value <= most {
+        Ok(())
+    } else {
+        Err(SizeFault { field })
+    }
+}
+
+fn pages_of_tables(subscribers: u64, calls: u64) -> u64
+    requires subscribers { subscribers ≤ 10000 }
+    requires calls { calls ≤ 120000 }
+    ensures { result ≡ pages_for subscribers calls }
+{
+    let words = words_of_table(subscribers, subscribers, 8)
+        + words_of_table(subscribers, subscribers, 4)
+        + words_of_table(4 * subscribers, 4 * subscribers, 4)
+        + words_of_table(4 * subscribers, 4 * subscribers, 4)
+        + words_of_table(calls, calls, 4);
+    words.div_ceil(PAGE)
+}
+
+// A header line, the links of the buckets and the records, each in whole lines.
+fn words_of_table(buckets: u64, records: u64, size: u64) -> u64
+    requires few { buckets ≤ 120000 }
+    requires small { records * size ≤ 480000 }
+    ensures { result ≡ table_words (record { buckets = buckets; records = records; size = size }) }
+{
+    LINE + whole_lines(buckets) + whole_lines(records * size)
+}
+
+fn whole_lines(words: u64) -> u64
+    requires { words ≤ 480000 }
+    ensures { result ≡ up8 words }
+{
+    words.div_ceil(LINE) * LINE
+}

@@ -1,0 +1,6 @@
+/// A store of `value` in the home word `at`.
+#[derive(Clone, Copy, Debug, PartialEq, Eq)]
+pub struct Write {
+    pub at: u64,
+    pub value: u64,
+}

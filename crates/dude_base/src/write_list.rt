@@ -1,0 +1,122 @@
+ghost use Rattle.std.specs.Prelude.{◌≡◌, ◌≢◌, ◌<◌, ◌↔◌, [], ◌∷◌, ◌++◌, length, slice_get, slice_set, All, OnOk, OnErr, IsErr, IfSome, IfNone};
+ghost use Rattle.std.specs.List.{HoldsAt};
+ghost use Rattle.dude_base.specs.Writes.{written, put_write, overwritten, IsWide, IsWriteList};
+
+use crate::limits::MAX_WRITES;
+use crate::wide::Wide;
+use crate::write::Write;
+use std::marker::Model;
+
+/// At most `MAX_WRITES` writes of different words, in the order in which these words were first
+/// written. It takes no memory: the writes stand in an array of their own.
+#[derive(Drop)]
+pub struct WriteList {
+    slots: [Write; MAX_WRITES as usize],
+    len: u64,
+}
+
+impl Model for WriteList {
+    ghost use Rattle.std.specs.Prelude.{List, take};
+    ghost use Rattle.dude_base.specs.declared.write.Write.{Write};
+
+    ghost Value = { List Write };
+
+    ghost use Rattle.dude_base.specs.WriteList.{IsKept};
+
+    ghost view = { λ a. take a.len a.slots };
+
+    ghost invariant = { IsKept };
+}
+
+impl WriteList {
+    pub fn new() -> Self
+        ensures { result ≡ [] }
+    {
+        WriteList {
+            slots: [Write { at: 0, value: 0 }; MAX_WRITES as usize],
+            len: 0,
+        }
+    }
+
+    pub fn len(&self) -> u64
+        ensures len { result ≡ length self.now }
+        ensures writes { IsWriteList self.now }
+    {
+        self.len
+    }
+
+    /// The write at place `k`, counted from 0.
+    pub fn get(&self, k: u64) -> Write
+        requires { k < length self.now }
+        ensures { slice_get self.now k ≡ Some result }
+    {
+        let slots = &self.slots;
+        slots[k as usize]
+    }
+
+    /// What the word `at` is to hold, or `None` where it isn't written.
+    pub fn find(&self, at: u64) -> Option<u64>
+        ensures { result ≡ written self.now at }
+    {
+        match self.place_of(at) {
+            Some(k) => Some(self.get(k).value),
+            None => None,
+        }
+    }
+
+    /// Takes a write in: in place of the one of the same word, or else at the end.
+    pub fn put(&mut self, w: Write) -> Result<(), Wide>
+        ensures ok { OnOk result (self.new ≡ put_write self.old w) }
+        ensures err { OnErr result (self.new ≡ self.old) }
+        ensures wide { IsErr result ↔ IsWide self.old w.at }
+    {
+        match self.place_of(w.at) {
+            Some(k) => self.replace(k, w),
+            None if self.len() < MAX_WRITES => self.append(w),
+            None => return Err(Wide),
+        }
+        Ok(())
+    }
+
+    /// Overwrites an array by these writes.
+    pub fn apply_to(&self, words: &mut [u64])
+        requires inside { All (λ w. w.at < length words.old) self.now }
+        ensures { words.new ≡ overwritten self.now words.old }
+    {
+        for k in 0..self.len() {
+            let w = self.get(k);
+            words[w.at as usize] = w.value;
+        }
+    }
+
+    fn place_of(&self, at: u64) -> Option<u64>
+        ensures some { IfSome result (λ k. (k < length self.now) × HoldsAt (λ w. w.at ≡ at) self.now k) }
+        ensures none { IfNone result (All (λ w. w.at ≢ at) self.now) }
+        ensures writes { IsWriteList self.now }
+    {
+        for k in 0..self.len {
+            if self.slots[k as usize].at == at {
+                return Some(k);
+            }
+        }
+        None
+    }
+
+    fn replace(&mut self, k: u64, w: Write)
+        requires inside { k < length self.old }
+        requires same_place { HoldsAt (λ v. v.at ≡ w.at) self.old k }
+        ensures { self.new ≡ slice_set self.old k w }
+    {
+        let slots = &mut self.slots;
+        slots[k as usize] = w;
+    }
+
+    fn append(&mut self, w: Write)
+        requires room { length self.old < MAX_WRITES }
+        requires new_place { All (λ v. v.at ≢ w.at) self.old }
+        ensures { self.new ≡ self.old ++ w ∷ [] }
+    {
+        self.slots[self.len as usize] = w;
+        self.len += 1;
+    }
+}

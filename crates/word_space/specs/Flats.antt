@@ -1,0 +1,23 @@
+-- What contracts see of a `Flat`.
+use Rattle.std.specs.Prelude.{ℕ, List, [], None, length, refl}
+use Rattle.word_space.specs.declared.flat.Flat.{Flat}
+use Rattle.word_space.specs.Sights.{Sight, Fits, IsBelow}
+
+-- the array at rest
+abbrev pub words_of : Flat → List ℕ
+words_of f = f.words.items
+
+-- what is seen of it as words
+abbrev pub sight_of : Flat → Sight
+sight_of f = record { count = length f.words.items; reads = f.reads; writes = f.writes; stopped = f.stopped }
+
+-- nothing was read or written, and no Stop was answered
+abbrev pub fresh : List ℕ → Sight
+fresh words = record { count = length words; reads = []; writes = []; stopped = None }
+
+pub flat_fits : (f : Flat) → Fits (sight_of f)
+flat_fits f = record { count = f.sound.fits; writes = f.sound.list; inside = f.sound.inside }
+
+-- every list of reads that it makes agrees with its array
+pub flat_below : (f : Flat) → IsBelow (sight_of f) (words_of f)
+flat_below f = record { size = refl; agrees = f.sound.agrees }

@@ -1,0 +1,7 @@
+pub mod Callers
+pub mod Flats
+pub mod Sights
+pub mod Sound
+pub mod Steps
+pub mod Stoppings
+pub mod Stops

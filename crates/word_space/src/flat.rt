@@ -1,0 +1,132 @@
+ghost use Rattle.word_space.specs.Sound.{IsSound};
+
+use crate::read_set::ReadSet;
+use crate::stop::Stop;
+use crate::words::Words;
+use crate::write_set::WriteSet;
+use dude_base::limits::MAX_WRITES;
+use dude_base::redo::Redo;
+use dude_base::wide::Wide;
+use dude_base::write::Write;
+use std::alloc::AllocError;
+use std::mem;
+
+/// An array at rest, with the reads made from it and the writes that are pending over it.
+#[derive(Drop)]
+pub struct Flat {
+    words: Vec<u64>,
+    reads: ReadSet,
+    writes: WriteSet,
+    stopped: Option<Stop>,
+    ghost sound: { IsSound words.items reads writes stopped },
+}
+
+impl Flat {
+    ghost use Rattle.std.specs.Prelude.{◌≡◌, ◌↔◌, [], None, IsTrue};
+    ghost use Rattle.dude_base.specs.Writes.{overwritten, IsWide};
+    ghost use Rattle.word_space.specs.Flats.{words_of, sight_of, fresh};
+    ghost use Rattle.word_space.specs.Sights.{IsBelow};
+    ghost use Rattle.word_space.specs.Sound.{IsWideOrNoMemory};
+
+    /// The array, with nothing read and nothing written yet.
+    pub fn new(words: Vec<u64>) -> Self
+        ensures words { words_of result ≡ words.items }
+        ensures fresh { sight_of result ≡ fresh words.items }
+    {
+        let alloc = *words.allocator();
+        Flat {
+            words,
+            reads: ReadSet::new(alloc),
+            writes: WriteSet::new(),
+            stopped: None,
+        }
+    }
+
+    /// The array at rest, without the pending writes.
+    pub fn words(&self) -> &[u64]
+        ensures words { result.now ≡ words_of self.now }
+
+        // Every list of reads that it makes agrees with its array.
+        ensures below { IsBelow (sight_of self.now) (words_of self.now) }
+        ensures stops { IsWideOrNoMemory (sight_of self.now).stopped }
+    {
+        &self.words
+    }
+
+    /// Whether a write of the word `at` would be of a word too many.
+    pub fn is_wide(&self, at: u64) -> bool
+        ensures { IsTrue result ↔ IsWide (sight_of self.now).writes at }
+    {
+        self.writes.len() == MAX_WRITES && self.writes.find(at).is_none()
+    }
+
+    /// The pending writes as the record of this number. They are applied to the array, and both lists
+    /// are cleared.
+    pub fn take(&mut self, number: u64) -> Redo
+        ensures record { result ≡ record { number = number; writes = (sight_of self.old).writes } }
+        ensures words { words_of self.new ≡ overwritten (sight_of self.old).writes (words_of self.old) }
+        ensures fresh { sight_of self.new ≡ fresh (words_of self.new) }
+    {
+        let writes = mem::replace(&mut self.writes, WriteSet::new()).into_list();
+        self.reads.clear();
+        self.stopped = None;
+        writes.apply_to(&mut self.words);
+        Redo::of(number, writes)
+    }
+
+    /// Clears both lists; the pending writes are lost.
+    pub fn forget(&mut self)
+        ensures words { words_of self.new ≡ words_of self.old }
+        ensures fresh { sight_of self.new ≡ fresh (words_of self.old) }
+    {
+        self.writes = WriteSet::new();
+        self.reads.clear();
+        self.stopped = None;
+    }
+
+    /// The array, without the pending writes.
+    pub fn into_words(self) -> Vec<u64>
+        ensures { result.items ≡ words_of self }
+    {
+        self.words
+    }
+}
+
+impl Words for Flat {
+    ghost use Rattle.std.specs.Prelude.{◌≡◌};
+    ghost use Rattle.word_space.specs.Flats.{words_of, sight_of, flat_fits};
+
+    ghost sight = { sight_of };
+
+    ghost turns_into = { λ x y. words_of y ≡ words_of x };
+
+    ghost fits = { flat_fits };
+
+    fn len(&self) -> u64 {
+        self.words.len() as u64
+    }
+
+    fn read(&mut self, at: u64) -> Result<u64, Stop> {
+        if let Some(value) = self.writes.find(at) {
+            return Ok(value);
+        }
+        let value = self.words[at as usize];
+        match self.reads.add(at, value) {
+            Ok(()) => Ok(value),
+            Err(AllocError) => {
+                self.stopped = Some(Stop::NoMemory);
+                Err(Stop::NoMemory)
+            }
+        }
+    }
+
+    fn write(&mut self, at: u64, value: u64) -> Result<(), Stop> {
+        match self.writes.put(Write { at, value }) {
+            Ok(()) => Ok(()),
+            Err(Wide) => {
+                self.stopped = Some(Stop::Wide);
+                Err(Stop::Wide)
+            }
+        }
+    }
+}
