@@ -1,0 +1,5 @@
+pub mod GroupWords
+pub mod CellPlaces
+pub mod HeldRecords
+pub mod ReadCells
+pub mod EncodedCells

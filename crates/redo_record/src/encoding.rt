@@ -21,8 +21,9 @@ pub fn encode(r: &Redo, cell: u64, into: &mut [u64; LINE as usize])
     requires cell { cell < cells_for (length r.now.writes) }
     ensures { into.new ≡ encoded r.now cell }
 {
+    let writes = r.len();
     let tag = tag_of_cell(r.number(), cell);
-    let count = if cell == 0 { r.len() } else { cell };
+    let count = if cell == 0 { writes } else { cell };
     let first = write_or_none(r, 3 * cell);
     let second = write_or_none(r, 3 * cell + 1);
     let third = write_or_none(r, 3 * cell + 2);
