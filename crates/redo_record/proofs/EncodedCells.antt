@@ -41,7 +41,7 @@ encoded_write r i d lt =
           let by_value : ℕ → Write = λ x. record { at = w.at; value = x } in
           ap by_at p ∙ ap by_value q
 
-encoded_writes : (r : RedoRecord) → writes_of (cells_of_record r) ≡ r.writes
+pub encoded_writes : (r : RedoRecord) → writes_of (cells_of_record r) ≡ r.writes
 encoded_writes r = map_range (write_of (cells_of_record r)) 0 r.writes (λ i d lt. let same : 0 + i ≡ i = omega arith in ap (write_of (cells_of_record r)) same ∙ encoded_write r i d lt)
 
 -- the tag and the index of a continuation

@@ -1,6 +1,5 @@
-use Rattle.redo_record.proofs.GroupWords.{group_may, group_flushed, value_may}
-use Rattle.redo_record.proofs.CellPlaces.{words_same, line_in}
+use Rattle.redo_record.proofs.AppendedRecord.{append_law}
 use Rattle.redo_record.proofs.laws.law_of_append.Goals as goal
 
 pub returns : goal.returns
-returns c = ?
+returns c = append_law
