@@ -1,7 +1,7 @@
 -- Where the words of cells stand: cells of a ring are apart, and inside the image.
 use Rattle.std.proofs.Common.{◌≡◌, ◌≢◌, ◌⊎◌, inl, inr, ⊎_elim, ℕ, zero, suc, ◌+◌, ◌-◌, ◌*◌, ◌/◌, ◌%◌, ◌<◌, ◌≤◌, List, [], ◌∷◌, length, map, refl, sym, ap, ◌∙◌, subst, arith}
 use Rattle.std.specs.List.{range_with_len}
-use Rattle.std.proofs.Math.Nat.{mod-eq_of_lt, mod-eq-sub-mod, mod-lt, mul-le-mul_right}
+use Rattle.std.proofs.Math.Nat.{mod-add-mod, mod-eq_of_lt, mod-eq-sub-mod, mod-lt, mul-le-mul_right}
 use Rattle.std.proofs.lemmas.Bool.{cases_lt, cases_eq}
 use Rattle.dude_base.specs.declared.sizes.Sizes.{Sizes}
 use Rattle.dude_base.specs.Image.{image_words}
@@ -29,6 +29,10 @@ steps_same c p i k below a b same = by (wrapped c p i below (omega arith)) (wrap
     by (inl u) (inr v) = let first = u.1 in let second = v.1 in omega arith
     by (inr u) (inl v) = let first = u.1 in let second = v.1 in omega arith
     by (inr u) (inr v) = let first = u.1 in let second = v.1 in omega arith
+
+-- some places on, and then some more
+pub steps_more : (c p i k : ℕ) → ((p + i) % c + k) % c ≡ (p + (i + k)) % c
+steps_more c p i k = mod-add-mod (p + i) c k ∙ ap (λ x. x % c) (omega arith)
 
 -- a place is one of the n from p on, or none of them
 pub among : (c p x n : ℕ) → ((k : ℕ) × (k < n) × (x ≡ (p + k) % c)) ⊎ ((k : ℕ) → k < n → x ≡ (p + k) % c → ⊥)

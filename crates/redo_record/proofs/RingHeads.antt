@@ -33,6 +33,19 @@ kept_word {q = q} {ws = ws} {image = image} mix i x below none is =
 pub is_still : {w : Word} {x : ℕ} → w ≡ still x → IsStill w
 is_still is = is ∙ ap still (sym (ap (λ (w : Word). w.settled) is))
 
+-- a record stands where its cells are settled as they were
+pub stands_by : {s : Sizes} {ring : ℕ} {p q : Point} {l : Logged} → Stands s ring p l
+    → ((k j : ℕ) → k < l.cells → j < 8 → q.word (word_place s (head_of ring l) k j) ≡ still (settled_cells s p (head_of ring l) k j)) → Stands s ring q l
+stands_by {s} {ring} {p} {q} {l} stands stay =
+    let same : AreSame (settled_cells s p (head_of ring l)) (settled_cells s q (head_of ring l)) (cells_for (count_of (settled_cells s p (head_of ring l)))) = record {
+        word = λ k j lt small. ap (λ (w : Word). w.settled) (stay k j (subst (λ (n : ℕ). k < n) stands.same_cells lt) small) } in
+    record {
+      still_words = λ k j lt small. is_still (stay k j lt small);
+      complete = complete_same same stands.complete;
+      same_number = ap number_of (tag_same same) ∙ stands.same_number;
+      same_cells = ap cells_for (count_same same) ∙ stands.same_cells;
+    }
+
 -- the record whose head this is
 pub find_head : {P : Logged → Type 0} (number place : ℕ) (ls : List Logged) → All P ls → HasHead number place ls → (l : Logged) × (l.number ≡ number) × (l.first ≡ place) × P l
 find_head number place [] all has = absurd has
@@ -140,17 +153,8 @@ module _ (s : Sizes) (head : Cell) (r : RedoRecord) (logged : List Logged) (rele
 
       stands_stays : (l : Logged) → ((i k : ℕ) → i < l.cells → k < cells_for (length r.writes) → (l.first + i) % s.cells ≡ (head.place + k) % s.cells → ⊥)
           → Stands s head.ring q l → Stands s head.ring (after_all (group_calls ws ls) q) l
-      stands_stays l apart stands =
-          let stay : (k j : ℕ) → k < l.cells → j < 8 → (after_all (group_calls ws ls) q).word (word_place s (head_of head.ring l) k j) ≡ still (settled_cells s q (head_of head.ring l) k j) =
-              λ k j lt small. stays (word_place s (head_of head.ring l) k j) _ (logged_elsewhere l apart k j lt small) (stands.still_words k j lt small) in
-          let same : AreSame (settled_cells s q (head_of head.ring l)) (settled_cells s (after_all (group_calls ws ls) q) (head_of head.ring l)) (cells_for (count_of (settled_cells s q (head_of head.ring l)))) = record {
-              word = λ k j lt small. ap (λ (w : Word). w.settled) (stay k j (subst (λ (n : ℕ). k < n) stands.same_cells lt) small) } in
-          record {
-            still_words = λ k j lt small. is_still (stay k j lt small);
-            complete = complete_same same stands.complete;
-            same_number = ap number_of (tag_same same) ∙ stands.same_number;
-            same_cells = ap cells_for (count_same same) ∙ stands.same_cells;
-          }
+      stands_stays l apart stands = stands_by stands
+          (λ k j lt small. stays (word_place s (head_of head.ring l) k j) _ (logged_elsewhere l apart k j lt small) (stands.still_words k j lt small))
 
       -- Where the written heads are those of the records added, which stand, the ring fits again with them.
       pub fits_after : (more : List Logged)
