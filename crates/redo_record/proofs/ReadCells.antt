@@ -1,14 +1,17 @@
 -- What `decode` finds in a slice of cells.
-use Rattle.std.proofs.Common.{◌≡◌, ◌≢◌, ℕ, ◌+◌, ◌-◌, ◌*◌, ◌/◌, ◌%◌, ◌^◌, ◌<◌, ◌≤◌, max, List, [], ◌∷◌, ◌++◌, length, map, get_or, slice_index, true, false, true≢false, Option, None, is_some, refl, sym, ap, ◌∙◌, subst, arith, All}
+use Rattle.std.proofs.Common.{◌≡◌, ◌≢◌, ℕ, ◌+◌, ◌-◌, ◌*◌, ◌/◌, ◌%◌, ◌^◌, ◌<◌, ◌≤◌, max, List, [], ◌∷◌, ◌++◌, length, map, get_or, slice_index, true, false, true≢false, Option, None, is_some, refl, sym, ap, ◌∙◌, subst, arith, All, Result, Ok, Err, IfOk, OnErr}
 use Rattle.std.specs.List.{range_with_len}
 use Rattle.std.proofs.lemmas.List.FromFn.{length-map-range_with_len, get_or-map-range_with_len, map-range_with_len_more}
 use Rattle.std.proofs.lemmas.List.Quantifiers.{all_pairs_push}
 use Rattle.dude_base.specs.declared.write.Write.{Write}
+use Rattle.dude_base.specs.Records.{RedoRecord}
 use Rattle.dude_base.specs.Writes.{written, put_write, HasDistinctPlaces}
 use Rattle.dude_base.proofs.WriteLists.{written_absent, absent_written, put_absent}
 use Rattle.redo_record.specs.Record.{cells_for, write_of, writes_of, record_of, HoldRecord}
-use Rattle.redo_record.specs.Encoding.{cells_in, IsRecordSlice}
+use Rattle.redo_record.specs.declared.bad_record.BadRecord.{BadRecord}
+use Rattle.redo_record.specs.Encoding.{cells_in, encoded_cells, IsEncodable, IsRecordSlice}
 use Rattle.redo_record.specs.Decoding.{HasHeadFor, Continues}
+use Rattle.redo_record.proofs.EncodedCells.{encoding_law}
 
 -- a continuation of a record's slice
 pub slice_continues : (words : List ℕ) (count k : ℕ) → HasHeadFor words count → IsRecordSlice words → 1 ≤ k → k < cells_for count
@@ -67,3 +70,9 @@ slice_is_record words count head continues distinct =
 -- the writes of a record's slice are distinct
 pub slice_distinct : (words : List ℕ) (count : ℕ) → HasHeadFor words count → IsRecordSlice words → HasDistinctPlaces (map (write_of (cells_in words)) (range_with_len 0 count))
 slice_distinct words count head slice = subst (λ (n : ℕ). HasDistinctPlaces (map (write_of (cells_in words)) (range_with_len 0 n))) head.count_is slice.whole.distinct
+
+-- what is read from the cells that a record has is this record
+pub decodes_back : {words : List ℕ} (answer : Result RedoRecord BadRecord) → IfOk answer (λ r. IsRecordSlice words × (r ≡ record_of (cells_in words))) → OnErr answer (¬ IsRecordSlice words)
+    → (r : RedoRecord) → IsEncodable r → words ≡ encoded_cells r → answer ≡ Ok r
+decodes_back (Ok found) ok bad r fine is = ap (λ (x : RedoRecord). let it : Result RedoRecord BadRecord = Ok x in it) (ok.1 ∙ (ap (λ (l : List ℕ). record_of (cells_in l)) is ∙ (encoding_law r fine).3))
+decodes_back (Err e) ok bad r fine is = absurd (bad (subst IsRecordSlice (sym is) (encoding_law r fine).2))
