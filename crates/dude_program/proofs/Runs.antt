@@ -25,7 +25,7 @@ use Rattle.tatp_model.proofs.Sequential.{Sequential, Sequential-start, IsNext, S
 use Rattle.dude_text.specs.Command.{Meaning.FreshRun}
 use Rattle.dude_text.specs.RequestFile.{IsServed}
 use Rattle.fresh_image.specs.Fresh.{Rests, fresh_length}
-use Rattle.fresh_image.specs.Layout.{number_limit}
+use Rattle.dude_base.specs.declared.limits.TheConstants.{MAX_NUMBER}
 use Rattle.fresh_image.proofs.UpdateLaw.{rest_images}
 use Rattle.fresh_image.proofs.RowWords.{rows_fit}
 use Rattle.fresh_image.proofs.Lists.{IsIn-drop_push}
@@ -201,7 +201,7 @@ idle_same {S} {before} {old} {new} {p} last db idle = record {
 }
 
 -- A request that changes nothing makes no call.
-pub serves_unchanged : (S index : ℕ) (request : Request) (old new : Stage) (s : Sight) → 1 ≤ S → S ≤ 10000 → fresh_length S ≤ s.len → old.last ≤ number_limit
+pub serves_unchanged : (S index : ℕ) (request : Request) (old new : Stage) (s : Sight) → 1 ≤ S → S ≤ 10000 → fresh_length S ≤ s.len → old.last ≤ MAX_NUMBER
     → changes_it S old.db request ≡ false → next_database S old request ≡ old.db → new.last ≡ old.last → new.db ≡ old.db → Adds S index request old new.done
     → Serves S index request true old new s s
 serves_unchanged S index request old new s low high long small unchanged db_is last_same db_same adds = record {
@@ -394,7 +394,7 @@ goes_stops {S} {T} {i} {requests} d {old} {new} {s} {t} {u} file same below serv
     }
 
 -- All requests were carried out.
-pub goes_ends : {S i : ℕ} {requests : List Request} {stage : Stage} {s t : Sight} (file : List ℕ) → length requests ≤ i → stage.last ≤ number_limit → GoesOn S i requests stage s t → ServesAll S file requests true stage s t
+pub goes_ends : {S i : ℕ} {requests : List Request} {stage : Stage} {s t : Sight} (file : List ℕ) → length requests ≤ i → stage.last ≤ MAX_NUMBER → GoesOn S i requests stage s t → ServesAll S file requests true stage s t
 goes_ends {S} {i} {requests} {stage} file past small goes =
     let going : Going S requests stage = subst (λ (front : List Request). Going S front stage) (take_all i requests past) goes.going in
     let front = serves_front going ([], sym (append-nil requests)) in

@@ -14,7 +14,7 @@ use Rattle.dude_text.specs.Command.{Meaning, Meaning.FreshRun}
 use Rattle.dude_text.specs.Output.{output_of}
 use Rattle.dude_io.specs.Files.{FilesSight}
 use Rattle.dude_io.specs.Sink.{SinkSight}
-use Rattle.fresh_image.specs.Recovery.{Recovers}
+use Rattle.redo_record.specs.Recovery.{Recovers}
 use Rattle.fresh_image.specs.Rows.{StandsFor}
 use Rattle.fresh_image.specs.Calls.{AtLeast}
 use Rattle.dude_program.specs.Opening.{opening_of, FilesMean}

@@ -1,5 +1,6 @@
 -- Where a run stands, as its fields say.
 use Rattle.std.specs.Prelude.{◌≡◌, ℕ, ◌+◌, vec_len, vec_capacity}
+use Rattle.fresh_image.specs.Rings.{IsIdle}
 use Rattle.fresh_image.specs.Store.{database_of}
 use Rattle.dude_program.specs.declared.run.Run.{Run}
 use Rattle.dude_program.specs.Serving.{Stage}
@@ -20,3 +21,7 @@ pub record NotesOne (old new : Run) : Type 0 where
   pub sizes : new.sizes ≡ old.sizes
   pub room : room_of new ≡ room_of old
   pub count : vec_len new.done ≡ vec_len old.done + 1
+
+-- between two requests the log ring has no record
+abbrev pub HasIdleRing : Run → Type 0
+HasIdleRing run = IsIdle (subscribers_of run) run.last run.ring

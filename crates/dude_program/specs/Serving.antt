@@ -10,7 +10,7 @@ use Rattle.tatp_model.specs.Transaction.{reply_to, after_request}
 use Rattle.tatp_model.specs.OneThread.{is_changed, HoldsAll, IsPrintedOrder}
 use Rattle.tatp_model.specs.OneThread.{Replies as RepliesAreOneThreads}
 use Rattle.dude_text.specs.Command.{Meaning.FreshRun}
-use Rattle.fresh_image.specs.Layout.{number_limit}
+use Rattle.dude_base.specs.declared.limits.TheConstants.{MAX_NUMBER}
 use Rattle.fresh_image.specs.Fresh.{Rests}
 use Rattle.fresh_image.specs.Rows.{home_words}
 use Rattle.fresh_image.specs.Calls.{AtLeast, Shows}
@@ -83,6 +83,6 @@ pub record ServesAll (subscribers : ℕ) (file : List ℕ) (requests : List Requ
   pub idle : ok ≡ true → (before : ℕ) → IsTrue s.tells → Idle subscribers before (opening_stage subscribers) (here s)
       → Idle subscribers before new (here t)
   pub within : ok ≡ true → All (λ d. d.number ≤ new.last) new.done
-  pub small : ok ≡ true → new.last ≤ number_limit
+  pub small : ok ≡ true → new.last ≤ MAX_NUMBER
   pub others : ok ≡ true → (new.db.access ≡ (population subscribers).access)
       × (new.db.facilities ≡ (population subscribers).facilities) × (new.db.calls ≡ (population subscribers).calls)

@@ -5,7 +5,7 @@ ghost use Rattle.dude_text.specs.RequestFile.{AreServed};
 ghost use Rattle.fresh_image.specs.Fresh.{fresh_length};
 ghost use Rattle.dude_program.specs.Outcome.{CarriesOut, FormatsAndServes, device_fault};
 ghost use Rattle.dude_program.specs.Serving.{opening_stage};
-ghost use Rattle.dude_program.specs.Run.{stage_of, subscribers_of, room_of};
+ghost use Rattle.dude_program.specs.Run.{stage_of, subscribers_of, room_of, HasIdleRing};
 
 use crate::run::Run;
 use dude_text::Fault;
@@ -29,6 +29,7 @@ fn format_and_serve<M: Medium>(m: &mut M, run: &mut Run, requests: &[Request]) -
     requires few { length requests.now ≤ 100000 }
     requires served { AreServed requests.now }
     requires medium { fresh_length (subscribers_of run.old) ≤ (M.sight m.old).len }
+    requires ring { HasIdleRing run.old }
     requires settled { IsTrue (M.sight m.old).tells → IsSettled (here (M.sight m.old)) }
     ensures { (file : List ℕ) → FormatsAndServes (subscribers_of run.old) file requests.now (is_ok result) (stage_of run.new) (M.sight m.old) (M.sight m.new) }
 {

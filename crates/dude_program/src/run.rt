@@ -2,14 +2,16 @@ ghost use Rattle.std.specs.Prelude.{◌≡◌};
 ghost use Rattle.fresh_image.specs.Store.{count_of};
 
 use fresh_image::{ImageSizes, Store, log_update};
+use log_ring::Ring;
 use pmem_trait::{Failed, Medium};
 use std::alloc::{AllocError, Global};
 use tatp_model::{Done, Reply, Request};
 
-/// A run of `fresh`: the sizes of its image, the volatile tables, the last number drawn, and what is done.
+/// A run of `fresh`: the sizes of its image, its log ring, the volatile tables, the last number drawn, and what is done.
 #[derive(Drop)]
 pub struct Run {
     pub sizes: ImageSizes,
+    pub ring: Ring,
     pub store: Store,
     pub last: u64,
     pub done: Vec<Done>,
@@ -17,7 +19,7 @@ pub struct Run {
 }
 
 impl Run {
-    ghost use Rattle.std.specs.Prelude.{ℕ, ◌+◌, ◌-◌, ◌*◌, ◌<◌, ◌≤◌, vec_len, is_ok, false, IfOk, slice_set, length, List};
+    ghost use Rattle.std.specs.Prelude.{ℕ, ◌+◌, ◌-◌, ◌*◌, ◌<◌, ◌≤◌, vec_len, is_ok, false, IfOk, OnOk, slice_set, length, List};
     ghost use Rattle.fresh_image.specs.Rows.{home_words};
     ghost use Rattle.pmem_trait.specs.Sights.{Ran};
     ghost use Rattle.tatp_model.specs.declared.reply.Reply.TheVariants.{Changed, Missing};
@@ -25,21 +27,24 @@ impl Run {
     ghost use Rattle.tatp_model.specs.Transaction.{reply_to};
     ghost use Rattle.tatp_model.specs.OneThread.{is_changed};
     ghost use Rattle.dude_text.specs.RequestFile.{IsServed, AreServed};
-    ghost use Rattle.fresh_image.specs.Layout.{number_limit};
+    ghost use Rattle.dude_base.specs.declared.limits.TheConstants.{MAX_NUMBER};
     ghost use Rattle.fresh_image.specs.Fresh.{fresh_length};
     ghost use Rattle.dude_program.specs.Serving.{Adds, Serves, ServesAll, opening_stage, next_number, next_database};
-    ghost use Rattle.dude_program.specs.Run.{stage_of, subscribers_of, room_of, NotesOne};
+    ghost use Rattle.dude_program.specs.Run.{stage_of, subscribers_of, room_of, NotesOne, HasIdleRing};
 
     /// A run over the population, with room to note so many requests.
     pub fn new(alloc: Global, sizes: ImageSizes, requests: usize) -> Result<Run, AllocError>
         ensures sizes { IfOk result (λ run. run.sizes ≡ sizes) }
         ensures stage { IfOk result (λ run. stage_of run ≡ opening_stage sizes.subscribers) }
         ensures room { IfOk result (λ run. room_of run ≡ requests) }
+        ensures ring { IfOk result (λ run. HasIdleRing run) }
     {
+        let ring = Ring::new(alloc, sizes.place(), 0)?;
         let done = Vec::with_capacity(alloc, requests)?;
         let store = Store::new(alloc, &sizes)?;
         Ok(Run {
             sizes,
+            ring,
             store,
             last: 0,
             done,
@@ -54,6 +59,7 @@ impl Run {
         ensures adds { Adds (subscribers_of self.old) index request (stage_of self.old) self.new.done.items }
         ensures stays { ((stage_of self.new).last ≡ (stage_of self.old).last) × ((stage_of self.new).db ≡ (stage_of self.old).db) }
         ensures notes { NotesOne self.old self.new }
+        ensures ring { self.new.ring ≡ self.old.ring }
     {
         self.done.push_reserved(Done {
             file: 0,
@@ -68,7 +74,7 @@ impl Run {
     /// Performs an update in memory, under the next number, and notes it.
     fn perform(&mut self, index: u64, sub_nbr: u64, vlr: u64)
         requires room { vec_len self.old.done < room_of self.old }
-        requires number { self.old.last < number_limit }
+        requires number { self.old.last < MAX_NUMBER }
         requires low { 1 ≤ sub_nbr }
         requires high { sub_nbr ≤ subscribers_of self.old }
         requires changes { reply_to (12 * subscribers_of self.old) (stage_of self.old).db (UpdateLocation sub_nbr vlr) ≡ Changed }
@@ -78,6 +84,7 @@ impl Run {
         ensures home { slice_set (home_words (subscribers_of self.old) (stage_of self.old).db.subscribers) (8 * (sub_nbr - 1) + 6) vlr
             ≡ home_words (subscribers_of self.old) (stage_of self.new).db.subscribers }
         ensures notes { NotesOne self.old self.new }
+        ensures ring { self.new.ring ≡ self.old.ring }
     {
         self.store.set_location(sub_nbr, vlr);
         self.last += 1;
@@ -94,10 +101,12 @@ impl Run {
     /// Carries out `GET_SUBSCRIBER_DATA`. The medium isn't touched.
     fn serve_read<M: Medium>(&mut self, m: &mut M, index: u64, s_id: u64) -> Result<(), Failed>
         requires room { vec_len self.old.done < room_of self.old }
-        requires number { self.old.last ≤ number_limit }
+        requires number { self.old.last ≤ MAX_NUMBER }
         requires medium { fresh_length (subscribers_of self.old) ≤ (M.sight m.old).len }
+        requires ring { HasIdleRing self.old }
         ensures serves { Serves (subscribers_of self.old) index (GetSubscriber s_id) (is_ok result) (stage_of self.old) (stage_of self.new) (M.sight m.old) (M.sight m.new) }
         ensures notes { NotesOne self.old self.new }
+        ensures ring { OnOk result (HasIdleRing self.new) }
         ensures len { (M.sight m.new).len ≡ (M.sight m.old).len }
     {
         let reply = self.store.subscriber(s_id);
@@ -114,10 +123,12 @@ impl Run {
         vlr: u64,
     ) -> Result<(), Failed>
         requires room { vec_len self.old.done < room_of self.old }
-        requires number { self.old.last < number_limit }
+        requires number { self.old.last < MAX_NUMBER }
         requires medium { fresh_length (subscribers_of self.old) ≤ (M.sight m.old).len }
+        requires ring { HasIdleRing self.old }
         ensures serves { Serves (subscribers_of self.old) index (UpdateLocation sub_nbr vlr) (is_ok result) (stage_of self.old) (stage_of self.new) (M.sight m.old) (M.sight m.new) }
         ensures notes { NotesOne self.old self.new }
+        ensures ring { OnOk result (HasIdleRing self.new) }
         ensures len { (M.sight m.new).len ≡ (M.sight m.old).len }
     {
         let Some(at) = self.store.location_of(sub_nbr) else {
@@ -129,17 +140,19 @@ impl Run {
             return Ok(());
         };
         self.perform(index, sub_nbr, vlr);
-        log_update(m, &self.sizes, self.last, at, vlr)
+        log_update(m, &self.sizes, &mut self.ring, self.last, at, vlr)
     }
 
     /// Carries out one request.
     fn serve<M: Medium>(&mut self, m: &mut M, index: u64, request: &Request) -> Result<(), Failed>
         requires room { vec_len self.old.done < room_of self.old }
-        requires number { self.old.last < number_limit }
+        requires number { self.old.last < MAX_NUMBER }
         requires served { IsServed request.now }
         requires medium { fresh_length (subscribers_of self.old) ≤ (M.sight m.old).len }
+        requires ring { HasIdleRing self.old }
         ensures serves { Serves (subscribers_of self.old) index request.now (is_ok result) (stage_of self.old) (stage_of self.new) (M.sight m.old) (M.sight m.new) }
         ensures notes { NotesOne self.old self.new }
+        ensures ring { OnOk result (HasIdleRing self.new) }
         ensures len { (M.sight m.new).len ≡ (M.sight m.old).len }
     {
         match request {
@@ -156,6 +169,7 @@ impl Run {
         requires few { length requests.now ≤ 100000 }
         requires served { AreServed requests.now }
         requires medium { fresh_length (subscribers_of self.old) ≤ (M.sight m.old).len }
+        requires ring { HasIdleRing self.old }
         ensures serves { (file : List ℕ) → ServesAll (subscribers_of self.old) file requests.now (is_ok result) (stage_of self.new) (M.sight m.old) (M.sight m.new) }
         ensures len { (M.sight m.new).len ≡ (M.sight m.old).len }
     {

@@ -9,11 +9,11 @@ use Rattle.pmem_trait.specs.Words.{newest, Point, IsIn, IsSettled, still, after,
 use Rattle.pmem_trait.specs.Groups.{group_calls, written, final}
 use Rattle.pmem_trait.proofs.GroupLaw.{group_law, group_word, group_told}
 use Rattle.pmem_trait.proofs.Laws.{along_then, after_all_then}
-use Rattle.fresh_image.specs.Layout.{magic}
+use Rattle.dude_base.specs.declared.limits.TheConstants.{MAGIC}
 use Rattle.fresh_image.specs.Fresh.{Rests, fresh_header, fresh_home_length, fresh_length}
 use Rattle.fresh_image.specs.FormatCalls.{clear_cells, content_writes, content_lines, header_writes, magic_write, format_calls, ShowsOnceTold}
 use Rattle.fresh_image.proofs.Groups.{Within, written-outside, left}
-use Rattle.fresh_image.proofs.UpdateLaw.{rest_images}
+use Rattle.fresh_image.proofs.UpdateLaw.{rest_images, is_still, empty_ring, stands_told}
 
 -- a number of a range is in its list
 pub IsIn-range : (a n k : ℕ) → a ≤ k → k < a + n → IsIn k (range_with_len a n)
@@ -86,7 +86,7 @@ abbrev after_header : ℕ → Point → Point
 after_header S p = after_all (group_calls (header_writes S) (0 ∷ [])) p
 
 abbrev after_magic : Point → Point
-after_magic p = after_all (group_calls (magic_write magic) (0 ∷ [])) p
+after_magic p = after_all (group_calls (magic_write MAGIC) (0 ∷ [])) p
 
 within_header : (S : ℕ) → Within 1 8 (header_writes S)
 within_header S = (
@@ -118,7 +118,7 @@ told3 : (S : ℕ) (home : List ℕ) (p : Point) → (after_header S (after_conte
 told3 S home p = group_told (header_writes S) (0 ∷ []) (after_contents S home (after_clear p)) ∙ told2 S home p
 
 formatted_told : (S : ℕ) (home : List ℕ) (p : Point) → (after_magic (after_header S (after_contents S home (after_clear p)))).told ≡ p.told
-formatted_told S home p = group_told (magic_write magic) (0 ∷ []) (after_header S (after_contents S home (after_clear p))) ∙ told3 S home p
+formatted_told S home p = group_told (magic_write MAGIC) (0 ∷ []) (after_header S (after_contents S home (after_clear p))) ∙ told3 S home p
 
 -- After the groups of the format the medium rests at 0.
 formatted_rests : (S : ℕ) (home : List ℕ) (p : Point) → length home ≡ fresh_home_length S → IsSettled p
@@ -126,9 +126,8 @@ formatted_rests : (S : ℕ) (home : List ℕ) (p : Point) → length home ≡ fr
 formatted_rests S home p count settled = record {
   header = header;
   mark = last 8 0 (inr (omega arith)) (left 1 8 p2 (header_writes S) (0 ∷ []) (within_header S) 8 _ (inr (omega arith)) mark2);
-  head = (0, omega arith, far 16 (omega arith) (omega arith) (omega arith));
-  body = λ k from below. (0, far k (omega arith) (omega arith) (omega arith));
-  cells = λ k from below. far k (omega arith) (omega arith) (omega arith);
+  ring = empty_ring S 0 (last 8 0 (inr (omega arith)) (left 1 8 p2 (header_writes S) (0 ∷ []) (within_header S) 8 _ (inr (omega arith)) mark2)) far;
+  cells = λ k from below. is_still _ _ (far k from below);
   count = count;
   words = λ k below. past (144 + k) _ (omega arith) (subst (λ (i : ℕ). p2.word i ≡ still (slice_index (clear_cells ++ home) (128 + k))) (omega arith) (content_word S home p1 (128 + k) _ count (omega arith) (at_first (16 + (128 + k)) (omega arith)).1)
       ∙ ap still (home_value home k));
@@ -148,7 +147,7 @@ formatted_rests S home p count settled = record {
     at_first k from = let s = settled k in (s.0, left 0 1 p (magic_write 0) (0 ∷ []) (omega arith, omega arith, tt) k s.0 (inr from) s.1)
 
     last : (k x : ℕ) → (k < 0) ⊎ (1 ≤ k) → p3.word k ≡ still x → (after_magic p3).word k ≡ still x
-    last k x out is = left 0 1 p3 (magic_write magic) (0 ∷ []) (omega arith, omega arith, tt) k x out is
+    last k x out is = left 0 1 p3 (magic_write MAGIC) (0 ∷ []) (omega arith, omega arith, tt) k x out is
 
     past : (k x : ℕ) → 8 ≤ k → p2.word k ≡ still x → (after_magic p3).word k ≡ still x
     past k x from is = last k x (inr (omega arith)) (left 1 8 p2 (header_writes S) (0 ∷ []) (within_header S) k x (inr from) is)
@@ -161,8 +160,8 @@ formatted_rests S home p count settled = record {
         group_word (content_writes home) (content_lines S) p1 8 s.0 s.1 (inr (IsIn-range 1 (fresh_length S / 8 - 1) 1 (omega arith) (omega arith)))
         ∙ ap (λ (l : List ℕ). still (newest s.0 l)) w
 
-    far : (k : ℕ) → 16 ≤ k → k < 144 → 16 ≤ k → (after_magic p3).word k ≡ still 0
-    far k from below _ = past k 0 (omega arith) (subst (λ (i : ℕ). p2.word i ≡ still 0) (omega arith)
+    far : (k : ℕ) → 16 ≤ k → k < 144 → (after_magic p3).word k ≡ still 0
+    far k from below = past k 0 (omega arith) (subst (λ (i : ℕ). p2.word i ≡ still 0) (omega arith)
         (content_word S home p1 (k - 16) _ count (omega arith) (at_first (16 + (k - 16)) (omega arith)).1 ∙ ap still (cell_value home (k - 16) (omega arith))))
 
     at_second : (k : ℕ) → 1 ≤ k → k < 8 → (x : ℕ) × (p2.word k ≡ still x)
@@ -175,7 +174,7 @@ formatted_rests S home p count settled = record {
     header : (k : ℕ) → k < 8 → (after_magic p3).word k ≡ still (slice_index (fresh_header S) k)
     header zero below =
         let s = settled 0 in
-        group_word (magic_write magic) (0 ∷ []) p3 0 0 (left 1 8 p2 (header_writes S) (0 ∷ []) (within_header S) 0 0 (inl (omega arith))
+        group_word (magic_write MAGIC) (0 ∷ []) p3 0 0 (left 1 8 p2 (header_writes S) (0 ∷ []) (within_header S) 0 0 (inl (omega arith))
         (left 8 (fresh_length S) p1 (content_writes home) (content_lines S) (within_contents S home count) 0 0 (inl (omega arith))
         (group_word (magic_write 0) (0 ∷ []) p 0 s.0 s.1 (inr (inl refl))))) (inr (inl refl))
     header (suc zero) below = by_header 1 (omega arith) (omega arith)
@@ -194,7 +193,7 @@ unfolding format_calls
 format_rests S home p count settled =
     let Q : Point → Type 0 = λ q. Rests S 0 home q × (q.told ≡ p.told ++ 0 ∷ []) in
     subst Q (sym whole) (
-      record { header = r.header; mark = r.mark; head = r.head; body = r.body; cells = r.cells; count = r.count; words = r.words },
+      stands_told 0 r,
       ap (λ (told : List ℕ). told ++ 0 ∷ []) (formatted_told S home p),
     )
   where
@@ -205,10 +204,10 @@ format_rests S home p count settled =
     r = formatted_rests S home p count settled
 
     whole : after_all (group_calls (magic_write 0) (0 ∷ []) ++ (group_calls (content_writes home) (content_lines S)
-        ++ (group_calls (header_writes S) (0 ∷ []) ++ (group_calls (magic_write magic) (0 ∷ []) ++ Tell 0 ∷ [])))) p ≡ after (Tell 0) p4
+        ++ (group_calls (header_writes S) (0 ∷ []) ++ (group_calls (magic_write MAGIC) (0 ∷ []) ++ Tell 0 ∷ [])))) p ≡ after (Tell 0) p4
     whole = after_all_then (group_calls (magic_write 0) (0 ∷ [])) _ p ∙ (after_all_then (group_calls (content_writes home) (content_lines S)) _ (after_clear p)
         ∙ (after_all_then (group_calls (header_writes S) (0 ∷ [])) _ (after_contents S home (after_clear p))
-        ∙ after_all_then (group_calls (magic_write magic) (0 ∷ [])) (Tell 0 ∷ []) (after_header S (after_contents S home (after_clear p)))))
+        ∙ after_all_then (group_calls (magic_write MAGIC) (0 ∷ [])) (Tell 0 ∷ []) (after_header S (after_contents S home (after_clear p)))))
 
 -- From a settled medium each image at each moment of the format has this: nothing was told yet, or the image recovers
 -- to 0 and these home words.
@@ -219,7 +218,7 @@ format_images {S} {len} {home} {p} low high long count settled =
     along_then (group_law (magic_write 0) (λ image mix. inl refl) (0 ∷ []))
     (along_then (group_law (content_writes home) (λ image mix. inl (told1 p)) (content_lines S))
     (along_then (group_law (header_writes S) (λ image mix. inl (told2 S home p)) (0 ∷ []))
-    (along_then (group_law (magic_write magic) (λ image mix. inl (told3 S home p)) (0 ∷ []))
+    (along_then (group_law (magic_write MAGIC) (λ image mix. inl (told3 S home p)) (0 ∷ []))
     (more (record { each = λ image is. inl (formatted_told S home p) })
     (end (record {
       each = λ image is. inr (

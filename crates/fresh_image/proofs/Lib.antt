@@ -2,6 +2,7 @@ pub mod Digits
 pub mod FormatLaw
 pub mod Groups
 pub mod Lists
+pub mod Pages
 pub mod Loops
 pub mod RowWords
 pub mod Shown

@@ -6,7 +6,7 @@ use Rattle.std.proofs.lemmas.Bool.{cases_lt}
 use Rattle.std.specs.Prelude.{slice_index, slice_set, flat_map, replicate}
 use Rattle.tatp_model.specs.declared.sub_row.SubRow.{SubRow}
 use Rattle.tatp_model.specs.Population.{population, subscriber_at}
-use Rattle.fresh_image.specs.Layout.{tables_words, pages_for}
+use Rattle.fresh_image.specs.Fresh.{fresh_pages}
 use Rattle.fresh_image.specs.Fresh.{fresh_home_length}
 use Rattle.fresh_image.specs.Rows.{row_words, home_words}
 
@@ -37,7 +37,7 @@ home_with_location (r ∷ rows) rest (suc k) vlr d below =
 
 -- the tables need more words than eight a subscriber
 pub rows_fit : (S : ℕ) → 8 * S ≤ fresh_home_length S
-unfolding pages_for tables_words
+unfolding fresh_pages
 rows_fit S = omega arith
 
 -- the length of the home words

@@ -1,68 +1,212 @@
 -- The law of an update's calls: at each moment each image is as before the update or as after it, and not as before once
 -- its number was told.
-use Rattle.std.proofs.Common.{◌≡◌, ◌≢◌, ℕ, ◌+◌, ◌/◌, ◌<◌, ◌≤◌, List, [], ◌∷◌, ◌++◌, length, refl, sym, ◌∙◌, ap, arith, inl, inr, ◌⊎◌, subst}
+use Rattle.std.proofs.Common.{◌≡◌, ◌≢◌, ℕ, ◌+◌, ◌-◌, ◌*◌, ◌/◌, ◌%◌, ◌<◌, ◌≤◌, max, All, List, [], ◌∷◌, ◌++◌, length, refl, sym, ◌∙◌, ap, arith, inl, inr, ◌⊎◌, subst}
 use Rattle.std.proofs.lemmas.List.{length-set, get_or-set_same, get_or-set_other}
 use Rattle.std.proofs.lemmas.Bool.{cases_eq, cases_order}
 use Rattle.std.specs.Prelude.{slice_index, slice_set}
+use Rattle.dude_base.specs.declared.limits.TheConstants.{MAX_NUMBER}
+use Rattle.dude_base.specs.declared.sizes.Sizes.{Sizes}
+use Rattle.dude_base.specs.declared.write.Write.{Write}
+use Rattle.dude_base.specs.Records.{RedoRecord}
 use Rattle.pmem_trait.specs.declared.call.Call.{Call}
 use Rattle.pmem_trait.specs.declared.call.Call.TheVariants.{Tell}
-use Rattle.pmem_trait.specs.Words.{newest, Point, IsIn, IsImage, still, after, after_all, Leaves, Along, end, more}
-use Rattle.pmem_trait.specs.Groups.{group_calls, OldOrNew, final}
+use Rattle.pmem_trait.specs.Words.{newest, Word, Point, IsIn, MayBe, IsImage, still, after, after_all, Leaves, Along, end, more}
+use Rattle.pmem_trait.specs.Groups.{written, group_calls, OldOrNew, final}
 use Rattle.pmem_trait.proofs.GroupLaw.{group_law, group_word, group_told}
 use Rattle.pmem_trait.proofs.Laws.{along_then, after_all_then}
-use Rattle.fresh_image.specs.Layout.{number_limit, sizes_of, home_of}
-use Rattle.fresh_image.specs.Record.{head_tag}
-use Rattle.fresh_image.specs.Recovery.{Recovers}
-use Rattle.fresh_image.specs.Fresh.{Rests, fresh_header, fresh_home_length, fresh_home_start, fresh_length}
-use Rattle.fresh_image.specs.Calls.{record_body, record_tag, home_write, mark_write, append_calls, reproduce_calls, update_calls, AtLeast, ShowsEither}
-use Rattle.fresh_image.proofs.Groups.{Within, written-same, kept, either, left}
+use Rattle.redo_record.specs.Tags.{kind_of, number_of, head_tag, IsHeadOver}
+use Rattle.redo_record.specs.Cells.{Cell, front_of, word_place}
+use Rattle.redo_record.specs.Record.{HoldComplete, record_of}
+use Rattle.redo_record.specs.Encoding.{IsEncodable, encoded}
+use Rattle.redo_record.specs.Images.{mark_of, tag_of, cells_from, IsComplete, IsNewHead}
+use Rattle.redo_record.specs.Recovery.{Recovers}
+use Rattle.redo_record.specs.Calls.{append_calls}
+use Rattle.redo_record.specs.Fits.{Logged, IsStill, FitsRing, settled_mark}
+use Rattle.redo_record.specs.AppendLaw.{CanAppend, logged_as, IsElsewhere, HeadsHold, Appended}
+use Rattle.redo_record.proofs.AppendedRecord.{append_law, along_last}
+use Rattle.redo_record.proofs.EncodedCells.{cells_of_record, encoded_holds, encoded_record, encoded_writes}
+use Rattle.redo_record.proofs.HeldRecords.{AreSame, complete_same, record_same}
+use Rattle.redo_record.proofs.RingRoom.{release_law, rest_law}
+use Rattle.fresh_image.specs.Fresh.{Stands, Rests, fresh_sizes, fresh_header, fresh_home_length, fresh_home_start, fresh_length}
+use Rattle.fresh_image.specs.Calls.{update_record, update_cell, home_write, mark_write, reproduce_calls, update_calls, AtLeast, ShowsEither}
+use Rattle.fresh_image.proofs.Groups.{Within, written-outside, written-same, kept, either, left}
 use Rattle.fresh_image.proofs.Lists.{set-set_same, IsIn-drop_push}
-use Rattle.fresh_image.proofs.Shown.{HasWords, shows_rest, shows_next, shows_home}
+use Rattle.fresh_image.proofs.Shown.{Reads, fresh_sizes_are, recovers_rest, recovers_next}
 
--- The words of the medium but for the first cell's body: all of it is settled, with this mark and this tag.
-pub record Stands (subscribers mark tag : ℕ) (home : List ℕ) (p : Point) : Type 0 where
-  pub header : (k : ℕ) → k < 8 → p.word k ≡ still (slice_index (fresh_header subscribers) k)
-  pub mark_is : p.word 8 ≡ still mark
-  pub tag_is : p.word 16 ≡ still tag
-  pub cells : (k : ℕ) → 24 ≤ k → k < 144 → p.word k ≡ still 0
-  pub count : length home ≡ fresh_home_length subscribers
-  pub words : (k : ℕ) → k < length home → p.word (fresh_home_start + k) ≡ still (slice_index home k)
+-- what holds of images holds of them along a list of calls
+pub along_leaves : {len : ℕ} {P Q : List ℕ → List ℕ → Type 0} {p : Point} {cs : List Call} → ((told image : List ℕ) → length image ≡ len → P told image → Q told image)
+    → Along (Leaves len P) p cs → Along (Leaves len Q) p cs
+along_leaves f (end h) = end (record { each = λ image is. f _ image is.size (h.each image is) })
+along_leaves f (more h rest) = more (record { each = λ image is. f _ image is.size (h.each image is) }) (along_leaves f rest)
 
--- the first cell has this write
-pub record Logs (at value : ℕ) (p : Point) : Type 0 where
-  pub one : p.word 17 ≡ still 1
-  pub place : p.word 18 ≡ still at
-  pub written : p.word 19 ≡ still value
-  pub rest : (k : ℕ) → 17 ≤ k → k < 24 → (x : ℕ) × (p.word k ≡ still x)
-
--- a group of writes in the first cell's body leaves the rest
-pub stands_past_body : {S m t : ℕ} {home : List ℕ} {p : Point} (ws : List (ℕ × ℕ)) (ls : List ℕ) → Within 17 24 ws → Stands S m t home p
-    → Stands S m t home (after_all (group_calls ws ls) p)
-stands_past_body {p = p} ws ls inside st =
-    record {
-      header = λ k below. left 17 24 p ws ls inside k _ (inl (omega arith)) (st.header k below);
-      mark_is = left 17 24 p ws ls inside 8 _ (inl (omega arith)) st.mark_is;
-      tag_is = left 17 24 p ws ls inside 16 _ (inl (omega arith)) st.tag_is;
-      cells = λ k from below. left 17 24 p ws ls inside k _ (inr from) (st.cells k from below);
-      count = st.count;
-      words = λ k below. left 17 24 p ws ls inside (fresh_home_start + k) _ (inr (omega arith)) (st.words k below);
-    }
-
--- so does a group that writes the tag, but for the tag
-pub stands_past_tag : {S m t : ℕ} {home : List ℕ} {p : Point} (number : ℕ) → Stands S m t home p
-    → Stands S m (head_tag number) home (after_all (group_calls (record_tag number) (2 ∷ [])) p)
-stands_past_tag {p = p} number st =
-    record {
-      header = λ k below. left 16 17 p (record_tag number) (2 ∷ []) inside k _ (inl (omega arith)) (st.header k below);
-      mark_is = left 16 17 p (record_tag number) (2 ∷ []) inside 8 _ (inl (omega arith)) st.mark_is;
-      tag_is = group_word (record_tag number) (2 ∷ []) p 16 _ st.tag_is (inr (inl refl));
-      cells = λ k from below. left 16 17 p (record_tag number) (2 ∷ []) inside k _ (inr (omega arith)) (st.cells k from below);
-      count = st.count;
-      words = λ k below. left 16 17 p (record_tag number) (2 ∷ []) inside (fresh_home_start + k) _ (inr (omega arith)) (st.words k below);
-    }
+-- a tag is that of a head over a number, or isn't
+over_or_not : (above tag : ℕ) → IsHeadOver above tag ⊎ (IsHeadOver above tag → ⊥)
+over_or_not above tag = by (cases_eq (kind_of tag) 1) (cases_order above (number_of tag))
   where
-    inside : Within 16 17 (record_tag number)
-    inside = (omega arith, omega arith, tt)
+    by : (kind_of tag ≡ 1) ⊎ (kind_of tag ≢ 1) → (above ≡ number_of tag) ⊎ ((above < number_of tag) ⊎ (number_of tag < above)) → IsHeadOver above tag ⊎ (IsHeadOver above tag → ⊥)
+    by (inl kind) (inr (inl below)) = inl (record { kind = kind; over = below })
+    by (inl kind) (inl same) = inr (λ h. let o = h.over in omega arith)
+    by (inl kind) (inr (inr past)) = inr (λ h. let o = h.over in omega arith)
+    by (inr other) order = inr (λ h. other h.kind)
+
+-- a still word may be nothing else
+may_still : (w : Word) (x y : ℕ) → w ≡ still x → MayBe w y → y ≡ x
+may_still w x y is may = only (subst (λ (w : Word). MayBe w y) is may)
+  where
+    only : MayBe (still x) y → y ≡ x
+    only (inl e) = e
+    only (inr none) = absurd none
+
+settled_is : (w : Word) (x : ℕ) → w ≡ still x → w.settled ≡ x
+settled_is w x is = ap (λ (w : Word). w.settled) is
+
+pub is_still : (w : Word) (x : ℕ) → w ≡ still x → IsStill w
+is_still w x is = is ∙ ap still (sym (settled_is w x is))
+
+-- the cells of the one ring
+cell_same : (c : Cell) (place : ℕ) → c.ring ≡ 0 → c.place ≡ place → c ≡ update_cell place
+cell_same c place ring same =
+    let by_ring : ℕ → Cell = λ x. record { ring = x; place = c.place } in
+    let by_place : ℕ → Cell = λ x. record { ring = 0; place = x } in
+    ap by_ring ring ∙ ap by_place same
+
+-- No word before the ring or behind it is one of a record's cells.
+elsewhere : (S place number at value i : ℕ) → (i < 16) ⊎ (144 ≤ i) → IsElsewhere (fresh_sizes S) (update_cell place) (update_record number at value) i
+elsewhere S place number at value i (inl low) k j few below e = omega arith
+elsewhere S place number at value i (inr high) k j few below e = omega arith
+
+-- the record of an update may be appended to a ring that has none
+can_append : {S n : ℕ} {home : List ℕ} {p : Point} (place at value : ℕ) → 1 ≤ S → S ≤ 10000 → place < 16 → n + 1 ≤ MAX_NUMBER → at < length home → Rests S n home p
+    → CanAppend (fresh_sizes S) (settled_mark p) [] (update_cell place) (update_record (n + 1) at value)
+can_append {S} {n} {home} {p} place at value low high inside small below rests = record {
+  sizes = fresh_sizes_are S low high;
+  cell = record { ring_is = omega arith; place_is = inside };
+  encodable = encodable;
+  home = λ k d lt. let z : k ≡ 0 = omega arith in rw z (omega (arith, rests.count));
+  free = λ k d lt. absurd (omega arith);
+}
+  where
+    encodable : IsEncodable (update_record (n + 1) at value)
+    encodable = record {
+      number_is = record { low = omega arith; high = small };
+      writes_are = record { few = omega arith; distinct = λ i j d before lt _. omega arith };
+    }
+
+-- the record that an update logs
+abbrev logged_update : ℕ → ℕ → ℕ → ℕ → Logged
+logged_update place number at value = logged_as (update_cell place) (update_record number at value)
+
+-- Each image on the way of an append is as before the update, or has its record.
+held_shows : {S n len : ℕ} {home : List ℕ} {p : Point} {told image : List ℕ} (place at value : ℕ) → 1 ≤ S → S ≤ 10000 → fresh_length S ≤ len
+    → place < 16 → n + 1 ≤ MAX_NUMBER → Rests S n home p → length image ≡ len
+    → HeadsHold (fresh_sizes S) [] (update_cell place) (update_record (n + 1) at value) p told image
+    → Recovers 0 image n home ⊎ Recovers 0 image (n + 1) (slice_set home at value)
+held_shows {S} {n} {len} {home} {p} {told} {image} place at value low high long inside small rests size held =
+    by (over_or_not n (tag_of s image head))
+  where
+    s : Sizes
+    s = fresh_sizes S
+
+    head : Cell
+    head = update_cell place
+
+    keep : (i x : ℕ) → i < fresh_length S → (i < 16) ⊎ (144 ≤ i) → p.word i ≡ still x → slice_index image i ≡ x
+    keep i x below out is = held.others i x (omega (arith, long, size)) (elsewhere S place (n + 1) at value i out) is
+
+    reads : Reads S n home image
+    reads = record {
+      header = λ k below. keep k _ (omega arith) (inl (omega arith)) (rests.header k below);
+      mark_is = keep 8 _ (omega arith) (inl (omega arith)) rests.mark;
+      count = rests.count;
+      words = λ k below. keep (144 + k) _ (omega (arith, rests.count)) (inr (omega arith)) (rests.words k below);
+      long = omega (arith, long, size);
+    }
+
+    at_mark : (c : Cell) → IsNewHead s n image c → IsNewHead s (mark_of image) image c
+    at_mark c new = subst (λ (m : ℕ). IsNewHead s m image c) (sym reads.mark_is) new
+
+    ring_is : (c : Cell) → IsNewHead s n image c → c.ring ≡ 0
+    ring_is c new = let r = new.cell.ring_is in omega arith
+
+    known : (c : Cell) → IsNewHead s n image c → (c ≡ head) × (record_of (cells_from s image c) ≡ update_record (n + 1) at value)
+    known c new = elim (held.known c (ring_is c new) (at_mark c new)) [ inl none ↦ absurd none | inr is ↦ is ]
+
+    by : IsHeadOver n (tag_of s image head) ⊎ (IsHeadOver n (tag_of s image head) → ⊥) → Recovers 0 image n home ⊎ Recovers 0 image (n + 1) (slice_set home at value)
+    by (inl over) =
+        let new : IsNewHead s n image head = record { cell = record { ring_is = omega arith; place_is = inside }; new = over } in
+        inr (recovers_next reads head at value low high small new (held.complete head refl (at_mark head new)) (known head new).1 (λ c other. (known c other).0))
+    by (inr none) = inl (recovers_rest reads low high (omega arith) (λ c new. none (subst (λ (c : Cell). IsHeadOver n (tag_of s image c)) (known c new).0 new.new)))
+
+-- The record of an update stands in the ring's cell at this place.
+pub record Logs (place number at value : ℕ) (p : Point) : Type 0 where
+  pub word : (j : ℕ) → j < 8 → p.word (16 + place * 8 + j) ≡ still (slice_index (encoded (update_record number at value) 0) j)
+
+-- An image that has the record of an update and no other head over its mark has the update.
+logged_shows : {S n : ℕ} {home next : List ℕ} {p : Point} {image : List ℕ} (place at value : ℕ) → 1 ≤ S → S ≤ 10000 → place < 16 → n + 1 ≤ MAX_NUMBER
+    → at < length home → Stands S n (logged_update place (n + 1) at value ∷ []) home p → Logs place (n + 1) at value p → Reads S n next image
+    → ((k : ℕ) → 16 ≤ k → k < 144 → MayBe (p.word k) (slice_index image k)) → Recovers 0 image (n + 1) (slice_set next at value)
+logged_shows {S} {n} {home} {next} {p} {image} place at value low high inside small below st logs reads may =
+    recovers_next reads head at value low high small new complete (record_same same ∙ encoded_record r encodable) only
+  where
+    s : Sizes
+    s = fresh_sizes S
+
+    head : Cell
+    head = update_cell place
+
+    r : RedoRecord
+    r = update_record (n + 1) at value
+
+    encodable : IsEncodable r
+    encodable = record {
+      number_is = record { low = omega arith; high = small };
+      writes_are = record { few = omega arith; distinct = λ i j d before lt _. omega arith };
+    }
+
+    word : (j : ℕ) → j < 8 → slice_index image (word_place s head 0 j) ≡ slice_index (encoded r 0) j
+    word j lt =
+        let place_is : word_place s head 0 j ≡ 16 + place * 8 + j = omega arith in
+        ap (slice_index image) place_is ∙ may_still _ _ _ (logs.word j lt) (may (16 + place * 8 + j) (omega arith) (omega arith))
+
+    same : AreSame (cells_of_record r) (cells_from s image head) 1
+    same = record {
+      word = λ k j few lt. let P : ℕ → Type 0 = λ k. cells_from s image head k j ≡ cells_of_record r k j in
+          let z : 0 ≡ k = omega arith in subst P z (word j lt);
+    }
+
+    tag_is : tag_of s image head ≡ head_tag (n + 1)
+    tag_is = let e : front_of s head ≡ word_place s head 0 0 = omega arith in ap (slice_index image) e ∙ word 0 (omega arith)
+
+    new : IsNewHead s n image head
+    new = record { cell = record { ring_is = omega arith; place_is = inside }; new = record { kind = omega (arith, tag_is); over = omega (arith, tag_is) } }
+
+    homes : HoldComplete s (cells_of_record r)
+    homes = record {
+      whole = encoded_holds r encodable;
+      home = subst (λ (ws : List Write). All (λ w. w.at < s.pages * 64) ws) (sym (encoded_writes r)) (λ k d lt. let z : k ≡ 0 = omega arith in rw z (omega (arith, st.count)));
+    }
+
+    complete : IsComplete s image head
+    complete = complete_same same homes
+
+    only : (c : Cell) → IsNewHead s n image c → c ≡ head
+    only c other =
+        let ring_is : c.ring ≡ 0 = (let z = other.cell.ring_is in omega arith) in
+        let place_is = other.cell.place_is in
+        let front_is : front_of s c ≡ front_of s (update_cell c.place) = ap (λ (ring : ℕ). 16 + (ring * 16 + c.place) * 8) ring_is in
+        let tag : IsHeadOver n (slice_index image (front_of s (update_cell c.place))) = subst (λ (i : ℕ). IsHeadOver n (slice_index image i)) front_is other.new in
+        let over : IsHeadOver (settled_mark p) (slice_index image (front_of s (update_cell c.place))) = subst (λ (m : ℕ). IsHeadOver m (slice_index image (front_of s (update_cell c.place)))) (sym (settled_is _ _ st.mark)) tag in
+        elim (st.ring.heads c.place _ place_is (may (front_of s (update_cell c.place)) (omega arith) (omega arith)) over) [
+          | inl is ↦ cell_same c place ring_is (sym is.1)
+          | inr none ↦ absurd none
+        ]
+
+-- a word that a group doesn't write may be in a mix what it was
+may_stay : (low high : ℕ) {len : ℕ} {p : Point} {ws : List (ℕ × ℕ)} {image : List ℕ} → OldOrNew len p ws image → Within low high ws
+    → (k : ℕ) → k < len → (k < low) ⊎ (high ≤ k) → MayBe (p.word k) (slice_index image k)
+may_stay low high {p = p} {ws = ws} {image = image} mix inside k below out =
+    let P : List ℕ → Type 0 = λ l. MayBe (p.word k) (slice_index image k) ⊎ IsIn (slice_index image k) l in
+    elim (subst P (written-outside low high ws k inside out) (mix.each k below)) [ inl may ↦ may | inr none ↦ absurd none ]
 
 -- a place that isn't the one written lies outside
 apart : (k at : ℕ) → k ≢ at → (144 + k < 144 + at) ⊎ (145 + at ≤ 144 + k)
@@ -73,18 +217,94 @@ apart k at ne = side (cases_order k at)
     side (inr (inl lt)) = inl (omega arith)
     side (inr (inr gt)) = inr (omega arith)
 
--- and one that writes a home word, but for that word
-pub stands_past_home : {S m t : ℕ} {home : List ℕ} {p : Point} (at value : ℕ) → at < length home → Stands S m t home p
-    → Stands S m t (slice_set home at value) (after_all (group_calls (home_write at value) ((fresh_home_start + at) / 8 ∷ [])) p)
-stands_past_home {S} {home = home} {p = p} at value small st =
-    record {
-      header = λ k below. left (144 + at) (145 + at) p ws ls inside k _ (inl (omega arith)) (st.header k below);
-      mark_is = left (144 + at) (145 + at) p ws ls inside 8 _ (inl (omega arith)) st.mark_is;
-      tag_is = left (144 + at) (145 + at) p ws ls inside 16 _ (inl (omega arith)) st.tag_is;
-      cells = λ k from below. left (144 + at) (145 + at) p ws ls inside k _ (inl (omega arith)) (st.cells k from below);
-      count = length-set home at value ∙ st.count;
-      words = λ k below. word k (rw (length-set home at value) at below) (cases_eq k at);
+-- Each image of a medium at rest recovers to its number and its home words.
+pub rest_images : {S n len : ℕ} {home : List ℕ} {p : Point} → 1 ≤ S → S ≤ 10000 → fresh_length S ≤ len → n ≤ MAX_NUMBER → Rests S n home p
+    → (image : List ℕ) → IsImage len p image → Recovers 0 image n home
+rest_images {S} {n} {len} {home} {p} low high long small rests image is =
+    recovers_rest reads low high small none
+  where
+    s : Sizes
+    s = fresh_sizes S
+
+    value_is : (k x : ℕ) → k < fresh_length S → p.word k ≡ still x → slice_index image k ≡ x
+    value_is k x below e = may_still _ _ _ e (is.each k (omega (arith, long)))
+
+    reads : Reads S n home image
+    reads = record {
+      header = λ k below. value_is k _ (omega arith) (rests.header k below);
+      mark_is = value_is 8 _ (omega arith) rests.mark;
+      count = rests.count;
+      words = λ k below. value_is (144 + k) _ (omega (arith, rests.count)) (rests.words k below);
+      long = omega (arith, long, is.size);
     }
+
+    none : (c : Cell) → IsNewHead s n image c → ⊥
+    none c new =
+        let ring_is : c.ring ≡ 0 = (let z = new.cell.ring_is in omega arith) in
+        let place_is = new.cell.place_is in
+        let front_is : front_of s c ≡ front_of s (update_cell c.place) = ap (λ (ring : ℕ). 16 + (ring * 16 + c.place) * 8) ring_is in
+        let tag : IsHeadOver n (slice_index image (front_of s (update_cell c.place))) = subst (λ (i : ℕ). IsHeadOver n (slice_index image i)) front_is new.new in
+        let over : IsHeadOver (settled_mark p) (slice_index image (front_of s (update_cell c.place))) = subst (λ (m : ℕ). IsHeadOver m (slice_index image (front_of s (update_cell c.place)))) (sym (settled_is _ _ rests.mark)) tag in
+        rests.ring.heads c.place _ place_is (is.each (front_of s (update_cell c.place)) (omega (arith, long))) over
+
+-- A ring whose words are clear fits without records.
+pub empty_ring : (S n : ℕ) {p : Point} → p.word 8 ≡ still n → ((k : ℕ) → 16 ≤ k → k < 144 → p.word k ≡ still 0) → FitsRing (fresh_sizes S) 0 [] n p
+empty_ring S n {p} mark clear = record {
+  mark = is_still _ _ mark;
+  reproduced = omega (arith, settled_is _ _ mark);
+  heads = λ place tag below may over.
+      let front = front_of (fresh_sizes S) (update_cell place) in
+      let zero_tag : tag ≡ 0 = may_still (p.word front) 0 tag (clear front (omega arith) (omega arith)) may in
+      let kind = over.kind in
+      absurd (omega arith);
+  records = λ k d lt. absurd (omega arith);
+}
+
+-- A tell leaves all words.
+pub stands_told : {S n : ℕ} {logged : List Logged} {home : List ℕ} {p : Point} (number : ℕ) → Stands S n logged home p → Stands S n logged home (after (Tell number) p)
+stands_told number st = record {
+  header = st.header;
+  mark = st.mark;
+  ring = record { mark = st.ring.mark; reproduced = st.ring.reproduced; heads = st.ring.heads; records = λ k d lt over. let r = st.ring.records k d lt over in record {
+    still_words = r.still_words; complete = r.complete; same_number = r.same_number; same_cells = r.same_cells } };
+  cells = st.cells;
+  count = st.count;
+  words = st.words;
+}
+
+-- The ring still fits after a group that writes none of its words and leaves the mark settled at no less.
+ring_past : {S n m : ℕ} {logged : List Logged} {p : Point} (low high : ℕ) (ws : List (ℕ × ℕ)) (ls : List ℕ) → Within low high ws → (high ≤ 16) ⊎ (144 ≤ low)
+    → ((k : ℕ) → 16 ≤ k → k < 144 → IsStill (p.word k)) → p.word 8 ≡ still n → (after_all (group_calls ws ls) p).word 8 ≡ still m → n ≤ m
+    → FitsRing (fresh_sizes S) 0 logged n p → FitsRing (fresh_sizes S) 0 logged n (after_all (group_calls ws ls) p)
+ring_past {S} {n} {m} {logged} {p} low high ws ls inside out cells mark next upto fits =
+    rest_law (fresh_sizes S) 0 logged n p q (omega arith) fits (is_still _ _ next) (omega (arith, settled_is _ _ mark, settled_is _ _ next)) tags
+    (λ place j x below lt is. left low high p ws ls inside (front_of (fresh_sizes S) (update_cell place) + j) x (side _ out (omega arith) (omega arith)) is)
+  where
+    q : Point
+    q = after_all (group_calls ws ls) p
+
+    side : (k : ℕ) → (high ≤ 16) ⊎ (144 ≤ low) → 16 ≤ k → k < 144 → (k < low) ⊎ (high ≤ k)
+    side k (inl a) from below = inr (omega arith)
+    side k (inr a) from below = inl (omega arith)
+
+    tags : (place tag : ℕ) → place < 16 → MayBe (q.word (front_of (fresh_sizes S) (update_cell place))) tag → MayBe (p.word (front_of (fresh_sizes S) (update_cell place))) tag
+    tags place tag below may =
+        let front = front_of (fresh_sizes S) (update_cell place) in
+        let was = cells front (omega arith) (omega arith) in
+        let is = left low high p ws ls inside front _ (side front out (omega arith) (omega arith)) was in
+        inl (may_still (q.word front) _ tag is may)
+
+-- A group that writes a home word leaves the medium standing, with that word changed.
+stands_past_home : {S n : ℕ} {logged : List Logged} {home : List ℕ} {p : Point} (at value : ℕ) → at < length home → Stands S n logged home p
+    → Stands S n logged (slice_set home at value) (after_all (group_calls (home_write at value) ((fresh_home_start + at) / 8 ∷ [])) p)
+stands_past_home {S} {n} {logged} {home} {p} at value small st = record {
+  header = λ k below. left (144 + at) (145 + at) p ws ls inside k _ (inl (omega arith)) (st.header k below);
+  mark = mark;
+  ring = ring_past (144 + at) (145 + at) ws ls inside (inr (omega arith)) st.cells st.mark mark (omega arith) st.ring;
+  cells = λ k from below. is_still _ _ (left (144 + at) (145 + at) p ws ls inside k _ (inl (omega arith)) (st.cells k from below));
+  count = length-set home at value ∙ st.count;
+  words = λ k below. word k (rw (length-set home at value) at below) (cases_eq k at);
+}
   where
     ws : List (ℕ × ℕ)
     ws = home_write at value
@@ -94,6 +314,9 @@ stands_past_home {S} {home = home} {p = p} at value small st =
 
     inside : Within (144 + at) (145 + at) ws
     inside = (omega arith, omega arith, tt)
+
+    mark : (after_all (group_calls ws ls) p).word 8 ≡ still n
+    mark = left (144 + at) (145 + at) p ws ls inside 8 _ (inl (omega arith)) st.mark
 
     word : (k : ℕ) → k < length home → (k ≡ at) ⊎ (k ≢ at) → (after_all (group_calls ws ls) p).word (fresh_home_start + k) ≡ still (slice_index (slice_set home at value) k)
     word k below (inl e) =
@@ -106,130 +329,85 @@ stands_past_home {S} {home = home} {p = p} at value small st =
         left (144 + at) (145 + at) p ws ls inside (fresh_home_start + k) _ (apart k at ne) (st.words k below)
         ∙ ap still (sym (get_or-set_other home at k value 0 ne))
 
--- and one that writes the mark, but for the mark
-pub stands_past_mark : {S m t : ℕ} {home : List ℕ} {p : Point} (number : ℕ) → Stands S m t home p
-    → Stands S number t home (after_all (group_calls (mark_write number) (1 ∷ [])) p)
-stands_past_mark {p = p} number st =
-    record {
-      header = λ k below. left 8 9 p (mark_write number) (1 ∷ []) inside k _ (inl (omega arith)) (st.header k below);
-      mark_is = group_word (mark_write number) (1 ∷ []) p 8 _ st.mark_is (inr (inl refl));
-      tag_is = left 8 9 p (mark_write number) (1 ∷ []) inside 16 _ (inr (omega arith)) st.tag_is;
-      cells = λ k from below. left 8 9 p (mark_write number) (1 ∷ []) inside k _ (inr (omega arith)) (st.cells k from below);
-      count = st.count;
-      words = λ k below. left 8 9 p (mark_write number) (1 ∷ []) inside (fresh_home_start + k) _ (inr (omega arith)) (st.words k below);
-    }
-  where
-    inside : Within 8 9 (mark_write number)
-    inside = (omega arith, omega arith, tt)
-
--- A mixed image of a state has the words that recovery looks at, where the writes lie elsewhere.
-pub mix_words : {S m t len : ℕ} {home : List ℕ} {p : Point} {ws : List (ℕ × ℕ)} {image : List ℕ} (low high : ℕ) → fresh_length S ≤ len
-    → OldOrNew len p ws image → Within low high ws → Stands S m t home p
-    → ((17 ≤ low) × (high ≤ 24)) ⊎ (144 ≤ low) → HasWords S m t image
-mix_words {S} {len = len} {p = p} low high long mix inside st where_ = record {
-  header = λ k below. kept low high mix inside k _ (omega (arith, long)) (outside k (inl below) where_) (st.header k below);
-  mark_is = kept low high mix inside 8 _ (omega (arith, long)) (outside 8 (inr (inl refl)) where_) st.mark_is;
-  tag_is = kept low high mix inside 16 _ (omega (arith, long)) (outside 16 (inr (inr (inl refl))) where_) st.tag_is;
-  cells = λ k from below. kept low high mix inside k _ (omega (arith, long)) (outside k (inr (inr (inr (from, below)))) where_) (st.cells k from below);
-  long = omega (arith, long, mix.size);
+-- A group that raises the mark to the number of the one record leaves the medium at rest there.
+rests_past_mark : {S n : ℕ} {home : List ℕ} {p : Point} (place at value : ℕ) → Stands S n (logged_update place (n + 1) at value ∷ []) home p
+    → Rests S (n + 1) home (after_all (group_calls (mark_write (n + 1)) (1 ∷ [])) p)
+rests_past_mark {S} {n} {home} {p} place at value st = record {
+  header = λ k below. left 8 9 p ws (1 ∷ []) inside k _ (inl (omega arith)) (st.header k below);
+  mark = mark;
+  ring = let r = release_law (fresh_sizes S) 0 (l ∷ []) [] n (n + 1) q
+      (ring_past 8 9 ws (1 ∷ []) inside (inl (omega arith)) st.cells st.mark mark (omega arith) st.ring)
+      (λ k d lt. let z : k ≡ 0 = omega arith in rw z (omega arith)) (omega (arith, settled_is _ _ mark)) in
+      subst (λ (m : ℕ). FitsRing (fresh_sizes S) 0 [] m q) (let e : max n (n + 1) ≡ n + 1 = omega arith in e) r;
+  cells = λ k from below. is_still _ _ (left 8 9 p ws (1 ∷ []) inside k _ (inr (omega arith)) (st.cells k from below));
+  count = st.count;
+  words = λ k below. left 8 9 p ws (1 ∷ []) inside (fresh_home_start + k) _ (inr (omega arith)) (st.words k below);
 }
   where
-    outside : (k : ℕ) → (k < 8) ⊎ ((k ≡ 8) ⊎ ((k ≡ 16) ⊎ ((24 ≤ k) × (k < 144)))) → ((17 ≤ low) × (high ≤ 24)) ⊎ (144 ≤ low) → (k < low) ⊎ (high ≤ k)
-    outside k (inl a) (inl r) = inl (omega arith)
-    outside k (inl a) (inr r) = inl (omega arith)
-    outside k (inr (inl a)) (inl r) = inl (omega arith)
-    outside k (inr (inl a)) (inr r) = inl (omega arith)
-    outside k (inr (inr (inl a))) (inl r) = inl (omega arith)
-    outside k (inr (inr (inl a))) (inr r) = inl (omega arith)
-    outside k (inr (inr (inr a))) (inl r) = inr (omega arith)
-    outside k (inr (inr (inr a))) (inr r) = inl (omega arith)
+    ws : List (ℕ × ℕ)
+    ws = mark_write (n + 1)
 
--- the body's places
-body_within : (at value : ℕ) → Within 17 24 (record_body at value)
-body_within at value = (
-  omega arith,
-  omega arith,
-  (
-    omega arith,
-    omega arith,
-    (
-      omega arith,
-      omega arith,
-      (
-        omega arith,
-        omega arith,
-        (omega arith, omega arith, (omega arith, omega arith, (omega arith, omega arith, tt))),
-      ),
-    ),
-  ),
-)
+    l : Logged
+    l = logged_update place (n + 1) at value
 
--- Where writes touch at most the first cell's body, each image is as before. So it is with the record's body.
-pub body_images : {S n t len : ℕ} {home : List ℕ} {p : Point} {image : List ℕ} (ws : List (ℕ × ℕ)) → Within 17 24 ws → 1 ≤ S → S ≤ 10000 → fresh_length S ≤ len
-    → n ≤ number_limit → t ≤ head_tag n → Stands S n t home p → OldOrNew len p ws image → Recovers 0 image n home
-body_images {S} {n} {home = home} {image = image} ws inside low high long small old st mix =
-    let P : List ℕ → Type 0 = λ h. Recovers 0 image n h in
-    let has = mix_words 17 24 long mix inside st (inl (omega arith, omega arith)) in
-    subst P (shows_home home has st.count (λ k below. kept 17 24 mix inside (fresh_home_start + k) _ (omega (arith, long, st.count)) (inr (omega arith)) (st.words k below)))
-    (shows_rest low high small old has)
+    q : Point
+    q = after_all (group_calls ws (1 ∷ [])) p
 
--- all but the first cell's body of a medium at rest
-pub rests_stand : {S n : ℕ} {home : List ℕ} {p : Point} (rests : Rests S n home p) → Stands S n rests.head.0 home p
-rests_stand rests = record { header = rests.header; mark_is = rests.mark; tag_is = rests.head.2; cells = rests.cells; count = rests.count; words = rests.words }
+    inside : Within 8 9 ws
+    inside = (omega arith, omega arith, tt)
 
--- Each image of a medium at rest recovers to its number and its home words.
-pub rest_images : {S n len : ℕ} {home : List ℕ} {p : Point} → 1 ≤ S → S ≤ 10000 → fresh_length S ≤ len → n ≤ number_limit → Rests S n home p
-    → (image : List ℕ) → IsImage len p image → Recovers 0 image n home
-rest_images low high long small rests image is =
-    body_images [] tt low high long small rests.head.1 (rests_stand rests) (record { size = is.size; each = λ k below. inl (is.each k below) })
+    mark : q.word 8 ≡ still (n + 1)
+    mark = group_word ws (1 ∷ []) p 8 _ st.mark (inr (inl refl))
 
--- The second group: the record's tag. Each image is as before, or has the update.
-pub tag_images : {S n t len : ℕ} {home : List ℕ} {p : Point} {image : List ℕ} (at value : ℕ) → 1 ≤ S → S ≤ 10000 → fresh_length S ≤ len
-    → n + 1 ≤ number_limit → t ≤ head_tag n → at < length home → Stands S n t home p → Logs at value p → OldOrNew len p (record_tag (n + 1)) image
-    → Recovers 0 image n home ⊎ Recovers 0 image (n + 1) (slice_set home at value)
-tag_images {S} {n} {t} {len} {home} {p} {image} at value low high long small old inside st log mix =
-    by_tag (either mix 16 t (omega (arith, long)) st.tag_is)
+-- After the append the medium stands with the record in its ring.
+stands_appended : {S n : ℕ} {home : List ℕ} {p q : Point} (place at value : ℕ) → place < 16 → Rests S n home p
+    → Appended (fresh_sizes S) [] n (update_cell place) (update_record (n + 1) at value) p q
+    → Stands S n (logged_update place (n + 1) at value ∷ []) home q × Logs place (n + 1) at value q
+stands_appended {S} {n} {home} {p} {q} place at value small rests done =
+    (record {
+      header = λ k below. other k _ (inl (omega arith)) (rests.header k below);
+      mark = other 8 _ (inl (omega arith)) rests.mark;
+      ring = done.fits;
+      cells = λ k from below. cell k from below (cases_eq ((k - 16) / 8) place);
+      count = rests.count;
+      words = λ k below. other (144 + k) _ (inr (omega arith)) (rests.words k below);
+    }, record { word = word })
   where
-    keep : (k x : ℕ) → k < fresh_length S → (k < 16) ⊎ (17 ≤ k) → p.word k ≡ still x → slice_index image k ≡ x
-    keep k x below out is = kept 16 17 mix (omega arith, omega arith, tt) k x (omega (arith, long)) out is
+    s : Sizes
+    s = fresh_sizes S
 
-    has : (tag : ℕ) → slice_index image 16 ≡ tag → HasWords S n tag image
-    has tag is = record {
-      header = λ k below. keep k _ (omega arith) (inl (omega arith)) (st.header k below);
-      mark_is = keep 8 _ (omega arith) (inl (omega arith)) st.mark_is;
-      tag_is = is;
-      cells = λ k from below. keep k _ (omega arith) (inr (omega arith)) (st.cells k from below);
-      long = omega (arith, long, mix.size);
-    }
+    head : Cell
+    head = update_cell place
 
-    home_is : (tag : ℕ) → slice_index image 16 ≡ tag → home_of (sizes_of image) image ≡ home
-    home_is tag is = shows_home home (has tag is) st.count (λ k below. keep (fresh_home_start + k) _ (omega (arith, st.count)) (inr (omega arith)) (st.words k below))
+    r : RedoRecord
+    r = update_record (n + 1) at value
 
-    by_tag : (slice_index image 16 ≡ t) ⊎ IsIn (slice_index image 16) (head_tag (n + 1) ∷ []) → Recovers 0 image n home ⊎ Recovers 0 image (n + 1) (slice_set home at value)
-    by_tag (inl is) =
-        let P : List ℕ → Type 0 = λ h. Recovers 0 image n h in
-        inl (subst P (home_is t is) (shows_rest low high (omega arith) old (has t is)))
-    by_tag (inr (inl is)) =
-        let P : List ℕ → Type 0 = λ h. Recovers 0 image (n + 1) (slice_set h at value) in
-        inr (subst P (home_is _ is) (shows_next at value low high small (has _ is) (keep 17 _ (omega arith) (inr (omega arith)) log.one)
-        (keep 18 _ (omega arith) (inr (omega arith)) log.place) (keep 19 _ (omega arith) (inr (omega arith)) log.written) (omega (arith, st.count))))
-    by_tag (inr (inr none)) = absurd none
+    other : (k x : ℕ) → (k < 16) ⊎ (144 ≤ k) → p.word k ≡ still x → q.word k ≡ still x
+    other k x out is = done.others k x (elsewhere S place (n + 1) at value k out) is
 
--- The third group: the home word. Each image has the update.
-pub home_images : {S n len : ℕ} {home : List ℕ} {p : Point} {image : List ℕ} (at value : ℕ) → 1 ≤ S → S ≤ 10000 → fresh_length S ≤ len
-    → n + 1 ≤ number_limit → at < length home → Stands S n (head_tag (n + 1)) home p → Logs at value p → OldOrNew len p (home_write at value) image
-    → Recovers 0 image (n + 1) (slice_set home at value)
-home_images {S} {n} {len} {home} {p} {image} at value low high long small inside st log mix =
-    let P : List ℕ → Type 0 = λ h. Recovers 0 image (n + 1) h in
-    subst P (ap (λ (h : List ℕ). slice_set h at value) home_is ∙ set-set_same home at _ value)
-    (shows_next at value low high small has (keep 17 _ (omega arith) (inl (omega arith)) log.one)
-    (keep 18 _ (omega arith) (inl (omega arith)) log.place) (keep 19 _ (omega arith) (inl (omega arith)) log.written) (omega (arith, st.count)))
+    word : (j : ℕ) → j < 8 → q.word (16 + place * 8 + j) ≡ still (slice_index (encoded r 0) j)
+    word j lt = let e : word_place s head 0 j ≡ 16 + place * 8 + j = omega arith in
+        subst (λ (i : ℕ). q.word i ≡ still (slice_index (encoded r 0) j)) e (done.settled 0 j (omega arith) lt)
+
+    cell : (k : ℕ) → 16 ≤ k → k < 144 → ((k - 16) / 8 ≡ place) ⊎ ((k - 16) / 8 ≢ place) → IsStill (q.word k)
+    cell k from below (inl same) =
+        let e : 16 + place * 8 + (k - 16) % 8 ≡ k = omega arith in
+        subst (λ (i : ℕ). IsStill (q.word i)) e (is_still _ _ (word ((k - 16) % 8) (omega arith)))
+    cell k from below (inr ne) = is_still _ _ (done.others k _ (λ i j few lt e. ne (omega arith)) (rests.cells k from below))
+
+-- The group of the home word: each image has the update.
+home_images : {S n len : ℕ} {home : List ℕ} {p : Point} {image : List ℕ} (place at value : ℕ) → 1 ≤ S → S ≤ 10000 → fresh_length S ≤ len → place < 16
+    → n + 1 ≤ MAX_NUMBER → at < length home → Stands S n (logged_update place (n + 1) at value ∷ []) home p → Logs place (n + 1) at value p
+    → OldOrNew len p (home_write at value) image → Recovers 0 image (n + 1) (slice_set home at value)
+home_images {S} {n} {len} {home} {p} {image} place at value low high long small number inside st logs mix =
+    subst (Recovers 0 image (n + 1)) (set-set_same home at _ value)
+    (logged_shows place at value low high small number inside st logs reads (λ k from below. may_stay (144 + at) (145 + at) mix within k (omega (arith, long)) (inl (omega arith))))
   where
+    within : Within (144 + at) (145 + at) (home_write at value)
+    within = (omega arith, omega arith, tt)
+
     keep : (k x : ℕ) → k < fresh_length S → (k < 144 + at) ⊎ (145 + at ≤ k) → p.word k ≡ still x → slice_index image k ≡ x
-    keep k x below out is = kept (144 + at) (145 + at) mix (omega arith, omega arith, tt) k x (omega (arith, long)) out is
-
-    has : HasWords S n (head_tag (n + 1)) image
-    has = mix_words (144 + at) (145 + at) long mix (omega arith, omega arith, tt) st (inr (omega arith))
+    keep k x below out is = kept (144 + at) (145 + at) mix within k x (omega (arith, long)) out is
 
     word : (k : ℕ) → k < length home → (k ≡ at) ⊎ (k ≢ at) → slice_index image (144 + k) ≡ slice_index (slice_set home at (slice_index image (144 + at))) k
     word k below (inl e) =
@@ -237,41 +415,68 @@ home_images {S} {n} {len} {home} {p} {image} at value low high long small inside
         subst P (sym e) (sym (get_or-set_same home at (slice_index image (144 + at)) 0 inside))
     word k below (inr ne) = keep (144 + k) _ (omega (arith, st.count)) (apart k at ne) (st.words k below) ∙ sym (get_or-set_other home at k _ 0 ne)
 
-    home_is : home_of (sizes_of image) image ≡ slice_set home at (slice_index image (144 + at))
-    home_is = shows_home _ has (length-set home at _ ∙ st.count) (λ k below. word k (rw (length-set home at (slice_index image (144 + at))) at below) (cases_eq k at))
-
--- The fourth group: the mark. Each image has the update.
-pub mark_images : {S n len : ℕ} {home : List ℕ} {p : Point} {image : List ℕ} (at value : ℕ) → 1 ≤ S → S ≤ 10000 → fresh_length S ≤ len
-    → n + 1 ≤ number_limit → at < length home → slice_set home at value ≡ home → Stands S n (head_tag (n + 1)) home p → Logs at value p
-    → OldOrNew len p (mark_write (n + 1)) image → Recovers 0 image (n + 1) home
-mark_images {S} {n} {len} {home} {p} {image} at value low high long small inside same st log mix =
-    by_mark (either mix 8 n (omega (arith, long)) st.mark_is)
-  where
-    keep : (k x : ℕ) → k < fresh_length S → (k < 8) ⊎ (9 ≤ k) → p.word k ≡ still x → slice_index image k ≡ x
-    keep k x below out is = kept 8 9 mix (omega arith, omega arith, tt) k x (omega (arith, long)) out is
-
-    has : (mark : ℕ) → slice_index image 8 ≡ mark → HasWords S mark (head_tag (n + 1)) image
-    has mark is = record {
-      header = λ k below. keep k _ (omega arith) (inl below) (st.header k below);
-      mark_is = is;
-      tag_is = keep 16 _ (omega arith) (inr (omega arith)) st.tag_is;
-      cells = λ k from below. keep k _ (omega arith) (inr (omega arith)) (st.cells k from below);
+    reads : Reads S n (slice_set home at (slice_index image (144 + at))) image
+    reads = record {
+      header = λ k below. keep k _ (omega arith) (inl (omega arith)) (st.header k below);
+      mark_is = keep 8 _ (omega arith) (inl (omega arith)) st.mark;
+      count = length-set home at _ ∙ st.count;
+      words = λ k below. word k (rw (length-set home at (slice_index image (144 + at))) at below) (cases_eq k at);
       long = omega (arith, long, mix.size);
     }
 
-    home_is : (mark : ℕ) → slice_index image 8 ≡ mark → home_of (sizes_of image) image ≡ home
-    home_is mark is = shows_home home (has mark is) st.count (λ k below. keep (fresh_home_start + k) _ (omega (arith, st.count)) (inr (omega arith)) (st.words k below))
+-- The group of the mark: each image has the update.
+mark_images : {S n len : ℕ} {home : List ℕ} {p : Point} {image : List ℕ} (place at value : ℕ) → 1 ≤ S → S ≤ 10000 → fresh_length S ≤ len → place < 16
+    → n + 1 ≤ MAX_NUMBER → at < length home → slice_set home at value ≡ home → Stands S n (logged_update place (n + 1) at value ∷ []) home p → Logs place (n + 1) at value p
+    → OldOrNew len p (mark_write (n + 1)) image → Recovers 0 image (n + 1) home
+mark_images {S} {n} {len} {home} {p} {image} place at value low high long small number inside same st logs mix =
+    by_mark (either mix 8 n (omega (arith, long)) st.mark)
+  where
+    s : Sizes
+    s = fresh_sizes S
+
+    within : Within 8 9 (mark_write (n + 1))
+    within = (omega arith, omega arith, tt)
+
+    keep : (k x : ℕ) → k < fresh_length S → (k < 8) ⊎ (9 ≤ k) → p.word k ≡ still x → slice_index image k ≡ x
+    keep k x below out is = kept 8 9 mix within k x (omega (arith, long)) out is
+
+    may : (k : ℕ) → 16 ≤ k → k < 144 → MayBe (p.word k) (slice_index image k)
+    may k from below = may_stay 8 9 mix within k (omega (arith, long)) (inr (omega arith))
+
+    reads : (mark : ℕ) → slice_index image 8 ≡ mark → Reads S mark home image
+    reads mark is = record {
+      header = λ k below. keep k _ (omega arith) (inl below) (st.header k below);
+      mark_is = is;
+      count = st.count;
+      words = λ k below. keep (144 + k) _ (omega (arith, st.count)) (inr (omega arith)) (st.words k below);
+      long = omega (arith, long, mix.size);
+    }
+
+    none : (c : Cell) → IsNewHead s (n + 1) image c → ⊥
+    none c new =
+        let ring_is : c.ring ≡ 0 = (let z = new.cell.ring_is in omega arith) in
+        let place_is = new.cell.place_is in
+        let front = front_of s (update_cell c.place) in
+        let front_is : front_of s c ≡ front = ap (λ (ring : ℕ). 16 + (ring * 16 + c.place) * 8) ring_is in
+        let tag : IsHeadOver (n + 1) (slice_index image front) = subst (λ (i : ℕ). IsHeadOver (n + 1) (slice_index image i)) front_is new.new in
+        let past = tag.over in
+        let over : IsHeadOver (settled_mark p) (slice_index image front) = record { kind = tag.kind; over = omega (arith, settled_is _ _ st.mark) } in
+        elim (st.ring.heads c.place _ place_is (may front (omega arith) (omega arith)) over) [
+          | inl is ↦ (let e = is.0 in omega arith)
+          | inr none_left ↦ absurd none_left
+        ]
 
     by_mark : (slice_index image 8 ≡ n) ⊎ IsIn (slice_index image 8) ((n + 1) ∷ []) → Recovers 0 image (n + 1) home
-    by_mark (inl is) =
-        let P : List ℕ → Type 0 = λ h. Recovers 0 image (n + 1) h in
-        subst P (ap (λ (h : List ℕ). slice_set h at value) (home_is n is) ∙ same)
-        (shows_next at value low high small (has n is) (keep 17 _ (omega arith) (inr (omega arith)) log.one)
-        (keep 18 _ (omega arith) (inr (omega arith)) log.place) (keep 19 _ (omega arith) (inr (omega arith)) log.written) (omega (arith, st.count)))
-    by_mark (inr (inl is)) =
-        let P : List ℕ → Type 0 = λ h. Recovers 0 image (n + 1) h in
-        subst P (home_is _ is) (shows_rest low high small (omega arith) (has _ is))
-    by_mark (inr (inr none)) = absurd none
+    by_mark (inl is) = subst (Recovers 0 image (n + 1)) same (logged_shows place at value low high small number inside st logs (reads n is) may)
+    by_mark (inr (inl is)) = recovers_rest (reads (n + 1) is) low high number none
+    by_mark (inr (inr none_left)) = absurd none_left
+
+-- the record stays past groups behind the ring and before it
+logs_past : {place number at value : ℕ} {p : Point} (low high : ℕ) (ws : List (ℕ × ℕ)) (ls : List ℕ) → Within low high ws → 144 ≤ low → place < 16
+    → Logs place number at value p → Logs place number at value (after_all (group_calls ws ls) p)
+logs_past {place} {p = p} low high ws ls inside out small logs = record {
+  word = λ j lt. left low high p ws ls inside (16 + place * 8 + j) _ (inl (omega arith)) (logs.word j lt);
+}
 
 -- nothing told since is over the number that an image shows, once it is told
 at_least_told : (before number : ℕ) (told : List ℕ) → AtLeast before told number → AtLeast before (told ++ (number + 1) ∷ []) (number + 1)
@@ -281,17 +486,9 @@ at_least_told before number told h x is =
 at_least_next : (before number : ℕ) (told : List ℕ) → AtLeast before told number → AtLeast before told (number + 1)
 at_least_next before number told h x is = let b = h x is in omega arith
 
--- what holds along a list of calls holds at its end
-pub along_last : {P : Point → Type 0} {p : Point} {cs : List Call} → Along P p cs → P (after_all cs p)
-along_last (end h) = h
-along_last (more h rest) = along_last rest
-
 -- the medium after each step of an update
-abbrev after_body : ℕ → ℕ → Point → Point
-after_body at value p = after_all (group_calls (record_body at value) (2 ∷ [])) p
-
-abbrev after_tag : ℕ → Point → Point
-after_tag n p = after_all (group_calls (record_tag (n + 1)) (2 ∷ [])) p
+abbrev after_append : ℕ → ℕ → ℕ → ℕ → ℕ → Point → Point
+after_append S n place at value p = after_all (append_calls (fresh_sizes S) (update_cell place) (update_record (n + 1) at value)) p
 
 abbrev after_home : ℕ → ℕ → Point → Point
 after_home at value p = after_all (group_calls (home_write at value) ((fresh_home_start + at) / 8 ∷ [])) p
@@ -299,188 +496,107 @@ after_home at value p = after_all (group_calls (home_write at value) ((fresh_hom
 abbrev after_mark : ℕ → Point → Point
 after_mark n p = after_all (group_calls (mark_write (n + 1)) (1 ∷ [])) p
 
--- The body is there after the first group, and stays over the others.
-logs_after_body : (at value : ℕ) (p : Point) → ((k : ℕ) → 17 ≤ k → k < 24 → (x : ℕ) × (p.word k ≡ still x)) → Logs at value (after_body at value p)
-logs_after_body at value p body = record {
-  one = group_word (record_body at value) (2 ∷ []) p 17 _ (body 17 (omega arith) (omega arith)).1 (inr (inl refl));
-  place = group_word (record_body at value) (2 ∷ []) p 18 _ (body 18 (omega arith) (omega arith)).1 (inr (inl refl));
-  written = group_word (record_body at value) (2 ∷ []) p 19 _ (body 19 (omega arith) (omega arith)).1 (inr (inl refl));
-  rest = λ k from below. let b = body k from below in
-      (final (record_body at value) k b.0, group_word (record_body at value) (2 ∷ []) p k b.0 b.1 (inr (inl (omega arith))));
-}
+-- the medium after the append
+module _ {S n : ℕ} {home : List ℕ} {p : Point} (place at value : ℕ) (low : 1 ≤ S) (high : S ≤ 10000) (inside : place < 16) (small : n + 1 ≤ MAX_NUMBER)
+    (below : at < length home) (rests : Rests S n home p) where
+  appended : Appended (fresh_sizes S) [] n (update_cell place) (update_record (n + 1) at value) p (after_append S n place at value p)
+  appended = (append_law (fresh_sizes S) [] n (update_cell place) (update_record (n + 1) at value) p (fresh_length S) (omega arith) rests.ring (can_append place at value low high inside small below rests)).2
 
-logs_past : {at value : ℕ} {p : Point} (low high : ℕ) (ws : List (ℕ × ℕ)) (ls : List ℕ) → Within low high ws → (high ≤ 17) ⊎ (24 ≤ low)
-    → Logs at value p → Logs at value (after_all (group_calls ws ls) p)
-logs_past {p = p} low high ws ls inside out log = record {
-  one = left low high p ws ls inside 17 _ (side 17 out (omega arith) (omega arith)) log.one;
-  place = left low high p ws ls inside 18 _ (side 18 out (omega arith) (omega arith)) log.place;
-  written = left low high p ws ls inside 19 _ (side 19 out (omega arith) (omega arith)) log.written;
-  rest = λ k from below. let r = log.rest k from below in (r.0, left low high p ws ls inside k _ (side k out from below) r.1);
-}
-  where
-    side : (k : ℕ) → (high ≤ 17) ⊎ (24 ≤ low) → 17 ≤ k → k < 24 → (k < low) ⊎ (high ≤ k)
-    side k (inl a) from below = inr (omega arith)
-    side k (inr a) from below = inl (omega arith)
+  stands2 : Stands S n (logged_update place (n + 1) at value ∷ []) home (after_append S n place at value p)
+  stands2 = (stands_appended place at value inside rests appended).0
 
--- From a medium at rest each image at each moment of an update is as before it or as after it, and what it shows is at
--- least every number told.
-pub update_images : {S n len : ℕ} {home : List ℕ} {p : Point} (before at value : ℕ) → 1 ≤ S → S ≤ 10000 → fresh_length S ≤ len → n + 1 ≤ number_limit
-    → at < length home → Rests S n home p → AtLeast before p.told n
-    → Along (Leaves len (ShowsEither before n home (slice_set home at value))) p (update_calls (n + 1) at value)
-unfolding update_calls append_calls reproduce_calls
-update_images {S} {n} {len} {home} {p} before at value low high long small inside rests floor =
-    along_then (along_then along_body along_tag)
-    (let Q : Point → Type 0 = λ q. Along (Leaves len P) q (Tell (n + 1) ∷ (group_calls (home_write at value) ((fresh_home_start + at) / 8 ∷ []) ++ group_calls (mark_write (n + 1)) (1 ∷ []))) in
-    subst Q (sym (after_all_then (group_calls (record_body at value) (2 ∷ [])) (group_calls (record_tag (n + 1)) (2 ∷ [])) p))
-    (more (along_last along_tag) (along_then along_home along_mark)))
-  where
-    P : List ℕ → List ℕ → Type 0
-    P = ShowsEither before n home (slice_set home at value)
+  logs2 : Logs place (n + 1) at value (after_append S n place at value p)
+  logs2 = (stands_appended place at value inside rests appended).1
 
-    stands : Stands S n rests.head.0 home p
-    stands = rests_stand rests
+  stands3 : Stands S n (logged_update place (n + 1) at value ∷ []) home (after (Tell (n + 1)) (after_append S n place at value p))
+  stands3 = stands_told (n + 1) stands2
 
-    along_body : Along (Leaves len P) p (group_calls (record_body at value) (2 ∷ []))
-    along_body = group_law (record_body at value) (λ image mix. inl (body_images (record_body at value) (body_within at value) low high long (omega arith) rests.head.1 stands mix, floor)) (2 ∷ [])
+  logs3 : Logs place (n + 1) at value (after (Tell (n + 1)) (after_append S n place at value p))
+  logs3 = record { word = logs2.word }
 
-    p1 : Point
-    p1 = after_body at value p
+  told3 : (after (Tell (n + 1)) (after_append S n place at value p)).told ≡ p.told ++ (n + 1) ∷ []
+  told3 = ap (λ (told : List ℕ). told ++ (n + 1) ∷ []) appended.told
 
-    stands1 : Stands S n rests.head.0 home p1
-    stands1 = stands_past_body (record_body at value) (2 ∷ []) (body_within at value) stands
+  -- From a medium at rest each image at each moment of an update is as before it or as after it, and what it shows is at
+  -- least every number told.
+  pub update_images : {len : ℕ} (before : ℕ) → fresh_length S ≤ len → AtLeast before p.told n
+      → Along (Leaves len (ShowsEither before n home (slice_set home at value))) p (update_calls S place (n + 1) at value)
+  unfolding update_calls reproduce_calls
+  update_images {len} before long floor =
+      along_then along_append (more (along_last along_append) (along_then along_home along_mark))
+    where
+      P : List ℕ → List ℕ → Type 0
+      P = ShowsEither before n home (slice_set home at value)
 
-    logs1 : Logs at value p1
-    logs1 = logs_after_body at value p rests.body
+      held : (told image : List ℕ) → length image ≡ len → HeadsHold (fresh_sizes S) [] (update_cell place) (update_record (n + 1) at value) p told image → P told image
+      held told image size h =
+          let same : told ≡ p.told = h.same_told in
+          let floor2 : AtLeast before told n = subst (λ (told : List ℕ). AtLeast before told n) (sym same) floor in
+          elim (held_shows place at value low high long inside small rests size h) [
+            | inl r ↦ inl (r, floor2)
+            | inr r ↦ inr (r, at_least_next before n told floor2)
+          ]
 
-    told1 : p1.told ≡ p.told
-    told1 = group_told (record_body at value) (2 ∷ []) p
+      along_append : Along (Leaves len P) p (append_calls (fresh_sizes S) (update_cell place) (update_record (n + 1) at value))
+      along_append = along_leaves held
+          (append_law (fresh_sizes S) [] n (update_cell place) (update_record (n + 1) at value) p len long rests.ring (can_append place at value low high inside small below rests)).0
 
-    floor1 : AtLeast before p1.told n
-    floor1 = let Q : List ℕ → Type 0 = λ told. AtLeast before told n in subst Q (sym told1) floor
+      p3 : Point
+      p3 = after (Tell (n + 1)) (after_append S n place at value p)
 
-    two : {image : List ℕ} → Recovers 0 image n home ⊎ Recovers 0 image (n + 1) (slice_set home at value) → P p1.told image
-    two (inl r) = inl (r, floor1)
-    two (inr r) = inr (r, at_least_next before n p1.told floor1)
+      floor3 : AtLeast before p3.told (n + 1)
+      floor3 = subst (λ (told : List ℕ). AtLeast before told (n + 1)) (sym told3) (at_least_told before n p.told floor)
 
-    along_tag : Along (Leaves len P) p1 (group_calls (record_tag (n + 1)) (2 ∷ []))
-    along_tag = group_law (record_tag (n + 1)) (λ image mix. two (tag_images at value low high long small rests.head.1 inside stands1 logs1 mix)) (2 ∷ [])
+      along_home : Along (Leaves len P) p3 (group_calls (home_write at value) ((fresh_home_start + at) / 8 ∷ []))
+      along_home = group_law (home_write at value) (λ image mix. inr (home_images place at value low high long inside small below stands3 logs3 mix, floor3)) ((fresh_home_start + at) / 8 ∷ [])
 
-    p2 : Point
-    p2 = after_tag n p1
+      p4 : Point
+      p4 = after_home at value p3
 
-    stands2 : Stands S n (head_tag (n + 1)) home p2
-    stands2 = stands_past_tag (n + 1) stands1
+      stands4 : Stands S n (logged_update place (n + 1) at value ∷ []) (slice_set home at value) p4
+      stands4 = stands_past_home at value below stands3
 
-    logs2 : Logs at value p2
-    logs2 = logs_past 16 17 (record_tag (n + 1)) (2 ∷ []) (omega arith, omega arith, tt) (inl (omega arith)) logs1
+      logs4 : Logs place (n + 1) at value p4
+      logs4 = logs_past (144 + at) (145 + at) (home_write at value) ((fresh_home_start + at) / 8 ∷ []) (omega arith, omega arith, tt) (omega arith) inside logs3
 
-    told2 : p2.told ≡ p1.told
-    told2 = group_told (record_tag (n + 1)) (2 ∷ []) p1
+      floor4 : AtLeast before p4.told (n + 1)
+      floor4 = subst (λ (told : List ℕ). AtLeast before told (n + 1)) (sym (group_told (home_write at value) ((fresh_home_start + at) / 8 ∷ []) p3)) floor3
 
-    p3 : Point
-    p3 = after (Tell (n + 1)) p2
+      along_mark : Along (Leaves len P) p4 (group_calls (mark_write (n + 1)) (1 ∷ []))
+      along_mark = group_law (mark_write (n + 1)) (λ image mix. inr (
+        mark_images place at value low high long inside small
+            (rw (length-set home at value) below) (set-set_same home at value value) stands4 logs4 mix,
+        floor4,
+      )) (1 ∷ [])
 
-    floor3 : AtLeast before p3.told (n + 1)
-    floor3 = let Q : List ℕ → Type 0 = λ told. AtLeast before (told ++ (n + 1) ∷ []) (n + 1) in subst Q (sym told2) (at_least_told before n p1.told floor1)
+  -- After the update the medium rests at the next number and home, and the number was told.
+  pub update_rests : Rests S (n + 1) (slice_set home at value) (after_all (update_calls S place (n + 1) at value) p)
+      × ((after_all (update_calls S place (n + 1) at value) p).told ≡ p.told ++ (n + 1) ∷ [])
+  unfolding update_calls reproduce_calls
+  update_rests =
+      let Q : Point → Type 0 = λ q. Rests S (n + 1) (slice_set home at value) q × (q.told ≡ p.told ++ (n + 1) ∷ []) in
+      subst Q (sym whole) (rests_past_mark place at value stands4, told5)
+    where
+      calls : List Call
+      calls = append_calls (fresh_sizes S) (update_cell place) (update_record (n + 1) at value)
 
-    stands3 : Stands S n (head_tag (n + 1)) home p3
-    stands3 = record { header = stands2.header; mark_is = stands2.mark_is; tag_is = stands2.tag_is; cells = stands2.cells; count = stands2.count; words = stands2.words }
+      store : List Call
+      store = group_calls (home_write at value) ((fresh_home_start + at) / 8 ∷ [])
 
-    logs3 : Logs at value p3
-    logs3 = record { one = logs2.one; place = logs2.place; written = logs2.written; rest = logs2.rest }
+      mark : List Call
+      mark = group_calls (mark_write (n + 1)) (1 ∷ [])
 
-    along_home : Along (Leaves len P) p3 (group_calls (home_write at value) ((fresh_home_start + at) / 8 ∷ []))
-    along_home = group_law (home_write at value) (λ image mix. inr (home_images at value low high long small inside stands3 logs3 mix, floor3)) ((fresh_home_start + at) / 8 ∷ [])
+      p3 : Point
+      p3 = after (Tell (n + 1)) (after_append S n place at value p)
 
-    p4 : Point
-    p4 = after_home at value p3
+      p4 : Point
+      p4 = after_home at value p3
 
-    stands4 : Stands S n (head_tag (n + 1)) (slice_set home at value) p4
-    stands4 = stands_past_home at value inside stands3
+      stands4 : Stands S n (logged_update place (n + 1) at value ∷ []) (slice_set home at value) p4
+      stands4 = stands_past_home at value below stands3
 
-    logs4 : Logs at value p4
-    logs4 = logs_past (144 + at) (145 + at) (home_write at value) ((fresh_home_start + at) / 8 ∷ []) (omega arith, omega arith, tt) (inr (omega arith)) logs3
+      whole : after_all (calls ++ (Tell (n + 1) ∷ (store ++ mark))) p ≡ after_mark n p4
+      whole = after_all_then calls (Tell (n + 1) ∷ (store ++ mark)) p ∙ after_all_then store mark p3
 
-    floor4 : AtLeast before p4.told (n + 1)
-    floor4 = let Q : List ℕ → Type 0 = λ told. AtLeast before told (n + 1) in subst Q (sym (group_told (home_write at value) ((fresh_home_start + at) / 8 ∷ []) p3)) floor3
-
-    along_mark : Along (Leaves len P) p4 (group_calls (mark_write (n + 1)) (1 ∷ []))
-    along_mark = group_law (mark_write (n + 1)) (λ image mix. inr (
-      mark_images at value low high long small
-          (rw (length-set home at value) inside) (set-set_same home at value value) stands4 logs4 mix,
-      floor4,
-    )) (1 ∷ [])
-
--- After the update the medium rests at the next number and home, and the number was told.
-pub update_rests : {S n : ℕ} {home : List ℕ} (p : Point) (at value : ℕ) → at < length home → Rests S n home p
-    → Rests S (n + 1) (slice_set home at value) (after_all (update_calls (n + 1) at value) p)
-    × ((after_all (update_calls (n + 1) at value) p).told ≡ p.told ++ (n + 1) ∷ [])
-unfolding update_calls append_calls reproduce_calls
-update_rests {S} {n} {home} p at value inside rests =
-    let Q : Point → Type 0 = λ q. Rests S (n + 1) (slice_set home at value) q × (q.told ≡ p.told ++ (n + 1) ∷ []) in
-    subst Q (sym whole) (rests5, told5)
-  where
-    body : List Call
-    body = group_calls (record_body at value) (2 ∷ [])
-
-    tag : List Call
-    tag = group_calls (record_tag (n + 1)) (2 ∷ [])
-
-    store : List Call
-    store = group_calls (home_write at value) ((fresh_home_start + at) / 8 ∷ [])
-
-    mark : List Call
-    mark = group_calls (mark_write (n + 1)) (1 ∷ [])
-
-    p2 : Point
-    p2 = after_tag n (after_body at value p)
-
-    p3 : Point
-    p3 = after (Tell (n + 1)) p2
-
-    p4 : Point
-    p4 = after_home at value p3
-
-    p5 : Point
-    p5 = after_mark n p4
-
-    whole : after_all ((body ++ tag) ++ (Tell (n + 1) ∷ (store ++ mark))) p ≡ p5
-    whole = after_all_then (body ++ tag) (Tell (n + 1) ∷ (store ++ mark)) p
-        ∙ (ap (λ (q : Point). after_all (store ++ mark) (after (Tell (n + 1)) q)) (after_all_then body tag p) ∙ after_all_then store mark p3)
-
-    stands : Stands S n rests.head.0 home p
-    stands = rests_stand rests
-
-    stands2 : Stands S n (head_tag (n + 1)) home p2
-    stands2 = stands_past_tag (n + 1) (stands_past_body (record_body at value) (2 ∷ []) (body_within at value) stands)
-
-    stands3 : Stands S n (head_tag (n + 1)) home p3
-    stands3 = record { header = stands2.header; mark_is = stands2.mark_is; tag_is = stands2.tag_is; cells = stands2.cells; count = stands2.count; words = stands2.words }
-
-    stands5 : Stands S (n + 1) (head_tag (n + 1)) (slice_set home at value) p5
-    stands5 = stands_past_mark (n + 1) (stands_past_home at value inside stands3)
-
-    logs2 : Logs at value p2
-    logs2 = logs_past 16 17 (record_tag (n + 1)) (2 ∷ []) (omega arith, omega arith, tt) (inl (omega arith)) (logs_after_body at value p rests.body)
-
-    logs3 : Logs at value p3
-    logs3 = record { one = logs2.one; place = logs2.place; written = logs2.written; rest = logs2.rest }
-
-    logs5 : Logs at value p5
-    logs5 = logs_past 8 9 (mark_write (n + 1)) (1 ∷ []) (omega arith, omega arith, tt) (inl (omega arith))
-        (logs_past (144 + at) (145 + at) (home_write at value) ((fresh_home_start + at) / 8 ∷ []) (omega arith, omega arith, tt) (inr (omega arith)) logs3)
-
-    rests5 : Rests S (n + 1) (slice_set home at value) p5
-    rests5 = record {
-      header = stands5.header;
-      mark = stands5.mark_is;
-      head = (head_tag (n + 1), omega arith, stands5.tag_is);
-      body = logs5.rest;
-      cells = stands5.cells;
-      count = stands5.count;
-      words = stands5.words;
-    }
-
-    told5 : p5.told ≡ p.told ++ (n + 1) ∷ []
-    told5 = group_told (mark_write (n + 1)) (1 ∷ []) p4 ∙ (group_told (home_write at value) ((fresh_home_start + at) / 8 ∷ []) p3
-        ∙ ap (λ (told : List ℕ). told ++ (n + 1) ∷ []) (group_told (record_tag (n + 1)) (2 ∷ []) (after_body at value p) ∙ group_told (record_body at value) (2 ∷ []) p))
+      told5 : (after_mark n p4).told ≡ p.told ++ (n + 1) ∷ []
+      told5 = group_told (mark_write (n + 1)) (1 ∷ []) p4 ∙ (group_told (home_write at value) ((fresh_home_start + at) / 8 ∷ []) p3 ∙ told3)

@@ -1,20 +1,23 @@
--- The calls that log one update: the record's body and then its tag are made durable, the number is told, then the home
--- word and at last the mark are made durable.
+-- The calls that log one update: its record is appended to the ring, the number is told, then the home word and at last
+-- the mark are made durable.
 use Rattle.std.specs.Prelude.{◌≡◌, ◌⊎◌, ℕ, ◌+◌, ◌/◌, ◌<◌, ◌≤◌, List, [], ◌∷◌, ◌++◌, length, drop}
 use Rattle.pmem_trait.specs.declared.call.Call.{Call}
 use Rattle.pmem_trait.specs.declared.call.Call.TheVariants.{Tell}
 use Rattle.pmem_trait.specs.Words.{IsIn, Point}
 use Rattle.pmem_trait.specs.Groups.{group_calls}
-use Rattle.fresh_image.specs.Record.{head_tag}
-use Rattle.fresh_image.specs.Recovery.{Recovers}
-use Rattle.fresh_image.specs.Fresh.{Rests, fresh_home_start}
+use Rattle.dude_base.specs.Records.{RedoRecord}
+use Rattle.redo_record.specs.Cells.{Cell}
+use Rattle.redo_record.specs.Calls.{append_calls}
+use Rattle.redo_record.specs.Recovery.{Recovers}
+use Rattle.fresh_image.specs.Fresh.{Rests, fresh_sizes, fresh_home_start}
 
--- words 1 to 7 of the first cell: one write, and zeros
-abbrev pub record_body : ℕ → ℕ → List (ℕ × ℕ)
-record_body at value = (17, 1) ∷ (18, at) ∷ (19, value) ∷ (20, 0) ∷ (21, 0) ∷ (22, 0) ∷ (23, 0) ∷ []
+-- the record of an update
+abbrev pub update_record : ℕ → ℕ → ℕ → RedoRecord
+update_record number at value = record { number = number; writes = record { at = at; value = value } ∷ [] }
 
-abbrev pub record_tag : ℕ → List (ℕ × ℕ)
-record_tag number = (16, head_tag number) ∷ []
+-- the cell of its head
+abbrev pub update_cell : ℕ → Cell
+update_cell place = record { ring = 0; place = place }
 
 abbrev pub home_write : ℕ → ℕ → List (ℕ × ℕ)
 home_write at value = (fresh_home_start + at, value) ∷ []
@@ -22,17 +25,15 @@ home_write at value = (fresh_home_start + at, value) ∷ []
 abbrev pub mark_write : ℕ → List (ℕ × ℕ)
 mark_write number = (8, number) ∷ []
 
--- the record is made durable
-unfoldable pub append_calls : ℕ → ℕ → ℕ → List Call
-append_calls number at value = group_calls (record_body at value) (2 ∷ []) ++ group_calls (record_tag number) (2 ∷ [])
-
 -- the home word and then the mark are made durable
 unfoldable pub reproduce_calls : ℕ → ℕ → ℕ → List Call
 reproduce_calls number at value =
     group_calls (home_write at value) ((fresh_home_start + at) / 8 ∷ []) ++ group_calls (mark_write number) (1 ∷ [])
 
-unfoldable pub update_calls : ℕ → ℕ → ℕ → List Call
-update_calls number at value = append_calls number at value ++ (Tell number ∷ reproduce_calls number at value)
+-- the record is appended in the cell at this place of the ring, the number is told, and the record is reproduced
+unfoldable pub update_calls : ℕ → ℕ → ℕ → ℕ → ℕ → List Call
+update_calls subscribers place number at value =
+    append_calls (fresh_sizes subscribers) (update_cell place) (update_record number at value) ++ (Tell number ∷ reproduce_calls number at value)
 
 -- a number is at least every number told since the first so many
 abbrev pub AtLeast : ℕ → List ℕ → ℕ → Type 0

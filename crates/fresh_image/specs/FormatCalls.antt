@@ -5,12 +5,12 @@ use Rattle.std.specs.List.{range_with_len, enumerate_from}
 use Rattle.pmem_trait.specs.declared.call.Call.{Call}
 use Rattle.pmem_trait.specs.declared.call.Call.TheVariants.{Tell}
 use Rattle.pmem_trait.specs.Groups.{group_calls}
-use Rattle.fresh_image.specs.Layout.{magic, pages_for}
+use Rattle.dude_base.specs.declared.limits.TheConstants.{MAGIC}
 use Rattle.pmem_trait.specs.Words.{Point}
 use Rattle.tatp_model.specs.Population.{population}
-use Rattle.fresh_image.specs.Fresh.{fresh_length, Rests}
+use Rattle.fresh_image.specs.Fresh.{fresh_length, fresh_pages, Rests}
 use Rattle.fresh_image.specs.Rows.{home_words}
-use Rattle.fresh_image.specs.Recovery.{Recovers}
+use Rattle.redo_record.specs.Recovery.{Recovers}
 
 -- the words of the sixteen cells
 unfoldable pub clear_cells : List ℕ
@@ -27,7 +27,7 @@ content_lines subscribers = range_with_len 1 (fresh_length subscribers / 8 - 1)
 -- words 1 to 7
 abbrev pub header_writes : ℕ → List (ℕ × ℕ)
 header_writes subscribers =
-    (1, 0) ∷ (2, subscribers) ∷ (3, 12 * subscribers) ∷ (4, 1) ∷ (5, 16) ∷ (6, pages_for subscribers (12 * subscribers)) ∷ (7, 0) ∷ []
+    (1, 0) ∷ (2, subscribers) ∷ (3, 12 * subscribers) ∷ (4, 1) ∷ (5, 16) ∷ (6, fresh_pages subscribers) ∷ (7, 0) ∷ []
 
 abbrev pub magic_write : ℕ → List (ℕ × ℕ)
 magic_write value = (0, value) ∷ []
@@ -35,7 +35,7 @@ magic_write value = (0, value) ∷ []
 unfoldable pub format_calls : ℕ → List ℕ → List Call
 format_calls subscribers home =
     group_calls (magic_write 0) (0 ∷ []) ++ (group_calls (content_writes home) (content_lines subscribers)
-    ++ (group_calls (header_writes subscribers) (0 ∷ []) ++ (group_calls (magic_write magic) (0 ∷ []) ++ Tell 0 ∷ [])))
+    ++ (group_calls (header_writes subscribers) (0 ∷ []) ++ (group_calls (magic_write MAGIC) (0 ∷ []) ++ Tell 0 ∷ [])))
 
 -- nothing was told yet, or the image recovers to 0 and these home words
 abbrev pub ShowsOnceTold : List ℕ → List ℕ → List ℕ → List ℕ → Type 0

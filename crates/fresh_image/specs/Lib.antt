@@ -1,8 +1,6 @@
 pub mod Calls
 pub mod FormatCalls
 pub mod Fresh
-pub mod Layout
-pub mod Record
-pub mod Recovery
+pub mod Rings
 pub mod Rows
 pub mod Store

@@ -5,17 +5,15 @@ ghost use Rattle.pmem_trait.specs.Sights.{here, Makes, Keeps};
 ghost use Rattle.pmem_trait.specs.Groups.{put_pairs, flush_lines, group_calls};
 ghost use Rattle.tatp_model.specs.Population.{population};
 ghost use Rattle.pmem_trait.specs.declared.call.Call.TheVariants.{Tell};
-ghost use Rattle.fresh_image.specs.Layout.{magic};
+ghost use Rattle.dude_base.specs.declared.limits.TheConstants.{MAGIC};
 ghost use Rattle.fresh_image.specs.Fresh.{fresh_length};
 ghost use Rattle.fresh_image.specs.Rows.{home_words};
 ghost use Rattle.fresh_image.specs.FormatCalls.{clear_cells, content_writes, content_lines, header_writes, magic_write, format_calls, ShowsOnceTold, RestsFormatted};
 
 use crate::population::initial_word;
 use crate::sizes::ImageSizes;
+use dude_base::limits::MAGIC;
 use pmem_trait::{Failed, Medium, settle_group};
-
-/// The bytes of the text `DUDETMEM`, the first one lowest.
-const MAGIC: u64 = 0x4D45_4D54_4544_5544;
 
 /// The words behind the header: zeros for the cells, then the home words.
 fn put_words<M: Medium>(m: &mut M, sizes: &ImageSizes) -> Result<(), Failed>
@@ -87,7 +85,7 @@ fn make_format<M: Medium>(m: &mut M, sizes: &ImageSizes) -> Result<(), Failed>
 fn put_magic<M: Medium>(m: &mut M) -> Result<(), Failed>
     requires room { 16 ≤ (M.sight m.old).len }
     ensures len { (M.sight m.new).len ≡ (M.sight m.old).len }
-    ensures made { Makes (group_calls (magic_write magic) (0 ∷ []) ++ Tell 0 ∷ []) (is_ok result) (M.sight m.old) (M.sight m.new) }
+    ensures made { Makes (group_calls (magic_write MAGIC) (0 ∷ []) ++ Tell 0 ∷ []) (is_ok result) (M.sight m.old) (M.sight m.new) }
 {
     settle_group(m, &[(0, MAGIC)], &[0])?;
     m.tell(0)

@@ -1,6 +1,11 @@
 ghost use Rattle.std.specs.Prelude.{◌≡◌, ◌*◌, ◌+◌, ◌≤◌};
-ghost use Rattle.fresh_image.specs.Layout.{up8, table_words, tables_words, pages_for};
-ghost use Rattle.fresh_image.specs.Fresh.{fresh_length};
+ghost use Rattle.fresh_image.specs.Fresh.{fresh_pages, fresh_sizes, fresh_length};
+
+use dude_base::place::Place;
+use dude_base::sizes::Sizes;
+
+/// How many cells the one log ring has.
+const CELLS: u64 = 16;
 
 /// The sizes of an image: 1 to 10,000 subscribers, and the pages of 64 words that its five tables need with twelve call
 /// rows a subscriber.
@@ -11,18 +16,24 @@ pub struct ImageSizes {
     ghost some: { 1 ≤ subscribers },
     ghost limited: { subscribers ≤ 10000 },
     ghost few_pages: { pages ≤ 17814 },
-    ghost paged: { pages ≡ pages_for subscribers (12 * subscribers) },
+    ghost paged: { pages ≡ fresh_pages subscribers },
 }
 
 impl ImageSizes {
     /// For a number of subscribers from 1 to 10,000.
+    #[tactic(auto, using(crate::proofs::Pages::pages_of_sizes, crate::proofs::Pages::pages_are_few, crate::proofs::Pages::never_out))]
     pub fn new(subscribers: u64) -> ImageSizes
         requires some { 1 ≤ subscribers }
         requires limited { subscribers ≤ 10000 }
         ensures { result.subscribers ≡ subscribers }
     {
-        let pages = pages_for_tables(subscribers, 12 * subscribers);
-        ImageSizes { subscribers, pages }
+        match Sizes::of(subscribers, 12 * subscribers, 1, CELLS) {
+            Ok(sizes) => ImageSizes {
+                subscribers,
+                pages: sizes.pages,
+            },
+            Err(_) => unreachable!(),
+        }
     }
 
     /// The words of the image: the header, the ring and the pages.
@@ -31,31 +42,18 @@ impl ImageSizes {
     {
         144 + 64 * self.pages
     }
-}
 
-fn round_up(words: u64) -> u64
-    requires { words ≤ 10000000 }
-    ensures { result ≡ up8 words }
-{
-    (words + 7) / 8 * 8
-}
-
-fn words_of_table(count: u64, size: u64) -> u64
-    requires few { count ≤ 120000 }
-    requires small { size ≤ 8 }
-    ensures { result ≡ table_words count size }
-{
-    8 + round_up(count) + round_up(count * size)
-}
-
-#[tactic(auto, unfolding(crate::specs::Layout::tables_words, crate::specs::Layout::pages_for))]
-fn pages_for_tables(subscribers: u64, calls: u64) -> u64
-    requires subscribers { subscribers ≤ 10000 }
-    requires calls { calls ≤ 120000 }
-    ensures pages { result ≡ pages_for subscribers calls }
-    ensures few { result ≤ 17814 }
-{
-    let people = words_of_table(subscribers, 8) + words_of_table(subscribers, 4);
-    let rows = words_of_table(4 * subscribers, 4);
-    (people + rows + rows + words_of_table(calls, 4) + 63) / 64
+    /// The places of the image.
+    #[tactic(auto, using(crate::proofs::Shown::fresh_sizes_are))]
+    pub fn place(&self) -> Place
+        ensures { result ≡ fresh_sizes self.now.subscribers }
+    {
+        Place::of(&Sizes {
+            subscribers: self.subscribers,
+            calls: 12 * self.subscribers,
+            rings: 1,
+            cells: CELLS,
+            pages: self.pages,
+        })
+    }
 }

@@ -1,35 +1,54 @@
-ghost use Rattle.std.specs.Prelude.{◌≡◌, ℕ, ◌+◌, ◌-◌, ◌<◌, ◌≤◌, is_ok, OnOk, IsTrue, List, length, slice_set};
+ghost use Rattle.std.specs.Prelude.{◌≡◌, ℕ, ◌+◌, ◌-◌, ◌%◌, ◌<◌, ◌≤◌, [], ◌∷◌, is_ok, OnOk, IsTrue, List, length, slice_set};
+ghost use Rattle.dude_base.specs.declared.limits.TheConstants.{MAX_NUMBER};
 ghost use Rattle.pmem_trait.specs.Sights.{here, Makes, Keeps};
-ghost use Rattle.fresh_image.specs.Layout.{number_limit};
-ghost use Rattle.fresh_image.specs.Fresh.{Rests, fresh_length, fresh_home_length};
-ghost use Rattle.fresh_image.specs.Calls.{append_calls, reproduce_calls, update_calls, ShowsEither, StepsFrom, RestsTold};
+ghost use Rattle.redo_record.specs.Calls.{append_calls};
+ghost use Rattle.log_ring.specs.Ring.{with_record};
+ghost use Rattle.fresh_image.specs.Fresh.{Rests, fresh_sizes, fresh_length, fresh_home_length};
+ghost use Rattle.fresh_image.specs.Rings.{IsIdle};
+ghost use Rattle.fresh_image.specs.Calls.{update_record, update_cell, reproduce_calls, update_calls, ShowsEither, StepsFrom, RestsTold};
 
 use crate::sizes::ImageSizes;
+use dude_base::redo::Redo;
+use dude_base::write::Write;
+use log_ring::Ring;
 use pmem_trait::{Failed, Medium, settle_group};
 
-/// The kind of a head, in the two highest bits of a tag.
-const HEAD: u64 = 1 << 62;
-
-#[tactic(auto, using(pmem_trait::proofs::Runs::making), unfolding(crate::specs::Calls::append_calls))]
-fn append<M: Medium>(m: &mut M, number: u64, at: u64, value: u64) -> Result<(), Failed>
-    requires small { number ≤ number_limit }
-    requires room { 144 ≤ (M.sight m.old).len }
-    ensures len { (M.sight m.new).len ≡ (M.sight m.old).len }
-    ensures made { Makes (append_calls number at value) (is_ok result) (M.sight m.old) (M.sight m.new) }
+// The record of an update.
+fn record_of(number: u64, at: u64, value: u64) -> Redo
+    ensures { result ≡ update_record number at value }
 {
-    let body = [
-        (17, 1),
-        (18, at),
-        (19, value),
-        (20, 0),
-        (21, 0),
-        (22, 0),
-        (23, 0),
-    ];
-    settle_group(m, &body, &[2])?;
-    settle_group(m, &[(16, HEAD + number)], &[2])
+    let mut record = Redo::new(number);
+    match record.push(Write { at, value }) {
+        Ok(()) => record,
+        Err(_) => unreachable!(),
+    }
 }
 
+// Appends the record of an update to a ring that has none.
+fn append<M: Medium>(
+    m: &mut M,
+    sizes: &ImageSizes,
+    ring: &mut Ring,
+    number: u64,
+    at: u64,
+    value: u64,
+) -> Result<(), Failed>
+    requires idle { IsIdle sizes.now.subscribers (number - 1) ring.old }
+    requires some { 1 ≤ number }
+    requires small { number ≤ MAX_NUMBER }
+    requires inside { at < fresh_home_length sizes.now.subscribers }
+    requires room { fresh_length sizes.now.subscribers ≤ (M.sight m.old).len }
+    ensures len { (M.sight m.new).len ≡ (M.sight m.old).len }
+    ensures made { Makes (append_calls (fresh_sizes sizes.now.subscribers) (update_cell ring.old.next) (update_record number at value)) (is_ok result) (M.sight m.old) (M.sight m.new) }
+    ensures ring { OnOk result (ring.new ≡ with_record (update_record number at value) ring.old) }
+{
+    match ring.append(m, &record_of(number, at, value)) {
+        Ok(()) => Ok(()),
+        Err(_) => Err(Failed),
+    }
+}
+
+// Puts the home word, and then the mark.
 #[tactic(auto, using(pmem_trait::proofs::Runs::making), unfolding(crate::specs::Calls::reproduce_calls))]
 fn reproduce<M: Medium>(
     m: &mut M,
@@ -53,36 +72,47 @@ fn reproduce<M: Medium>(
 fn make_update<M: Medium>(
     m: &mut M,
     sizes: &ImageSizes,
+    ring: &mut Ring,
     number: u64,
     at: u64,
     value: u64,
 ) -> Result<(), Failed>
-    requires small { number ≤ number_limit }
+    requires idle { IsIdle sizes.now.subscribers (number - 1) ring.old }
+    requires some { 1 ≤ number }
+    requires small { number ≤ MAX_NUMBER }
     requires inside { at < fresh_home_length sizes.now.subscribers }
     requires room { fresh_length sizes.now.subscribers ≤ (M.sight m.old).len }
     ensures len { (M.sight m.new).len ≡ (M.sight m.old).len }
-    ensures made { Makes (update_calls number at value) (is_ok result) (M.sight m.old) (M.sight m.new) }
+    ensures made { Makes (update_calls sizes.now.subscribers ring.old.next number at value) (is_ok result) (M.sight m.old) (M.sight m.new) }
+    ensures ring { OnOk result (ring.new ≡ with_record (update_record number at value) ring.old) }
 {
-    append(m, number, at, value)?;
+    append(m, sizes, ring, number, at, value)?;
     m.tell(number)?;
     reproduce(m, sizes, number, at, value)
 }
 
-/// Logs the update of one home word under the next number, tells the number, and stores the word.
+/// Logs the update of one home word under the next number, tells the number, stores the word, and gives the record's
+/// cell free.
 ///
 /// `number` is one more than the number at which the medium rests, and `at` counts home words from 0.
 pub fn log_update<M: Medium>(
     m: &mut M,
     sizes: &ImageSizes,
+    ring: &mut Ring,
     number: u64,
     at: u64,
     value: u64,
 ) -> Result<(), Failed>
-    requires small { number ≤ number_limit }
+    requires idle { IsIdle sizes.now.subscribers (number - 1) ring.old }
+    requires some { 1 ≤ number }
+    requires small { number ≤ MAX_NUMBER }
     requires inside { at < fresh_home_length sizes.now.subscribers }
     requires room { fresh_length sizes.now.subscribers ≤ (M.sight m.old).len }
     ensures len { (M.sight m.new).len ≡ (M.sight m.old).len }
-    ensures made { Makes (update_calls number at value) (is_ok result) (M.sight m.old) (M.sight m.new) }
+    ensures made { Makes (update_calls sizes.now.subscribers ring.old.next number at value) (is_ok result) (M.sight m.old) (M.sight m.new) }
+    ensures ring { OnOk result (IsIdle sizes.now.subscribers number ring.new) }
+    // The ring goes round: the next record's head stands one cell further.
+    ensures next { OnOk result (ring.new.next ≡ (ring.old.next + 1) % 16) }
     // From a medium at rest each image at each moment is as before the update or as after it.
     ensures images { (before n : ℕ) (home : List ℕ) → n + 1 ≡ number
         → (IsTrue (M.sight m.old).tells → StepsFrom sizes.now.subscribers before n home at (here (M.sight m.old)))
@@ -92,5 +122,7 @@ pub fn log_update<M: Medium>(
         → Rests sizes.now.subscribers n home (here (M.sight m.old))
         → RestsTold sizes.now.subscribers number (slice_set home at value) (here (M.sight m.old)) (here (M.sight m.new))) }
 {
-    make_update(m, sizes, number, at, value)
+    make_update(m, sizes, ring, number, at, value)?;
+    ring.release(number);
+    Ok(())
 }

@@ -13,6 +13,7 @@ loop-index-init g c =
       goes = subst (λ (stage : Stage). GoesOn (subscribers_of self) 0 c.args.requests.now stage s s) (sym c.requires.opening)
           (goes_none (subscribers_of self) c.args.requests.now s self.sizes.some self.sizes.limited c.requires.medium);
       sizes = refl;
+      ring = c.requires.ring;
       room = refl;
       count = omega (arith, ap (λ (z : Stage). length z.done) c.requires.opening);
       len = refl;
@@ -25,6 +26,7 @@ loop-index-preserved g c =
     record {
       goes = goes_next _ (ap (λ (z : ImageSizes). z.subscribers) i.sizes) c.loop-index-test.true (c.requires.served c.loop-index.index _ c.loop-index-test.true) i.goes c.in_ok-serve.ensures.serves;
       sizes = notes.sizes ∙ i.sizes;
+      ring = c.in_ok-serve.ensures.ring;
       room = notes.room ∙ i.room;
       count = omega (arith, notes.count, i.count);
       len = omega (arith, i.len, c.in_ok-serve.ensures.len);

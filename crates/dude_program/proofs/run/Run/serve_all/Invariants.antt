@@ -1,5 +1,5 @@
 use Rattle.std.proofs.Common.{◌≡◌, vec_len}
-use Rattle.dude_program.specs.Run.{stage_of, subscribers_of, room_of}
+use Rattle.dude_program.specs.Run.{stage_of, subscribers_of, room_of, HasIdleRing}
 use Rattle.dude_program.proofs.Runs.{GoesOn}
 use Rattle.dude_program.proofs.run.Run.serve_all.Given as goal
 
@@ -8,6 +8,7 @@ abbrev pub invariant-loop-index : goal.invariant-loop-index
 invariant-loop-index g l = record {
   goes : GoesOn (subscribers_of l.initial.self) l.index l.requests (stage_of l.self) (g.M.Medium.sight l.initial.m) (g.M.Medium.sight l.m);
   sizes : l.self.sizes ≡ l.initial.self.sizes;
+  ring : HasIdleRing l.self;
   room : room_of l.self ≡ room_of l.initial.self;
   count : vec_len l.self.done ≡ l.index;
   len : (g.M.Medium.sight l.m).len ≡ (g.M.Medium.sight l.initial.m).len;

@@ -45,4 +45,4 @@ returns-clause-serves g c =
     (is_ok c.log_update.result) old new (g.M.Medium.sight c.args.m.now) (g.M.Medium.sight c.log_update.new.m)
     same (ap is_changed (c.in-Some.ensures.reply (12 * S) c.args.vlr)) c.perform.ensures.last refl c.perform.ensures.db c.perform.ensures.adds
     (omega (arith, place.1, c.args.self.now.sized)) home c.log_update.ensures.images (λ ok. ok_part c.log_update.result c.log_update.ensures.rests ok)
-    (update_calls c.perform.new.self.last c.in-Some.at c.args.vlr, c.log_update.ensures.made)
+    (update_calls c.perform.new.self.sizes.subscribers c.perform.new.self.ring.next c.perform.new.self.last c.in-Some.at c.args.vlr, c.log_update.ensures.made)
