@@ -1,0 +1,39 @@
+-- An image read by its words: sizes, mark, home, and the cells of its rings.
+use Rattle.std.specs.Prelude.{◌≡◌, ℕ, ◌+◌, ◌*◌, List, slice_index, slice_range}
+use Rattle.dude_base.specs.declared.limits.TheConstants.{MARK, PAGE}
+use Rattle.dude_base.specs.declared.sizes.Sizes.{Sizes}
+use Rattle.dude_base.specs.Image.{home_word, image_words}
+use Rattle.redo_record.specs.Tags.{IsHeadOver}
+use Rattle.redo_record.specs.Cells.{Cell, IsCell, word_place, front_of}
+use Rattle.redo_record.specs.Record.{HoldComplete}
+
+-- the sizes that an image names
+abbrev pub sizes_of : List ℕ → Sizes
+sizes_of image = record {
+    subscribers = slice_index image 2; calls = slice_index image 3; rings = slice_index image 4;
+    cells = slice_index image 5; pages = slice_index image 6 }
+
+-- the number up to which the home has all writes
+abbrev pub mark_of : List ℕ → ℕ
+mark_of image = slice_index image MARK
+
+-- the home words
+abbrev pub home_of : Sizes → List ℕ → List ℕ
+home_of s image = slice_range image (home_word s 0) (image_words s)
+
+-- the tag of a cell
+abbrev pub tag_of : Sizes → List ℕ → Cell → ℕ
+tag_of s image cell = slice_index image (front_of s cell)
+
+-- word j of the k-th cell from this one on
+abbrev pub cells_from : Sizes → List ℕ → Cell → ℕ → ℕ → ℕ
+cells_from s image head k j = slice_index image (word_place s head k j)
+
+-- The head at this cell has a complete record.
+abbrev pub IsComplete : Sizes → List ℕ → Cell → Type 0
+IsComplete s image head = HoldComplete s (cells_from s image head)
+
+-- The cell is a head with a number over this one.
+pub record IsNewHead (s : Sizes) (above : ℕ) (image : List ℕ) (head : Cell) : Type 0 where
+  pub cell : IsCell s head
+  pub new : IsHeadOver above (tag_of s image head)

@@ -1,0 +1,11 @@
+pub mod AppendLaw
+pub mod Calls
+pub mod Cells
+pub mod Damage
+pub mod Decoding
+pub mod Encoding
+pub mod Fits
+pub mod Images
+pub mod Record
+pub mod Recovery
+pub mod Tags

@@ -1,0 +1,88 @@
+ghost use Rattle.std.specs.Prelude.{◌≡◌, ◌+◌, ◌<◌, ◌*◌, ◌/◌, ◌%◌, length, map, IfOk, OnOk, OnErr};
+ghost use Rattle.std.specs.List.{range_with_len};
+ghost use Rattle.dude_base.specs.Writes.{HasDistinctPlaces};
+ghost use Rattle.redo_record.specs.Record.{cells_for, write_of, record_of};
+ghost use Rattle.redo_record.specs.Encoding.{cells_in, IsRecordSlice};
+ghost use Rattle.redo_record.specs.Decoding.{HasHeadFor, Continues};
+
+use crate::bad_record::BadRecord;
+use crate::tag::{CONTINUATION_KIND, HEAD_KIND, KIND};
+use dude_base::limits::{LINE, MAX_NUMBER, MAX_WRITES};
+use dude_base::redo::Redo;
+use dude_base::write::Write;
+use dude_base::write_list::WriteList;
+
+/// Reads a record from its cells, 8 words each.
+///
+/// The first cell has to be the head of a number from 1 to `MAX_NUMBER` with at most `MAX_WRITES` writes of distinct
+/// places, and the others just the continuations that these writes need. Whether the places are home words isn't looked
+/// at, and pairs that hold no write aren't read.
+pub fn decode(cells: &[u64]) -> Result<Redo, BadRecord>
+    ensures ok { IfOk result (λ r. IsRecordSlice cells.now × (r ≡ record_of (cells_in cells.now))) }
+    ensures bad { OnErr result (¬ IsRecordSlice cells.now) }
+{
+    let count = check_head(cells)?;
+    check_continuations(cells, count)?;
+    let writes = read_writes(cells, count)?;
+    Ok(Redo::of(cells[0] % KIND, writes))
+}
+
+// The count of writes, where the head is one and there are just its cells.
+fn check_head(cells: &[u64]) -> Result<u64, BadRecord>
+    ensures ok { IfOk result (HasHeadFor cells.now) }
+    ensures bad { OnErr result (¬ IsRecordSlice cells.now) }
+{
+    if cells.len() < 2 {
+        return Err(BadRecord);
+    }
+    let tag = cells[0];
+    let count = cells[1];
+    if tag <= HEAD_KIND || tag > HEAD_KIND + MAX_NUMBER || count > MAX_WRITES {
+        return Err(BadRecord);
+    }
+    if cells.len() as u64 != LINE * count.div_ceil(3).max(1) {
+        return Err(BadRecord);
+    }
+    Ok(count)
+}
+
+fn check_continuations(cells: &[u64], count: u64) -> Result<(), BadRecord>
+    requires { HasHeadFor cells.now count }
+    ensures ok { OnOk result (Continues cells.now (cells_for count)) }
+    ensures bad { OnErr result (¬ IsRecordSlice cells.now) }
+{
+    let tag = CONTINUATION_KIND + cells[0] % KIND;
+    for k in 1..count.div_ceil(3).max(1) {
+        if cells[(LINE * k) as usize] != tag || cells[(LINE * k + 1) as usize] != k {
+            return Err(BadRecord);
+        }
+    }
+    Ok(())
+}
+
+// The writes, where their places differ.
+fn read_writes(cells: &[u64], count: u64) -> Result<WriteList, BadRecord>
+    requires { HasHeadFor cells.now count }
+    ensures ok { IfOk result (λ ws. (ws ≡ map (write_of (cells_in cells.now)) (range_with_len 0 count)) × HasDistinctPlaces ws) }
+    ensures bad { OnErr result (¬ IsRecordSlice cells.now) }
+{
+    let mut writes = WriteList::new();
+    for i in 0..count {
+        let w = write_in(cells, i);
+        if writes.find(w.at).is_some() {
+            return Err(BadRecord);
+        }
+        writes.put(w)?;
+    }
+    Ok(writes)
+}
+
+fn write_in(cells: &[u64], i: u64) -> Write
+    requires { LINE * (i / 3) + (3 + 2 * (i % 3)) < length cells.now }
+    ensures { result ≡ write_of (cells_in cells.now) i }
+{
+    Write {
+        at: cells[(LINE * (i / 3) + (2 + 2 * (i % 3))) as usize],
+        value: cells[(LINE * (i / 3) + (3 + 2 * (i % 3))) as usize],
+    }
+}

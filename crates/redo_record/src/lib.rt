@@ -1,0 +1,14 @@
+//! Redo records in cells: how the words of an image are read, which calls lay a record into its ring, and what a crash
+//! on the way may leave.
+#![tactic(auto)]
+
+mod bad_record;
+mod decoding;
+mod encoding;
+mod laws;
+mod tag;
+
+pub use bad_record::BadRecord;
+pub use decoding::decode;
+pub use encoding::{cells_of, encode};
+pub use laws::{law_of_append, law_of_decoding, law_of_encoding};
