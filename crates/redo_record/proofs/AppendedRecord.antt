@@ -1,5 +1,5 @@
 -- The law of append: the group of the body, then that of the tag.
-use Rattle.std.proofs.Common.{◌≡◌, ◌≢◌, ◌⊎◌, inl, inr, ⊎_elim, ℕ, zero, suc, ◌+◌, ◌-◌, ◌*◌, ◌/◌, ◌%◌, ◌^◌, ◌<◌, ◌≤◌, max, List, [], ◌∷◌, ◌++◌, length, get_or, slice_index, refl, sym, ap, ◌∙◌, subst, arith, append-nil, All}
+use Rattle.std.proofs.Common.{◌≡◌, ◌≢◌, ◌⊎◌, inl, inr, ⊎_elim, ℕ, zero, suc, ◌+◌, ◌*◌, ◌/◌, ◌%◌, ◌<◌, ◌≤◌, List, [], ◌∷◌, ◌++◌, length, slice_index, refl, sym, ap, ◌∙◌, subst, arith, append-nil, All}
 use Rattle.std.proofs.lemmas.Bool.{cases_eq}
 use Rattle.std.proofs.lemmas.List.Elements.{All-cons, All-nil}
 use Rattle.dude_base.specs.declared.sizes.Sizes.{Sizes}
@@ -7,17 +7,17 @@ use Rattle.dude_base.specs.declared.write.Write.{Write}
 use Rattle.dude_base.specs.Image.{image_words}
 use Rattle.dude_base.specs.Records.{RedoRecord}
 use Rattle.pmem_trait.specs.declared.call.Call.{Call}
-use Rattle.pmem_trait.specs.Words.{Word, Point, IsIn, MayBe, HalfDone, Leaves, Along, Along.end, Along.more, still, newest, value_of, after, after_all}
+use Rattle.pmem_trait.specs.Words.{Word, Point, IsIn, HalfDone, Leaves, Along, Along.end, Along.more, still, newest, value_of, after_all}
 use Rattle.pmem_trait.specs.Groups.{group_calls, written, OldOrNew}
 use Rattle.pmem_trait.proofs.GroupLaw.{group_law, group_word, group_told}
 use Rattle.pmem_trait.proofs.Images.{half_leaves}
 use Rattle.pmem_trait.proofs.Laws.{along_here, along_rest, along_then, after_all_then}
-use Rattle.redo_record.specs.Tags.{kind_of, number_of, head_tag, continuation_tag, IsHeadOver}
-use Rattle.redo_record.specs.Cells.{Cell, IsCell, cell_after, front_of, line_of, word_place}
-use Rattle.redo_record.specs.Record.{cells_for, count_of, writes_of, record_of, HoldComplete}
+use Rattle.redo_record.specs.Tags.{number_of, head_tag, continuation_tag, IsHeadOver}
+use Rattle.redo_record.specs.Cells.{Cell, IsCell, front_of, line_of, word_place}
+use Rattle.redo_record.specs.Record.{cells_for, record_of, HoldComplete}
 use Rattle.redo_record.specs.Encoding.{encoded}
 use Rattle.redo_record.specs.Images.{mark_of, tag_of, cells_from, IsComplete, IsNewHead}
-use Rattle.redo_record.specs.Fits.{Logged, HasHead, FitsRing, Stands, head_of, settled_mark, settled_cells}
+use Rattle.redo_record.specs.Fits.{Logged, HasHead, FitsRing, Stands, settled_mark, settled_cells}
 use Rattle.redo_record.specs.Calls.{body_writes, lines_from, tag_write, append_calls}
 use Rattle.redo_record.specs.AppendLaw.{CanAppend, IsElsewhere, HeadsHold, Appended, logged_as, LawOfAppend}
 use Rattle.redo_record.proofs.HeldRecords.{AreSame, complete_same, record_same, count_same, tag_same}

@@ -1,5 +1,5 @@
 -- The cells that `encode` gives hold their record, and hold nothing else.
-use Rattle.std.proofs.Common.{◌≡◌, ◌≢◌, ℕ, zero, suc, ◌+◌, ◌-◌, ◌*◌, ◌/◌, ◌%◌, ◌^◌, ◌<◌, ◌≤◌, max, List, [], ◌∷◌, ◌++◌, length, length-append, map, get_or, slice_index, slice_index_or, flat_map, refl, sym, ap, ◌∙◌, subst, arith, inl, inr, ne_eqb}
+use Rattle.std.proofs.Common.{◌≡◌, ◌≢◌, ℕ, zero, suc, ◌+◌, ◌*◌, ◌/◌, ◌%◌, ◌<◌, ◌≤◌, List, ◌++◌, length, length-append, get_or, slice_index, flat_map, refl, sym, ap, ◌∙◌, subst, arith, ne_eqb}
 use Rattle.std.specs.List.{range_with_len}
 use Rattle.std.proofs.Math.ListN.{get_or-append}
 use Rattle.std.proofs.lemmas.List.{get_or_default, get_or-append_right}
@@ -8,8 +8,8 @@ use Rattle.dude_base.specs.declared.write.Write.{Write}
 use Rattle.dude_base.specs.Records.{RedoRecord}
 use Rattle.dude_base.specs.Writes.{HasDistinctPlaces}
 use Rattle.redo_record.specs.Tags.{kind_of, number_of, head_tag, continuation_tag}
-use Rattle.redo_record.specs.Record.{cells_for, count_of, write_of, writes_of, record_of, IsContinuation, HoldRecord}
-use Rattle.redo_record.specs.Encoding.{IsEncodable, write_or_zeros, encoded, encoded_cells, cells_in, IsRecordSlice, IsRead, LawOfEncoding, LawOfDecoding}
+use Rattle.redo_record.specs.Record.{cells_for, count_of, write_of, writes_of, record_of, HoldRecord}
+use Rattle.redo_record.specs.Encoding.{IsEncodable, write_or_zeros, encoded, encoded_cells, cells_in, IsRead, LawOfEncoding, LawOfDecoding}
 use Rattle.redo_record.proofs.HeldRecords.{map_range, AreSame, holds_same, record_same, count_same}
 
 -- word j of the record's k-th cell

@@ -1,5 +1,5 @@
 -- What `decode` finds in a slice of cells.
-use Rattle.std.proofs.Common.{◌≡◌, ◌≢◌, ℕ, ◌+◌, ◌-◌, ◌*◌, ◌/◌, ◌%◌, ◌^◌, ◌<◌, ◌≤◌, max, List, [], ◌∷◌, ◌++◌, length, map, get_or, slice_index, true, false, true≢false, Option, None, is_some, refl, sym, ap, ◌∙◌, subst, arith, All, Result, Ok, Err, IfOk, OnErr}
+use Rattle.std.proofs.Common.{◌≡◌, ◌≢◌, ℕ, ◌+◌, ◌*◌, ◌%◌, ◌^◌, ◌<◌, ◌≤◌, List, [], ◌∷◌, ◌++◌, map, get_or, slice_index, true, true≢false, None, is_some, sym, ap, ◌∙◌, subst, arith, All, Result, Ok, Err, IfOk, OnErr}
 use Rattle.std.specs.List.{range_with_len}
 use Rattle.std.proofs.lemmas.List.FromFn.{length-map-range_with_len, get_or-map-range_with_len, map-range_with_len_more}
 use Rattle.std.proofs.lemmas.List.Quantifiers.{all_pairs_push}
@@ -7,7 +7,7 @@ use Rattle.dude_base.specs.declared.write.Write.{Write}
 use Rattle.dude_base.specs.Records.{RedoRecord}
 use Rattle.dude_base.specs.Writes.{written, put_write, HasDistinctPlaces}
 use Rattle.dude_base.proofs.WriteLists.{written_absent, absent_written, put_absent}
-use Rattle.redo_record.specs.Record.{cells_for, write_of, writes_of, record_of, HoldRecord}
+use Rattle.redo_record.specs.Record.{cells_for, write_of, record_of}
 use Rattle.redo_record.specs.declared.bad_record.BadRecord.{BadRecord}
 use Rattle.redo_record.specs.Encoding.{cells_in, encoded_cells, IsEncodable, IsRecordSlice}
 use Rattle.redo_record.specs.Decoding.{HasHeadFor, Continues}

@@ -1,7 +1,6 @@
 -- A ring that fits, under a group of writes that stays in the cells of one new record: what its heads are, in each image
 -- on the way and in the state after it.
-use Rattle.std.proofs.Common.{◌≡◌, ◌≢◌, ◌⊎◌, inl, inr, ⊎_elim, ℕ, zero, suc, ◌+◌, ◌-◌, ◌*◌, ◌/◌, ◌%◌, ◌<◌, ◌≤◌, max, List, [], ◌∷◌, ◌++◌, length, get_or, slice_index, refl, sym, ap, ◌∙◌, subst, arith, All}
-use Rattle.std.proofs.lemmas.Bool.{cases_eq}
+use Rattle.std.proofs.Common.{◌≡◌, ◌⊎◌, inl, inr, ℕ, suc, ◌+◌, ◌*◌, ◌%◌, ◌<◌, ◌≤◌, List, [], ◌∷◌, ◌++◌, length, get_or, slice_index, refl, sym, ap, ◌∙◌, subst, arith, All}
 use Rattle.std.proofs.lemmas.List.Elements.{All-append}
 use Rattle.dude_base.specs.declared.sizes.Sizes.{Sizes}
 use Rattle.dude_base.specs.Image.{image_words}
@@ -9,12 +8,12 @@ use Rattle.dude_base.specs.Records.{RedoRecord}
 use Rattle.pmem_trait.specs.Words.{Word, Point, IsIn, MayBe, still, after_all}
 use Rattle.pmem_trait.specs.Groups.{group_calls, written, OldOrNew}
 use Rattle.pmem_trait.proofs.GroupLaw.{group_word}
-use Rattle.redo_record.specs.Tags.{kind_of, number_of, head_tag, IsHeadOver}
-use Rattle.redo_record.specs.Cells.{Cell, IsCell, cell_after, front_of, word_place}
-use Rattle.redo_record.specs.Record.{cells_for, count_of, record_of, HoldComplete}
+use Rattle.redo_record.specs.Tags.{number_of, IsHeadOver}
+use Rattle.redo_record.specs.Cells.{Cell, IsCell, front_of, word_place}
+use Rattle.redo_record.specs.Record.{cells_for, count_of, record_of}
 use Rattle.redo_record.specs.Images.{mark_of, tag_of, cells_from, IsComplete, IsNewHead}
-use Rattle.redo_record.specs.Fits.{Logged, head_of, HasHead, IsStill, settled_mark, settled_cells, Stands, FitsRing, AreFree}
-use Rattle.redo_record.specs.AppendLaw.{CanAppend, IsElsewhere, HeadsHold}
+use Rattle.redo_record.specs.Fits.{Logged, head_of, HasHead, IsStill, settled_mark, settled_cells, Stands, FitsRing}
+use Rattle.redo_record.specs.AppendLaw.{CanAppend, IsElsewhere}
 use Rattle.redo_record.proofs.HeldRecords.{AreSame, complete_same, count_same, tag_same}
 use Rattle.redo_record.proofs.CellPlaces.{words_same, word_inside, first_cell}
 use Rattle.redo_record.proofs.GroupWords.{group_may}

@@ -1,13 +1,11 @@
 -- Room in a ring, and rings that still fit.
-use Rattle.std.proofs.Common.{◌≡◌, ◌⊎◌, inl, inr, ⊎_elim, ℕ, zero, suc, ◌+◌, ◌-◌, ◌*◌, ◌%◌, ◌<◌, ◌≤◌, max, List, [], ◌∷◌, ◌++◌, length, get_or, refl, sym, ap, ◌∙◌, subst, arith, All}
+use Rattle.std.proofs.Common.{◌≡◌, inl, inr, ℕ, ◌+◌, ◌%◌, ◌<◌, ◌≤◌, List, [], ◌∷◌, ◌++◌, get_or, sym, ap, ◌∙◌, subst, arith, All}
 use Rattle.std.proofs.Math.Nat.{mod-eq_of_lt, mod-lt}
 use Rattle.std.proofs.lemmas.List.Elements.{All-cons, All-nil, All-head, All-tail}
 use Rattle.std.proofs.lemmas.List.Sums.{sum_by-cons}
 use Rattle.dude_base.specs.declared.sizes.Sizes.{Sizes}
-use Rattle.pmem_trait.specs.Words.{Word, Point, MayBe, still}
-use Rattle.redo_record.specs.Tags.{number_of, IsHeadOver}
-use Rattle.redo_record.specs.Cells.{front_of, word_place}
-use Rattle.redo_record.specs.Fits.{Logged, head_of, HasHead, IsStill, settled_mark, settled_cells, Stands, FitsRing, AreFree, cells_used, FollowFrom}
+use Rattle.redo_record.specs.Tags.{number_of}
+use Rattle.redo_record.specs.Fits.{Logged, HasHead, settled_mark, Stands, AreFree, cells_used, FollowFrom}
 use Rattle.redo_record.specs.RingLaws.{place_after, LawOfRoom, LawOfFollowing, LawOfRelease, LawOfRest}
 use Rattle.redo_record.proofs.CellPlaces.{steps_same, steps_more}
 use Rattle.redo_record.proofs.RingHeads.{stands_by}

@@ -1,6 +1,6 @@
 -- An image read by its words: sizes, mark, home, and the cells of its rings.
-use Rattle.std.specs.Prelude.{◌≡◌, ℕ, ◌+◌, ◌*◌, List, slice_index, slice_range}
-use Rattle.dude_base.specs.declared.limits.TheConstants.{MARK, PAGE}
+use Rattle.std.specs.Prelude.{ℕ, List, slice_index, slice_range}
+use Rattle.dude_base.specs.declared.limits.TheConstants.{MARK}
 use Rattle.dude_base.specs.declared.sizes.Sizes.{Sizes}
 use Rattle.dude_base.specs.Image.{home_word, image_words}
 use Rattle.redo_record.specs.Tags.{IsHeadOver}

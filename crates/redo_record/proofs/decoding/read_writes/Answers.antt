@@ -1,4 +1,4 @@
-use Rattle.std.proofs.Common.{◌≡◌, ◌<◌, ℕ, length, List, None, is_some, refl, sym, ◌∙◌, ap, subst, arith, map, true}
+use Rattle.std.proofs.Common.{◌≡◌, length, List, None, is_some, refl, sym, ◌∙◌, ap, subst, arith, map, true}
 use Rattle.std.specs.List.{range_with_len}
 use Rattle.std.proofs.lemmas.List.FromFn.{length-map-range_with_len}
 use Rattle.dude_base.specs.declared.write.Write.{Write}
