@@ -3,6 +3,7 @@ pub mod CellPlaces
 pub mod AppendedRecord
 pub mod RecordWrites
 pub mod RingHeads
+pub mod RingRoom
 pub mod HeldRecords
 pub mod ReadCells
 pub mod EncodedCells

@@ -1,14 +1,17 @@
 -- What `decode` finds in a slice of cells.
-use Rattle.std.proofs.Common.{◌≡◌, ◌≢◌, ℕ, ◌+◌, ◌-◌, ◌*◌, ◌/◌, ◌%◌, ◌^◌, ◌<◌, ◌≤◌, max, List, [], ◌∷◌, ◌++◌, length, map, get_or, slice_index, true, false, true≢false, Option, None, is_some, refl, sym, ap, ◌∙◌, subst, arith, All}
+use Rattle.std.proofs.Common.{◌≡◌, ◌≢◌, ℕ, ◌+◌, ◌*◌, ◌%◌, ◌^◌, ◌<◌, ◌≤◌, List, [], ◌∷◌, ◌++◌, map, get_or, slice_index, true, true≢false, None, is_some, sym, ap, ◌∙◌, subst, arith, All, Result, Ok, Err, IfOk, OnErr}
 use Rattle.std.specs.List.{range_with_len}
 use Rattle.std.proofs.lemmas.List.FromFn.{length-map-range_with_len, get_or-map-range_with_len, map-range_with_len_more}
 use Rattle.std.proofs.lemmas.List.Quantifiers.{all_pairs_push}
 use Rattle.dude_base.specs.declared.write.Write.{Write}
+use Rattle.dude_base.specs.Records.{RedoRecord}
 use Rattle.dude_base.specs.Writes.{written, put_write, HasDistinctPlaces}
 use Rattle.dude_base.proofs.WriteLists.{written_absent, absent_written, put_absent}
-use Rattle.redo_record.specs.Record.{cells_for, write_of, writes_of, record_of, HoldRecord}
-use Rattle.redo_record.specs.Encoding.{cells_in, IsRecordSlice}
+use Rattle.redo_record.specs.Record.{cells_for, write_of, record_of}
+use Rattle.redo_record.specs.declared.bad_record.BadRecord.{BadRecord}
+use Rattle.redo_record.specs.Encoding.{cells_in, encoded_cells, IsEncodable, IsRecordSlice}
 use Rattle.redo_record.specs.Decoding.{HasHeadFor, Continues}
+use Rattle.redo_record.proofs.EncodedCells.{encoding_law}
 
 -- a continuation of a record's slice
 pub slice_continues : (words : List ℕ) (count k : ℕ) → HasHeadFor words count → IsRecordSlice words → 1 ≤ k → k < cells_for count
@@ -28,8 +31,8 @@ module _ (cells : ℕ → ℕ → ℕ) where
       let absent = absent_written ws w.at new in
       let put : put_write ws w ≡ ws ++ w ∷ [] = put_absent ws w absent in
       let whole : ws ++ w ∷ [] ≡ map (write_of cells) (range_with_len 0 (i + 1)) =
-          ap (λ (l : List Write). l ++ w ∷ []) front ∙ (ap (λ (v : Write). map (write_of cells) (range_with_len 0 i) ++ v ∷ []) is
-          ∙ sym (map-range_with_len_more (write_of cells) 0 i i (omega arith))) in
+      ap (λ (l : List Write). l ++ w ∷ []) front ∙ (ap (λ (v : Write). map (write_of cells) (range_with_len 0 i) ++ v ∷ []) is
+      ∙ sym (map-range_with_len_more (write_of cells) 0 i i (omega arith))) in
       (put ∙ whole, subst HasDistinctPlaces (sym put) (all_pairs_push (λ v u. v.at ≢ u.at) ws w distinct absent))
 
   -- a place that was read before isn't distinct
@@ -38,15 +41,16 @@ module _ (cells : ℕ → ℕ → ℕ) where
   read_twice count i w distinct lt is there =
       let none = written_absent (map (write_of cells) (range_with_len 0 i)) w.at other in
       true≢false (sym there ∙ ap is_some none)
-      where
-        at_all : (j : ℕ) (d : Write) → j < count → get_or (map (write_of cells) (range_with_len 0 count)) j d ≡ write_of cells j
-        at_all j d small = get_or-map-range_with_len (write_of cells) 0 count j j d small (omega arith)
-        other : All (λ v. v.at ≢ w.at) (map (write_of cells) (range_with_len 0 i))
-        other j d below same =
-            let before : j < i = omega (arith, length-map-range_with_len (write_of cells) 0 i) in
-            let front : get_or (map (write_of cells) (range_with_len 0 i)) j d ≡ write_of cells j = get_or-map-range_with_len (write_of cells) 0 i j j d before (omega arith) in
-            distinct j i d before (omega (arith, length-map-range_with_len (write_of cells) 0 count))
-              (ap (λ (v : Write). v.at) (at_all j d (omega arith) ∙ sym front) ∙ (same ∙ ap (λ (v : Write). v.at) (is ∙ sym (at_all i d lt))))
+    where
+      at_all : (j : ℕ) (d : Write) → j < count → get_or (map (write_of cells) (range_with_len 0 count)) j d ≡ write_of cells j
+      at_all j d small = get_or-map-range_with_len (write_of cells) 0 count j j d small (omega arith)
+
+      other : All (λ v. v.at ≢ w.at) (map (write_of cells) (range_with_len 0 i))
+      other j d below same =
+          let before : j < i = omega (arith, length-map-range_with_len (write_of cells) 0 i) in
+          let front : get_or (map (write_of cells) (range_with_len 0 i)) j d ≡ write_of cells j = get_or-map-range_with_len (write_of cells) 0 i j j d before (omega arith) in
+          distinct j i d before (omega (arith, length-map-range_with_len (write_of cells) 0 count))
+          (ap (λ (v : Write). v.at) (at_all j d (omega arith) ∙ sym front) ∙ (same ∙ ap (λ (v : Write). v.at) (is ∙ sym (at_all i d lt))))
 
 -- the slice is that of a record, whose writes these are
 pub slice_is_record : (words : List ℕ) (count : ℕ) → HasHeadFor words count → Continues words (cells_for count)
@@ -67,3 +71,9 @@ slice_is_record words count head continues distinct =
 -- the writes of a record's slice are distinct
 pub slice_distinct : (words : List ℕ) (count : ℕ) → HasHeadFor words count → IsRecordSlice words → HasDistinctPlaces (map (write_of (cells_in words)) (range_with_len 0 count))
 slice_distinct words count head slice = subst (λ (n : ℕ). HasDistinctPlaces (map (write_of (cells_in words)) (range_with_len 0 n))) head.count_is slice.whole.distinct
+
+-- what is read from the cells that a record has is this record
+pub decodes_back : {words : List ℕ} (answer : Result RedoRecord BadRecord) → IfOk answer (λ r. IsRecordSlice words × (r ≡ record_of (cells_in words))) → OnErr answer (¬ IsRecordSlice words)
+    → (r : RedoRecord) → IsEncodable r → words ≡ encoded_cells r → answer ≡ Ok r
+decodes_back (Ok found) ok bad r fine is = ap (λ (x : RedoRecord). let it : Result RedoRecord BadRecord = Ok x in it) (ok.1 ∙ (ap (λ (l : List ℕ). record_of (cells_in l)) is ∙ (encoding_law r fine).3))
+decodes_back (Err e) ok bad r fine is = absurd (bad (subst IsRecordSlice (sym is) (encoding_law r fine).2))

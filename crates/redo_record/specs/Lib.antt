@@ -8,4 +8,5 @@ pub mod Fits
 pub mod Images
 pub mod Record
 pub mod Recovery
+pub mod RingLaws
 pub mod Tags

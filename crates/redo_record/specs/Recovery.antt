@@ -13,10 +13,10 @@ use Rattle.redo_record.specs.Images.{sizes_of, mark_of, home_of, tag_of, cells_f
 use Rattle.redo_record.specs.Damage.{IsUndamaged, IsDamagedAt}
 
 -- The image is formatted, in this version.
-pub record IsFormatted (number : ℕ) (image : List ℕ) : Type 0 where
+pub record IsFormatted (version : ℕ) (image : List ℕ) : Type 0 where
   pub header : HEAD ≤ length image
   pub magic : slice_index image 0 ≡ MAGIC
-  pub version : slice_index image 1 ≡ number
+  pub same_version : slice_index image 1 ≡ version
   pub sizes : IsAccepted (sizes_of image)
   pub zero_word : slice_index image 7 ≡ 0
   pub whole : image_words (sizes_of image) ≤ length image

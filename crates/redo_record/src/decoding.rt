@@ -1,8 +1,9 @@
 ghost use Rattle.std.specs.Prelude.{◌≡◌, ◌+◌, ◌<◌, ◌*◌, ◌/◌, ◌%◌, length, map, IfOk, OnOk, OnErr};
 ghost use Rattle.std.specs.List.{range_with_len};
+ghost use Rattle.dude_base.specs.Records.{RedoRecord};
 ghost use Rattle.dude_base.specs.Writes.{HasDistinctPlaces};
 ghost use Rattle.redo_record.specs.Record.{cells_for, write_of, record_of};
-ghost use Rattle.redo_record.specs.Encoding.{cells_in, IsRecordSlice};
+ghost use Rattle.redo_record.specs.Encoding.{cells_in, encoded_cells, IsEncodable, IsRecordSlice};
 ghost use Rattle.redo_record.specs.Decoding.{HasHeadFor, Continues};
 
 use crate::bad_record::BadRecord;
@@ -18,6 +19,14 @@ use dude_base::write_list::WriteList;
 /// places, and the others just the continuations that these writes need. Whether the places are home words isn't looked
 /// at, and pairs that hold no write aren't read.
 pub fn decode(cells: &[u64]) -> Result<Redo, BadRecord>
+    ensures ok { IfOk result (λ r. IsRecordSlice cells.now × (r ≡ record_of (cells_in cells.now))) }
+    ensures bad { OnErr result (¬ IsRecordSlice cells.now) }
+    ensures back { (r : RedoRecord) → IsEncodable r → cells.now ≡ encoded_cells r → result ≡ Ok r }
+{
+    read_record(cells)
+}
+
+fn read_record(cells: &[u64]) -> Result<Redo, BadRecord>
     ensures ok { IfOk result (λ r. IsRecordSlice cells.now × (r ≡ record_of (cells_in cells.now))) }
     ensures bad { OnErr result (¬ IsRecordSlice cells.now) }
 {

@@ -2,6 +2,7 @@
 
 ghost use Rattle.redo_record.specs.Encoding.{LawOfEncoding, LawOfDecoding};
 ghost use Rattle.redo_record.specs.AppendLaw.{LawOfAppend};
+ghost use Rattle.redo_record.specs.RingLaws.{LawOfRoom, LawOfFollowing, LawOfRelease, LawOfRest};
 
 /// The cells of a record hold it, and as a slice they decode to it.
 pub fn law_of_encoding()
@@ -17,4 +18,24 @@ pub fn law_of_decoding()
 /// and after the whole list the record is settled and the ring fits again.
 pub fn law_of_append()
     ensures { LawOfAppend }
+{}
+
+/// Where the records of a ring follow one another and leave some cells, the cells after the last record are free.
+pub fn law_of_room()
+    ensures { LawOfRoom }
+{}
+
+/// Records follow one another also with one more at the end, and without the first ones.
+pub fn law_of_following()
+    ensures { LawOfFollowing }
+{}
+
+/// A ring fits without the records up to the mark.
+pub fn law_of_release()
+    ensures { LawOfRelease }
+{}
+
+/// A ring still fits where other words change and the mark rises.
+pub fn law_of_rest()
+    ensures { LawOfRest }
 {}
