@@ -21,7 +21,7 @@ use redo_record::{cells_of, encode};
 /// The kind of a head, in the two highest bits of its tag.
 const HEAD_KIND: u64 = 1 << 62;
 
-// The place of the cell that comes `steps` after this one.
+/// The place of the cell that comes `steps` after this one.
 pub fn place_after(place: &Place, head: u64, steps: u64) -> u64
     requires head { head < place.now.cells }
     requires steps { steps < 10000 }
@@ -32,7 +32,7 @@ pub fn place_after(place: &Place, head: u64, steps: u64) -> u64
     (head + steps) % sizes.cells
 }
 
-// A front of the cell that comes `steps` after this one.
+// The front of the cell that comes `steps` after this one.
 fn front_after(place: &Place, ring: u64, head: u64, steps: u64) -> u64
     requires ring { ring < place.now.rings }
     requires head { head < place.now.cells }
@@ -145,22 +145,21 @@ fn put_body<M: Medium>(
     put_continuations(m, place, ring, head, r)
 }
 
-// The lines of so many cells.
+// The lines of the record's cells.
 fn flush_cells<M: Medium>(
     m: &mut M,
     place: &Place,
     ring: u64,
     head: u64,
-    count: u64,
+    r: &Redo,
 ) -> Result<(), Failed>
     requires ring { ring < place.now.rings }
     requires head { head < place.now.cells }
-    requires few { count < 10000 }
     requires room { image_words place.now ≤ (M.sight m.old).len }
     ensures len { (M.sight m.new).len ≡ (M.sight m.old).len }
-    ensures made { Makes (flush_lines (lines_from place.now (cell_at ring head) count)) (is_ok result) (M.sight m.old) (M.sight m.new) }
+    ensures made { Makes (flush_lines (lines_from place.now (cell_at ring head) (cells_for (length r.now.writes)))) (is_ok result) (M.sight m.old) (M.sight m.new) }
 {
-    for k in 0..count {
+    for k in 0..cells_in_record(r) {
         m.flush(front_after(place, ring, head, k) / LINE)?;
     }
     Ok(())
@@ -182,9 +181,8 @@ fn settle_body<M: Medium>(
     ensures len { (M.sight m.new).len ≡ (M.sight m.old).len }
     ensures made { Makes (group_calls (body_writes place.now (cell_at ring head) r.now) (lines_from place.now (cell_at ring head) (cells_for (length r.now.writes)))) (is_ok result) (M.sight m.old) (M.sight m.new) }
 {
-    let count = cells_in_record(r);
     put_body(m, place, ring, head, r)?;
-    flush_cells(m, place, ring, head, count)?;
+    flush_cells(m, place, ring, head, r)?;
     m.fence()
 }
 

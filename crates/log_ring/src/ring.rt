@@ -7,7 +7,7 @@ ghost use Rattle.redo_record.specs.Tags.{IsNumber};
 ghost use Rattle.redo_record.specs.Calls.{append_calls};
 ghost use Rattle.redo_record.specs.Fits.{settled_mark, cells_used};
 ghost use Rattle.redo_record.specs.AppendLaw.{HeadsHold, Appended};
-ghost use Rattle.log_ring.specs.Ring.{RingState, Fits, next_head, with_entry, with_record, released_to};
+ghost use Rattle.log_ring.specs.Ring.{Fits, HasNoNewHead, next_head, with_entry, with_record, released_to};
 ghost use Rattle.log_ring.specs.Outcome.{CallsMade, IsOverfull, full_for};
 ghost use Rattle.log_ring.specs.declared.ring_fault.RingFault.TheVariants.{Device};
 
@@ -46,7 +46,8 @@ impl Ring {
     /// An empty ring that starts at its first cell. Room for its records is taken here.
     pub fn new(alloc: Global, place: Place, ring: u64) -> Result<Ring, AllocError>
         requires { ring < place.rings }
-        ensures { IfOk result (λ made. made ≡ record { sizes = place; ring = ring; logged = []; next = 0; released = 0 }) }
+        ensures empty { IfOk result (λ made. made ≡ record { sizes = place; ring = ring; logged = []; next = 0; released = 0 }) }
+        ensures fits { IfOk result (λ made. (p : Point) → HasNoNewHead place ring p → Fits made p) }
     {
         Ok(Ring {
             records: Vec::with_capacity(alloc, place.sizes().cells as usize)?,
@@ -127,13 +128,15 @@ impl Ring {
         ensures appended { OnOk result (IsTrue (M.sight m.old).tells → Fits self.old (here (M.sight m.old))
             → Appended self.old.sizes self.old.logged self.old.released (next_head self.old) r.now (here (M.sight m.old)) (here (M.sight m.new))) }
     {
-        let _writes = r.len();
+        let _kept = &self.place;
+        let _count = r.len();
         self.lay(m, r)
     }
 
     /// Gives the cells of the records numbered up to `reproduced` free.
     pub fn release(&mut self, reproduced: u64)
         ensures ring { self.new ≡ released_to reproduced self.old }
+        // The ring still fits where the mark is settled at that number or more.
         ensures fits { (p : Point) → Fits self.old p → reproduced ≤ settled_mark p → Fits self.new p }
     {
         self.records.retain(|record| record.number > reproduced);

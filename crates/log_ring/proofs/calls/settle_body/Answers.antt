@@ -12,7 +12,7 @@ returns-in_err-put_body-clause-made g c =
 pub returns-in_err-flush_cells-clause-made : goal.returns-in_err-flush_cells-clause-made
 unfolding group_calls
 returns-in_err-flush_cells-clause-made g c =
-    let err : is_ok c.from_residual-2.result ≡ false = search rules in
+    let err : is_ok c.from_residual-in_err-flush_cells.result ≡ false = search rules in
     rw err (makes_then c.in_ok-put_body.ensures.made (makes_stop _ c.in_err-flush_cells.ensures.made))
 
 pub returns-clause-made : goal.returns-clause-made
