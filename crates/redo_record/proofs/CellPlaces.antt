@@ -1,5 +1,5 @@
 -- Where the words of cells stand: cells of a ring are apart, and inside the image.
-use Rattle.std.proofs.Common.{◌≡◌, ◌≢◌, ◌⊎◌, inl, inr, ⊎_elim, ℕ, zero, suc, ◌+◌, ◌-◌, ◌*◌, ◌/◌, ◌%◌, ◌<◌, ◌≤◌, List, [], ◌∷◌, length, map, refl, sym, ap, ◌∙◌, subst, arith}
+use Rattle.std.proofs.Common.{◌≡◌, ◌≢◌, ◌⊎◌, inl, inr, ⊎_elim, ℕ, zero, suc, ◌+◌, ◌-◌, ◌*◌, ◌/◌, ◌%◌, ◌<◌, ◌≤◌, map, ap, ◌∙◌, subst, arith}
 use Rattle.std.specs.List.{range_with_len}
 use Rattle.std.proofs.Math.Nat.{mod-add-mod, mod-eq_of_lt, mod-eq-sub-mod, mod-lt, mul-le-mul_right}
 use Rattle.std.proofs.lemmas.Bool.{cases_lt, cases_eq}
@@ -14,9 +14,9 @@ wrapped : (c p k : ℕ) → p < c → k ≤ c → ((p + k < c) × ((p + k) % c �
 wrapped c p k below few = ⊎_elim
     (λ (lt : p + k < c). inl (lt, mod-eq_of_lt lt))
     (λ (over : c ≤ p + k).
-      let less : p + k - c < c = omega arith in
-      let is : (p + k) % c ≡ p + k - c = mod-eq-sub-mod over ∙ mod-eq_of_lt less in
-      inr (over, omega arith))
+    let less : p + k - c < c = omega arith in
+    let is : (p + k) % c ≡ p + k - c = mod-eq-sub-mod over ∙ mod-eq_of_lt less in
+    inr (over, omega arith))
     (cases_lt (p + k) c)
 
 -- different steps lead to different places
@@ -40,12 +40,12 @@ among c p x zero = inr (λ k lt is. omega arith)
 among c p x (suc n) = ⊎_elim
     (λ (found : (k : ℕ) × (k < n) × (x ≡ (p + k) % c)). inl (found.0, (let lt = found.1 in omega arith), found.2))
     (λ (none : (k : ℕ) → k < n → x ≡ (p + k) % c → ⊥). ⊎_elim
-      (λ (is : x ≡ (p + n) % c). inl (n, omega arith, is))
-      (λ (other : x ≢ (p + n) % c). inr (λ k lt is. ⊎_elim
-        (λ (last : k ≡ n). other (is ∙ ap (λ j. (p + j) % c) last))
-        (λ (less : k ≢ n). let below : k < n = omega arith in none k below is)
-        (cases_eq k n)))
-      (cases_eq x ((p + n) % c)))
+    (λ (is : x ≡ (p + n) % c). inl (n, omega arith, is))
+    (λ (other : x ≢ (p + n) % c). inr (λ k lt is. ⊎_elim
+    (λ (last : k ≡ n). other (is ∙ ap (λ j. (p + j) % c) last))
+    (λ (less : k ≢ n). let below : k < n = omega arith in none k below is)
+    (cases_eq k n)))
+    (cases_eq x ((p + n) % c)))
     (among c p x n)
 
 -- words at the same place are the same word of the same cell
@@ -90,6 +90,7 @@ line_in s head n k lt = subst (λ i. IsIn (line_of s (cell_after s head i)) (lin
   where
     same : 0 + k ≡ k
     same = omega arith
+
     go : (a n k : ℕ) → k < n → IsIn (line_of s (cell_after s head (a + k))) (map (λ i. line_of s (cell_after s head i)) (range_with_len a n))
     go a zero k lt = absurd (omega arith)
     go a (suc n) zero lt = inl (ap (λ i. line_of s (cell_after s head i)) (omega arith))

@@ -1,5 +1,5 @@
 -- The cells that `encode` gives hold their record, and hold nothing else.
-use Rattle.std.proofs.Common.{◌≡◌, ◌≢◌, ℕ, zero, suc, ◌+◌, ◌-◌, ◌*◌, ◌/◌, ◌%◌, ◌^◌, ◌<◌, ◌≤◌, max, List, [], ◌∷◌, ◌++◌, length, length-append, map, get_or, slice_index, slice_index_or, flat_map, refl, sym, ap, ◌∙◌, subst, arith, inl, inr, ne_eqb}
+use Rattle.std.proofs.Common.{◌≡◌, ◌≢◌, ℕ, zero, suc, ◌+◌, ◌*◌, ◌/◌, ◌%◌, ◌<◌, ◌≤◌, List, ◌++◌, length, length-append, get_or, slice_index, flat_map, refl, sym, ap, ◌∙◌, subst, arith, ne_eqb}
 use Rattle.std.specs.List.{range_with_len}
 use Rattle.std.proofs.Math.ListN.{get_or-append}
 use Rattle.std.proofs.lemmas.List.{get_or_default, get_or-append_right}
@@ -8,8 +8,8 @@ use Rattle.dude_base.specs.declared.write.Write.{Write}
 use Rattle.dude_base.specs.Records.{RedoRecord}
 use Rattle.dude_base.specs.Writes.{HasDistinctPlaces}
 use Rattle.redo_record.specs.Tags.{kind_of, number_of, head_tag, continuation_tag}
-use Rattle.redo_record.specs.Record.{cells_for, count_of, write_of, writes_of, record_of, IsContinuation, HoldRecord}
-use Rattle.redo_record.specs.Encoding.{IsEncodable, write_or_zeros, encoded, encoded_cells, cells_in, IsRecordSlice, IsRead, LawOfEncoding, LawOfDecoding}
+use Rattle.redo_record.specs.Record.{cells_for, count_of, write_of, writes_of, record_of, HoldRecord}
+use Rattle.redo_record.specs.Encoding.{IsEncodable, write_or_zeros, encoded, encoded_cells, cells_in, IsRead, LawOfEncoding, LawOfDecoding}
 use Rattle.redo_record.proofs.HeldRecords.{map_range, AreSame, holds_same, record_same, count_same}
 
 -- word j of the record's k-th cell
@@ -34,12 +34,12 @@ encoded_write r i d lt =
     let at : slice_index (encoded r (i / 3)) (2 + 2 * (i % 3)) ≡ (get_or r.writes i d).at = pair.0 ∙ ap (λ (v : Write). v.at) w in
     let value : slice_index (encoded r (i / 3)) (3 + 2 * (i % 3)) ≡ (get_or r.writes i d).value = pair.1 ∙ ap (λ (v : Write). v.value) w in
     of_parts at value
-    where
-      of_parts : {w : Write} {a v : ℕ} → a ≡ w.at → v ≡ w.value → ◌≡◌ {A = Write} (record { at = a; value = v }) w
-      of_parts {w} {v = v} p q =
-          let by_at : ℕ → Write = λ x. record { at = x; value = v } in
-          let by_value : ℕ → Write = λ x. record { at = w.at; value = x } in
-          ap by_at p ∙ ap by_value q
+  where
+    of_parts : {w : Write} {a v : ℕ} → a ≡ w.at → v ≡ w.value → ◌≡◌ {A = Write} (record { at = a; value = v }) w
+    of_parts {w} {v = v} p q =
+        let by_at : ℕ → Write = λ x. record { at = x; value = v } in
+        let by_value : ℕ → Write = λ x. record { at = w.at; value = x } in
+        ap by_at p ∙ ap by_value q
 
 pub encoded_writes : (r : RedoRecord) → writes_of (cells_of_record r) ≡ r.writes
 encoded_writes r = map_range (write_of (cells_of_record r)) 0 r.writes (λ i d lt. let same : 0 + i ≡ i = omega arith in ap (write_of (cells_of_record r)) same ∙ encoded_write r i d lt)
@@ -70,12 +70,12 @@ encoded_record r fine =
     let number : number_of (head_tag r.number) ≡ r.number = omega arith in
     let writes = encoded_writes r in
     of_parts number writes
-    where
-      of_parts : {n : ℕ} {ws : List Write} → n ≡ r.number → ws ≡ r.writes → ◌≡◌ {A = RedoRecord} (record { number = n; writes = ws }) r
-      of_parts {ws = ws} p q =
-          let by_number : ℕ → RedoRecord = λ x. record { number = x; writes = ws } in
-          let by_writes : List Write → RedoRecord = λ x. record { number = r.number; writes = x } in
-          ap by_number p ∙ ap by_writes q
+  where
+    of_parts : {n : ℕ} {ws : List Write} → n ≡ r.number → ws ≡ r.writes → ◌≡◌ {A = RedoRecord} (record { number = n; writes = ws }) r
+    of_parts {ws = ws} p q =
+        let by_number : ℕ → RedoRecord = λ x. record { number = x; writes = ws } in
+        let by_writes : List Write → RedoRecord = λ x. record { number = r.number; writes = x } in
+        ap by_number p ∙ ap by_writes q
 
 -- Cells of eight words, one after another in a list.
 module _ (f : ℕ → List ℕ) (eight : (k : ℕ) → length (f k) ≡ 8) where
@@ -95,16 +95,20 @@ module _ (f : ℕ → List ℕ) (eight : (k : ℕ) → length (f k) ≡ 8) where
 
 slice_same : (r : RedoRecord) → AreSame (cells_of_record r) (cells_in (encoded_cells r)) (cells_for (length r.writes))
 slice_same r = record {
-    word = λ k j lt below. word_of_cells (encoded r) (λ k. refl) 0 (cells_for (length r.writes)) k j lt below ∙ ap (λ i. slice_index (encoded r i) j) (omega arith) }
+  word = λ k j lt below. word_of_cells (encoded r) (λ k. refl) 0 (cells_for (length r.writes)) k j lt below ∙ ap (λ i. slice_index (encoded r i) j) (omega arith);
+}
 
 pub encoding_law : LawOfEncoding
 encoding_law r fine =
-    let same = slice_same r in
-    (encoded_holds r fine, encoded_record r fine,
+    let same = slice_same r in (
+      encoded_holds r fine,
+      encoded_record r fine,
       record {
         whole = holds_same same (encoded_holds r fine);
-        size = length_of_cells (encoded r) (λ k. refl) 0 (cells_for (length r.writes)) ∙ ap (λ n. 8 * cells_for n) (sym (count_same same)) },
-      record_same same ∙ encoded_record r fine)
+        size = length_of_cells (encoded r) (λ k. refl) 0 (cells_for (length r.writes)) ∙ ap (λ n. 8 * cells_for n) (sym (count_same same));
+      },
+      record_same same ∙ encoded_record r fine,
+    )
 
 -- What cells that hold a record have.
 module _ (cells : ℕ → ℕ → ℕ) (held : HoldRecord cells) where

@@ -1,7 +1,6 @@
 -- What a group of writes leaves of a word, whatever it was before.
 use Rattle.std.proofs.Common.{◌≡◌, ◌⊎◌, inl, inr, ⊎_elim, ℕ, ◌/◌, ◌==◌, Bool, true, false, if◌then◌else◌, List, [], ◌∷◌, ◌++◌, length, refl, sym, ap, ◌∙◌, subst, eq-eqb, append_assoc, append-nil, take_all, le_refl}
 use Rattle.std.proofs.lemmas.List.{drop_all}
-use Rattle.pmem_trait.specs.declared.call.Call.{Call}
 use Rattle.pmem_trait.specs.declared.call.Call.TheVariants.{Put, Flush, Fence}
 use Rattle.pmem_trait.specs.Words.{IsIn, Word, Point, newest, value_of, with_later, with_note, settle, after, after_all, MayBe, still}
 use Rattle.pmem_trait.specs.Groups.{put_pairs, flush_lines, group_calls, written}

@@ -1,5 +1,5 @@
 -- Cells with the same words hold the same record.
-use Rattle.std.proofs.Common.{◌≡◌, ℕ, zero, suc, ◌+◌, ◌-◌, ◌*◌, ◌/◌, ◌%◌, ◌<◌, ◌≤◌, max, List, [], ◌∷◌, length, map, get_or, refl, sym, ap, ◌∙◌, subst, arith, All}
+use Rattle.std.proofs.Common.{◌≡◌, ℕ, zero, suc, ◌+◌, ◌*◌, ◌/◌, ◌%◌, ◌<◌, ◌≤◌, List, [], ◌∷◌, length, map, get_or, refl, sym, ap, ◌∙◌, subst, arith, All}
 use Rattle.std.specs.List.{range_with_len}
 use Rattle.dude_base.specs.declared.sizes.Sizes.{Sizes}
 use Rattle.dude_base.specs.declared.write.Write.{Write}
@@ -60,15 +60,15 @@ module _ {cells others : ℕ → ℕ → ℕ} (same : AreSame cells others (cell
 
   pub holds_same : HoldRecord cells → HoldRecord others
   holds_same held = record {
-      head = ap kind_of tag_same ∙ held.head;
-      number = subst (λ (t : ℕ). IsNumber (number_of t)) (sym tag_same) held.number;
-      count = subst (λ (n : ℕ). n ≤ 24) (sym count_same) held.count;
-      continued = λ k low high. continues_same held k low (subst (λ (n : ℕ). k < cells_for n) count_same high);
-      distinct = subst HasDistinctPlaces (sym writes_same) held.distinct;
-    }
+    head = ap kind_of tag_same ∙ held.head;
+    number = subst (λ (t : ℕ). IsNumber (number_of t)) (sym tag_same) held.number;
+    count = subst (λ (n : ℕ). n ≤ 24) (sym count_same) held.count;
+    continued = λ k low high. continues_same held k low (subst (λ (n : ℕ). k < cells_for n) count_same high);
+    distinct = subst HasDistinctPlaces (sym writes_same) held.distinct;
+  }
 
   pub complete_same : {s : Sizes} → HoldComplete s cells → HoldComplete s others
   complete_same {s} held = record {
-      whole = holds_same held.whole;
-      home = subst (λ (ws : List Write). All (λ w. w.at < s.pages * 64) ws) (sym writes_same) held.home;
-    }
+    whole = holds_same held.whole;
+    home = subst (λ (ws : List Write). All (λ w. w.at < s.pages * 64) ws) (sym writes_same) held.home;
+  }

@@ -1,5 +1,5 @@
 -- What `decode` finds in a slice of cells.
-use Rattle.std.proofs.Common.{◌≡◌, ◌≢◌, ℕ, ◌+◌, ◌-◌, ◌*◌, ◌/◌, ◌%◌, ◌^◌, ◌<◌, ◌≤◌, max, List, [], ◌∷◌, ◌++◌, length, map, get_or, slice_index, true, false, true≢false, Option, None, is_some, refl, sym, ap, ◌∙◌, subst, arith, All, Result, Ok, Err, IfOk, OnErr}
+use Rattle.std.proofs.Common.{◌≡◌, ◌≢◌, ℕ, ◌+◌, ◌*◌, ◌%◌, ◌^◌, ◌<◌, ◌≤◌, List, [], ◌∷◌, ◌++◌, map, get_or, slice_index, true, true≢false, None, is_some, sym, ap, ◌∙◌, subst, arith, All, Result, Ok, Err, IfOk, OnErr}
 use Rattle.std.specs.List.{range_with_len}
 use Rattle.std.proofs.lemmas.List.FromFn.{length-map-range_with_len, get_or-map-range_with_len, map-range_with_len_more}
 use Rattle.std.proofs.lemmas.List.Quantifiers.{all_pairs_push}
@@ -7,7 +7,7 @@ use Rattle.dude_base.specs.declared.write.Write.{Write}
 use Rattle.dude_base.specs.Records.{RedoRecord}
 use Rattle.dude_base.specs.Writes.{written, put_write, HasDistinctPlaces}
 use Rattle.dude_base.proofs.WriteLists.{written_absent, absent_written, put_absent}
-use Rattle.redo_record.specs.Record.{cells_for, write_of, writes_of, record_of, HoldRecord}
+use Rattle.redo_record.specs.Record.{cells_for, write_of, record_of}
 use Rattle.redo_record.specs.declared.bad_record.BadRecord.{BadRecord}
 use Rattle.redo_record.specs.Encoding.{cells_in, encoded_cells, IsEncodable, IsRecordSlice}
 use Rattle.redo_record.specs.Decoding.{HasHeadFor, Continues}
@@ -31,8 +31,8 @@ module _ (cells : ℕ → ℕ → ℕ) where
       let absent = absent_written ws w.at new in
       let put : put_write ws w ≡ ws ++ w ∷ [] = put_absent ws w absent in
       let whole : ws ++ w ∷ [] ≡ map (write_of cells) (range_with_len 0 (i + 1)) =
-          ap (λ (l : List Write). l ++ w ∷ []) front ∙ (ap (λ (v : Write). map (write_of cells) (range_with_len 0 i) ++ v ∷ []) is
-          ∙ sym (map-range_with_len_more (write_of cells) 0 i i (omega arith))) in
+      ap (λ (l : List Write). l ++ w ∷ []) front ∙ (ap (λ (v : Write). map (write_of cells) (range_with_len 0 i) ++ v ∷ []) is
+      ∙ sym (map-range_with_len_more (write_of cells) 0 i i (omega arith))) in
       (put ∙ whole, subst HasDistinctPlaces (sym put) (all_pairs_push (λ v u. v.at ≢ u.at) ws w distinct absent))
 
   -- a place that was read before isn't distinct
@@ -41,15 +41,16 @@ module _ (cells : ℕ → ℕ → ℕ) where
   read_twice count i w distinct lt is there =
       let none = written_absent (map (write_of cells) (range_with_len 0 i)) w.at other in
       true≢false (sym there ∙ ap is_some none)
-      where
-        at_all : (j : ℕ) (d : Write) → j < count → get_or (map (write_of cells) (range_with_len 0 count)) j d ≡ write_of cells j
-        at_all j d small = get_or-map-range_with_len (write_of cells) 0 count j j d small (omega arith)
-        other : All (λ v. v.at ≢ w.at) (map (write_of cells) (range_with_len 0 i))
-        other j d below same =
-            let before : j < i = omega (arith, length-map-range_with_len (write_of cells) 0 i) in
-            let front : get_or (map (write_of cells) (range_with_len 0 i)) j d ≡ write_of cells j = get_or-map-range_with_len (write_of cells) 0 i j j d before (omega arith) in
-            distinct j i d before (omega (arith, length-map-range_with_len (write_of cells) 0 count))
-              (ap (λ (v : Write). v.at) (at_all j d (omega arith) ∙ sym front) ∙ (same ∙ ap (λ (v : Write). v.at) (is ∙ sym (at_all i d lt))))
+    where
+      at_all : (j : ℕ) (d : Write) → j < count → get_or (map (write_of cells) (range_with_len 0 count)) j d ≡ write_of cells j
+      at_all j d small = get_or-map-range_with_len (write_of cells) 0 count j j d small (omega arith)
+
+      other : All (λ v. v.at ≢ w.at) (map (write_of cells) (range_with_len 0 i))
+      other j d below same =
+          let before : j < i = omega (arith, length-map-range_with_len (write_of cells) 0 i) in
+          let front : get_or (map (write_of cells) (range_with_len 0 i)) j d ≡ write_of cells j = get_or-map-range_with_len (write_of cells) 0 i j j d before (omega arith) in
+          distinct j i d before (omega (arith, length-map-range_with_len (write_of cells) 0 count))
+          (ap (λ (v : Write). v.at) (at_all j d (omega arith) ∙ sym front) ∙ (same ∙ ap (λ (v : Write). v.at) (is ∙ sym (at_all i d lt))))
 
 -- the slice is that of a record, whose writes these are
 pub slice_is_record : (words : List ℕ) (count : ℕ) → HasHeadFor words count → Continues words (cells_for count)

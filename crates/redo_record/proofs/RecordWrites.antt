@@ -1,5 +1,5 @@
 -- What the writes of a record's cells put at each place.
-use Rattle.std.proofs.Common.{◌≡◌, ◌≢◌, ◌⊎◌, inl, inr, ⊎_elim, ℕ, zero, suc, ◌+◌, ◌-◌, ◌*◌, ◌/◌, ◌%◌, ◌<◌, ◌≤◌, max, List, [], ◌∷◌, ◌++◌, length, drop, flat_map, slice_index, refl, sym, ap, ◌∙◌, subst, arith, append-nil, eq-eqb, ne_eqb}
+use Rattle.std.proofs.Common.{◌≡◌, ◌≢◌, ⊎_elim, ℕ, zero, suc, ◌+◌, ◌-◌, ◌<◌, ◌≤◌, List, [], ◌∷◌, ◌++◌, length, drop, flat_map, slice_index, refl, sym, ap, ◌∙◌, arith, append-nil, eq-eqb, ne_eqb}
 use Rattle.std.specs.List.{range_with_len}
 use Rattle.std.proofs.lemmas.Bool.{cases_eq}
 use Rattle.dude_base.specs.declared.sizes.Sizes.{Sizes}
@@ -44,13 +44,13 @@ module _ (f : ℕ → List (ℕ × ℕ)) (i : ℕ) where
   flat_one a zero k low high others = absurd (omega arith)
   flat_one a (suc n) k low high others =
       written-append (f a) (flat_map f (range_with_len (a + 1) n)) i ∙ ⊎_elim
-        (λ (is : a ≡ k).
-          ap (λ (l : List ℕ). written (f a) i ++ l) (flat_none (a + 1) n (λ m from below. others m (omega arith) (omega arith) (omega arith)))
-          ∙ (append-nil (written (f a) i) ∙ ap (λ (m : ℕ). written (f m) i) is))
-        (λ (ne : a ≢ k).
-          ap (λ (l : List ℕ). l ++ written (flat_map f (range_with_len (a + 1) n)) i) (others a (omega arith) (omega arith) ne)
-          ∙ flat_one (a + 1) n k (omega arith) (omega arith) (λ m from below other. others m (omega arith) (omega arith) other))
-        (cases_eq a k)
+      (λ (is : a ≡ k).
+      ap (λ (l : List ℕ). written (f a) i ++ l) (flat_none (a + 1) n (λ m from below. others m (omega arith) (omega arith) (omega arith)))
+      ∙ (append-nil (written (f a) i) ∙ ap (λ (m : ℕ). written (f m) i) is))
+      (λ (ne : a ≢ k).
+      ap (λ (l : List ℕ). l ++ written (flat_map f (range_with_len (a + 1) n)) i) (others a (omega arith) (omega arith) ne)
+      ∙ flat_one (a + 1) n k (omega arith) (omega arith) (λ m from below other. others m (omega arith) (omega arith) other))
+      (cases_eq a k)
 
 -- the writes of a record
 module _ (s : Sizes) (head : Cell) (is_cell : IsCell s head) (r : RedoRecord) (few : cells_for (length r.writes) ≤ s.cells) where
@@ -63,20 +63,20 @@ module _ (s : Sizes) (head : Cell) (is_cell : IsCell s head) (r : RedoRecord) (f
   body_elsewhere i other =
       written-append (words_from (front_of s head + 1) (drop 1 (encoded r 0))) (flat_map (cell_writes s head r) (range_with_len 1 (cells_for (length r.writes) - 1))) i
       ∙ (ap (λ (l : List ℕ). l ++ written (flat_map (cell_writes s head r) (range_with_len 1 (cells_for (length r.writes) - 1))) i)
-        (words_outside (front_of s head + 1) (drop 1 (encoded r 0)) i (λ j lt is. other 0 (suc j) (omega arith) (omega arith) (is ∙ (step j ∙ sym (first_cell s head is_cell (suc j))))))
+      (words_outside (front_of s head + 1) (drop 1 (encoded r 0)) i (λ j lt is. other 0 (suc j) (omega arith) (omega arith) (is ∙ (step j ∙ sym (first_cell s head is_cell (suc j))))))
       ∙ flat_none (cell_writes s head r) i 1 (cells_for (length r.writes) - 1)
-        (λ k low high. words_outside (front_of s (cell_after s head k)) (encoded r k) i (λ j lt is. other k j (omega arith) lt is)))
-      where
-        step : (j : ℕ) → front_of s head + 1 + j ≡ front_of s head + suc j
-        step j = omega arith
+      (λ k low high. words_outside (front_of s (cell_after s head k)) (encoded r k) i (λ j lt is. other k j (omega arith) lt is)))
+    where
+      step : (j : ℕ) → front_of s head + 1 + j ≡ front_of s head + suc j
+      step j = omega arith
 
   -- the head's words but its tag, from a place of another cell
   head_outside : (k j : ℕ) → k < cells_for (length r.writes) → j < 8 → 1 ≤ k → written (words_from (front_of s head + 1) (drop 1 (encoded r 0))) (word_place s head k j) ≡ []
   head_outside k j a small low = words_outside (front_of s head + 1) (drop 1 (encoded r 0)) (word_place s head k j)
       (λ i lt same.
-        let step : front_of s head + 1 + i ≡ front_of s head + suc i = omega arith in
-        let zero_is = (places_same s head is_cell (cells_for (length r.writes)) few k 0 j (suc i) a (omega arith) small (omega arith) (same ∙ (step ∙ sym (first_cell s head is_cell (suc i))))).0 in
-        omega arith)
+      let step : front_of s head + 1 + i ≡ front_of s head + suc i = omega arith in
+      let zero_is = (places_same s head is_cell (cells_for (length r.writes)) few k 0 j (suc i) a (omega arith) small (omega arith) (same ∙ (step ∙ sym (first_cell s head is_cell (suc i))))).0 in
+      omega arith)
 
   -- a word of a continuation
   pub body_word : (k j : ℕ) → k < cells_for (length r.writes) → j < 8 → 1 ≤ k → written (body_writes s head r) (word_place s head k j) ≡ slice_index (encoded r k) j ∷ []

@@ -1,7 +1,6 @@
 -- A ring that fits, under a group of writes that stays in the cells of one new record: what its heads are, in each image
 -- on the way and in the state after it.
-use Rattle.std.proofs.Common.{◌≡◌, ◌≢◌, ◌⊎◌, inl, inr, ⊎_elim, ℕ, zero, suc, ◌+◌, ◌-◌, ◌*◌, ◌/◌, ◌%◌, ◌<◌, ◌≤◌, max, List, [], ◌∷◌, ◌++◌, length, get_or, slice_index, refl, sym, ap, ◌∙◌, subst, arith, All}
-use Rattle.std.proofs.lemmas.Bool.{cases_eq}
+use Rattle.std.proofs.Common.{◌≡◌, ◌⊎◌, inl, inr, ℕ, suc, ◌+◌, ◌*◌, ◌%◌, ◌<◌, ◌≤◌, List, [], ◌∷◌, ◌++◌, length, get_or, slice_index, refl, sym, ap, ◌∙◌, subst, arith, All}
 use Rattle.std.proofs.lemmas.List.Elements.{All-append}
 use Rattle.dude_base.specs.declared.sizes.Sizes.{Sizes}
 use Rattle.dude_base.specs.Image.{image_words}
@@ -9,12 +8,12 @@ use Rattle.dude_base.specs.Records.{RedoRecord}
 use Rattle.pmem_trait.specs.Words.{Word, Point, IsIn, MayBe, still, after_all}
 use Rattle.pmem_trait.specs.Groups.{group_calls, written, OldOrNew}
 use Rattle.pmem_trait.proofs.GroupLaw.{group_word}
-use Rattle.redo_record.specs.Tags.{kind_of, number_of, head_tag, IsHeadOver}
-use Rattle.redo_record.specs.Cells.{Cell, IsCell, cell_after, front_of, word_place}
-use Rattle.redo_record.specs.Record.{cells_for, count_of, record_of, HoldComplete}
+use Rattle.redo_record.specs.Tags.{number_of, IsHeadOver}
+use Rattle.redo_record.specs.Cells.{Cell, IsCell, front_of, word_place}
+use Rattle.redo_record.specs.Record.{cells_for, count_of, record_of}
 use Rattle.redo_record.specs.Images.{mark_of, tag_of, cells_from, IsComplete, IsNewHead}
-use Rattle.redo_record.specs.Fits.{Logged, head_of, HasHead, IsStill, settled_mark, settled_cells, Stands, FitsRing, AreFree}
-use Rattle.redo_record.specs.AppendLaw.{CanAppend, IsElsewhere, HeadsHold}
+use Rattle.redo_record.specs.Fits.{Logged, head_of, HasHead, IsStill, settled_mark, settled_cells, Stands, FitsRing}
+use Rattle.redo_record.specs.AppendLaw.{CanAppend, IsElsewhere}
 use Rattle.redo_record.proofs.HeldRecords.{AreSame, complete_same, count_same, tag_same}
 use Rattle.redo_record.proofs.CellPlaces.{words_same, word_inside, first_cell}
 use Rattle.redo_record.proofs.GroupWords.{group_may}
@@ -23,11 +22,11 @@ use Rattle.redo_record.proofs.GroupWords.{group_may}
 pub kept_word : {len : ℕ} {q : Point} {ws : List (ℕ × ℕ)} {image : List ℕ} → OldOrNew len q ws image → (i x : ℕ) → i < len → written ws i ≡ [] → q.word i ≡ still x → slice_index image i ≡ x
 kept_word {q = q} {ws = ws} {image = image} mix i x below none is =
     only (written ws i) none (subst (λ (w : Word). MayBe w (slice_index image i) ⊎ IsIn (slice_index image i) (written ws i)) is (mix.each i below))
-    where
-      only : (l : List ℕ) → l ≡ [] → MayBe (still x) (slice_index image i) ⊎ IsIn (slice_index image i) l → slice_index image i ≡ x
-      only l empty (inl (inl e)) = e
-      only l empty (inl (inr h)) = absurd h
-      only l empty (inr h) = absurd (subst (IsIn (slice_index image i)) empty h)
+  where
+    only : (l : List ℕ) → l ≡ [] → MayBe (still x) (slice_index image i) ⊎ IsIn (slice_index image i) l → slice_index image i ≡ x
+    only l empty (inl (inl e)) = e
+    only l empty (inl (inr h)) = absurd h
+    only l empty (inr h) = absurd (subst (IsIn (slice_index image i)) empty h)
 
 -- a word is still where it is settled at some value
 pub is_still : {w : Word} {x : ℕ} → w ≡ still x → IsStill w
@@ -38,7 +37,8 @@ pub stands_by : {s : Sizes} {ring : ℕ} {p q : Point} {l : Logged} → Stands s
     → ((k j : ℕ) → k < l.cells → j < 8 → q.word (word_place s (head_of ring l) k j) ≡ still (settled_cells s p (head_of ring l) k j)) → Stands s ring q l
 stands_by {s} {ring} {p} {q} {l} stands stay =
     let same : AreSame (settled_cells s p (head_of ring l)) (settled_cells s q (head_of ring l)) (cells_for (count_of (settled_cells s p (head_of ring l)))) = record {
-        word = λ k j lt small. ap (λ (w : Word). w.settled) (stay k j (subst (λ (n : ℕ). k < n) stands.same_cells lt) small) } in
+      word = λ k j lt small. ap (λ (w : Word). w.settled) (stay k j (subst (λ (n : ℕ). k < n) stands.same_cells lt) small);
+    } in
     record {
       still_words = λ k j lt small. is_still (stay k j lt small);
       complete = complete_same same stands.complete;
@@ -98,10 +98,11 @@ module _ (s : Sizes) (head : Cell) (r : RedoRecord) (logged : List Logged) (rele
           → IsComplete s image (head_of head.ring l)
       stands_complete l is_cell stands apart =
           let same : AreSame (settled_cells s q (head_of head.ring l)) (cells_from s image (head_of head.ring l)) (cells_for (count_of (settled_cells s q (head_of head.ring l)))) = record {
-              word = λ k j lt small.
+            word = λ k j lt small.
                 let below : k < l.cells = subst (λ (n : ℕ). k < n) stands.same_cells lt in
                 let inside = word_inside s (head_of head.ring l) is_cell k j small in
-                kept_word mix (word_place s (head_of head.ring l) k j) _ (omega arith) (outside _ (logged_elsewhere l apart k j below small)) (stands.still_words k j below small) } in
+                kept_word mix (word_place s (head_of head.ring l) k j) _ (omega arith) (outside _ (logged_elsewhere l apart k j below small)) (stands.still_words k j below small);
+          } in
           complete_same same stands.complete
 
       -- a head that isn't new is complete
@@ -125,18 +126,18 @@ module _ (s : Sizes) (head : Cell) (r : RedoRecord) (logged : List Logged) (rele
           let inside = word_inside s other new.cell 0 0 (omega arith) in
           let at = first_cell s other new.cell 0 in
           by over (mix.each (front_of s other) (omega arith))
-          where
-            by : IsHeadOver (settled_mark q) (tag_of s image other)
-                → MayBe (q.word (front_of s other)) (tag_of s image other) ⊎ IsIn (tag_of s image other) (written ws (front_of s other))
-                → IsComplete s image other × (HasHead (number_of (tag_of s image other)) other.place logged ⊎ ((other ≡ head) × (record_of (cells_from s image other) ≡ r)))
-            by over (inl may) =
-                let same : record { ring = head.ring; place = other.place } ≡ other = cell_is (record { ring = head.ring; place = other.place }) other (sym ring) refl in
-                let has = fits.heads other.place (tag_of s image other) new.cell.place_is
-                    (subst (λ (c : Cell). MayBe (q.word (front_of s c)) (tag_of s image other)) (sym same) may) over in
-                (old_head other ring new.cell over has, inl has)
-            by over (inr written_there) =
-                let it = fresh other ring new.cell written_there over in
-                (it.1, inr (it.0, it.2))
+        where
+          by : IsHeadOver (settled_mark q) (tag_of s image other)
+              → MayBe (q.word (front_of s other)) (tag_of s image other) ⊎ IsIn (tag_of s image other) (written ws (front_of s other))
+              → IsComplete s image other × (HasHead (number_of (tag_of s image other)) other.place logged ⊎ ((other ≡ head) × (record_of (cells_from s image other) ≡ r)))
+          by over (inl may) =
+              let same : record { ring = head.ring; place = other.place } ≡ other = cell_is (record { ring = head.ring; place = other.place }) other (sym ring) refl in
+              let has = fits.heads other.place (tag_of s image other) new.cell.place_is
+              (subst (λ (c : Cell). MayBe (q.word (front_of s c)) (tag_of s image other)) (sym same) may) over in
+              (old_head other ring new.cell over has, inl has)
+          by over (inr written_there) =
+              let it = fresh other ring new.cell written_there over in
+              (it.1, inr (it.0, it.2))
 
     -- The state after the group.
     module _ (ls : List ℕ) where
@@ -171,9 +172,9 @@ module _ (s : Sizes) (head : Cell) (r : RedoRecord) (logged : List Logged) (rele
                 let was : settled_mark q < (get_or logged k d).number = subst (λ (m : ℕ). m < (get_or logged k d).number) same_mark over in
                 stands_stays (get_or logged k d) (can.free k d lt was) (fits.records k d lt was)) stand;
           }
-          where
-            by : (place tag : ℕ) → place < s.cells → IsHeadOver (settled_mark q) tag
-                → MayBe (q.word (front_of s (record { ring = head.ring; place = place }))) tag ⊎ IsIn tag (written ws (front_of s (record { ring = head.ring; place = place })))
-                → HasHead (number_of tag) place (logged ++ more)
-            by place tag below over (inl may) = head_before (number_of tag) place logged more (fits.heads place tag below may over)
-            by place tag below over (inr is) = added place tag below is over
+        where
+          by : (place tag : ℕ) → place < s.cells → IsHeadOver (settled_mark q) tag
+              → MayBe (q.word (front_of s (record { ring = head.ring; place = place }))) tag ⊎ IsIn tag (written ws (front_of s (record { ring = head.ring; place = place })))
+              → HasHead (number_of tag) place (logged ++ more)
+          by place tag below over (inl may) = head_before (number_of tag) place logged more (fits.heads place tag below may over)
+          by place tag below over (inr is) = added place tag below is over

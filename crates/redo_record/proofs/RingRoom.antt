@@ -1,13 +1,11 @@
 -- Room in a ring, and rings that still fit.
-use Rattle.std.proofs.Common.{◌≡◌, ◌⊎◌, inl, inr, ⊎_elim, ℕ, zero, suc, ◌+◌, ◌-◌, ◌*◌, ◌%◌, ◌<◌, ◌≤◌, max, List, [], ◌∷◌, ◌++◌, length, get_or, refl, sym, ap, ◌∙◌, subst, arith, All}
+use Rattle.std.proofs.Common.{◌≡◌, inl, inr, ℕ, ◌+◌, ◌%◌, ◌<◌, ◌≤◌, List, [], ◌∷◌, ◌++◌, get_or, sym, ap, ◌∙◌, subst, arith, All}
 use Rattle.std.proofs.Math.Nat.{mod-eq_of_lt, mod-lt}
 use Rattle.std.proofs.lemmas.List.Elements.{All-cons, All-nil, All-head, All-tail}
 use Rattle.std.proofs.lemmas.List.Sums.{sum_by-cons}
 use Rattle.dude_base.specs.declared.sizes.Sizes.{Sizes}
-use Rattle.pmem_trait.specs.Words.{Word, Point, MayBe, still}
-use Rattle.redo_record.specs.Tags.{number_of, IsHeadOver}
-use Rattle.redo_record.specs.Cells.{front_of, word_place}
-use Rattle.redo_record.specs.Fits.{Logged, head_of, HasHead, IsStill, settled_mark, settled_cells, Stands, FitsRing, AreFree, cells_used, FollowFrom}
+use Rattle.redo_record.specs.Tags.{number_of}
+use Rattle.redo_record.specs.Fits.{Logged, HasHead, settled_mark, Stands, AreFree, cells_used, FollowFrom}
 use Rattle.redo_record.specs.RingLaws.{place_after, LawOfRoom, LawOfFollowing, LawOfRelease, LawOfRest}
 use Rattle.redo_record.proofs.CellPlaces.{steps_same, steps_more}
 use Rattle.redo_record.proofs.RingHeads.{stands_by}
@@ -22,12 +20,12 @@ module _ (s : Sizes) (place : ℕ) (below : place < s.cells) where
     free_from at offset (l ∷ ls) is sum follow =
         let used = used_more l ls in
         All-cons (λ (l : Logged). mark < l.number → (i k : ℕ) → i < l.cells → k < n → (l.first + i) % s.cells ≡ ((place + total) % s.cells + k) % s.cells → ⊥) l ls
-          (λ over i k lt small same.
-            let first : (l.first + i) % s.cells ≡ (place + (offset + i)) % s.cells = ap (λ x. (x + i) % s.cells) (follow.0 ∙ is) ∙ steps_more s.cells place offset i in
-            let last : ((place + total) % s.cells + k) % s.cells ≡ (place + (total + k)) % s.cells = steps_more s.cells place total k in
-            let one = steps_same s.cells place (offset + i) (total + k) below (omega arith) (omega arith) (sym first ∙ (same ∙ last)) in
-            omega arith)
-          (free_from ((at + l.cells) % s.cells) (offset + l.cells) ls (ap (λ x. (x + l.cells) % s.cells) is ∙ steps_more s.cells place offset l.cells) (omega arith) follow.1)
+        (λ over i k lt small same.
+        let first : (l.first + i) % s.cells ≡ (place + (offset + i)) % s.cells = ap (λ x. (x + i) % s.cells) (follow.0 ∙ is) ∙ steps_more s.cells place offset i in
+        let last : ((place + total) % s.cells + k) % s.cells ≡ (place + (total + k)) % s.cells = steps_more s.cells place total k in
+        let one = steps_same s.cells place (offset + i) (total + k) below (omega arith) (omega arith) (sym first ∙ (same ∙ last)) in
+        omega arith)
+        (free_from ((at + l.cells) % s.cells) (offset + l.cells) ls (ap (λ x. (x + l.cells) % s.cells) is ∙ steps_more s.cells place offset l.cells) (omega arith) follow.1)
 
   pub room_is_free : (n mark : ℕ) (logged : List Logged) → FollowFrom s place logged → cells_used logged + n ≤ s.cells → AreFree s mark (place_after s place (cells_used logged)) n logged
   room_is_free n mark logged follow room =
@@ -39,16 +37,18 @@ room_law s place n mark logged below follow room = room_is_free s place below n 
 pub follow_more : (s : Sizes) (place : ℕ) → place < s.cells → (logged : List Logged) (next : Logged) → FollowFrom s place logged → next.first ≡ (place + cells_used logged) % s.cells → FollowFrom s place (logged ++ next ∷ [])
 follow_more s place below [] next follow at = (at ∙ (ap (λ x. x % s.cells) (omega arith) ∙ mod-eq_of_lt below), tt)
 follow_more s place below (l ∷ ls) next follow at =
-    let used = used_more l ls in
-    (follow.0, follow_more s ((place + l.cells) % s.cells) (mod-lt (place + l.cells) (omega arith)) ls next follow.1
-      (at ∙ (ap (λ x. (place + x) % s.cells) used ∙ sym (steps_more s.cells place l.cells (cells_used ls)))))
+    let used = used_more l ls in (
+      follow.0,
+      follow_more s ((place + l.cells) % s.cells) (mod-lt (place + l.cells) (omega arith)) ls next follow.1
+          (at ∙ (ap (λ x. (place + x) % s.cells) used ∙ sym (steps_more s.cells place l.cells (cells_used ls)))),
+    )
 
 pub follow_rest : (s : Sizes) (place : ℕ) → place < s.cells → (gone rest : List Logged) → FollowFrom s place (gone ++ rest) → FollowFrom s ((place + cells_used gone) % s.cells) rest
 follow_rest s place below [] rest follow = subst (λ x. FollowFrom s x rest) (sym (ap (λ x. x % s.cells) (omega arith) ∙ mod-eq_of_lt below)) follow
 follow_rest s place below (l ∷ ls) rest follow =
     let used = used_more l ls in
     subst (λ x. FollowFrom s x rest) (steps_more s.cells place l.cells (cells_used ls) ∙ ap (λ x. (place + x) % s.cells) (sym used))
-      (follow_rest s ((place + l.cells) % s.cells) (mod-lt (place + l.cells) (omega arith)) ls rest follow.1)
+    (follow_rest s ((place + l.cells) % s.cells) (mod-lt (place + l.cells) (omega arith)) ls rest follow.1)
 
 pub following_law : LawOfFollowing
 following_law s place below = (follow_more s place below, follow_rest s place below)

@@ -1,5 +1,5 @@
 -- The law of append, over states of the medium and lists of calls alone.
-use Rattle.std.specs.Prelude.{◌≡◌, ◌⊎◌, ℕ, ◌+◌, ◌*◌, ◌<◌, ◌≤◌, List, [], ◌∷◌, ◌++◌, All, length, slice_index}
+use Rattle.std.specs.Prelude.{◌≡◌, ◌⊎◌, ℕ, ◌*◌, ◌<◌, ◌≤◌, List, [], ◌∷◌, ◌++◌, All, length, slice_index}
 use Rattle.dude_base.specs.declared.limits.TheConstants.{LINE, PAGE}
 use Rattle.dude_base.specs.declared.sizes.Sizes.{Sizes}
 use Rattle.dude_base.specs.Sizes.{IsAccepted}
@@ -56,5 +56,5 @@ LawOfAppend = (s : Sizes) (logged : List Logged) (released : ℕ) (head : Cell) 
     → image_words s ≤ len → FitsRing s head.ring logged released p → CanAppend s (settled_mark p) logged head r
     → Along (Leaves len (HeadsHold s logged head r p)) p (append_calls s head r)
     × ((front : List Call) (last : Call) (rest : List Call) (q : Point) → append_calls s head r ≡ front ++ last ∷ rest
-        → HalfDone last (after_all front p) q → Leaves len (HeadsHold s logged head r p) q)
+    → HalfDone last (after_all front p) q → Leaves len (HeadsHold s logged head r p) q)
     × Appended s logged released head r p (after_all (append_calls s head r) p)

@@ -1,5 +1,5 @@
 -- When a ring fits a medium: what the medium's words have to be, of words alone and not of images.
-use Rattle.std.specs.Prelude.{◌≡◌, ◌⊎◌, ℕ, ◌+◌, ◌%◌, ◌<◌, ◌≤◌, List, [], ◌∷◌, ◌++◌, All, sum_by}
+use Rattle.std.specs.Prelude.{◌≡◌, ◌⊎◌, ℕ, ◌+◌, ◌%◌, ◌<◌, ◌≤◌, List, [], ◌∷◌, All, sum_by}
 use Rattle.dude_base.specs.declared.limits.TheConstants.{LINE, MARK}
 use Rattle.dude_base.specs.declared.sizes.Sizes.{Sizes}
 use Rattle.pmem_trait.specs.Words.{Word, Point, MayBe, still}

@@ -1,6 +1,6 @@
 -- An image read by its words: sizes, mark, home, and the cells of its rings.
-use Rattle.std.specs.Prelude.{◌≡◌, ℕ, ◌+◌, ◌*◌, List, slice_index, slice_range}
-use Rattle.dude_base.specs.declared.limits.TheConstants.{MARK, PAGE}
+use Rattle.std.specs.Prelude.{ℕ, List, slice_index, slice_range}
+use Rattle.dude_base.specs.declared.limits.TheConstants.{MARK}
 use Rattle.dude_base.specs.declared.sizes.Sizes.{Sizes}
 use Rattle.dude_base.specs.Image.{home_word, image_words}
 use Rattle.redo_record.specs.Tags.{IsHeadOver}
@@ -10,8 +10,12 @@ use Rattle.redo_record.specs.Record.{HoldComplete}
 -- the sizes that an image names
 abbrev pub sizes_of : List ℕ → Sizes
 sizes_of image = record {
-    subscribers = slice_index image 2; calls = slice_index image 3; rings = slice_index image 4;
-    cells = slice_index image 5; pages = slice_index image 6 }
+  subscribers = slice_index image 2;
+  calls = slice_index image 3;
+  rings = slice_index image 4;
+  cells = slice_index image 5;
+  pages = slice_index image 6;
+}
 
 -- the number up to which the home has all writes
 abbrev pub mark_of : List ℕ → ℕ

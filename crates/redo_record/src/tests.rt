@@ -48,7 +48,10 @@ fn continuations_have_their_index(rt: HostRuntime) -> Result<(), Fail> {
     assert_eq!(rt; cells_of(&redo), 2);
     let mut cell = [9; 8];
     encode(&redo, 1, &mut cell);
-    assert_eq!(rt; cell, [9_223_372_036_854_775_810, 1, 3, u64::MAX - 3, 0, 0, 0, 0]);
+    assert_eq!(rt;
+        cell,
+        [9_223_372_036_854_775_810, 1, 3, u64::MAX - 3, 0, 0, 0, 0]
+    );
     Ok(())
 }
 

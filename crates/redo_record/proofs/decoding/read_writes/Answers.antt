@@ -1,4 +1,4 @@
-use Rattle.std.proofs.Common.{◌≡◌, ◌<◌, ℕ, length, List, None, is_some, refl, sym, ◌∙◌, ap, subst, arith, map, true}
+use Rattle.std.proofs.Common.{◌≡◌, length, List, None, is_some, refl, sym, ◌∙◌, ap, subst, arith, map, true}
 use Rattle.std.specs.List.{range_with_len}
 use Rattle.std.proofs.lemmas.List.FromFn.{length-map-range_with_len}
 use Rattle.dude_base.specs.declared.write.Write.{Write}
@@ -15,7 +15,7 @@ pub returns-then-is_some-clause-bad : goal.returns-then-is_some-clause-bad
 returns-then-is_some-clause-bad c slice =
     let w = c.write_in-w.result in
     let there : is_some (written (map (write_of (cells_in c.args.cells.now)) (range_with_len 0 c.loop-i.i)) w.at) ≡ true =
-        ap (λ (ws : List Write). is_some (written ws w.at)) (sym c.loop-i.invariant.0) ∙ (ap is_some (sym c.find.ensures) ∙ (sym c.is_some.ensures ∙ c.if-is_some.true)) in
+    ap (λ (ws : List Write). is_some (written ws w.at)) (sym c.loop-i.invariant.0) ∙ (ap is_some (sym c.find.ensures) ∙ (sym c.is_some.ensures ∙ c.if-is_some.true)) in
     read_twice (cells_in c.args.cells.now) c.args.count c.loop-i.i w (slice_distinct c.args.cells.now c.args.count c.requires slice) c.loop-i-test.true c.write_in-w.ensures there
 
 pub returns-in_err-put-clause-bad : goal.returns-in_err-put-clause-bad

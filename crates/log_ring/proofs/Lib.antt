@@ -1,0 +1,5 @@
+pub mod AppendMakes
+pub mod HeadsAtRest
+pub mod Laid
+pub mod RingCalls
+pub mod Released

@@ -1,0 +1,51 @@
+-- What contracts see of a ring.
+use Rattle.std.specs.Prelude.{ℕ, ◌+◌, ◌%◌, ◌<◌, max, nat_lt, List, [], ◌∷◌, ◌++◌, length}
+use Rattle.std.specs.List.{filter}
+use Rattle.dude_base.specs.declared.limits.TheConstants.{MARK}
+use Rattle.dude_base.specs.declared.sizes.Sizes.{Sizes}
+use Rattle.dude_base.specs.Records.{RedoRecord}
+use Rattle.pmem_trait.specs.Words.{Point, MayBe}
+use Rattle.redo_record.specs.Tags.{IsHeadOver}
+use Rattle.redo_record.specs.Cells.{Cell, front_of}
+use Rattle.redo_record.specs.Record.{cells_for}
+use Rattle.redo_record.specs.Fits.{Logged, FitsRing, IsStill, settled_mark}
+
+-- A ring: the sizes of its image, its number among the rings, its records, the oldest first, the place where the next
+-- one's head will stand, and the greatest number released.
+pub record RingState : Type 0 where
+  pub sizes : Sizes
+  pub ring : ℕ
+  pub logged : List Logged
+  pub next : ℕ
+  pub released : ℕ
+
+-- the cell at this place of a ring
+abbrev pub cell_at : ℕ → ℕ → Cell
+cell_at ring place = record { ring = ring; place = place }
+
+-- the cell of the next record's head
+abbrev pub next_head : RingState → Cell
+next_head v = cell_at v.ring v.next
+
+-- the ring fits the medium at this state
+abbrev pub Fits : RingState → Point → Type 0
+Fits v p = FitsRing v.sizes v.ring v.logged v.released p
+
+-- the ring with a record of this number and so many cells behind its others
+abbrev pub with_entry : ℕ → ℕ → RingState → RingState
+with_entry number cells v = record v {
+    logged = v.logged ++ record { number = number; first = v.next; cells = cells } ∷ [];
+    next = (v.next + cells) % v.sizes.cells }
+
+-- the ring with this record behind its others
+abbrev pub with_record : RedoRecord → RingState → RingState
+with_record r v = with_entry r.number (cells_for (length r.writes)) v
+
+-- the ring with no record numbered up to n
+abbrev pub released_to : ℕ → RingState → RingState
+released_to n v = record v { logged = filter (λ l. nat_lt n l.number) v.logged; released = max v.released n }
+
+-- The mark is settled, and a crash leaves no head over it in this ring.
+pub record HasNoNewHead (s : Sizes) (ring : ℕ) (p : Point) : Type 0 where
+  pub mark : IsStill (p.word MARK)
+  pub none : (place tag : ℕ) → place < s.cells → MayBe (p.word (front_of s (cell_at ring place))) tag → IsHeadOver (settled_mark p) tag → ⊥

@@ -1,0 +1,236 @@
+//! The calls on the medium that append one record.
+
+ghost use Rattle.std.specs.Prelude.{◌≡◌, ◌+◌, ◌*◌, ◌-◌, ◌%◌, ◌^◌, ◌<◌, ◌≤◌, [], ◌∷◌, length, drop, flat_map, is_ok};
+ghost use Rattle.std.specs.List.{range_with_len};
+ghost use Rattle.dude_base.specs.Image.{image_words};
+ghost use Rattle.pmem_trait.specs.Sights.{Makes};
+ghost use Rattle.pmem_trait.specs.Groups.{put_pairs, flush_lines, group_calls};
+ghost use Rattle.redo_record.specs.Tags.{IsNumber};
+ghost use Rattle.redo_record.specs.Cells.{cell_after, front_of, line_of};
+ghost use Rattle.redo_record.specs.Record.{cells_for};
+ghost use Rattle.redo_record.specs.Encoding.{encoded};
+ghost use Rattle.redo_record.specs.Calls.{words_from, cell_writes, body_writes, lines_from, tag_write, append_calls};
+ghost use Rattle.log_ring.specs.Ring.{cell_at};
+
+use dude_base::limits::LINE;
+use dude_base::place::Place;
+use dude_base::redo::Redo;
+use pmem_trait::{Failed, Medium, put_all, settle_group};
+use redo_record::{cells_of, encode};
+
+/// The kind of a head, in the two highest bits of its tag.
+const HEAD_KIND: u64 = 1 << 62;
+
+/// The place of the cell that comes `steps` after this one.
+pub fn place_after(place: &Place, head: u64, steps: u64) -> u64
+    requires head { head < place.now.cells }
+    requires steps { steps < 10000 }
+    ensures place { result ≡ (head + steps) % place.now.cells }
+    ensures inside { result < place.now.cells }
+{
+    let sizes = place.sizes();
+    (head + steps) % sizes.cells
+}
+
+// The front of the cell that comes `steps` after this one.
+fn front_after(place: &Place, ring: u64, head: u64, steps: u64) -> u64
+    requires ring { ring < place.now.rings }
+    requires head { head < place.now.cells }
+    requires steps { steps < 10000 }
+    ensures front { result ≡ front_of place.now (cell_after place.now (cell_at ring head) steps) }
+    ensures inside { result + 8 ≤ image_words place.now }
+{
+    place.cell(ring, place_after(place, head, steps))
+}
+
+// Each word with its place, the first at `at`.
+fn placed(at: u64, words: &[u64; LINE as usize]) -> [(u64, u64); LINE as usize]
+    requires { at + 8 ≤ 2 ^ 64 }
+    ensures { result ≡ words_from at words.now }
+{
+    [
+        (at, words[0]),
+        (at + 1, words[1]),
+        (at + 2, words[2]),
+        (at + 3, words[3]),
+        (at + 4, words[4]),
+        (at + 5, words[5]),
+        (at + 6, words[6]),
+        (at + 7, words[7]),
+    ]
+}
+
+// The words of the record's head but its tag.
+fn put_rest_of_head<M: Medium>(
+    m: &mut M,
+    place: &Place,
+    ring: u64,
+    head: u64,
+    r: &Redo,
+) -> Result<(), Failed>
+    requires ring { ring < place.now.rings }
+    requires head { head < place.now.cells }
+    requires number { IsNumber r.now.number }
+    requires room { image_words place.now ≤ (M.sight m.old).len }
+    ensures len { (M.sight m.new).len ≡ (M.sight m.old).len }
+    ensures made { Makes (put_pairs (words_from (front_of place.now (cell_at ring head) + 1) (drop 1 (encoded r.now 0)))) (is_ok result) (M.sight m.old) (M.sight m.new) }
+{
+    let mut words = [0; LINE as usize];
+    encode(r, 0, &mut words);
+    let pairs = placed(place.cell(ring, head), &words);
+    put_all(m, &pairs[1..])
+}
+
+// The words of the record's k-th cell.
+fn put_cell<M: Medium>(
+    m: &mut M,
+    place: &Place,
+    ring: u64,
+    head: u64,
+    r: &Redo,
+    k: u64,
+) -> Result<(), Failed>
+    requires ring { ring < place.now.rings }
+    requires head { head < place.now.cells }
+    requires number { IsNumber r.now.number }
+    requires cell { k < cells_for (length r.now.writes) }
+    requires room { image_words place.now ≤ (M.sight m.old).len }
+    ensures len { (M.sight m.new).len ≡ (M.sight m.old).len }
+    ensures made { Makes (put_pairs (cell_writes place.now (cell_at ring head) r.now k)) (is_ok result) (M.sight m.old) (M.sight m.new) }
+{
+    let _count = r.len();
+    let mut words = [0; LINE as usize];
+    encode(r, k, &mut words);
+    let pairs = placed(front_after(place, ring, head, k), &words);
+    put_all(m, &pairs)
+}
+
+// The words of the cells behind the head.
+fn put_continuations<M: Medium>(
+    m: &mut M,
+    place: &Place,
+    ring: u64,
+    head: u64,
+    r: &Redo,
+) -> Result<(), Failed>
+    requires ring { ring < place.now.rings }
+    requires head { head < place.now.cells }
+    requires number { IsNumber r.now.number }
+    requires room { image_words place.now ≤ (M.sight m.old).len }
+    ensures len { (M.sight m.new).len ≡ (M.sight m.old).len }
+    ensures made { Makes (put_pairs (flat_map (cell_writes place.now (cell_at ring head) r.now) (range_with_len 1 (cells_for (length r.now.writes) - 1)))) (is_ok result) (M.sight m.old) (M.sight m.new) }
+{
+    for k in 1..cells_of(r) {
+        put_cell(m, place, ring, head, r, k)?;
+    }
+    Ok(())
+}
+
+// Every word of the record's cells but the head's tag.
+fn put_body<M: Medium>(
+    m: &mut M,
+    place: &Place,
+    ring: u64,
+    head: u64,
+    r: &Redo,
+) -> Result<(), Failed>
+    requires ring { ring < place.now.rings }
+    requires head { head < place.now.cells }
+    requires number { IsNumber r.now.number }
+    requires room { image_words place.now ≤ (M.sight m.old).len }
+    ensures len { (M.sight m.new).len ≡ (M.sight m.old).len }
+    ensures made { Makes (put_pairs (body_writes place.now (cell_at ring head) r.now)) (is_ok result) (M.sight m.old) (M.sight m.new) }
+{
+    put_rest_of_head(m, place, ring, head, r)?;
+    put_continuations(m, place, ring, head, r)
+}
+
+// The lines of the record's cells.
+fn flush_cells<M: Medium>(
+    m: &mut M,
+    place: &Place,
+    ring: u64,
+    head: u64,
+    r: &Redo,
+) -> Result<(), Failed>
+    requires ring { ring < place.now.rings }
+    requires head { head < place.now.cells }
+    requires room { image_words place.now ≤ (M.sight m.old).len }
+    ensures len { (M.sight m.new).len ≡ (M.sight m.old).len }
+    ensures made { Makes (flush_lines (lines_from place.now (cell_at ring head) (cells_for (length r.now.writes)))) (is_ok result) (M.sight m.old) (M.sight m.new) }
+{
+    for k in 0..cells_in_record(r) {
+        m.flush(front_after(place, ring, head, k) / LINE)?;
+    }
+    Ok(())
+}
+
+// The body, made durable.
+#[tactic(auto, using(pmem_trait::proofs::Runs::making), unfolding(pmem_trait::specs::Groups::group_calls))]
+fn settle_body<M: Medium>(
+    m: &mut M,
+    place: &Place,
+    ring: u64,
+    head: u64,
+    r: &Redo,
+) -> Result<(), Failed>
+    requires ring { ring < place.now.rings }
+    requires head { head < place.now.cells }
+    requires number { IsNumber r.now.number }
+    requires room { image_words place.now ≤ (M.sight m.old).len }
+    ensures len { (M.sight m.new).len ≡ (M.sight m.old).len }
+    ensures made { Makes (group_calls (body_writes place.now (cell_at ring head) r.now) (lines_from place.now (cell_at ring head) (cells_for (length r.now.writes)))) (is_ok result) (M.sight m.old) (M.sight m.new) }
+{
+    put_body(m, place, ring, head, r)?;
+    flush_cells(m, place, ring, head, r)?;
+    m.fence()
+}
+
+/// How many cells the record takes: a few.
+pub fn cells_in_record(r: &Redo) -> u64
+    ensures cells { result ≡ cells_for (length r.now.writes) }
+    ensures some { 1 ≤ result }
+    ensures few { result ≤ 8 }
+{
+    let _count = r.len();
+    cells_of(r)
+}
+
+// The head's tag, made durable.
+fn settle_tag<M: Medium>(
+    m: &mut M,
+    place: &Place,
+    ring: u64,
+    head: u64,
+    number: u64,
+) -> Result<(), Failed>
+    requires ring { ring < place.now.rings }
+    requires head { head < place.now.cells }
+    requires number { IsNumber number }
+    requires room { image_words place.now ≤ (M.sight m.old).len }
+    ensures len { (M.sight m.new).len ≡ (M.sight m.old).len }
+    ensures made { Makes (group_calls ((front_of place.now (cell_at ring head), 4611686018427387904 + number) ∷ []) (line_of place.now (cell_at ring head) ∷ [])) (is_ok result) (M.sight m.old) (M.sight m.new) }
+{
+    let front = place.cell(ring, head);
+    settle_group(m, &[(front, HEAD_KIND + number)], &[front / LINE])
+}
+
+/// The calls that append a record whose head is to stand at this place.
+#[tactic(auto, using(pmem_trait::proofs::Runs::making), unfolding(redo_record::specs::Calls::append_calls))]
+pub fn append_record<M: Medium>(
+    m: &mut M,
+    place: &Place,
+    ring: u64,
+    head: u64,
+    r: &Redo,
+) -> Result<(), Failed>
+    requires ring { ring < place.now.rings }
+    requires head { head < place.now.cells }
+    requires number { IsNumber r.now.number }
+    requires room { image_words place.now ≤ (M.sight m.old).len }
+    ensures len { (M.sight m.new).len ≡ (M.sight m.old).len }
+    ensures made { Makes (append_calls place.now (cell_at ring head) r.now) (is_ok result) (M.sight m.old) (M.sight m.new) }
+{
+    settle_body(m, place, ring, head, r)?;
+    settle_tag(m, place, ring, head, r.number())
+}
