@@ -9,6 +9,8 @@ mod outcome;
 mod plan;
 mod printing;
 mod run;
+#[cfg(test)]
+mod tests;
 mod top;
 
 use dude_io::{EdgeFault, FilePmem, RealFiles, RealSink};
