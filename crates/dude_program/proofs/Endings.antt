@@ -19,7 +19,7 @@ use Rattle.dude_program.specs.Headline.{Replies, Crash, End, RecoversSince, last
 use Rattle.dude_program.specs.Plans.{IsPlan, HasPlanFault}
 use Rattle.dude_program.specs.Outcome.{CarriesOut}
 use Rattle.dude_program.specs.Printing.{StopsIn, PrintsOutcome}
-use Rattle.dude_program.specs.Causes.{world_of, words_needed, HasCause, StoppedEarlier, RefusesBadFile, RefusesSmall, IsComplete, OnAllDone, AllDone, EndsDone, OnRefusal, Bytes}
+use Rattle.dude_program.specs.Causes.{world_of, words_needed, HasCause, StoppedAtFiles, RefusesBadFile, RefusesSmall, IsComplete, OnAllDone, AllDone, EndsDone, OnRefusal, Bytes}
 use Rattle.dude_program.specs.Ending.{Ends}
 use Rattle.dude_program.proofs.Runs.{going_none, serves_front}
 
@@ -75,17 +75,17 @@ pub ends_refused : {meaning : Option Meaning} {s : Sight} {f g : FilesSight} {k 
     → Ends meaning (world_of s f k) (world_of s g k) [] (Some fault)
 ends_refused {meaning} Usage files none =
     refused Usage files (λ own is tells. refl) tt tt none (λ _. none, λ _. refl)
-    (λ own is tells bad. absurd (let no : ⊥ = cc in no)) (λ own requests is tells good short. absurd (let no : ⊥ = cc in no))
+    (λ own is tells bad. absurd (let no : ⊥ = cc in no)) (λ own is short. absurd (let no : ⊥ = cc in no))
     (λ own requests is tells good long a b c. absurd (let no : ⊥ = cc in no))
 ends_refused (File n) files h =
     let one : ◌≡◌ {A = Option Fault} (Some (File n)) (Some (File 1)) = ap (λ (k : ℕ). let o : Option Fault = Some (File k) in o) h.1 in
     refused (File n) files (λ own is tells. refl) tt tt (h.1, h.2) (not_usage (Some (File n)) (λ e. let no : ⊥ = cc in no) h.0)
-    (λ own is tells bad. inr (inl one)) (λ own requests is tells good short. inr (inl one))
+    (λ own is tells bad. inr (inl one)) (λ own is short. inr (inr (inl one)))
     (λ own requests is tells good long a b c. absurd (b h.2))
 ends_refused {meaning} {f = f} (Text n r c) files h =
     let same : ◌≡◌ {A = Option Fault} (Some (Text n r c)) (Some (Text 1 0 0)) = text_is h.1 h.2 h.3 in
     refused (Text n r c) files (λ own is tells. refl) tt tt (h.1, h.2, h.3, h.4) (not_usage (Some (Text n r c)) (λ e. let no : ⊥ = cc in no) h.0)
-    (λ own is tells bad. inl same) (λ own requests is tells good short. absurd (contradicts own requests is good (h.4 tells)))
+    (λ own is tells bad. inl same) (λ own is short. inr (inl same))
     (λ own requests is tells good long x y z. absurd (contradicts own requests is good (h.4 tells)))
   where
     text_is : {n r c : ℕ} → n ≡ 1 → r ≡ 0 → c ≡ 0 → ◌≡◌ {A = Option Fault} (Some (Text n r c)) (Some (Text 1 0 0))
@@ -97,7 +97,7 @@ ends_refused {meaning} {f = f} (Text n r c) files h =
         good_not_bad own f requests good (subst (λ (m : Meaning). HasBadFile m f) same bad.2)
 ends_refused {k = k} Memory files some =
     refused Memory files (λ own is tells. (0, sym (append-nil k.taken))) tt tt tt (not_usage (Some Memory) (λ e. let no : ⊥ = cc in no) some)
-    (λ own is tells bad. inr (inr refl)) (λ own requests is tells good short. inr (inr refl)) (λ own requests is tells good long a b c. inr refl)
+    (λ own is tells bad. inr (inr refl)) (λ own is short. inr (inr (inr refl))) (λ own requests is tells good long a b c. inr refl)
 ends_refused (Small a b) files h = absurd h
 ends_refused (TooFew a b) files h = absurd h
 ends_refused Unformatted files h = absurd h
@@ -122,7 +122,7 @@ tried : {meaning : Option Meaning} {S : ℕ} {requests : List Request} {done : L
     → OnAllDone fault (AllDone meaning (world_of s f k) done) → Bytes (FreshRun S tried.plan.file) done (world_of s f k) (world_of t g l) fault
     → OnAllDone fault (EndsDone meaning (world_of s f k) (world_of t g l) done) → HasCause meaning (world_of s f k) (world_of t g l) fault
     → (fault ≡ Some Usage → ⊥)
-    → (s.len < fresh_length S → (fault ≡ Some (Small s.len (fresh_length S))) ⊎ StoppedEarlier fault)
+    → (s.len < fresh_length S → (fault ≡ Some (Small s.len (fresh_length S))) ⊎ StoppedAtFiles fault)
     → (fresh_length S ≤ s.len → (Risen s.faults t.faults → ⊥) → (Risen k.faults l.faults → ⊥) → (fault ≡ None) ⊎ (fault ≡ Some Memory))
     → OnRefusal fault ((t ≡ s) × (done ≡ []))
     → Ends meaning (world_of s f k) (world_of t g l) done fault
@@ -136,7 +136,7 @@ tried {meaning} {S} {requests} {done} {last} {earlier} {s} {t} {f} {g} {k} {l} f
   cause = cause;
   usage = (λ is. absurd (other is), λ none. absurd (let e = it.plan.meant in let no : ⊥ = cc in no));
   bad_file = λ own is tells bad. absurd (good_not_bad own f (requests ∷ []) (subst (λ (m : Meaning). FilesMean m f (requests ∷ [])) (same own is) (it.plan.read tells)) bad);
-  too_small = λ own reqs is tells good short. subst (λ (m : Meaning). (fault ≡ Some (Small s.len (words_needed m))) ⊎ StoppedEarlier fault) (same own is)
+  too_small = λ own is short. subst (λ (m : Meaning). (fault ≡ Some (Small s.len (words_needed m))) ⊎ StoppedAtFiles fault) (same own is)
       (small (subst (λ (m : Meaning). s.len < words_needed m) (sym (same own is)) short));
   complete = λ own reqs is tells good long a b c. complete (subst (λ (m : Meaning). words_needed m ≤ s.len) (sym (same own is)) long) a c;
   untouched = untouched;
@@ -170,7 +170,7 @@ ends_faulted {S = S} {s = s} (Small has needs) it =
     small_is : {a b n m : ℕ} → a ≡ b → n ≡ m → ◌≡◌ {A = Option Fault} (Some (Small a n)) (Some (Small b m))
     small_is p q = cc
 ends_faulted {k = k} Memory it =
-    tried (Some Memory) it tt (λ tells. (0, sym (append-nil k.taken))) tt tt (λ e. let no : ⊥ = cc in no) (λ short. inr (inr refl)) (λ long a b. inr refl)
+    tried (Some Memory) it tt (λ tells. (0, sym (append-nil k.taken))) tt tt (λ e. let no : ⊥ = cc in no) (λ short. inr (inr (inr refl))) (λ long a b. inr refl)
     (λ low high. (it.carried.cause.1, it.carried.cause.0))
 ends_faulted Device it =
     let c = it.carried.cause in

@@ -46,17 +46,20 @@ HasCause meaning old new (Some _) = ⊥
 abbrev pub StoppedEarlier : Option Fault → Type 0
 StoppedEarlier fault = (fault ≡ Some (File 1)) ⊎ (fault ≡ Some Memory)
 
+-- the files stopped it: they are bad, or it stopped earlier
+abbrev pub StoppedAtFiles : Option Fault → Type 0
+StoppedAtFiles fault = (fault ≡ Some (Text 1 0 0)) ⊎ StoppedEarlier fault
+
 -- A bad file is answered as such, unless the command stopped earlier.
 abbrev pub RefusesBadFile : Option Meaning → World → Option Fault → Type 0
 RefusesBadFile meaning old fault =
-    (own : Meaning) → meaning ≡ Some own → IsTrue old.files.tells → HasBadFile own old.files
-    → (fault ≡ Some (Text 1 0 0)) ⊎ StoppedEarlier fault
+    (own : Meaning) → meaning ≡ Some own → IsTrue old.files.tells → HasBadFile own old.files → StoppedAtFiles fault
 
--- So is a medium that is too short, where the files are good.
+-- So is a medium that is too short, unless the files stopped it.
 abbrev pub RefusesSmall : Option Meaning → World → Option Fault → Type 0
 RefusesSmall meaning old fault =
-    (own : Meaning) (requests : List (List Request)) → meaning ≡ Some own → IsTrue old.files.tells → FilesMean own old.files requests
-    → old.medium.len < words_needed own → (fault ≡ Some (Small old.medium.len (words_needed own))) ⊎ StoppedEarlier fault
+    (own : Meaning) → meaning ≡ Some own → old.medium.len < words_needed own
+    → (fault ≡ Some (Small old.medium.len (words_needed own))) ⊎ StoppedAtFiles fault
 
 -- Completeness: where words and files are accepted, the medium is long enough and no count of faults rose, the command
 -- carries all out, or there was no memory.
