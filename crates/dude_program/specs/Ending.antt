@@ -1,12 +1,12 @@
 -- All that is said of how a command ended, as one record.
-use Rattle.std.specs.Prelude.{◌≡◌, ◌⊎◌, ◌↔◌, Bool, Option, Some, None, List, []}
-use Rattle.pmem_trait.specs.Sights.{Ran}
+use Rattle.std.specs.Prelude.{◌≡◌, ◌⊎◌, ◌↔◌, Option, Some, None, List, []}
 use Rattle.tatp_model.specs.declared.done.Done.{Done}
 use Rattle.dude_text.specs.declared.fault.Fault.{Fault}
 use Rattle.dude_text.specs.declared.fault.Fault.TheVariants.{Usage}
 use Rattle.dude_text.specs.Command.{Meaning}
 use Rattle.dude_io.specs.Files.{FilesStay}
 use Rattle.dude_program.specs.Headline.{Replies, Crash, PrintsNothing}
+use Rattle.dude_program.specs.Outcome.{RanUnlessDevice}
 use Rattle.dude_program.specs.Causes.{World, HasCause, RefusesBadFile, RefusesSmall, IsComplete, OnAllDone, AllDone, EndsDone, OnRefusal, Bytes}
 
 pub record Ends (meaning : Option Meaning) (old new : World) (done : List Done) (fault : Option Fault) : Type 0 where
@@ -22,5 +22,5 @@ pub record Ends (meaning : Option Meaning) (old new : World) (done : List Done) 
   pub too_small : RefusesSmall meaning old fault
   pub complete : IsComplete meaning old new fault
   pub untouched : OnRefusal fault ((new.medium ≡ old.medium) × (done ≡ []))
-  pub ran : (ok : Bool) × Ran ok old.medium new.medium
+  pub ran : RanUnlessDevice fault old.medium new.medium
   pub files : FilesStay old.files new.files
