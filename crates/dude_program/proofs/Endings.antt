@@ -18,7 +18,7 @@ use Rattle.dude_program.specs.Headline.{Replies, Crash, End, RecoversSince, last
 use Rattle.dude_program.specs.Plans.{IsPlan, HasPlanFault}
 use Rattle.dude_program.specs.Outcome.{CarriesOut, RanUnlessDevice}
 use Rattle.dude_program.specs.Printing.{StopsIn, PrintsOutcome}
-use Rattle.dude_program.specs.Causes.{world_of, words_needed, HasCause, StoppedAtFiles, RefusesBadFile, RefusesSmall, IsComplete, OnAllDone, AllDone, EndsDone, OnRefusal, Bytes}
+use Rattle.dude_program.specs.Causes.{world_of, words_needed, HasCause, StoppedAtFiles, MissesFile, RefusesMissing, RefusesBadFile, RefusesSmall, IsComplete, OnAllDone, AllDone, EndsDone, OnRefusal, Bytes}
 use Rattle.dude_program.specs.Ending.{Ends}
 use Rattle.dude_program.proofs.Runs.{going_none, serves_front}
 use Rattle.dude_program.proofs.Outcomes.{calls_none}
@@ -27,6 +27,13 @@ use Rattle.dude_program.proofs.Outcomes.{calls_none}
 good_not_bad : (own : Meaning) (files : FilesSight) (requests : List (List Request)) → FilesMean own files requests → HasBadFile own files → ⊥
 good_not_bad (FreshRun S file) files requests good bad =
     let e = good.2 in let f = good.3 in let g = bad.1 in let h = bad.2 in let no : ⊥ = cc in no
+
+-- a file that isn't there is neither good nor bad
+good_not_missing : (own : Meaning) (files : FilesSight) (requests : List (List Request)) → FilesMean own files requests → MissesFile own files → ⊥
+good_not_missing (FreshRun S file) files requests good misses = let e = good.2 in let no : ⊥ = cc in no
+
+bad_not_missing : (own : Meaning) (files : FilesSight) → HasBadFile own files → MissesFile own files → ⊥
+bad_not_missing (FreshRun S file) files bad misses = let e = bad.1 in let no : ⊥ = cc in no
 
 -- nothing is done
 crash_nothing : (own : Meaning) (s : Sight) → Crash own [] s s
@@ -44,16 +51,18 @@ refused : {meaning : Option Meaning} {s : Sight} {f g : FilesSight} {k : SinkSig
     → RefusesBadFile meaning (world_of s f k) (Some fault) → RefusesSmall meaning (world_of s f k) (Some fault)
     → IsComplete meaning (world_of s f k) (world_of s g k) (Some fault)
     → (◌≡◌ {A = Option Fault} (Some fault) (Some Device) → ⊥)
+    → (meaning ≡ None → g ≡ f) → RefusesMissing meaning (world_of s f k) (Some fault)
     → Ends meaning (world_of s f k) (world_of s g k) [] (Some fault)
-refused {meaning} {s} {f} {g} {k} fault files bytes all end cause usage bad_file too_small complete other = record {
+refused {meaning} {s} {f} {g} {k} fault files bytes all end cause usage bad_file too_small complete other unread missing = record {
   replies = λ own is. inl refl;
   all = all;
   crash = λ own is. crash_nothing own s;
   bytes = bytes;
-  silent = λ none tells. refl;
   end = end;
   cause = cause;
   usage = usage;
+  refused_words = λ none. (refl, unread none, refl);
+  missing = missing;
   bad_file = bad_file;
   too_small = too_small;
   complete = complete;
@@ -74,32 +83,39 @@ not_usage {meaning} fault other some = (λ is. absurd (other is), λ none. absur
 -- The words or the files were refused.
 pub ends_refused : {meaning : Option Meaning} {s : Sight} {f g : FilesSight} {k : SinkSight} (fault : Fault) → FilesStay f g → HasPlanFault meaning f g fault
     → Ends meaning (world_of s f k) (world_of s g k) [] (Some fault)
-ends_refused {meaning} Usage files none =
+ends_refused {meaning} Usage files h =
+    let none = h.0 in
     refused Usage files (λ own is tells. refl) tt tt none (λ _. none, λ _. refl)
     (λ own is tells bad. absurd (let no : ⊥ = cc in no)) (λ own is short. absurd (let no : ⊥ = cc in no))
     (λ own requests is tells good long a b c. absurd (let no : ⊥ = cc in no)) (λ e. let no : ⊥ = cc in no)
+    (λ _. h.1) (λ own is tells misses. absurd (let no : ⊥ = cc in no))
 ends_refused (File n) files h =
     let one : ◌≡◌ {A = Option Fault} (Some (File n)) (Some (File 1)) = ap (λ (k : ℕ). let o : Option Fault = Some (File k) in o) h.1 in
     refused (File n) files (λ own is tells. refl) tt tt (h.1, h.2) (not_usage (Some (File n)) (λ e. let no : ⊥ = cc in no) h.0)
     (λ own is tells bad. inr (inl one)) (λ own is short. inr (inr (inl one)))
     (λ own requests is tells good long a b c. absurd (b h.2)) (λ e. let no : ⊥ = cc in no)
+    (λ none. absurd (means _ h.0 none)) (λ own is tells misses. inl one)
 ends_refused {meaning} {f = f} (Text n r c) files h =
     let same : ◌≡◌ {A = Option Fault} (Some (Text n r c)) (Some (Text 1 0 0)) = text_is h.1 h.2 h.3 in
     refused (Text n r c) files (λ own is tells. refl) tt tt (h.1, h.2, h.3, h.4) (not_usage (Some (Text n r c)) (λ e. let no : ⊥ = cc in no) h.0)
     (λ own is tells bad. inl same) (λ own is short. inr (inl same))
     (λ own requests is tells good long x y z. absurd (contradicts own requests is good (h.4 tells))) (λ e. let no : ⊥ = cc in no)
+    (λ none. absurd (means _ h.0 none)) (λ own is tells misses. absurd (bad_not_missing own f (is_bad own is (h.4 tells)) misses))
   where
     text_is : {n r c : ℕ} → n ≡ 1 → r ≡ 0 → c ≡ 0 → ◌≡◌ {A = Option Fault} (Some (Text n r c)) (Some (Text 1 0 0))
     text_is a b d = cc
 
-    contradicts : (own : Meaning) (requests : List (List Request)) → meaning ≡ Some own → FilesMean own f requests → (other : Meaning) × (meaning ≡ Some other) × HasBadFile other f → ⊥
-    contradicts own requests is good bad =
+    is_bad : (own : Meaning) → meaning ≡ Some own → (other : Meaning) × (meaning ≡ Some other) × HasBadFile other f → HasBadFile own f
+    is_bad own is bad =
         let same : bad.0 ≡ own = (let e = bad.1 in cc) in
-        good_not_bad own f requests good (subst (λ (m : Meaning). HasBadFile m f) same bad.2)
+        subst (λ (m : Meaning). HasBadFile m f) same bad.2
+
+    contradicts : (own : Meaning) (requests : List (List Request)) → meaning ≡ Some own → FilesMean own f requests → (other : Meaning) × (meaning ≡ Some other) × HasBadFile other f → ⊥
+    contradicts own requests is good bad = good_not_bad own f requests good (is_bad own is bad)
 ends_refused {k = k} Memory files some =
     refused Memory files (λ own is tells. (0, sym (append-nil k.taken))) tt tt tt (not_usage (Some Memory) (λ e. let no : ⊥ = cc in no) some)
     (λ own is tells bad. inr (inr refl)) (λ own is short. inr (inr (inr refl))) (λ own requests is tells good long a b c. inr refl)
-    (λ e. let no : ⊥ = cc in no)
+    (λ e. let no : ⊥ = cc in no) (λ none. absurd (means _ some none)) (λ own is tells misses. inr refl)
 ends_refused (Small a b) files h = absurd h
 ends_refused (TooFew a b) files h = absurd h
 ends_refused Unformatted files h = absurd h
@@ -134,10 +150,11 @@ tried {meaning} {S} {requests} {done} {last} {earlier} {s} {t} {f} {g} {k} {l} f
   all = all;
   crash = λ own is. subst (λ (m : Meaning). Crash m done s t) (same own is) (record { order = done; printed = it.carried.printed; keeps = it.carried.keeps });
   bytes = λ own is. subst (λ (m : Meaning). Bytes m done (world_of s f k) (world_of t g l) fault) (same own is) bytes;
-  silent = λ none. absurd (let e = it.plan.meant in let no : ⊥ = cc in no);
   end = end;
   cause = cause;
   usage = (λ is. absurd (other is), λ none. absurd (let e = it.plan.meant in let no : ⊥ = cc in no));
+  refused_words = λ none. absurd (let e = it.plan.meant in let no : ⊥ = cc in no);
+  missing = λ own is tells misses. absurd (good_not_missing own f (requests ∷ []) (subst (λ (m : Meaning). FilesMean m f (requests ∷ [])) (same own is) (it.plan.read tells)) misses);
   bad_file = λ own is tells bad. absurd (good_not_bad own f (requests ∷ []) (subst (λ (m : Meaning). FilesMean m f (requests ∷ [])) (same own is) (it.plan.read tells)) bad);
   too_small = λ own is short. subst (λ (m : Meaning). (fault ≡ Some (Small s.len (words_needed m))) ⊎ StoppedAtFiles fault) (same own is)
       (small (subst (λ (m : Meaning). s.len < words_needed m) (sym (same own is)) short));

@@ -87,7 +87,7 @@ idle_end {S} {file} {requests} {stage} {s} {m} {t} low high long serves idle =
       order = stage.done;
       printed = serves.printed;
       told = subst (λ (n : ℕ). (front : List ℕ) × ((here t).told ≡ front ++ n ∷ []) × (length (here s).told ≤ length front)) last idle.told;
-      least = subst (λ (n : ℕ). All (λ d. d.number ≤ n) stage.done) last (serves.within refl);
+      none_over = subst (λ (n : ℕ). All (λ d. d.number ≤ n) stage.done) last (serves.within refl);
       images = subst (λ (n : ℕ). Leaves t.len (λ told image. RecoversTo (FreshRun S file) image n (database_after (FreshRun S file) stage.done n)) (here t)) last
           (record {
             each = λ image is. subst (λ (db : Database). RecoversTo (FreshRun S file) image stage.last db) (serves.db refl) (

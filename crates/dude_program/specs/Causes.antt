@@ -22,9 +22,17 @@ pub record World : Type 0 where
 abbrev pub world_of : Sight → FilesSight → SinkSight → World
 world_of medium files sink = record { medium = medium; files = files; sink = sink }
 
+-- nothing was called: the medium, the files and the sink are as they were
+abbrev pub NothingCalled : World → World → Type 0
+NothingCalled old new = (new.medium ≡ old.medium) × (new.files ≡ old.files) × (new.sink ≡ old.sink)
+
 -- how many words the image of the command needs
 abbrev pub words_needed : Meaning → ℕ
 words_needed (FreshRun subscribers file) = fresh_length subscribers
+
+-- the file of the command isn't there
+abbrev pub MissesFile : Meaning → FilesSight → Type 0
+MissesFile (FreshRun subscribers file) files = files.text file ≡ None
 
 -- Why the command ended with this fault, if any. Want of memory is free.
 abbrev pub HasCause : Option Meaning → World → World → Option Fault → Type 0
@@ -45,6 +53,11 @@ HasCause meaning old new (Some _) = ⊥
 -- reading the files came first: it failed, or there was no memory
 abbrev pub StoppedEarlier : Option Fault → Type 0
 StoppedEarlier fault = (fault ≡ Some (File 1)) ⊎ (fault ≡ Some Memory)
+
+-- A file that isn't there stops the command before all else.
+abbrev pub RefusesMissing : Option Meaning → World → Option Fault → Type 0
+RefusesMissing meaning old fault =
+    (own : Meaning) → meaning ≡ Some own → IsTrue old.files.tells → MissesFile own old.files → StoppedEarlier fault
 
 -- the files stopped it: they are bad, or it stopped earlier
 abbrev pub StoppedAtFiles : Option Fault → Type 0
