@@ -1,10 +1,9 @@
 -- How a command ended, case by case.
-use Rattle.std.proofs.Common.{◌≡◌, ℕ, ◌<◌, ◌≤◌, true, IsTrue, List, [], ◌∷◌, ◌++◌, length, take, refl, sym, ◌∙◌, ap, subst, arith, inl, inr, ◌⊎◌, Option, Some, None, append-nil}
+use Rattle.std.proofs.Common.{◌≡◌, ℕ, ◌<◌, ◌≤◌, IsTrue, List, [], ◌∷◌, ◌++◌, length, take, refl, sym, ◌∙◌, ap, subst, arith, inl, inr, ◌⊎◌, Option, Some, None, append-nil}
 use Rattle.std.specs.Prelude.{◌↔◌, IsSome}
 use Rattle.std.proofs.Math.Seq.{drop-length, take-append_seam}
 use Rattle.pmem_trait.specs.Sights.{Sight, here, Risen}
 use Rattle.pmem_trait.proofs.Laws.{keeps_here}
-use Rattle.pmem_trait.proofs.Runs.{ran_here}
 use Rattle.tatp_model.specs.declared.done.Done.{Done}
 use Rattle.tatp_model.specs.declared.request.Request.{Request}
 use Rattle.dude_text.specs.declared.fault.Fault.{Fault}
@@ -17,16 +16,24 @@ use Rattle.fresh_image.specs.Fresh.{fresh_length}
 use Rattle.dude_program.specs.Opening.{FilesMean, HasBadFile}
 use Rattle.dude_program.specs.Headline.{Replies, Crash, End, RecoversSince, last_of}
 use Rattle.dude_program.specs.Plans.{IsPlan, HasPlanFault}
-use Rattle.dude_program.specs.Outcome.{CarriesOut}
+use Rattle.dude_program.specs.Outcome.{CarriesOut, RanUnlessDevice}
 use Rattle.dude_program.specs.Printing.{StopsIn, PrintsOutcome}
-use Rattle.dude_program.specs.Causes.{world_of, words_needed, HasCause, StoppedEarlier, RefusesBadFile, RefusesSmall, IsComplete, OnAllDone, AllDone, EndsDone, OnRefusal, Bytes}
+use Rattle.dude_program.specs.Causes.{world_of, words_needed, HasCause, StoppedAtFiles, MissesFile, RefusesMissing, RefusesBadFile, RefusesSmall, IsComplete, OnAllDone, AllDone, EndsDone, OnRefusal, Bytes}
 use Rattle.dude_program.specs.Ending.{Ends}
 use Rattle.dude_program.proofs.Runs.{going_none, serves_front}
+use Rattle.dude_program.proofs.Outcomes.{calls_none}
 
 -- a good file isn't bad
 good_not_bad : (own : Meaning) (files : FilesSight) (requests : List (List Request)) → FilesMean own files requests → HasBadFile own files → ⊥
 good_not_bad (FreshRun S file) files requests good bad =
     let e = good.2 in let f = good.3 in let g = bad.1 in let h = bad.2 in let no : ⊥ = cc in no
+
+-- a file that isn't there is neither good nor bad
+good_not_missing : (own : Meaning) (files : FilesSight) (requests : List (List Request)) → FilesMean own files requests → MissesFile own files → ⊥
+good_not_missing (FreshRun S file) files requests good misses = let e = good.2 in let no : ⊥ = cc in no
+
+bad_not_missing : (own : Meaning) (files : FilesSight) → HasBadFile own files → MissesFile own files → ⊥
+bad_not_missing (FreshRun S file) files bad misses = let e = bad.1 in let no : ⊥ = cc in no
 
 -- nothing is done
 crash_nothing : (own : Meaning) (s : Sight) → Crash own [] s s
@@ -43,21 +50,24 @@ refused : {meaning : Option Meaning} {s : Sight} {f g : FilesSight} {k : SinkSig
     → HasCause meaning (world_of s f k) (world_of s g k) (Some fault) → (◌≡◌ {A = Option Fault} (Some fault) (Some Usage)) ↔ (meaning ≡ None)
     → RefusesBadFile meaning (world_of s f k) (Some fault) → RefusesSmall meaning (world_of s f k) (Some fault)
     → IsComplete meaning (world_of s f k) (world_of s g k) (Some fault)
+    → (◌≡◌ {A = Option Fault} (Some fault) (Some Device) → ⊥)
+    → (meaning ≡ None → g ≡ f) → RefusesMissing meaning (world_of s f k) (Some fault)
     → Ends meaning (world_of s f k) (world_of s g k) [] (Some fault)
-refused {meaning} {s} {f} {g} {k} fault files bytes all end cause usage bad_file too_small complete = record {
+refused {meaning} {s} {f} {g} {k} fault files bytes all end cause usage bad_file too_small complete other unread missing = record {
   replies = λ own is. inl refl;
   all = all;
   crash = λ own is. crash_nothing own s;
   bytes = bytes;
-  silent = λ none tells. refl;
   end = end;
   cause = cause;
   usage = usage;
+  refused_words = λ none. (refl, unread none, refl);
+  missing = missing;
   bad_file = bad_file;
   too_small = too_small;
   complete = complete;
   untouched = λ low high. (refl, refl);
-  ran = (true, ran_here s);
+  ran = calls_none s other;
   files = files;
 }
 
@@ -73,31 +83,39 @@ not_usage {meaning} fault other some = (λ is. absurd (other is), λ none. absur
 -- The words or the files were refused.
 pub ends_refused : {meaning : Option Meaning} {s : Sight} {f g : FilesSight} {k : SinkSight} (fault : Fault) → FilesStay f g → HasPlanFault meaning f g fault
     → Ends meaning (world_of s f k) (world_of s g k) [] (Some fault)
-ends_refused {meaning} Usage files none =
+ends_refused {meaning} Usage files h =
+    let none = h.0 in
     refused Usage files (λ own is tells. refl) tt tt none (λ _. none, λ _. refl)
-    (λ own is tells bad. absurd (let no : ⊥ = cc in no)) (λ own requests is tells good short. absurd (let no : ⊥ = cc in no))
-    (λ own requests is tells good long a b c. absurd (let no : ⊥ = cc in no))
+    (λ own is tells bad. absurd (let no : ⊥ = cc in no)) (λ own is short. absurd (let no : ⊥ = cc in no))
+    (λ own requests is tells good long a b c. absurd (let no : ⊥ = cc in no)) (λ e. let no : ⊥ = cc in no)
+    (λ _. h.1) (λ own is tells misses. absurd (let no : ⊥ = cc in no))
 ends_refused (File n) files h =
     let one : ◌≡◌ {A = Option Fault} (Some (File n)) (Some (File 1)) = ap (λ (k : ℕ). let o : Option Fault = Some (File k) in o) h.1 in
     refused (File n) files (λ own is tells. refl) tt tt (h.1, h.2) (not_usage (Some (File n)) (λ e. let no : ⊥ = cc in no) h.0)
-    (λ own is tells bad. inr (inl one)) (λ own requests is tells good short. inr (inl one))
-    (λ own requests is tells good long a b c. absurd (b h.2))
+    (λ own is tells bad. inr (inl one)) (λ own is short. inr (inr (inl one)))
+    (λ own requests is tells good long a b c. absurd (b h.2)) (λ e. let no : ⊥ = cc in no)
+    (λ none. absurd (means _ h.0 none)) (λ own is tells misses. inl one)
 ends_refused {meaning} {f = f} (Text n r c) files h =
     let same : ◌≡◌ {A = Option Fault} (Some (Text n r c)) (Some (Text 1 0 0)) = text_is h.1 h.2 h.3 in
     refused (Text n r c) files (λ own is tells. refl) tt tt (h.1, h.2, h.3, h.4) (not_usage (Some (Text n r c)) (λ e. let no : ⊥ = cc in no) h.0)
-    (λ own is tells bad. inl same) (λ own requests is tells good short. absurd (contradicts own requests is good (h.4 tells)))
-    (λ own requests is tells good long x y z. absurd (contradicts own requests is good (h.4 tells)))
+    (λ own is tells bad. inl same) (λ own is short. inr (inl same))
+    (λ own requests is tells good long x y z. absurd (contradicts own requests is good (h.4 tells))) (λ e. let no : ⊥ = cc in no)
+    (λ none. absurd (means _ h.0 none)) (λ own is tells misses. absurd (bad_not_missing own f (is_bad own is (h.4 tells)) misses))
   where
     text_is : {n r c : ℕ} → n ≡ 1 → r ≡ 0 → c ≡ 0 → ◌≡◌ {A = Option Fault} (Some (Text n r c)) (Some (Text 1 0 0))
     text_is a b d = cc
 
-    contradicts : (own : Meaning) (requests : List (List Request)) → meaning ≡ Some own → FilesMean own f requests → (other : Meaning) × (meaning ≡ Some other) × HasBadFile other f → ⊥
-    contradicts own requests is good bad =
+    is_bad : (own : Meaning) → meaning ≡ Some own → (other : Meaning) × (meaning ≡ Some other) × HasBadFile other f → HasBadFile own f
+    is_bad own is bad =
         let same : bad.0 ≡ own = (let e = bad.1 in cc) in
-        good_not_bad own f requests good (subst (λ (m : Meaning). HasBadFile m f) same bad.2)
+        subst (λ (m : Meaning). HasBadFile m f) same bad.2
+
+    contradicts : (own : Meaning) (requests : List (List Request)) → meaning ≡ Some own → FilesMean own f requests → (other : Meaning) × (meaning ≡ Some other) × HasBadFile other f → ⊥
+    contradicts own requests is good bad = good_not_bad own f requests good (is_bad own is bad)
 ends_refused {k = k} Memory files some =
     refused Memory files (λ own is tells. (0, sym (append-nil k.taken))) tt tt tt (not_usage (Some Memory) (λ e. let no : ⊥ = cc in no) some)
-    (λ own is tells bad. inr (inr refl)) (λ own requests is tells good short. inr (inr refl)) (λ own requests is tells good long a b c. inr refl)
+    (λ own is tells bad. inr (inr refl)) (λ own is short. inr (inr (inr refl))) (λ own requests is tells good long a b c. inr refl)
+    (λ e. let no : ⊥ = cc in no) (λ none. absurd (means _ some none)) (λ own is tells misses. inr refl)
 ends_refused (Small a b) files h = absurd h
 ends_refused (TooFew a b) files h = absurd h
 ends_refused Unformatted files h = absurd h
@@ -122,25 +140,27 @@ tried : {meaning : Option Meaning} {S : ℕ} {requests : List Request} {done : L
     → OnAllDone fault (AllDone meaning (world_of s f k) done) → Bytes (FreshRun S tried.plan.file) done (world_of s f k) (world_of t g l) fault
     → OnAllDone fault (EndsDone meaning (world_of s f k) (world_of t g l) done) → HasCause meaning (world_of s f k) (world_of t g l) fault
     → (fault ≡ Some Usage → ⊥)
-    → (s.len < fresh_length S → (fault ≡ Some (Small s.len (fresh_length S))) ⊎ StoppedEarlier fault)
+    → (s.len < fresh_length S → (fault ≡ Some (Small s.len (fresh_length S))) ⊎ StoppedAtFiles fault)
     → (fresh_length S ≤ s.len → (Risen s.faults t.faults → ⊥) → (Risen k.faults l.faults → ⊥) → (fault ≡ None) ⊎ (fault ≡ Some Memory))
     → OnRefusal fault ((t ≡ s) × (done ≡ []))
+    → RanUnlessDevice fault s t
     → Ends meaning (world_of s f k) (world_of t g l) done fault
-tried {meaning} {S} {requests} {done} {last} {earlier} {s} {t} {f} {g} {k} {l} fault it all bytes end cause other small complete untouched = record {
+tried {meaning} {S} {requests} {done} {last} {earlier} {s} {t} {f} {g} {k} {l} fault it all bytes end cause other small complete untouched ran = record {
   replies = λ own is. inr (subst (λ (m : Meaning). Replies m f done) (same own is) (record { requests = requests ∷ []; read = it.plan.read; answered = it.carried.replies }));
   all = all;
   crash = λ own is. subst (λ (m : Meaning). Crash m done s t) (same own is) (record { order = done; printed = it.carried.printed; keeps = it.carried.keeps });
   bytes = λ own is. subst (λ (m : Meaning). Bytes m done (world_of s f k) (world_of t g l) fault) (same own is) bytes;
-  silent = λ none. absurd (let e = it.plan.meant in let no : ⊥ = cc in no);
   end = end;
   cause = cause;
   usage = (λ is. absurd (other is), λ none. absurd (let e = it.plan.meant in let no : ⊥ = cc in no));
+  refused_words = λ none. absurd (let e = it.plan.meant in let no : ⊥ = cc in no);
+  missing = λ own is tells misses. absurd (good_not_missing own f (requests ∷ []) (subst (λ (m : Meaning). FilesMean m f (requests ∷ [])) (same own is) (it.plan.read tells)) misses);
   bad_file = λ own is tells bad. absurd (good_not_bad own f (requests ∷ []) (subst (λ (m : Meaning). FilesMean m f (requests ∷ [])) (same own is) (it.plan.read tells)) bad);
-  too_small = λ own reqs is tells good short. subst (λ (m : Meaning). (fault ≡ Some (Small s.len (words_needed m))) ⊎ StoppedEarlier fault) (same own is)
+  too_small = λ own is short. subst (λ (m : Meaning). (fault ≡ Some (Small s.len (words_needed m))) ⊎ StoppedAtFiles fault) (same own is)
       (small (subst (λ (m : Meaning). s.len < words_needed m) (sym (same own is)) short));
   complete = λ own reqs is tells good long a b c. complete (subst (λ (m : Meaning). words_needed m ≤ s.len) (sym (same own is)) long) a c;
   untouched = untouched;
-  ran = it.carried.ran;
+  ran = ran;
   files = it.files;
 }
   where
@@ -165,16 +185,17 @@ pub ends_faulted : {meaning : Option Meaning} {S : ℕ} {requests : List Request
 ends_faulted {S = S} {s = s} (Small has needs) it =
     let c = it.carried.cause in
     tried (Some (Small has needs)) it tt (λ tells. refl) tt (c.2, omega (arith, c.2, c.3, c.4), FreshRun S it.plan.file, it.plan.meant, c.3) (λ e. let no : ⊥ = cc in no)
-    (λ short. inl (small_is c.2 c.3)) (λ long a b. absurd (omega (arith, c.2, c.3, c.4))) (λ low high. (c.1, c.0))
+    (λ short. inl (small_is c.2 c.3)) (λ long a b. absurd (omega (arith, c.2, c.3, c.4))) (λ low high. (c.1, c.0)) it.carried.ran
   where
     small_is : {a b n m : ℕ} → a ≡ b → n ≡ m → ◌≡◌ {A = Option Fault} (Some (Small a n)) (Some (Small b m))
     small_is p q = cc
 ends_faulted {k = k} Memory it =
-    tried (Some Memory) it tt (λ tells. (0, sym (append-nil k.taken))) tt tt (λ e. let no : ⊥ = cc in no) (λ short. inr (inr refl)) (λ long a b. inr refl)
-    (λ low high. (it.carried.cause.1, it.carried.cause.0))
+    tried (Some Memory) it tt (λ tells. (0, sym (append-nil k.taken))) tt tt (λ e. let no : ⊥ = cc in no) (λ short. inr (inr (inr refl))) (λ long a b. inr refl)
+    (λ low high. (it.carried.cause.1, it.carried.cause.0)) it.carried.ran
 ends_faulted Device it =
     let c = it.carried.cause in
     tried (Some Device) it tt (λ tells. refl) tt c.1 (λ e. let no : ⊥ = cc in no) (λ short. absurd (omega (arith, c.0))) (λ long a b. absurd (a c.1)) (λ low high. absurd (omega arith))
+    it.carried.ran
 ends_faulted Usage it = absurd it.carried.cause
 ends_faulted (File n) it = absurd it.carried.cause
 ends_faulted (Text n r c) it = absurd it.carried.cause
@@ -193,7 +214,11 @@ pub ends_whole : {meaning : Option Meaning} {S : ℕ} {requests : List Request} 
     → Tried meaning S requests done last None s t f g → Took (output_of done last) k l → Ends meaning (world_of s f k) (world_of t g l) done None
 ends_whole {done = done} {k = k} {l = l} it took =
     tried None it (all_done k it) (λ tells. took.taken tells ∙ ap (λ (n : ℕ). k.taken ++ output_of done n) (it.carried.last_is refl)) (ends_done k l it) tt (λ e. let no : ⊥ = cc in no)
-    (λ short. absurd (omega (arith, it.carried.cause))) (λ long a b. inl refl) (λ low high. absurd (omega arith))
+    (λ short. absurd (omega (arith, it.carried.cause))) (λ long a b. inl refl) (λ low high. absurd (omega arith)) it.carried.ran
+
+-- the calls before a fault that isn't the medium's
+calls_well : {fault : Option Fault} {s t : Sight} → RanUnlessDevice None s t → (fault ≡ Some Device → ⊥) → RanUnlessDevice fault s t
+calls_well ran other = (ran.0, ran.1, (λ failed. absurd (let e = ran.2.0 failed in let no : ⊥ = cc in no), λ is. absurd (other is)))
 
 -- the front of the output that was taken
 took_front : (done : List Done) (last : ℕ) {k l : SinkSight} {fault : Fault} → last ≡ last_of 0 done → StopsIn (output_of done last) k l fault
@@ -216,10 +241,12 @@ ends_unprinted {meaning} {done = done} {last = last} {s = s} {t = t} {f = f} {g 
     at_output : Risen k.faults l.faults → P Output
     at_output risen = tried (Some Output) it (all_done k it) (took_front done last (it.carried.last_is refl) stops) (ends_done k l it) risen (λ e. let no : ⊥ = cc in no)
         (λ short. absurd (omega (arith, it.carried.cause))) (λ long a b. absurd (b risen)) (λ low high. absurd (omega arith))
+        (calls_well it.carried.ran (λ e. let no : ⊥ = cc in no))
 
     at_memory : P Memory
     at_memory = tried (Some Memory) it tt (took_front done last (it.carried.last_is refl) stops) tt tt (λ e. let no : ⊥ = cc in no)
         (λ short. absurd (omega (arith, it.carried.cause))) (λ long a b. inr refl) (λ low high. absurd (omega arith))
+        (calls_well it.carried.ran (λ e. let no : ⊥ = cc in no))
 
     by_fault : (fault ≡ Output) ⊎ (fault ≡ Memory) → P fault
     by_fault (inl is) = subst P (sym is) (at_output (stops.cause is))

@@ -23,8 +23,9 @@ use Rattle.fresh_image.specs.FormatCalls.{ShowsOnceTold, RestsFormatted}
 use Rattle.fresh_image.proofs.UpdateLaw.{rest_images}
 use Rattle.dude_program.specs.Headline.{last_of, database_after, RecoversTo, RecoversSince, End}
 use Rattle.dude_program.specs.Serving.{Stage, Idle, ServesAll, opening_stage}
-use Rattle.dude_program.specs.Outcome.{HasRunFault, CarriesOut, FormatsAndServes, device_fault}
+use Rattle.dude_program.specs.Outcome.{RanUnlessDevice, HasRunFault, CarriesOut, FormatsAndServes, device_fault}
 use Rattle.dude_text.specs.declared.fault.Fault.{Fault}
+use Rattle.dude_text.specs.declared.fault.Fault.TheVariants.{Device}
 use Rattle.dude_program.proofs.Runs.{going_none, serves_front, still_tells}
 
 -- a request with a number over 0 doesn't count up to 0
@@ -86,7 +87,7 @@ idle_end {S} {file} {requests} {stage} {s} {m} {t} low high long serves idle =
       order = stage.done;
       printed = serves.printed;
       told = subst (λ (n : ℕ). (front : List ℕ) × ((here t).told ≡ front ++ n ∷ []) × (length (here s).told ≤ length front)) last idle.told;
-      least = subst (λ (n : ℕ). All (λ d. d.number ≤ n) stage.done) last (serves.within refl);
+      none_over = subst (λ (n : ℕ). All (λ d. d.number ≤ n) stage.done) last (serves.within refl);
       images = subst (λ (n : ℕ). Leaves t.len (λ told image. RecoversTo (FreshRun S file) image n (database_after (FreshRun S file) stage.done n)) (here t)) last
           (record {
             each = λ image is. subst (λ (db : Database). RecoversTo (FreshRun S file) image stage.last db) (serves.db refl) (
@@ -133,16 +134,20 @@ format_stops {S} {file} {requests} {stage} {s} {t} opening images ran =
       end = λ no. absurd (let never : ⊥ = cc in never);
     })
 
+-- no call was made
+pub calls_none : {fault : Option Fault} (s : Sight) → (fault ≡ Some Device → ⊥) → RanUnlessDevice fault s s
+calls_none s other = (true, ran_here s, (λ no. absurd (let never : ⊥ = cc in never), λ is. absurd (other is)))
+
 -- A plan that wasn't begun.
 pub refuses : {S : ℕ} (file : List ℕ) (requests : List Request) {done : List Done} (last : ℕ) {fault : Option Fault} (f : Fault) {s : Sight} → done ≡ [] → fault ≡ Some f
-    → HasRunFault S [] s s (Some f) → CarriesOut S file requests done last fault s s
-refuses {S} file requests {done} last {fault} f {s} none is cause =
+    → (◌≡◌ {A = Option Fault} (Some f) (Some Device) → ⊥) → HasRunFault S [] s s (Some f) → CarriesOut S file requests done last fault s s
+refuses {S} file requests {done} last {fault} f {s} none is other cause =
     let front : Replies 0 (12 * S) (population S) (requests ∷ []) [] × IsPrintedOrder [] [] = serves_front (going_none S) (requests, refl) in
     subst (λ (l : List Done). CarriesOut S file requests l last fault s s) (sym none) (subst (λ (o : Option Fault). CarriesOut S file requests [] last o s s) (sym is) (record {
       replies = front.0;
       printed = front.1;
       keeps = keeps_here (RecoversSince (length (here s).told) (FreshRun S file) []) (λ tells. record { each = λ image is. inl (drop-length (here s).told) });
-      ran = (true, ran_here s);
+      ran = calls_none s other;
       cause = cause;
       all = λ no. absurd (let never : ⊥ = cc in never);
       last_is = λ no. absurd (let never : ⊥ = cc in never);
@@ -154,14 +159,14 @@ pub carries : {S T : ℕ} {file : List ℕ} {requests : List Request} (ok : Bool
     → FormatsAndServes T file requests ok stage s t → CarriesOut S file requests stage.done stage.last (device_fault ok) s t
 carries {S} {T} {file} {requests} true {stage} {s} {t} same long was =
     let r : FormatsAndServes S file requests true stage s t = subst (λ (z : ℕ). FormatsAndServes z file requests true stage s t) same was in
-    record { replies = r.replies; printed = r.printed; keeps = r.keeps; ran = (true, r.ran); cause = long; all = λ _. r.all refl; last_is = λ _. r.last_is refl; end = λ _. r.end refl }
+    record { replies = r.replies; printed = r.printed; keeps = r.keeps; ran = (true, r.ran, (λ no. absurd (let never : ⊥ = cc in never), λ no. absurd (let never : ⊥ = cc in never))); cause = long; all = λ _. r.all refl; last_is = λ _. r.last_is refl; end = λ _. r.end refl }
 carries {S} {T} {file} {requests} false {stage} {s} {t} same long was =
     let r : FormatsAndServes S file requests false stage s t = subst (λ (z : ℕ). FormatsAndServes z file requests false stage s t) same was in
     record {
       replies = r.replies;
       printed = r.printed;
       keeps = r.keeps;
-      ran = (false, r.ran);
+      ran = (false, r.ran, (λ _. refl, λ _. refl));
       cause = (long, makes_cause r.ran.1);
       all = λ no. absurd (let never : ⊥ = cc in never);
       last_is = λ no. absurd (let never : ⊥ = cc in never);

@@ -22,9 +22,17 @@ pub record World : Type 0 where
 abbrev pub world_of : Sight → FilesSight → SinkSight → World
 world_of medium files sink = record { medium = medium; files = files; sink = sink }
 
+-- nothing was called: the medium, the files and the sink are as they were
+abbrev pub NothingCalled : World → World → Type 0
+NothingCalled old new = (new.medium ≡ old.medium) × (new.files ≡ old.files) × (new.sink ≡ old.sink)
+
 -- how many words the image of the command needs
 abbrev pub words_needed : Meaning → ℕ
 words_needed (FreshRun subscribers file) = fresh_length subscribers
+
+-- the file of the command isn't there
+abbrev pub MissesFile : Meaning → FilesSight → Type 0
+MissesFile (FreshRun subscribers file) files = files.text file ≡ None
 
 -- Why the command ended with this fault, if any. Want of memory is free.
 abbrev pub HasCause : Option Meaning → World → World → Option Fault → Type 0
@@ -46,17 +54,25 @@ HasCause meaning old new (Some _) = ⊥
 abbrev pub StoppedEarlier : Option Fault → Type 0
 StoppedEarlier fault = (fault ≡ Some (File 1)) ⊎ (fault ≡ Some Memory)
 
+-- A file that isn't there stops the command before all else.
+abbrev pub RefusesMissing : Option Meaning → World → Option Fault → Type 0
+RefusesMissing meaning old fault =
+    (own : Meaning) → meaning ≡ Some own → IsTrue old.files.tells → MissesFile own old.files → StoppedEarlier fault
+
+-- the files stopped it: they are bad, or it stopped earlier
+abbrev pub StoppedAtFiles : Option Fault → Type 0
+StoppedAtFiles fault = (fault ≡ Some (Text 1 0 0)) ⊎ StoppedEarlier fault
+
 -- A bad file is answered as such, unless the command stopped earlier.
 abbrev pub RefusesBadFile : Option Meaning → World → Option Fault → Type 0
 RefusesBadFile meaning old fault =
-    (own : Meaning) → meaning ≡ Some own → IsTrue old.files.tells → HasBadFile own old.files
-    → (fault ≡ Some (Text 1 0 0)) ⊎ StoppedEarlier fault
+    (own : Meaning) → meaning ≡ Some own → IsTrue old.files.tells → HasBadFile own old.files → StoppedAtFiles fault
 
--- So is a medium that is too short, where the files are good.
+-- So is a medium that is too short, unless the files stopped it.
 abbrev pub RefusesSmall : Option Meaning → World → Option Fault → Type 0
 RefusesSmall meaning old fault =
-    (own : Meaning) (requests : List (List Request)) → meaning ≡ Some own → IsTrue old.files.tells → FilesMean own old.files requests
-    → old.medium.len < words_needed own → (fault ≡ Some (Small old.medium.len (words_needed own))) ⊎ StoppedEarlier fault
+    (own : Meaning) → meaning ≡ Some own → old.medium.len < words_needed own
+    → (fault ≡ Some (Small old.medium.len (words_needed own))) ⊎ StoppedAtFiles fault
 
 -- Completeness: where words and files are accepted, the medium is long enough and no count of faults rose, the command
 -- carries all out, or there was no memory.

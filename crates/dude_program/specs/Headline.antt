@@ -62,7 +62,7 @@ pub record End (meaning : Meaning) (done : List Done) (s t : Sight) : Type 0 whe
   pub order : List Done
   pub printed : IsPrintedOrder done order
   pub told : (front : List ℕ) × ((here t).told ≡ front ++ last_of (opening_of meaning).number done ∷ []) × (length (here s).told ≤ length front)
-  pub least : All (λ d. d.number ≤ last_of (opening_of meaning).number done) done
+  pub none_over : All (λ d. d.number ≤ last_of (opening_of meaning).number done) done
   pub images : Leaves t.len (λ told image. RecoversTo meaning image (last_of (opening_of meaning).number done)
       (database_after meaning order (last_of (opening_of meaning).number done))) (here t)
 

@@ -1,5 +1,5 @@
 -- What became of a plan: what is done, the last number, and the fault, if any.
-use Rattle.std.specs.Prelude.{◌≡◌, ℕ, ◌<◌, ◌≤◌, ◌*◌, Bool, true, false, Option, Some, None, IsTrue, List, [], ◌∷◌, length}
+use Rattle.std.specs.Prelude.{◌≡◌, ◌↔◌, ℕ, ◌<◌, ◌≤◌, ◌*◌, Bool, true, false, Option, Some, None, IsTrue, List, [], ◌∷◌, length}
 use Rattle.pmem_trait.specs.Sights.{Sight, here, Keeps, Ran, Risen}
 use Rattle.tatp_model.specs.declared.done.Done.{Done}
 use Rattle.tatp_model.specs.declared.request.Request.{Request}
@@ -22,12 +22,16 @@ HasRunFault subscribers done s t (Some Memory) = (done ≡ []) × (t ≡ s)
 HasRunFault subscribers done s t (Some Device) = (fresh_length subscribers ≤ s.len) × Risen s.faults t.faults
 HasRunFault subscribers done s t (Some _) = ⊥
 
+-- Some calls were made on the medium. None failed but perhaps the last, and that one exactly where the fault is `Device`.
+abbrev pub RanUnlessDevice : Option Fault → Sight → Sight → Type 0
+RanUnlessDevice fault s t = (ok : Bool) × Ran ok s t × ((ok ≡ false) ↔ (fault ≡ Some Device))
+
 -- The plan was carried out, or a fault ended it.
 pub record CarriesOut (subscribers : ℕ) (file : List ℕ) (requests : List Request) (done : List Done) (last : ℕ) (fault : Option Fault) (s t : Sight) : Type 0 where
   pub replies : RepliesAreOneThreads 0 (12 * subscribers) (population subscribers) (requests ∷ []) done
   pub printed : IsPrintedOrder done done
   pub keeps : Keeps (RecoversSince (length (here s).told) (FreshRun subscribers file) done) s t
-  pub ran : (ok : Bool) × Ran ok s t
+  pub ran : RanUnlessDevice fault s t
   pub cause : HasRunFault subscribers done s t fault
   pub all : fault ≡ None → HoldsAll (requests ∷ []) done
   pub last_is : fault ≡ None → last ≡ last_of 0 done

@@ -21,7 +21,7 @@ pub record IsPlan (meaning : Option Meaning) (files : FilesSight) (subscribers :
 
 -- why there is no plan
 abbrev pub HasPlanFault : Option Meaning → FilesSight → FilesSight → Fault → Type 0
-HasPlanFault meaning old new Usage = meaning ≡ None
+HasPlanFault meaning old new Usage = (meaning ≡ None) × (new ≡ old)
 HasPlanFault meaning old new (File file) = IsSome meaning × (file ≡ 1) × Risen old.faults new.faults
 HasPlanFault meaning old new (Text file row field) =
     IsSome meaning × (file ≡ 1) × (row ≡ 0) × (field ≡ 0)

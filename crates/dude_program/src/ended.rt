@@ -12,7 +12,8 @@ pub struct Ended<M> {
     pub fault: Option<Fault>,
     /// The medium that was handed in.
     pub medium: M,
-    /// The requests done, in order of file and index.
+    /// The requests done, in order of file and index. At status 6 the last one may be the request on which the medium
+    /// failed, since its record may be durable.
     pub done: Vec<Done>,
 }
 

@@ -1,13 +1,14 @@
-ghost use Rattle.std.specs.Prelude.{◌≡◌, ◌⊎◌, ◌↔◌, ℕ, ◌≤◌, ◌<◌, Bool, map, Some, None, IsTrue, List, []};
+ghost use Rattle.std.specs.Prelude.{◌≡◌, ◌⊎◌, ◌↔◌, ℕ, ◌≤◌, ◌<◌, map, Some, None, IsTrue, List, []};
 ghost use Rattle.std.specs.Rc.{rc_str_bytes};
 ghost use Rattle.pmem_trait.specs.Words.{IsSettled};
-ghost use Rattle.pmem_trait.specs.Sights.{here, Ran};
+ghost use Rattle.pmem_trait.specs.Sights.{here};
 ghost use Rattle.dude_io.specs.Files.{FilesStay};
 ghost use Rattle.dude_text.specs.Command.{Meaning, meaning_of};
 ghost use Rattle.dude_text.specs.Fault.{status_of};
-ghost use Rattle.dude_program.specs.Headline.{Replies, Crash, PrintsNothing};
-ghost use Rattle.dude_program.specs.Causes.{world_of, HasCause, RefusesBadFile, RefusesSmall, IsComplete, OnAllDone, AllDone, EndsDone, OnRefusal, Bytes};
+ghost use Rattle.dude_program.specs.Headline.{Replies, Crash};
+ghost use Rattle.dude_program.specs.Causes.{world_of, NothingCalled, HasCause, RefusesMissing, RefusesBadFile, RefusesSmall, IsComplete, OnAllDone, AllDone, EndsDone, OnRefusal, Bytes};
 ghost use Rattle.dude_program.specs.Ending.{Ends};
+ghost use Rattle.dude_program.specs.Outcome.{RanUnlessDevice};
 ghost use Rattle.dude_program.specs.Printing.{PrintsOutcome};
 
 use crate::ended::Ended;
@@ -90,20 +91,22 @@ pub fn dude<M: Medium + Send, F: Files, K: Sink>(
     // Bytes: the sink took the lines of these replies.
     ensures bytes { (own : Meaning) → meaning_of (map rc_str_bytes words.now) ≡ Some own
         → Bytes own result.done.items (world_of (M.sight medium) (F.sight files.old) (K.sight out.old)) (world_of (M.sight result.medium) (F.sight files.new) (K.sight out.new)) result.fault }
-    ensures silent { meaning_of (map rc_str_bytes words.now) ≡ None → PrintsNothing (K.sight out.old) (K.sight out.new) }
     // End: where all is done, the last number told is the last of them, and every image recovers to it.
     ensures end { OnAllDone result.fault (EndsDone (meaning_of (map rc_str_bytes words.now)) (world_of (M.sight medium) (F.sight files.old) (K.sight out.old)) (world_of (M.sight result.medium) (F.sight files.new) (K.sight out.new)) result.done.items) }
 
     // When each fault comes.
     ensures cause { HasCause (meaning_of (map rc_str_bytes words.now)) (world_of (M.sight medium) (F.sight files.old) (K.sight out.old)) (world_of (M.sight result.medium) (F.sight files.new) (K.sight out.new)) result.fault }
     ensures usage { (result.fault ≡ Some Fault.Usage) ↔ (meaning_of (map rc_str_bytes words.now) ≡ None) }
+    ensures refused_words { meaning_of (map rc_str_bytes words.now) ≡ None
+        → NothingCalled (world_of (M.sight medium) (F.sight files.old) (K.sight out.old)) (world_of (M.sight result.medium) (F.sight files.new) (K.sight out.new)) }
+    ensures missing { RefusesMissing (meaning_of (map rc_str_bytes words.now)) (world_of (M.sight medium) (F.sight files.old) (K.sight out.old)) result.fault }
     ensures bad_file { RefusesBadFile (meaning_of (map rc_str_bytes words.now)) (world_of (M.sight medium) (F.sight files.old) (K.sight out.old)) result.fault }
     ensures too_small { RefusesSmall (meaning_of (map rc_str_bytes words.now)) (world_of (M.sight medium) (F.sight files.old) (K.sight out.old)) result.fault }
     ensures complete { IsComplete (meaning_of (map rc_str_bytes words.now)) (world_of (M.sight medium) (F.sight files.old) (K.sight out.old)) (world_of (M.sight result.medium) (F.sight files.new) (K.sight out.new)) result.fault }
 
-    // What stays. A failed call on the medium is the last one.
+    // What stays. A failed call on the medium is the last one, and comes exactly where the fault is `Device`.
     ensures untouched { OnRefusal result.fault ((M.sight result.medium ≡ M.sight medium) × (result.done.items ≡ [])) }
-    ensures ran { (ok : Bool) × Ran ok (M.sight medium) (M.sight result.medium) }
+    ensures ran { RanUnlessDevice result.fault (M.sight medium) (M.sight result.medium) }
     ensures files { FilesStay (F.sight files.old) (F.sight files.new) }
 {
     let mut medium = medium;

@@ -11,11 +11,13 @@ use Rattle.dude_program.proofs.outcome.carry_out.Goals as goal
 pub returns-then-has-needs : goal.returns-then-has-needs
 returns-then-has-needs g c file =
     refuses file c.args.requests.now c.refused.result.last (Small c.len-has.result c.words-needs.result) c.refused.ensures.done c.refused.ensures.fault
+    (λ e. let no : ⊥ = cc in no)
     (refl, refl, c.len-has.ensures, c.words-needs.ensures ∙ ap fresh_length c.new-sizes.ensures, c.if-has-needs.true)
 
 pub returns-in_default : goal.returns-in_default
 returns-in_default g c file =
-    refuses file c.args.requests.now c.refused-in_default.result.last Memory c.refused-in_default.ensures.done c.refused-in_default.ensures.fault (refl, refl)
+    refuses file c.args.requests.now c.refused-in_default.result.last Memory c.refused-in_default.ensures.done c.refused-in_default.ensures.fault (λ e. let no : ⊥ = cc in no)
+    (refl, refl)
 
 pub returns : goal.returns
 returns g c file =
