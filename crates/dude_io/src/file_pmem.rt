@@ -19,12 +19,14 @@ pub struct FilePmem<R: FileSystem> {
 
 impl<R: FileSystem + AllocGlobal + Eprint + Drop> FilePmem<R> {
     ghost use Rattle.std.specs.Prelude.{◌≡◌, IfOk};
+    ghost use Rattle.dude_io.specs.FilePmem.{pmem_room};
 
     /// Opens the image of this path. Where there is no file, one of 33,554,432 zero bytes is made, whole or not at
     /// all. Bytes behind the last whole word stay as they are.
     pub fn open(rt: R, name: &str) -> Result<FilePmem<R>, EdgeFault>
         ensures now { IfOk result (λ medium. (⟦<FilePmem<R> as Medium>⟧.sight medium).now ≡ 0) }
         ensures faults { IfOk result (λ medium. (⟦<FilePmem<R> as Medium>⟧.sight medium).faults ≡ 0) }
+        ensures room { IfOk result (λ medium. pmem_room medium ≡ 4096) }
     {
         let mut file = image_file::open(&rt, name)?;
         let words = image_file::read_words(rt.alloc(), &mut file)?;
@@ -40,12 +42,12 @@ impl<R: FileSystem + AllocGlobal + Eprint + Drop> FilePmem<R> {
 
 impl<R: FileSystem> FilePmem<R> {
     ghost use Rattle.std.specs.Prelude.{◌≡◌, OnOk, vec_len};
-    ghost use Rattle.dude_io.specs.Image.{note_room};
+    ghost use Rattle.dude_io.specs.FilePmem.{pmem_room};
 
     /// Writes the noted lines, syncs the file, and drops the notes. At an `Err` they stay: a later call writes them
     /// all once more, since a sync that failed may have lost what was written before it.
     fn settle(&mut self) -> io::Result<()>
-        ensures room { OnOk result (note_room self.new.image ≡ 4096) }
+        ensures room { OnOk result (pmem_room self.new ≡ 4096) }
         ensures len { vec_len self.new.image.words ≡ vec_len self.old.image.words }
         ensures clock { self.new.clock ≡ self.old.clock }
     {
@@ -56,8 +58,8 @@ impl<R: FileSystem> FilePmem<R> {
 }
 
 impl<R: FileSystem + Eprint> Medium for FilePmem<R> {
-    ghost use Rattle.std.specs.Prelude.{◌≡◌, ◌+◌, ◌-◌, ◌*◌, ◌^◌, ◌<◌, ◌≤◌, nat_lt, is_ok};
-    ghost use Rattle.pmem_trait.specs.declared.call.Call.TheVariants.{Flush};
+    ghost use Rattle.std.specs.Prelude.{◌≡◌, ◌+◌, ◌-◌, ◌*◌, ◌^◌, ◌<◌, ◌≤◌, ◌==◌, nat_lt, is_ok, OnOk, if◌then◌else◌};
+    ghost use Rattle.pmem_trait.specs.declared.call.Call.TheVariants.{Flush, Fence};
     ghost use Rattle.pmem_trait.specs.Sights.{Goes};
     ghost use Rattle.dude_io.specs.FilePmem.{pmem_sight, pmem_room};
     ghost use Rattle.std.proofs.Common.{rules};
@@ -93,6 +95,7 @@ impl<R: FileSystem + Eprint> Medium for FilePmem<R> {
 
         // Where there is room for the note, it fails only since no moment is left.
         ensures fails { 0 < pmem_room self.old → is_ok result ≡ nat_lt (pmem_sight self.old).now (2 ^ 64 - 1) }
+        ensures room { OnOk result (pmem_room self.new ≡ (if pmem_room self.old == 0 then 4096 else pmem_room self.old) - 1) }
     {
         if !self.clock.tick() {
             return Err(Failed);
@@ -105,7 +108,10 @@ impl<R: FileSystem + Eprint> Medium for FilePmem<R> {
         Ok(())
     }
 
-    fn fence(&mut self) -> Result<(), Failed> {
+    fn fence(&mut self) -> Result<(), Failed>
+        ensures goes { Goes Fence (is_ok result) (pmem_sight self.old) (pmem_sight self.new) }
+        ensures room { OnOk result (pmem_room self.new ≡ 4096) }
+    {
         if !self.clock.tick() {
             return Err(Failed);
         }

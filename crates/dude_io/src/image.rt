@@ -18,7 +18,7 @@ pub struct Image {
 }
 
 impl Image {
-    ghost use Rattle.std.specs.Prelude.{◌≡◌, ◌+◌, ◌*◌, ◌^◌, ◌<◌, ◌≤◌, [], IfOk, vec_len, slice_index, slice_set, ◌==◌};
+    ghost use Rattle.std.specs.Prelude.{◌≡◌, ◌+◌, ◌-◌, ◌*◌, ◌^◌, ◌<◌, ◌≤◌, [], IfOk, vec_len, slice_index, slice_set, ◌==◌};
     ghost use Rattle.dude_io.specs.Line.{NotesLine};
     ghost use Rattle.dude_io.specs.Image.{note_room};
 
@@ -27,6 +27,7 @@ impl Image {
         requires { vec_len words < 2 ^ 61 }
         ensures words { IfOk result (λ image. image.words.items ≡ words.items) }
         ensures noted { IfOk result (λ image. image.noted.items ≡ []) }
+        ensures room { IfOk result (λ image. note_room image ≡ 4096) }
     {
         let noted = Vec::with_capacity(alloc, NOTES)?;
         Ok(Image { words, noted })
@@ -66,6 +67,7 @@ impl Image {
         requires inside { 8 * number + 8 ≤ vec_len self.old.words }
         requires room { 0 < note_room self.old }
         ensures noted { NotesLine self.old.words.items number self.old.noted.items self.new.noted.items }
+        ensures room { note_room self.new ≡ note_room self.old - 1 }
         ensures words { self.new.words ≡ self.old.words }
     {
         self.noted.push_reserved(Line::of(&self.words, number));
