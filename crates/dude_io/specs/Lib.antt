@@ -9,3 +9,5 @@ pub mod FaultCount
 pub mod Clock
 pub mod Silent
 pub mod Line
+pub mod Image
+pub mod FilePmem

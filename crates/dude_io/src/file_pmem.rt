@@ -3,10 +3,12 @@ use crate::edge_fault::EdgeFault;
 use crate::image::Image;
 use crate::image_file;
 use pmem_trait::{Failed, Medium};
+use std::io;
 use std::rt::Files as FileSystem;
 
 /// A medium in a file, of words with their lowest byte first. The words stand in memory, and a fence writes the lines
-/// that were noted and syncs the file. What it holds is not told.
+/// that were noted and syncs the file. Once 4,096 lines are noted, the next flush does so too. What it holds is not
+/// told, and after `open` it takes no memory.
 #[derive(Drop)]
 pub struct FilePmem<R: FileSystem> {
     rt: R,
@@ -17,16 +19,18 @@ pub struct FilePmem<R: FileSystem> {
 
 impl<R: FileSystem + AllocGlobal + Eprint + Drop> FilePmem<R> {
     ghost use Rattle.std.specs.Prelude.{◌≡◌, IfOk};
+    ghost use Rattle.dude_io.specs.FilePmem.{pmem_room};
 
     /// Opens the image of this path. Where there is no file, one of 33,554,432 zero bytes is made, whole or not at
     /// all. Bytes behind the last whole word stay as they are.
     pub fn open(rt: R, name: &str) -> Result<FilePmem<R>, EdgeFault>
         ensures now { IfOk result (λ medium. (⟦<FilePmem<R> as Medium>⟧.sight medium).now ≡ 0) }
         ensures faults { IfOk result (λ medium. (⟦<FilePmem<R> as Medium>⟧.sight medium).faults ≡ 0) }
+        ensures room { IfOk result (λ medium. pmem_room medium ≡ 4096) }
     {
         let mut file = image_file::open(&rt, name)?;
         let words = image_file::read_words(rt.alloc(), &mut file)?;
-        let image = Image::new(rt.alloc(), words);
+        let image = Image::new(rt.alloc(), words)?;
         Ok(FilePmem {
             rt,
             file,
@@ -36,12 +40,31 @@ impl<R: FileSystem + AllocGlobal + Eprint + Drop> FilePmem<R> {
     }
 }
 
-impl<R: FileSystem + Eprint> Medium for FilePmem<R> {
-    ghost use Rattle.std.specs.Prelude.{vec_len};
-    ghost use Rattle.std.proofs.Common.{rules};
-    ghost use Rattle.dude_io.specs.Clock.{silent_medium};
+impl<R: FileSystem> FilePmem<R> {
+    ghost use Rattle.std.specs.Prelude.{◌≡◌, OnOk, vec_len};
+    ghost use Rattle.dude_io.specs.FilePmem.{pmem_room};
 
-    ghost sight = { λ medium. silent_medium (vec_len medium.image.words) medium.clock };
+    /// Writes the noted lines, syncs the file, and drops the notes. At an `Err` they stay: a later call writes them
+    /// all once more, since a sync that failed may have lost what was written before it.
+    fn settle(&mut self) -> io::Result<()>
+        ensures room { OnOk result (pmem_room self.new ≡ 4096) }
+        ensures len { vec_len self.new.image.words ≡ vec_len self.old.image.words }
+        ensures clock { self.new.clock ≡ self.old.clock }
+    {
+        image_file::write_lines(&mut self.file, self.image.noted())?;
+        self.image.drop_notes();
+        Ok(())
+    }
+}
+
+impl<R: FileSystem + Eprint> Medium for FilePmem<R> {
+    ghost use Rattle.std.specs.Prelude.{◌≡◌, ◌+◌, ◌-◌, ◌*◌, ◌^◌, ◌<◌, ◌≤◌, ◌==◌, nat_lt, is_ok, OnOk, if◌then◌else◌};
+    ghost use Rattle.pmem_trait.specs.declared.call.Call.TheVariants.{Flush, Fence};
+    ghost use Rattle.pmem_trait.specs.Sights.{Goes};
+    ghost use Rattle.dude_io.specs.FilePmem.{pmem_sight, pmem_room};
+    ghost use Rattle.std.proofs.Common.{rules};
+
+    ghost sight = { pmem_sight };
 
     fn len(&self) -> u64 {
         self.image.len()
@@ -66,26 +89,36 @@ impl<R: FileSystem + Eprint> Medium for FilePmem<R> {
         Ok(())
     }
 
-    fn flush(&mut self, line: u64) -> Result<(), Failed> {
+    fn flush(&mut self, line: u64) -> Result<(), Failed>
+        requires { 8 * line + 8 ≤ (pmem_sight self.old).len }
+        ensures goes { Goes (Flush line) (is_ok result) (pmem_sight self.old) (pmem_sight self.new) }
+
+        // Where there is room for the note, it fails only since no moment is left.
+        ensures fails { 0 < pmem_room self.old → is_ok result ≡ nat_lt (pmem_sight self.old).now (2 ^ 64 - 1) }
+        ensures room { OnOk result (pmem_room self.new ≡ (if pmem_room self.old == 0 then 4096 else pmem_room self.old) - 1) }
+    {
         if !self.clock.tick() {
             return Err(Failed);
         }
-        if self.image.note(line).is_err() {
+        if self.image.is_full() && self.settle().is_err() {
             self.clock.fault();
             return Err(Failed);
         }
+        self.image.note(line);
         Ok(())
     }
 
-    fn fence(&mut self) -> Result<(), Failed> {
+    fn fence(&mut self) -> Result<(), Failed>
+        ensures goes { Goes Fence (is_ok result) (pmem_sight self.old) (pmem_sight self.new) }
+        ensures room { OnOk result (pmem_room self.new ≡ 4096) }
+    {
         if !self.clock.tick() {
             return Err(Failed);
         }
-        if image_file::write_lines(&mut self.file, self.image.noted()).is_err() {
+        if self.settle().is_err() {
             self.clock.fault();
             return Err(Failed);
         }
-        self.image.drop_notes();
         Ok(())
     }
 

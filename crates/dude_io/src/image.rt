@@ -1,29 +1,36 @@
-ghost use Rattle.std.specs.Prelude.{◌^◌, ◌<◌, vec_len};
+ghost use Rattle.std.specs.Prelude.{◌^◌, ◌<◌, ◌≤◌, vec_len, vec_capacity};
 
 use crate::line::Line;
 use std::alloc::{AllocError, Global};
 
-/// The words of an image file in memory, and the lines that were noted since the last fence, in order.
+/// Lines for which there is room among the notes.
+const NOTES: usize = 4096;
+
+/// The words of an image file in memory, and the lines that were noted and are not yet in the file, in order. It takes
+/// no memory after it is made.
 #[derive(Drop)]
 pub struct Image {
     pub words: Vec<u64>,
     pub noted: Vec<Line>,
     ghost small: { vec_len words < 2 ^ 61 },
+    ghost within: { vec_len noted ≤ 4096 },
+    ghost reserved: { 4096 ≤ vec_capacity noted },
 }
 
 impl Image {
-    ghost use Rattle.std.specs.Prelude.{◌≡◌, ◌+◌, ◌*◌, ◌^◌, ◌<◌, ◌≤◌, [], OnOk, OnErr, vec_len, slice_index, slice_set};
+    ghost use Rattle.std.specs.Prelude.{◌≡◌, ◌+◌, ◌-◌, ◌*◌, ◌^◌, ◌<◌, ◌≤◌, [], IfOk, vec_len, slice_index, slice_set, ◌==◌};
     ghost use Rattle.dude_io.specs.Line.{NotesLine};
+    ghost use Rattle.dude_io.specs.Image.{note_room};
 
-    pub(crate) fn new(alloc: Global, words: Vec<u64>) -> Image
+    /// The image of these words, with room for the notes.
+    pub(crate) fn new(alloc: Global, words: Vec<u64>) -> Result<Image, AllocError>
         requires { vec_len words < 2 ^ 61 }
-        ensures words { result.words.items ≡ words.items }
-        ensures noted { result.noted.items ≡ [] }
+        ensures words { IfOk result (λ image. image.words.items ≡ words.items) }
+        ensures noted { IfOk result (λ image. image.noted.items ≡ []) }
+        ensures room { IfOk result (λ image. note_room image ≡ 4096) }
     {
-        Image {
-            words,
-            noted: Vec::new(alloc),
-        }
+        let noted = Vec::with_capacity(alloc, NOTES)?;
+        Ok(Image { words, noted })
     }
 
     pub(crate) fn len(&self) -> u64
@@ -48,15 +55,22 @@ impl Image {
         self.words[at as usize] = value;
     }
 
-    /// Notes the values that the words of a line hold.
-    pub(crate) fn note(&mut self, number: u64) -> Result<(), AllocError>
-        requires { 8 * number + 8 ≤ vec_len self.old.words }
-        ensures ok { OnOk result (NotesLine self.old.words.items number self.old.noted.items self.new.noted.items) }
-        ensures err { OnErr result (self.new.noted.items ≡ self.old.noted.items) }
+    /// Whether there is no room for a further note.
+    pub(crate) fn is_full(&self) -> bool
+        ensures { result ≡ (note_room self.now == 0) }
+    {
+        self.noted.len() == NOTES
+    }
+
+    /// Notes the values that the words of a line hold. There is room for the note.
+    pub(crate) fn note(&mut self, number: u64)
+        requires inside { 8 * number + 8 ≤ vec_len self.old.words }
+        requires room { 0 < note_room self.old }
+        ensures noted { NotesLine self.old.words.items number self.old.noted.items self.new.noted.items }
+        ensures room { note_room self.new ≡ note_room self.old - 1 }
         ensures words { self.new.words ≡ self.old.words }
     {
-        self.noted.push(Line::of(&self.words, number))?;
-        Ok(())
+        self.noted.push_reserved(Line::of(&self.words, number));
     }
 
     pub(crate) fn noted(&self) -> &[Line]
@@ -67,6 +81,7 @@ impl Image {
 
     pub(crate) fn drop_notes(&mut self)
         ensures noted { self.new.noted.items ≡ [] }
+        ensures room { note_room self.new ≡ 4096 }
         ensures words { self.new.words ≡ self.old.words }
     {
         self.noted.clear();

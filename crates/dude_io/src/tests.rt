@@ -184,6 +184,40 @@ fn an_old_image(rt: HostRuntime) -> Result<(), Fail> {
     Ok(())
 }
 
+/// Puts a word at the front of a line and notes the line.
+fn note_front<M: Medium>(medium: &mut M, line: u64, value: u64) -> Result<(), Failed>
+    requires { 8 * line + 8 ≤ (M.sight medium.old).len }
+{
+    medium.put(8 * line, value)?;
+    medium.flush(line)
+}
+
+#[test]
+fn more_notes_than_room(rt: HostRuntime) -> Result<(), Fail> {
+    let alloc = rt.alloc();
+    let folder = folder(rt, "notes")?;
+    let path = format!(in alloc; "{folder}/tatp.img")?;
+    fs::write(&rt, path.as_str(), vec![in alloc; 0; 64 * 4098]?.as_slice())?;
+    let mut medium = FilePmem::open(rt, path.as_str())?;
+    for value in [1, 2] {
+        for line in 0..4098 {
+            assert!(rt; 8 * line + 8 <= medium.len());
+            note_front(&mut medium, line, value)?;
+        }
+    }
+    assert!(rt; medium.len() == 8 * 4098);
+    medium.put(0, 3)?;
+    medium.put(8 * 4097, 3)?;
+    medium.fence()?;
+    let bytes = fs::read(&rt, path.as_str())?;
+    assert_eq!(rt; bytes.len(), 64 * 4098);
+    for line in [0, 1, 4095, 4096, 4097] {
+        assert_eq!(rt; bytes.get(64 * line).copied(), Some(2));
+    }
+    fs::remove_dir_all(&rt, folder.as_str())?;
+    Ok(())
+}
+
 #[test]
 fn no_image(rt: HostRuntime) -> Result<(), Fail> {
     let alloc = rt.alloc();
