@@ -276,6 +276,53 @@ fn recover(alloc: Global, image: &[u64]) -> Result<Option<(u64, Vec<u64>)>, Allo
     Ok(Some((number, home)))
 }
 
+/// Whether the image recovers to a number of 0 to `most`, with the location that the update of this number gave to
+/// subscriber 1.
+fn has_location(alloc: Global, image: &[u64], least: u64, most: u64) -> Result<bool, AllocError> {
+    let Some((number, home)) = recover(alloc, image)? else {
+        return Ok(false);
+    };
+    let location = if number == 0 { 1_000_001 } else { number };
+    Ok(least <= number && number <= most && home.get(6).copied() == Some(location))
+}
+
+#[test]
+fn the_ring_goes_round(rt: HostRuntime) -> Result<(), Fail> {
+    let alloc = rt.alloc();
+    let ones = vec![in alloc; 1; IMAGE_WORDS]?;
+    let mut text = String::new(alloc);
+    let mut printed = String::new(alloc);
+    for k in 1..=40 {
+        text.push_str(&format!(in alloc; "UPDATE_LOCATION,000000000000001,{k}\n")?)?;
+        printed.push_str(&format!(in alloc; "{k} OK\n")?)?;
+    }
+    printed.push_str("last 40\n")?;
+    let mut files = one_file(alloc, text.as_bytes(), &[])?;
+    let mut sink = slow_sink(alloc, &[])?;
+    let medium = medium(alloc, IMAGE_WORDS, &[])?;
+    let ended = carried_out(alloc, &["fresh", "8", "f"], medium, &mut files, &mut sink)?;
+    assert_eq!(rt; (ended.status, ended.fault), (0, None));
+    assert_eq!(rt; sink.bytes(), printed.as_bytes());
+    assert_eq!(rt; ended.medium.told(), Some(40));
+    let now = ended.medium.now();
+    assert_eq!(rt; now, 1243 + 40 * 19);
+    // The cells hold the last sixteen records: 33 to 40, which went round twice, and before them 25 to 32.
+    let image = ended.medium.crash(alloc, &[])?;
+    for cell in 0..16 {
+        let number = if cell < 8 { 33 + cell } else { 17 + cell };
+        assert_eq!(rt; head_number(&image, cell), number);
+    }
+    // From the moment that the format is told, each image has the location of its number.
+    for moment in 1243..=now {
+        let told = (moment - 1243 + 6) / 19;
+        let settled = ended.medium.images_at(alloc, moment, &[])?;
+        assert!(rt; has_location(alloc, &settled, told, 40)?, "no picks, at {moment}");
+        let latest = ended.medium.images_at(alloc, moment, &ones)?;
+        assert!(rt; has_location(alloc, &latest, told, 40)?, "picks of 1, at {moment}");
+    }
+    Ok(())
+}
+
 /// Whether a crash now leaves an image of a number from the last told on, where subscriber 1 has location 7 from number
 /// 1 on. Before anything is told, any image will do.
 fn survives_crash(alloc: Global, medium: &MemPmem, picks: &[u64]) -> Result<bool, AllocError> {

@@ -1,10 +1,10 @@
 -- The pages of the image of `fresh`, and that its sizes are accepted.
-use Rattle.std.proofs.Common.{◌≡◌, ℕ, ◌+◌, ◌*◌, ◌<◌, ◌≤◌, refl, ap, ◌∙◌, arith}
+use Rattle.std.proofs.Common.{◌≡◌, ℕ, ◌*◌, ◌≤◌, refl, ap, arith}
 use Rattle.dude_base.specs.declared.field.Field.{Field}
 use Rattle.dude_base.specs.declared.field.Field.TheVariants.{Subscribers, Calls, Rings, Cells, Pages}
 use Rattle.dude_base.specs.declared.sizes.Sizes.{Sizes}
-use Rattle.dude_base.specs.Sizes.{IsFirstOut, IsFrom, sized}
-use Rattle.fresh_image.specs.Fresh.{fresh_pages, fresh_sizes}
+use Rattle.dude_base.specs.Sizes.{IsFirstOut, sized}
+use Rattle.fresh_image.specs.Fresh.{fresh_pages}
 
 pub pages_are_few : (S : ℕ) → S ≤ 10000 → fresh_pages S ≤ 17814
 unfolding fresh_pages

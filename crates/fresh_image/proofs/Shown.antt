@@ -1,6 +1,5 @@
 -- What an image of the command `fresh` recovers to, from the values of its words.
-use Rattle.std.proofs.Common.{◌≡◌, ℕ, ◌+◌, ◌-◌, ◌*◌, ◌<◌, ◌≤◌, List, [], ◌∷◌, length, drop, refl, sym, ◌∙◌, ap, arith, subst, map}
-use Rattle.std.specs.List.{range_with_len}
+use Rattle.std.proofs.Common.{◌≡◌, ℕ, ◌+◌, ◌-◌, ◌<◌, ◌≤◌, List, [], length, drop, refl, sym, ◌∙◌, ap, arith, subst}
 use Rattle.std.proofs.lemmas.List.{get_or-take, get_or-drop, length-take, length-drop}
 use Rattle.std.proofs.lemmas.Grind.{same_number_lists}
 use Rattle.std.specs.Prelude.{slice_index, slice_set}
@@ -8,14 +7,12 @@ use Rattle.dude_base.specs.declared.limits.TheConstants.{MAX_NUMBER}
 use Rattle.dude_base.specs.declared.sizes.Sizes.{Sizes}
 use Rattle.dude_base.specs.Sizes.{IsAccepted}
 use Rattle.dude_base.specs.Image.{image_words}
-use Rattle.dude_base.specs.Writes.{overwritten}
 use Rattle.dude_base.specs.Records.{RedoRecord}
-use Rattle.redo_record.specs.Tags.{number_of, IsHeadOver}
+use Rattle.redo_record.specs.Tags.{number_of}
 use Rattle.redo_record.specs.Cells.{Cell, front_of, word_place}
 use Rattle.redo_record.specs.Record.{record_of, writes_of}
 use Rattle.redo_record.specs.Images.{sizes_of, mark_of, home_of, tag_of, cells_from, IsComplete, IsNewHead}
-use Rattle.redo_record.specs.Damage.{IsUndamaged}
-use Rattle.redo_record.specs.Recovery.{IsFormatted, IsOverMark, HasRecord, overwritten_by_all, Recovers}
+use Rattle.redo_record.specs.Recovery.{IsFormatted, IsOverMark, Recovers}
 use Rattle.fresh_image.specs.Fresh.{fresh_pages, fresh_sizes, fresh_length, fresh_home_length, fresh_home_start, fresh_header}
 use Rattle.fresh_image.specs.Calls.{update_record}
 
@@ -87,18 +84,18 @@ module _ {S m : ℕ} {home image : List ℕ} (reads : Reads S m home image) wher
   -- Where no head is over the mark, the image recovers to the mark and the home words.
   pub recovers_rest : 1 ≤ S → S ≤ 10000 → m ≤ MAX_NUMBER → ((c : Cell) → IsNewHead (fresh_sizes S) m image c → ⊥) → Recovers 0 image m home
   recovers_rest low high small none = record {
-      formatted = reads_formatted low high;
-      small = omega (arith, reads.mark_is);
-      undamaged = record {
-        complete = λ c new. absurd (none c (reads_head c new));
-        single = λ c d new _ _. absurd (none c (reads_head c new));
-      };
-      writes = λ k. [];
-      from = omega (arith, reads.mark_is);
-      logged = λ k over upto. absurd (omega (arith, reads.mark_is));
-      greatest = λ c new. absurd (none c (reads_head c new));
-      result = let z : m - mark_of image ≡ 0 = omega (arith, reads.mark_is) in rw z (sym reads_home);
-    }
+    formatted = reads_formatted low high;
+    small = omega (arith, reads.mark_is);
+    undamaged = record {
+      complete = λ c new. absurd (none c (reads_head c new));
+      single = λ c d new _ _. absurd (none c (reads_head c new));
+    };
+    writes = λ k. [];
+    from = omega (arith, reads.mark_is);
+    logged = λ k over upto. absurd (omega (arith, reads.mark_is));
+    greatest = λ c new. absurd (none c (reads_head c new));
+    result = let z : m - mark_of image ≡ 0 = omega (arith, reads.mark_is) in rw z (sym reads_home);
+  }
 
   -- Where the one head over the mark has the record of the next number, with one write, the image recovers to that
   -- number, with the write in the home words.
@@ -107,23 +104,23 @@ module _ {S m : ℕ} {home image : List ℕ} (reads : Reads S m home image) wher
       → record_of (cells_from (fresh_sizes S) image head) ≡ update_record (m + 1) at value
       → ((c : Cell) → IsNewHead (fresh_sizes S) m image c → c ≡ head) → Recovers 0 image (m + 1) (slice_set home at value)
   recovers_next head at value low high small new complete is only = record {
-      formatted = reads_formatted low high;
-      small = omega (arith, reads.mark_is);
-      undamaged = record {
-        complete = λ c over. subst (IsComplete (sizes_of image) image) (sym (only c (reads_head c over))) (subst (λ (s : Sizes). IsComplete s image head) (sym reads_sizes) complete);
-        single = λ c d over other _. only c (reads_head c over) ∙ sym (only d (reads_head d other));
-      };
-      writes = λ k. (update_record (m + 1) at value).writes;
-      from = omega (arith, reads.mark_is);
-      logged = λ k over upto. record {
-        head = head;
-        new = head_reads head new;
-        number = number_is ∙ omega (arith, reads.mark_is);
-        same_writes = subst (λ (s : Sizes). writes_of (cells_from s image head) ≡ (update_record (m + 1) at value).writes) (sym reads_sizes) (ap (λ (r : RedoRecord). r.writes) is);
-      };
-      greatest = λ c over e. omega (arith, number_of_head c (only c (reads_head c over)), reads.mark_is);
-      result = let z : m + 1 - mark_of image ≡ 1 = omega (arith, reads.mark_is) in rw z (ap (λ (h : List ℕ). slice_set h at value) (sym reads_home));
-    }
+    formatted = reads_formatted low high;
+    small = omega (arith, reads.mark_is);
+    undamaged = record {
+      complete = λ c over. subst (IsComplete (sizes_of image) image) (sym (only c (reads_head c over))) (subst (λ (s : Sizes). IsComplete s image head) (sym reads_sizes) complete);
+      single = λ c d over other _. only c (reads_head c over) ∙ sym (only d (reads_head d other));
+    };
+    writes = λ k. (update_record (m + 1) at value).writes;
+    from = omega (arith, reads.mark_is);
+    logged = λ k over upto. record {
+      head = head;
+      new = head_reads head new;
+      number = number_is ∙ omega (arith, reads.mark_is);
+      same_writes = subst (λ (s : Sizes). writes_of (cells_from s image head) ≡ (update_record (m + 1) at value).writes) (sym reads_sizes) (ap (λ (r : RedoRecord). r.writes) is);
+    };
+    greatest = λ c over e. omega (arith, number_of_head c (only c (reads_head c over)), reads.mark_is);
+    result = let z : m + 1 - mark_of image ≡ 1 = omega (arith, reads.mark_is) in rw z (ap (λ (h : List ℕ). slice_set h at value) (sym reads_home));
+  }
     where
       number_is : number_of (tag_of (sizes_of image) image head) ≡ m + 1
       number_is =

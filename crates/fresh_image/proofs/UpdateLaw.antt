@@ -11,7 +11,7 @@ use Rattle.dude_base.specs.Records.{RedoRecord}
 use Rattle.pmem_trait.specs.declared.call.Call.{Call}
 use Rattle.pmem_trait.specs.declared.call.Call.TheVariants.{Tell}
 use Rattle.pmem_trait.specs.Words.{newest, Word, Point, IsIn, MayBe, IsImage, still, after, after_all, Leaves, Along, end, more}
-use Rattle.pmem_trait.specs.Groups.{written, group_calls, OldOrNew, final}
+use Rattle.pmem_trait.specs.Groups.{group_calls, OldOrNew, final}
 use Rattle.pmem_trait.proofs.GroupLaw.{group_law, group_word, group_told}
 use Rattle.pmem_trait.proofs.Laws.{along_then, after_all_then}
 use Rattle.redo_record.specs.Tags.{kind_of, number_of, head_tag, IsHeadOver}
@@ -27,7 +27,7 @@ use Rattle.redo_record.proofs.AppendedRecord.{append_law, along_last}
 use Rattle.redo_record.proofs.EncodedCells.{cells_of_record, encoded_holds, encoded_record, encoded_writes}
 use Rattle.redo_record.proofs.HeldRecords.{AreSame, complete_same, record_same}
 use Rattle.redo_record.proofs.RingRoom.{release_law, rest_law}
-use Rattle.fresh_image.specs.Fresh.{Stands, Rests, fresh_sizes, fresh_header, fresh_home_length, fresh_home_start, fresh_length}
+use Rattle.fresh_image.specs.Fresh.{Stands, Rests, fresh_sizes, fresh_home_start, fresh_length}
 use Rattle.fresh_image.specs.Calls.{update_record, update_cell, home_write, mark_write, reproduce_calls, update_calls, AtLeast, ShowsEither}
 use Rattle.fresh_image.proofs.Groups.{Within, written-outside, written-same, kept, either, left}
 use Rattle.fresh_image.proofs.Lists.{set-set_same, IsIn-drop_push}
@@ -265,8 +265,17 @@ pub stands_told : {S n : ℕ} {logged : List Logged} {home : List ℕ} {p : Poin
 stands_told number st = record {
   header = st.header;
   mark = st.mark;
-  ring = record { mark = st.ring.mark; reproduced = st.ring.reproduced; heads = st.ring.heads; records = λ k d lt over. let r = st.ring.records k d lt over in record {
-    still_words = r.still_words; complete = r.complete; same_number = r.same_number; same_cells = r.same_cells } };
+  ring = record {
+    mark = st.ring.mark;
+    reproduced = st.ring.reproduced;
+    heads = st.ring.heads;
+    records = λ k d lt over. let r = st.ring.records k d lt over in record {
+      still_words = r.still_words;
+      complete = r.complete;
+      same_number = r.same_number;
+      same_cells = r.same_cells;
+    };
+  };
   cells = st.cells;
   count = st.count;
   words = st.words;
@@ -363,15 +372,17 @@ rests_past_mark {S} {n} {home} {p} place at value st = record {
 stands_appended : {S n : ℕ} {home : List ℕ} {p q : Point} (place at value : ℕ) → place < 16 → Rests S n home p
     → Appended (fresh_sizes S) [] n (update_cell place) (update_record (n + 1) at value) p q
     → Stands S n (logged_update place (n + 1) at value ∷ []) home q × Logs place (n + 1) at value q
-stands_appended {S} {n} {home} {p} {q} place at value small rests done =
-    (record {
-      header = λ k below. other k _ (inl (omega arith)) (rests.header k below);
-      mark = other 8 _ (inl (omega arith)) rests.mark;
-      ring = done.fits;
-      cells = λ k from below. cell k from below (cases_eq ((k - 16) / 8) place);
-      count = rests.count;
-      words = λ k below. other (144 + k) _ (inr (omega arith)) (rests.words k below);
-    }, record { word = word })
+stands_appended {S} {n} {home} {p} {q} place at value small rests done = (
+  record {
+    header = λ k below. other k _ (inl (omega arith)) (rests.header k below);
+    mark = other 8 _ (inl (omega arith)) rests.mark;
+    ring = done.fits;
+    cells = λ k from below. cell k from below (cases_eq ((k - 16) / 8) place);
+    count = rests.count;
+    words = λ k below. other (144 + k) _ (inr (omega arith)) (rests.words k below);
+  },
+  record { word = word },
+)
   where
     s : Sizes
     s = fresh_sizes S

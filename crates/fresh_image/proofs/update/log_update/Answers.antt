@@ -1,13 +1,10 @@
-use Rattle.std.proofs.Common.{◌≡◌, ◌+◌, ◌<◌, ◌≤◌, ℕ, Bool, IsTrue, List, length, sym, subst, arith}
+use Rattle.std.proofs.Common.{◌≡◌, ◌+◌, ◌<◌, ◌≤◌, ℕ, Bool, IsTrue, List, sym, subst, arith}
 use Rattle.std.specs.Prelude.{slice_set}
 use Rattle.pmem_trait.specs.Words.{Point, Along, Leaves, after_all}
 use Rattle.pmem_trait.specs.Sights.{Sight, here, Makes, Keeps}
 use Rattle.pmem_trait.proofs.Runs.{makes_here}
 use Rattle.pmem_trait.proofs.Laws.{makes_keep}
-use Rattle.log_ring.specs.Ring.{RingState}
-use Rattle.fresh_image.specs.declared.sizes.ImageSizes.{ImageSizes}
-use Rattle.fresh_image.specs.Fresh.{Rests, fresh_length, fresh_home_length}
-use Rattle.fresh_image.specs.Rings.{IsIdle}
+use Rattle.fresh_image.specs.Fresh.{fresh_length}
 use Rattle.fresh_image.specs.Calls.{update_calls, ShowsEither, StepsFrom, RestsTold}
 use Rattle.fresh_image.proofs.UpdateLaw.{update_images, update_rests}
 use Rattle.fresh_image.proofs.update.log_update.Goals as goal
