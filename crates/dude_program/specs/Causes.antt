@@ -54,7 +54,7 @@ HasCause meaning old new (Some _) = ⊥
 abbrev pub StoppedEarlier : Option Fault → Type 0
 StoppedEarlier fault = (fault ≡ Some (File 1)) ⊎ (fault ≡ Some Memory)
 
--- A file that isn't there stops the command before all else.
+-- A file that isn't there is answered before a short medium and all that follows: it can't be read, or there was no memory.
 abbrev pub RefusesMissing : Option Meaning → World → Option Fault → Type 0
 RefusesMissing meaning old fault =
     (own : Meaning) → meaning ≡ Some own → IsTrue old.files.tells → MissesFile own old.files → StoppedEarlier fault
