@@ -1,4 +1,4 @@
-ghost use Rattle.std.specs.Prelude.{◌≡◌, ◌≤◌};
+ghost use Rattle.std.specs.Prelude.{◌≡◌, ◌≤◌, ◌+◌, ◌*◌};
 
 use crate::{
     EdgeFault, FileFault, FilePmem, FileText, MemFile, MemFiles, MemSink, RealFiles, RealSink,
