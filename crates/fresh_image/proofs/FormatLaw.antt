@@ -10,10 +10,11 @@ use Rattle.pmem_trait.specs.Groups.{group_calls, written, final}
 use Rattle.pmem_trait.proofs.GroupLaw.{group_law, group_word, group_told}
 use Rattle.pmem_trait.proofs.Laws.{along_then, after_all_then}
 use Rattle.dude_base.specs.declared.limits.TheConstants.{MAGIC}
+use Rattle.redo_record.proofs.RingHeads.{is_still}
 use Rattle.fresh_image.specs.Fresh.{Rests, fresh_header, fresh_home_length, fresh_length}
 use Rattle.fresh_image.specs.FormatCalls.{clear_cells, content_writes, content_lines, header_writes, magic_write, format_calls, ShowsOnceTold}
 use Rattle.fresh_image.proofs.Groups.{Within, written-outside, left}
-use Rattle.fresh_image.proofs.UpdateLaw.{rest_images, is_still, empty_ring, stands_told}
+use Rattle.fresh_image.proofs.UpdateLaw.{rest_images, empty_ring, stands_told}
 
 -- a number of a range is in its list
 pub IsIn-range : (a n k : ℕ) → a ≤ k → k < a + n → IsIn k (range_with_len a n)
@@ -127,7 +128,7 @@ formatted_rests S home p count settled = record {
   header = header;
   mark = last 8 0 (inr (omega arith)) (left 1 8 p2 (header_writes S) (0 ∷ []) (within_header S) 8 _ (inr (omega arith)) mark2);
   ring = empty_ring S 0 (last 8 0 (inr (omega arith)) (left 1 8 p2 (header_writes S) (0 ∷ []) (within_header S) 8 _ (inr (omega arith)) mark2)) far;
-  cells = λ k from below. is_still _ _ (far k from below);
+  cells = λ k from below. is_still (far k from below);
   count = count;
   words = λ k below. past (144 + k) _ (omega arith) (subst (λ (i : ℕ). p2.word i ≡ still (slice_index (clear_cells ++ home) (128 + k))) (omega arith) (content_word S home p1 (128 + k) _ count (omega arith) (at_first (16 + (128 + k)) (omega arith)).1)
       ∙ ap still (home_value home k));

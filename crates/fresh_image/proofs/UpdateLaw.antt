@@ -26,6 +26,7 @@ use Rattle.redo_record.specs.AppendLaw.{CanAppend, logged_as, IsElsewhere, Heads
 use Rattle.redo_record.proofs.AppendedRecord.{append_law, along_last}
 use Rattle.redo_record.proofs.EncodedCells.{cells_of_record, encoded_holds, encoded_record, encoded_writes}
 use Rattle.redo_record.proofs.HeldRecords.{AreSame, complete_same, record_same}
+use Rattle.redo_record.proofs.RingHeads.{is_still, cell_is}
 use Rattle.redo_record.proofs.RingRoom.{release_law, rest_law}
 use Rattle.fresh_image.specs.Fresh.{Stands, Rests, fresh_sizes, fresh_home_start, fresh_length}
 use Rattle.fresh_image.specs.Calls.{update_record, update_cell, home_write, mark_write, reproduce_calls, update_calls, AtLeast, ShowsEither}
@@ -59,16 +60,6 @@ may_still w x y is may = only (subst (λ (w : Word). MayBe w y) is may)
 
 settled_is : (w : Word) (x : ℕ) → w ≡ still x → w.settled ≡ x
 settled_is w x is = ap (λ (w : Word). w.settled) is
-
-pub is_still : (w : Word) (x : ℕ) → w ≡ still x → IsStill w
-is_still w x is = is ∙ ap still (sym (settled_is w x is))
-
--- the cells of the one ring
-cell_same : (c : Cell) (place : ℕ) → c.ring ≡ 0 → c.place ≡ place → c ≡ update_cell place
-cell_same c place ring same =
-    let by_ring : ℕ → Cell = λ x. record { ring = x; place = c.place } in
-    let by_place : ℕ → Cell = λ x. record { ring = 0; place = x } in
-    ap by_ring ring ∙ ap by_place same
 
 -- No word before the ring or behind it is one of a record's cells.
 elsewhere : (S place number at value i : ℕ) → (i < 16) ⊎ (144 ≤ i) → IsElsewhere (fresh_sizes S) (update_cell place) (update_record number at value) i
@@ -197,7 +188,7 @@ logged_shows {S} {n} {home} {next} {p} {image} place at value low high inside sm
         let tag : IsHeadOver n (slice_index image (front_of s (update_cell c.place))) = subst (λ (i : ℕ). IsHeadOver n (slice_index image i)) front_is other.new in
         let over : IsHeadOver (settled_mark p) (slice_index image (front_of s (update_cell c.place))) = subst (λ (m : ℕ). IsHeadOver m (slice_index image (front_of s (update_cell c.place)))) (sym (settled_is _ _ st.mark)) tag in
         elim (st.ring.heads c.place _ place_is (may (front_of s (update_cell c.place)) (omega arith) (omega arith)) over) [
-          | inl is ↦ cell_same c place ring_is (sym is.1)
+          | inl is ↦ cell_is c (update_cell place) ring_is (sym is.1)
           | inr none ↦ absurd none
         ]
 
@@ -250,7 +241,7 @@ rest_images {S} {n} {len} {home} {p} low high long small rests image is =
 -- A ring whose words are clear fits without records.
 pub empty_ring : (S n : ℕ) {p : Point} → p.word 8 ≡ still n → ((k : ℕ) → 16 ≤ k → k < 144 → p.word k ≡ still 0) → FitsRing (fresh_sizes S) 0 [] n p
 empty_ring S n {p} mark clear = record {
-  mark = is_still _ _ mark;
+  mark = is_still mark;
   reproduced = omega (arith, settled_is _ _ mark);
   heads = λ place tag below may over.
       let front = front_of (fresh_sizes S) (update_cell place) in
@@ -286,7 +277,7 @@ ring_past : {S n m : ℕ} {logged : List Logged} {p : Point} (low high : ℕ) (w
     → ((k : ℕ) → 16 ≤ k → k < 144 → IsStill (p.word k)) → p.word 8 ≡ still n → (after_all (group_calls ws ls) p).word 8 ≡ still m → n ≤ m
     → FitsRing (fresh_sizes S) 0 logged n p → FitsRing (fresh_sizes S) 0 logged n (after_all (group_calls ws ls) p)
 ring_past {S} {n} {m} {logged} {p} low high ws ls inside out cells mark next upto fits =
-    rest_law (fresh_sizes S) 0 logged n p q (omega arith) fits (is_still _ _ next) (omega (arith, settled_is _ _ mark, settled_is _ _ next)) tags
+    rest_law (fresh_sizes S) 0 logged n p q (omega arith) fits (is_still next) (omega (arith, settled_is _ _ mark, settled_is _ _ next)) tags
     (λ place j x below lt is. left low high p ws ls inside (front_of (fresh_sizes S) (update_cell place) + j) x (side _ out (omega arith) (omega arith)) is)
   where
     q : Point
@@ -310,7 +301,7 @@ stands_past_home {S} {n} {logged} {home} {p} at value small st = record {
   header = λ k below. left (144 + at) (145 + at) p ws ls inside k _ (inl (omega arith)) (st.header k below);
   mark = mark;
   ring = ring_past (144 + at) (145 + at) ws ls inside (inr (omega arith)) st.cells st.mark mark (omega arith) st.ring;
-  cells = λ k from below. is_still _ _ (left (144 + at) (145 + at) p ws ls inside k _ (inl (omega arith)) (st.cells k from below));
+  cells = λ k from below. is_still (left (144 + at) (145 + at) p ws ls inside k _ (inl (omega arith)) (st.cells k from below));
   count = length-set home at value ∙ st.count;
   words = λ k below. word k (rw (length-set home at value) at below) (cases_eq k at);
 }
@@ -348,7 +339,7 @@ rests_past_mark {S} {n} {home} {p} place at value st = record {
       (ring_past 8 9 ws (1 ∷ []) inside (inl (omega arith)) st.cells st.mark mark (omega arith) st.ring)
       (λ k d lt. let z : k ≡ 0 = omega arith in rw z (omega arith)) (omega (arith, settled_is _ _ mark)) in
       subst (λ (m : ℕ). FitsRing (fresh_sizes S) 0 [] m q) (let e : max n (n + 1) ≡ n + 1 = omega arith in e) r;
-  cells = λ k from below. is_still _ _ (left 8 9 p ws (1 ∷ []) inside k _ (inr (omega arith)) (st.cells k from below));
+  cells = λ k from below. is_still (left 8 9 p ws (1 ∷ []) inside k _ (inr (omega arith)) (st.cells k from below));
   count = st.count;
   words = λ k below. left 8 9 p ws (1 ∷ []) inside (fresh_home_start + k) _ (inr (omega arith)) (st.words k below);
 }
@@ -403,8 +394,8 @@ stands_appended {S} {n} {home} {p} {q} place at value small rests done = (
     cell : (k : ℕ) → 16 ≤ k → k < 144 → ((k - 16) / 8 ≡ place) ⊎ ((k - 16) / 8 ≢ place) → IsStill (q.word k)
     cell k from below (inl same) =
         let e : 16 + place * 8 + (k - 16) % 8 ≡ k = omega arith in
-        subst (λ (i : ℕ). IsStill (q.word i)) e (is_still _ _ (word ((k - 16) % 8) (omega arith)))
-    cell k from below (inr ne) = is_still _ _ (done.others k _ (λ i j few lt e. ne (omega arith)) (rests.cells k from below))
+        subst (λ (i : ℕ). IsStill (q.word i)) e (is_still (word ((k - 16) % 8) (omega arith)))
+    cell k from below (inr ne) = is_still (done.others k _ (λ i j few lt e. ne (omega arith)) (rests.cells k from below))
 
 -- The group of the home word: each image has the update.
 home_images : {S n len : ℕ} {home : List ℕ} {p : Point} {image : List ℕ} (place at value : ℕ) → 1 ≤ S → S ≤ 10000 → fresh_length S ≤ len → place < 16
