@@ -21,8 +21,8 @@ head_kept n number place (l ∷ ls) over has = by (head_kept n number place ls o
 pub fits_released : (s : Sizes) (ring n : ℕ) (ls : List Logged) (released : ℕ) (p : Point) → FitsRing s ring ls released p → n ≤ settled_mark p
     → FitsRing s ring (filter (λ l. nat_lt n l.number) ls) (max released n) p
 fits_released s ring n ls released p fits upto = record {
-      mark = fits.mark;
-      reproduced = (let least = fits.reproduced in omega arith);
-      heads = λ place tag below may over. head_kept n _ place ls (let high = over.over in omega arith) (fits.heads place tag below may over);
-      records = All-filter (λ (l : Logged). nat_lt n l.number) (λ (l : Logged). settled_mark p < l.number → Stands s ring p l) ls fits.records;
-    }
+  mark = fits.mark;
+  reproduced = (let least = fits.reproduced in omega arith);
+  heads = λ place tag below may over. head_kept n _ place ls (let high = over.over in omega arith) (fits.heads place tag below may over);
+  records = All-filter (λ (l : Logged). nat_lt n l.number) (λ (l : Logged). settled_mark p < l.number → Stands s ring p l) ls fits.records;
+}
