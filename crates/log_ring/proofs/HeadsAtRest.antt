@@ -1,9 +1,9 @@
 -- A ring that fits: what its heads are in each image of this very state.
-use Rattle.std.proofs.Common.{◌≡◌, ◌⊎◌, inl, inr, ℕ, ◌+◌, ◌<◌, ◌≤◌, List, [], length, slice_index, refl, sym, ap, ◌∙◌, subst, arith, All}
+use Rattle.std.proofs.Common.{◌≡◌, inl, ℕ, ◌<◌, ◌≤◌, List, [], slice_index, refl, sym, subst, arith}
 use Rattle.dude_base.specs.declared.sizes.Sizes.{Sizes}
 use Rattle.dude_base.specs.Image.{image_words}
 use Rattle.dude_base.specs.Records.{RedoRecord}
-use Rattle.pmem_trait.specs.Words.{Word, Point, MayBe, IsImage, still}
+use Rattle.pmem_trait.specs.Words.{Point, MayBe, IsImage, still}
 use Rattle.pmem_trait.specs.Groups.{OldOrNew}
 use Rattle.redo_record.specs.Tags.{number_of, IsHeadOver}
 use Rattle.redo_record.specs.Cells.{Cell, IsCell, front_of, word_place}

@@ -1,4 +1,4 @@
-use Rattle.std.proofs.Common.{◌≡◌, refl, subst}
+use Rattle.std.proofs.Common.{subst}
 use Rattle.dude_base.specs.Sizes.{IsAccepted}
 use Rattle.redo_record.specs.Cells.{IsCell}
 use Rattle.log_ring.specs.Laid.{AreLaid}

@@ -1,6 +1,5 @@
-use Rattle.std.proofs.Common.{◌≡◌, ℕ, ◌+◌, ◌<◌, ◌≤◌, List, sym, ap, ◌∙◌, Some, arith, rules, subst}
-use Rattle.std.specs.List.{slice_get}
-use Rattle.redo_record.specs.Fits.{Logged, cells_used}
+use Rattle.std.proofs.Common.{◌≡◌, sym, ap, arith}
+use Rattle.redo_record.specs.Fits.{Logged}
 use Rattle.log_ring.proofs.Laid.{used_first}
 use Rattle.log_ring.proofs.ring.Ring.used.Goals as goal
 
