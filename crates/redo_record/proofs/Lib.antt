@@ -4,6 +4,7 @@ pub mod AppendedRecord
 pub mod RecordWrites
 pub mod RingHeads
 pub mod RingRoom
+pub mod SingleReplay
 pub mod HeldRecords
 pub mod ReadCells
 pub mod EncodedCells

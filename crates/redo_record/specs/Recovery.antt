@@ -66,3 +66,7 @@ abbrev pub Replays : ℕ → List ℕ → Replayed → Type 0
 Replays version image Unformatted = ¬ IsFormatted version image
 Replays version image (Damaged line) = IsFormatted version image × IsDamaged image line
 Replays version image (Recovered number array) = Recovers version image number array
+
+-- An image has at most one replay.
+abbrev pub LawOfReplay : Type 0
+LawOfReplay = (version : ℕ) (image : List ℕ) (one other : Replayed) → Replays version image one → Replays version image other → one ≡ other

@@ -2,6 +2,7 @@
 
 ghost use Rattle.redo_record.specs.Encoding.{LawOfEncoding, LawOfDecoding};
 ghost use Rattle.redo_record.specs.AppendLaw.{LawOfAppend};
+ghost use Rattle.redo_record.specs.Recovery.{LawOfReplay};
 ghost use Rattle.redo_record.specs.RingLaws.{LawOfRoom, LawOfFollowing, LawOfRelease, LawOfRest};
 
 /// The cells of a record hold it, and as a slice they decode to it.
@@ -38,4 +39,9 @@ pub fn law_of_release()
 /// A ring still fits where other words change and the mark rises.
 pub fn law_of_rest()
     ensures { LawOfRest }
+{}
+
+/// An image has at most one replay: it can't be read for one reason, or has one number and one array.
+pub fn law_of_replay()
+    ensures { LawOfReplay }
 {}

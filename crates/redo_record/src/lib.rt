@@ -14,6 +14,6 @@ pub use bad_record::BadRecord;
 pub use decoding::decode;
 pub use encoding::{cells_of, encode};
 pub use laws::{
-    law_of_append, law_of_decoding, law_of_encoding, law_of_following, law_of_release, law_of_rest,
-    law_of_room,
+    law_of_append, law_of_decoding, law_of_encoding, law_of_following, law_of_release,
+    law_of_replay, law_of_rest, law_of_room,
 };
