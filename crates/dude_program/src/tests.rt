@@ -316,9 +316,15 @@ fn the_ring_goes_round(rt: HostRuntime) -> Result<(), Fail> {
     for moment in 1243..=now {
         let told = (moment - 1243 + 6) / 19;
         let settled = ended.medium.images_at(alloc, moment, &[])?;
-        assert!(rt; has_location(alloc, &settled, told, 40)?, "no picks, at {moment}");
+        assert!(rt;
+            has_location(alloc, &settled, told, 40)?,
+            "no picks, at {moment}"
+        );
         let latest = ended.medium.images_at(alloc, moment, &ones)?;
-        assert!(rt; has_location(alloc, &latest, told, 40)?, "picks of 1, at {moment}");
+        assert!(rt;
+            has_location(alloc, &latest, told, 40)?,
+            "picks of 1, at {moment}"
+        );
     }
     Ok(())
 }

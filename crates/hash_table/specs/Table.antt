@@ -70,6 +70,12 @@ writes_of (There at) = 0
 writes_of Full = 0
 writes_of (Stored at) = 5
 
+-- the record that has the key, where it is there
+abbrev pub place_of : Put → Option ℕ
+place_of (There at) = Some at
+place_of Full = None
+place_of (Stored at) = Some at
+
 -- The key was in a record, which is the first free one now, and its chain has the records before and
 -- after it. Each other key is in the record where it was, and no word changes but the record's link, the
 -- header's two, and the link that led to the record.

@@ -5,7 +5,7 @@ ghost use Rattle.record_heap.specs.Changes.{Wrote};
 ghost use Rattle.record_heap.specs.Links.{Linked};
 ghost use Rattle.record_heap.specs.Pool.{IsRecord};
 ghost use Rattle.hash_table.specs.Seek.{Seeks};
-ghost use Rattle.hash_table.specs.Table.{FitsTable, Inserts, IsTable, Removes, record_of, records_in, writes_of};
+ghost use Rattle.hash_table.specs.Table.{FitsTable, Inserts, IsTable, Removes, place_of, record_of, records_in, writes_of};
 
 use crate::put::Put;
 use record_heap::pool::Pool;
@@ -44,6 +44,8 @@ impl Table {
         ensures found { IfOk result (λ r. (array : List ℕ) → IsBelow (W.sight w.new) array → (chains : List (List ℕ)) (free : List ℕ) →
             IsTable self.now (shown (W.sight w.old) array) chains free →
             r ≡ record_of (shown (W.sight w.old) array) (records_in chains) key) }
+        // In any array the answer is the place of a record.
+        ensures record { IfOk result (λ r. IfSome r (IsRecord self.now.pool)) }
     {
         match self.seek(w, key)? {
             Some(spot) => Ok(Some(spot.record)),
@@ -63,6 +65,8 @@ impl Table {
         ensures inserts { IfOk result (λ put. (array : List ℕ) → IsBelow (W.sight w.new) array → (chains : List (List ℕ)) (free : List ℕ) →
             IsTable self.now (shown (W.sight w.old) array) chains free →
             Inserts self.now key chains free put (shown (W.sight w.old) array) (shown (W.sight w.new) array)) }
+        // In any array the place answered is that of a record.
+        ensures record { IfOk result (λ put. IfSome (place_of put) (IsRecord self.now.pool)) }
     {
         if let Some(spot) = self.seek(w, key)? {
             return Ok(Put::There(spot.record));

@@ -1,19 +1,18 @@
 -- From the outcome of an append to what its clauses say.
-use Rattle.std.proofs.Common.{◌≡◌, ◌⊎◌, inl, inr, ℕ, ◌+◌, ◌*◌, ◌<◌, ◌≤◌, true, false, List, length, All, Result, Ok, Err, ◌↔◌, IsErrOf, OnOk, refl, sym, subst, arith, rules, IsTrue}
-use Rattle.std.proofs.lemmas.List.Elements.{All-nil}
+use Rattle.std.proofs.Common.{◌≡◌, ℕ, ◌+◌, ◌*◌, ◌<◌, ◌≤◌, List, length, All, Result, Ok, Err, ◌↔◌, IsErrOf, OnOk, sym, subst, arith, rules, IsTrue}
 use Rattle.dude_base.specs.declared.limits.TheConstants.{PAGE}
 use Rattle.dude_base.specs.Sizes.{IsAccepted}
 use Rattle.dude_base.specs.Image.{image_words}
 use Rattle.dude_base.specs.Records.{RedoRecord}
 use Rattle.pmem_trait.specs.declared.call.Call.{Call}
-use Rattle.pmem_trait.specs.Words.{Point, Leaves, Along, end, more, after_all}
-use Rattle.pmem_trait.specs.Sights.{Sight, here, Risen, Makes, Keeps}
+use Rattle.pmem_trait.specs.Words.{Point, Leaves, Along}
+use Rattle.pmem_trait.specs.Sights.{Sight, here, Risen, Keeps}
 use Rattle.pmem_trait.proofs.Runs.{makes_here, makes_cause}
 use Rattle.pmem_trait.proofs.Laws.{makes_keep, keeps_here}
 use Rattle.redo_record.specs.Cells.{IsCell}
 use Rattle.redo_record.specs.Record.{cells_for}
 use Rattle.redo_record.specs.Encoding.{IsEncodable}
-use Rattle.redo_record.specs.Fits.{Logged, AreFree, settled_mark, cells_used}
+use Rattle.redo_record.specs.Fits.{settled_mark, cells_used}
 use Rattle.redo_record.specs.AppendLaw.{CanAppend, HeadsHold, Appended}
 use Rattle.redo_record.specs.Calls.{append_calls}
 use Rattle.redo_record.proofs.AppendedRecord.{append_law}

@@ -1,9 +1,9 @@
 -- A ring that fits: what its heads are in each image of this very state.
-use Rattle.std.proofs.Common.{◌≡◌, ◌⊎◌, inl, inr, ℕ, ◌+◌, ◌<◌, ◌≤◌, List, [], length, slice_index, refl, sym, ap, ◌∙◌, subst, arith, All}
+use Rattle.std.proofs.Common.{◌≡◌, inl, ℕ, ◌<◌, ◌≤◌, List, [], slice_index, refl, sym, subst, arith}
 use Rattle.dude_base.specs.declared.sizes.Sizes.{Sizes}
 use Rattle.dude_base.specs.Image.{image_words}
 use Rattle.dude_base.specs.Records.{RedoRecord}
-use Rattle.pmem_trait.specs.Words.{Word, Point, MayBe, IsImage, still}
+use Rattle.pmem_trait.specs.Words.{Point, MayBe, IsImage, still}
 use Rattle.pmem_trait.specs.Groups.{OldOrNew}
 use Rattle.redo_record.specs.Tags.{number_of, IsHeadOver}
 use Rattle.redo_record.specs.Cells.{Cell, IsCell, front_of, word_place}
@@ -29,10 +29,11 @@ module _ (s : Sizes) (logged : List Logged) (released : ℕ) (head : Cell) (r : 
   complete_at : (l : Logged) → IsCell s (head_of head.ring l) → Stands s head.ring p l → IsComplete s image (head_of head.ring l)
   complete_at l is_cell stands =
       let same : AreSame (settled_cells s p (head_of head.ring l)) (cells_from s image (head_of head.ring l)) (cells_for (count_of (settled_cells s p (head_of head.ring l)))) = record {
-          word = λ k j lt small.
+        word = λ k j lt small.
             let below : k < l.cells = subst (λ (n : ℕ). k < n) stands.same_cells lt in
             let inside = word_inside s (head_of head.ring l) is_cell k j small in
-            kept (word_place s (head_of head.ring l) k j) _ (omega arith) (stands.still_words k j below small) } in
+            kept (word_place s (head_of head.ring l) k j) _ (omega arith) (stands.still_words k j below small);
+      } in
       complete_same same stands.complete
 
   head_at : (other : Cell) → other.ring ≡ head.ring → IsNewHead s (mark_of image) image other
@@ -44,19 +45,19 @@ module _ (s : Sizes) (logged : List Logged) (released : ℕ) (head : Cell) (r : 
       let here : Cell = record { ring = head.ring; place = other.place } in
       let same : other ≡ here = cell_is other here ring refl in
       let may : MayBe (p.word (front_of s here)) (tag_of s image other) =
-          subst (λ (c : Cell). MayBe (p.word (front_of s c)) (tag_of s image other)) same (is.each (front_of s other) (omega arith)) in
+      subst (λ (c : Cell). MayBe (p.word (front_of s c)) (tag_of s image other)) same (is.each (front_of s other) (omega arith)) in
       (over, fits.heads other.place (tag_of s image other) new.cell.place_is may over)
 
   pub heads_at_rest : HeadsHold s logged head r p p.told image
   heads_at_rest = record {
-      complete = λ other ring new.
+    complete = λ other ring new.
         let both = head_at other ring new in
         let found = find_head {P = λ l. settled_mark p < l.number → Stands s head.ring p l} (number_of (tag_of s image other)) other.place logged fits.records both.1 in
         let l = found.0 in
         let over : settled_mark p < l.number = subst (λ (n : ℕ). settled_mark p < n) (sym found.1) both.0.over in
         let same : head_of head.ring l ≡ other = cell_is (head_of head.ring l) other (sym ring) found.2 in
         subst (IsComplete s image) same (complete_at l (subst (IsCell s) (sym same) new.cell) (found.3 over));
-      known = λ other ring new. inl (head_at other ring new).1;
-      others = λ i x below other word. kept i x (let size = is.size in omega arith) word;
-      same_told = refl;
-    }
+    known = λ other ring new. inl (head_at other ring new).1;
+    others = λ i x below other word. kept i x (let size = is.size in omega arith) word;
+    same_told = refl;
+  }

@@ -1,23 +1,23 @@
 -- Records that follow one another round a ring: the cells behind them are free, and what stays where one is added or the
 -- oldest are taken away.
-use Rattle.std.proofs.Common.{◌≡◌, ◌⊎◌, inl, inr, ⊎_elim, ℕ, zero, suc, ◌+◌, ◌-◌, ◌%◌, ◌<◌, ◌≤◌, Bool, true, false, List, [], ◌∷◌, ◌++◌, length, refl, sym, ap, ◌∙◌, subst, arith, rules, All, Some, nat_lt, if◌then◌else◌}
+use Rattle.std.proofs.Common.{◌≡◌, ◌⊎◌, inl, inr, ⊎_elim, ℕ, suc, ◌+◌, ◌-◌, ◌%◌, ◌<◌, ◌≤◌, Bool, true, false, List, [], ◌∷◌, ◌++◌, length, refl, sym, ap, ◌∙◌, subst, arith, rules, All, Some, nat_lt, if◌then◌else◌}
 use Rattle.std.specs.List.{filter, slice_get}
 use Rattle.std.proofs.Math.Nat.{mod-eq_of_lt, mod-eq-sub-mod, mod-add-mod}
 use Rattle.std.proofs.lemmas.Bool.{cases_lt}
-use Rattle.std.proofs.lemmas.List.Elements.{All-nil, All-cons, All-append, All-filter}
+use Rattle.std.proofs.lemmas.List.Elements.{All-nil, All-cons, All-append}
 use Rattle.std.proofs.lemmas.List.Sums.{sum_by-append, sum_by-cons}
 use Rattle.redo_record.specs.Fits.{Logged, cells_used}
 use Rattle.redo_record.proofs.CellPlaces.{steps_same}
-use Rattle.log_ring.specs.Laid.{LiesBefore, AreLaid}
+use Rattle.log_ring.specs.Laid.{AreLaid}
 
 -- k places on, in a ring of c places
 wrapped : (c p k : ℕ) → p < c → k ≤ c → ((p + k < c) × ((p + k) % c ≡ p + k)) ⊎ ((c ≤ p + k) × ((p + k) % c + c ≡ p + k))
 wrapped c p k below few = ⊎_elim
     (λ (lt : p + k < c). inl (lt, mod-eq_of_lt lt))
     (λ (over : c ≤ p + k).
-      let less : p + k - c < c = omega arith in
-      let is : (p + k) % c ≡ p + k - c = mod-eq-sub-mod over ∙ mod-eq_of_lt less in
-      inr (over, omega arith))
+    let less : p + k - c < c = omega arith in
+    let is : (p + k) % c ≡ p + k - c = mod-eq-sub-mod over ∙ mod-eq_of_lt less in
+    inr (over, omega arith))
     (cases_lt (p + k) c)
 
 -- the way from the oldest head to the next place is what the records take
@@ -43,28 +43,34 @@ laid_free c next n (l ∷ ls) laid few = All-cons (IsApart c next n) l ls apart 
     apart : IsApart c next n l
     apart i k lt below same =
         let on : (next + k) % c ≡ (l.first + (l.cells + cells_used ls + k)) % c =
-            ap (λ (x : ℕ). (x + k) % c) (sym laid.0.ends) ∙ mod-add-mod (l.first + (l.cells + cells_used ls)) c k ∙ ap (λ (x : ℕ). x % c) (omega arith) in
+        ap (λ (x : ℕ). (x + k) % c) (sym laid.0.ends) ∙ mod-add-mod (l.first + (l.cells + cells_used ls)) c k ∙ ap (λ (x : ℕ). x % c) (omega arith) in
         let is : i ≡ l.cells + cells_used ls + k = steps_same c l.first i (l.cells + cells_used ls + k) laid.0.place (omega (arith, laid.0.few)) (omega (arith, sum l ls)) (same ∙ on) in
         omega arith
 
 -- one more record
 pub laid_more : (c next cells number : ℕ) (ls : List Logged) → next < c → 1 ≤ cells → cells_used ls + cells ≤ c → All (λ l. l.number < number) ls
     → AreLaid c next ls → AreLaid c ((next + cells) % c) (ls ++ record { number = number; first = next; cells = cells } ∷ [])
-laid_more c next cells number [] below some few newest laid = (record {
-      place = below;
-      some = some;
-      ends = ap (λ (x : ℕ). x % c) (omega arith);
-      few = omega arith;
-      lower = All-nil (λ (m : Logged). number < m.number);
-    }, tt)
-laid_more c next cells number (l ∷ ls) below some few newest laid = (record {
-      place = laid.0.place;
-      some = laid.0.some;
-      ends = ap (λ (x : ℕ). x % c) (omega (arith, more, sum l ls)) ∙ sym (mod-add-mod (l.first + (l.cells + cells_used ls)) c cells) ∙ ap (λ (x : ℕ). (x + cells) % c) laid.0.ends;
-      few = omega (arith, more, sum l ls);
-      lower = All-append (λ (m : Logged). l.number < m.number) ls (last ∷ []) laid.0.lower
-          (All-cons (λ (m : Logged). l.number < m.number) last [] (newest 0 l (omega arith)) (All-nil (λ (m : Logged). l.number < m.number)));
-    }, laid_more c next cells number ls below some (omega (arith, sum l ls)) (λ k d lt. newest (suc k) d (omega arith)) laid.1)
+laid_more c next cells number [] below some few newest laid = (
+  record {
+    place = below;
+    some = some;
+    ends = ap (λ (x : ℕ). x % c) (omega arith);
+    few = omega arith;
+    lower = All-nil (λ (m : Logged). number < m.number);
+  },
+  tt,
+)
+laid_more c next cells number (l ∷ ls) below some few newest laid = (
+  record {
+    place = laid.0.place;
+    some = laid.0.some;
+    ends = ap (λ (x : ℕ). x % c) (omega (arith, more, sum l ls)) ∙ sym (mod-add-mod (l.first + (l.cells + cells_used ls)) c cells) ∙ ap (λ (x : ℕ). (x + cells) % c) laid.0.ends;
+    few = omega (arith, more, sum l ls);
+    lower = All-append (λ (m : Logged). l.number < m.number) ls (last ∷ []) laid.0.lower
+        (All-cons (λ (m : Logged). l.number < m.number) last [] (newest 0 l (omega arith)) (All-nil (λ (m : Logged). l.number < m.number)));
+  },
+  laid_more c next cells number ls below some (omega (arith, sum l ls)) (λ k d lt. newest (suc k) d (omega arith)) laid.1,
+)
   where
     last : Logged
     last = record { number = number; first = next; cells = cells }
@@ -110,4 +116,4 @@ used_first c next d (l ∷ ls) o is laid up around =
     let some = laid.0.some in
     subst (λ (n : ℕ). d ≡ n) (sym (sum l ls))
     (used_is c next l.first (l.cells + cells_used ls) d laid.0.place (omega arith) laid.0.few laid.0.ends
-      (rw same up) (rw same around))
+    (rw same up) (rw same around))

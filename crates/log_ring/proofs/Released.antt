@@ -1,5 +1,5 @@
 -- A ring without its oldest records still fits.
-use Rattle.std.proofs.Common.{◌≡◌, ◌⊎◌, inl, inr, ℕ, ◌+◌, ◌<◌, ◌≤◌, max, Bool, true, false, List, [], ◌∷◌, refl, sym, ap, ◌∙◌, subst, arith, All, nat_lt, if◌then◌else◌}
+use Rattle.std.proofs.Common.{◌≡◌, inl, inr, ℕ, ◌<◌, ◌≤◌, max, Bool, true, false, List, [], ◌∷◌, refl, arith, nat_lt, if◌then◌else◌}
 use Rattle.std.specs.List.{filter}
 use Rattle.std.proofs.lemmas.List.Elements.{All-filter}
 use Rattle.dude_base.specs.declared.sizes.Sizes.{Sizes}
@@ -21,8 +21,8 @@ head_kept n number place (l ∷ ls) over has = by (head_kept n number place ls o
 pub fits_released : (s : Sizes) (ring n : ℕ) (ls : List Logged) (released : ℕ) (p : Point) → FitsRing s ring ls released p → n ≤ settled_mark p
     → FitsRing s ring (filter (λ l. nat_lt n l.number) ls) (max released n) p
 fits_released s ring n ls released p fits upto = record {
-      mark = fits.mark;
-      reproduced = (let least = fits.reproduced in omega arith);
-      heads = λ place tag below may over. head_kept n _ place ls (let high = over.over in omega arith) (fits.heads place tag below may over);
-      records = All-filter (λ (l : Logged). nat_lt n l.number) (λ (l : Logged). settled_mark p < l.number → Stands s ring p l) ls fits.records;
-    }
+  mark = fits.mark;
+  reproduced = (let least = fits.reproduced in omega arith);
+  heads = λ place tag below may over. head_kept n _ place ls (let high = over.over in omega arith) (fits.heads place tag below may over);
+  records = All-filter (λ (l : Logged). nat_lt n l.number) (λ (l : Logged). settled_mark p < l.number → Stands s ring p l) ls fits.records;
+}

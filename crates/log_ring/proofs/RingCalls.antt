@@ -50,7 +50,7 @@ writes_cut f k zero {s} {t} low made = subst (λ (n : ℕ). Makes (put_pairs (wr
 writes_cut f k (suc more) {s} {t} low made =
     let before : Makes (put_pairs (writes_below f (k + more))) false s t = writes_cut f k more low made in
     let one : Makes (put_pairs (writes_below f (k + more + 1))) false s t =
-        subst (λ (l : List Call). Makes l false s t) (sym (writes_more f (k + more) (omega arith))) (makes_stop (put_pairs (f (k + more))) before) in
+    subst (λ (l : List Call). Makes l false s t) (sym (writes_more f (k + more) (omega arith))) (makes_stop (put_pairs (f (k + more))) before) in
     subst (λ (n : ℕ). Makes (put_pairs (writes_below f n)) false s t) (omega arith) one
 
 -- one list of writes behind another

@@ -34,8 +34,9 @@ Fits v p = FitsRing v.sizes v.ring v.logged v.released p
 -- the ring with a record of this number and so many cells behind its others
 abbrev pub with_entry : ℕ → ℕ → RingState → RingState
 with_entry number cells v = record v {
-    logged = v.logged ++ record { number = number; first = v.next; cells = cells } ∷ [];
-    next = (v.next + cells) % v.sizes.cells }
+  logged = v.logged ++ record { number = number; first = v.next; cells = cells } ∷ [];
+  next = (v.next + cells) % v.sizes.cells;
+}
 
 -- the ring with this record behind its others
 abbrev pub with_record : RedoRecord → RingState → RingState

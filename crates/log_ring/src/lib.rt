@@ -8,3 +8,6 @@ mod ring_fault;
 
 pub use ring::Ring;
 pub use ring_fault::RingFault;
+
+#[cfg(test)]
+mod tests;

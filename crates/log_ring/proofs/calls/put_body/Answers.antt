@@ -1,4 +1,4 @@
-use Rattle.std.proofs.Common.{◌≡◌, ◌+◌, ◌-◌, ℕ, List, drop, flat_map, length, is_ok, false, rules}
+use Rattle.std.proofs.Common.{◌≡◌, ◌+◌, ◌-◌, drop, flat_map, length, is_ok, false, rules}
 use Rattle.std.specs.List.{range_with_len}
 use Rattle.redo_record.specs.Cells.{Cell, front_of}
 use Rattle.redo_record.specs.Record.{cells_for}

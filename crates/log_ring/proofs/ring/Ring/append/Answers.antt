@@ -1,4 +1,4 @@
-use Rattle.std.proofs.Common.{◌≡◌, refl, subst}
+use Rattle.std.proofs.Common.{subst}
 use Rattle.dude_base.specs.Sizes.{IsAccepted}
 use Rattle.redo_record.specs.Cells.{IsCell}
 use Rattle.log_ring.specs.Laid.{AreLaid}
@@ -11,7 +11,6 @@ use Rattle.log_ring.proofs.ring.Ring.append.Goals as goal
 wants : (g : Over) (c : goal.After-lay g) → Wants c.args.self.now c.args.r.now
 wants g c =
     let kept = c.self.invariant in
-
     record {
       sizes = subst (λ (v : RingState). IsAccepted v.sizes) c.self.view_is kept.accepted;
       cell = subst (λ (v : RingState). IsCell v.sizes (next_head v)) c.self.view_is (record { ring_is = kept.ring; place_is = kept.next });

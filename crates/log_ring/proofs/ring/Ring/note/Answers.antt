@@ -1,7 +1,5 @@
-use Rattle.std.proofs.Common.{◌≡◌, ◌+◌, ◌%◌, ◌<◌, ◌≤◌, ◌++◌, [], ◌∷◌, ℕ, List, All, arith, sym, subst}
+use Rattle.std.proofs.Common.{◌+◌, ◌<◌, ◌≤◌, All, arith}
 use Rattle.redo_record.specs.Fits.{Logged, cells_used}
-use Rattle.log_ring.specs.Laid.{AreLaid}
-use Rattle.log_ring.specs.Ring.{RingState}
 use Rattle.log_ring.proofs.Laid.{laid_more, laid_few}
 use Rattle.log_ring.proofs.ring.Ring.note.Goals as goal
 

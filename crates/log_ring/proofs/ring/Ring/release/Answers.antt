@@ -1,7 +1,7 @@
-use Rattle.std.proofs.Common.{◌≡◌, ℕ, List, max, nat_lt, refl, sym, ap, ◌∙◌, arith, rules, subst}
+use Rattle.std.proofs.Common.{◌≡◌, nat_lt, refl, sym, rules, subst}
 use Rattle.std.specs.List.{filter}
 use Rattle.std.proofs.lemmas.Fn.{filter_same}
-use Rattle.redo_record.specs.Fits.{Logged, FitsRing}
+use Rattle.redo_record.specs.Fits.{Logged}
 use Rattle.log_ring.specs.Laid.{AreLaid}
 use Rattle.log_ring.proofs.Laid.{laid_less}
 use Rattle.log_ring.proofs.Released.{fits_released}

@@ -1,6 +1,5 @@
-use Rattle.std.proofs.Common.{◌≡◌, ℕ, ◌+◌, ◌<◌, ◌≤◌, List, sym, ap, ◌∙◌, Some, arith, rules, subst}
-use Rattle.std.specs.List.{slice_get}
-use Rattle.redo_record.specs.Fits.{Logged, cells_used}
+use Rattle.std.proofs.Common.{◌≡◌, sym, ap, arith}
+use Rattle.redo_record.specs.Fits.{Logged}
 use Rattle.log_ring.proofs.Laid.{used_first}
 use Rattle.log_ring.proofs.ring.Ring.used.Goals as goal
 
@@ -11,5 +10,5 @@ returns-in-Some-clause-used c =
     let same : c.oldest.inside.first ≡ o.first = ap (λ (l : Logged). l.first) c.oldest.view_is in
     rw (← c.self.view_is)
     (used_first a.place.cells a.next c.distance.result a.records.items o (rw c.deref.ensures.value at (sym (c.in-Some.ensures.value))) c.self.invariant.laid
-      (λ before. let up = c.distance.ensures.up in omega (arith, same, up (omega (arith, same))))
-      (λ behind. let around = c.distance.ensures.around in omega (arith, same, around (omega (arith, same)))))
+    (λ before. let up = c.distance.ensures.up in omega (arith, same, up (omega (arith, same))))
+    (λ behind. let around = c.distance.ensures.around in omega (arith, same, around (omega (arith, same)))))
