@@ -51,8 +51,23 @@ fn insert_find_remove(rt: HostRuntime) -> Result<(), Fail> {
     Ok(())
 }
 
+// Words of the table with the keys 5 and 7, whose chain has 7 in front.
+fn two_rows(alloc: Global) -> Result<Vec<u64>, AllocError>
+    ensures { IfOk result (λ v. length v.items ≡ 32) }
+{
+    let mut words = opening(alloc)?;
+    words[0] = 16;
+    words[1] = 2;
+    words[8] = 5;
+    words[9] = 0;
+    words[12] = 7;
+    words[13] = 8;
+    words[25] = 12;
+    Ok(words)
+}
+
 #[test]
-fn a_link_that_names_no_record_ends_its_chain(rt: HostRuntime) -> Result<(), Fail> {
+fn a_circle_of_links_ends(rt: HostRuntime) -> Result<(), Fail> {
     let mut words = opening(rt.alloc())?;
     words[25] = 8;
     words[8] = 5;
@@ -65,6 +80,17 @@ fn a_link_that_names_no_record_ends_its_chain(rt: HostRuntime) -> Result<(), Fai
 }
 
 #[test]
+fn a_link_that_names_no_record_ends_its_chain(rt: HostRuntime) -> Result<(), Fail> {
+    let mut words = two_rows(rt.alloc())?;
+    words[13] = 9;
+    let mut flat = Flat::new(words);
+    assert_eq!(rt; TABLE.find(&mut flat, 7)?, Some(12));
+    assert_eq!(rt; TABLE.find(&mut flat, 5)?, None);
+    assert_eq!(rt; keys_of(rt.alloc(), flat.words(), &TABLE)?, None);
+    Ok(())
+}
+
+#[test]
 fn keys_are_inserted_until_the_table_is_full(rt: HostRuntime) -> Result<(), Fail> {
     let mut flat = Flat::new(opening(rt.alloc())?);
     assert!(rt; insert_all(&TABLE, &mut flat, &[9, 4, 9])?);
@@ -72,17 +98,29 @@ fn keys_are_inserted_until_the_table_is_full(rt: HostRuntime) -> Result<(), Fail
     Ok(())
 }
 
+// Whether the last Stop was this one, nothing was written, and the array is that of two rows.
+fn is_untouched(alloc: Global, words: Stopping, stop: Stop) -> Result<bool, AllocError> {
+    let stopped = words.stopped() == Some(stop);
+    let mut flat = words.into_flat();
+    let unwritten = flat.take(1).len() == 0;
+    Ok(stopped && unwritten && flat.words() == two_rows(alloc)?.as_slice())
+}
+
 #[test]
 fn a_stop_at_a_read_is_handed_on_and_nothing_is_written(rt: HostRuntime) -> Result<(), Fail> {
+    let alloc = rt.alloc();
     for stop in [Stop::Conflict { lock: 3, seen: 9 }, Stop::Out { page: 1 }] {
-        let mut words = Stopping::new(Flat::new(opening(rt.alloc())?), 3, stop);
-        assert_eq!(rt; TABLE.insert(&mut words, 5), Err(stop));
-        assert_eq!(rt; TABLE.find(&mut words, 5), Err(stop));
-        assert_eq!(rt; TABLE.remove(&mut words, 5), Err(stop));
-        assert_eq!(rt; words.stopped(), Some(stop));
-        let mut flat = words.into_flat();
-        assert_eq!(rt; flat.take(1).len(), 0);
-        assert_eq!(rt; flat.words(), opening(rt.alloc())?.as_slice());
+        for calls in 0..4 {
+            let mut words = Stopping::new(Flat::new(two_rows(alloc)?), calls, stop);
+            assert_eq!(rt; TABLE.find(&mut words, 5), Err(stop));
+            assert!(rt; is_untouched(alloc, words, stop)?);
+            let mut words = Stopping::new(Flat::new(two_rows(alloc)?), calls, stop);
+            assert_eq!(rt; TABLE.insert(&mut words, 9), Err(stop));
+            assert!(rt; is_untouched(alloc, words, stop)?);
+            let mut words = Stopping::new(Flat::new(two_rows(alloc)?), calls, stop);
+            assert_eq!(rt; TABLE.remove(&mut words, 5), Err(stop));
+            assert!(rt; is_untouched(alloc, words, stop)?);
+        }
     }
     Ok(())
 }

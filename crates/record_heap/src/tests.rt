@@ -73,19 +73,29 @@ fn all_records_are_taken(rt: HostRuntime) -> Result<(), Fail> {
     Ok(())
 }
 
+// Whether the last Stop was this one, nothing was written, and the array is as it was.
+fn is_untouched(alloc: Global, words: Stopping, stop: Stop) -> Result<bool, AllocError> {
+    let stopped = words.stopped() == Some(stop);
+    let mut flat = words.into_flat();
+    let unwritten = flat.take(1).len() == 0;
+    Ok(stopped && unwritten && flat.words() == opening(alloc)?.as_slice())
+}
+
 #[test]
 fn a_stop_at_a_read_is_handed_on_and_nothing_is_written(rt: HostRuntime) -> Result<(), Fail> {
+    let alloc = rt.alloc();
     for stop in [Stop::Conflict { lock: 3, seen: 9 }, Stop::Out { page: 1 }] {
         for calls in 0..2 {
-            let mut words = Stopping::new(Flat::new(opening(rt.alloc())?), calls, stop);
+            let mut words = Stopping::new(Flat::new(opening(alloc)?), calls, stop);
             assert_eq!(rt; POOL.take(&mut words), Err(stop));
+            assert!(rt; is_untouched(alloc, words, stop)?);
+            let mut words = Stopping::new(Flat::new(opening(alloc)?), calls, stop);
             assert_eq!(rt; POOL.give(&mut words, 8), Err(stop));
-            assert_eq!(rt; POOL.live(&mut words), Err(stop));
-            assert_eq!(rt; words.stopped(), Some(stop));
-            let mut flat = words.into_flat();
-            assert_eq!(rt; flat.take(1).len(), 0);
-            assert_eq!(rt; flat.words(), opening(rt.alloc())?.as_slice());
+            assert!(rt; is_untouched(alloc, words, stop)?);
         }
+        let mut words = Stopping::new(Flat::new(opening(alloc)?), 0, stop);
+        assert_eq!(rt; POOL.live(&mut words), Err(stop));
+        assert!(rt; is_untouched(alloc, words, stop)?);
     }
     Ok(())
 }
