@@ -94,6 +94,7 @@ impl Flat {
 
 impl Words for Flat {
     ghost use Rattle.std.specs.Prelude.{◌≡◌};
+    ghost use Rattle.std.proofs.Common.{refl, ◌∙◌};
     ghost use Rattle.word_space.specs.Flats.{words_of, sight_of, flat_fits};
 
     ghost sight = { sight_of };
@@ -101,6 +102,10 @@ impl Words for Flat {
     ghost turns_into = { λ x y. words_of y ≡ words_of x };
 
     ghost fits = { flat_fits };
+
+    ghost begins = { λ x. refl };
+
+    ghost goes_on = { λ x y z first next. next ∙ first };
 
     fn len(&self) -> u64 {
         self.words.len() as u64

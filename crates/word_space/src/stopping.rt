@@ -50,6 +50,7 @@ impl Stopping {
 
 impl Words for Stopping {
     ghost use Rattle.std.specs.Prelude.{◌≡◌};
+    ghost use Rattle.std.proofs.Common.{refl, ◌∙◌};
     ghost use Rattle.word_space.specs.Flats.{words_of};
     ghost use Rattle.word_space.specs.Stoppings.{flat_of, stopping_sight, stopping_fits};
 
@@ -58,6 +59,10 @@ impl Words for Stopping {
     ghost turns_into = { λ x y. words_of (flat_of y) ≡ words_of (flat_of x) };
 
     ghost fits = { stopping_fits };
+
+    ghost begins = { λ x. refl };
+
+    ghost goes_on = { λ x y z first next. next ∙ first };
 
     fn len(&self) -> u64 {
         self.flat.len()

@@ -13,7 +13,8 @@ pub trait Words {
     ghost sight: { Self → Sight };
 
     // The one value may become the other by calls of this trait. It says what an implementation keeps
-    // beside its sight, as the array of a `Flat`.
+    // beside its sight, as the array of a `Flat`. Each call ensures it from entry to exit, in the form that
+    // whatever turned into the value before turns into the one after.
     ghost turns_into: { Self → Self → Type 0 };
 
     /// How many words there are.
@@ -39,4 +40,8 @@ pub trait Words {
         ensures turns { GoesOn turns_into self.old self.new };
 
     ghost fits: { (x : Self) → Fits (sight x) };
+
+    ghost begins: { (x : Self) → turns_into x x };
+
+    ghost goes_on: { (x y z : Self) → turns_into x y → turns_into y z → turns_into x z };
 }
