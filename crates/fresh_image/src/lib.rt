@@ -1,8 +1,9 @@
 //! The image of the command `fresh`: version 0, one ring of sixteen cells, eight home words a subscriber.
 //!
-//! `specs/` says what an image is (`Layout`), what a complete record is (`Record`) and what an image recovers to
-//! (`Recovery`); what rests on the medium between two requests (`Fresh`), and the calls that format it and log an update
-//! (`FormatCalls`, `Calls`). The two functions that make these calls say what a crash at each moment leaves.
+//! `specs/` says how the medium stands between two requests, its log ring included (`Fresh`, `Rings`), which home words
+//! stand for a database (`Rows`), and which calls format the image and log an update (`FormatCalls`, `Calls`). What an
+//! image recovers to is said in `redo_record`. The two functions that make these calls say what a crash at each moment
+//! leaves.
 #![tactic(auto)]
 
 mod format;

@@ -1,4 +1,4 @@
-//! The log rings of an image: records are appended, released once they are home, and found again.
+//! The log rings of an image: records are appended, and released once they are home.
 #![tactic(auto)]
 
 mod calls;
