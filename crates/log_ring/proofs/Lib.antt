@@ -3,3 +3,7 @@ pub mod HeadsAtRest
 pub mod Laid
 pub mod RingCalls
 pub mod Released
+pub mod RecordReads
+pub mod ScanReads
+pub mod ScanSteps
+pub mod ScanEnd

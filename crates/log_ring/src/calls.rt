@@ -12,6 +12,7 @@ ghost use Rattle.redo_record.specs.Encoding.{encoded};
 ghost use Rattle.redo_record.specs.Calls.{words_from, cell_writes, body_writes, lines_from, tag_write, append_calls};
 ghost use Rattle.log_ring.specs.Ring.{cell_at};
 
+use crate::cells::front_after;
 use dude_base::limits::LINE;
 use dude_base::place::Place;
 use dude_base::redo::Redo;
@@ -20,28 +21,6 @@ use redo_record::{cells_of, encode};
 
 /// The kind of a head, in the two highest bits of its tag.
 const HEAD_KIND: u64 = 1 << 62;
-
-/// The place of the cell that comes `steps` after this one.
-pub fn place_after(place: &Place, head: u64, steps: u64) -> u64
-    requires head { head < place.now.cells }
-    requires steps { steps < 10000 }
-    ensures place { result ≡ (head + steps) % place.now.cells }
-    ensures inside { result < place.now.cells }
-{
-    let sizes = place.sizes();
-    (head + steps) % sizes.cells
-}
-
-// The front of the cell that comes `steps` after this one.
-fn front_after(place: &Place, ring: u64, head: u64, steps: u64) -> u64
-    requires ring { ring < place.now.rings }
-    requires head { head < place.now.cells }
-    requires steps { steps < 10000 }
-    ensures front { result ≡ front_of place.now (cell_after place.now (cell_at ring head) steps) }
-    ensures inside { result + 8 ≤ image_words place.now }
-{
-    place.cell(ring, place_after(place, head, steps))
-}
 
 // Each word with its place, the first at `at`.
 fn placed(at: u64, words: &[u64; LINE as usize]) -> [(u64, u64); LINE as usize]

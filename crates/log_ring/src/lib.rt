@@ -2,12 +2,19 @@
 #![tactic(auto)]
 
 mod calls;
+mod cells;
 mod entry;
+mod found;
+mod reads;
 mod ring;
 mod ring_fault;
+mod scan_fault;
+mod scanning;
 
 pub use ring::Ring;
 pub use ring_fault::RingFault;
+pub use scan_fault::ScanFault;
+pub use scanning::scan;
 
 #[cfg(test)]
 mod tests;

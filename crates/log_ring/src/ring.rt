@@ -11,7 +11,8 @@ ghost use Rattle.log_ring.specs.Ring.{Fits, HasNoNewHead, next_head, with_entry,
 ghost use Rattle.log_ring.specs.Outcome.{CallsMade, IsOverfull, full_for};
 ghost use Rattle.log_ring.specs.declared.ring_fault.RingFault.TheVariants.{Device};
 
-use crate::calls::{append_record, cells_in_record, place_after};
+use crate::calls::{append_record, cells_in_record};
+use crate::cells::place_after;
 use crate::entry::Entry;
 use crate::ring_fault::RingFault;
 use dude_base::place::Place;

@@ -20,7 +20,7 @@ pub struct MemPmem {
 
 impl MemPmem {
     ghost use Rattle.std.specs.Prelude.{◌≡◌, ℕ, ◌<◌, ◌≤◌, length, slice_index, IfOk, IfErr, IsErrOf, ◌⊎◌, ◌↔◌};
-    ghost use Rattle.pmem_trait.specs.Words.{last_told, value_of, IsImage};
+    ghost use Rattle.pmem_trait.specs.Words.{last_told, value_of, IsContent, IsImage};
     ghost use Rattle.pmem_trait.specs.Sights.{here};
     ghost use Rattle.pmem_fake.specs.History.{Opening, IsPicked, EachIsPicked};
     ghost use Rattle.pmem_fake.specs.Fakes.{sight, allowed, failing};
@@ -47,8 +47,7 @@ impl MemPmem {
 
     /// What reads give, by place.
     pub fn content(&self) -> &[u64]
-        ensures len { length result.now ≡ (sight self.now).len }
-        ensures value { (k : ℕ) → k < (sight self.now).len → slice_index result.now k ≡ value_of ((here (sight self.now)).word k) }
+        ensures { IsContent (sight self.now).len (here (sight self.now)) result.now }
     {
         &self.words
     }

@@ -4,3 +4,4 @@ pub mod GroupRuns
 pub mod Images
 pub mod Laws
 pub mod Runs
+pub mod ReadRuns

@@ -85,6 +85,11 @@ pub record IsImage (len : ℕ) (p : Point) (image : List ℕ) : Type 0 where
   pub size : length image ≡ len
   pub each : (k : ℕ) → k < len → MayBe (p.word k) (slice_index image k)
 
+-- The content at this state, as reads give it: of each of the first len words the last value put, or the settled one.
+pub record IsContent (len : ℕ) (p : Point) (content : List ℕ) : Type 0 where
+  pub size : length content ≡ len
+  pub each : (k : ℕ) → k < len → slice_index content k ≡ value_of (p.word k)
+
 -- Every image that a crash may leave at this state has P, beside the numbers told.
 pub record Leaves (len : ℕ) (P : List ℕ → List ℕ → Type 0) (p : Point) : Type 0 where
   pub each : (image : List ℕ) → IsImage len p image → P p.told image

@@ -18,4 +18,4 @@ pub use failed::Failed;
 pub use group::{flush_all, put_all, settle_group};
 pub use made::Made;
 pub use medium::Medium;
-pub use medium_laws::{OfImages, law_of_calls, law_of_groups, law_of_settling};
+pub use medium_laws::{OfImages, law_of_calls, law_of_groups, law_of_reads, law_of_settling};

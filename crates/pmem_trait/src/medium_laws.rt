@@ -2,6 +2,7 @@
 
 ghost use Rattle.std.specs.Prelude.{ℕ, Bool, List};
 ghost use Rattle.pmem_trait.specs.MediumLaws.{LawOfCalls, LawOfGroups, LawOfSettling};
+ghost use Rattle.pmem_trait.specs.Reads.{LawOfReads};
 
 use std::marker::Brand;
 
@@ -28,4 +29,9 @@ pub fn law_of_groups<P: OfImages>()
 /// A group of writes settles each word that was settled before and whose line it flushes, or that it doesn't write.
 pub fn law_of_settling()
     ensures { LawOfSettling }
+{}
+
+/// Reads alone leave the medium's state as it is, at each moment and also where one of them fails.
+pub fn law_of_reads()
+    ensures { LawOfReads }
 {}

@@ -1,0 +1,69 @@
+-- The words of a record as they are read from the content, and what they decode to.
+use Rattle.std.proofs.Common.{◌≡◌, ◌≢◌, ⊎_elim, ℕ, ◌+◌, ◌*◌, ◌/◌, ◌%◌, ◌^◌, ◌<◌, ◌≤◌, List, length, length-take-le, take, get_or-take, slice_index, slice_set, Option, Some, None, sym, ap, ◌∙◌, subst, arith, get_or-set_same, get_or-set_other}
+use Rattle.std.proofs.lemmas.Bool.{cases_eq}
+use Rattle.dude_base.specs.declared.sizes.Sizes.{Sizes}
+use Rattle.dude_base.specs.Records.{RedoRecord}
+use Rattle.redo_record.specs.Tags.{IsHeadOver}
+use Rattle.redo_record.specs.Cells.{Cell, IsCell, front_of}
+use Rattle.redo_record.specs.Record.{cells_for, count_of}
+use Rattle.redo_record.specs.Encoding.{cells_in}
+use Rattle.redo_record.specs.Images.{tag_of, cells_from, IsComplete, IsNewHead}
+use Rattle.redo_record.proofs.CellPlaces.{first_cell}
+use Rattle.redo_record.proofs.HeldRecords.{AreSame, holds_same, complete_same, count_same, record_same}
+use Rattle.log_ring.specs.Scanning.{HoldsHome, IsHomeRecord, IsRecordAt}
+
+-- one word more
+pub word_more : (f : ℕ → ℕ) (words : List ℕ) (i v : ℕ) → i < length words → ((j : ℕ) → j < i → slice_index words j ≡ f j) → f i ≡ v
+    → (j : ℕ) → j < i + 1 → slice_index (slice_set words i v) j ≡ f j
+word_more f words i v inside before is j below = ⊎_elim
+    (λ (same : j ≡ i). subst (λ (k : ℕ). slice_index (slice_set words i v) k ≡ f k) (sym same) (get_or-set_same words i v 0 inside ∙ sym is))
+    (λ (apart : j ≢ i). get_or-set_other words i j v 0 apart ∙ before j (omega arith))
+    (cases_eq j i)
+
+-- word j of a head
+pub word_of_head : (s : Sizes) (content : List ℕ) (head : Cell) (front j v : ℕ) → IsCell s head → front ≡ front_of s head → slice_index content (front + j) ≡ v → cells_from s content head 0 j ≡ v
+word_of_head s content head front j v is_cell at is = ap (slice_index content) (first_cell s head is_cell j ∙ ap (λ x. x + j) (sym at)) ∙ is
+
+-- the head of a number over this one, by its tag
+pub new_head : (s : Sizes) (above : ℕ) (content : List ℕ) (head : Cell) (front tag : ℕ) → IsCell s head → front ≡ front_of s head → slice_index content front ≡ tag
+    → tag / 2 ^ 62 ≡ 1 → above < tag % 2 ^ 62 → IsNewHead s above content head
+new_head s above content head front tag is_cell at is kind over =
+    let tag_is : tag_of s content head ≡ tag = ap (slice_index content) (sym at) ∙ is in
+    record { cell = is_cell; new = subst (IsHeadOver above) (sym tag_is) (record { kind = kind; over = over }) }
+
+module _ (s : Sizes) (content words : List ℕ) (head : Cell) (count cells : ℕ) (needs : cells ≡ cells_for count) (few : cells ≤ 8) (long : length words ≡ 64)
+    (counted : count_of (cells_from s content head) ≡ count) (is : (k j : ℕ) → k < cells → j < 8 → slice_index words (8 * k + j) ≡ cells_from s content head k j) where
+  abbrev pub slice : List ℕ
+  slice = take (8 * cells) words
+
+  size : length slice ≡ 8 * cells
+  size = length-take-le (8 * cells) words (omega arith)
+
+  word_same : (k j : ℕ) → k < cells → j < 8 → cells_in slice k j ≡ cells_from s content head k j
+  word_same k j lt small = get_or-take (8 * cells) words (8 * k + j) 0 (omega arith) ∙ is k j lt small
+
+  below : {k n : ℕ} → n ≡ count → k < cells_for n → k < cells
+  below {k} {n} is_count lt = let same : cells_for n ≡ cells = ap cells_for is_count ∙ sym needs in omega arith
+
+  same : AreSame (cells_from s content head) (cells_in slice) (cells_for (count_of (cells_from s content head)))
+  same = record { word = λ k j lt small. word_same k j (below counted lt) small }
+
+  slice_counted : count_of (cells_in slice) ≡ count
+  slice_counted = count_same same ∙ counted
+
+  back : AreSame (cells_in slice) (cells_from s content head) (cells_for (count_of (cells_in slice)))
+  back = record { word = λ k j lt small. sym (word_same k j (below slice_counted lt) small) }
+
+  holds_home : IsComplete s content head → HoldsHome s slice
+  holds_home held = record {
+    slice = record { whole = holds_same same held.whole; size = size ∙ ap (λ n. 8 * n) (needs ∙ ap cells_for (sym slice_counted)) };
+    home = (complete_same same held).home;
+  }
+
+  -- what was decoded is the record of the content's cells
+  pub record_is : (found : Option RedoRecord) → IsHomeRecord s slice found → IsRecordAt s content head found
+  record_is None none = λ held. none (holds_home held)
+  record_is (Some r) some = (
+    complete_same back (record { whole = some.0.slice.whole; home = some.0.home }),
+    record_same back ∙ sym some.1,
+  )

@@ -1,0 +1,37 @@
+-- The reads of a scan, as its answer tells of them.
+use Rattle.std.proofs.Common.{◌≡◌, ◌≢◌, true, false, Result, Ok, Err, IfErr, IsErrOf, refl, sym, subst, rules}
+use Rattle.pmem_trait.specs.Sights.{Sight, Risen}
+use Rattle.pmem_trait.specs.Reads.{OnlyReads}
+use Rattle.pmem_trait.proofs.Runs.{makes_cause}
+use Rattle.pmem_trait.proofs.ReadRuns.{reads_then}
+use Rattle.log_ring.specs.declared.scan_fault.ScanFault.{ScanFault}
+use Rattle.log_ring.specs.declared.scan_fault.ScanFault.TheVariants.{Damaged, Device, NoMemory}
+use Rattle.log_ring.specs.Scan.{ReadsMade}
+
+-- a read failed
+pub made_at_device : {X : Type 0} (r : Result X ScanFault) {s t : Sight} → r ≡ Err Device → OnlyReads false s t → ReadsMade r s t
+made_at_device r {s} {t} is reads = subst (λ (r : Result _ ScanFault). ReadsMade r s t) (sym is) reads
+
+-- no read failed
+pub made_well : {X : Type 0} (r : Result X ScanFault) {s t : Sight} → IfErr r (λ fault. fault ≢ Device) → OnlyReads true s t → ReadsMade r s t
+made_well (Ok found) other reads = reads
+made_well (Err (Damaged line)) other reads = reads
+made_well (Err NoMemory) other reads = reads
+made_well (Err Device) other reads = absurd (other refl)
+
+-- the same fault with another type of answer, after some reads
+pub made_again : {X Y : Type 0} (r : Result X ScanFault) (q : Result Y ScanFault) (fault : ScanFault) (s t u : Sight) → r ≡ Err fault → q ≡ Err fault → OnlyReads true s t → ReadsMade q t u → ReadsMade r s u
+made_again {X} {Y} r q fault s t u r_is q_is before made =
+    subst (λ (r : Result X ScanFault). ReadsMade r s u) (sym r_is) (by fault (subst (λ (q : Result Y ScanFault). ReadsMade q t u) q_is made))
+  where
+    by : (fault : ScanFault) → ReadsMade {X = Y} (Err fault) t u → ReadsMade {X = X} (Err fault) s u
+    by (Damaged line) made = reads_then before made
+    by Device made = reads_then before made
+    by NoMemory made = reads_then before made
+
+-- at Device the count of faults rose
+pub made_cause : {X : Type 0} (r : Result X ScanFault) (s t : Sight) → ReadsMade r s t → IsErrOf r Device → Risen s.faults t.faults
+made_cause (Ok found) s t made is = absurd (search rules)
+made_cause (Err (Damaged line)) s t made is = absurd (search rules)
+made_cause (Err NoMemory) s t made is = absurd (search rules)
+made_cause (Err Device) s t made is = makes_cause made.made

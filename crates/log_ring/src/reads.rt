@@ -1,0 +1,93 @@
+//! The reads that fetch one record from its ring.
+
+ghost use Rattle.std.specs.Prelude.{◌≡◌, ℕ, ◌+◌, ◌*◌, ◌<◌, ◌≤◌, Decides, All, is_ok, slice_index, IfOk, OnOk};
+ghost use Rattle.dude_base.specs.declared.limits.TheConstants.{LINE, PAGE};
+ghost use Rattle.dude_base.specs.Image.{image_words};
+ghost use Rattle.pmem_trait.specs.Reads.{OnlyReads, ContentHas};
+ghost use Rattle.redo_record.specs.Images.{cells_from};
+ghost use Rattle.log_ring.specs.Ring.{cell_at};
+ghost use Rattle.log_ring.specs.Scanning.{IsRecordAt, IsHomeRecord};
+
+use crate::cells::front_after;
+use dude_base::limits::{LINE, MAX_WRITES, PAGE};
+use dude_base::place::Place;
+use dude_base::redo::Redo;
+use pmem_trait::{Failed, Medium};
+use redo_record::decode;
+
+/// Words of the most cells that a record takes.
+const RECORD: u64 = LINE * (MAX_WRITES / 3);
+
+// The words of some cells, one after another.
+#[tactic(auto, using(pmem_trait::proofs::ReadRuns::reading))]
+fn read_cells<M: Medium>(
+    m: &mut M,
+    place: &Place,
+    ring: u64,
+    head: u64,
+    cells: u64,
+    words: &mut [u64; RECORD as usize],
+) -> Result<(), Failed>
+    requires ring { ring < place.now.rings }
+    requires head { head < place.now.cells }
+    requires few { cells ≤ 8 }
+    requires room { image_words place.now ≤ (M.sight m.old).len }
+    ensures len { (M.sight m.new).len ≡ (M.sight m.old).len }
+    ensures reads { OnlyReads (is_ok result) (M.sight m.old) (M.sight m.new) }
+    ensures words { OnOk result (ContentHas (λ content. (k j : ℕ) → k < cells → j < LINE → slice_index words.new (LINE * k + j) ≡ cells_from place.now content (cell_at ring head) k j) (M.sight m.old)) }
+{
+    for i in 0..LINE * cells {
+        words[i as usize] = m.read(front_after(place, ring, head, i / LINE) + i % LINE)?;
+    }
+    Ok(())
+}
+
+// Whether each write is one of a home word.
+fn is_home(place: &Place, r: &Redo) -> bool
+    ensures { Decides result (All (λ w. w.at < place.now.pages * PAGE) r.now.writes) }
+{
+    let words = place.sizes().pages * PAGE;
+    for k in 0..r.len() {
+        if r.write_at(k).at >= words {
+            return false;
+        }
+    }
+    true
+}
+
+// The record of a slice of cells, where they are just a record's and its writes are those of home words.
+fn home_record(place: &Place, cells: &[u64]) -> Option<Redo>
+    ensures { IsHomeRecord place.now cells.now result }
+{
+    let redo = decode(cells).ok()?;
+    if is_home(place, &redo) {
+        Some(redo)
+    } else {
+        None
+    }
+}
+
+/// The record whose head stands at this place of a ring, where it is complete.
+#[tactic(auto, using(pmem_trait::proofs::ReadRuns::reading))]
+pub fn read_record<M: Medium>(
+    m: &mut M,
+    place: &Place,
+    ring: u64,
+    head: u64,
+) -> Result<Option<Redo>, Failed>
+    requires ring { ring < place.now.rings }
+    requires head { head < place.now.cells }
+    requires room { image_words place.now ≤ (M.sight m.old).len }
+    ensures len { (M.sight m.new).len ≡ (M.sight m.old).len }
+    ensures reads { OnlyReads (is_ok result) (M.sight m.old) (M.sight m.new) }
+    ensures record { IfOk result (λ found. ContentHas (λ content. IsRecordAt place.now content (cell_at ring head) found) (M.sight m.old)) }
+{
+    let count = m.read(place.cell(ring, head) + 1)?;
+    if count > MAX_WRITES {
+        return Ok(None);
+    }
+    let cells = count.div_ceil(3).max(1);
+    let mut words = [0; RECORD as usize];
+    read_cells(m, place, ring, head, cells, &mut words)?;
+    Ok(home_record(place, &words[..(LINE * cells) as usize]))
+}
