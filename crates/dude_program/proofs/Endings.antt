@@ -85,19 +85,19 @@ pub ends_refused : {meaning : Option Meaning} {s : Sight} {f g : FilesSight} {k 
     → Ends meaning (world_of s f k) (world_of s g k) [] (Some fault)
 ends_refused {meaning} Usage files h =
     let none = h.0 in
-    refused Usage files (λ own is tells. refl) tt tt none (λ _. none, λ _. refl)
+    refused Usage files (λ own is. refl) tt tt none (λ _. none, λ _. refl)
     (λ own is tells bad. absurd (let no : ⊥ = cc in no)) (λ own is short. absurd (let no : ⊥ = cc in no))
     (λ own requests is tells good long a b c. absurd (let no : ⊥ = cc in no)) (λ e. let no : ⊥ = cc in no)
     (λ _. h.1) (λ own is tells misses. absurd (let no : ⊥ = cc in no))
 ends_refused (File n) files h =
     let one : ◌≡◌ {A = Option Fault} (Some (File n)) (Some (File 1)) = ap (λ (k : ℕ). let o : Option Fault = Some (File k) in o) h.1 in
-    refused (File n) files (λ own is tells. refl) tt tt (h.1, h.2) (not_usage (Some (File n)) (λ e. let no : ⊥ = cc in no) h.0)
+    refused (File n) files (λ own is. refl) tt tt (h.1, h.2) (not_usage (Some (File n)) (λ e. let no : ⊥ = cc in no) h.0)
     (λ own is tells bad. inr (inl one)) (λ own is short. inr (inr (inl one)))
     (λ own requests is tells good long a b c. absurd (b h.2)) (λ e. let no : ⊥ = cc in no)
     (λ none. absurd (means _ h.0 none)) (λ own is tells misses. inl one)
 ends_refused {meaning} {f = f} (Text n r c) files h =
     let same : ◌≡◌ {A = Option Fault} (Some (Text n r c)) (Some (Text 1 0 0)) = text_is h.1 h.2 h.3 in
-    refused (Text n r c) files (λ own is tells. refl) tt tt (h.1, h.2, h.3, h.4) (not_usage (Some (Text n r c)) (λ e. let no : ⊥ = cc in no) h.0)
+    refused (Text n r c) files (λ own is. refl) tt tt (h.1, h.2, h.3, h.4) (not_usage (Some (Text n r c)) (λ e. let no : ⊥ = cc in no) h.0)
     (λ own is tells bad. inl same) (λ own is short. inr (inl same))
     (λ own requests is tells good long x y z. absurd (contradicts own requests is good (h.4 tells))) (λ e. let no : ⊥ = cc in no)
     (λ none. absurd (means _ h.0 none)) (λ own is tells misses. absurd (bad_not_missing own f (is_bad own is (h.4 tells)) misses))
@@ -184,7 +184,7 @@ pub ends_faulted : {meaning : Option Meaning} {S : ℕ} {requests : List Request
     → Tried meaning S requests done last (Some earlier) s t f g → Ends meaning (world_of s f k) (world_of t g k) done (Some earlier)
 ends_faulted {S = S} {s = s} (Small has needs) it =
     let c = it.carried.cause in
-    tried (Some (Small has needs)) it tt (λ tells. refl) tt (c.2, omega (arith, c.2, c.3, c.4), FreshRun S it.plan.file, it.plan.meant, c.3) (λ e. let no : ⊥ = cc in no)
+    tried (Some (Small has needs)) it tt refl tt (c.2, omega (arith, c.2, c.3, c.4), FreshRun S it.plan.file, it.plan.meant, c.3) (λ e. let no : ⊥ = cc in no)
     (λ short. inl (small_is c.2 c.3)) (λ long a b. absurd (omega (arith, c.2, c.3, c.4))) (λ low high. (c.1, c.0)) it.carried.ran
   where
     small_is : {a b n m : ℕ} → a ≡ b → n ≡ m → ◌≡◌ {A = Option Fault} (Some (Small a n)) (Some (Small b m))
@@ -194,7 +194,7 @@ ends_faulted {k = k} Memory it =
     (λ low high. (it.carried.cause.1, it.carried.cause.0)) it.carried.ran
 ends_faulted Device it =
     let c = it.carried.cause in
-    tried (Some Device) it tt (λ tells. refl) tt c.1 (λ e. let no : ⊥ = cc in no) (λ short. absurd (omega (arith, c.0))) (λ long a b. absurd (a c.1)) (λ low high. absurd (omega arith))
+    tried (Some Device) it tt refl tt c.1 (λ e. let no : ⊥ = cc in no) (λ short. absurd (omega (arith, c.0))) (λ long a b. absurd (a c.1)) (λ low high. absurd (omega arith))
     it.carried.ran
 ends_faulted Usage it = absurd it.carried.cause
 ends_faulted (File n) it = absurd it.carried.cause

@@ -76,6 +76,6 @@ abbrev pub PrintsFront : Meaning → List Done → SinkSight → SinkSight → T
 PrintsFront meaning done s t =
     IsTrue s.tells → (n : ℕ) × (t.taken ≡ s.taken ++ take n (output_of done (last_of (opening_of meaning).number done)))
 
--- or nothing
+-- or nothing: the sink wasn't called
 abbrev pub PrintsNothing : SinkSight → SinkSight → Type 0
-PrintsNothing s t = IsTrue s.tells → t.taken ≡ s.taken
+PrintsNothing s t = t ≡ s
