@@ -5,8 +5,11 @@ ghost use Rattle.pmem_fake.specs.Fakes.{sight};
 
 use crate::ended::Ended;
 use crate::top::dude;
+use dude_base::place::Place;
+use dude_base::sizes::Sizes;
 use dude_io::{Files, MemFile, MemFiles, MemSink, Sink};
 use dude_text::Fault;
+use log_ring::scan;
 use pmem_fake::MemPmem;
 use pmem_trait::Medium;
 use std::alloc::{AllocError, Global};
@@ -276,14 +279,38 @@ fn recover(alloc: Global, image: &[u64]) -> Result<Option<(u64, Vec<u64>)>, Allo
     Ok(Some((number, home)))
 }
 
-/// Whether the image recovers to a number of 0 to `most`, with the location that the update of this number gave to
-/// subscriber 1.
+/// Whether a scan of the image's ring gives just the records of the numbers from the one over the mark to this one.
+fn scan_agrees(alloc: Global, image: &[u64], number: u64) -> Result<bool, AllocError> {
+    let Ok(sizes) = Sizes::of(8, 96, 1, 16) else {
+        return Ok(false);
+    };
+    let place = Place::of(&sizes);
+    let mut medium = MemPmem::new(alloc, image.to_vec(alloc)?, 4000, Vec::new(alloc))?;
+    if medium.len() < place.words() {
+        return Ok(false);
+    }
+    let mark = image.get(8).copied().unwrap_or(0);
+    let Ok(found) = scan(alloc, &mut medium, &place, mark) else {
+        return Ok(false);
+    };
+    let numbers: Vec<u64> = found.iter().map(|redo| redo.number()).collect(alloc)?;
+    let expected: Vec<u64> = (mark.saturating_add(1)..=number).collect(alloc)?;
+    Ok(numbers == expected)
+}
+
+/// Whether the image recovers to a number from `least` to `most`, with the location that the update of this number gave
+/// to subscriber 1, and a scan gives the records of the numbers up to it.
 fn has_location(alloc: Global, image: &[u64], least: u64, most: u64) -> Result<bool, AllocError> {
     let Some((number, home)) = recover(alloc, image)? else {
         return Ok(false);
     };
     let location = if number == 0 { 1_000_001 } else { number };
-    Ok(least <= number && number <= most && home.get(6).copied() == Some(location))
+    Ok(
+        least <= number
+            && number <= most
+            && home.get(6).copied() == Some(location)
+            && scan_agrees(alloc, image, number)?,
+    )
 }
 
 #[test]
