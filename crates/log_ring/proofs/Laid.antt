@@ -1,24 +1,13 @@
 -- Records that follow one another round a ring: the cells behind them are free, and what stays where one is added or the
 -- oldest are taken away.
-use Rattle.std.proofs.Common.{◌≡◌, ◌⊎◌, inl, inr, ⊎_elim, ℕ, suc, ◌+◌, ◌-◌, ◌%◌, ◌<◌, ◌≤◌, Bool, true, false, List, [], ◌∷◌, ◌++◌, length, refl, sym, ap, ◌∙◌, subst, arith, rules, All, Some, nat_lt, if◌then◌else◌}
+use Rattle.std.proofs.Common.{◌≡◌, ◌⊎◌, inl, inr, ℕ, suc, ◌+◌, ◌%◌, ◌<◌, ◌≤◌, Bool, true, false, List, [], ◌∷◌, ◌++◌, length, refl, sym, ap, ◌∙◌, subst, arith, rules, All, Some, nat_lt, if◌then◌else◌}
 use Rattle.std.specs.List.{filter, slice_get}
-use Rattle.std.proofs.Math.Nat.{mod-eq_of_lt, mod-eq-sub-mod, mod-add-mod}
-use Rattle.std.proofs.lemmas.Bool.{cases_lt}
+use Rattle.std.proofs.Math.Nat.{mod-add-mod}
 use Rattle.std.proofs.lemmas.List.Elements.{All-nil, All-cons, All-append}
 use Rattle.std.proofs.lemmas.List.Sums.{sum_by-append, sum_by-cons}
 use Rattle.redo_record.specs.Fits.{Logged, cells_used}
-use Rattle.redo_record.proofs.CellPlaces.{steps_same}
+use Rattle.redo_record.proofs.CellPlaces.{wrapped, steps_same}
 use Rattle.log_ring.specs.Laid.{AreLaid}
-
--- k places on, in a ring of c places
-wrapped : (c p k : ℕ) → p < c → k ≤ c → ((p + k < c) × ((p + k) % c ≡ p + k)) ⊎ ((c ≤ p + k) × ((p + k) % c + c ≡ p + k))
-wrapped c p k below few = ⊎_elim
-    (λ (lt : p + k < c). inl (lt, mod-eq_of_lt lt))
-    (λ (over : c ≤ p + k).
-    let less : p + k - c < c = omega arith in
-    let is : (p + k) % c ≡ p + k - c = mod-eq-sub-mod over ∙ mod-eq_of_lt less in
-    inr (over, omega arith))
-    (cases_lt (p + k) c)
 
 -- the way from the oldest head to the next place is what the records take
 pub used_is : (c next first used d : ℕ) → first < c → 1 ≤ used → used ≤ c → (first + used) % c ≡ next

@@ -3,7 +3,7 @@ use Rattle.std.proofs.Common.{◌≡◌, ◌⊎◌, inl, inr, ⊎_elim, ℕ, ◌
 use Rattle.std.proofs.lemmas.List.{map-append}
 use Rattle.pmem_trait.specs.declared.call.Call.{Call}
 use Rattle.pmem_trait.specs.declared.call.Call.TheVariants.{Read}
-use Rattle.pmem_trait.specs.Words.{Point, Word, value_of, IsContent}
+use Rattle.pmem_trait.specs.Words.{Point, Word, value_of}
 use Rattle.pmem_trait.specs.Sights.{Sight, here, Goes, Does, Makes, Makes.none, Makes.stop, Makes.step}
 use Rattle.pmem_trait.specs.Reads.{OnlyReads, IsSameState, LawOfReads, ContentHas}
 use Rattle.pmem_trait.proofs.Runs.{makes_then, makes_later, goes_alone}
@@ -28,7 +28,7 @@ read_same {at} {ok} {s} {t} g told m from upto = by (first_or_next s.now t.now m
     first_or_next a b m from upto (inr full) = inl (omega (arith, full.1))
 
     by : (m ≡ s.now) ⊎ ((t.now ≡ m) × (t.now ≡ s.now + 1)) → IsSameState (here s) (t.point m)
-    by (inl now) = subst (IsSameState (here s)) (sym (g.later.past told m (omega arith)) ) (subst (λ (k : ℕ). IsSameState (here s) (s.point k)) (sym now) (same_here (here s)))
+    by (inl now) = subst (IsSameState (here s)) (sym (g.later.past told m (omega arith))) (subst (λ (k : ℕ). IsSameState (here s) (s.point k)) (sym now) (same_here (here s)))
     by (inr next) = subst (λ (k : ℕ). IsSameState (here s) (t.point k)) next.0 (does_same at ok (g.does told next.1))
 
 -- the same of some reads

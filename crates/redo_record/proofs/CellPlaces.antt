@@ -10,7 +10,7 @@ use Rattle.redo_record.specs.Cells.{Cell, IsCell, cell_after, front_of, line_of,
 use Rattle.redo_record.specs.Calls.{lines_from}
 
 -- k places on, in a ring of c places
-wrapped : (c p k : ℕ) → p < c → k ≤ c → ((p + k < c) × ((p + k) % c ≡ p + k)) ⊎ ((c ≤ p + k) × ((p + k) % c + c ≡ p + k))
+pub wrapped : (c p k : ℕ) → p < c → k ≤ c → ((p + k < c) × ((p + k) % c ≡ p + k)) ⊎ ((c ≤ p + k) × ((p + k) % c + c ≡ p + k))
 wrapped c p k below few = ⊎_elim
     (λ (lt : p + k < c). inl (lt, mod-eq_of_lt lt))
     (λ (over : c ≤ p + k).
