@@ -161,6 +161,7 @@ impl Run {
             _ => unreachable!(),
         }
     }
+
     /// Carries out requests in order, from the population on. Where the medium fails, the request on which it failed is
     /// noted too, since its record may be durable.
     pub fn serve_all<M: Medium>(&mut self, m: &mut M, requests: &[Request]) -> Result<(), Failed>

@@ -91,10 +91,11 @@ fn make_update<M: Medium>(
     reproduce(m, sizes, number, at, value)
 }
 
-/// Logs the update of one home word under the next number, tells the number, stores the word, and gives the record's
-/// cell free.
+/// Logs the update of one home word under the next number, tells the number, stores the word, and frees the record's
+/// cell.
 ///
-/// `number` is one more than the number at which the medium rests, and `at` counts home words from 0.
+/// `number` is one more than the number at which the medium rests, and `at` counts home words from 0. After an `Err` the
+/// medium may hold the record, and the ring too: make no further update.
 pub fn log_update<M: Medium>(
     m: &mut M,
     sizes: &ImageSizes,

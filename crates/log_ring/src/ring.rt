@@ -70,7 +70,7 @@ impl Ring {
         }
     }
 
-    // Takes a record in whose cells stand at the next place.
+    // Adds a record whose cells begin at the next place.
     fn note(&mut self, number: u64, cells: u64)
         requires some { 1 ≤ cells }
         requires room { cells_used self.old.logged + cells ≤ self.old.sizes.cells }
@@ -134,7 +134,7 @@ impl Ring {
         self.lay(m, r)
     }
 
-    /// Gives the cells of the records numbered up to `reproduced` free.
+    /// Frees the cells of the records numbered up to `reproduced`.
     pub fn release(&mut self, reproduced: u64)
         ensures ring { self.new ≡ released_to reproduced self.old }
         // The ring still fits where the mark is settled at that number or more.

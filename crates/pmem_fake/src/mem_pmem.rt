@@ -83,7 +83,7 @@ impl MemPmem {
         image_after(alloc, &self.start, &self.log.calls, picks)
     }
 
-    /// The same at an earlier moment.
+    /// An image that a crash may leave at a moment up to now; `Later` where the moment hasn't come.
     pub fn images_at(
         &self,
         alloc: Global,

@@ -5,7 +5,8 @@ ghost use Rattle.pmem_trait.specs.Groups.{put_pairs, flush_lines, group_calls, P
 use crate::failed::Failed;
 use crate::medium::Medium;
 
-/// Puts each value at its place, in order. A pair is a place and a value.
+/// Puts each value at its place, in order. A pair is a place and a value. After an `Err` the puts before the failed one
+/// were made, and that one may have been.
 pub fn put_all<M: Medium>(m: &mut M, writes: &[(u64, u64)]) -> Result<(), Failed>
     requires { PlacesFit (M.sight m.old).len writes.now }
     ensures len { (M.sight m.new).len ≡ (M.sight m.old).len }
@@ -17,7 +18,8 @@ pub fn put_all<M: Medium>(m: &mut M, writes: &[(u64, u64)]) -> Result<(), Failed
     Ok(())
 }
 
-/// Flushes each line, in order.
+/// Flushes each line, in order. After an `Err` the flushes before the failed one were made, and that one may have been,
+/// for each word by itself.
 pub fn flush_all<M: Medium>(m: &mut M, lines: &[u64]) -> Result<(), Failed>
     requires { LinesFit (M.sight m.old).len lines.now }
     ensures len { (M.sight m.new).len ≡ (M.sight m.old).len }

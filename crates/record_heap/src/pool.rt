@@ -40,11 +40,11 @@ impl Pool {
         offset % self.size == 0 && offset / self.size < self.count
     }
 
-    #[tactic(auto, using(crate::proofs::Calls::calling))]
     /// Takes the first free record, and gives its place.
     ///
     /// In an array that is no lawful pool, a link that is not the place of a record counts as the
     /// end of the free list.
+    #[tactic(auto, using(crate::proofs::Calls::calling))]
     pub fn take<W: Words>(&self, w: &mut W) -> Result<Option<u64>, Stop>
         requires fits { FitsPool self.now (W.sight w.old).count }
         ensures ran { Ran (stop_of result) (W.sight w.old) (W.sight w.new) }
@@ -65,10 +65,11 @@ impl Pool {
         Ok(Some(header.first))
     }
 
-    #[tactic(auto, using(crate::proofs::Calls::calling))]
     /// Puts a record at the front of the free list.
     ///
-    /// What it does is said of arrays in which that record is not free.
+    /// What it does is said of arrays in which that record is not free. After a Stop the writes made before it are still
+    /// pending, here as in `take`: the caller drops them.
+    #[tactic(auto, using(crate::proofs::Calls::calling))]
     pub fn give<W: Words>(&self, w: &mut W, at: u64) -> Result<(), Stop>
         requires fits { FitsPool self.now (W.sight w.old).count }
         requires record { IsRecord self.now at }
@@ -86,8 +87,8 @@ impl Pool {
         Ok(())
     }
 
-    #[tactic(auto, using(crate::proofs::Calls::calling))]
     /// The number of taken records.
+    #[tactic(auto, using(crate::proofs::Calls::calling))]
     pub fn live<W: Words>(&self, w: &mut W) -> Result<u64, Stop>
         requires fits { FitsPool self.now (W.sight w.old).count }
         ensures looked { Looked (stop_of result) (W.sight w.old) (W.sight w.new) }
