@@ -1,11 +1,10 @@
 -- One law for every group of writes: what each mix of the old words and the written ones has, every image has.
-use Rattle.std.proofs.Common.{◌≡◌, ◌⊎◌, inl, inr, ⊎_elim, ℕ, ◌/◌, ◌==◌, Bool, true, false, if◌then◌else◌, List, [], ◌∷◌, ◌++◌, length, slice_index, refl, sym, ap, ◌∙◌, subst, eqb-true, eq-eqb, append_assoc, append-nil, take_all, le_refl}
-use Rattle.std.proofs.lemmas.List.{drop_all}
+use Rattle.std.proofs.Common.{◌≡◌, ◌⊎◌, inl, inr, ⊎_elim, ℕ, ◌/◌, ◌==◌, Bool, true, false, if◌then◌else◌, List, [], ◌∷◌, ◌++◌, slice_index, refl, sym, ap, ◌∙◌, subst, eqb-true, eq-eqb}
 use Rattle.pmem_trait.specs.declared.call.Call.TheVariants.{Put, Flush, Fence}
-use Rattle.pmem_trait.specs.Words.{IsIn, Word, Point, newest, with_later, with_note, settle, after, after_all, MayBe, Leaves, still, IsSettled, Along, Along.end, Along.more}
+use Rattle.pmem_trait.specs.Words.{IsIn, Word, Point, newest, value_of, with_later, settle, after, after_all, MayBe, Leaves, still, IsSettled, Along, Along.end, Along.more}
 use Rattle.pmem_trait.specs.Groups.{put_pairs, flush_lines, group_calls, written, final, OldOrNew, MixOf, SettlesGroup, Covers}
 use Rattle.pmem_trait.proofs.Images.{note_less, fence_less}
-use Rattle.pmem_trait.proofs.Laws.{after_all_then}
+use Rattle.pmem_trait.proofs.GroupWords.{with_all, puts_word, noted_stays, group_is, group_flushed, with_all_may}
 
 -- q has no number told and no value beside those of p and the written ones
 record Within (p : Point) (all : List (ℕ × ℕ)) (q : Point) : Type 0 where
@@ -20,15 +19,13 @@ within_leaves {P = P} holds within = record {
 }
 
 -- one value more
-is_in_more : (x y : ℕ) (xs : List ℕ) → IsIn x (xs ++ y ∷ []) → IsIn x xs ⊎ (x ≡ y)
-is_in_more x y [] (inl is) = inr is
-is_in_more x y [] (inr none) = absurd none
-is_in_more x y (z ∷ zs) (inl is) = inl (inl is)
-is_in_more x y (z ∷ zs) (inr is) = ⊎_elim (λ h. inl (inr h)) (λ h. inr h) (is_in_more x y zs is)
-
 later_less : (v x : ℕ) (w : Word) → MayBe (with_later v w) x → MayBe w x ⊎ (x ≡ v)
-later_less v x w (inl is) = inl (inl is)
-later_less v x w (inr is) = ⊎_elim (λ h. inl (inr h)) (λ h. inr h) (is_in_more x v w.later is)
+later_less v x w may = by (with_all_may (v ∷ []) w x may)
+  where
+    by : MayBe w x ⊎ IsIn x (v ∷ []) → MayBe w x ⊎ (x ≡ v)
+    by (inl old) = inl old
+    by (inr (inl new)) = inr new
+    by (inr (inr none)) = absurd none
 
 -- a write stands among those of its place
 written_first : (at v : ℕ) (ws : List (ℕ × ℕ)) → IsIn v (written ((at, v) ∷ ws) at)
@@ -75,61 +72,20 @@ module _ {len : ℕ} {P : List ℕ → List ℕ → Type 0} {p : Point} (all : L
   unfolding group_calls
   group_law ls = puts_law p all ls (λ k x is. is) (record { told = refl; value = λ k x may. inl may })
 
--- the word at k with these later values more
-abbrev with_all : List ℕ → Word → Word
-with_all vs w = record w { later = w.later ++ vs }
-
-puts_word : (ws : List (ℕ × ℕ)) (p : Point) (k : ℕ) → (after_all (put_pairs ws) p).word k ≡ with_all (written ws k) (p.word k)
-puts_word [] p k = ap (λ (l : List ℕ). record (p.word k) { later = l }) (sym (append-nil (p.word k).later))
-puts_word (w ∷ ws) p k = puts_word ws (after (Put w.0 w.1) p) k ∙ by (k == w.0)
-  where
-    by : (b : Bool) → with_all (written ws k) (if b then with_later w.1 (p.word k) else p.word k) ≡ with_all (if b then w.1 ∷ written ws k else written ws k) (p.word k)
-    by true = ap (λ (l : List ℕ). record (p.word k) { later = l }) (append_assoc (p.word k).later (w.1 ∷ []) (written ws k))
-    by false = refl
-
--- a noted word stays so under flushes
-noted_stays : (ls : List ℕ) (p : Point) (k : ℕ) (w : Word) → p.word k ≡ with_note w → (after_all (flush_lines ls) p).word k ≡ with_note w
-noted_stays [] p k w is = is
-noted_stays (l ∷ ls) p k w is = noted_stays ls (after (Flush l) p) k w (by (k / 8 == l))
-  where
-    by : (b : Bool) → (if b then with_note (p.word k) else p.word k) ≡ with_note w
-    by true = ap with_note is
-    by false = is
-
-flushes_word : (ls : List ℕ) (p : Point) (k : ℕ) → IsIn (k / 8) ls → (after_all (flush_lines ls) p).word k ≡ with_note (p.word k)
-flushes_word [] p k is = absurd is
-flushes_word (l ∷ ls) p k (inl is) = noted_stays ls (after (Flush l) p) k (p.word k) (rw (eq-eqb (k / 8) l is))
-flushes_word (l ∷ ls) p k (inr is) = flushes_word ls (after (Flush l) p) k is ∙ by (k / 8 == l)
-  where
-    by : (b : Bool) → with_note (if b then with_note (p.word k) else p.word k) ≡ with_note (p.word k)
-    by true = refl
-    by false = refl
-
--- a word whose later values are all noted is settled by a fence
-settle_noted : (x : ℕ) (l : List ℕ) → settle (record { settled = x; later = l; noted = length l }) ≡ still (newest x l)
-settle_noted x l = rw (take_all (length l) l (le_refl (length l)), drop_all (length l) l (le_refl (length l)))
-
 -- What a group leaves of a word that was settled and whose line is flushed, or that isn't written.
 pub group_word : (ws : List (ℕ × ℕ)) (ls : List ℕ) (p : Point) (k x : ℕ) → p.word k ≡ still x → (written ws k ≡ []) ⊎ IsIn (k / 8) ls → (after_all (group_calls ws ls) p).word k ≡ still (final ws k x)
-unfolding group_calls
-group_word ws ls p k x at_rest flushed =
+group_word ws ls p k x at_rest (inl none) =
     let behind = after_all (put_pairs ws) p in
-    let put : behind.word k ≡ record { settled = x; later = written ws k; noted = 0 } = puts_word ws p k ∙ ap (with_all (written ws k)) at_rest in
-    ap (λ (q : Point). q.word k) (after_all_then (put_pairs ws) (flush_lines ls ++ Fence ∷ []) p ∙ after_all_then (flush_lines ls) (Fence ∷ []) behind)
-    ∙ ap settle (noted behind put flushed)
-    ∙ settle_noted x (written ws k)
-  where
-    noted : (q : Point) → q.word k ≡ record { settled = x; later = written ws k; noted = 0 } → (written ws k ≡ []) ⊎ IsIn (k / 8) ls
-        → (after_all (flush_lines ls) q).word k ≡ record { settled = x; later = written ws k; noted = length (written ws k) }
-    noted q put (inl none) = noted_stays ls q k (record { settled = x; later = written ws k; noted = 0 }) (put ∙ ap (λ (n : ℕ). record { settled = x; later = written ws k; noted = n }) (sym (ap length none)))
-    noted q put (inr is) = flushes_word ls q k is ∙ ap with_note put
+    let put : behind.word k ≡ still x = puts_word ws p k ∙ ap (with_all (written ws k)) at_rest ∙ ap (λ (vs : List ℕ). with_all vs (still x)) none in
+    ap (λ (q : Point). q.word k) (group_is ws ls p) ∙ ap settle (noted_stays ls behind k (still x) put) ∙ ap (λ (vs : List ℕ). still (newest x vs)) (sym none)
+group_word ws ls p k x at_rest (inr flushed) =
+    group_flushed ws ls p k flushed ∙ ap (λ (w : Word). still (newest (value_of w) (written ws k))) at_rest
 
 pub group_told : (ws : List (ℕ × ℕ)) (ls : List ℕ) (p : Point) → (after_all (group_calls ws ls) p).told ≡ p.told
-unfolding group_calls
 group_told ws ls p =
-    ap (λ (q : Point). q.told) (after_all_then (put_pairs ws) (flush_lines ls ++ Fence ∷ []) p) ∙ flushes ls (after_all (put_pairs ws) p) ∙ puts ws p
+    ap (λ (q : Point). q.told) (group_is ws ls p) ∙ flushes ls (after_all (put_pairs ws) p) ∙ puts ws p
   where
-    flushes : (ls : List ℕ) (q : Point) → (after_all (flush_lines ls ++ Fence ∷ []) q).told ≡ q.told
+    flushes : (ls : List ℕ) (q : Point) → (after_all (flush_lines ls) q).told ≡ q.told
     flushes [] q = refl
     flushes (l ∷ ls) q = flushes ls (after (Flush l) q)
 

@@ -10,6 +10,7 @@ use Rattle.pmem_trait.specs.declared.call.Call.{Call}
 use Rattle.pmem_trait.specs.Words.{Word, Point, IsIn, HalfDone, Leaves, Along, Along.end, Along.more, still, newest, value_of, after_all}
 use Rattle.pmem_trait.specs.Groups.{group_calls, written, OldOrNew}
 use Rattle.pmem_trait.proofs.GroupLaw.{group_law, group_word, group_told}
+use Rattle.pmem_trait.proofs.GroupWords.{group_flushed}
 use Rattle.pmem_trait.proofs.Images.{half_leaves}
 use Rattle.pmem_trait.proofs.Laws.{along_here, along_rest, along_then, after_all_then}
 use Rattle.redo_record.specs.Tags.{number_of, head_tag, continuation_tag, IsHeadOver}
@@ -23,7 +24,6 @@ use Rattle.redo_record.specs.AppendLaw.{CanAppend, IsElsewhere, HeadsHold, Appen
 use Rattle.redo_record.proofs.HeldRecords.{AreSame, complete_same, record_same, count_same, tag_same}
 use Rattle.redo_record.proofs.EncodedCells.{cells_of_record, encoded_holds, encoded_record, encoded_writes, encoded_continuation}
 use Rattle.redo_record.proofs.CellPlaces.{among, first_cell, head_line, line_in, places_same, word_line, word_inside}
-use Rattle.redo_record.proofs.GroupWords.{group_flushed}
 use Rattle.redo_record.proofs.RecordWrites.{body_elsewhere, body_word, body_head, body_tag, tag_elsewhere, tag_there}
 use Rattle.redo_record.proofs.RingHeads.{kept_word, is_still, cell_is, head_last, heads_hold, stays, same_mark, fits_after}
 

@@ -1,4 +1,3 @@
-pub mod GroupWords
 pub mod CellPlaces
 pub mod AppendedRecord
 pub mod RecordWrites

@@ -8,6 +8,7 @@ use Rattle.dude_base.specs.Records.{RedoRecord}
 use Rattle.pmem_trait.specs.Words.{Word, Point, IsIn, MayBe, still, after_all}
 use Rattle.pmem_trait.specs.Groups.{group_calls, written, OldOrNew}
 use Rattle.pmem_trait.proofs.GroupLaw.{group_word}
+use Rattle.pmem_trait.proofs.GroupWords.{group_may}
 use Rattle.redo_record.specs.Tags.{number_of, IsHeadOver}
 use Rattle.redo_record.specs.Cells.{Cell, IsCell, front_of, word_place}
 use Rattle.redo_record.specs.Record.{cells_for, count_of, record_of}
@@ -16,7 +17,6 @@ use Rattle.redo_record.specs.Fits.{Logged, head_of, HasHead, IsStill, settled_ma
 use Rattle.redo_record.specs.AppendLaw.{CanAppend, IsElsewhere}
 use Rattle.redo_record.proofs.HeldRecords.{AreSame, complete_same, count_same, tag_same}
 use Rattle.redo_record.proofs.CellPlaces.{words_same, word_inside, first_cell}
-use Rattle.redo_record.proofs.GroupWords.{group_may}
 
 -- a settled word that isn't written is in a mix as it was
 pub kept_word : {len : ℕ} {q : Point} {ws : List (ℕ × ℕ)} {image : List ℕ} → OldOrNew len q ws image → (i x : ℕ) → i < len → written ws i ≡ [] → q.word i ≡ still x → slice_index image i ≡ x

@@ -8,10 +8,10 @@ use Rattle.pmem_trait.proofs.Images.{note_less, fence_less}
 use Rattle.pmem_trait.proofs.Laws.{after_all_then}
 
 -- the word with these later values more
-abbrev with_all : List ℕ → Word → Word
+abbrev pub with_all : List ℕ → Word → Word
 with_all vs w = record w { later = w.later ++ vs }
 
-puts_word : (ws : List (ℕ × ℕ)) (p : Point) (k : ℕ) → (after_all (put_pairs ws) p).word k ≡ with_all (written ws k) (p.word k)
+pub puts_word : (ws : List (ℕ × ℕ)) (p : Point) (k : ℕ) → (after_all (put_pairs ws) p).word k ≡ with_all (written ws k) (p.word k)
 puts_word [] p k = ap (λ (l : List ℕ). record (p.word k) { later = l }) (sym (append-nil (p.word k).later))
 puts_word (w ∷ ws) p k = puts_word ws (after (Put w.0 w.1) p) k ∙ by (k == w.0)
   where
@@ -20,7 +20,7 @@ puts_word (w ∷ ws) p k = puts_word ws (after (Put w.0 w.1) p) k ∙ by (k == w
     by false = refl
 
 -- a noted word stays so under flushes
-noted_stays : (ls : List ℕ) (p : Point) (k : ℕ) (w : Word) → p.word k ≡ with_note w → (after_all (flush_lines ls) p).word k ≡ with_note w
+pub noted_stays : (ls : List ℕ) (p : Point) (k : ℕ) (w : Word) → p.word k ≡ with_note w → (after_all (flush_lines ls) p).word k ≡ with_note w
 noted_stays [] p k w is = is
 noted_stays (l ∷ ls) p k w is = noted_stays ls (after (Flush l) p) k w (by (k / 8 == l))
   where
@@ -46,7 +46,7 @@ newest-append x [] ys = refl
 newest-append x (y ∷ xs) ys = newest-append y xs ys
 
 -- a group in three parts
-group_is : (ws : List (ℕ × ℕ)) (ls : List ℕ) (p : Point) → after_all (group_calls ws ls) p ≡ after Fence (after_all (flush_lines ls) (after_all (put_pairs ws) p))
+pub group_is : (ws : List (ℕ × ℕ)) (ls : List ℕ) (p : Point) → after_all (group_calls ws ls) p ≡ after Fence (after_all (flush_lines ls) (after_all (put_pairs ws) p))
 unfolding group_calls
 group_is ws ls p = after_all_then (put_pairs ws) (flush_lines ls ++ Fence ∷ []) p ∙ after_all_then (flush_lines ls) (Fence ∷ []) (after_all (put_pairs ws) p)
 
@@ -66,7 +66,7 @@ in_append x [] ys is = inr is
 in_append x (y ∷ xs) ys (inl is) = inl (inl is)
 in_append x (y ∷ xs) ys (inr is) = ⊎_elim (λ h. inl (inr h)) (λ h. inr h) (in_append x xs ys is)
 
-with_all_may : (vs : List ℕ) (w : Word) (x : ℕ) → MayBe (with_all vs w) x → MayBe w x ⊎ IsIn x vs
+pub with_all_may : (vs : List ℕ) (w : Word) (x : ℕ) → MayBe (with_all vs w) x → MayBe w x ⊎ IsIn x vs
 with_all_may vs w x (inl is) = inl (inl is)
 with_all_may vs w x (inr is) = ⊎_elim (λ h. inl (inr h)) (λ h. inr h) (in_append x w.later vs is)
 
@@ -80,11 +80,3 @@ group_may ws ls p k x may =
     let fenced = subst (λ (q : Point). MayBe (q.word k) x) (group_is ws ls p) may in
     let put = flushes_may ls behind k x (fence_less x ((after_all (flush_lines ls) behind).word k) fenced) in
     with_all_may (written ws k) (p.word k) x (subst (λ (w : Word). MayBe w x) (puts_word ws p k) put)
-
--- the value of a word is one that it may have
-pub value_may : (w : Word) → MayBe w (value_of w)
-value_may w = newest_may w.settled w.later
-  where
-    newest_may : (x : ℕ) (ys : List ℕ) → (newest x ys ≡ x) ⊎ IsIn (newest x ys) ys
-    newest_may x [] = inl refl
-    newest_may x (y ∷ ys) = inr (newest_may y ys)
