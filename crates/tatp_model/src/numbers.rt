@@ -51,6 +51,12 @@ impl Numbers {
 }
 
 impl Default for Numbers {
+    ghost use Rattle.std.specs.Prelude.{◌≡◌, []};
+    ghost use Rattle.tatp_model.specs.Numbers.{numbers_of};
+
+    ghost is_default = { λ x. x ≡ numbers_of [] };
+
+    /// The empty list.
     fn default() -> Self {
         Self::new()
     }

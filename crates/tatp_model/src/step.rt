@@ -5,11 +5,10 @@ ghost use Rattle.tatp_model.specs.Database.{database_of, IsInOrder};
 ghost use Rattle.tatp_model.specs.Request.{IsInRange, is_insert};
 ghost use Rattle.tatp_model.specs.Transaction.{reply_to, after_request};
 
-use crate::call_row::CallRow;
 use crate::reply::Reply;
 use crate::request::Request;
 use crate::tables::Tables;
-use crate::{lookups, reads, writes};
+use crate::{reads, writes};
 use std::alloc::{AllocError, Global};
 
 /// Carries out one request on the tables, where at most `limit` call rows may
@@ -48,28 +47,12 @@ pub fn step(_alloc: Global, t: &mut Tables, limit: u64, q: &Request) -> Result<R
             start_time,
             end_time,
             numberx,
-        } => match lookups::numbered(&t.subscribers, sub_nbr) {
-            Some(row) => writes::insert_call(
-                t,
-                limit,
-                CallRow {
-                    s_id: row.s_id,
-                    sf_type,
-                    start_time,
-                    end_time,
-                    numberx,
-                },
-            ),
-            None => Ok(Reply::Missing),
-        },
+        } => writes::insert_call(t, limit, sub_nbr, sf_type, start_time, end_time, numberx),
         Request::DeleteCall {
             sub_nbr,
             sf_type,
             start_time,
-        } => match lookups::numbered(&t.subscribers, sub_nbr) {
-            Some(row) => Ok(writes::delete_call(t, row.s_id, sf_type, start_time)),
-            None => Ok(Reply::Missing),
-        },
+        } => Ok(writes::delete_call(t, sub_nbr, sf_type, start_time)),
         Request::Sync => Ok(Reply::Durable),
     }
 }

@@ -54,8 +54,38 @@ pub(crate) fn update_subscriber(
     Reply::Changed
 }
 
+pub(crate) fn insert_call(
+    t: &mut Tables,
+    limit: u64,
+    sub_nbr: u64,
+    sf_type: u64,
+    start_time: u64,
+    end_time: u64,
+    numberx: u64,
+) -> Result<Reply, AllocError>
+    requires in_range { IsInRange (Request.InsertCall sub_nbr sf_type start_time end_time numberx) }
+    requires in_order { IsInOrder (database_of t.old) }
+    ensures reply { IfOk result (λ r. r ≡ reply_to limit (database_of t.old)
+        (Request.InsertCall sub_nbr sf_type start_time end_time numberx)) }
+    ensures after { OnOk result (database_of t.new ≡ after_request limit (database_of t.old)
+        (Request.InsertCall sub_nbr sf_type start_time end_time numberx)) }
+    ensures unchanged { OnErr result (database_of t.new ≡ database_of t.old) }
+{
+    let Some(subscriber) = lookups::numbered(&t.subscribers, sub_nbr) else {
+        return Ok(Reply::Missing);
+    };
+    let row = CallRow {
+        s_id: subscriber.s_id,
+        sf_type,
+        start_time,
+        end_time,
+        numberx,
+    };
+    insert_row(t, limit, row)
+}
+
 /// Adds a call row, whose subscriber is there.
-pub(crate) fn insert_call(t: &mut Tables, limit: u64, row: CallRow) -> Result<Reply, AllocError>
+fn insert_row(t: &mut Tables, limit: u64, row: CallRow) -> Result<Reply, AllocError>
     requires in_range { IsCallRow row }
     requires in_order { IsInOrder (database_of t.old) }
     ensures reply { IfOk result (λ r. r ≡ (outcomes.insert_call limit (database_of t.old) row).reply) }
@@ -76,8 +106,20 @@ pub(crate) fn insert_call(t: &mut Tables, limit: u64, row: CallRow) -> Result<Re
     Ok(Reply::Changed)
 }
 
+pub(crate) fn delete_call(t: &mut Tables, sub_nbr: u64, sf_type: u64, start_time: u64) -> Reply
+    ensures reply { (limit : ℕ) → result ≡ reply_to limit (database_of t.old)
+        (Request.DeleteCall sub_nbr sf_type start_time) }
+    ensures after { (limit : ℕ) → database_of t.new ≡ after_request limit (database_of t.old)
+        (Request.DeleteCall sub_nbr sf_type start_time) }
+{
+    let Some(subscriber) = lookups::numbered(&t.subscribers, sub_nbr) else {
+        return Reply::Missing;
+    };
+    delete_row(t, subscriber.s_id, sf_type, start_time)
+}
+
 /// Removes a call row, whose subscriber is there.
-pub(crate) fn delete_call(t: &mut Tables, s_id: u64, sf_type: u64, start_time: u64) -> Reply
+fn delete_row(t: &mut Tables, s_id: u64, sf_type: u64, start_time: u64) -> Reply
     ensures reply { result ≡ (outcomes.delete_call (database_of t.old) s_id sf_type start_time).reply }
     ensures after { database_of t.new ≡ (outcomes.delete_call (database_of t.old) s_id sf_type start_time).after }
 {

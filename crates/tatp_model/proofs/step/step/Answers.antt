@@ -1,8 +1,5 @@
-use Rattle.std.proofs.Common.{◌≡◌, ◌≤◌, Some, sym, subst, length}
-use Rattle.std.specs.List.{find}
-use Rattle.tatp_model.specs.Database.{Database, IsInOrder, IsSubRow, database_of}
-use Rattle.tatp_model.specs.Transaction.{has_number}
-use Rattle.tatp_model.proofs.Rows.{All-find}
+use Rattle.std.proofs.Common.{◌≤◌, sym, subst, length}
+use Rattle.tatp_model.specs.Database.{Database, IsInOrder, database_of}
 use Rattle.tatp_model.proofs.InOrder.{KeepsOrder-step, from_either}
 use Rattle.tatp_model.proofs.step.step.Goals as goal
 
@@ -27,12 +24,11 @@ returns-in-UpdateLocation-clause-reply c = rw c.in-UpdateLocation.is (c.update_l
 pub returns-in-UpdateLocation-clause-after : goal.returns-in-UpdateLocation-clause-after
 returns-in-UpdateLocation-clause-after c = rw c.in-UpdateLocation.is (c.update_location.ensures.after c.args.limit)
 
-pub insert_call-requires-clause-in_range : goal.insert_call-requires-clause-in_range
-insert_call-requires-clause-in_range c =
-    let ranges = rw c.in-InsertCall.is at c.requires.in_range in
-    let found : find (has_number c.in-InsertCall.sub_nbr) c.args.t.now.subscribers.items ≡ Some c.in-Some.row = cc in
-    let row = All-find IsSubRow (has_number c.in-InsertCall.sub_nbr) c.args.t.now.subscribers.items c.in-Some.row c.requires.in_order.subscribers_in_range found in
-    record { s_id = row.s_id; sf_type = ranges.1; start_time = ranges.2; end_time = ranges.3; numberx = ranges.4 }
+pub returns-in-DeleteCall-clause-reply : goal.returns-in-DeleteCall-clause-reply
+returns-in-DeleteCall-clause-reply c = rw c.in-DeleteCall.is (c.delete_call.ensures.reply c.args.limit)
+
+pub returns-in-DeleteCall-clause-after : goal.returns-in-DeleteCall-clause-after
+returns-in-DeleteCall-clause-after c = rw c.in-DeleteCall.is (c.delete_call.ensures.after c.args.limit)
 
 -- the tables that an update leaves are in order, with at most limit call rows
 
@@ -52,26 +48,22 @@ pub returns-in-UpdateLocation-clause-room : goal.returns-in-UpdateLocation-claus
 returns-in-UpdateLocation-clause-room c =
     (KeepsOrder-step c.args.limit (database_of c.args.t.now) (database_of c.update_location.new.t) c.args.q.now c.requires.in_range c.requires.in_order c.requires.room (rw c.in-UpdateLocation.is (c.update_location.ensures.after c.args.limit))).room
 
-pub returns-in-Some-numbered-clause-in_order : goal.returns-in-Some-numbered-clause-in_order
-returns-in-Some-numbered-clause-in_order c =
-    let found : find (has_number c.in-DeleteCall.sub_nbr) c.args.t.now.subscribers.items ≡ Some c.in-Some-numbered.row = cc in
-    (KeepsOrder-step c.args.limit (database_of c.args.t.now) (database_of c.delete_call.new.t) c.args.q.now c.requires.in_range c.requires.in_order c.requires.room (rw (c.in-DeleteCall.is, found) c.delete_call.ensures.after)).order
+pub returns-in-DeleteCall-clause-in_order : goal.returns-in-DeleteCall-clause-in_order
+returns-in-DeleteCall-clause-in_order c =
+    (KeepsOrder-step c.args.limit (database_of c.args.t.now) (database_of c.delete_call.new.t) c.args.q.now c.requires.in_range c.requires.in_order c.requires.room (rw c.in-DeleteCall.is (c.delete_call.ensures.after c.args.limit))).order
 
-pub returns-in-Some-numbered-clause-room : goal.returns-in-Some-numbered-clause-room
-returns-in-Some-numbered-clause-room c =
-    let found : find (has_number c.in-DeleteCall.sub_nbr) c.args.t.now.subscribers.items ≡ Some c.in-Some-numbered.row = cc in
-    (KeepsOrder-step c.args.limit (database_of c.args.t.now) (database_of c.delete_call.new.t) c.args.q.now c.requires.in_range c.requires.in_order c.requires.room (rw (c.in-DeleteCall.is, found) c.delete_call.ensures.after)).room
+pub returns-in-DeleteCall-clause-room : goal.returns-in-DeleteCall-clause-room
+returns-in-DeleteCall-clause-room c =
+    (KeepsOrder-step c.args.limit (database_of c.args.t.now) (database_of c.delete_call.new.t) c.args.q.now c.requires.in_range c.requires.in_order c.requires.room (rw c.in-DeleteCall.is (c.delete_call.ensures.after c.args.limit))).room
 
-pub returns-in-Some-clause-in_order : goal.returns-in-Some-clause-in_order
-returns-in-Some-clause-in_order c =
-    let found : find (has_number c.in-InsertCall.sub_nbr) c.args.t.now.subscribers.items ≡ Some c.in-Some.row = cc in
+pub returns-in-InsertCall-clause-in_order : goal.returns-in-InsertCall-clause-in_order
+returns-in-InsertCall-clause-in_order c =
     from_either c.insert_call.result _ _ _ c.insert_call.ensures.after c.insert_call.ensures.unchanged
-    (λ after. (KeepsOrder-step c.args.limit (database_of c.args.t.now) (database_of c.insert_call.new.t) c.args.q.now c.requires.in_range c.requires.in_order c.requires.room (rw (c.in-InsertCall.is, found) after)).order)
+    (λ after. (KeepsOrder-step c.args.limit (database_of c.args.t.now) (database_of c.insert_call.new.t) c.args.q.now c.requires.in_range c.requires.in_order c.requires.room (rw c.in-InsertCall.is after)).order)
     (λ same. subst IsInOrder (sym same) c.requires.in_order)
 
-pub returns-in-Some-clause-room : goal.returns-in-Some-clause-room
-returns-in-Some-clause-room c =
-    let found : find (has_number c.in-InsertCall.sub_nbr) c.args.t.now.subscribers.items ≡ Some c.in-Some.row = cc in
+pub returns-in-InsertCall-clause-room : goal.returns-in-InsertCall-clause-room
+returns-in-InsertCall-clause-room c =
     from_either c.insert_call.result _ _ _ c.insert_call.ensures.after c.insert_call.ensures.unchanged
-    (λ after. (KeepsOrder-step c.args.limit (database_of c.args.t.now) (database_of c.insert_call.new.t) c.args.q.now c.requires.in_range c.requires.in_order c.requires.room (rw (c.in-InsertCall.is, found) after)).room)
+    (λ after. (KeepsOrder-step c.args.limit (database_of c.args.t.now) (database_of c.insert_call.new.t) c.args.q.now c.requires.in_range c.requires.in_order c.requires.room (rw c.in-InsertCall.is after)).room)
     (λ same. subst (λ (db : Database). length db.calls ≤ c.args.limit) (sym same) c.requires.room)

@@ -1,21 +1,13 @@
-use Rattle.std.proofs.Common.{◌≡◌, ◌∙◌, true, false, List, ap, sym, length, arith}
-use Rattle.std.specs.Prelude.{nat_le}
-use Rattle.std.specs.List.{list_any}
-use Rattle.std.proofs.lemmas.Bool.{lt-leb}
-use Rattle.tatp_model.specs.declared.call_row.CallRow.{CallRow}
-use Rattle.tatp_model.specs.Database.{database_of}
-use Rattle.tatp_model.specs.Transaction.{is_call, is_facility}
-use Rattle.tatp_model.proofs.Calls.{with_call-place}
+use Rattle.std.proofs.Common.{◌≡◌, Some}
+use Rattle.std.specs.List.{find}
+use Rattle.tatp_model.specs.Database.{IsSubRow}
+use Rattle.tatp_model.specs.Transaction.{has_number}
+use Rattle.tatp_model.proofs.Rows.{All-find}
 use Rattle.tatp_model.proofs.writes.insert_call.Goals as goal
 
-pub returns-clause-after : goal.returns-clause-after
-returns-clause-after c =
-    let row = c.args.row in
-    let rows = c.args.t.now.calls.items in
-    let there : list_any (is_facility row.s_id row.sf_type) c.args.t.now.facilities.items ≡ true = cc in
-    let absent : list_any (is_call row.s_id row.sf_type row.start_time) rows ≡ false = cc in
-    let room : nat_le c.args.limit (length rows) ≡ false = lt-leb c.args.limit (length rows) (omega (arith, c.if-limit-len.false, c.len.ensures, c.deref-3.ensures.len, ap length c.deref-3.ensures.value)) in
-    let before = rw (c.deref-3.ensures.value, c.key.ensures) at c.place_of_key-at.ensures.before in
-    let here = rw (c.deref-3.ensures.value, c.key.ensures) at c.place_of_key-at.ensures.at in
-    rw (there, absent, room) (ap (λ (after : List CallRow). record (database_of c.args.t.now) { calls = after })
-    (c.in_ok-insert.ensures.items ∙ sym (with_call-place row rows c.place_of_key-at.result c.requires.in_range c.requires.in_order.calls_in_range c.requires.in_order.calls_rise absent before here)))
+pub insert_row-requires-clause-in_range : goal.insert_row-requires-clause-in_range
+insert_row-requires-clause-in_range c =
+    let ranges = c.requires.in_range in
+    let found : find (has_number c.args.sub_nbr) c.args.t.now.subscribers.items ≡ Some c.in-Some.subscriber = cc in
+    let row = All-find IsSubRow (has_number c.args.sub_nbr) c.args.t.now.subscribers.items c.in-Some.subscriber c.requires.in_order.subscribers_in_range found in
+    record { s_id = row.s_id; sf_type = ranges.1; start_time = ranges.2; end_time = ranges.3; numberx = ranges.4 }
