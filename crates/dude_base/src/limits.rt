@@ -1,5 +1,7 @@
 //! The limits of the store and the units that its image is made of.
 
+ghost use Rattle.dude_base.specs.Limits.{LimitsAre};
+
 /// Words of a line, the unit that is flushed.
 pub const LINE: u64 = 8;
 
@@ -53,3 +55,8 @@ pub const VERSION: u64 = 1;
 
 /// The word of an image that has its mark.
 pub const MARK: u64 = 8;
+
+/// The numbers that the constants above are, stated apart from the code.
+pub fn law_of_limits()
+    ensures { LimitsAre }
+{}

@@ -1,0 +1,26 @@
+-- The limits of the store and the units of its image, as numbers.
+use Rattle.std.specs.Prelude.{◌≡◌, ◌-◌, ◌^◌, codes}
+use Rattle.std.specs.Slice.Scan.{little_endian}
+use Rattle.dude_base.specs.declared.limits.TheConstants.{LINE, PAGE, MAX_WRITES, MAX_SUBSCRIBERS, MAX_CALLS, MAX_RINGS, MIN_CELLS, MAX_CELLS, MIN_FRAMES, MAX_LOCKS, DEFAULT_LOCKS, MAX_BOXES, DEFAULT_BOXES, MAX_NUMBER, HEAD, MAGIC, VERSION, MARK}
+
+-- what each constant of the code is
+pub record LimitsAre : Type 0 where
+  pub line : LINE ≡ 8
+  pub page : PAGE ≡ 64
+  pub max_writes : MAX_WRITES ≡ 24
+  pub max_subscribers : MAX_SUBSCRIBERS ≡ 10_000
+  pub max_calls : MAX_CALLS ≡ 120_000
+  pub max_rings : MAX_RINGS ≡ 8
+  pub min_cells : MIN_CELLS ≡ 16
+  pub max_cells : MAX_CELLS ≡ 4_096
+  pub min_frames : MIN_FRAMES ≡ 32
+  pub max_locks : MAX_LOCKS ≡ 65_536
+  pub default_locks : DEFAULT_LOCKS ≡ 1_024
+  pub max_boxes : MAX_BOXES ≡ 64
+  pub default_boxes : DEFAULT_BOXES ≡ 8
+  pub max_number : MAX_NUMBER ≡ 2 ^ 48 - 1
+  pub head : HEAD ≡ 16
+  pub magic : MAGIC ≡ 0x4D45_4D54_4544_5544
+  pub magic_bytes : MAGIC ≡ little_endian (codes "DUDETMEM") 0
+  pub version : VERSION ≡ 1
+  pub mark : MARK ≡ 8
