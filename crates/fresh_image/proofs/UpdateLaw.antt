@@ -102,7 +102,7 @@ held_shows {S} {n} {len} {home} {p} {told} {image} place at value low high long 
     head = update_cell place
 
     keep : (i x : ℕ) → i < fresh_length S → (i < 16) ⊎ (144 ≤ i) → p.word i ≡ still x → slice_index image i ≡ x
-    keep i x below out is = held.others i x (omega (arith, long, size)) (elsewhere S place (n + 1) at value i out) is
+    keep i x below out is = may_still _ _ _ is (held.others i (omega (arith, long, size)) (elsewhere S place (n + 1) at value i out))
 
     reads : Reads S n home image
     reads = record {
@@ -385,7 +385,7 @@ stands_appended {S} {n} {home} {p} {q} place at value small rests done = (
     r = update_record (n + 1) at value
 
     other : (k x : ℕ) → (k < 16) ⊎ (144 ≤ k) → p.word k ≡ still x → q.word k ≡ still x
-    other k x out is = done.others k x (elsewhere S place (n + 1) at value k out) is
+    other k x out is = done.still_others k x (elsewhere S place (n + 1) at value k out) is
 
     word : (j : ℕ) → j < 8 → q.word (16 + place * 8 + j) ≡ still (slice_index (encoded r 0) j)
     word j lt = let e : word_place s head 0 j ≡ 16 + place * 8 + j = omega arith in
@@ -395,7 +395,7 @@ stands_appended {S} {n} {home} {p} {q} place at value small rests done = (
     cell k from below (inl same) =
         let e : 16 + place * 8 + (k - 16) % 8 ≡ k = omega arith in
         subst (λ (i : ℕ). IsStill (q.word i)) e (is_still (word ((k - 16) % 8) (omega arith)))
-    cell k from below (inr ne) = is_still (done.others k _ (λ i j few lt e. ne (omega arith)) (rests.cells k from below))
+    cell k from below (inr ne) = is_still (done.still_others k _ (λ i j few lt e. ne (omega arith)) (rests.cells k from below))
 
 -- The group of the home word: each image has the update.
 home_images : {S n len : ℕ} {home : List ℕ} {p : Point} {image : List ℕ} (place at value : ℕ) → 1 ≤ S → S ≤ 10000 → fresh_length S ≤ len → place < 16

@@ -58,6 +58,6 @@ module _ (s : Sizes) (logged : List Logged) (released : ℕ) (head : Cell) (r : 
         let same : head_of head.ring l ≡ other = cell_is (head_of head.ring l) other (sym ring) found.2 in
         subst (IsComplete s image) same (complete_at l (subst (IsCell s) (sym same) new.cell) (found.3 over));
     known = λ other ring new. inl (head_at other ring new).1;
-    others = λ i x below other word. kept i x (let size = is.size in omega arith) word;
+    others = λ i below other. is.each i (let size = is.size in omega arith);
     same_told = refl;
   }

@@ -25,7 +25,7 @@ use Rattle.redo_record.proofs.HeldRecords.{AreSame, complete_same, record_same, 
 use Rattle.redo_record.proofs.EncodedCells.{cells_of_record, encoded_holds, encoded_record, encoded_writes, encoded_continuation}
 use Rattle.redo_record.proofs.CellPlaces.{among, first_cell, head_line, line_in, places_same, word_line, word_inside}
 use Rattle.redo_record.proofs.RecordWrites.{body_elsewhere, body_word, body_head, body_tag, tag_elsewhere, tag_there}
-use Rattle.redo_record.proofs.RingHeads.{kept_word, is_still, cell_is, head_last, heads_hold, stays, same_mark, fits_after}
+use Rattle.redo_record.proofs.RingHeads.{kept_word, unwritten_word, unwritten_may, is_still, cell_is, head_last, heads_hold, stays, same_mark, fits_after}
 
 -- what holds along a list of calls holds after a front of it, and of a call on the way that is half done
 pub along_last : {P : Point → Type 0} {p : Point} {cs : List Call} → Along P p cs → P (after_all cs p)
@@ -126,7 +126,7 @@ module _ (s : Sizes) (logged : List Logged) (released : ℕ) (head : Cell) (r : 
         record {
           complete = λ other ring new. (heads other ring new).0;
           known = λ other ring new. (heads other ring new).1;
-          others = λ i x below other is. kept_word mix i x (subst (λ (n : ℕ). i < n) mix.size below) (body_outside i other) is;
+          others = λ i below other. unwritten_word mix i (subst (λ (n : ℕ). i < n) mix.size below) (body_outside i other);
           same_told = refl;
         }
       where
@@ -164,8 +164,8 @@ module _ (s : Sizes) (logged : List Logged) (released : ℕ) (head : Cell) (r : 
         record {
           complete = λ other ring new. (heads other ring new).0;
           known = λ other ring new. (heads other ring new).1;
-          others = λ i x below other is. kept_word mix i x (subst (λ (n : ℕ). i < n) mix.size below) (tag_outside can i other)
-              (stays s head r logged released p can fits body body_outside lines i x other is);
+          others = λ i below other.
+              unwritten_may body lines p i (slice_index image i) (body_outside i other) (unwritten_word mix i (subst (λ (n : ℕ). i < n) mix.size below) (tag_outside can i other));
           same_told = group_told body lines p;
         }
       where
@@ -244,7 +244,8 @@ module _ (s : Sizes) (logged : List Logged) (released : ℕ) (head : Cell) (r : 
     appended : Appended s logged released head r p with_tag
     appended = record {
       settled = settled_tag;
-      others = λ i x other is. stays s head r logged released with_body can_tag fits_body tag (tag_outside can) (line_of s head ∷ []) i x other
+      others = λ i x other may. unwritten_may body lines p i x (body_outside i other) (unwritten_may tag (line_of s head ∷ []) with_body i x (tag_outside can i other) may);
+      still_others = λ i x other is. stays s head r logged released with_body can_tag fits_body tag (tag_outside can) (line_of s head ∷ []) i x other
           (stays s head r logged released p can fits body body_outside lines i x other is);
       told = group_told tag (line_of s head ∷ []) with_body ∙ group_told body lines p;
       fits = fits_tag;

@@ -6,7 +6,7 @@ use Rattle.dude_base.specs.Sizes.{IsAccepted}
 use Rattle.dude_base.specs.Image.{image_words}
 use Rattle.dude_base.specs.Records.{RedoRecord}
 use Rattle.pmem_trait.specs.declared.call.Call.{Call}
-use Rattle.pmem_trait.specs.Words.{Point, HalfDone, Leaves, Along, still, after_all}
+use Rattle.pmem_trait.specs.Words.{Point, MayBe, HalfDone, Leaves, Along, still, after_all}
 use Rattle.redo_record.specs.Tags.{number_of}
 use Rattle.redo_record.specs.Cells.{Cell, IsCell, word_place}
 use Rattle.redo_record.specs.Record.{cells_for, record_of}
@@ -32,20 +32,21 @@ abbrev pub IsElsewhere : Sizes → Cell → RedoRecord → ℕ → Type 0
 IsElsewhere s head r i = (k j : ℕ) → k < cells_for (length r.writes) → j < LINE → i ≡ word_place s head k j → ⊥
 
 -- An image on the way. Each head over the mark in this ring has its complete record, and is that of one of these records
--- or that of r, which then holds r. Each word that was settled elsewhere is as it was, and nothing more was told.
+-- or that of r, which then holds r. Each word elsewhere is as it might have been before, and nothing more was told.
 pub record HeadsHold (s : Sizes) (logged : List Logged) (head : Cell) (r : RedoRecord) (p : Point) (told image : List ℕ) : Type 0 where
   pub complete : (other : Cell) → other.ring ≡ head.ring → IsNewHead s (mark_of image) image other → IsComplete s image other
   pub known : (other : Cell) → other.ring ≡ head.ring → IsNewHead s (mark_of image) image other
       → HasHead (number_of (tag_of s image other)) other.place logged
       ⊎ ((other ≡ head) × (record_of (cells_from s image other) ≡ r))
-  pub others : (i x : ℕ) → i < length image → IsElsewhere s head r i → p.word i ≡ still x → slice_index image i ≡ x
+  pub others : (i : ℕ) → i < length image → IsElsewhere s head r i → MayBe (p.word i) (slice_index image i)
   pub same_told : told ≡ p.told
 
--- The whole record is settled in its cells, each word that was settled elsewhere stands as it was, nothing more was told,
--- and the ring fits with the record added.
+-- The whole record is settled in its cells. Each word elsewhere has no value that it might not have had before, and stands
+-- as it was where it was settled. Nothing more was told, and the ring fits with the record added.
 pub record Appended (s : Sizes) (logged : List Logged) (released : ℕ) (head : Cell) (r : RedoRecord) (p q : Point) : Type 0 where
   pub settled : (k j : ℕ) → k < cells_for (length r.writes) → j < LINE → q.word (word_place s head k j) ≡ still (slice_index (encoded r k) j)
-  pub others : (i x : ℕ) → IsElsewhere s head r i → p.word i ≡ still x → q.word i ≡ still x
+  pub others : (i x : ℕ) → IsElsewhere s head r i → MayBe (q.word i) x → MayBe (p.word i) x
+  pub still_others : (i x : ℕ) → IsElsewhere s head r i → p.word i ≡ still x → q.word i ≡ still x
   pub told : q.told ≡ p.told
   pub fits : FitsRing s head.ring (logged ++ logged_as head r ∷ []) released q
 
