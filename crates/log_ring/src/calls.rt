@@ -5,7 +5,7 @@ ghost use Rattle.std.specs.List.{range_with_len};
 ghost use Rattle.dude_base.specs.Image.{image_words};
 ghost use Rattle.pmem_trait.specs.Sights.{Makes};
 ghost use Rattle.pmem_trait.specs.Groups.{put_pairs, flush_lines, group_calls};
-ghost use Rattle.redo_record.specs.Tags.{IsNumber};
+ghost use Rattle.redo_record.specs.Tags.{IsNumber, head_tag};
 ghost use Rattle.redo_record.specs.Cells.{cell_after, front_of, line_of};
 ghost use Rattle.redo_record.specs.Record.{cells_for};
 ghost use Rattle.redo_record.specs.Encoding.{encoded};
@@ -16,11 +16,8 @@ use crate::cells::front_after;
 use dude_base::limits::LINE;
 use dude_base::place::Place;
 use dude_base::redo::Redo;
-use pmem_trait::{Failed, Medium, put_all, settle_group};
-use redo_record::{cells_of, encode};
-
-/// The kind of a head, in the two highest bits of its tag.
-const HEAD_KIND: u64 = 1 << 62;
+use pmem_trait::{Failed, Medium, flush_all, put_all};
+use redo_record::{HEAD_KIND, cells_of, encode};
 
 // Each word with its place, the first at `at`.
 fn placed(at: u64, words: &[u64; LINE as usize]) -> [(u64, u64); LINE as usize]
@@ -145,7 +142,7 @@ fn flush_cells<M: Medium>(
 }
 
 // The body, made durable.
-#[tactic(auto, using(pmem_trait::proofs::Runs::making), unfolding(pmem_trait::specs::Groups::group_calls))]
+#[tactic(auto, using(pmem_trait::proofs::GroupRuns::grouping))]
 fn settle_body<M: Medium>(
     m: &mut M,
     place: &Place,
@@ -175,7 +172,37 @@ pub fn cells_in_record(r: &Redo) -> u64
     cells_of(r)
 }
 
+// The head's tag.
+fn put_tag<M: Medium>(
+    m: &mut M,
+    place: &Place,
+    ring: u64,
+    head: u64,
+    number: u64,
+) -> Result<(), Failed>
+    requires ring { ring < place.now.rings }
+    requires head { head < place.now.cells }
+    requires number { IsNumber number }
+    requires room { image_words place.now ≤ (M.sight m.old).len }
+    ensures len { (M.sight m.new).len ≡ (M.sight m.old).len }
+    ensures made { Makes (put_pairs ((front_of place.now (cell_at ring head), head_tag number) ∷ [])) (is_ok result) (M.sight m.old) (M.sight m.new) }
+{
+    put_all(m, &[(place.cell(ring, head), HEAD_KIND + number)])
+}
+
+// The head's line.
+fn flush_head<M: Medium>(m: &mut M, place: &Place, ring: u64, head: u64) -> Result<(), Failed>
+    requires ring { ring < place.now.rings }
+    requires head { head < place.now.cells }
+    requires room { image_words place.now ≤ (M.sight m.old).len }
+    ensures len { (M.sight m.new).len ≡ (M.sight m.old).len }
+    ensures made { Makes (flush_lines (line_of place.now (cell_at ring head) ∷ [])) (is_ok result) (M.sight m.old) (M.sight m.new) }
+{
+    flush_all(m, &[place.cell(ring, head) / LINE])
+}
+
 // The head's tag, made durable.
+#[tactic(auto, using(pmem_trait::proofs::GroupRuns::grouping))]
 fn settle_tag<M: Medium>(
     m: &mut M,
     place: &Place,
@@ -188,10 +215,11 @@ fn settle_tag<M: Medium>(
     requires number { IsNumber number }
     requires room { image_words place.now ≤ (M.sight m.old).len }
     ensures len { (M.sight m.new).len ≡ (M.sight m.old).len }
-    ensures made { Makes (group_calls ((front_of place.now (cell_at ring head), 4611686018427387904 + number) ∷ []) (line_of place.now (cell_at ring head) ∷ [])) (is_ok result) (M.sight m.old) (M.sight m.new) }
+    ensures made { Makes (group_calls ((front_of place.now (cell_at ring head), head_tag number) ∷ []) (line_of place.now (cell_at ring head) ∷ [])) (is_ok result) (M.sight m.old) (M.sight m.new) }
 {
-    let front = place.cell(ring, head);
-    settle_group(m, &[(front, HEAD_KIND + number)], &[front / LINE])
+    put_tag(m, place, ring, head, number)?;
+    flush_head(m, place, ring, head)?;
+    m.fence()
 }
 
 /// The calls that append a record whose head is to stand at this place.

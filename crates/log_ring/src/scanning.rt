@@ -18,10 +18,8 @@ use dude_base::limits::LINE;
 use dude_base::place::Place;
 use dude_base::redo::Redo;
 use pmem_trait::Medium;
+use redo_record::KIND;
 use std::alloc::Global;
-
-/// What the kind of a cell counts in its tag; the rest is the number.
-const KIND: u64 = 1 << 62;
 
 /// Reads the complete records of all rings with numbers over `above`, in the order of their numbers.
 ///

@@ -1,11 +1,27 @@
 -- What a group of writes leaves of a medium, from the list of its calls.
-use Rattle.std.proofs.Common.{Bool, true, IsTrue, ℕ, List, Result, Ok, Err, is_ok, OnOk, sym, subst}
+use Rattle.std.proofs.Common.{Bool, true, false, IsTrue, ℕ, List, Result, Ok, Err, is_ok, OnOk, sym, subst}
+use Rattle.pmem_trait.specs.declared.call.Call.TheVariants.{Fence}
 use Rattle.pmem_trait.specs.Words.{Point}
-use Rattle.pmem_trait.specs.Sights.{Sight, here, Makes, Keeps}
-use Rattle.pmem_trait.specs.Groups.{group_calls, MixOf, SettlesGroup}
-use Rattle.pmem_trait.proofs.Runs.{makes_here}
+use Rattle.pmem_trait.specs.Sights.{Sight, here, Goes, Makes, Keeps}
+use Rattle.pmem_trait.specs.Groups.{put_pairs, flush_lines, group_calls, MixOf, SettlesGroup}
+use Rattle.pmem_trait.proofs.Runs.{makes_here, makes_then, makes_stop, goes_alone}
 use Rattle.pmem_trait.proofs.Laws.{makes_keep}
 use Rattle.pmem_trait.proofs.GroupLaw.{mix_law, group_settles}
+
+-- a group, part by part: it stops at a put, it stops at a flush, or it comes to its fence
+pub group_stops_in_puts : (ws : List (ℕ × ℕ)) (ls : List ℕ) {s t : Sight} → Makes (put_pairs ws) false s t → Makes (group_calls ws ls) false s t
+unfolding group_calls
+group_stops_in_puts ws ls made = makes_stop _ made
+
+pub group_stops_in_flushes : (ws : List (ℕ × ℕ)) (ls : List ℕ) {s t u : Sight} → Makes (put_pairs ws) true s t → Makes (flush_lines ls) false t u → Makes (group_calls ws ls) false s u
+unfolding group_calls
+group_stops_in_flushes ws ls put flushed = makes_then put (makes_stop _ flushed)
+
+pub group_made : (ws : List (ℕ × ℕ)) (ls : List ℕ) {ok : Bool} {s t u v : Sight} → Makes (put_pairs ws) true s t → Makes (flush_lines ls) true t u → Goes Fence ok u v → Makes (group_calls ws ls) ok s v
+unfolding group_calls
+group_made ws ls {ok} put flushed fenced = makes_then put (makes_then flushed (goes_alone ok fenced))
+
+pub ruleset grouping = (group_stops_in_puts, group_stops_in_flushes, group_made)
 
 -- each image at each moment is a mix of the words before and the written ones
 pub group_keeps : (ws : List (ℕ × ℕ)) (ls : List ℕ) {ok : Bool} {s t : Sight} → Makes (group_calls ws ls) ok s t → Keeps (MixOf s.len (here s) ws) s t

@@ -17,3 +17,4 @@ pub use laws::{
     law_of_append, law_of_decoding, law_of_encoding, law_of_following, law_of_release,
     law_of_replay, law_of_rest, law_of_room,
 };
+pub use tag::{CONTINUATION_KIND, HEAD_KIND, KIND};
