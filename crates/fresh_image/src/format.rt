@@ -93,8 +93,8 @@ fn put_magic<M: Medium>(m: &mut M) -> Result<(), Failed>
 
 /// Makes a new image on a medium, and tells 0.
 ///
-/// The magic number is cleared first and put last, so that a crash on the way leaves nothing that looks formatted once
-/// the first group was fenced.
+/// The magic number is cleared first and put last, so that from the first fence on a crash leaves nothing that looks
+/// formatted, until the magic number is put again. After an `Err` the medium holds some of a new image.
 pub fn format_image<M: Medium>(m: &mut M, sizes: &ImageSizes) -> Result<(), Failed>
     requires room { fresh_length sizes.now.subscribers ≤ (M.sight m.old).len }
     requires settled { IsTrue (M.sight m.old).tells → IsSettled (here (M.sight m.old)) }
