@@ -21,6 +21,8 @@ impl Stopping {
     ghost use Rattle.word_space.specs.Flats.{sight_of};
     ghost use Rattle.word_space.specs.Stoppings.{flat_of, calls_left, planned_stop, stopping_sight};
 
+    /// The array, which answers `calls` calls itself before it stops. `stop` is no `Wide`, since that
+    /// depends on the writes.
     pub fn new(flat: Flat, calls: u64, stop: Stop) -> Self
         requires { IsNotWide stop }
         ensures flat { flat_of result ≡ flat }
@@ -43,6 +45,7 @@ impl Stopping {
         self.stopped
     }
 
+    /// The array with the reads and the writes that were made. Its last Stop is its own.
     pub fn into_flat(self) -> Flat
         ensures { result ≡ flat_of self }
     {
