@@ -5,5 +5,6 @@ pub mod Place
 pub mod Records
 pub mod Run
 pub mod Sizes
+pub mod Texts
 pub mod WriteList
 pub mod Writes

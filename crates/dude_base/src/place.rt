@@ -26,6 +26,7 @@ impl Model for Place {
 }
 
 impl Place {
+    /// The places in an image of these sizes.
     pub fn of(sizes: &Sizes) -> Place
         requires { IsAccepted sizes.now }
         ensures { result ≡ sizes.now }

@@ -22,6 +22,7 @@ impl Model for Redo {
 }
 
 impl Redo {
+    /// The record of this number, with no writes yet.
     pub fn new(number: u64) -> Self
         ensures { result ≡ record { number = number; writes = [] } }
     {
@@ -38,12 +39,14 @@ impl Redo {
         Redo { number, writes }
     }
 
+    /// The number of the transaction. Recovery replays records in the order of their numbers.
     pub fn number(&self) -> u64
         ensures { result ≡ self.now.number }
     {
         self.number
     }
 
+    /// How many different words are written.
     pub fn len(&self) -> u64
         ensures len { result ≡ length self.now.writes }
         ensures writes { IsWriteList self.now.writes }
@@ -59,7 +62,7 @@ impl Redo {
         self.writes.get(k)
     }
 
-    /// Takes a write in: in place of the one of the same word, or else at the end.
+    /// Adds a write; it replaces the one of the same word, or comes last.
     pub fn push(&mut self, w: Write) -> Result<(), Wide>
         ensures ok { OnOk result (self.new ≡ record self.old { writes = put_write self.old.writes w }) }
         ensures err { OnErr result (self.new ≡ self.old) }

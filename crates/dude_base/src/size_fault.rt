@@ -9,6 +9,11 @@ pub struct SizeFault {
 }
 
 impl fmt::Display for SizeFault {
+    ghost use Rattle.std.specs.Prelude.{Some};
+    ghost use Rattle.dude_base.specs.Texts.{field_words};
+
+    ghost output = { λ fault. Some (field_words fault.field) };
+
     fn fmt<W: fmt::Write>(&self, f: &mut fmt::Formatter<W>) -> fmt::Result {
         f.write_str(match self.field {
             Field::Subscribers => "the number of subscribers is out of its limits",

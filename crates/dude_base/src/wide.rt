@@ -6,6 +6,11 @@ use std::fmt;
 pub struct Wide;
 
 impl fmt::Display for Wide {
+    ghost use Rattle.std.specs.Prelude.{Some};
+    ghost use Rattle.dude_base.specs.Texts.{wide_words};
+
+    ghost output = { λ _. Some wide_words };
+
     fn fmt<W: fmt::Write>(&self, f: &mut fmt::Formatter<W>) -> fmt::Result {
         f.write_str("too many different words are written")
     }

@@ -29,6 +29,7 @@ impl Model for WriteList {
 }
 
 impl WriteList {
+    /// No writes yet.
     pub fn new() -> Self
         ensures { result ≡ [] }
     {
@@ -38,6 +39,7 @@ impl WriteList {
         }
     }
 
+    /// How many different words are written.
     pub fn len(&self) -> u64
         ensures len { result ≡ length self.now }
         ensures writes { IsWriteList self.now }
@@ -64,7 +66,7 @@ impl WriteList {
         }
     }
 
-    /// Takes a write in: in place of the one of the same word, or else at the end.
+    /// Adds a write; it replaces the one of the same word, or comes last.
     pub fn put(&mut self, w: Write) -> Result<(), Wide>
         ensures ok { OnOk result (self.new ≡ put_write self.old w) }
         ensures err { OnErr result (self.new ≡ self.old) }

@@ -2,6 +2,7 @@
 use Rattle.std.specs.Prelude.{ℕ, List, [], None, length, refl}
 use Rattle.word_space.specs.declared.flat.Flat.{Flat}
 use Rattle.word_space.specs.Sights.{Sight, Fits, IsBelow}
+use Rattle.word_space.specs.Sound.{IsWideOrNoMemory}
 
 -- the array at rest
 abbrev pub words_of : Flat → List ℕ
@@ -21,3 +22,7 @@ flat_fits f = record { count = f.sound.fits; writes = f.sound.list; inside = f.s
 -- every list of reads that it makes agrees with its array
 pub flat_below : (f : Flat) → IsBelow (sight_of f) (words_of f)
 flat_below f = record { size = refl; agrees = f.sound.agrees }
+
+-- it answers no Stop but Wide and want of memory
+pub flat_stops : (f : Flat) → IsWideOrNoMemory (sight_of f).stopped
+flat_stops f = f.sound.stops

@@ -3,5 +3,6 @@ pub mod Flats
 pub mod Sights
 pub mod Sound
 pub mod Steps
+pub mod StopTexts
 pub mod Stoppings
 pub mod Stops

@@ -27,6 +27,7 @@ impl ReadSet {
         }
     }
 
+    /// Notes a read behind the others, also one of a place that was read before.
     pub fn add(&mut self, at: u64, value: u64) -> Result<(), AllocError>
         ensures ok { OnOk result (self.new ≡ self.old ++ (at, value) ∷ []) }
         ensures err { OnErr result (self.new ≡ self.old) }
@@ -35,6 +36,7 @@ impl ReadSet {
         Ok(())
     }
 
+    /// How many reads were noted; each read of the same place counts.
     pub fn len(&self) -> u64
         ensures { result ≡ length self.now }
     {
@@ -50,6 +52,7 @@ impl ReadSet {
         items[k as usize]
     }
 
+    /// Forgets the reads, and keeps the memory for later ones.
     pub fn clear(&mut self)
         ensures { self.new ≡ [] }
     {

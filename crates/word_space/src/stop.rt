@@ -17,6 +17,11 @@ pub enum Stop {
 }
 
 impl fmt::Display for Stop {
+    ghost use Rattle.std.specs.Prelude.{Some};
+    ghost use Rattle.word_space.specs.StopTexts.{stop_words};
+
+    ghost output = { λ stop. Some (stop_words stop) };
+
     fn fmt<W: fmt::Write>(&self, f: &mut fmt::Formatter<W>) -> fmt::Result {
         match self {
             Stop::Conflict { lock, seen } => write!(f, "lock {lock} was found as {seen}"),

@@ -19,12 +19,16 @@ impl Stopping {
     ghost use Rattle.std.specs.Prelude.{◌≡◌, None};
     ghost use Rattle.word_space.specs.Stops.{IsNotWide};
     ghost use Rattle.word_space.specs.Flats.{sight_of};
-    ghost use Rattle.word_space.specs.Stoppings.{flat_of, stopping_sight};
+    ghost use Rattle.word_space.specs.Stoppings.{flat_of, calls_left, planned_stop, stopping_sight};
 
+    /// The array, which answers `calls` calls itself before it stops. `stop` is no `Wide`, since that
+    /// depends on the writes.
     pub fn new(flat: Flat, calls: u64, stop: Stop) -> Self
         requires { IsNotWide stop }
         ensures flat { flat_of result ≡ flat }
         ensures sight { stopping_sight result ≡ record (sight_of flat) { stopped = None } }
+        ensures calls { calls_left result ≡ calls }
+        ensures stop { planned_stop result ≡ stop }
     {
         Stopping {
             flat,
@@ -41,6 +45,7 @@ impl Stopping {
         self.stopped
     }
 
+    /// The array with the reads and the writes that were made. Its last Stop is its own.
     pub fn into_flat(self) -> Flat
         ensures { result ≡ flat_of self }
     {
@@ -49,14 +54,16 @@ impl Stopping {
 }
 
 impl Words for Stopping {
-    ghost use Rattle.std.specs.Prelude.{◌≡◌};
+    ghost use Rattle.std.specs.Prelude.{◌≡◌, ◌≢◌, ℕ, ◌<◌, ◌⊎◌, IfOk, OnOk, List, slice_index, slice_set};
     ghost use Rattle.std.proofs.Common.{refl, ◌∙◌};
-    ghost use Rattle.word_space.specs.Flats.{words_of};
-    ghost use Rattle.word_space.specs.Stoppings.{flat_of, stopping_sight, stopping_fits};
+    ghost use Rattle.dude_base.specs.Writes.{IsWide};
+    ghost use Rattle.word_space.specs.Sights.{IsBelow, shown};
+    ghost use Rattle.word_space.specs.Steps.{Reads, Writes, GoesOn, stop_of};
+    ghost use Rattle.word_space.specs.Stoppings.{calls_left, stopping_sight, stopping_fits, HasSameWords, Halts, Passes};
 
     ghost sight = { stopping_sight };
 
-    ghost turns_into = { λ x y. words_of (flat_of y) ≡ words_of (flat_of x) };
+    ghost turns_into = { HasSameWords };
 
     ghost fits = { stopping_fits };
 
@@ -68,7 +75,15 @@ impl Words for Stopping {
         self.flat.len()
     }
 
-    fn read(&mut self, at: u64) -> Result<u64, Stop> {
+    fn read(&mut self, at: u64) -> Result<u64, Stop>
+        requires inside { at < (stopping_sight self.old).count }
+        ensures reads { Reads at result (stopping_sight self.old) (stopping_sight self.new) }
+        ensures value { IfOk result (λ v. (array : List ℕ) → IsBelow (stopping_sight self.new) array
+            → v ≡ slice_index (shown (stopping_sight self.old) array) at) }
+        ensures turns { GoesOn HasSameWords self.old self.new }
+        ensures halts { calls_left self.old ≡ 0 → Halts (stop_of result) self.old self.new }
+        ensures passes { calls_left self.old ≢ 0 → Passes (stop_of result) self.old self.new }
+    {
         if self.calls == 0 {
             self.stopped = Some(self.stop);
             return Err(self.stop);
@@ -83,7 +98,17 @@ impl Words for Stopping {
         }
     }
 
-    fn write(&mut self, at: u64, value: u64) -> Result<(), Stop> {
+    fn write(&mut self, at: u64, value: u64) -> Result<(), Stop>
+        requires inside { at < (stopping_sight self.old).count }
+        ensures writes { Writes at value result (stopping_sight self.old) (stopping_sight self.new) }
+        ensures shown { OnOk result ((array : List ℕ) → shown (stopping_sight self.new) array
+            ≡ slice_set (shown (stopping_sight self.old) array) at value) }
+        ensures turns { GoesOn HasSameWords self.old self.new }
+        ensures halts { calls_left self.old ≡ 0 → ¬ IsWide (stopping_sight self.old).writes at
+            → Halts (stop_of result) self.old self.new }
+        ensures passes { (calls_left self.old ≢ 0) ⊎ IsWide (stopping_sight self.old).writes at
+            → Passes (stop_of result) self.old self.new }
+    {
         if self.calls == 0 && !self.flat.is_wide(at) {
             self.stopped = Some(self.stop);
             return Err(self.stop);

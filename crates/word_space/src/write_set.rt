@@ -23,6 +23,7 @@ impl Model for WriteSet {
 }
 
 impl WriteSet {
+    /// No writes yet.
     pub fn new() -> Self
         ensures { result ≡ [] }
     {
@@ -31,7 +32,7 @@ impl WriteSet {
         }
     }
 
-    /// Takes a write in: in place of the one of the same word, or else at the end.
+    /// Adds a write; it replaces the one of the same word, or comes last.
     pub fn put(&mut self, w: Write) -> Result<(), Wide>
         ensures ok { OnOk result (self.new ≡ put_write self.old w) }
         ensures err { OnErr result (self.new ≡ self.old) }
@@ -47,6 +48,7 @@ impl WriteSet {
         self.writes.find(at)
     }
 
+    /// How many different words are written.
     pub fn len(&self) -> u64
         ensures len { result ≡ length self.now }
         ensures writes { IsWriteList self.now }

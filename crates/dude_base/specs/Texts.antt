@@ -1,0 +1,16 @@
+-- What the faults of the base print.
+use Rattle.std.specs.Prelude.{ℕ, List, codes}
+use Rattle.dude_base.specs.declared.field.Field.{Field}
+use Rattle.dude_base.specs.declared.field.Field.TheVariants.{Subscribers, Calls, Rings, Cells, Pages}
+
+-- a field that is out of its limits
+abbrev pub field_words : Field → List ℕ
+field_words Subscribers = codes "the number of subscribers is out of its limits"
+field_words Calls = codes "the number of call forwardings is out of its limits"
+field_words Rings = codes "the number of rings is out of its limits"
+field_words Cells = codes "the number of cells is out of its limits"
+field_words Pages = codes "the number of pages isn't the one that the tables need"
+
+-- one write too many
+abbrev pub wide_words : List ℕ
+wide_words = codes "too many different words are written"
