@@ -58,9 +58,11 @@ impl<R: FileSystem> FilePmem<R> {
 }
 
 impl<R: FileSystem + Eprint> Medium for FilePmem<R> {
-    ghost use Rattle.std.specs.Prelude.{◌≡◌, ◌+◌, ◌-◌, ◌*◌, ◌^◌, ◌<◌, ◌≤◌, ◌==◌, nat_lt, is_ok, OnOk, if◌then◌else◌};
-    ghost use Rattle.pmem_trait.specs.declared.call.Call.TheVariants.{Flush, Fence};
-    ghost use Rattle.pmem_trait.specs.Sights.{Goes};
+    ghost use Rattle.std.specs.Prelude.{◌≡◌, ◌+◌, ◌-◌, ◌*◌, ◌^◌, ◌<◌, ◌≤◌, ◌==◌, nat_lt, is_ok, IfOk, IsTrue, OnOk, if◌then◌else◌};
+    ghost use Rattle.pmem_trait.specs.declared.call.Call.TheVariants.{Read, Put, Flush, Fence, Tell};
+    ghost use Rattle.pmem_trait.specs.Words.{value_of};
+    ghost use Rattle.pmem_trait.specs.Sights.{here, Goes};
+    ghost use Rattle.dude_io.specs.FaultCount.{faults_after};
     ghost use Rattle.dude_io.specs.FilePmem.{pmem_sight, pmem_room};
     ghost use Rattle.std.proofs.Common.{rules};
 
@@ -74,14 +76,23 @@ impl<R: FileSystem + Eprint> Medium for FilePmem<R> {
         self.clock.now
     }
 
-    fn read(&mut self, at: u64) -> Result<u64, Failed> {
+    fn read(&mut self, at: u64) -> Result<u64, Failed>
+        requires { at < (pmem_sight self.old).len }
+        ensures goes { Goes (Read at) (is_ok result) (pmem_sight self.old) (pmem_sight self.new) }
+        ensures value { IfOk result (λ v. IsTrue (pmem_sight self.old).tells → v ≡ value_of ((here (pmem_sight self.old)).word at)) }
+        ensures faults { (pmem_sight self.new).faults ≡ faults_after (is_ok result) (pmem_sight self.old).faults }
+    {
         if !self.clock.tick() {
             return Err(Failed);
         }
         Ok(self.image.word(at))
     }
 
-    fn put(&mut self, at: u64, value: u64) -> Result<(), Failed> {
+    fn put(&mut self, at: u64, value: u64) -> Result<(), Failed>
+        requires { at < (pmem_sight self.old).len }
+        ensures goes { Goes (Put at value) (is_ok result) (pmem_sight self.old) (pmem_sight self.new) }
+        ensures faults { (pmem_sight self.new).faults ≡ faults_after (is_ok result) (pmem_sight self.old).faults }
+    {
         if !self.clock.tick() {
             return Err(Failed);
         }
@@ -92,6 +103,7 @@ impl<R: FileSystem + Eprint> Medium for FilePmem<R> {
     fn flush(&mut self, line: u64) -> Result<(), Failed>
         requires { 8 * line + 8 ≤ (pmem_sight self.old).len }
         ensures goes { Goes (Flush line) (is_ok result) (pmem_sight self.old) (pmem_sight self.new) }
+        ensures faults { (pmem_sight self.new).faults ≡ faults_after (is_ok result) (pmem_sight self.old).faults }
 
         // Where there is room for the note, it fails only since no moment is left.
         ensures fails { 0 < pmem_room self.old → is_ok result ≡ nat_lt (pmem_sight self.old).now (2 ^ 64 - 1) }
@@ -110,6 +122,7 @@ impl<R: FileSystem + Eprint> Medium for FilePmem<R> {
 
     fn fence(&mut self) -> Result<(), Failed>
         ensures goes { Goes Fence (is_ok result) (pmem_sight self.old) (pmem_sight self.new) }
+        ensures faults { (pmem_sight self.new).faults ≡ faults_after (is_ok result) (pmem_sight self.old).faults }
         ensures room { OnOk result (pmem_room self.new ≡ 4096) }
     {
         if !self.clock.tick() {
@@ -122,7 +135,10 @@ impl<R: FileSystem + Eprint> Medium for FilePmem<R> {
         Ok(())
     }
 
-    fn tell(&mut self, number: u64) -> Result<(), Failed> {
+    fn tell(&mut self, number: u64) -> Result<(), Failed>
+        ensures goes { Goes (Tell number) (is_ok result) (pmem_sight self.old) (pmem_sight self.new) }
+        ensures faults { (pmem_sight self.new).faults ≡ faults_after (is_ok result) (pmem_sight self.old).faults }
+    {
         if !self.clock.tick() {
             return Err(Failed);
         }
