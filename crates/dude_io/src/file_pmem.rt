@@ -9,6 +9,9 @@ use std::rt::Files as FileSystem;
 /// A medium in a file, of words with their lowest byte first. The words stand in memory, and a fence writes the lines
 /// that were noted and syncs the file. Once 4,096 lines are noted, the next flush does so too. What it holds is not
 /// told, and after `open` it takes no memory.
+///
+/// After a fence that failed the lines are still noted, and the next one writes them all again. The same holds after a
+/// flush that failed, which noted nothing itself. After a failed put the word is as it was.
 #[derive(Drop)]
 pub struct FilePmem<R: FileSystem> {
     rt: R,
@@ -23,6 +26,9 @@ impl<R: FileSystem + AllocGlobal + Eprint + Drop> FilePmem<R> {
 
     /// Opens the image of this path. Where there is no file, one of 33,554,432 zero bytes is made, whole or not at
     /// all. Bytes behind the last whole word stay as they are.
+    ///
+    /// After an `Err` a file that was there is as it was. Where there was none, the new one may be there, whole; or a
+    /// part of it under its own name with `.new` and a number behind, where that couldn't be removed.
     pub fn open(rt: R, name: &str) -> Result<FilePmem<R>, EdgeFault>
         ensures now { IfOk result (λ medium. (⟦<FilePmem<R> as Medium>⟧.sight medium).now ≡ 0) }
         ensures faults { IfOk result (λ medium. (⟦<FilePmem<R> as Medium>⟧.sight medium).faults ≡ 0) }

@@ -8,7 +8,8 @@ use std::io::{Read, Seek, SeekFrom};
 use std::rt::Files as FileSystem;
 use std::{fs, io};
 
-/// The files of the system, by their paths. What they hold is not told.
+/// The files of the system, by their paths. What they hold is not told. Each read opens its file anew, so of a file
+/// that changes meanwhile a mix may be read.
 #[derive(Drop)]
 pub struct RealFiles<R: FileSystem> {
     rt: R,
@@ -16,6 +17,7 @@ pub struct RealFiles<R: FileSystem> {
 }
 
 impl<R: FileSystem> RealFiles<R> {
+    /// The files of this runtime, with no fault yet. None is opened.
     pub fn new(rt: R) -> RealFiles<R>
         ensures { ⟦<RealFiles<R> as Files>⟧.sight result ≡ silent_files 0 }
     {

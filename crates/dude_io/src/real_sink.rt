@@ -13,6 +13,7 @@ pub struct RealSink<R: Print> {
 }
 
 impl<R: Print> RealSink<R> {
+    /// The output of this runtime, with no fault yet. Nothing is written.
     pub fn new(rt: R) -> RealSink<R>
         ensures { ⟦<RealSink<R> as Sink>⟧.sight result ≡ silent_sink 0 }
     {
