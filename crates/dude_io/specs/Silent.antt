@@ -1,5 +1,7 @@
 -- What clauses see of files and sinks that tell no content: the count of their faults alone.
 use Rattle.std.specs.Prelude.{ℕ, false, [], None}
+use Rattle.dude_io.specs.declared.real_files.RealFiles.{RealFiles}
+use Rattle.dude_io.specs.declared.real_sink.RealSink.{RealSink}
 use Rattle.dude_io.specs.Files.{FilesSight}
 use Rattle.dude_io.specs.Sink.{SinkSight}
 
@@ -8,3 +10,11 @@ silent_files faults = record { faults = faults; tells = false; text = λ _. None
 
 abbrev pub silent_sink : ℕ → SinkSight
 silent_sink faults = record { faults = faults; tells = false; taken = [] }
+
+-- the files of the system
+abbrev pub real_files_sight : {R F D : Type 0} → RealFiles R F D → FilesSight
+real_files_sight files = silent_files files.faults.count
+
+-- standard output
+abbrev pub real_sink_sight : {R : Type 0} → RealSink R → SinkSight
+real_sink_sight sink = silent_sink sink.faults.count

@@ -7,8 +7,9 @@ use std::io;
 /// Why an image file is not open.
 #[derive(Clone, Copy, Debug, PartialEq, Eq)]
 pub enum EdgeFault {
-    /// The file couldn't be opened, made or read.
+    /// The file couldn't be opened, made or read, or is no plain file.
     Failed,
+    /// There was no memory for the words, for the notes or for the name of a file that is being made.
     NoMemory,
 }
 

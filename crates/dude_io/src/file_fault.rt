@@ -7,7 +7,9 @@ use std::alloc::AllocError;
 /// Why a file has no text.
 #[derive(Clone, Copy, Debug, PartialEq, Eq)]
 pub enum FileFault {
+    /// A read failed, as one of a file that isn't there does.
     Failed,
+    /// There was no memory for the text.
     NoMemory,
 }
 

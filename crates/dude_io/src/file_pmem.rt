@@ -9,6 +9,9 @@ use std::rt::Files as FileSystem;
 /// A medium in a file, of words with their lowest byte first. The words stand in memory, and a fence writes the lines
 /// that were noted and syncs the file. Once 4,096 lines are noted, the next flush does so too. What it holds is not
 /// told, and after `open` it takes no memory.
+///
+/// After a fence that failed the lines are still noted, and the next one writes them all again. The same holds after a
+/// flush that failed, which noted nothing itself. After a failed put the word is as it was.
 #[derive(Drop)]
 pub struct FilePmem<R: FileSystem> {
     rt: R,
@@ -23,6 +26,9 @@ impl<R: FileSystem + AllocGlobal + Eprint + Drop> FilePmem<R> {
 
     /// Opens the image of this path. Where there is no file, one of 33,554,432 zero bytes is made, whole or not at
     /// all. Bytes behind the last whole word stay as they are.
+    ///
+    /// After an `Err` a file that was there is as it was. Where there was none, the new one may be there, whole; or a
+    /// part of it under its own name with `.new` and a number behind, where that couldn't be removed.
     pub fn open(rt: R, name: &str) -> Result<FilePmem<R>, EdgeFault>
         ensures now { IfOk result (λ medium. (⟦<FilePmem<R> as Medium>⟧.sight medium).now ≡ 0) }
         ensures faults { IfOk result (λ medium. (⟦<FilePmem<R> as Medium>⟧.sight medium).faults ≡ 0) }
@@ -58,9 +64,11 @@ impl<R: FileSystem> FilePmem<R> {
 }
 
 impl<R: FileSystem + Eprint> Medium for FilePmem<R> {
-    ghost use Rattle.std.specs.Prelude.{◌≡◌, ◌+◌, ◌-◌, ◌*◌, ◌^◌, ◌<◌, ◌≤◌, ◌==◌, nat_lt, is_ok, OnOk, if◌then◌else◌};
-    ghost use Rattle.pmem_trait.specs.declared.call.Call.TheVariants.{Flush, Fence};
-    ghost use Rattle.pmem_trait.specs.Sights.{Goes};
+    ghost use Rattle.std.specs.Prelude.{◌≡◌, ◌+◌, ◌-◌, ◌*◌, ◌^◌, ◌<◌, ◌≤◌, ◌==◌, nat_lt, is_ok, IfOk, IsTrue, OnOk, if◌then◌else◌};
+    ghost use Rattle.pmem_trait.specs.declared.call.Call.TheVariants.{Read, Put, Flush, Fence, Tell};
+    ghost use Rattle.pmem_trait.specs.Words.{value_of};
+    ghost use Rattle.pmem_trait.specs.Sights.{here, Goes};
+    ghost use Rattle.dude_io.specs.FaultCount.{faults_after};
     ghost use Rattle.dude_io.specs.FilePmem.{pmem_sight, pmem_room};
     ghost use Rattle.std.proofs.Common.{rules};
 
@@ -74,14 +82,23 @@ impl<R: FileSystem + Eprint> Medium for FilePmem<R> {
         self.clock.now
     }
 
-    fn read(&mut self, at: u64) -> Result<u64, Failed> {
+    fn read(&mut self, at: u64) -> Result<u64, Failed>
+        requires { at < (pmem_sight self.old).len }
+        ensures goes { Goes (Read at) (is_ok result) (pmem_sight self.old) (pmem_sight self.new) }
+        ensures value { IfOk result (λ v. IsTrue (pmem_sight self.old).tells → v ≡ value_of ((here (pmem_sight self.old)).word at)) }
+        ensures faults { (pmem_sight self.new).faults ≡ faults_after (is_ok result) (pmem_sight self.old).faults }
+    {
         if !self.clock.tick() {
             return Err(Failed);
         }
         Ok(self.image.word(at))
     }
 
-    fn put(&mut self, at: u64, value: u64) -> Result<(), Failed> {
+    fn put(&mut self, at: u64, value: u64) -> Result<(), Failed>
+        requires { at < (pmem_sight self.old).len }
+        ensures goes { Goes (Put at value) (is_ok result) (pmem_sight self.old) (pmem_sight self.new) }
+        ensures faults { (pmem_sight self.new).faults ≡ faults_after (is_ok result) (pmem_sight self.old).faults }
+    {
         if !self.clock.tick() {
             return Err(Failed);
         }
@@ -92,6 +109,7 @@ impl<R: FileSystem + Eprint> Medium for FilePmem<R> {
     fn flush(&mut self, line: u64) -> Result<(), Failed>
         requires { 8 * line + 8 ≤ (pmem_sight self.old).len }
         ensures goes { Goes (Flush line) (is_ok result) (pmem_sight self.old) (pmem_sight self.new) }
+        ensures faults { (pmem_sight self.new).faults ≡ faults_after (is_ok result) (pmem_sight self.old).faults }
 
         // Where there is room for the note, it fails only since no moment is left.
         ensures fails { 0 < pmem_room self.old → is_ok result ≡ nat_lt (pmem_sight self.old).now (2 ^ 64 - 1) }
@@ -110,6 +128,7 @@ impl<R: FileSystem + Eprint> Medium for FilePmem<R> {
 
     fn fence(&mut self) -> Result<(), Failed>
         ensures goes { Goes Fence (is_ok result) (pmem_sight self.old) (pmem_sight self.new) }
+        ensures faults { (pmem_sight self.new).faults ≡ faults_after (is_ok result) (pmem_sight self.old).faults }
         ensures room { OnOk result (pmem_room self.new ≡ 4096) }
     {
         if !self.clock.tick() {
@@ -122,7 +141,10 @@ impl<R: FileSystem + Eprint> Medium for FilePmem<R> {
         Ok(())
     }
 
-    fn tell(&mut self, number: u64) -> Result<(), Failed> {
+    fn tell(&mut self, number: u64) -> Result<(), Failed>
+        ensures goes { Goes (Tell number) (is_ok result) (pmem_sight self.old) (pmem_sight self.new) }
+        ensures faults { (pmem_sight self.new).faults ≡ faults_after (is_ok result) (pmem_sight self.old).faults }
+    {
         if !self.clock.tick() {
             return Err(Failed);
         }

@@ -9,7 +9,8 @@ pub trait Files {
     ghost sight: { Self → FilesSight };
 
     /// Reads bytes of the file from place `at` on into the front of `into`, and answers how many.
-    /// An answer of 0 is the file's end. A file that isn't there is a fault.
+    /// An answer of 0 is the file's end. A file that isn't there is a fault. After an `Err` the texts are as they were,
+    /// and `into` may hold anything.
     fn read(&mut self, name: &str, at: u64, into: &mut [u8]) -> Result<u64, Failed>
         requires { 0 < length into.old }
         ensures { Reads name.now at into.old into.new result (sight self.old) (sight self.new) };

@@ -5,8 +5,8 @@
 //! loops over them. `MemFiles` and `MemSink` tell all, and their contracts say which calls fail.
 //!
 //! `RealFiles`, `RealSink` and `FilePmem` are the real edges. They tell no content: what is proved of them is that
-//! they are safe, that each call returns, and that a call fails only where the count of faults rose. What the system
-//! reads, writes and syncs is trusted.
+//! they are safe, that each call returns, and that the count of faults rises exactly where a call fails, until it
+//! stands at its last value. What the system reads, writes and syncs is trusted.
 #![tactic(auto)]
 
 mod clock;

@@ -33,7 +33,8 @@ impl MemFiles {
 }
 
 impl Files for MemFiles {
-    ghost use Rattle.std.specs.Prelude.{◌≡◌, ◌<◌, ◌-◌, min, length, is_err, is_none, ◌||◌, IfOk, IfSome};
+    ghost use Rattle.std.specs.Prelude.{◌≡◌, ◌<◌, ◌-◌, min, length, is_ok, is_err, is_none, ◌||◌, IfOk, IfSome};
+    ghost use Rattle.dude_io.specs.FaultCount.{faults_after};
     ghost use Rattle.dude_io.specs.Files.{Reads};
     ghost use Rattle.dude_io.specs.Script.{is_to_fail, CountsCall};
     ghost use Rattle.dude_io.specs.MemFiles.{files_sight, files_script};
@@ -46,6 +47,7 @@ impl Files for MemFiles {
 
         // It fails exactly where it is to fail or the file isn't there.
         ensures fails { is_err result ≡ (is_to_fail (files_script self.old) || is_none ((files_sight self.old).text name.now)) }
+        ensures faults { (files_sight self.new).faults ≡ faults_after (is_ok result) (files_sight self.old).faults }
         ensures most { IfOk result (λ n. IfSome ((files_sight self.old).text name.now) (λ text.
             n ≡ min (files_script self.old).chunk (min (length into.old) (length text - at)))) }
         ensures counts { CountsCall (files_script self.old) (files_script self.new) }

@@ -42,7 +42,8 @@ impl MemSink {
 }
 
 impl Sink for MemSink {
-    ghost use Rattle.std.specs.Prelude.{◌≡◌, ◌<◌, ◌-◌, ◌==◌, min, length, is_err, ◌||◌, IfOk};
+    ghost use Rattle.std.specs.Prelude.{◌≡◌, ◌<◌, ◌-◌, ◌==◌, min, length, is_ok, is_err, ◌||◌, IfOk};
+    ghost use Rattle.dude_io.specs.FaultCount.{faults_after};
     ghost use Rattle.dude_io.specs.Sink.{Writes};
     ghost use Rattle.dude_io.specs.Script.{is_to_fail, CountsCall};
     ghost use Rattle.dude_io.specs.MemSink.{sink_sight, sink_script, room_left};
@@ -55,6 +56,7 @@ impl Sink for MemSink {
 
         // It fails exactly where it is to fail or no room is left.
         ensures fails { is_err result ≡ (is_to_fail (sink_script self.old) || room_left self.old == 0) }
+        ensures faults { (sink_sight self.new).faults ≡ faults_after (is_ok result) (sink_sight self.old).faults }
         ensures most { IfOk result (λ n. n ≡ min (sink_script self.old).chunk (min (length piece.now) (room_left self.old))) }
         ensures counts { CountsCall (sink_script self.old) (sink_script self.new) }
     {

@@ -9,6 +9,8 @@ const PIECE: usize = 4096;
 
 /// Reads a file to its end, or until more than `limit` bytes came.
 /// Each call but the last gives at least one byte, so there are at most `limit + 1` that do.
+///
+/// The first read that fails ends it. After an `Err` the texts are as they were, and the bytes that came are dropped.
 pub fn read_file<F: Files>(
     alloc: Global,
     files: &mut F,

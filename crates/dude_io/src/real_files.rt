@@ -8,7 +8,8 @@ use std::io::{Read, Seek, SeekFrom};
 use std::rt::Files as FileSystem;
 use std::{fs, io};
 
-/// The files of the system, by their paths. What they hold is not told.
+/// The files of the system, by their paths. What they hold is not told. Each read opens its file anew, so of a file
+/// that changes meanwhile a mix may be read.
 #[derive(Drop)]
 pub struct RealFiles<R: FileSystem> {
     rt: R,
@@ -16,6 +17,7 @@ pub struct RealFiles<R: FileSystem> {
 }
 
 impl<R: FileSystem> RealFiles<R> {
+    /// The files of this runtime, with no fault yet. None is opened.
     pub fn new(rt: R) -> RealFiles<R>
         ensures { ⟦<RealFiles<R> as Files>⟧.sight result ≡ silent_files 0 }
     {
@@ -27,9 +29,18 @@ impl<R: FileSystem> RealFiles<R> {
 }
 
 impl<R: FileSystem> Files for RealFiles<R> {
-    ghost sight = { λ files. silent_files files.faults.count };
+    ghost use Rattle.std.specs.Prelude.{◌≡◌, ◌<◌, length, is_ok};
+    ghost use Rattle.dude_io.specs.FaultCount.{faults_after};
+    ghost use Rattle.dude_io.specs.Files.{Reads};
+    ghost use Rattle.dude_io.specs.Silent.{real_files_sight};
 
-    fn read(&mut self, name: &str, at: u64, into: &mut [u8]) -> Result<u64, Failed> {
+    ghost sight = { real_files_sight };
+
+    fn read(&mut self, name: &str, at: u64, into: &mut [u8]) -> Result<u64, Failed>
+        requires { 0 < length into.old }
+        ensures reads { Reads name.now at into.old into.new result (real_files_sight self.old) (real_files_sight self.new) }
+        ensures faults { (real_files_sight self.new).faults ≡ faults_after (is_ok result) (real_files_sight self.old).faults }
+    {
         match read_at(&self.rt, name, at, into) {
             Ok(given) => Ok(given as u64),
             Err(_) => {

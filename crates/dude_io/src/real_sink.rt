@@ -13,6 +13,7 @@ pub struct RealSink<R: Print> {
 }
 
 impl<R: Print> RealSink<R> {
+    /// The output of this runtime, with no fault yet. Nothing is written.
     pub fn new(rt: R) -> RealSink<R>
         ensures { ⟦<RealSink<R> as Sink>⟧.sight result ≡ silent_sink 0 }
     {
@@ -24,10 +25,19 @@ impl<R: Print> RealSink<R> {
 }
 
 impl<R: Print> Sink for RealSink<R> {
-    ghost sight = { λ sink. silent_sink sink.faults.count };
+    ghost use Rattle.std.specs.Prelude.{◌≡◌, ◌<◌, length, is_ok};
+    ghost use Rattle.dude_io.specs.FaultCount.{faults_after};
+    ghost use Rattle.dude_io.specs.Sink.{Writes};
+    ghost use Rattle.dude_io.specs.Silent.{real_sink_sight};
+
+    ghost sight = { real_sink_sight };
 
     /// Nothing taken is a fault too.
-    fn write(&mut self, piece: &[u8]) -> Result<u64, Failed> {
+    fn write(&mut self, piece: &[u8]) -> Result<u64, Failed>
+        requires { 0 < length piece.now }
+        ensures writes { Writes piece.now result (real_sink_sight self.old) (real_sink_sight self.new) }
+        ensures faults { (real_sink_sight self.new).faults ≡ faults_after (is_ok result) (real_sink_sight self.old).faults }
+    {
         match self.rt.write_some(piece) {
             Ok(taken) if taken > 0 => Ok(taken as u64),
             _ => {

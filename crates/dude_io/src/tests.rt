@@ -47,7 +47,7 @@ fn found(rt: HostRuntime, name: &str, limit: u64, chunk: u64, fail: &[u64]) -> R
 }
 
 #[test]
-fn files_in_memory(rt: HostRuntime) -> Result<(), Fail> {
+fn a_file_is_read_whole_or_it_is_said_why_not(rt: HostRuntime) -> Result<(), Fail> {
     for (name, limit, chunk, fail, wanted) in [
         ("a", 5, 5, [0, 0], "SYNC\n"),
         ("a", 5, 1, [0, 0], "SYNC\n"),
@@ -66,7 +66,7 @@ fn files_in_memory(rt: HostRuntime) -> Result<(), Fail> {
 }
 
 #[test]
-fn a_sink_in_memory(rt: HostRuntime) -> Result<(), Fail> {
+fn a_sink_takes_all_the_bytes_or_a_front_of_them(rt: HostRuntime) -> Result<(), Fail> {
     let alloc = rt.alloc();
     for (room, chunk, fail, outcome, taken) in [
         (9, 2, 2, Err(Failed), b"la".as_slice()),
@@ -85,7 +85,7 @@ fn a_sink_in_memory(rt: HostRuntime) -> Result<(), Fail> {
 }
 
 #[test]
-fn real_files(rt: HostRuntime) -> Result<(), Fail> {
+fn a_file_on_disk_is_read_whole_up_to_the_limit(rt: HostRuntime) -> Result<(), Fail> {
     let alloc = rt.alloc();
     let folder = folder(rt, "files")?;
     let path = format!(in alloc; "{folder}/requests.csv")?;
@@ -112,7 +112,7 @@ fn real_files(rt: HostRuntime) -> Result<(), Fail> {
 }
 
 #[test]
-fn a_real_sink(rt: HostRuntime) -> Result<(), Fail> {
+fn standard_output_takes_all_the_bytes(rt: HostRuntime) -> Result<(), Fail> {
     let mut sink = RealSink::new(rt);
     assert_eq!(rt; write_all(&mut sink, b"last 0\n"), Ok(()));
     Ok(())
@@ -130,7 +130,7 @@ fn settle_first<M: Medium>(medium: &mut M, first: u64, later: u64) -> Result<(),
 }
 
 #[test]
-fn a_new_image(rt: HostRuntime) -> Result<(), Fail> {
+fn a_new_image_has_only_zeros_and_keeps_what_was_fenced(rt: HostRuntime) -> Result<(), Fail> {
     let alloc = rt.alloc();
     let folder = folder(rt, "new")?;
     let path = format!(in alloc; "{folder}/tatp.img")?;
@@ -159,7 +159,7 @@ fn crosses_threads<T: Send>(value: T) -> T
 }
 
 #[test]
-fn an_old_image(rt: HostRuntime) -> Result<(), Fail> {
+fn bytes_behind_the_last_word_stay(rt: HostRuntime) -> Result<(), Fail> {
     let alloc = rt.alloc();
     let folder = folder(rt, "old")?;
     let path = format!(in alloc; "{folder}/tatp.img")?;
@@ -193,7 +193,7 @@ fn note_front<M: Medium>(medium: &mut M, line: u64, value: u64) -> Result<(), Fa
 }
 
 #[test]
-fn more_notes_than_room(rt: HostRuntime) -> Result<(), Fail> {
+fn lines_noted_past_the_room_are_written(rt: HostRuntime) -> Result<(), Fail> {
     let alloc = rt.alloc();
     let folder = folder(rt, "notes")?;
     let path = format!(in alloc; "{folder}/tatp.img")?;
@@ -219,7 +219,7 @@ fn more_notes_than_room(rt: HostRuntime) -> Result<(), Fail> {
 }
 
 #[test]
-fn no_image(rt: HostRuntime) -> Result<(), Fail> {
+fn a_folder_is_no_image_and_a_missing_one_gets_none(rt: HostRuntime) -> Result<(), Fail> {
     let alloc = rt.alloc();
     let folder = folder(rt, "none")?;
     let path = format!(in alloc; "{folder}/none/tatp.img")?;

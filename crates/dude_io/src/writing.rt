@@ -4,7 +4,8 @@ ghost use Rattle.dude_io.specs.Sink.{WritesAll};
 use crate::Sink;
 use pmem_trait::Failed;
 
-/// Writes all the bytes. After an `Err` the sink has a front of them.
+/// Writes all the bytes. The first write that fails ends it. After an `Err` the sink has a front of them, which may be
+/// empty and is never the whole.
 pub fn write_all<K: Sink>(sink: &mut K, bytes: &[u8]) -> Result<(), Failed>
     ensures writes { WritesAll bytes.now result (K.sight sink.old) (K.sight sink.new) }
     ensures untouched { bytes.now ≡ [] → sink.new ≡ sink.old }
