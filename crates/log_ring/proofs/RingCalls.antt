@@ -1,7 +1,7 @@
 -- The loops of an append: one turn more, and a stop on the way.
-use Rattle.std.proofs.Common.{◌≡◌, ℕ, zero, suc, ◌+◌, ◌-◌, ◌<◌, ◌≤◌, Bool, true, false, List, [], ◌∷◌, ◌++◌, length, take, map, sym, ◌∙◌, arith, subst}
+use Rattle.std.proofs.Common.{◌≡◌, ℕ, ◌+◌, ◌-◌, ◌<◌, ◌≤◌, Bool, true, false, List, ◌++◌, length, take, map, sym, ◌∙◌, arith, subst}
 use Rattle.std.specs.List.{range_with_len}
-use Rattle.std.proofs.lemmas.List.FromFn.{length-map-range_with_len, get_or-map-range_with_len}
+use Rattle.std.proofs.lemmas.List.FromFn.{length-map-range_with_len, get_or-map-range_with_len, length-enumerate_from, get_or-enumerate_from}
 use Rattle.pmem_trait.specs.declared.call.Call.{Call}
 use Rattle.pmem_trait.specs.declared.call.Call.TheVariants.{Flush}
 use Rattle.pmem_trait.specs.Sights.{Sight, Goes, Makes}
@@ -13,12 +13,9 @@ use Rattle.redo_record.specs.Calls.{words_from}
 
 -- the words from one place on fit where the last one does
 pub words_fit : (at len : ℕ) (xs : List ℕ) → at + length xs ≤ len → PlacesFit len (words_from at xs)
-words_fit at len [] fit = λ k d lt. absurd (omega arith)
-words_fit at len (x ∷ xs) fit = by (words_fit (at + 1) len xs (omega arith))
-  where
-    by : PlacesFit len (words_from (at + 1) xs) → PlacesFit len ((at, x) ∷ words_from (at + 1) xs)
-    by rest zero d lt = omega arith
-    by rest (suc k) d lt = rest k d (omega arith)
+words_fit at len xs fit k d lt =
+    let inside : k < length xs = omega (arith, length-enumerate_from at xs) in
+    rw (get_or-enumerate_from at xs k d inside) (omega arith)
 
 -- the puts of the i-th cell behind the head, where the k-th cell has the writes f k
 abbrev pub cell_puts : (ℕ → List (ℕ × ℕ)) → ℕ → List Call

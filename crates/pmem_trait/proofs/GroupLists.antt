@@ -1,6 +1,6 @@
 -- The lists of calls of a group, call by call.
-use Rattle.std.proofs.Common.{◌≡◌, ℕ, zero, suc, ◌+◌, ◌<◌, ◌==◌, Bool, true, false, if◌then◌else◌, List, [], ◌∷◌, ◌++◌, length, get_or, take, flat_map, refl, sym, ap, ◌∙◌, arith, append_assoc, append-nil}
-use Rattle.std.specs.List.{range_with_len}
+use Rattle.std.proofs.Common.{◌≡◌, ◌≢◌, ℕ, zero, suc, ◌+◌, ◌<◌, ◌==◌, Bool, true, false, if◌then◌else◌, List, [], ◌∷◌, ◌++◌, length, get_or, take, flat_map, slice_index, refl, sym, ap, ◌∙◌, arith, append_assoc, append-nil, eq-eqb, ne_eqb}
+use Rattle.std.specs.List.{range_with_len, enumerate_from}
 use Rattle.pmem_trait.specs.declared.call.Call.{Call}
 use Rattle.pmem_trait.specs.declared.call.Call.TheVariants.{Put, Flush}
 use Rattle.pmem_trait.specs.Sights.{Sight, Goes, Makes}
@@ -43,6 +43,23 @@ written-append (w ∷ ws) vs k = one_more (k == w.0) w.1 (written ws k) (written
     one_more : (b : Bool) (v : ℕ) (xs ys zs : List ℕ) → zs ≡ xs ++ ys → (if b then v ∷ zs else zs) ≡ (if b then v ∷ xs else xs) ++ ys
     one_more true v xs ys zs is = ap (λ (l : List ℕ). v ∷ l) is
     one_more false v xs ys zs is = is
+
+-- words put one after another from a place on: nothing is written elsewhere
+pub words_outside : (at : ℕ) (xs : List ℕ) (i : ℕ) → ((j : ℕ) → j < length xs → i ≡ at + j → ⊥) → written (enumerate_from at xs) i ≡ []
+words_outside at [] i other = refl
+words_outside at (x ∷ xs) i other =
+    let ne : i ≢ at = λ e. other 0 (omega arith) (omega arith) in
+    rw (ne_eqb i at ne) (words_outside (at + 1) xs i (λ j lt is. other (suc j) (omega arith) (omega arith)))
+
+-- and at each of their places just the word of that place
+pub words_inside : (at : ℕ) (xs : List ℕ) (j i : ℕ) → i ≡ at + j → j < length xs → written (enumerate_from at xs) i ≡ slice_index xs j ∷ []
+words_inside at [] j i is lt = absurd (omega arith)
+words_inside at (x ∷ xs) zero i is lt =
+    let same : i ≡ at = omega arith in
+    rw (eq-eqb i at same) (ap (λ (l : List ℕ). x ∷ l) (words_outside (at + 1) xs i (λ j below e. omega arith)))
+words_inside at (x ∷ xs) (suc j) i is lt =
+    let ne : i ≢ at = omega arith in
+    rw (ne_eqb i at ne) (words_inside (at + 1) xs j i (omega arith) (omega arith))
 
 -- A loop over the writes, or over the lines: one turn more.
 pub puts_next : (ws : List (ℕ × ℕ)) (i : ℕ) (d w : ℕ × ℕ) {ok : Bool} {s t u : Sight} → i < length ws → get_or ws i d ≡ w
