@@ -12,7 +12,8 @@ use Rattle.pmem_trait.specs.declared.call.Call.{Call}
 use Rattle.pmem_trait.specs.declared.call.Call.TheVariants.{Tell}
 use Rattle.pmem_trait.specs.Words.{newest, Word, Point, IsIn, MayBe, IsImage, still, after, after_all, Leaves, Along, end, more}
 use Rattle.pmem_trait.specs.Groups.{group_calls, OldOrNew, final}
-use Rattle.pmem_trait.proofs.GroupLaw.{group_law, group_word, group_told}
+use Rattle.pmem_trait.proofs.GroupLaw.{group_law, group_word, group_told, mix_may}
+use Rattle.pmem_trait.proofs.Images.{may_still}
 use Rattle.pmem_trait.proofs.Laws.{along_then, after_all_then}
 use Rattle.redo_record.specs.Tags.{kind_of, number_of, head_tag, IsHeadOver}
 use Rattle.redo_record.specs.Cells.{Cell, front_of, word_place}
@@ -49,14 +50,6 @@ over_or_not above tag = by (cases_eq (kind_of tag) 1) (cases_order above (number
     by (inl kind) (inl same) = inr (λ h. let o = h.over in omega arith)
     by (inl kind) (inr (inr past)) = inr (λ h. let o = h.over in omega arith)
     by (inr other) order = inr (λ h. other h.kind)
-
--- a still word may be nothing else
-may_still : (w : Word) (x y : ℕ) → w ≡ still x → MayBe w y → y ≡ x
-may_still w x y is may = only (subst (λ (w : Word). MayBe w y) is may)
-  where
-    only : MayBe (still x) y → y ≡ x
-    only (inl e) = e
-    only (inr none) = absurd none
 
 settled_is : (w : Word) (x : ℕ) → w ≡ still x → w.settled ≡ x
 settled_is w x is = ap (λ (w : Word). w.settled) is
@@ -195,9 +188,7 @@ logged_shows {S} {n} {home} {next} {p} {image} place at value low high inside sm
 -- a word that a group doesn't write may be in a mix what it was
 may_stay : (low high : ℕ) {len : ℕ} {p : Point} {ws : List (ℕ × ℕ)} {image : List ℕ} → OldOrNew len p ws image → Within low high ws
     → (k : ℕ) → k < len → (k < low) ⊎ (high ≤ k) → MayBe (p.word k) (slice_index image k)
-may_stay low high {p = p} {ws = ws} {image = image} mix inside k below out =
-    let P : List ℕ → Type 0 = λ l. MayBe (p.word k) (slice_index image k) ⊎ IsIn (slice_index image k) l in
-    elim (subst P (written-outside low high ws k inside out) (mix.each k below)) [ inl may ↦ may | inr none ↦ absurd none ]
+may_stay low high mix inside k below out = mix_may mix k below (written-outside low high _ k inside out)
 
 -- a place that isn't the one written lies outside
 apart : (k at : ℕ) → k ≢ at → (144 + k < 144 + at) ⊎ (145 + at ≤ 144 + k)
