@@ -10,11 +10,11 @@ use Rattle.dude_base.specs.declared.write.Write.{Write}
 use Rattle.dude_base.specs.Records.{RedoRecord}
 use Rattle.pmem_trait.specs.declared.call.Call.{Call}
 use Rattle.pmem_trait.specs.declared.call.Call.TheVariants.{Tell}
-use Rattle.pmem_trait.specs.Words.{newest, Word, Point, IsIn, MayBe, IsImage, still, after, after_all, Leaves, Along, end, more}
+use Rattle.pmem_trait.specs.Words.{newest, Word, Point, IsIn, MayBe, IsImage, still, after, after_all, Leaves, Along, more}
 use Rattle.pmem_trait.specs.Groups.{group_calls, OldOrNew, final}
 use Rattle.pmem_trait.proofs.GroupLaw.{group_law, group_word, group_told, mix_may}
 use Rattle.pmem_trait.proofs.Images.{may_still}
-use Rattle.pmem_trait.proofs.Laws.{along_then, after_all_then}
+use Rattle.pmem_trait.proofs.Laws.{along_last, along_leaves, along_then, after_all_then}
 use Rattle.redo_record.specs.Tags.{kind_of, number_of, head_tag, IsHeadOver}
 use Rattle.redo_record.specs.Cells.{Cell, front_of, word_place}
 use Rattle.redo_record.specs.Record.{HoldComplete, record_of}
@@ -24,7 +24,7 @@ use Rattle.redo_record.specs.Recovery.{Recovers}
 use Rattle.redo_record.specs.Calls.{append_calls}
 use Rattle.redo_record.specs.Fits.{Logged, IsStill, FitsRing, settled_mark}
 use Rattle.redo_record.specs.AppendLaw.{CanAppend, logged_as, IsElsewhere, HeadsHold, Appended}
-use Rattle.redo_record.proofs.AppendedRecord.{append_law, along_last}
+use Rattle.redo_record.proofs.AppendedRecord.{append_law}
 use Rattle.redo_record.proofs.EncodedCells.{cells_of_record, encoded_holds, encoded_record, encoded_writes}
 use Rattle.redo_record.proofs.HeldRecords.{AreSame, complete_same, record_same}
 use Rattle.redo_record.proofs.RingHeads.{is_still, cell_is}
@@ -34,12 +34,6 @@ use Rattle.fresh_image.specs.Calls.{update_record, update_cell, home_write, mark
 use Rattle.fresh_image.proofs.Groups.{Within, written-outside, written-same, kept, either, left}
 use Rattle.fresh_image.proofs.Lists.{set-set_same, IsIn-drop_push}
 use Rattle.fresh_image.proofs.Shown.{Reads, fresh_sizes_are, recovers_rest, recovers_next}
-
--- what holds of images holds of them along a list of calls
-pub along_leaves : {len : ℕ} {P Q : List ℕ → List ℕ → Type 0} {p : Point} {cs : List Call} → ((told image : List ℕ) → length image ≡ len → P told image → Q told image)
-    → Along (Leaves len P) p cs → Along (Leaves len Q) p cs
-along_leaves f (end h) = end (record { each = λ image is. f _ image is.size (h.each image is) })
-along_leaves f (more h rest) = more (record { each = λ image is. f _ image is.size (h.each image is) }) (along_leaves f rest)
 
 -- a tag is that of a head over a number, or isn't
 over_or_not : (above tag : ℕ) → IsHeadOver above tag ⊎ (IsHeadOver above tag → ⊥)

@@ -7,12 +7,11 @@ use Rattle.dude_base.specs.declared.write.Write.{Write}
 use Rattle.dude_base.specs.Image.{image_words}
 use Rattle.dude_base.specs.Records.{RedoRecord}
 use Rattle.pmem_trait.specs.declared.call.Call.{Call}
-use Rattle.pmem_trait.specs.Words.{Word, Point, IsIn, HalfDone, Leaves, Along, Along.end, Along.more, still, newest, value_of, after_all}
+use Rattle.pmem_trait.specs.Words.{Word, Point, IsIn, Leaves, Along, still, newest, value_of, after_all}
 use Rattle.pmem_trait.specs.Groups.{group_calls, written, OldOrNew}
 use Rattle.pmem_trait.proofs.GroupLaw.{group_law, group_told, kept_word, left_word}
 use Rattle.pmem_trait.proofs.GroupWords.{group_flushed}
-use Rattle.pmem_trait.proofs.Images.{half_leaves}
-use Rattle.pmem_trait.proofs.Laws.{along_here, along_rest, along_then, after_all_then}
+use Rattle.pmem_trait.proofs.Laws.{along_half, along_then, after_all_then}
 use Rattle.redo_record.specs.Tags.{number_of, head_tag, continuation_tag, IsHeadOver}
 use Rattle.redo_record.specs.Cells.{Cell, IsCell, front_of, line_of, word_place}
 use Rattle.redo_record.specs.Record.{cells_for, record_of, HoldComplete}
@@ -26,16 +25,6 @@ use Rattle.redo_record.proofs.EncodedCells.{cells_of_record, encoded_holds, enco
 use Rattle.redo_record.proofs.CellPlaces.{among, first_cell, head_line, line_in, places_same, word_line, word_inside}
 use Rattle.redo_record.proofs.RecordWrites.{body_elsewhere, body_word, body_head, body_tag, tag_elsewhere, tag_there}
 use Rattle.redo_record.proofs.RingHeads.{is_still, cell_is, head_last, heads_hold, stays, same_mark, fits_after}
-
--- what holds along a list of calls holds after a front of it, and of a call on the way that is half done
-pub along_last : {P : Point → Type 0} {p : Point} {cs : List Call} → Along P p cs → P (after_all cs p)
-along_last (end h) = h
-along_last (more h rest) = along_last rest
-
-along_half : {len : ℕ} {P : List ℕ → List ℕ → Type 0} (front : List Call) (last : Call) (rest : List Call) {p q : Point}
-    → Along (Leaves len P) p (front ++ last ∷ rest) → HalfDone last (after_all front p) q → Leaves len P q
-along_half [] last rest along half = half_leaves last (along_here along) (along_here (along_rest along)) half
-along_half (c ∷ cs) last rest along half = along_half cs last rest (along_rest along) half
 
 module _ (s : Sizes) (logged : List Logged) (released : ℕ) (head : Cell) (r : RedoRecord) where
   few_cells : {mark : ℕ} → CanAppend s mark logged head r → cells_for (length r.writes) ≤ s.cells
