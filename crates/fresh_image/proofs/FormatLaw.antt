@@ -1,5 +1,5 @@
 -- The law of the format's calls: from the moment that 0 is told on, each image recovers to 0 and the home words.
-use Rattle.std.proofs.Common.{◌≡◌, ℕ, zero, suc, ◌+◌, ◌-◌, ◌/◌, ◌<◌, ◌≤◌, List, [], ◌∷◌, ◌++◌, length, replicate, refl, sym, ◌∙◌, ap, arith, inl, inr, ◌⊎◌, subst, eq-eqb, ne_eqb}
+use Rattle.std.proofs.Common.{◌≡◌, ℕ, zero, suc, ◌+◌, ◌-◌, ◌/◌, ◌<◌, ◌≤◌, List, [], ◌∷◌, ◌++◌, length, replicate, refl, sym, ◌∙◌, ap, arith, inl, inr, ◌⊎◌, subst, ne_eqb}
 use Rattle.std.proofs.lemmas.Bool.{cases_eq}
 use Rattle.std.proofs.lemmas.List.{length-append, length-replicate, get_or-replicate, get_or_append_left, get_or-append_right}
 use Rattle.std.specs.Prelude.{slice_index}
@@ -8,12 +8,13 @@ use Rattle.pmem_trait.specs.declared.call.Call.TheVariants.{Tell}
 use Rattle.pmem_trait.specs.Words.{newest, Point, IsIn, IsSettled, still, after, after_all, Leaves, Along, end, more}
 use Rattle.pmem_trait.specs.Groups.{group_calls, written, final}
 use Rattle.pmem_trait.proofs.GroupLaw.{group_law, group_word, group_told}
+use Rattle.pmem_trait.proofs.GroupLists.{words_outside, words_inside}
 use Rattle.pmem_trait.proofs.Laws.{along_then, after_all_then}
 use Rattle.dude_base.specs.declared.limits.TheConstants.{MAGIC}
 use Rattle.redo_record.proofs.RingHeads.{is_still}
 use Rattle.fresh_image.specs.Fresh.{Rests, fresh_header, fresh_home_length, fresh_length}
 use Rattle.fresh_image.specs.FormatCalls.{clear_cells, content_writes, content_lines, header_writes, magic_write, format_calls, ShowsOnceTold}
-use Rattle.fresh_image.proofs.Groups.{Within, written-outside, left}
+use Rattle.fresh_image.proofs.Groups.{Within, left}
 use Rattle.fresh_image.proofs.UpdateLaw.{rest_images, empty_ring, stands_told}
 
 -- a number of a range is in its list
@@ -25,17 +26,6 @@ IsIn-range a (suc n) k low high = elim (cases_eq k a) [ inl e ↦ inl e | inr ne
 pub within-enumerate : (from : ℕ) (values : List ℕ) → (low high : ℕ) → low ≤ from → from + length values ≤ high → Within low high (enumerate_from from values)
 within-enumerate from [] low high a b = tt
 within-enumerate from (v ∷ vs) low high a b = (a, omega arith, within-enumerate (from + 1) vs low high (omega arith) (omega arith))
-
--- what numbered values write
-pub written-enumerate : (from : ℕ) (values : List ℕ) (j : ℕ) → j < length values → written (enumerate_from from values) (from + j) ≡ slice_index values j ∷ []
-written-enumerate from [] j below = absurd (omega arith)
-written-enumerate from (v ∷ vs) zero below =
-    let e : from + 0 ≡ from = omega arith in
-    rw (e, eq-eqb from from refl) (ap (λ (l : List ℕ). v ∷ l) (written-outside (from + 1) (from + 1 + length vs) _ from
-    (within-enumerate (from + 1) vs _ _ (omega arith) (omega arith)) (inl (omega arith))))
-written-enumerate from (v ∷ vs) (suc j) below =
-    let e : from + suc j ≡ from + 1 + j = omega arith in
-    rw (e, ne_eqb (from + 1 + j) from (λ q. omega arith)) (written-enumerate (from + 1) vs j (omega arith))
 
 -- the values of the cells' words and of the home words
 zeros_before : (n : ℕ) (home : List ℕ) (j : ℕ) → j < n → slice_index (replicate n 0 ++ home) j ≡ 0
@@ -66,7 +56,7 @@ content_word S home p j x count below is =
     ∙ ap (λ (l : List ℕ). still (newest x l)) written_is
   where
     written_is : written (content_writes home) (16 + j) ≡ slice_index (clear_cells ++ home) j ∷ []
-    written_is = rw (ne_eqb (16 + j) 8 (λ e. omega arith)) (written-enumerate 16 (clear_cells ++ home) j (omega (arith, length-append clear_cells home, length-clear_cells)))
+    written_is = rw (ne_eqb (16 + j) 8 (λ e. omega arith)) (words_inside 16 (clear_cells ++ home) j (16 + j) refl (omega (arith, length-append clear_cells home, length-clear_cells)))
 
 -- the places of the contents
 within_contents : (S : ℕ) (home : List ℕ) → length home ≡ fresh_home_length S → Within 8 (fresh_length S) (content_writes home)
@@ -156,8 +146,7 @@ formatted_rests S home p count settled = record {
     mark2 : p2.word 8 ≡ still 0
     mark2 =
         let s = at_first 8 (omega arith) in
-        let w : written (content_writes home) 8 ≡ 0 ∷ [] = ap (λ (l : List ℕ). 0 ∷ l) (written-outside 16 (fresh_length S) (enumerate_from 16 (clear_cells ++ home)) 8
-        (within-enumerate 16 (clear_cells ++ home) 16 (fresh_length S) (omega arith) (omega (arith, length-append clear_cells home, length-clear_cells, count))) (inl (omega arith))) in
+        let w : written (content_writes home) 8 ≡ 0 ∷ [] = ap (λ (l : List ℕ). 0 ∷ l) (words_outside 16 (clear_cells ++ home) 8 (λ j lt e. omega arith)) in
         group_word (content_writes home) (content_lines S) p1 8 s.0 s.1 (inr (IsIn-range 1 (fresh_length S / 8 - 1) 1 (omega arith) (omega arith)))
         ∙ ap (λ (l : List ℕ). still (newest s.0 l)) w
 

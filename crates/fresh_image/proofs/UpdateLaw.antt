@@ -10,10 +10,11 @@ use Rattle.dude_base.specs.declared.write.Write.{Write}
 use Rattle.dude_base.specs.Records.{RedoRecord}
 use Rattle.pmem_trait.specs.declared.call.Call.{Call}
 use Rattle.pmem_trait.specs.declared.call.Call.TheVariants.{Tell}
-use Rattle.pmem_trait.specs.Words.{newest, Word, Point, IsIn, MayBe, IsImage, still, after, after_all, Leaves, Along, end, more}
+use Rattle.pmem_trait.specs.Words.{newest, Word, Point, IsIn, MayBe, IsImage, still, after, after_all, Leaves, Along, more}
 use Rattle.pmem_trait.specs.Groups.{group_calls, OldOrNew, final}
-use Rattle.pmem_trait.proofs.GroupLaw.{group_law, group_word, group_told}
-use Rattle.pmem_trait.proofs.Laws.{along_then, after_all_then}
+use Rattle.pmem_trait.proofs.GroupLaw.{group_law, group_word, group_told, mix_may}
+use Rattle.pmem_trait.proofs.Images.{may_still}
+use Rattle.pmem_trait.proofs.Laws.{along_last, along_leaves, along_then, after_all_then}
 use Rattle.redo_record.specs.Tags.{kind_of, number_of, head_tag, IsHeadOver}
 use Rattle.redo_record.specs.Cells.{Cell, front_of, word_place}
 use Rattle.redo_record.specs.Record.{HoldComplete, record_of}
@@ -23,7 +24,7 @@ use Rattle.redo_record.specs.Recovery.{Recovers}
 use Rattle.redo_record.specs.Calls.{append_calls}
 use Rattle.redo_record.specs.Fits.{Logged, IsStill, FitsRing, settled_mark}
 use Rattle.redo_record.specs.AppendLaw.{CanAppend, logged_as, IsElsewhere, HeadsHold, Appended}
-use Rattle.redo_record.proofs.AppendedRecord.{append_law, along_last}
+use Rattle.redo_record.proofs.AppendedRecord.{append_law}
 use Rattle.redo_record.proofs.EncodedCells.{cells_of_record, encoded_holds, encoded_record, encoded_writes}
 use Rattle.redo_record.proofs.HeldRecords.{AreSame, complete_same, record_same}
 use Rattle.redo_record.proofs.RingHeads.{is_still, cell_is}
@@ -34,12 +35,6 @@ use Rattle.fresh_image.proofs.Groups.{Within, written-outside, written-same, kep
 use Rattle.fresh_image.proofs.Lists.{set-set_same, IsIn-drop_push}
 use Rattle.fresh_image.proofs.Shown.{Reads, fresh_sizes_are, recovers_rest, recovers_next}
 
--- what holds of images holds of them along a list of calls
-pub along_leaves : {len : ℕ} {P Q : List ℕ → List ℕ → Type 0} {p : Point} {cs : List Call} → ((told image : List ℕ) → length image ≡ len → P told image → Q told image)
-    → Along (Leaves len P) p cs → Along (Leaves len Q) p cs
-along_leaves f (end h) = end (record { each = λ image is. f _ image is.size (h.each image is) })
-along_leaves f (more h rest) = more (record { each = λ image is. f _ image is.size (h.each image is) }) (along_leaves f rest)
-
 -- a tag is that of a head over a number, or isn't
 over_or_not : (above tag : ℕ) → IsHeadOver above tag ⊎ (IsHeadOver above tag → ⊥)
 over_or_not above tag = by (cases_eq (kind_of tag) 1) (cases_order above (number_of tag))
@@ -49,14 +44,6 @@ over_or_not above tag = by (cases_eq (kind_of tag) 1) (cases_order above (number
     by (inl kind) (inl same) = inr (λ h. let o = h.over in omega arith)
     by (inl kind) (inr (inr past)) = inr (λ h. let o = h.over in omega arith)
     by (inr other) order = inr (λ h. other h.kind)
-
--- a still word may be nothing else
-may_still : (w : Word) (x y : ℕ) → w ≡ still x → MayBe w y → y ≡ x
-may_still w x y is may = only (subst (λ (w : Word). MayBe w y) is may)
-  where
-    only : MayBe (still x) y → y ≡ x
-    only (inl e) = e
-    only (inr none) = absurd none
 
 settled_is : (w : Word) (x : ℕ) → w ≡ still x → w.settled ≡ x
 settled_is w x is = ap (λ (w : Word). w.settled) is
@@ -195,9 +182,7 @@ logged_shows {S} {n} {home} {next} {p} {image} place at value low high inside sm
 -- a word that a group doesn't write may be in a mix what it was
 may_stay : (low high : ℕ) {len : ℕ} {p : Point} {ws : List (ℕ × ℕ)} {image : List ℕ} → OldOrNew len p ws image → Within low high ws
     → (k : ℕ) → k < len → (k < low) ⊎ (high ≤ k) → MayBe (p.word k) (slice_index image k)
-may_stay low high {p = p} {ws = ws} {image = image} mix inside k below out =
-    let P : List ℕ → Type 0 = λ l. MayBe (p.word k) (slice_index image k) ⊎ IsIn (slice_index image k) l in
-    elim (subst P (written-outside low high ws k inside out) (mix.each k below)) [ inl may ↦ may | inr none ↦ absurd none ]
+may_stay low high mix inside k below out = mix_may mix k below (written-outside low high _ k inside out)
 
 -- a place that isn't the one written lies outside
 apart : (k at : ℕ) → k ≢ at → (144 + k < 144 + at) ⊎ (145 + at ≤ 144 + k)

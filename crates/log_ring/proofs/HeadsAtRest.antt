@@ -5,6 +5,7 @@ use Rattle.dude_base.specs.Image.{image_words}
 use Rattle.dude_base.specs.Records.{RedoRecord}
 use Rattle.pmem_trait.specs.Words.{Point, MayBe, IsImage, still}
 use Rattle.pmem_trait.specs.Groups.{OldOrNew}
+use Rattle.pmem_trait.proofs.GroupLaw.{kept_word}
 use Rattle.redo_record.specs.Tags.{number_of, IsHeadOver}
 use Rattle.redo_record.specs.Cells.{Cell, IsCell, front_of, word_place}
 use Rattle.redo_record.specs.Record.{cells_for, count_of}
@@ -13,7 +14,7 @@ use Rattle.redo_record.specs.Fits.{Logged, HasHead, head_of, Stands, FitsRing, s
 use Rattle.redo_record.specs.AppendLaw.{HeadsHold}
 use Rattle.redo_record.proofs.HeldRecords.{AreSame, complete_same}
 use Rattle.redo_record.proofs.CellPlaces.{word_inside, first_cell}
-use Rattle.redo_record.proofs.RingHeads.{kept_word, find_head, cell_is}
+use Rattle.redo_record.proofs.RingHeads.{find_head, cell_is}
 
 module _ (s : Sizes) (logged : List Logged) (released : ℕ) (head : Cell) (r : RedoRecord) (p : Point) (len : ℕ) (long : image_words s ≤ len)
     (fits : FitsRing s head.ring logged released p) (image : List ℕ) (is : IsImage len p image) where

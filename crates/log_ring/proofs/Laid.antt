@@ -4,9 +4,10 @@ use Rattle.std.proofs.Common.{◌≡◌, ◌⊎◌, inl, inr, ℕ, suc, ◌+◌,
 use Rattle.std.specs.List.{filter, slice_get}
 use Rattle.std.proofs.Math.Nat.{mod-add-mod}
 use Rattle.std.proofs.lemmas.List.Elements.{All-nil, All-cons, All-append}
-use Rattle.std.proofs.lemmas.List.Sums.{sum_by-append, sum_by-cons}
+use Rattle.std.proofs.lemmas.List.Sums.{sum_by-append}
 use Rattle.redo_record.specs.Fits.{Logged, cells_used}
 use Rattle.redo_record.proofs.CellPlaces.{wrapped, steps_same}
+use Rattle.redo_record.proofs.RingRoom.{used_more}
 use Rattle.log_ring.specs.Laid.{AreLaid}
 
 -- the way from the oldest head to the next place is what the records take
@@ -18,22 +19,19 @@ used_is c next first used d below some few ends up around = by (wrapped c first 
     by (inl u) = let is = u.1 in let later : first < next = omega arith in omega (arith, up later)
     by (inr u) = let is = u.1 in let before : next ≤ first = omega arith in omega (arith, around before)
 
-sum : (l : Logged) (ls : List Logged) → cells_used (l ∷ ls) ≡ l.cells + cells_used ls
-sum l ls = sum_by-cons (λ (l : Logged). l.cells) l ls
-
 -- a cell of a record isn't one of the next n cells
 abbrev pub IsApart : ℕ → ℕ → ℕ → Logged → Type 0
 IsApart c next n l = (i k : ℕ) → i < l.cells → k < n → (l.first + i) % c ≡ (next + k) % c → ⊥
 
 pub laid_free : (c next n : ℕ) (ls : List Logged) → AreLaid c next ls → cells_used ls + n ≤ c → All (IsApart c next n) ls
 laid_free c next n [] laid few = All-nil (IsApart c next n)
-laid_free c next n (l ∷ ls) laid few = All-cons (IsApart c next n) l ls apart (laid_free c next n ls laid.1 (omega (arith, sum l ls)))
+laid_free c next n (l ∷ ls) laid few = All-cons (IsApart c next n) l ls apart (laid_free c next n ls laid.1 (omega (arith, used_more l ls)))
   where
     apart : IsApart c next n l
     apart i k lt below same =
         let on : (next + k) % c ≡ (l.first + (l.cells + cells_used ls + k)) % c =
         ap (λ (x : ℕ). (x + k) % c) (sym laid.0.ends) ∙ mod-add-mod (l.first + (l.cells + cells_used ls)) c k ∙ ap (λ (x : ℕ). x % c) (omega arith) in
-        let is : i ≡ l.cells + cells_used ls + k = steps_same c l.first i (l.cells + cells_used ls + k) laid.0.place (omega (arith, laid.0.few)) (omega (arith, sum l ls)) (same ∙ on) in
+        let is : i ≡ l.cells + cells_used ls + k = steps_same c l.first i (l.cells + cells_used ls + k) laid.0.place (omega (arith, laid.0.few)) (omega (arith, used_more l ls)) (same ∙ on) in
         omega arith
 
 -- one more record
@@ -53,12 +51,12 @@ laid_more c next cells number (l ∷ ls) below some few newest laid = (
   record {
     place = laid.0.place;
     some = laid.0.some;
-    ends = ap (λ (x : ℕ). x % c) (omega (arith, more, sum l ls)) ∙ sym (mod-add-mod (l.first + (l.cells + cells_used ls)) c cells) ∙ ap (λ (x : ℕ). (x + cells) % c) laid.0.ends;
-    few = omega (arith, more, sum l ls);
+    ends = ap (λ (x : ℕ). x % c) (omega (arith, more, used_more l ls)) ∙ sym (mod-add-mod (l.first + (l.cells + cells_used ls)) c cells) ∙ ap (λ (x : ℕ). (x + cells) % c) laid.0.ends;
+    few = omega (arith, more, used_more l ls);
     lower = All-append (λ (m : Logged). l.number < m.number) ls (last ∷ []) laid.0.lower
         (All-cons (λ (m : Logged). l.number < m.number) last [] (newest 0 l (omega arith)) (All-nil (λ (m : Logged). l.number < m.number)));
   },
-  laid_more c next cells number ls below some (omega (arith, sum l ls)) (λ k d lt. newest (suc k) d (omega arith)) laid.1,
+  laid_more c next cells number ls below some (omega (arith, used_more l ls)) (λ k d lt. newest (suc k) d (omega arith)) laid.1,
 )
   where
     last : Logged
@@ -75,7 +73,7 @@ laid_few c next (l ∷ ls) laid =
     let few = laid.0.few in
     let rest = laid_few c next ls laid.1 in
     let count = rest.0 in
-    (omega (arith, sum l ls), omega (arith, sum l ls))
+    (omega (arith, used_more l ls), omega (arith, used_more l ls))
 
 -- where all pass, a filter changes nothing
 pub filter_all : (p : Logged → Bool) (ls : List Logged) → All (λ l. p l ≡ true) ls → filter p ls ≡ ls
@@ -103,6 +101,6 @@ used_first c next d [] o is laid up around = absurd (search rules)
 used_first c next d (l ∷ ls) o is laid up around =
     let same : l ≡ o = cc in
     let some = laid.0.some in
-    subst (λ (n : ℕ). d ≡ n) (sym (sum l ls))
+    subst (λ (n : ℕ). d ≡ n) (sym (used_more l ls))
     (used_is c next l.first (l.cells + cells_used ls) d laid.0.place (omega arith) laid.0.few laid.0.ends
     (rw same up) (rw same around))

@@ -1,10 +1,10 @@
 -- One law for every group of writes: what each mix of the old words and the written ones has, every image has.
-use Rattle.std.proofs.Common.{◌≡◌, ◌⊎◌, inl, inr, ⊎_elim, ℕ, ◌/◌, ◌==◌, Bool, true, false, if◌then◌else◌, List, [], ◌∷◌, ◌++◌, slice_index, refl, sym, ap, ◌∙◌, subst, eqb-true, eq-eqb}
+use Rattle.std.proofs.Common.{◌≡◌, ◌⊎◌, inl, inr, ⊎_elim, ℕ, ◌/◌, ◌<◌, ◌==◌, Bool, true, false, if◌then◌else◌, List, [], ◌∷◌, ◌++◌, slice_index, refl, sym, ap, ◌∙◌, subst, eqb-true, eq-eqb}
 use Rattle.pmem_trait.specs.declared.call.Call.TheVariants.{Put, Flush, Fence}
 use Rattle.pmem_trait.specs.Words.{IsIn, Word, Point, newest, value_of, with_later, settle, after, after_all, MayBe, Leaves, still, IsSettled, Along, Along.end, Along.more}
 use Rattle.pmem_trait.specs.Groups.{put_pairs, flush_lines, group_calls, written, final, OldOrNew, MixOf, SettlesGroup, Covers}
-use Rattle.pmem_trait.proofs.Images.{note_less, fence_less}
-use Rattle.pmem_trait.proofs.GroupWords.{with_all, puts_word, noted_stays, group_is, group_flushed, with_all_may}
+use Rattle.pmem_trait.proofs.Images.{may_still, note_less, fence_less}
+use Rattle.pmem_trait.proofs.GroupWords.{with_all, puts_word, noted_stays, group_is, group_flushed, group_may, with_all_may}
 
 -- q has no number told and no value beside those of p and the written ones
 record Within (p : Point) (all : List (ℕ × ℕ)) (q : Point) : Type 0 where
@@ -72,12 +72,28 @@ module _ {len : ℕ} {P : List ℕ → List ℕ → Type 0} {p : Point} (all : L
   unfolding group_calls
   group_law ls = puts_law p all ls (λ k x is. is) (record { told = refl; value = λ k x may. inl may })
 
--- What a group leaves of a word that was settled and whose line is flushed, or that isn't written.
-pub group_word : (ws : List (ℕ × ℕ)) (ls : List ℕ) (p : Point) (k x : ℕ) → p.word k ≡ still x → (written ws k ≡ []) ⊎ IsIn (k / 8) ls → (after_all (group_calls ws ls) p).word k ≡ still (final ws k x)
-group_word ws ls p k x at_rest (inl none) =
+-- what a mix may have of a word that isn't written: what the word may have been
+pub mix_may : {len : ℕ} {p : Point} {ws : List (ℕ × ℕ)} {image : List ℕ} → OldOrNew len p ws image → (k : ℕ) → k < len → written ws k ≡ [] → MayBe (p.word k) (slice_index image k)
+mix_may {image = image} mix k below none = ⊎_elim (λ may. may) (λ new. absurd (subst (IsIn (slice_index image k)) none new)) (mix.each k below)
+
+-- so a settled word that isn't written is in a mix as it was
+pub kept_word : {len : ℕ} {p : Point} {ws : List (ℕ × ℕ)} {image : List ℕ} → OldOrNew len p ws image → (k x : ℕ) → k < len → written ws k ≡ [] → p.word k ≡ still x → slice_index image k ≡ x
+kept_word mix k x below none is = may_still _ x _ is (mix_may mix k below none)
+
+-- nor has it, after the group, a value that it might not have had before
+pub unwritten_may : (ws : List (ℕ × ℕ)) (ls : List ℕ) (p : Point) (k x : ℕ) → written ws k ≡ [] → MayBe ((after_all (group_calls ws ls) p).word k) x → MayBe (p.word k) x
+unwritten_may ws ls p k x none may = ⊎_elim (λ old. old) (λ (new : IsIn x (written ws k)). absurd (subst (IsIn x) none new)) (group_may ws ls p k x may)
+
+-- and the group leaves a settled word as it was
+pub left_word : (ws : List (ℕ × ℕ)) (ls : List ℕ) (p : Point) (k x : ℕ) → written ws k ≡ [] → p.word k ≡ still x → (after_all (group_calls ws ls) p).word k ≡ still x
+left_word ws ls p k x none at_rest =
     let behind = after_all (put_pairs ws) p in
     let put : behind.word k ≡ still x = puts_word ws p k ∙ ap (with_all (written ws k)) at_rest ∙ ap (λ (vs : List ℕ). with_all vs (still x)) none in
-    ap (λ (q : Point). q.word k) (group_is ws ls p) ∙ ap settle (noted_stays ls behind k (still x) put) ∙ ap (λ (vs : List ℕ). still (newest x vs)) (sym none)
+    ap (λ (q : Point). q.word k) (group_is ws ls p) ∙ ap settle (noted_stays ls behind k (still x) put)
+
+-- What a group leaves of a word that was settled and whose line is flushed, or that isn't written.
+pub group_word : (ws : List (ℕ × ℕ)) (ls : List ℕ) (p : Point) (k x : ℕ) → p.word k ≡ still x → (written ws k ≡ []) ⊎ IsIn (k / 8) ls → (after_all (group_calls ws ls) p).word k ≡ still (final ws k x)
+group_word ws ls p k x at_rest (inl none) = left_word ws ls p k x none at_rest ∙ ap (λ (vs : List ℕ). still (newest x vs)) (sym none)
 group_word ws ls p k x at_rest (inr flushed) =
     group_flushed ws ls p k flushed ∙ ap (λ (w : Word). still (newest (value_of w) (written ws k))) at_rest
 

@@ -2,7 +2,7 @@
 use Rattle.std.proofs.Common.{◌==◌, ◌/◌, if◌then◌else◌, ◌≡◌, ◌⊎◌, inl, inr, ⊎_elim, ℕ, zero, suc, List, [], ◌∷◌, take, drop, slice_index, refl, sym, ◌∙◌, subst, eqb-true, true, false, Bool}
 use Rattle.pmem_trait.specs.declared.call.Call.{Call}
 use Rattle.pmem_trait.specs.declared.call.Call.TheVariants.{Read, Put, Flush, Fence, Tell}
-use Rattle.pmem_trait.specs.Words.{IsIn, Word, Point, newest, with_note, settle, word_after, after, HalfDone, MayBe, Leaves}
+use Rattle.pmem_trait.specs.Words.{IsIn, Word, Point, newest, with_note, settle, word_after, after, HalfDone, MayBe, Leaves, still}
 
 -- fewer values of each word, and the same numbers told
 pub leaves_less : {len : ℕ} {P : List ℕ → List ℕ → Type 0} {p q : Point}
@@ -12,6 +12,10 @@ leaves_less {P = P} less same leaves = record {
       subst (λ (told : List ℕ). P told image) (sym same)
       (leaves.each image (record { size = is.size; each = λ k below. less k (slice_index image k) (is.each k below) }));
 }
+
+-- a settled word has one value
+pub may_still : (w : Word) (x y : ℕ) → w ≡ still x → MayBe w y → y ≡ x
+may_still w x y is may = ⊎_elim (λ e. e) (λ none. absurd none) (subst (λ (v : Word). MayBe v y) is may)
 
 -- a note alone changes no image
 pub note_less : (noted : Bool) (x : ℕ) (w : Word) → MayBe (if noted then with_note w else w) x → MayBe w x

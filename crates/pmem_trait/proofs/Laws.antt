@@ -2,7 +2,7 @@
 use Rattle.std.proofs.Common.{◌≡◌, ◌⊎◌, inl, inr, ⊎_elim, ℕ, zero, suc, ◌+◌, ◌≤◌, ◌-◌, ◌^◌, Bool, true, false, IsTrue, List, [], ◌∷◌, ◌++◌, length, take, refl, sym, ◌∙◌, subst, arith}
 use Rattle.pmem_trait.specs.declared.call.Call.{Call}
 use Rattle.pmem_trait.specs.declared.call.Call.TheVariants.{Flush, Fence}
-use Rattle.pmem_trait.specs.Words.{Point, after, after_all, Leaves, Along, Along.end, Along.more}
+use Rattle.pmem_trait.specs.Words.{Point, after, after_all, HalfDone, Leaves, Along, Along.end, Along.more}
 use Rattle.pmem_trait.specs.Sights.{Sight, here, Goes, Makes, Makes.none, Makes.stop, Makes.step, Does, Keeps}
 use Rattle.pmem_trait.proofs.Images.{half_leaves, leaves_flush, leaves_fence}
 use Rattle.pmem_trait.proofs.Runs.{later_here, later_then, goes_here}
@@ -98,6 +98,23 @@ along_flush {line = line} h rest = more h (rest (leaves_flush line h))
 
 pub along_fence : {len : ℕ} {P : List ℕ → List ℕ → Type 0} {p : Point} {cs : List Call} → Leaves len P p → (Leaves len P (after Fence p) → Along (Leaves len P) (after Fence p) cs) → Along (Leaves len P) p (Fence ∷ cs)
 along_fence h rest = more h (rest (leaves_fence h))
+
+-- the property after the whole list
+pub along_last : {P : Point → Type 0} {p : Point} {cs : List Call} → Along P p cs → P (after_all cs p)
+along_last (end h) = h
+along_last (more h rest) = along_last rest
+
+-- and where one call on the way is half done
+pub along_half : {len : ℕ} {P : List ℕ → List ℕ → Type 0} (front : List Call) (last : Call) (rest : List Call) {p q : Point}
+    → Along (Leaves len P) p (front ++ last ∷ rest) → HalfDone last (after_all front p) q → Leaves len P q
+along_half [] last rest along half = half_leaves last (along_here along) (along_here (along_rest along)) half
+along_half (c ∷ cs) last rest along half = along_half cs last rest (along_rest along) half
+
+-- a property of images that asks less
+pub along_leaves : {len : ℕ} {P Q : List ℕ → List ℕ → Type 0} {p : Point} {cs : List Call} → ((told image : List ℕ) → length image ≡ len → P told image → Q told image)
+    → Along (Leaves len P) p cs → Along (Leaves len Q) p cs
+along_leaves less (end h) = end (record { each = λ image is. less _ image is.size (h.each image is) })
+along_leaves less (more h rest) = more (record { each = λ image is. less _ image is.size (h.each image is) }) (along_leaves less rest)
 
 -- the property after the first k calls
 pub along_front : {P : Point → Type 0} {cs : List Call} {p : Point} (k : ℕ) → Along P p cs → P (after_all (take k cs) p)

@@ -7,12 +7,11 @@ use Rattle.dude_base.specs.declared.write.Write.{Write}
 use Rattle.dude_base.specs.Image.{image_words}
 use Rattle.dude_base.specs.Records.{RedoRecord}
 use Rattle.pmem_trait.specs.declared.call.Call.{Call}
-use Rattle.pmem_trait.specs.Words.{Word, Point, IsIn, HalfDone, Leaves, Along, Along.end, Along.more, still, newest, value_of, after_all}
+use Rattle.pmem_trait.specs.Words.{Word, Point, IsIn, Leaves, Along, still, newest, value_of, after_all}
 use Rattle.pmem_trait.specs.Groups.{group_calls, written, OldOrNew}
-use Rattle.pmem_trait.proofs.GroupLaw.{group_law, group_word, group_told}
+use Rattle.pmem_trait.proofs.GroupLaw.{group_law, group_told, mix_may, kept_word, unwritten_may, left_word}
 use Rattle.pmem_trait.proofs.GroupWords.{group_flushed}
-use Rattle.pmem_trait.proofs.Images.{half_leaves}
-use Rattle.pmem_trait.proofs.Laws.{along_here, along_rest, along_then, after_all_then}
+use Rattle.pmem_trait.proofs.Laws.{along_half, along_then, after_all_then}
 use Rattle.redo_record.specs.Tags.{number_of, head_tag, continuation_tag, IsHeadOver}
 use Rattle.redo_record.specs.Cells.{Cell, IsCell, front_of, line_of, word_place}
 use Rattle.redo_record.specs.Record.{cells_for, record_of, HoldComplete}
@@ -25,17 +24,7 @@ use Rattle.redo_record.proofs.HeldRecords.{AreSame, complete_same, record_same, 
 use Rattle.redo_record.proofs.EncodedCells.{cells_of_record, encoded_holds, encoded_record, encoded_writes, encoded_continuation}
 use Rattle.redo_record.proofs.CellPlaces.{among, first_cell, head_line, line_in, places_same, word_line, word_inside}
 use Rattle.redo_record.proofs.RecordWrites.{body_elsewhere, body_word, body_head, body_tag, tag_elsewhere, tag_there}
-use Rattle.redo_record.proofs.RingHeads.{kept_word, unwritten_word, unwritten_may, is_still, cell_is, head_last, heads_hold, stays, same_mark, fits_after}
-
--- what holds along a list of calls holds after a front of it, and of a call on the way that is half done
-pub along_last : {P : Point → Type 0} {p : Point} {cs : List Call} → Along P p cs → P (after_all cs p)
-along_last (end h) = h
-along_last (more h rest) = along_last rest
-
-along_half : {len : ℕ} {P : List ℕ → List ℕ → Type 0} (front : List Call) (last : Call) (rest : List Call) {p q : Point}
-    → Along (Leaves len P) p (front ++ last ∷ rest) → HalfDone last (after_all front p) q → Leaves len P q
-along_half [] last rest along half = half_leaves last (along_here along) (along_here (along_rest along)) half
-along_half (c ∷ cs) last rest along half = along_half cs last rest (along_rest along) half
+use Rattle.redo_record.proofs.RingHeads.{is_still, cell_is, head_last, heads_hold, stays, same_mark, fits_after}
 
 module _ (s : Sizes) (logged : List Logged) (released : ℕ) (head : Cell) (r : RedoRecord) where
   few_cells : {mark : ℕ} → CanAppend s mark logged head r → cells_for (length r.writes) ≤ s.cells
@@ -126,7 +115,7 @@ module _ (s : Sizes) (logged : List Logged) (released : ℕ) (head : Cell) (r : 
         record {
           complete = λ other ring new. (heads other ring new).0;
           known = λ other ring new. (heads other ring new).1;
-          others = λ i below other. unwritten_word mix i (subst (λ (n : ℕ). i < n) mix.size below) (body_outside i other);
+          others = λ i below other. mix_may mix i (subst (λ (n : ℕ). i < n) mix.size below) (body_outside i other);
           same_told = refl;
         }
       where
@@ -165,7 +154,7 @@ module _ (s : Sizes) (logged : List Logged) (released : ℕ) (head : Cell) (r : 
           complete = λ other ring new. (heads other ring new).0;
           known = λ other ring new. (heads other ring new).1;
           others = λ i below other.
-              unwritten_may body lines p i (slice_index image i) (body_outside i other) (unwritten_word mix i (subst (λ (n : ℕ). i < n) mix.size below) (tag_outside can i other));
+              unwritten_may body lines p i (slice_index image i) (body_outside i other) (mix_may mix i (subst (λ (n : ℕ). i < n) mix.size below) (tag_outside can i other));
           same_told = group_told body lines p;
         }
       where
@@ -205,8 +194,7 @@ module _ (s : Sizes) (logged : List Logged) (released : ℕ) (head : Cell) (r : 
     -- a word of the body stays as it is under the tag's group
     untouched : (k j : ℕ) → k < cells_for (length r.writes) → j < 8 → (1 ≤ k) ⊎ (1 ≤ j) → with_tag.word (word_place s head k j) ≡ still (slice_index (encoded r k) j)
     untouched k j lt small other =
-        let none : written tag (word_place s head k j) ≡ [] = tag_apart can k j lt small other in
-        rw none at (group_word tag (line_of s head ∷ []) with_body (word_place s head k j) (slice_index (encoded r k) j) (settled_body k j lt small other) (inl none))
+        left_word tag (line_of s head ∷ []) with_body (word_place s head k j) (slice_index (encoded r k) j) (tag_apart can k j lt small other) (settled_body k j lt small other)
 
     -- the whole record is settled
     settled_tag : (k j : ℕ) → k < cells_for (length r.writes) → j < 8 → with_tag.word (word_place s head k j) ≡ still (slice_index (encoded r k) j)

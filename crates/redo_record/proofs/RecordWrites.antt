@@ -5,7 +5,7 @@ use Rattle.std.proofs.lemmas.Bool.{cases_eq}
 use Rattle.dude_base.specs.declared.sizes.Sizes.{Sizes}
 use Rattle.dude_base.specs.Records.{RedoRecord}
 use Rattle.pmem_trait.specs.Groups.{written}
-use Rattle.pmem_trait.proofs.GroupLists.{written-append}
+use Rattle.pmem_trait.proofs.GroupLists.{written-append, words_outside, words_inside}
 use Rattle.redo_record.specs.Tags.{head_tag}
 use Rattle.redo_record.specs.Cells.{Cell, IsCell, cell_after, front_of, word_place}
 use Rattle.redo_record.specs.Record.{cells_for}
@@ -13,23 +13,6 @@ use Rattle.redo_record.specs.Encoding.{encoded}
 use Rattle.redo_record.specs.Calls.{words_from, cell_writes, body_writes, tag_write}
 use Rattle.redo_record.specs.AppendLaw.{IsElsewhere}
 use Rattle.redo_record.proofs.CellPlaces.{first_cell, places_same}
-
--- words one after another write nothing elsewhere
-pub words_outside : (at : ℕ) (xs : List ℕ) (i : ℕ) → ((j : ℕ) → j < length xs → i ≡ at + j → ⊥) → written (words_from at xs) i ≡ []
-words_outside at [] i other = refl
-words_outside at (x ∷ xs) i other =
-    let ne : i ≢ at = λ e. other 0 (omega arith) (omega arith) in
-    rw (ne_eqb i at ne) (words_outside (at + 1) xs i (λ j lt is. other (suc j) (omega arith) (omega arith)))
-
--- and at each of their places just the word of that place
-pub words_inside : (at : ℕ) (xs : List ℕ) (j i : ℕ) → i ≡ at + j → j < length xs → written (words_from at xs) i ≡ slice_index xs j ∷ []
-words_inside at [] j i is lt = absurd (omega arith)
-words_inside at (x ∷ xs) zero i is lt =
-    let same : i ≡ at = omega arith in
-    rw (eq-eqb i at same) (ap (λ (l : List ℕ). x ∷ l) (words_outside (at + 1) xs i (λ j below e. omega arith)))
-words_inside at (x ∷ xs) (suc j) i is lt =
-    let ne : i ≢ at = omega arith in
-    rw (ne_eqb i at ne) (words_inside (at + 1) xs j i (omega arith) (omega arith))
 
 -- lists of writes, one behind another
 module _ (f : ℕ → List (ℕ × ℕ)) (i : ℕ) where

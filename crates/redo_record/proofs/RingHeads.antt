@@ -1,13 +1,13 @@
 -- A ring that fits, under a group of writes that stays in the cells of one new record: what its heads are, in each image
 -- on the way and in the state after it.
-use Rattle.std.proofs.Common.{◌≡◌, ◌⊎◌, inl, inr, ⊎_elim, ℕ, suc, ◌+◌, ◌*◌, ◌%◌, ◌<◌, ◌≤◌, List, [], ◌∷◌, ◌++◌, length, get_or, slice_index, refl, sym, ap, ◌∙◌, subst, arith, All}
+use Rattle.std.proofs.Common.{◌≡◌, ◌⊎◌, inl, inr, ℕ, suc, ◌+◌, ◌*◌, ◌%◌, ◌<◌, ◌≤◌, List, [], ◌∷◌, ◌++◌, length, get_or, refl, sym, ap, ◌∙◌, subst, arith, All}
 use Rattle.std.proofs.lemmas.List.Elements.{All-append}
 use Rattle.dude_base.specs.declared.sizes.Sizes.{Sizes}
 use Rattle.dude_base.specs.Image.{image_words}
 use Rattle.dude_base.specs.Records.{RedoRecord}
 use Rattle.pmem_trait.specs.Words.{Word, Point, IsIn, MayBe, still, after_all}
 use Rattle.pmem_trait.specs.Groups.{group_calls, written, OldOrNew}
-use Rattle.pmem_trait.proofs.GroupLaw.{group_word}
+use Rattle.pmem_trait.proofs.GroupLaw.{kept_word, left_word}
 use Rattle.pmem_trait.proofs.GroupWords.{group_may}
 use Rattle.redo_record.specs.Tags.{number_of, IsHeadOver}
 use Rattle.redo_record.specs.Cells.{Cell, IsCell, front_of, word_place}
@@ -17,22 +17,6 @@ use Rattle.redo_record.specs.Fits.{Logged, head_of, HasHead, IsStill, settled_ma
 use Rattle.redo_record.specs.AppendLaw.{CanAppend, IsElsewhere}
 use Rattle.redo_record.proofs.HeldRecords.{AreSame, complete_same, count_same, tag_same}
 use Rattle.redo_record.proofs.CellPlaces.{words_same, word_inside, first_cell}
-
--- a word that isn't written is in a mix as it may have been
-pub unwritten_word : {len : ℕ} {q : Point} {ws : List (ℕ × ℕ)} {image : List ℕ} → OldOrNew len q ws image → (i : ℕ) → i < len → written ws i ≡ [] → MayBe (q.word i) (slice_index image i)
-unwritten_word {image = image} mix i below none = ⊎_elim (λ may. may) (λ (is : IsIn (slice_index image i) (written _ i)). absurd (subst (IsIn (slice_index image i)) none is)) (mix.each i below)
-
--- and so behind the whole group
-pub unwritten_may : (ws : List (ℕ × ℕ)) (ls : List ℕ) (p : Point) (i x : ℕ) → written ws i ≡ [] → MayBe ((after_all (group_calls ws ls) p).word i) x → MayBe (p.word i) x
-unwritten_may ws ls p i x none may = ⊎_elim (λ old. old) (λ (is : IsIn x (written ws i)). absurd (subst (IsIn x) none is)) (group_may ws ls p i x may)
-
--- a settled word that isn't written is in a mix as it was
-pub kept_word : {len : ℕ} {q : Point} {ws : List (ℕ × ℕ)} {image : List ℕ} → OldOrNew len q ws image → (i x : ℕ) → i < len → written ws i ≡ [] → q.word i ≡ still x → slice_index image i ≡ x
-kept_word {image = image} mix i x below none is = only (subst (λ (w : Word). MayBe w (slice_index image i)) is (unwritten_word mix i below none))
-  where
-    only : MayBe (still x) (slice_index image i) → slice_index image i ≡ x
-    only (inl e) = e
-    only (inr no_later) = absurd no_later
 
 -- a word is still where it is settled at some value
 pub is_still : {w : Word} {x : ℕ} → w ≡ still x → IsStill w
@@ -148,9 +132,7 @@ module _ (s : Sizes) (head : Cell) (r : RedoRecord) (logged : List Logged) (rele
     -- The state after the group.
     module _ (ls : List ℕ) where
       pub stays : (i x : ℕ) → IsElsewhere s head r i → q.word i ≡ still x → (after_all (group_calls ws ls) q).word i ≡ still x
-      stays i x other is =
-          let none : written ws i ≡ [] = outside i other in
-          rw none at (group_word ws ls q i x is (inl none))
+      stays i x other is = left_word ws ls q i x (outside i other) is
 
       pub mark_stays : (after_all (group_calls ws ls) q).word 8 ≡ still (settled_mark q)
       mark_stays = stays 8 (settled_mark q) (header_elsewhere 8 (omega arith)) fits.mark

@@ -10,7 +10,8 @@ use Rattle.redo_record.specs.RingLaws.{place_after, LawOfRoom, LawOfFollowing, L
 use Rattle.redo_record.proofs.CellPlaces.{steps_same, steps_more}
 use Rattle.redo_record.proofs.RingHeads.{stands_by}
 
-used_more : (l : Logged) (ls : List Logged) → cells_used (l ∷ ls) ≡ l.cells + cells_used ls
+-- the cells used with one record more in front
+pub used_more : (l : Logged) (ls : List Logged) → cells_used (l ∷ ls) ≡ l.cells + cells_used ls
 used_more l ls = sum_by-cons (λ (l : Logged). l.cells) l ls
 
 module _ (s : Sizes) (place : ℕ) (below : place < s.cells) where

@@ -1,6 +1,6 @@
 -- The calls on the medium that append one record to its ring.
 use Rattle.std.specs.Prelude.{ℕ, ◌+◌, ◌-◌, List, [], ◌∷◌, ◌++◌, length, drop, map, flat_map}
-use Rattle.std.specs.List.{range_with_len}
+use Rattle.std.specs.List.{range_with_len, enumerate_from}
 use Rattle.dude_base.specs.declared.sizes.Sizes.{Sizes}
 use Rattle.dude_base.specs.Records.{RedoRecord}
 use Rattle.pmem_trait.specs.declared.call.Call.{Call}
@@ -12,8 +12,7 @@ use Rattle.redo_record.specs.Encoding.{encoded}
 
 -- these words, one after another from this place on
 abbrev pub words_from : ℕ → List ℕ → List (ℕ × ℕ)
-words_from at [] = []
-words_from at (x ∷ xs) = (at, x) ∷ words_from (at + 1) xs
+words_from at xs = enumerate_from at xs
 
 -- the words of the record's k-th cell, where the head stands at this cell
 abbrev pub cell_writes : Sizes → Cell → RedoRecord → ℕ → List (ℕ × ℕ)

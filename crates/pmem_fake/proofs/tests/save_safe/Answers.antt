@@ -1,7 +1,8 @@
-use Rattle.std.proofs.Common.{◌≡◌, ◌⊎◌, inl, inr, ⊎_elim, ℕ, ◌<◌, Bool, true, false, if◌then◌else◌, List, [], ◌∷◌, ◌++◌, slice_index, refl, subst, arith}
+use Rattle.std.proofs.Common.{◌≡◌, ◌⊎◌, inl, inr, ⊎_elim, ℕ, ◌<◌, Bool, true, false, if◌then◌else◌, List, [], ◌∷◌, ◌++◌, slice_index, refl, arith}
 use Rattle.pmem_trait.specs.declared.call.Call.TheVariants.{Tell}
-use Rattle.pmem_trait.specs.Words.{Word, Point, MayBe, Leaves, Along, Along.end, Along.more, after_all, still}
+use Rattle.pmem_trait.specs.Words.{Point, Leaves, Along, Along.end, Along.more, after_all, still}
 use Rattle.pmem_trait.specs.Groups.{group_calls}
+use Rattle.pmem_trait.proofs.Images.{may_still}
 use Rattle.pmem_trait.proofs.Laws.{makes_keep, along_then}
 use Rattle.pmem_trait.proofs.GroupLaw.{group_law, group_word}
 use Rattle.pmem_fake.proofs.tests.save_safe.Goals as goal
@@ -9,23 +10,19 @@ use Rattle.pmem_fake.proofs.tests.save_safe.Goals as goal
 abbrev Either : ℕ → ℕ → List ℕ → List ℕ → Type 0
 Either old value told image = (slice_index image 0 ≡ old) ⊎ (slice_index image 0 ≡ value)
 
--- a settled word has one value
-one_value : (w : Word) (x y : ℕ) → w ≡ still x → MayBe w y → y ≡ x
-one_value w x y is may = ⊎_elim (λ h. h) (λ none. absurd none) (subst (λ v. MayBe v y) is may)
-
 module _ (len old value : ℕ) (some : 0 < len) where
   -- word 0 is settled at the new value
   new_leaves : (q : Point) → q.word 0 ≡ still value → Leaves len (Either old value) q
-  new_leaves q is = record { each = λ image leaves. inr (one_value (q.word 0) value _ is (leaves.each 0 some)) }
+  new_leaves q is = record { each = λ image leaves. inr (may_still (q.word 0) value _ is (leaves.each 0 some)) }
 
   new_law : (q : Point) → q.word 0 ≡ still value → Along (Leaves len (Either old value)) q (Tell value ∷ group_calls ((8, value) ∷ []) (1 ∷ []))
   new_law q is = more (new_leaves q is)
-      (group_law ((8, value) ∷ []) (λ image mix. ⊎_elim (λ may. inr (one_value (q.word 0) value _ is may)) (λ none. absurd none) (mix.each 0 some)) (1 ∷ []))
+      (group_law ((8, value) ∷ []) (λ image mix. ⊎_elim (λ may. inr (may_still (q.word 0) value _ is may)) (λ none. absurd none) (mix.each 0 some)) (1 ∷ []))
 
   old_law : (p : Point) → p.word 0 ≡ still old → Along (Leaves len (Either old value)) p (group_calls ((0, value) ∷ []) (0 ∷ []))
   old_law p is =
       group_law ((0, value) ∷ [])
-      (λ image mix. ⊎_elim (λ may. inl (one_value (p.word 0) old _ is may)) (λ put. ⊎_elim (λ h. inr h) (λ none. absurd none) put) (mix.each 0 some))
+      (λ image mix. ⊎_elim (λ may. inl (may_still (p.word 0) old _ is may)) (λ put. ⊎_elim (λ h. inr h) (λ none. absurd none) put) (mix.each 0 some))
       (0 ∷ [])
 
   law : (p : Point) (tell : Bool) → p.word 0 ≡ still old

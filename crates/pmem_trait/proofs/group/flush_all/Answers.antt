@@ -13,12 +13,12 @@ flush-requires g c = omega (arith, c.requires c.loop-line.line-index 0 c.loop-li
 pub returns-in_err-flush-clause-made : goal.returns-in_err-flush-clause-made
 returns-in_err-flush-clause-made g c =
     let err : is_ok c.from_residual.result ≡ false = search rules in
-    rw err (makes_cut _ _ (flushes_next c.args.lines.now c.loop-line.line-index 0 {ok = false} c.loop-line-test.true c.loop-line.invariant.made c.in_err-flush.ensures))
+    rw err (makes_cut _ _ (flushes_next c.args.lines.now c.loop-line.line-index 0 _ {ok = false} c.loop-line-test.true refl c.loop-line.invariant.made c.in_err-flush.ensures))
 
 pub loop-line-preserved : goal.loop-line-preserved
 loop-line-preserved g c = record {
   len = omega arith;
-  made = flushes_next c.args.lines.now c.loop-line.line-index 0 c.loop-line-test.true c.loop-line.invariant.made c.in_ok-flush.ensures;
+  made = flushes_next c.args.lines.now c.loop-line.line-index 0 _ c.loop-line-test.true refl c.loop-line.invariant.made c.in_ok-flush.ensures;
 }
 
 pub returns-clause-made : goal.returns-clause-made

@@ -13,12 +13,12 @@ put-requires g c = omega (arith, c.requires c.loop-at.at-index (0, 0) c.loop-at-
 pub returns-in_err-put-clause-made : goal.returns-in_err-put-clause-made
 returns-in_err-put-clause-made g c =
     let err : is_ok c.from_residual.result ≡ false = search rules in
-    rw err (makes_cut _ _ (puts_next c.args.writes.now c.loop-at.at-index (0, 0) {ok = false} c.loop-at-test.true c.loop-at.invariant.made c.in_err-put.ensures))
+    rw err (makes_cut _ _ (puts_next c.args.writes.now c.loop-at.at-index (0, 0) _ {ok = false} c.loop-at-test.true refl c.loop-at.invariant.made c.in_err-put.ensures))
 
 pub loop-at-preserved : goal.loop-at-preserved
 loop-at-preserved g c = record {
   len = omega arith;
-  made = puts_next c.args.writes.now c.loop-at.at-index (0, 0) c.loop-at-test.true c.loop-at.invariant.made c.in_ok-put.ensures;
+  made = puts_next c.args.writes.now c.loop-at.at-index (0, 0) _ c.loop-at-test.true refl c.loop-at.invariant.made c.in_ok-put.ensures;
 }
 
 pub returns-clause-made : goal.returns-clause-made
