@@ -72,7 +72,7 @@ mod tests {
     }
 
     #[test]
-    fn accepted(rt: HostRuntime) -> Result<(), Fail> {
+    fn fresh_with_a_count_and_a_file_is_a_command(rt: HostRuntime) -> Result<(), Fail> {
         let cases: [(&[&str], u64, &str); 5] = [
             (&["fresh", "8", "f"], 8, "f"),
             (&["fresh", "1", "a file"], 1, "a file"),
@@ -87,7 +87,7 @@ mod tests {
     }
 
     #[test]
-    fn refused(rt: HostRuntime) -> Result<(), Fail> {
+    fn other_words_are_no_command(rt: HostRuntime) -> Result<(), Fail> {
         let cases: [&[&str]; 17] = [
             &[],
             &["fresh"],
