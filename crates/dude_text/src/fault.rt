@@ -13,7 +13,8 @@ pub enum Fault {
     Usage,
     /// A file couldn't be read.
     File { file: u64 },
-    /// A file's first bad record, counted from 1, and its first bad field.
+    /// A file's first bad record and its first bad field, counted from 1. Both are 0 where no place is named, as for
+    /// every bad file today.
     Text { file: u64, row: u64, field: u64 },
     /// The medium has fewer words than the image needs.
     Small { has: u64, needs: u64 },
