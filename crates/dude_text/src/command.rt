@@ -6,13 +6,11 @@ ghost use Rattle.std.specs.Rc.{rc_str_bytes};
 ghost use Rattle.dude_text.specs.Command.{meaning_of, fresh_of, meant, IsInLimits};
 
 use crate::number::number_in;
+use dude_base::limits::MAX_SUBSCRIBERS;
 use std::rc::RcStr;
 
 /// The most digits that a number among the words may have.
 const WORD_DIGITS: usize = 20;
-
-/// The most subscribers that a database may have.
-const MOST_SUBSCRIBERS: u64 = 10_000;
 
 /// What the program is to do.
 #[derive(Clone, Copy, Debug, PartialEq, Eq)]
@@ -43,7 +41,7 @@ fn fresh<'a>(subscribers: &str, file: &'a str) -> Option<Command<'a>>
     if file.is_empty() || file.starts_with('-') {
         return None;
     }
-    let subscribers = number_in(subscribers.as_bytes(), WORD_DIGITS, 1, MOST_SUBSCRIBERS)?;
+    let subscribers = number_in(subscribers.as_bytes(), WORD_DIGITS, 1, MAX_SUBSCRIBERS)?;
     Some(Command::Fresh { subscribers, file })
 }
 

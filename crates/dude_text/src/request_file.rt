@@ -9,7 +9,7 @@ use std::alloc::Global;
 use tatp_model::Request;
 
 /// The most bytes that a request file may have.
-const MAX_BYTES: usize = 16_777_216;
+pub const MAX_BYTES: usize = 16_777_216;
 
 /// The most records that a request file may have.
 const MAX_RECORDS: usize = 100_000;
