@@ -2,7 +2,8 @@ ghost use Rattle.std.specs.Prelude.{◌≡◌, ◌≤◌, map, length, Some, IsT
 ghost use Rattle.std.specs.Rc.{rc_str_bytes};
 ghost use Rattle.dude_text.specs.Command.{meaning_of};
 ghost use Rattle.dude_io.specs.Files.{FilesStay};
-ghost use Rattle.dude_program.specs.Plans.{IsPlan, HasPlanFault, HasRequests, HasFileFault};
+ghost use Rattle.dude_program.specs.Opening.{HasRequests};
+ghost use Rattle.dude_program.specs.Plans.{IsPlan, HasPlanFault, HasFileFault};
 ghost use Rattle.dude_text.specs.RequestFile.{AreServed};
 
 use dude_io::{FileFault, FileText, Files, read_file};
