@@ -26,11 +26,11 @@ use Rattle.dude_program.proofs.Outcomes.{calls_none}
 -- a good file isn't bad
 good_not_bad : (own : Meaning) (files : FilesSight) (requests : List (List Request)) → FilesMean own files requests → HasBadFile own files → ⊥
 good_not_bad (FreshRun S file) files requests good bad =
-    let e = good.2 in let f = good.3 in let g = bad.1 in let h = bad.2 in let no : ⊥ = cc in no
+    let e = good.1.1 in let f = good.1.2 in let g = bad.1 in let h = bad.2 in let no : ⊥ = cc in no
 
 -- a file that isn't there is neither good nor bad
 good_not_missing : (own : Meaning) (files : FilesSight) (requests : List (List Request)) → FilesMean own files requests → MissesFile own files → ⊥
-good_not_missing (FreshRun S file) files requests good misses = let e = good.2 in let no : ⊥ = cc in no
+good_not_missing (FreshRun S file) files requests good misses = let e = good.1.1 in let no : ⊥ = cc in no
 
 bad_not_missing : (own : Meaning) (files : FilesSight) → HasBadFile own files → MissesFile own files → ⊥
 bad_not_missing (FreshRun S file) files bad misses = let e = bad.1 in let no : ⊥ = cc in no

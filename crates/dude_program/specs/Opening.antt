@@ -17,12 +17,19 @@ pub record Opening : Type 0 where
 abbrev pub opening_of : Meaning → Opening
 opening_of (FreshRun subscribers file) = record { number = 0; limit = 12 * subscribers; database = population subscribers }
 
+-- the file of this name is there, and these are its requests
+abbrev pub HasRequests : FilesSight → List ℕ → List Request → Type 0
+HasRequests files name requests = (text : List ℕ) × (files.text name ≡ Some text) × (requests_of text ≡ Some requests)
+
+-- the file of this name is there and bad
+abbrev pub IsBadFile : FilesSight → List ℕ → Type 0
+IsBadFile files name = (text : List ℕ) × (files.text name ≡ Some text) × (requests_of text ≡ None)
+
 -- the files of the command are there, and these are their requests
 abbrev pub FilesMean : Meaning → FilesSight → List (List Request) → Type 0
 FilesMean (FreshRun subscribers file) files requests =
-    (text : List ℕ) × (own : List Request) × (files.text file ≡ Some text) × (requests_of text ≡ Some own) × (requests ≡ own ∷ [])
+    (own : List Request) × HasRequests files file own × (requests ≡ own ∷ [])
 
 -- a file of the command is there and bad
 abbrev pub HasBadFile : Meaning → FilesSight → Type 0
-HasBadFile (FreshRun subscribers file) files =
-    (text : List ℕ) × (files.text file ≡ Some text) × (requests_of text ≡ None)
+HasBadFile (FreshRun subscribers file) files = IsBadFile files file

@@ -5,9 +5,9 @@ use Rattle.tatp_model.specs.declared.request.Request.{Request}
 use Rattle.dude_text.specs.declared.fault.Fault.{Fault}
 use Rattle.dude_text.specs.declared.fault.Fault.TheVariants.{Usage, File, Text, Memory}
 use Rattle.dude_text.specs.Command.{Meaning, Meaning.FreshRun}
-use Rattle.dude_text.specs.RequestFile.{requests_of, AreServed}
+use Rattle.dude_text.specs.RequestFile.{AreServed}
 use Rattle.dude_io.specs.Files.{FilesSight}
-use Rattle.dude_program.specs.Opening.{FilesMean, HasBadFile}
+use Rattle.dude_program.specs.Opening.{IsBadFile, FilesMean, HasBadFile}
 
 -- The words mean `fresh` for so many subscribers, and these are the requests of its file.
 pub record IsPlan (meaning : Option Meaning) (files : FilesSight) (subscribers : ℕ) (requests : List Request) : Type 0 where
@@ -28,14 +28,6 @@ HasPlanFault meaning old new (Text file row field) =
     × (IsTrue old.tells → (own : Meaning) × (meaning ≡ Some own) × HasBadFile own old)
 HasPlanFault meaning old new Memory = IsSome meaning
 HasPlanFault meaning old new _ = ⊥
-
--- the file of this name is there, and these are its requests
-abbrev pub HasRequests : FilesSight → List ℕ → List Request → Type 0
-HasRequests files name requests = (text : List ℕ) × (files.text name ≡ Some text) × (requests_of text ≡ Some requests)
-
--- the file of this name is there and bad
-abbrev pub IsBadFile : FilesSight → List ℕ → Type 0
-IsBadFile files name = (text : List ℕ) × (files.text name ≡ Some text) × (requests_of text ≡ None)
 
 -- why the one file was not read
 abbrev pub HasFileFault : FilesSight → FilesSight → List ℕ → Fault → Type 0

@@ -27,8 +27,8 @@ Formats IMAGE for S subscribers (1 to 10000), carries out the requests of FILE,
 prints each reply with its number, and tells on standard error the number up to
 which all is durable. A new image file gets 33554432 bytes.
 
-status: 0 done, 2 usage, 3 a file couldn't be read, 4 a bad record, 5 the image
-is too short, 6 the image failed, 7 the output failed, 8 no memory
+status: 0 done, 2 usage, 3 a file couldn't be read, 4 FILE is no request file,
+5 the image is too short, 6 the image failed, 7 the output failed, 8 no memory
 ";
 
 /// What `--version` prints.

@@ -2,17 +2,15 @@ ghost use Rattle.std.specs.Prelude.{◌≡◌, ◌≤◌, map, length, Some, IsT
 ghost use Rattle.std.specs.Rc.{rc_str_bytes};
 ghost use Rattle.dude_text.specs.Command.{meaning_of};
 ghost use Rattle.dude_io.specs.Files.{FilesStay};
-ghost use Rattle.dude_program.specs.Plans.{IsPlan, HasPlanFault, HasRequests, HasFileFault};
+ghost use Rattle.dude_program.specs.Opening.{HasRequests};
+ghost use Rattle.dude_program.specs.Plans.{IsPlan, HasPlanFault, HasFileFault};
 ghost use Rattle.dude_text.specs.RequestFile.{AreServed};
 
 use dude_io::{FileFault, FileText, Files, read_file};
-use dude_text::{Command, Fault, TextFault, command_of, read_requests};
+use dude_text::{Command, Fault, MAX_BYTES, TextFault, command_of, read_requests};
 use std::alloc::Global;
 use std::rc::RcStr;
 use tatp_model::Request;
-
-/// The most bytes that a request file may have.
-const MOST_BYTES: u64 = 16_777_216;
 
 /// What a command is to do: format a medium for so many subscribers, and carry out the requests of its file.
 #[derive(Drop)]
@@ -34,7 +32,7 @@ fn read_bytes<F: Files>(alloc: Global, name: &str, files: &mut F) -> Result<Vec<
     ensures text { IfOk result (λ bytes. IsTrue (F.sight files.old).tells → (F.sight files.old).text name.now ≡ Some bytes.items) }
     ensures fault { IfErr result (HasFileFault (F.sight files.old) (F.sight files.new) name.now) }
 {
-    match read_file(alloc, files, name, MOST_BYTES) {
+    match read_file(alloc, files, name, MAX_BYTES as u64) {
         Ok(FileText::Whole(bytes)) => Ok(bytes),
         Ok(FileText::TooLong) => Err(BAD_FILE),
         Err(FileFault::Failed) => Err(Fault::File { file: 1 }),

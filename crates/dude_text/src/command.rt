@@ -6,13 +6,11 @@ ghost use Rattle.std.specs.Rc.{rc_str_bytes};
 ghost use Rattle.dude_text.specs.Command.{meaning_of, fresh_of, meant, IsInLimits};
 
 use crate::number::number_in;
+use dude_base::limits::MAX_SUBSCRIBERS;
 use std::rc::RcStr;
 
 /// The most digits that a number among the words may have.
 const WORD_DIGITS: usize = 20;
-
-/// The most subscribers that a database may have.
-const MOST_SUBSCRIBERS: u64 = 10_000;
 
 /// What the program is to do.
 #[derive(Clone, Copy, Debug, PartialEq, Eq)]
@@ -43,7 +41,7 @@ fn fresh<'a>(subscribers: &str, file: &'a str) -> Option<Command<'a>>
     if file.is_empty() || file.starts_with('-') {
         return None;
     }
-    let subscribers = number_in(subscribers.as_bytes(), WORD_DIGITS, 1, MOST_SUBSCRIBERS)?;
+    let subscribers = number_in(subscribers.as_bytes(), WORD_DIGITS, 1, MAX_SUBSCRIBERS)?;
     Some(Command::Fresh { subscribers, file })
 }
 
@@ -72,7 +70,7 @@ mod tests {
     }
 
     #[test]
-    fn accepted(rt: HostRuntime) -> Result<(), Fail> {
+    fn fresh_with_a_count_and_a_file_is_a_command(rt: HostRuntime) -> Result<(), Fail> {
         let cases: [(&[&str], u64, &str); 5] = [
             (&["fresh", "8", "f"], 8, "f"),
             (&["fresh", "1", "a file"], 1, "a file"),
@@ -87,7 +85,7 @@ mod tests {
     }
 
     #[test]
-    fn refused(rt: HostRuntime) -> Result<(), Fail> {
+    fn other_words_are_no_command(rt: HostRuntime) -> Result<(), Fail> {
         let cases: [&[&str]; 17] = [
             &[],
             &["fresh"],

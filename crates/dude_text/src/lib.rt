@@ -14,5 +14,5 @@ mod text_fault;
 pub use command::{Command, command_of};
 pub use fault::{Fault, fault_text};
 pub use output::{write_done, write_last};
-pub use request_file::read_requests;
+pub use request_file::{MAX_BYTES, read_requests};
 pub use text_fault::TextFault;

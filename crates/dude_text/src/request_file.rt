@@ -9,7 +9,7 @@ use std::alloc::Global;
 use tatp_model::Request;
 
 /// The most bytes that a request file may have.
-const MAX_BYTES: usize = 16_777_216;
+pub const MAX_BYTES: usize = 16_777_216;
 
 /// The most records that a request file may have.
 const MAX_RECORDS: usize = 100_000;
@@ -52,7 +52,7 @@ mod tests {
     const UPDATE: Request = Request::UpdateLocation { sub_nbr: 1, vlr: 7 };
 
     #[test]
-    fn good_files(rt: HostRuntime) -> Result<(), Fail> {
+    fn a_good_file_gives_its_requests(rt: HostRuntime) -> Result<(), Fail> {
         let cases: [(&[u8], &[Request]); 8] = [
             (b"", &[]),
             (b"\n\n", &[]),
@@ -94,7 +94,7 @@ mod tests {
     }
 
     #[test]
-    fn bad_files(rt: HostRuntime) -> Result<(), Fail> {
+    fn a_file_with_a_line_that_is_no_record_is_bad(rt: HostRuntime) -> Result<(), Fail> {
         let cases: [&[u8]; 20] = [
             b"SYNC",
             b"GET_ACCESS_DATA,1,1",
@@ -124,7 +124,7 @@ mod tests {
     }
 
     #[test]
-    fn limits(rt: HostRuntime) -> Result<(), Fail> {
+    fn a_file_over_a_limit_is_bad(rt: HostRuntime) -> Result<(), Fail> {
         let mut lines = Vec::new(rt.alloc());
         for _line in 0..100_000 {
             lines.extend_from_slice(b"GET_SUBSCRIBER_DATA,1\n")?;

@@ -5,7 +5,8 @@ use std::alloc::{AllocError, AllocFailed};
 /// Why a request file was not read.
 #[derive(Clone, Copy, Debug, PartialEq, Eq)]
 pub enum TextFault {
-    /// The first bad record, counted from 1, and its first bad field. Where the file is too long both are 0.
+    /// The first bad record and its first bad field, counted from 1. Both are 0 where no place is named, as for every
+    /// bad file today.
     Bad { row: u64, field: u64 },
     /// There was no memory for the requests.
     NoMemory,

@@ -12,7 +12,7 @@ use Rattle.tatp_model.specs.declared.request.Request.{Request}
 use Rattle.tatp_model.specs.declared.reply.Reply.TheVariants.{Durable}
 use Rattle.tatp_model.specs.Database.{Database}
 use Rattle.tatp_model.specs.Transaction.{reply_to}
-use Rattle.tatp_model.specs.OneThread.{is_sync, is_changed, Precedes, RepliesAlong, Seat, seat_of, seats_from, HoldsAll, IsFront, Replies}
+use Rattle.tatp_model.specs.OneThread.{is_sync, is_changed, Precedes, RepliesAlong, PlacedRequest, placed_request_of, placed_requests_from, HoldsAll, IsFront, Replies}
 use Rattle.tatp_model.proofs.Run.{after_order, RepliesAlong-push}
 
 -- `done` answers the requests of one file up to number `last`, in turn
@@ -85,11 +85,11 @@ enumerate_from-push n (x ∷ xs) y =
     let place : n + 1 + length xs ≡ n + length (x ∷ xs) = omega arith in
     ap (λ rest. (n, x) ∷ rest) (enumerate_from-push (n + 1) xs y ∙ ap (λ m. enumerate_from (n + 1) xs ++ (m, y) ∷ []) place)
 
--- the seats of a file with one request more
-seats_from-push : (front : List Request) (q : Request) → seats_from 0 ((front ++ q ∷ []) ∷ []) ≡ seats_from 0 (front ∷ []) ++ record { file = 0; index = length front; request = q } ∷ []
-seats_from-push front q =
-    let seat = λ (r : ℕ × Request). let s : Seat = record { file = 0; index = r.0; request = r.1 } in s in
-    rw (append-nil, append-nil, enumerate_from-push 0 front q) (map-append seat (enumerate_from 0 front) ((0 + length front, q) ∷ []) ∙ ap (λ (m : ℕ). map seat (enumerate_from 0 front) ++ seat (m, q) ∷ []) (zero-add (length front)))
+-- the placed requests of a file with one request more
+placed_requests_from-push : (front : List Request) (q : Request) → placed_requests_from 0 ((front ++ q ∷ []) ∷ []) ≡ placed_requests_from 0 (front ∷ []) ++ record { file = 0; index = length front; request = q } ∷ []
+placed_requests_from-push front q =
+    let placed = λ (r : ℕ × Request). let s : PlacedRequest = record { file = 0; index = r.0; request = r.1 } in s in
+    rw (append-nil, append-nil, enumerate_from-push 0 front q) (map-append placed (enumerate_from 0 front) ((0 + length front, q) ∷ []) ∙ ap (λ (m : ℕ). map placed (enumerate_from 0 front) ++ placed (m, q) ∷ []) (zero-add (length front)))
 
 -- a number that is written after another is greater, and a number that isn't written is at least it
 next_number : (last : ℕ) (d : Done) → d.number ≡ (if d.wrote then last + 1 else last) → (last ≤ d.number) × (d.wrote ≡ true → last < d.number) × (d.number ≤ last + 1)
@@ -118,8 +118,8 @@ Sequential-push first last limit db front done d run next =
     record {
       begun = omega (arith, run.begun, number.0);
       held =
-          map-append seat_of done (d ∷ []) ∙ ap₂ (λ (xs : List Seat) (y : Seat). xs ++ y ∷ []) run.held (λ i. record { file = next.file i; index = next.index i; request = d.request })
-          ∙ sym (seats_from-push front d.request);
+          map-append placed_request_of done (d ∷ []) ∙ ap₂ (λ (xs : List PlacedRequest) (y : PlacedRequest). xs ++ y ∷ []) run.held (λ i. record { file = next.file i; index = next.index i; request = d.request })
+          ∙ sym (placed_requests_from-push front d.request);
       in_file =
           All-push (λ e. (e.file ≡ 0) × (e.index < length (front ++ d.request ∷ []))) done d
           (All-weaker (λ e. (e.file ≡ 0) × (e.index < length front)) (λ e. (e.file ≡ 0) × (e.index < length (front ++ d.request ∷ []))) (λ e h. (h.0, omega (arith, h.1, longer))) done run.in_file)

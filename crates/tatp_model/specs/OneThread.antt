@@ -51,23 +51,23 @@ after_number limit db order n =
     after_requests limit db (map (λ d. d.request) (filter (λ d. d.wrote && nat_le d.number n) order))
 
 -- a request with its place in the files
-pub record Seat : Type 0 where
+pub record PlacedRequest : Type 0 where
   pub file : ℕ
   pub index : ℕ
   pub request : Request
 
-abbrev pub seat_of : Done → Seat
-seat_of d = record { file = d.file; index = d.index; request = d.request }
+abbrev pub placed_request_of : Done → PlacedRequest
+placed_request_of d = record { file = d.file; index = d.index; request = d.request }
 
 -- the requests of the files from number `file` on, in order of file and index
-abbrev pub seats_from : ℕ → List (List Request) → List Seat
-seats_from file [] = []
-seats_from file (requests ∷ files) =
-    map (λ r. record { file = file; index = r.0; request = r.1 }) (enumerate_from 0 requests) ++ seats_from (file + 1) files
+abbrev pub placed_requests_from : ℕ → List (List Request) → List PlacedRequest
+placed_requests_from file [] = []
+placed_requests_from file (requests ∷ files) =
+    map (λ r. record { file = file; index = r.0; request = r.1 }) (enumerate_from 0 requests) ++ placed_requests_from (file + 1) files
 
 -- `done` holds each request of the files once, in order of file and index
 abbrev pub HoldsAll : List (List Request) → List Done → Type 0
-HoldsAll files done = map seat_of done ≡ seats_from 0 files
+HoldsAll files done = map placed_request_of done ≡ placed_requests_from 0 files
 
 abbrev pub IsFront : List Request → List Request → Type 0
 IsFront front requests = (rest : List Request) × (requests ≡ front ++ rest)

@@ -101,12 +101,9 @@ fn one_subscriber(alloc: Global) -> Result<Tables, AllocError>
 }
 
 #[test]
-fn answers_reads(rt: HostRuntime) -> Result<(), Fail> {
+fn answers_the_rows_that_are_there(rt: HostRuntime) -> Result<(), Fail> {
     let alloc = rt.alloc();
     let mut t = one_subscriber(alloc)?;
-    let mut numbers = Numbers::new();
-    numbers.push(110);
-    numbers.push(111);
     let row = step(alloc, &mut t, 12, &Request::GetSubscriber { s_id: 1 })?;
     assert_eq!(rt; row, Reply::Subscriber(FIRST));
     let access = step(
@@ -137,6 +134,16 @@ fn answers_reads(rt: HostRuntime) -> Result<(), Fail> {
         },
     )?;
     assert_eq!(rt; absent, Reply::Missing);
+    Ok(())
+}
+
+#[test]
+fn answers_the_destinations_of_the_hours(rt: HostRuntime) -> Result<(), Fail> {
+    let alloc = rt.alloc();
+    let mut t = one_subscriber(alloc)?;
+    let mut numbers = Numbers::new();
+    numbers.push(110);
+    numbers.push(111);
     let to = step(
         alloc,
         &mut t,
@@ -161,6 +168,13 @@ fn answers_reads(rt: HostRuntime) -> Result<(), Fail> {
         },
     )?;
     assert_eq!(rt; late, Reply::Missing);
+    Ok(())
+}
+
+#[test]
+fn answers_a_sync_with_durable(rt: HostRuntime) -> Result<(), Fail> {
+    let alloc = rt.alloc();
+    let mut t = one_subscriber(alloc)?;
     assert_eq!(rt; step(alloc, &mut t, 12, &Request::Sync)?, Reply::Durable);
     Ok(())
 }
