@@ -4,7 +4,7 @@ use crate::reply::Reply;
 use crate::request::Request;
 
 /// A request of a run, with its reply.
-#[derive(Clone, Copy, Debug, PartialEq, Eq)]
+#[derive(Clone, Copy)]
 pub struct Done {
     /// Which file of the run it stands in, from 0.
     pub file: u64,

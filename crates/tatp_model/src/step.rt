@@ -56,6 +56,3 @@ pub fn step(_alloc: Global, t: &mut Tables, limit: u64, q: &Request) -> Result<R
         Request::Sync => Ok(Reply::Durable),
     }
 }
-
-#[cfg(test)]
-mod tests;
