@@ -6,7 +6,7 @@
 -- It is said over an opening: the number, the sizes and the tables that the command starts from (`Opening`). A command
 -- joins by its cases there.
 use Rattle.std.specs.Prelude.{◌≡◌, ◌⊎◌, ℕ, ◌≤◌, Bool, Option, Some, None, IsTrue, List, [], ◌∷◌, ◌++◌, drop, take, length, All, AllPairs}
-use Rattle.pmem_trait.specs.Words.{EveryImage}
+use Rattle.pmem_trait.specs.Words.{EveryImage, AtLeast}
 use Rattle.pmem_trait.specs.Sights.{Sight, AtEveryMoment, state_now}
 use Rattle.pmem_trait.specs.Reads.{OnlyReads}
 use Rattle.tatp_model.specs.declared.done.Done.{Done}
@@ -15,7 +15,6 @@ use Rattle.tatp_model.specs.OneThread.{is_sync, IsPrintedOrder, HoldsAll, Replie
 use Rattle.dude_io.specs.Files.{FilesSight}
 use Rattle.dude_io.specs.Sink.{SinkSight}
 use Rattle.fresh_image.specs.Recovered.{RecoversTo}
-use Rattle.fresh_image.specs.Calls.{AtLeast}
 use Rattle.dude_program.specs.declared.fault.Fault.{Fault}
 use Rattle.dude_program.specs.declared.fault.Fault.TheVariants.{Output, Memory}
 use Rattle.dude_program.specs.Command.{Meaning}
