@@ -7,7 +7,7 @@ use crate::reply_text::{push_number, push_reply};
 use std::alloc::AllocError;
 use tatp_model::Done;
 
-/// Appends the line of a request that was carried out. `out` is as it was where there is no memory.
+/// Appends the line of a request that was served. `out` is as it was where there is no memory.
 pub fn write_done(done: &Done, out: &mut Vec<u8>) -> Result<(), AllocError>
     ensures ok { OnOk result (out.new.items ≡ out.old.items ++ output_line done.now) }
     ensures err { OnErr result (out.new.items ≡ out.old.items) }

@@ -13,6 +13,9 @@ use tatp_model::{AccessData, Phones, Reply, SubRow};
 /// How many digits a phone number prints with at least.
 const PHONE_DIGITS: usize = 15;
 
+/// The zeros before the digits of a short phone number.
+const ZEROS: [u8; PHONE_DIGITS] = [b'0'; PHONE_DIGITS];
+
 /// Appends a reply.
 pub fn push_reply(reply: &Reply, line: &mut Vec<u8>) -> Result<(), AllocError>
     ensures { OnOk result (line.new.items ≡ line.old.items ++ reply_text reply.now) }
@@ -110,9 +113,7 @@ fn push_phone(number: u64, line: &mut Vec<u8>) -> Result<(), AllocError>
 {
     let mut buffer = Buffer::new();
     let digits = buffer.format(number).as_bytes();
-    for _zero in 0..PHONE_DIGITS.saturating_sub(digits.len()) {
-        line.push(b'0')?;
-    }
+    line.extend_from_slice(&ZEROS[digits.len().min(PHONE_DIGITS)..])?;
     line.extend_from_slice(digits)
 }
 

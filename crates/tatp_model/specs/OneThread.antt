@@ -34,7 +34,7 @@ pub record IsPrintedOrder (done order : List Done) : Type 0 where
   pub same : IsPermutation (filter (λ d. not (is_sync d.request)) done) order
   pub sorted : AllPairs Precedes order
 
--- one thread that starts with db and executes the requests in this order gives these replies, and a request wrote
+-- one thread that starts with db and performs the requests in this order gives these replies, and a request wrote
 -- exactly where its reply is `Changed`
 abbrev pub RepliesAlong : ℕ → Database → List Done → Type 0
 RepliesAlong limit db [] = ⊤
@@ -76,7 +76,7 @@ IsPrefixOf prefix requests = (rest : List Request) × (requests ≡ prefix ++ re
 abbrev pub HoldsPrefixes : List (List Request) → List Done → Type 0
 HoldsPrefixes files done = (prefixes : List (List Request)) × AllZip IsPrefixOf prefixes files × HoldsAll prefixes done
 
--- the replies of a run over the files are those of one thread that starts with db after number `first` and executes
+-- the replies of a run over the files are those of one thread that starts with db after number `first` and performs
 -- the requests in their printed order
 pub record RepliesOfOneThread (first limit : ℕ) (db : Database) (files : List (List Request)) (done : List Done) : Type 0 where
   -- each request of the files' prefixes stands in `done` once

@@ -1,4 +1,4 @@
-//! What a run tells of a request that it carried out.
+//! What a run tells of a request that it served.
 
 use crate::reply::Reply;
 use crate::request::Request;
