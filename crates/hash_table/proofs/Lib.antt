@@ -3,5 +3,4 @@ pub mod Fits
 pub mod Insertions
 pub mod Maps
 pub mod Removals
-pub mod Stored
 pub mod Walks

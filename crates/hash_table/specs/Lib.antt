@@ -1,3 +1,3 @@
-pub mod Callers
 pub mod Seek
 pub mod Table
+pub mod Walk

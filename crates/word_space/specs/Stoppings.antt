@@ -3,7 +3,7 @@ use Rattle.std.specs.Prelude.{◌≡◌, ℕ, ◌-◌, Option, Some}
 use Rattle.word_space.specs.declared.flat.Flat.{Flat}
 use Rattle.word_space.specs.declared.stop.Stop.{Stop}
 use Rattle.word_space.specs.declared.stopping.Stopping.{Stopping}
-use Rattle.word_space.specs.Flats.{words_of, flat_sight, flat_fits}
+use Rattle.word_space.specs.Flats.{words_of, flat_sight, flat_well_formed}
 use Rattle.word_space.specs.Sights.{WordsSight, IsWellFormed}
 use Rattle.word_space.specs.Sound.{IsWideOrNoMemory}
 
@@ -26,8 +26,8 @@ stopping_sight s = record (flat_sight s.flat) { stopped = s.stopped }
 abbrev pub HasSameWords : Stopping → Stopping → Type 0
 HasSameWords s t = words_of (flat_of t) ≡ words_of (flat_of s)
 
-pub stopping_fits : (s : Stopping) → IsWellFormed (stopping_sight s)
-stopping_fits s = let fits = flat_fits s.flat in record { count = fits.count; writes = fits.writes; inside = fits.inside }
+pub stopping_well_formed : (s : Stopping) → IsWellFormed (stopping_sight s)
+stopping_well_formed s = let fits = flat_well_formed s.flat in record { count = fits.count; writes = fits.writes; inside = fits.inside }
 
 -- the planned Stop is answered, and only the last Stop is new
 pub record Halts (stop : Option Stop) (s t : Stopping) : Type 0 where

@@ -59,13 +59,13 @@ impl Words for Stopping {
     ghost use Rattle.dude_base.specs.Writes.{IsWide};
     ghost use Rattle.word_space.specs.Sights.{IsBelow, shown};
     ghost use Rattle.word_space.specs.Steps.{ReadsWord, WritesWord, GoesOn, stop_of};
-    ghost use Rattle.word_space.specs.Stoppings.{calls_left, stopping_sight, stopping_fits, HasSameWords, Halts, Passes};
+    ghost use Rattle.word_space.specs.Stoppings.{calls_left, stopping_sight, stopping_well_formed, HasSameWords, Halts, Passes};
 
     ghost sight = { stopping_sight };
 
     ghost turns_into = { HasSameWords };
 
-    ghost fits = { stopping_fits };
+    ghost well_formed = { stopping_well_formed };
 
     ghost begins = { λ x. refl };
 
