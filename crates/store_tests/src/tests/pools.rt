@@ -34,10 +34,23 @@ fn holds<W: Words>(w: &mut W, case: Case) -> Result<bool, Stop>
     }
 }
 
+// Whether all these calls, one after another, answer so.
+fn all_hold<W: Words>(w: &mut W, cases: &[Case]) -> Result<bool, Stop>
+    requires { (W.sight w.old).count ≡ 32 }
+    ensures { (W.sight w.new).count ≡ 32 }
+{
+    for case in cases {
+        if !holds(w, *case)? {
+            return Ok(false);
+        }
+    }
+    Ok(true)
+}
+
 #[test]
 fn records_are_taken_and_given_back_at_the_start_of_the_list(rt: HostRuntime) -> Result<(), Fail> {
     let mut flat = Flat::new(opening(rt.alloc())?);
-    for case in [
+    let cases = [
         Case::Take(Some(8)),
         Case::Take(Some(12)),
         Case::Take(Some(16)),
@@ -47,9 +60,8 @@ fn records_are_taken_and_given_back_at_the_start_of_the_list(rt: HostRuntime) ->
         Case::Live(2),
         Case::Give(8),
         Case::Take(Some(8)),
-    ] {
-        assert!(rt; holds(&mut flat, case)?);
-    }
+    ];
+    assert!(rt; all_hold(&mut flat, &cases)?);
     let _redo = flat.take(1);
     let found = records_of(rt.alloc(), flat.words(), &POOL)?.ok_or("unlawful")?;
     assert_eq!(rt; found.free.as_slice(), [12].as_slice());
@@ -62,18 +74,16 @@ fn a_link_that_is_no_record_ends_the_free_list(rt: HostRuntime) -> Result<(), Fa
     let mut words = opening(rt.alloc())?;
     words[9] = 9;
     let mut flat = Flat::new(words);
-    for case in [Case::Take(Some(8)), Case::Take(None), Case::Take(None)] {
-        assert!(rt; holds(&mut flat, case)?);
-    }
+    let cases = [Case::Take(Some(8)), Case::Take(None), Case::Take(None)];
+    assert!(rt; all_hold(&mut flat, &cases)?);
     Ok(())
 }
 
 #[test]
 fn all_records_are_taken(rt: HostRuntime) -> Result<(), Fail> {
     let mut flat = Flat::new(opening(rt.alloc())?);
-    for taken in [3, 0] {
-        assert_eq!(rt; take_all(&POOL, &mut flat)?, taken);
-    }
+    assert_eq!(rt; take_all(&POOL, &mut flat)?, 3);
+    assert_eq!(rt; take_all(&POOL, &mut flat)?, 0);
     Ok(())
 }
 
