@@ -1,8 +1,9 @@
-use Rattle.std.proofs.Common.{None, sym}
+use Rattle.std.proofs.Common.{None, subst, sym}
 use Rattle.std.proofs.lemmas.Result.{IfOk-weaker}
 use Rattle.word_space.specs.Sights.{shown}
 use Rattle.word_space.proofs.Runs.{below_back, shown_looked}
 use Rattle.record_heap.proofs.Calls.{most_then}
+use Rattle.hash_table.specs.Table.{FitsTable}
 use Rattle.hash_table.proofs.Insertions.{found_first, inserts_absent, puts_absent}
 use Rattle.hash_table.proofs.Walks.{finds_none, finds_some}
 use Rattle.hash_table.proofs.table.Table.insert.Goals as goal
@@ -33,3 +34,6 @@ returns-in-None-clause-inserts g c = IfOk-weaker c.store.result _ _ (λ put inse
     inserts_absent c.args.key (shown (g.W.Words.sight c.store.new.w) array) put chains free (shown_looked {stop = None} seek_step.looked array) lawful
     (sym (found_first chains free c.requires.fits lawful (finds_none c.in_ok-position.field-0 c.in-None.is (seek_step.seeks array below_seek))))
     (inserts array below chains free)) c.store.ensures.inserts
+
+pub store-requires : goal.store-requires
+store-requires g c = record { fits = subst (FitsTable c.args.self.now) (sym c.in_ok-position.ensures.looked.ran.count) c.requires.fits }

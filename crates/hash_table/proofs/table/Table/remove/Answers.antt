@@ -1,4 +1,7 @@
-use Rattle.std.proofs.Common.{None, arith, sym}
+use Rattle.std.proofs.Common.{◌<◌, None, IfSome, arith, subst, sym}
+use Rattle.record_heap.specs.Pool.{IsRecord}
+use Rattle.hash_table.specs.Table.{FitsTable}
+use Rattle.hash_table.specs.declared.table.ChainPosition.{ChainPosition}
 use Rattle.word_space.proofs.Runs.{below_back, shown_looked}
 use Rattle.record_heap.proofs.Calls.{most_more, most_then}
 use Rattle.hash_table.proofs.Insertions.{found_first}
@@ -33,3 +36,10 @@ returns-clause-removes g c = λ array below chains free lawful.
     (seek_step.seeks array (below_back {stop = None} unlink_step.ran below))
     (shown_looked {stop = None} seek_step.looked array)
     (λ amid there. unlink_step.drops array below chains free c.args.key there amid)
+
+pub unlink-requires : goal.unlink-requires
+unlink-requires g c = record {
+  fits = subst (FitsTable c.args.self.now) (sym c.in_ok-position.ensures.looked.ran.count) c.requires.fits;
+  «record» = subst (λ o. IfSome o (λ (p : ChainPosition). IsRecord c.args.self.now.pool p.record)) c.in-Some.is c.in_ok-position.ensures.record;
+  link = omega (arith, subst (λ o. IfSome o (λ (p : ChainPosition). p.link < (g.W.Words.sight c.args.w.now).count)) c.in-Some.is c.in_ok-position.ensures.link, c.in_ok-position.ensures.looked.ran.count);
+}

@@ -74,3 +74,22 @@ loop-preserved g c =
 pub returns-clause-seeks : goal.returns-clause-seeks
 returns-clause-seeks g c = λ array below.
     seeks_out (passes_from c.link_of-link.ensures (c.loop.invariant.passes array below)) (omega arith)
+
+pub read-requires : goal.read-requires
+read-requires g c = record { inside = c.loop.invariant.inside }
+
+pub read-requires-in-loop : goal.read-requires-in-loop
+read-requires-in-loop g c =
+    record { inside = omega (arith, c.requires.fits.pool.inside _ (c.has.ensures.0 c.if-not-has.false), c.requires.fits.pool.size, c.loop.invariant.looked.ran.count, c.in_ok-record.ensures.reads.looked.ran.count) }
+
+pub overflow_add-link : goal.overflow_add-link
+overflow_add-link g c = omega (arith, c.requires.fits.pool.inside _ (c.has.ensures.0 c.if-not-has.false), c.requires.fits.pool.size, (g.met.W.Words.well_formed c.args.w.now).count)
+
+pub returns-then-not-has-clause-looked : goal.returns-then-not-has-clause-looked
+returns-then-not-has-clause-looked g c = looked_then {stop = None} c.loop.invariant.looked c.in_ok-record.ensures.reads.looked
+
+pub returns-then-branch-key-clause-looked : goal.returns-then-branch-key-clause-looked
+returns-then-branch-key-clause-looked g c = looked_then {stop = None} c.loop.invariant.looked (looked_then {stop = None} c.in_ok-record.ensures.reads.looked c.in_ok-read.ensures.reads.looked)
+
+pub returns-clause-most : goal.returns-clause-most
+returns-clause-most g c = most_more _ 0 c.loop.invariant.most (omega arith) (omega arith)

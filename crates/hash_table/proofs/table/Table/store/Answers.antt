@@ -2,9 +2,9 @@ use Rattle.std.proofs.Common.{None, arith, ◌+◌, ◌%◌, IfSome, is_some, if
 use Rattle.word_space.specs.Sights.{shown}
 use Rattle.word_space.proofs.Runs.{below_back, below_looked, shown_looked}
 use Rattle.record_heap.specs.Changes.{Wrote}
-use Rattle.record_heap.specs.Pool.{IsPool, IsRecord, Takes}
+use Rattle.record_heap.specs.Pool.{FitsPool, IsPool, IsRecord, Takes}
 use Rattle.record_heap.proofs.Calls.{length_shown, most_more, most_read, most_then, wrote_none, wrote_then}
-use Rattle.hash_table.specs.Table.{records_in}
+use Rattle.hash_table.specs.Table.{FitsTable, records_in}
 use Rattle.hash_table.proofs.Insertions.{inserts_full, inserts_stored}
 use Rattle.hash_table.proofs.table.Table.store.Goals as goal
 
@@ -61,3 +61,9 @@ returns-clause-inserts g c = λ array below chains free lawful absent.
     (subst (λ o. Takes table.pool free records o words middle) c.in-Some.is
     (subst (λ old. Takes table.pool free records c.in_ok-at.field-0 old middle) same
     (take_step.takes array below_take free records (subst (λ old. IsPool table.pool old free records) (sym same) lawful.pool))))
+
+pub take-requires : goal.take-requires
+take-requires g c = record { fits = subst (FitsPool c.args.self.now.pool) (sym c.in_ok-head.ensures.reads.looked.ran.count) c.requires.fits.pool }
+
+pub push_front-requires-clause-fits : goal.push_front-requires-clause-fits
+push_front-requires-clause-fits g c = subst (FitsTable c.args.self.now) (sym (c.in_ok-at.ensures.ran.count ∙ c.in_ok-head.ensures.reads.looked.ran.count)) c.requires.fits

@@ -1,7 +1,7 @@
 use Rattle.std.proofs.Common.{None, arith, sym, subst}
 use Rattle.word_space.specs.Sights.{shown}
 use Rattle.word_space.proofs.Runs.{below_back, below_looked, shown_looked}
-use Rattle.record_heap.specs.Pool.{Gives, IsPool}
+use Rattle.record_heap.specs.Pool.{FitsPool, Gives, IsPool}
 use Rattle.record_heap.proofs.Calls.{length_shown, most_more, most_read, most_then, most_write, wrote_none, wrote_one, wrote_then}
 use Rattle.hash_table.specs.Table.{records_in}
 use Rattle.hash_table.proofs.Removals.{not_free, removes_found}
@@ -46,3 +46,9 @@ returns-clause-drops g c = λ array below chains free key lawful amid.
     (give_step.gives array below_give free records (subst (λ old. IsPool table.pool old free records) (sym same) lawful.pool) (not_free chains free key position c.requires.fits lawful amid)))
     (next_step.value array below_next)
     (write_step.shown array)
+
+pub give-requires-clause-fits : goal.give-requires-clause-fits
+give-requires-clause-fits g c = subst (FitsPool c.args.self.now.pool) (sym c.in_ok-next.ensures.reads.looked.ran.count) c.requires.fits.pool
+
+pub write-requires : goal.write-requires
+write-requires g c = record { inside = omega (arith, c.requires.link, c.in_ok-next.ensures.reads.looked.ran.count, c.in_ok-give.ensures.ran.count) }
