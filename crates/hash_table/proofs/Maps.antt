@@ -20,7 +20,8 @@ is_at_on : (array : List ℕ) (x : ℕ) (xs : List ℕ) (key : ℕ) (r : Option 
 is_at_on array x xs key None differ h = λ y c same. elim (first_or_other y x xs c) [ inl first ↦ differ (ap (λ z. slice_index array z) (sym first) ∙ same) | inr other ↦ h y other same ]
 is_at_on array x xs key (Some y) differ h = (other_among y x xs h.0, h.1)
 
-along : {A : Type 0} (P : A → Type 0) (a b : A) → a ≡ b → P a → P b
+-- a fact of a value, of an equal one
+pub along : {A : Type 0} (P : A → Type 0) (a b : A) → a ≡ b → P a → P b
 along P a b e h = subst P e h
 
 pub lookup-is_at : (array xs : List ℕ) (key : ℕ) → IsAt array xs key (lookup array xs key)

@@ -22,7 +22,7 @@ use Rattle.hash_table.proofs.Maps.{HasKeysApart, lookup-is, lookup-same}
 -- ---- one chain
 
 -- the link behind some records of a chain: the chain's own, or that of one of them
-link_cases : (place : ℕ) (before : List ℕ) → (link_after place before ≡ place) ⊎ ((y : ℕ) × Contains before y × (link_after place before ≡ y + 1))
+pub link_cases : (place : ℕ) (before : List ℕ) → (link_after place before ≡ place) ⊎ ((y : ℕ) × Contains before y × (link_after place before ≡ y + 1))
 link_cases place [] = inl refl
 link_cases place (x ∷ xs) =
     elim (link_cases (x + 1) xs) [

@@ -1,3 +1,4 @@
+pub mod Ranges
 pub mod Seek
 pub mod Table
 pub mod Walk
