@@ -1,9 +1,10 @@
 ghost use Rattle.std.specs.Prelude.{◌^◌, ◌<◌};
 
 use crate::fault_count::FaultCount;
+use pmem_trait::Failed;
 
 /// The moment of a medium, which counts its calls, and the count of its faults.
-#[derive(Debug, Drop)]
+#[derive(Drop)]
 pub struct Clock {
     pub now: u64,
     pub faults: FaultCount,
@@ -11,8 +12,8 @@ pub struct Clock {
 }
 
 impl Clock {
-    ghost use Rattle.std.specs.Prelude.{◌≡◌, ◌+◌, ◌-◌, ◌^◌, nat_lt, if◌then◌else◌};
-    ghost use Rattle.dude_io.specs.FaultCount.{up_to_last};
+    ghost use Rattle.std.specs.Prelude.{◌≡◌, ◌+◌, ◌-◌, ◌^◌, nat_lt, is_ok, false, if◌then◌else◌};
+    ghost use Rattle.pmem_trait.specs.Faults.{faults_after};
 
     pub(crate) fn new() -> Self
         ensures now { result.now ≡ 0 }
@@ -24,23 +25,24 @@ impl Clock {
         }
     }
 
-    /// Goes on by one moment. Where none is left, it counts a fault and answers false.
-    pub(crate) fn tick(&mut self) -> bool
-        ensures ticks { result ≡ nat_lt self.old.now (2 ^ 64 - 1) }
-        ensures now { self.new.now ≡ (if result then self.old.now + 1 else self.old.now) }
-        ensures faults { self.new.faults.count ≡ (if result then self.old.faults.count else up_to_last (self.old.faults.count + 1)) }
+    /// Goes on by one moment. Where none is left, that is a fault, and the moment stays.
+    pub(crate) fn tick(&mut self) -> Result<(), Failed>
+        ensures ticks { is_ok result ≡ nat_lt self.old.now (2 ^ 64 - 1) }
+        ensures now { self.new.now ≡ (if is_ok result then self.old.now + 1 else self.old.now) }
+        ensures faults { self.new.faults.count ≡ faults_after (is_ok result) self.old.faults.count }
     {
         if self.now == u64::MAX {
-            self.faults.rise();
-            return false;
+            self.fault();
+            return Err(Failed);
         }
         self.now += 1;
-        true
+        Ok(())
     }
 
+    /// Counts a fault.
     pub(crate) fn fault(&mut self)
         ensures now { self.new.now ≡ self.old.now }
-        ensures faults { self.new.faults.count ≡ up_to_last (self.old.faults.count + 1) }
+        ensures faults { self.new.faults.count ≡ faults_after false self.old.faults.count }
     {
         self.faults.rise();
     }

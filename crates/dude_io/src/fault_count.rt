@@ -1,8 +1,8 @@
 ghost use Rattle.std.specs.Prelude.{◌≡◌, ◌+◌, ◌^◌, ◌<◌};
-ghost use Rattle.dude_io.specs.FaultCount.{up_to_last};
+ghost use Rattle.pmem_trait.specs.Faults.{up_to_last};
 
 /// How many calls on a thing outside failed. The count stays at its last value.
-#[derive(Debug, Drop)]
+#[derive(Drop)]
 pub struct FaultCount {
     pub count: u64,
     ghost fits: { count < 2 ^ 64 },

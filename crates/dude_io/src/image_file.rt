@@ -1,6 +1,7 @@
-ghost use Rattle.std.specs.Prelude.{◌≡◌, ◌+◌, ◌*◌, ◌^◌, ◌<◌, ◌≤◌, length, IfOk, vec_len, vec_capacity, ◌/◌, ◌++◌, map};
+ghost use Rattle.std.specs.Prelude.{◌≡◌, ◌+◌, ◌*◌, ◌^◌, ◌<◌, ◌≤◌, length, IfOk, vec_len, vec_capacity, ◌/◌, ◌++◌, map, flat_map};
 ghost use Rattle.std.specs.Int.{w64, from_le_bytes};
 ghost use Rattle.std.specs.Simd.{first_chunks};
+ghost use Rattle.dude_io.specs.Line.{line_bytes, IsRun};
 
 use crate::edge_fault::EdgeFault;
 use crate::line::{BYTES, Line};
@@ -138,22 +139,39 @@ pub(crate) fn write_lines<F: Write + Seek + OpenFile>(
     file.sync_data()
 }
 
-/// Writes the first lines, as far as each is the next one in the file, and answers how many.
+/// Writes the first lines, as far as they are one run, and answers how many.
 fn write_run<F: Write + Seek>(file: &mut F, lines: &[Line]) -> io::Result<usize>
     requires { 0 < length lines.now }
-    ensures some { IfOk result (λ n. 1 ≤ n) }
-    ensures within { IfOk result (λ n. n ≤ length lines.now) }
-    ensures run { IfOk result (λ n. n ≤ RUN) }
+    ensures { IfOk result (λ n. IsRun n lines.now) }
 {
+    let count = run_length(lines);
     let mut bytes = [0; RUN * BYTES];
+    let run = &mut bytes[..BYTES * count];
+    store_lines(&lines[..count], run);
+    file.seek(SeekFrom::Start(BYTES as u64 * lines[0].number))?;
+    file.write_all(run)?;
+    Ok(count)
+}
+
+/// How many of the first lines lie one behind another in the file, as far as they are written at once.
+fn run_length(lines: &[Line]) -> usize
+    requires { 0 < length lines.now }
+    ensures { IsRun result lines.now }
+{
     let first = lines[0].number;
-    lines[0].store(&mut bytes[..BYTES]);
     let mut count = 1;
     while count < RUN && count < lines.len() && lines[count].number == first + count as u64 {
-        lines[count].store(&mut bytes[BYTES * count..BYTES * (count + 1)]);
         count += 1;
     }
-    file.seek(SeekFrom::Start(BYTES as u64 * first))?;
-    file.write_all(&bytes[..BYTES * count])?;
-    Ok(count)
+    count
+}
+
+/// Stores the bytes of these lines, one line behind another.
+fn store_lines(lines: &[Line], into: &mut [u8])
+    requires { length into.old ≡ 64 * length lines.now }
+    ensures { into.new ≡ flat_map line_bytes lines.now }
+{
+    for (k, line) in lines.iter().enumerate() {
+        line.store(&mut into[BYTES * k..BYTES * (k + 1)]);
+    }
 }

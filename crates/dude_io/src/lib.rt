@@ -16,7 +16,7 @@ mod file_fault;
 mod file_pmem;
 mod file_text;
 mod files;
-mod image;
+mod write_cache;
 mod image_file;
 mod line;
 mod mem_file;
@@ -25,7 +25,7 @@ mod mem_sink;
 mod reading;
 mod real_files;
 mod real_sink;
-mod script;
+mod fail_plan;
 mod sink;
 #[cfg(test)]
 mod tests;

@@ -7,7 +7,7 @@ pub const WORDS: usize = 8;
 pub const BYTES: usize = 64;
 
 /// A line as it stood when it was flushed.
-#[derive(Clone, Copy, Debug)]
+#[derive(Clone, Copy)]
 pub struct Line {
     pub number: u64,
     pub words: [u64; WORDS],
@@ -17,7 +17,7 @@ pub struct Line {
 impl Line {
     ghost use Rattle.std.specs.Prelude.{◌≡◌, ◌+◌, ◌*◌, ◌^◌, ◌<◌, ◌≤◌, length, flat_map};
     ghost use Rattle.std.specs.Int.{w64, to_le_bytes};
-    ghost use Rattle.dude_io.specs.Line.{IsLineOf};
+    ghost use Rattle.dude_io.specs.Line.{IsLineOf, line_bytes};
 
     /// The line of this number.
     pub(crate) fn of(words: &[u64], number: u64) -> Line
@@ -37,7 +37,7 @@ impl Line {
     /// Writes the words as bytes, each with its lowest byte first.
     pub(crate) fn store(&self, into: &mut [u8])
         requires { length into.old ≡ 64 }
-        ensures { into.new ≡ flat_map (to_le_bytes w64) self.now.words }
+        ensures { into.new ≡ line_bytes self.now }
     {
         for (k, word) in self.words.iter().enumerate() {
             into[8 * k..8 * k + 8].copy_from_slice(&word.to_le_bytes());

@@ -30,7 +30,7 @@ impl<R: FileSystem> RealFiles<R> {
 
 impl<R: FileSystem> Files for RealFiles<R> {
     ghost use Rattle.std.specs.Prelude.{◌≡◌, ◌<◌, length, is_ok};
-    ghost use Rattle.dude_io.specs.FaultCount.{faults_after};
+    ghost use Rattle.pmem_trait.specs.Faults.{faults_after};
     ghost use Rattle.dude_io.specs.Files.{ReadsFile};
     ghost use Rattle.dude_io.specs.Silent.{real_files_sight};
 

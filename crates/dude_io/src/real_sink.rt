@@ -26,7 +26,7 @@ impl<R: Print> RealSink<R> {
 
 impl<R: Print> Sink for RealSink<R> {
     ghost use Rattle.std.specs.Prelude.{◌≡◌, ◌<◌, length, is_ok};
-    ghost use Rattle.dude_io.specs.FaultCount.{faults_after};
+    ghost use Rattle.pmem_trait.specs.Faults.{faults_after};
     ghost use Rattle.dude_io.specs.Sink.{WritesSink};
     ghost use Rattle.dude_io.specs.Silent.{real_sink_sight};
 

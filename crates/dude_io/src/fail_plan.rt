@@ -5,7 +5,7 @@ use crate::fault_count::FaultCount;
 /// The plan of a thing in memory: how many calls were made on it, how many of them failed, which ones are to
 /// fail, and how many bytes a call moves at most. Calls are counted from 1.
 #[derive(Drop)]
-pub struct Script {
+pub struct FailPlan {
     pub made: u64,
     pub faults: FaultCount,
     pub fail: Vec<u64>,
@@ -13,10 +13,10 @@ pub struct Script {
     ghost some: { 1 ≤ chunk },
 }
 
-impl Script {
+impl FailPlan {
     ghost use Rattle.std.specs.Prelude.{◌≡◌, ◌+◌, ◌≤◌, if◌then◌else◌};
-    ghost use Rattle.dude_io.specs.FaultCount.{up_to_last};
-    ghost use Rattle.dude_io.specs.Script.{is_to_fail, next_call};
+    ghost use Rattle.pmem_trait.specs.Faults.{up_to_last};
+    ghost use Rattle.dude_io.specs.FailPlan.{is_to_fail, next_call};
 
     pub(crate) fn new(fail: Vec<u64>, chunk: u64) -> Self
         requires { 1 ≤ chunk }
@@ -25,7 +25,7 @@ impl Script {
         ensures fail { result.fail ≡ fail }
         ensures chunk { result.chunk ≡ chunk }
     {
-        Script {
+        FailPlan {
             made: 0,
             faults: FaultCount::new(),
             fail,

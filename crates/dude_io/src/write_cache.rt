@@ -9,7 +9,7 @@ const NOTES: usize = 4096;
 /// The words of an image file in memory, and the lines that were noted and are not yet in the file, in order. It takes
 /// no memory after it is made.
 #[derive(Drop)]
-pub struct Image {
+pub struct WriteCache {
     pub words: Vec<u64>,
     pub noted: Vec<Line>,
     ghost small: { vec_len words < 2 ^ 61 },
@@ -17,20 +17,20 @@ pub struct Image {
     ghost reserved: { 4096 ≤ vec_capacity noted },
 }
 
-impl Image {
+impl WriteCache {
     ghost use Rattle.std.specs.Prelude.{◌≡◌, ◌+◌, ◌-◌, ◌*◌, ◌^◌, ◌<◌, ◌≤◌, [], IfOk, vec_len, slice_index, slice_set, ◌==◌};
     ghost use Rattle.dude_io.specs.Line.{NotesLine};
-    ghost use Rattle.dude_io.specs.Image.{note_room};
+    ghost use Rattle.dude_io.specs.WriteCache.{note_room};
 
-    /// The image of these words, with room for the notes.
-    pub(crate) fn new(alloc: Global, words: Vec<u64>) -> Result<Image, AllocError>
+    /// These words, with no line noted and room for the notes.
+    pub(crate) fn new(alloc: Global, words: Vec<u64>) -> Result<WriteCache, AllocError>
         requires { vec_len words < 2 ^ 61 }
-        ensures words { IfOk result (λ image. image.words.items ≡ words.items) }
-        ensures noted { IfOk result (λ image. image.noted.items ≡ []) }
-        ensures room { IfOk result (λ image. note_room image ≡ 4096) }
+        ensures words { IfOk result (λ cache. cache.words.items ≡ words.items) }
+        ensures noted { IfOk result (λ cache. cache.noted.items ≡ []) }
+        ensures room { IfOk result (λ cache. note_room cache ≡ 4096) }
     {
         let noted = Vec::with_capacity(alloc, NOTES)?;
-        Ok(Image { words, noted })
+        Ok(WriteCache { words, noted })
     }
 
     pub(crate) fn len(&self) -> u64
