@@ -5,8 +5,4 @@ pub mod FailPlan
 pub mod MemFile
 pub mod MemFiles
 pub mod MemSink
-pub mod Clock
 pub mod Silent
-pub mod Line
-pub mod WriteCache
-pub mod FilePmem

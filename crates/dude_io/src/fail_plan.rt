@@ -1,6 +1,6 @@
 ghost use Rattle.std.specs.Prelude.{◌≤◌};
 
-use crate::fault_count::FaultCount;
+use pmem_trait::FaultCount;
 
 /// The plan of a thing in memory: how many calls were made on it, how many of them failed, which ones are to
 /// fail, and how many bytes a call moves at most. Calls are counted from 1.

@@ -4,8 +4,8 @@ ghost use Rattle.dude_io.specs.Files.{GivesBytes};
 ghost use Rattle.dude_io.specs.MemFile.{text_of};
 
 use crate::Files;
-use crate::mem_file::MemFile;
 use crate::fail_plan::FailPlan;
+use crate::mem_file::MemFile;
 use pmem_trait::Failed;
 use std::alloc::AllocError;
 

@@ -2,8 +2,7 @@ ghost use Rattle.std.specs.Prelude.{◌≡◌, ◌≤◌, length, IfOk};
 ghost use Rattle.dude_io.specs.Silent.{silent_files};
 
 use crate::Files;
-use crate::fault_count::FaultCount;
-use pmem_trait::Failed;
+use pmem_trait::{Failed, FaultCount};
 use std::io::{Read, Seek, SeekFrom};
 use std::rt::Files as FileSystem;
 use std::{fs, io};

@@ -2,8 +2,7 @@ ghost use Rattle.std.specs.Prelude.{◌≡◌};
 ghost use Rattle.dude_io.specs.Silent.{silent_sink};
 
 use crate::Sink;
-use crate::fault_count::FaultCount;
-use pmem_trait::Failed;
+use pmem_trait::{Failed, FaultCount};
 
 /// Standard output. What it took is not told.
 #[derive(Drop)]
