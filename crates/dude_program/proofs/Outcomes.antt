@@ -5,7 +5,7 @@ use Rattle.std.specs.List.{All, filter}
 use Rattle.std.proofs.lemmas.Bool.{lt-leb}
 use Rattle.std.proofs.lemmas.List.Elements.{All-nil, All-head, All-tail}
 use Rattle.std.proofs.Math.Seq.{drop-append_seam, drop-length}
-use Rattle.pmem_trait.specs.Words.{State, IsIn, EveryImage}
+use Rattle.pmem_trait.specs.Words.{State, IsIn, EveryImage, AtLeast}
 use Rattle.pmem_trait.specs.Sights.{Sight, state_now, AtEveryMoment, SomeCalls}
 use Rattle.pmem_trait.proofs.Laws.{every_moment_here, every_moment_then, every_moment_weaker}
 use Rattle.pmem_trait.proofs.Runs.{ran_here, ran_then, made_later, made_cause}
@@ -18,7 +18,6 @@ use Rattle.tatp_model.specs.OneThread.{RepliesOfOneThread}
 use Rattle.dude_text.specs.Command.{Meaning.FreshRun}
 use Rattle.fresh_image.specs.Fresh.{fresh_length}
 use Rattle.fresh_image.specs.Rows.{home_words}
-use Rattle.fresh_image.specs.Calls.{AtLeast}
 use Rattle.fresh_image.specs.FormatCalls.{RecoversOnceTold, AtRestFormatted}
 use Rattle.fresh_image.proofs.UpdateLaw.{rest_images}
 use Rattle.dude_program.specs.Headline.{last_of, database_after, RecoversTo, RecoversSince, End}

@@ -8,7 +8,7 @@ use Rattle.std.proofs.lemmas.Bool.{lt-leb}
 use Rattle.std.proofs.lemmas.List.{take_more, take_all, take-append-drop, length-take-le, length-append}
 use Rattle.std.proofs.lemmas.List.Elements.{All-weaker, All-head, All-tail}
 use Rattle.std.proofs.lemmas.List.Sorted.{IsPermutation-refl}
-use Rattle.pmem_trait.specs.Words.{State, IsIn}
+use Rattle.pmem_trait.specs.Words.{State, IsIn, AtLeast}
 use Rattle.pmem_trait.specs.Sights.{Sight, state_now, AtEveryMoment, SomeCalls}
 use Rattle.pmem_trait.proofs.Laws.{every_moment_here, every_moment_then, every_moment_weaker}
 use Rattle.pmem_trait.proofs.Runs.{ran_here, ran_then, made_later}
@@ -30,7 +30,7 @@ use Rattle.fresh_image.proofs.UpdateLaw.{rest_images}
 use Rattle.fresh_image.proofs.RowWords.{rows_fit}
 use Rattle.fresh_image.proofs.Lists.{IsIn-drop_push}
 use Rattle.fresh_image.specs.Rows.{home_words, StandsFor}
-use Rattle.fresh_image.specs.Calls.{AtLeast, RecoversToEither, AtRestFor, AtRestTold}
+use Rattle.fresh_image.specs.Calls.{RecoversToEither, AtRestFor, AtRestTold}
 use Rattle.dude_program.specs.Headline.{last_of, RecoversTo, RecoversSince}
 use Rattle.dude_program.specs.Serving.{Stage, RunAtRest, Adds, Serves, ServesAll, RecoversToStep, opening_stage, changes_it, next_number, next_database}
 

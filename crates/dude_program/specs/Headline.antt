@@ -3,7 +3,7 @@
 -- crash may leave recovers to the database after a prefix of that order, with everything up to the last number told as
 -- durable.
 use Rattle.std.specs.Prelude.{◌≡◌, ◌⊎◌, ℕ, ◌≤◌, max, IsTrue, List, [], ◌∷◌, ◌++◌, drop, take, length, fold, All}
-use Rattle.pmem_trait.specs.Words.{EveryImage}
+use Rattle.pmem_trait.specs.Words.{EveryImage, AtLeast}
 use Rattle.pmem_trait.specs.Sights.{Sight, AtEveryMoment, state_now}
 use Rattle.tatp_model.specs.declared.done.Done.{Done}
 use Rattle.tatp_model.specs.declared.request.Request.{Request}
@@ -16,7 +16,6 @@ use Rattle.dude_io.specs.Files.{FilesSight}
 use Rattle.dude_io.specs.Sink.{SinkSight}
 use Rattle.redo_record.specs.Recovery.{Recovers}
 use Rattle.fresh_image.specs.Rows.{StandsFor}
-use Rattle.fresh_image.specs.Calls.{AtLeast}
 use Rattle.dude_program.specs.Opening.{opening_of, FilesMean}
 
 -- Replies: some files, which are the command's where that is told, have these requests done, each file's first ones in

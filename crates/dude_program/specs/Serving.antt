@@ -1,6 +1,6 @@
 -- Requests of `fresh`, one after another: what each adds to what is done, and what it leaves of the medium.
 use Rattle.std.specs.Prelude.{◌≡◌, ◌⊎◌, ℕ, ◌+◌, ◌*◌, ◌≤◌, Bool, true, IsTrue, List, [], ◌∷◌, ◌++◌, length, if◌then◌else◌, All}
-use Rattle.pmem_trait.specs.Words.{State}
+use Rattle.pmem_trait.specs.Words.{State, AtLeast}
 use Rattle.pmem_trait.specs.Sights.{Sight, state_now, AtEveryMoment, SomeCalls}
 use Rattle.tatp_model.specs.declared.done.Done.{Done}
 use Rattle.tatp_model.specs.declared.request.Request.{Request}
@@ -13,7 +13,7 @@ use Rattle.dude_text.specs.Command.{Meaning.FreshRun}
 use Rattle.dude_base.specs.declared.limits.TheConstants.{MAX_NUMBER}
 use Rattle.fresh_image.specs.Fresh.{AtRest}
 use Rattle.fresh_image.specs.Rows.{home_words}
-use Rattle.fresh_image.specs.Calls.{AtLeast, RecoversToTold}
+use Rattle.fresh_image.specs.Calls.{RecoversToTold}
 use Rattle.dude_program.specs.Headline.{last_of, database_after, RecoversSince}
 
 -- Where a run stands: the last number drawn, the database, and what is done.

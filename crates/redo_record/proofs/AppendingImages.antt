@@ -5,7 +5,7 @@ use Rattle.dude_base.specs.declared.sizes.Sizes.{Sizes}
 use Rattle.dude_base.specs.declared.write.Write.{Write}
 use Rattle.dude_base.specs.Image.{image_words, Cell, cell_at, cell_start}
 use Rattle.dude_base.specs.Records.{RedoRecord}
-use Rattle.pmem_trait.specs.Words.{Word, State, MayHold, IsImage, EveryImage, AfterEachCall, settled_at}
+use Rattle.pmem_trait.specs.Words.{Word, State, MayHold, IsSettledWord, IsImage, EveryImage, AfterEachCall, settled_at}
 use Rattle.pmem_trait.proofs.Images.{may_still}
 use Rattle.pmem_trait.proofs.Laws.{after_each_weaker}
 use Rattle.redo_record.specs.Tags.{number_of, head_tag, IsHeadOver}
@@ -13,7 +13,7 @@ use Rattle.redo_record.specs.Cells.{IsCell, word_place}
 use Rattle.redo_record.specs.Record.{cells_for, count_of, record_of, HoldComplete}
 use Rattle.redo_record.specs.Encoding.{IsEncodable}
 use Rattle.redo_record.specs.Images.{mark_of, tag_of, word_in_image, IsComplete, IsNewHead}
-use Rattle.redo_record.specs.Fits.{Logged, head_of, HasHead, IsIntact, IsSettledWord, FitsRing, settled_mark, settled_word}
+use Rattle.redo_record.specs.Fits.{Logged, head_of, HasHead, IsIntact, FitsRing, settled_mark, settled_word}
 use Rattle.redo_record.specs.Calls.{append_calls}
 use Rattle.redo_record.specs.AppendLaw.{CanAppend, Appending, HeadsHold, IsBodySettled, LawOfAppending}
 use Rattle.redo_record.proofs.HeldRecords.{AreSame, complete_same, record_same}

@@ -4,11 +4,11 @@ use Rattle.std.proofs.Math.Nat.{mod-lt}
 use Rattle.dude_base.specs.declared.sizes.Sizes.{Sizes}
 use Rattle.dude_base.specs.Image.{Cell, cell_at, cell_start}
 use Rattle.dude_base.specs.Records.{RedoRecord}
-use Rattle.pmem_trait.specs.Words.{Word, State, settled_at}
+use Rattle.pmem_trait.specs.Words.{Word, State, IsSettledWord, settled_at}
 use Rattle.redo_record.specs.Tags.{number_of}
 use Rattle.redo_record.specs.Cells.{IsCell, word_place}
 use Rattle.redo_record.specs.Record.{cells_for, count_of}
-use Rattle.redo_record.specs.Fits.{Logged, head_of, HasHead, IsSettledWord, settled_word, IsIntact}
+use Rattle.redo_record.specs.Fits.{Logged, head_of, HasHead, settled_word, IsIntact}
 use Rattle.redo_record.specs.AppendLaw.{IsElsewhere}
 use Rattle.redo_record.proofs.HeldRecords.{AreSame, complete_same, count_same, tag_same}
 use Rattle.redo_record.proofs.CellPlaces.{words_same, rings_same}

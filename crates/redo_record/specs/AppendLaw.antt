@@ -5,13 +5,13 @@ use Rattle.dude_base.specs.declared.sizes.Sizes.{Sizes}
 use Rattle.dude_base.specs.Sizes.{IsAccepted}
 use Rattle.dude_base.specs.Image.{image_words, Cell, cell_at, cell_start}
 use Rattle.dude_base.specs.Records.{RedoRecord}
-use Rattle.pmem_trait.specs.Words.{State, MayHold, EveryImage, AfterEachCall, settled_at, after_all}
+use Rattle.pmem_trait.specs.Words.{State, MayHold, IsSettledWord, EveryImage, AfterEachCall, settled_at, after_all}
 use Rattle.redo_record.specs.Tags.{number_of, head_tag, IsHeadOver}
 use Rattle.redo_record.specs.Cells.{IsCell, word_place}
 use Rattle.redo_record.specs.Record.{cells_for, record_of}
 use Rattle.redo_record.specs.Encoding.{IsEncodable, encoded}
 use Rattle.redo_record.specs.Images.{mark_of, tag_of, word_in_image, IsComplete, IsNewHead}
-use Rattle.redo_record.specs.Fits.{Logged, HasHead, IsIntact, IsSettledWord, FitsRing, AreFree, settled_mark}
+use Rattle.redo_record.specs.Fits.{Logged, HasHead, IsIntact, FitsRing, AreFree, settled_mark}
 use Rattle.redo_record.specs.Calls.{append_calls}
 
 -- The record may be laid into the cells from this one on: they are free, and its places are home words.

@@ -4,11 +4,11 @@ use Rattle.dude_base.specs.declared.limits.TheConstants.{LINE}
 use Rattle.dude_base.specs.declared.sizes.Sizes.{Sizes}
 use Rattle.dude_base.specs.Image.{image_words, Cell, cell_at, cell_start}
 use Rattle.dude_base.specs.Records.{RedoRecord}
-use Rattle.pmem_trait.specs.Words.{State, IsImage, settled_at}
+use Rattle.pmem_trait.specs.Words.{State, IsImage, IsSettledWord, settled_at}
 use Rattle.redo_record.specs.Cells.{IsCell, word_place}
 use Rattle.redo_record.specs.Record.{cells_for, record_of, HoldComplete}
 use Rattle.redo_record.specs.Images.{word_in_image, IsComplete}
-use Rattle.redo_record.specs.Fits.{Logged, IsIntact, IsSettledWord, settled_mark, settled_word}
+use Rattle.redo_record.specs.Fits.{Logged, IsIntact, settled_mark, settled_word}
 use Rattle.redo_record.specs.AppendLaw.{CanAppend, Appending, Appended, logged_as}
 
 -- The cells from this one on hold this record, of writes of home words, and each word of them is settled.

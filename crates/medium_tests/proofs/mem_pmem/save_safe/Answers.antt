@@ -5,7 +5,7 @@ use Rattle.pmem_trait.specs.Groups.{group_calls}
 use Rattle.pmem_trait.proofs.Images.{may_still}
 use Rattle.pmem_trait.proofs.Laws.{made_keep, after_each_then}
 use Rattle.pmem_trait.proofs.GroupLaw.{group_law, group_word}
-use Rattle.pmem_fake.proofs.tests.save_safe.Goals as goal
+use Rattle.medium_tests.proofs.mem_pmem.save_safe.Goals as goal
 
 abbrev Either : ℕ → ℕ → List ℕ → List ℕ → Type 0
 Either old value told image = (slice_index image 0 ≡ old) ⊎ (slice_index image 0 ≡ value)
