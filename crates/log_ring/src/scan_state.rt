@@ -10,25 +10,25 @@ use std::collections::BTreeMap;
 /// What a scan has found: of each number the record whose head comes first, and the first line at which another head of
 /// such a number stands.
 #[derive(Drop)]
-pub struct Found {
+pub struct ScanState {
     records: BTreeMap<u64, Redo>,
-    second: Option<u64>,
+    duplicate: Option<u64>,
     ghost ordered: { IsOrdered nat_cmp records } by { Prim.hlevel props },
 }
 
-impl Found {
+impl ScanState {
     ghost use Rattle.std.specs.Prelude.{◌≡◌, ◌≢◌, ℕ, [], Some, None, IfOk, IfErr, OnOk, IsErrOf};
     ghost use Rattle.std.specs.BTreeMap.{values};
     ghost use Rattle.log_ring.specs.declared.scan_fault.ScanFault.TheVariants.{Damaged, Device};
     ghost use Rattle.log_ring.specs.Scanning.{TakesRecord};
 
-    pub fn new(alloc: Global) -> Found
+    pub fn new(alloc: Global) -> ScanState
         ensures records { result.records.entries ≡ [] }
-        ensures second { result.second ≡ None }
+        ensures duplicate { result.duplicate ≡ None }
     {
-        Found {
+        ScanState {
             records: BTreeMap::new(alloc),
-            second: None,
+            duplicate: None,
         }
     }
 
@@ -38,7 +38,7 @@ impl Found {
     {
         let number = redo.number();
         if self.records.contains_key(&number) {
-            self.second = self.second.or(Some(line));
+            self.duplicate = self.duplicate.or(Some(line));
         } else {
             self.records.insert(number, redo)?;
         }
@@ -47,11 +47,11 @@ impl Found {
 
     /// The records in the order of their numbers, where each number has one head.
     pub fn into_records(self, alloc: Global) -> Result<Vec<Redo>, ScanFault>
-        ensures single { IfOk result (λ rs. (rs.items ≡ values self.records) × (self.second ≡ None)) }
-        ensures damaged { (line : ℕ) → IsErrOf result (Damaged line) → self.second ≡ Some line }
+        ensures single { IfOk result (λ rs. (rs.items ≡ values self.records) × (self.duplicate ≡ None)) }
+        ensures damaged { (line : ℕ) → IsErrOf result (Damaged line) → self.duplicate ≡ Some line }
         ensures fault { IfErr result (λ fault. fault ≢ Device) }
     {
-        if let Some(line) = self.second {
+        if let Some(line) = self.duplicate {
             return Err(ScanFault::Damaged { line });
         }
         Ok(self.records.into_values().collect(alloc)?)

@@ -1,0 +1,98 @@
+-- The words and the lines of a record's cells, as arrays.
+use Rattle.std.proofs.Common.{◌≡◌, ℕ, zero, suc, ◌+◌, ◌-◌, ◌*◌, ◌/◌, ◌<◌, ◌≤◌, List, [], ◌∷◌, ◌++◌, length, take, drop, map, flat_map, slice_index, get_or, refl, sym, ap, ◌∙◌, subst, arith, All, append_assoc}
+use Rattle.std.specs.Prelude.{slice_set}
+use Rattle.std.specs.List.{range_with_len, enumerate_from}
+use Rattle.std.proofs.lemmas.List.{take_more_set}
+use Rattle.std.proofs.lemmas.List.Elements.{All-append, All-nil, All-tail, All-head, All-cons}
+use Rattle.std.proofs.lemmas.List.FromFn.{length-enumerate_from, get_or-enumerate_from, length-map-range_with_len, get_or-map-range_with_len, map-range_with_len_more}
+use Rattle.std.proofs.Math.Seq.{take-suc}
+use Rattle.dude_base.specs.declared.sizes.Sizes.{Sizes}
+use Rattle.dude_base.specs.Image.{Cell, cell_start, image_words}
+use Rattle.dude_base.specs.Records.{RedoRecord}
+use Rattle.pmem_trait.specs.Groups.{PlacesFit, LinesFit}
+use Rattle.redo_record.specs.Cells.{IsCell, cell_after, line_of}
+use Rattle.redo_record.specs.Record.{cells_for}
+use Rattle.redo_record.specs.Encoding.{encoded}
+use Rattle.redo_record.specs.Calls.{cell_writes, record_writes, body_writes, tag_write, lines_from}
+use Rattle.redo_record.proofs.CellPlaces.{word_inside, first_cell}
+use Rattle.redo_record.proofs.RecordWrites.{record_writes_first}
+
+-- one word more of a cell
+pub pair_more : (old pairs : List (ℕ × ℕ)) (words : List ℕ) (n start j : ℕ) → j < length words → n + j < length pairs
+    → take (n + j) pairs ≡ take n old ++ take j (enumerate_from start words)
+    → take (n + (j + 1)) (slice_set pairs (n + j) (start + j, slice_index words j)) ≡ take n old ++ take (j + 1) (enumerate_from start words)
+pair_more old pairs words n start j lt inside before =
+    ap (λ (k : ℕ). take k (slice_set pairs (n + j) (start + j, slice_index words j))) (omega arith)
+    ∙ (take_more_set pairs (n + j) (start + j, slice_index words j) inside
+    ∙ (ap (λ (l : List (ℕ × ℕ)). l ++ (start + j, slice_index words j) ∷ []) before
+    ∙ (append_assoc (take n old) (take j (enumerate_from start words)) ((start + j, slice_index words j) ∷ []) ∙ ap (λ (l : List (ℕ × ℕ)). take n old ++ l) (sym next))))
+  where
+    next : take (j + 1) (enumerate_from start words) ≡ take j (enumerate_from start words) ++ (start + j, slice_index words j) ∷ []
+    next =
+        ap (λ (k : ℕ). take k (enumerate_from start words)) (omega arith)
+        ∙ (take-suc (enumerate_from start words) j (0, 0) (omega (arith, length-enumerate_from start words))
+        ∙ ap (λ (p : ℕ × ℕ). take j (enumerate_from start words) ++ p ∷ []) (get_or-enumerate_from start words j (0, 0) lt))
+
+-- the parts of the pairs that the two groups put
+module _ (s : Sizes) (head : Cell) (r : RedoRecord) (is_cell : IsCell s head) (pairs : List (ℕ × ℕ)) (all : take (8 * cells_for (length r.writes)) pairs ≡ record_writes s head r) where
+  pub pairs_body : take (8 * cells_for (length r.writes) - 1) (drop 1 pairs) ≡ body_writes s head r
+  pairs_body = behind (8 * cells_for (length r.writes)) pairs (omega arith) ∙ ap (λ (l : List (ℕ × ℕ)). drop 1 l) all
+    where
+      behind : (n : ℕ) (ps : List (ℕ × ℕ)) → 1 ≤ n → take (n - 1) (drop 1 ps) ≡ drop 1 (take n ps)
+      behind zero ps some = absurd (omega arith)
+      behind (suc n) [] some = ap (λ k. take k (let none : List (ℕ × ℕ) = [] in none)) (omega arith) ∙ nothing n
+        where
+          nothing : (n : ℕ) → take n (let none : List (ℕ × ℕ) = [] in none) ≡ []
+          nothing zero = refl
+          nothing (suc n) = refl
+      behind (suc n) (p ∷ ps) some = ap (λ k. take k ps) (omega arith)
+
+  pub pairs_tag : take 1 pairs ≡ tag_write s head r
+  pairs_tag = front (8 * cells_for (length r.writes)) pairs (omega arith) ∙ ap (λ (l : List (ℕ × ℕ)). take 1 l) (all ∙ record_writes_first s head is_cell r)
+    where
+      front : (n : ℕ) (ps : List (ℕ × ℕ)) → 1 ≤ n → take 1 ps ≡ take 1 (take n ps)
+      front zero ps some = absurd (omega arith)
+      front (suc n) [] some = refl
+      front (suc n) (p ∷ ps) some = refl
+
+pub lines_tag : (s : Sizes) (head : Cell) (n : ℕ) (lines : List ℕ) → IsCell s head → 1 ≤ n → take n lines ≡ lines_from s head n → take 1 lines ≡ line_of s head ∷ []
+lines_tag s head zero lines is_cell some all = absurd (omega arith)
+lines_tag s head (suc n) [] is_cell some all = absurd (by all)
+  where
+    by : [] ≡ lines_from s head (suc n) → ⊥
+    by is = cc
+lines_tag s head (suc n) (l ∷ ls) is_cell some all =
+    let first : l ≡ line_of s (cell_after s head 0) = cc in
+    let at = first_cell s head is_cell 0 in
+    ap (λ (x : ℕ). x ∷ []) (omega arith)
+
+-- they lie within the image
+module _ (s : Sizes) (head : Cell) (len : ℕ) (is_cell : IsCell s head) (long : image_words s ≤ len) where
+  words_fit : (k : ℕ) (r : RedoRecord) → PlacesFit len (cell_writes s head r k)
+  words_fit k r i d lt =
+      let small : i < 8 = omega (arith, length-enumerate_from (cell_start s (cell_after s head k)) (encoded r k)) in
+      let inside = word_inside s head is_cell k i small in
+      rw (get_or-enumerate_from (cell_start s (cell_after s head k)) (encoded r k) i d small) (omega arith)
+
+  cells_fit : (r : RedoRecord) (a n : ℕ) → PlacesFit len (flat_map (cell_writes s head r) (range_with_len a n))
+  cells_fit r a zero = All-nil (λ (w : ℕ × ℕ). w.0 < len)
+  cells_fit r a (suc n) = All-append (λ (w : ℕ × ℕ). w.0 < len) (cell_writes s head r a) (flat_map (cell_writes s head r) (range_with_len (a + 1) n)) (words_fit a r) (cells_fit r (a + 1) n)
+
+  pub body_fits : (r : RedoRecord) → PlacesFit len (body_writes s head r)
+  body_fits r = dropped (record_writes s head r) (cells_fit r 0 (cells_for (length r.writes)))
+    where
+      dropped : (ws : List (ℕ × ℕ)) → PlacesFit len ws → PlacesFit len (drop 1 ws)
+      dropped [] fit = fit
+      dropped (w ∷ ws) fit = All-tail (λ (w : ℕ × ℕ). w.0 < len) w ws fit
+
+  pub tag_fits : (r : RedoRecord) → PlacesFit len (tag_write s head r)
+  tag_fits r = All-cons (λ (w : ℕ × ℕ). w.0 < len) _ [] (let inside = word_inside s head is_cell 0 0 (omega arith) in let at = first_cell s head is_cell 0 in omega arith) (All-nil (λ (w : ℕ × ℕ). w.0 < len))
+
+  pub lines_fit : (n : ℕ) → LinesFit len (lines_from s head n)
+  lines_fit n i d lt =
+      let below : i < n = omega (arith, length-map-range_with_len (λ k. line_of s (cell_after s head k)) 0 n) in
+      let inside = word_inside s head is_cell i 7 (omega arith) in
+      rw (get_or-map-range_with_len (λ k. line_of s (cell_after s head k)) 0 n i i d below (omega arith)) (omega arith)
+
+  pub line_fits : LinesFit len (line_of s head ∷ [])
+  line_fits = All-cons (λ (l : ℕ). 8 * l + 8 ≤ len) _ [] (let inside = word_inside s head is_cell 0 7 (omega arith) in let at = first_cell s head is_cell 0 in omega arith) (All-nil (λ (l : ℕ). 8 * l + 8 ≤ len))
