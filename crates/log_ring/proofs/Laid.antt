@@ -69,13 +69,10 @@ filter_all p (l ∷ ls) all = rw (all 0 l (omega arith)) (ap (λ (r : List Logge
 
 parts : (n : ℕ) (ls : List Logged) → AllPairs (λ l m. l.number < m.number) ls → Parts n ls
 parts n [] rising = record { gone = []; old = All-nil (λ (l : Logged). l.number ≤ n); whole = refl }
-parts n (l ∷ ls) rising = by (nat_lt n l.number) refl
+parts n (l ∷ ls) rising = by (parts n ls (λ i j d lt inside. rising (suc i) (suc j) d (omega arith) (omega arith))) (nat_lt n l.number) refl
   where
-    rest : Parts n ls
-    rest = parts n ls (λ i j d lt inside. rising (suc i) (suc j) d (omega arith) (omega arith))
-
-    by : (b : Bool) → nat_lt n l.number ≡ b → Parts n (l ∷ ls)
-    by true over = record {
+    by : Parts n ls → (b : Bool) → nat_lt n l.number ≡ b → Parts n (l ∷ ls)
+    by rest true over = record {
       gone = [];
       old = All-nil (λ (l : Logged). l.number ≤ n);
       whole = sym (filter_all (λ (m : Logged). nat_lt n m.number) (l ∷ ls) (All-cons (λ (m : Logged). nat_lt n m.number ≡ true) l ls over later));
@@ -83,7 +80,7 @@ parts n (l ∷ ls) rising = by (nat_lt n l.number) refl
       where
         later : All (λ (m : Logged). nat_lt n m.number ≡ true) ls
         later k d lt = let more = rising 0 (suc k) d (omega arith) (omega arith) in grind (arith, over, more)
-    by false under =
+    by rest false under =
         let old : l.number ≤ n = grind (arith, under) in
         record {
           gone = l ∷ rest.gone;

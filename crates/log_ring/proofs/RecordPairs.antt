@@ -22,15 +22,24 @@ pub pair_more : (old pairs : List (ℕ × ℕ)) (words : List ℕ) (n start j : 
     → take (n + j) pairs ≡ take n old ++ take j (enumerate_from start words)
     → take (n + (j + 1)) (slice_set pairs (n + j) (start + j, slice_index words j)) ≡ take n old ++ take (j + 1) (enumerate_from start words)
 pair_more old pairs words n start j lt inside before =
-    ap (λ (k : ℕ). take k (slice_set pairs (n + j) (start + j, slice_index words j))) (omega arith)
-    ∙ (take_more_set pairs (n + j) (start + j, slice_index words j) inside
-    ∙ (ap (λ (l : List (ℕ × ℕ)). l ++ (start + j, slice_index words j) ∷ []) before
-    ∙ (append_assoc (take n old) (take j (enumerate_from start words)) ((start + j, slice_index words j) ∷ []) ∙ ap (λ (l : List (ℕ × ℕ)). take n old ++ l) (sym next))))
+    subst (λ (k : ℕ). take k (slice_set pairs (n + j) pair) ≡ take n old ++ take (j + 1) (enumerate_from start words)) same
+    (take_more_set pairs (n + j) pair inside
+    ∙ (ap (λ (l : List (ℕ × ℕ)). l ++ pair ∷ []) before
+    ∙ (append_assoc (take n old) (take j (enumerate_from start words)) (pair ∷ []) ∙ ap (λ (l : List (ℕ × ℕ)). take n old ++ l) (sym next))))
   where
-    next : take (j + 1) (enumerate_from start words) ≡ take j (enumerate_from start words) ++ (start + j, slice_index words j) ∷ []
+    pair : ℕ × ℕ
+    pair = (start + j, slice_index words j)
+
+    same : n + j + 1 ≡ n + (j + 1)
+    same = omega arith
+
+    one : suc j ≡ j + 1
+    one = omega arith
+
+    next : take (j + 1) (enumerate_from start words) ≡ take j (enumerate_from start words) ++ pair ∷ []
     next =
-        ap (λ (k : ℕ). take k (enumerate_from start words)) (omega arith)
-        ∙ (take-suc (enumerate_from start words) j (0, 0) (omega (arith, length-enumerate_from start words))
+        subst (λ (k : ℕ). take k (enumerate_from start words) ≡ take j (enumerate_from start words) ++ pair ∷ []) one
+        (take-suc (enumerate_from start words) j (0, 0) (omega (arith, length-enumerate_from start words))
         ∙ ap (λ (p : ℕ × ℕ). take j (enumerate_from start words) ++ p ∷ []) (get_or-enumerate_from start words j (0, 0) lt))
 
 -- the parts of the pairs that the two groups put

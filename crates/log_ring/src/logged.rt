@@ -9,7 +9,9 @@ pub struct Logged {
 }
 
 impl Model for Logged {
-    ghost Value = { Rattle.redo_record.specs.Fits.Logged };
+    ghost use Rattle.redo_record.specs.Fits;
+
+    ghost Value = { Fits.Logged };
 
     ghost view = { λ l. record { number = l.number; first = l.first; cells = l.cells } };
 
