@@ -1,9 +1,9 @@
 -- The words and the lines of a record's cells, as arrays.
-use Rattle.std.proofs.Common.{◌≡◌, ℕ, Bool, true, false, zero, suc, ◌+◌, ◌-◌, ◌*◌, ◌/◌, ◌<◌, ◌≤◌, List, [], ◌∷◌, ◌++◌, length, take, drop, map, flat_map, slice_index, get_or, refl, sym, ap, ◌∙◌, subst, arith, All, append_assoc, take_all}
+use Rattle.std.proofs.Common.{◌≡◌, ℕ, Bool, true, false, zero, suc, ◌+◌, ◌-◌, ◌*◌, ◌<◌, ◌≤◌, List, [], ◌∷◌, ◌++◌, length, take, drop, flat_map, slice_index, refl, sym, ap, ◌∙◌, subst, arith, append_assoc, take_all}
 use Rattle.std.specs.Prelude.{slice_set}
 use Rattle.std.specs.List.{range_with_len, enumerate_from}
 use Rattle.std.proofs.lemmas.List.{take_more_set}
-use Rattle.std.proofs.lemmas.List.Elements.{All-append, All-nil, All-tail, All-head, All-cons}
+use Rattle.std.proofs.lemmas.List.Elements.{All-append, All-nil, All-tail, All-cons}
 use Rattle.std.proofs.lemmas.List.FromFn.{length-enumerate_from, get_or-enumerate_from, length-map-range_with_len, get_or-map-range_with_len, map-range_with_len_more}
 use Rattle.std.proofs.Math.Seq.{take-suc}
 use Rattle.dude_base.specs.declared.sizes.Sizes.{Sizes}

@@ -1,5 +1,5 @@
 -- What a scan of the rings of an image gives.
-use Rattle.std.specs.Prelude.{◌≡◌, ℕ, ◌<◌, true, false, List, All, AllPairs, Result, Ok, Err}
+use Rattle.std.specs.Prelude.{ℕ, ◌<◌, true, false, List, All, AllPairs, Result, Ok, Err}
 use Rattle.std.specs.List.{Contains}
 use Rattle.dude_base.specs.declared.sizes.Sizes.{Sizes}
 use Rattle.dude_base.specs.Records.{RedoRecord}

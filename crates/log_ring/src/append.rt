@@ -19,7 +19,12 @@ use redo_record::{RECORD_CELLS, cells_of, encode};
 const RECORD_WORDS: usize = (LINE * RECORD_CELLS) as usize;
 
 // Sets the pairs of one cell: each of its words, by its number and its value.
-fn set_cell(pairs: &mut [(u64, u64); RECORD_WORDS], cell: u64, start: u64, words: &[u64; LINE as usize])
+fn set_cell(
+    pairs: &mut [(u64, u64); RECORD_WORDS],
+    cell: u64,
+    start: u64,
+    words: &[u64; LINE as usize],
+)
     requires cell { cell < RECORD_CELLS }
     requires start { start + LINE ≤ 2 ^ 64 }
     ensures { take (LINE * (cell + 1)) pairs.new ≡ take (LINE * cell) pairs.old ++ enumerate_from start words.now }
@@ -40,7 +45,12 @@ fn pairs_of(place: &Place, ring: u64, head: u64, r: &Redo) -> [(u64, u64); RECOR
     let mut words = [0; LINE as usize];
     for cell in 0..cells_of(r) {
         encode(r, cell, &mut words);
-        set_cell(&mut pairs, cell, start_after(place, ring, head, cell), &words);
+        set_cell(
+            &mut pairs,
+            cell,
+            start_after(place, ring, head, cell),
+            &words,
+        );
     }
     pairs
 }
@@ -78,6 +88,10 @@ pub fn append_record<M: Medium>(
     let cells = cells_of(r);
     let pairs = pairs_of(place, ring, head, r);
     let lines = lines_of(place, ring, head, cells);
-    settle_group(m, &pairs[1..(LINE * cells) as usize], &lines[..cells as usize])?;
+    settle_group(
+        m,
+        &pairs[1..(LINE * cells) as usize],
+        &lines[..cells as usize],
+    )?;
     settle_group(m, &pairs[..1], &lines[..1])
 }

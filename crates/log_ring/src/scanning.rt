@@ -10,9 +10,9 @@ ghost use Rattle.log_ring.specs.declared.scan_fault.ScanFault.TheVariants.{Damag
 ghost use Rattle.log_ring.specs.Scan.{ReadsMade, AreScanned};
 ghost use Rattle.log_ring.specs.Scanning.{IsSeen, KnowsBelow};
 
-use crate::scan_state::ScanState;
 use crate::reads::read_record;
 use crate::scan_fault::ScanFault;
+use crate::scan_state::ScanState;
 use dude_base::limits::LINE;
 use dude_base::place::Place;
 use dude_base::redo::Redo;

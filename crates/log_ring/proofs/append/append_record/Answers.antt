@@ -1,4 +1,4 @@
-use Rattle.std.proofs.Common.{◌≡◌, ◌≤◌, true, false, is_ok, ap, sym, subst, arith, rules}
+use Rattle.std.proofs.Common.{◌≡◌, ◌≤◌, false, is_ok, arith, rules}
 use Rattle.dude_base.specs.Image.{cell_at, image_words}
 use Rattle.log_ring.proofs.RecordPairs.{hands_over, hands_places, hands_lines, append_stops, append_made}
 use Rattle.log_ring.proofs.append.append_record.Goals as goal

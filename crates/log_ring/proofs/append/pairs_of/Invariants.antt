@@ -1,5 +1,5 @@
 -- the pairs of the cells gone over so far
-use Rattle.std.proofs.Common.{◌≡◌, ◌*◌, length, take, flat_map}
+use Rattle.std.proofs.Common.{◌≡◌, ◌*◌, take, flat_map}
 use Rattle.std.specs.List.{range_with_len}
 use Rattle.dude_base.specs.Image.{cell_at}
 use Rattle.redo_record.specs.Calls.{cell_writes}
