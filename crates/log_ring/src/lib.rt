@@ -16,5 +16,3 @@ pub use ring_fault::RingFault;
 pub use scan_fault::ScanFault;
 pub use scanning::scan;
 
-#[cfg(test)]
-mod tests;

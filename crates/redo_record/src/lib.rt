@@ -7,8 +7,6 @@ mod decoding;
 mod encoding;
 mod laws;
 mod tag;
-#[cfg(test)]
-mod tests;
 
 pub use bad_record::BadRecord;
 pub use decoding::decode;

@@ -1,8 +1,8 @@
-use crate::bad_record::BadRecord;
-use crate::decoding::decode;
-use crate::encoding::{cells_of, encode};
+//! Records in cells, as words.
+
 use dude_base::redo::Redo;
 use dude_base::write::Write;
+use redo_record::{BadRecord, cells_of, decode, encode};
 use std::test::Fail;
 
 // A record with so many writes, of the places from 0 on.

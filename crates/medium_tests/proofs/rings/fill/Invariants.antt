@@ -1,6 +1,6 @@
 -- all the ring's numbers are below the next one
 use Rattle.std.proofs.Common.{◌≡◌, ◌<◌, All}
-use Rattle.log_ring.proofs.tests.fill.Given as goal
+use Rattle.medium_tests.proofs.rings.fill.Given as goal
 
 abbrev pub invariant-loop-number : goal.invariant-loop-number
 invariant-loop-number g l = record {

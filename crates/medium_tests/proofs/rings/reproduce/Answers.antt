@@ -1,7 +1,7 @@
 use Rattle.std.proofs.Common.{◌<◌, nat_lt}
 use Rattle.std.proofs.lemmas.List.Elements.{All-filter}
 use Rattle.redo_record.specs.Fits.{Logged}
-use Rattle.log_ring.proofs.tests.reproduce.Goals as goal
+use Rattle.medium_tests.proofs.rings.reproduce.Goals as goal
 
 pub returns-clause-newest : goal.returns-clause-newest
 returns-clause-newest g c =
