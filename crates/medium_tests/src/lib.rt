@@ -2,4 +2,10 @@
 #![tactic(auto)]
 
 #[cfg(test)]
+mod faulty_host;
+#[cfg(test)]
+mod file_pmem;
+#[cfg(test)]
+mod files_and_sinks;
+#[cfg(test)]
 mod mem_pmem;
