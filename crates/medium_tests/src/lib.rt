@@ -9,3 +9,9 @@ mod file_pmem;
 mod files_and_sinks;
 #[cfg(test)]
 mod mem_pmem;
+#[cfg(test)]
+mod record_cells;
+#[cfg(test)]
+mod rings;
+#[cfg(test)]
+mod scans;
