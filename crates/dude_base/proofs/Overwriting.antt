@@ -94,5 +94,5 @@ overwritten-more ws array k w distinct there =
     let apart : All (λ v. v.at ≢ w.at) (take k ws) = λ i d below.
     let small : i < k = omega arith in
     λ same. distinct i k d small lt (sym (ap (λ (v : Write). v.at) (get_or-take k ws i d small)) ∙ same ∙ sym (ap (λ (v : Write). v.at) (get_or_default ws k d w lt ∙ is))) in
-    let front : take (k + 1) ws ≡ take k ws ++ w ∷ [] = take_more ws k w lt ∙ ap (λ v. take k ws ++ v ∷ []) is in
-    ap (λ vs. overwritten vs array) front ∙ overwritten-new w (take k ws) array (written_absent (take k ws) w.at apart)
+    let prefix : take (k + 1) ws ≡ take k ws ++ w ∷ [] = take_more ws k w lt ∙ ap (λ v. take k ws ++ v ∷ []) is in
+    ap (λ vs. overwritten vs array) prefix ∙ overwritten-new w (take k ws) array (written_absent (take k ws) w.at apart)

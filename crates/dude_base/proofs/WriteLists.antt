@@ -75,11 +75,11 @@ put_at ws k w lt same distinct = rw (written_at ws w.at k w distinct lt (same w)
 -- a write in the prefix of a list, at the index of one of the same word
 pub replaced_prefix : (slots ws : List Write) (n k : ℕ) (w : Write) → take n slots ≡ ws → n ≤ length slots → k < length ws → ((d : Write) → (get_or ws k d).at ≡ w.at) → HasDistinctPlaces (take n slots)
     → (take n (set slots k w) ≡ set ws k w) × HasDistinctPlaces (take n (set slots k w))
-replaced_prefix slots ws n k w front long lt same distinct =
-    let size : length ws ≡ n = sym (ap length front) ∙ length-take-le n slots long in
+replaced_prefix slots ws n k w prefix long lt same distinct =
+    let size : length ws ≡ n = sym (ap length prefix) ∙ length-take-le n slots long in
     let below : k < n = omega arith in
-    let is : take n (set slots k w) ≡ set ws k w = take-set-lt n slots k w below ∙ ap (λ q. set q k w) front in
-    (is, subst HasDistinctPlaces (sym is) (distinct_set ws k w lt same (subst HasDistinctPlaces front distinct)))
+    let is : take n (set slots k w) ≡ set ws k w = take-set-lt n slots k w below ∙ ap (λ q. set q k w) prefix in
+    (is, subst HasDistinctPlaces (sym is) (distinct_set ws k w lt same (subst HasDistinctPlaces prefix distinct)))
 
 module _ (w : Write) where
   -- w in place of the writes of its word

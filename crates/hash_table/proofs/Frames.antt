@@ -7,7 +7,7 @@ use Rattle.record_heap.specs.Changes.{ChangesOnly}
 use Rattle.record_heap.specs.Pool.{IsRecord}
 use Rattle.record_heap.proofs.Arrays.{changes_more, changes_none, linked_from}
 use Rattle.record_heap.proofs.Frames.{IsOutsidePool, SamePool, none_of, pool_stays, same_pool, same_pool-then}
-use Rattle.record_heap.proofs.Places.{records_apart}
+use Rattle.record_heap.proofs.Records.{records_apart}
 use Rattle.hash_table.specs.declared.table.Table.{Table}
 use Rattle.hash_table.specs.Ranges.{FitsRange}
 use Rattle.hash_table.specs.Table.{FitsTable, IsTable, chain_of, records_in}

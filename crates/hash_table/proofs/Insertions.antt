@@ -8,7 +8,7 @@ use Rattle.record_heap.specs.Changes.{IsNoneOf, ChangesOnly}
 use Rattle.record_heap.specs.Links.{Linked}
 use Rattle.record_heap.specs.Pool.{IsFirstFree, IsRecord, IsPool, Takes}
 use Rattle.record_heap.proofs.Arrays.{linked_from, changes_none, changes_more, changes_by}
-use Rattle.record_heap.proofs.Places.{records_apart, each_is_record, as_many, none_twice, others_differ}
+use Rattle.record_heap.proofs.Records.{records_apart, each_is_record, as_many, none_twice, others_differ}
 use Rattle.hash_table.specs.declared.put.Put.{Put}
 use Rattle.hash_table.specs.declared.put.Put.TheVariants.{There, Full, Stored}
 use Rattle.hash_table.specs.declared.table.ChainPosition.{ChainPosition}
@@ -111,7 +111,7 @@ pub record IsPut (table : Table) (key at : ℕ) (a b c : List ℕ) : Type 0 wher
 put_is : {table : Table} {n key at head : ℕ} {a b c : List ℕ} → FitsTable table n → length a ≡ n → IsRecord table.pool at → ChangesOnly (table.pool.base ∷ (table.pool.base + 1) ∷ []) a b → head ≡ slice_index a (table.at + key % table.buckets) →
     c ≡ slice_set (slice_set (slice_set b at key) (at + 1) head) (table.at + key % table.buckets) at → IsPut table key at a b c
 put_is {table} {n} {key} {at} {head} {a} {b} {c} fits long there took read is =
-    let place = table.at + key % table.buckets in
+    let word = table.at + key % table.buckets in
     let home = bucket_below key fits in
     let links = fits.records at there in
     let inside = fits.pool.inside at there in
@@ -119,14 +119,14 @@ put_is {table} {n} {key} {at} {head} {a} {b} {c} fits long there took read is =
     let b2 = slice_set b1 (at + 1) head in
     let long1 : length b1 ≡ n = length-set b at key ∙ took.size ∙ long in
     let long2 : length b2 ≡ n = length-set b1 (at + 1) head ∙ long1 in
-    let whole : ChangesOnly (place ∷ (at + 1) ∷ at ∷ table.pool.base ∷ (table.pool.base + 1) ∷ []) a (slice_set b2 place at) = changes_more place at (changes_more (at + 1) head (changes_more at key took)) in
-    let late : ChangesOnly (place ∷ (at + 1) ∷ at ∷ []) b (slice_set b2 place at) = changes_more place at (changes_more (at + 1) head (changes_more at key changes_none)) in
+    let whole : ChangesOnly (word ∷ (at + 1) ∷ at ∷ table.pool.base ∷ (table.pool.base + 1) ∷ []) a (slice_set b2 word at) = changes_more word at (changes_more (at + 1) head (changes_more at key took)) in
+    let late : ChangesOnly (word ∷ (at + 1) ∷ at ∷ []) b (slice_set b2 word at) = changes_more word at (changes_more (at + 1) head (changes_more at key changes_none)) in
     record {
-      changes = changes_by (λ i none. (none.1.1.1.1.0, (none.1.0, (none.0, (none.1.1.0, (none.1.1.1.0, tt)))))) (subst (λ l. ChangesOnly (place ∷ (at + 1) ∷ at ∷ table.pool.base ∷ (table.pool.base + 1) ∷ []) a l) (sym is) whole);
-      later = subst (λ l. ChangesOnly (place ∷ (at + 1) ∷ at ∷ []) b l) (sym is) late;
-      holds = ap (λ l. slice_index l at) is ∙ get_or-set_other b2 place at at 0 (omega (arith, links, home, fits.pool.size)) ∙ get_or-set_other b1 (at + 1) at head 0 (omega arith) ∙ get_or-set_same b at key 0 (omega (arith, took.size, long, inside, fits.pool.size));
-      link = ap (λ l. slice_index l (at + 1)) is ∙ get_or-set_other b2 place (at + 1) at 0 (omega (arith, links, home, fits.pool.size)) ∙ get_or-set_same b1 (at + 1) head 0 (omega (arith, long1, inside, fits.pool.size)) ∙ read;
-      first = ap (λ l. slice_index l place) is ∙ get_or-set_same b2 place at 0 (omega (arith, long2, fits.links, home));
+      changes = changes_by (λ i none. (none.1.1.1.1.0, (none.1.0, (none.0, (none.1.1.0, (none.1.1.1.0, tt)))))) (subst (λ l. ChangesOnly (word ∷ (at + 1) ∷ at ∷ table.pool.base ∷ (table.pool.base + 1) ∷ []) a l) (sym is) whole);
+      later = subst (λ l. ChangesOnly (word ∷ (at + 1) ∷ at ∷ []) b l) (sym is) late;
+      holds = ap (λ l. slice_index l at) is ∙ get_or-set_other b2 word at at 0 (omega (arith, links, home, fits.pool.size)) ∙ get_or-set_other b1 (at + 1) at head 0 (omega arith) ∙ get_or-set_same b at key 0 (omega (arith, took.size, long, inside, fits.pool.size));
+      link = ap (λ l. slice_index l (at + 1)) is ∙ get_or-set_other b2 word (at + 1) at 0 (omega (arith, links, home, fits.pool.size)) ∙ get_or-set_same b1 (at + 1) head 0 (omega (arith, long1, inside, fits.pool.size)) ∙ read;
+      first = ap (λ l. slice_index l word) is ∙ get_or-set_same b2 word at 0 (omega (arith, long2, fits.links, home));
     }
 
 -- what stands in the pool's free list and in the chains once the first free record is taken
@@ -143,7 +143,7 @@ taken_is {table} {at = at} chains left fits lawful = record {
 -- the pool is lawful still
 put_pool : {table : Table} {n key at : ℕ} {a b c : List ℕ} (chains : List (List ℕ)) (left : List ℕ) → FitsTable table n → IsRecord table.pool at → IsTaken table at left (records_in chains) → IsPut table key at a b c → length chains ≡ table.buckets → IsPool table.pool b left (at ∷ records_in chains) → IsPool table.pool c left (records_in (slice_set chains (key % table.buckets) (at ∷ chain_of chains (key % table.buckets))))
 put_pool {table} {n} {key} {at} {a} {b} {c} chains left fits there taken put whole lawful =
-    let place = table.at + key % table.buckets in
+    let word = table.at + key % table.buckets in
     let home = bucket_below key fits in
     let pool = table.pool in
     let moves = records_more chains (key % table.buckets) at (omega (arith, whole, home)) in

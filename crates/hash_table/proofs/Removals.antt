@@ -10,7 +10,7 @@ use Rattle.record_heap.specs.Changes.{ChangesOnly}
 use Rattle.record_heap.specs.Links.{Linked}
 use Rattle.record_heap.specs.Pool.{records_of, IsRecord, IsPool, Gives}
 use Rattle.record_heap.proofs.Arrays.{linked_from, changes_none, changes_more, changes_by}
-use Rattle.record_heap.proofs.Places.{records_apart, each_is_record, none_twice, others_differ}
+use Rattle.record_heap.proofs.Records.{records_apart, each_is_record, none_twice, others_differ}
 use Rattle.hash_table.specs.declared.table.ChainPosition.{ChainPosition}
 use Rattle.hash_table.specs.declared.table.Table.{Table}
 use Rattle.hash_table.specs.Seek.{IsAmid, SeeksFirst}
@@ -22,17 +22,17 @@ use Rattle.hash_table.proofs.Maps.{HasKeysApart, lookup-is, lookup-same}
 -- ---- one chain
 
 -- the link behind some records of a chain: the chain's own, or that of one of them
-pub link_cases : (place : ℕ) (before : List ℕ) → (link_after place before ≡ place) ⊎ ((y : ℕ) × Contains before y × (link_after place before ≡ y + 1))
-link_cases place [] = inl refl
-link_cases place (x ∷ xs) =
+pub link_cases : (link : ℕ) (before : List ℕ) → (link_after link before ≡ link) ⊎ ((y : ℕ) × Contains before y × (link_after link before ≡ y + 1))
+link_cases link [] = inl refl
+link_cases link (x ∷ xs) =
     elim (link_cases (x + 1) xs) [
       | inl same ↦ inr (x, first_among x xs, same)
       | inr other ↦ inr (other.0, other_among other.0 x xs other.1, other.2)
     ]
 
 -- where it is not the chain's own
-link_differs : (place : ℕ) (x : ℕ) (xs : List ℕ) → ((y : ℕ) → Contains (x ∷ xs) y → place ≢ y + 1) → place ≢ link_after (x + 1) xs
-link_differs place x xs apart same =
+link_differs : (link : ℕ) (x : ℕ) (xs : List ℕ) → ((y : ℕ) → Contains (x ∷ xs) y → link ≢ y + 1) → link ≢ link_after (x + 1) xs
+link_differs link x xs apart same =
     elim (link_cases (x + 1) xs) [
       | inl own ↦ apart x (first_among x xs) (same ∙ own)
       | inr other ↦ apart other.0 (other_among other.0 x xs other.1) (same ∙ other.2)
@@ -40,11 +40,11 @@ link_differs place x xs apart same =
 
 -- A record is taken out of a chain: the link that led to it leads to the next one now, and the other
 -- links of the chain are as they were.
-unlinked : (a b : List ℕ) (at place : ℕ) (before behind : List ℕ) → Linked a place (before ++ at ∷ behind) → slice_index b (link_after place before) ≡ slice_index a (at + 1) → IsDistinct eqb before → ((y : ℕ) → Contains before y → place ≢ y + 1) →
-    (place ≢ link_after place before → slice_index b place ≡ slice_index a place) → ((y : ℕ) → Contains before y → y + 1 ≢ link_after place before → slice_index b (y + 1) ≡ slice_index a (y + 1)) → AllByRecursion (λ x. slice_index b (x + 1) ≡ slice_index a (x + 1)) behind → Linked b place (before ++ behind)
-unlinked a b at place [] behind linked leads distinct apart here kept rest = linked_from a b (at + 1) place behind leads rest linked.1
-unlinked a b at place (x ∷ xs) behind linked leads distinct apart here kept rest = (
-  here (link_differs place x xs apart) ∙ linked.0,
+unlinked : (a b : List ℕ) (at link : ℕ) (before behind : List ℕ) → Linked a link (before ++ at ∷ behind) → slice_index b (link_after link before) ≡ slice_index a (at + 1) → IsDistinct eqb before → ((y : ℕ) → Contains before y → link ≢ y + 1) →
+    (link ≢ link_after link before → slice_index b link ≡ slice_index a link) → ((y : ℕ) → Contains before y → y + 1 ≢ link_after link before → slice_index b (y + 1) ≡ slice_index a (y + 1)) → AllByRecursion (λ x. slice_index b (x + 1) ≡ slice_index a (x + 1)) behind → Linked b link (before ++ behind)
+unlinked a b at link [] behind linked leads distinct apart here kept rest = linked_from a b (at + 1) link behind leads rest linked.1
+unlinked a b at link (x ∷ xs) behind linked leads distinct apart here kept rest = (
+  here (link_differs link x xs apart) ∙ linked.0,
   unlinked a b at (x + 1) xs behind linked.1 leads (IsDistinct-tail eqb x xs distinct)
       (λ y among same. eqb-false x y (each_at (λ v. eqb x v ≡ false) xs y (IsDistinct-head eqb x xs distinct) among) (omega (arith, same)))
       (kept x (first_among x xs)) (λ y among. kept y (other_among y x xs among)) rest,
@@ -60,7 +60,7 @@ pub record IsCut (table : Table) (key at : ℕ) (before : List ℕ) (a b c : Lis
 
 cut_is : {table : Table} {n key at next link : ℕ} {before a c : List ℕ} (b : List ℕ) → length a ≡ n → link < n → ChangesOnly ((at + 1) ∷ table.pool.base ∷ (table.pool.base + 1) ∷ []) a b → link ≡ link_after (table.at + key % table.buckets) before → next ≡ slice_index a (at + 1) → c ≡ slice_set b link next → IsCut table key at before a b c
 cut_is {table} {n} {key} {at} {next} {link} {before} {a} {c} b long inside gave met read is =
-    let place = link_after (table.at + key % table.buckets) before in
+    let word = link_after (table.at + key % table.buckets) before in
     let whole : ChangesOnly (link ∷ (at + 1) ∷ table.pool.base ∷ (table.pool.base + 1) ∷ []) a (slice_set b link next) = changes_more link next gave in
     let late : ChangesOnly (link ∷ []) b (slice_set b link next) = changes_more link next changes_none in
     record {

@@ -5,7 +5,7 @@ use Rattle.std.proofs.lemmas.List.Elements.{All-append, All-cons, All-push, All-
 use Rattle.record_heap.specs.Links.{Linked}
 use Rattle.record_heap.specs.declared.pool.Pool.{Pool}
 use Rattle.record_heap.specs.Pool.{IsRecord}
-use Rattle.record_heap.proofs.Places.{record_or_not}
+use Rattle.record_heap.proofs.Records.{record_or_not}
 use Rattle.hash_table.specs.declared.table.ChainPosition.{ChainPosition}
 use Rattle.hash_table.specs.declared.table.Table.{Table}
 use Rattle.hash_table.specs.Seek.{SeeksFirst}

@@ -15,17 +15,17 @@ pub changes_none : {a : List ℕ} → ChangesOnly [] a a
 changes_none {a} = record { size = refl; others = λ i none. refl }
 
 -- one more word was written
-pub changes_more : {places : List ℕ} {a b : List ℕ} (place value : ℕ) → ChangesOnly places a b → ChangesOnly (place ∷ places) a (slice_set b place value)
-changes_more {places} {a} {b} place value changes = record {
-  size = length-set b place value ∙ changes.size;
-  others = λ i none. get_or-set_other b place i value 0 none.0 ∙ changes.others i none.1;
+pub changes_more : {words : List ℕ} {a b : List ℕ} (word value : ℕ) → ChangesOnly words a b → ChangesOnly (word ∷ words) a (slice_set b word value)
+changes_more {words} {a} {b} word value changes = record {
+  size = length-set b word value ∙ changes.size;
+  others = λ i none. get_or-set_other b word i value 0 none.0 ∙ changes.others i none.1;
 }
 
--- fewer places bound the change more closely
-pub changes_by : {places others : List ℕ} {a b : List ℕ} → ((i : ℕ) → IsNoneOf others i → IsNoneOf places i) → ChangesOnly places a b → ChangesOnly others a b
+-- fewer words bound the change more closely
+pub changes_by : {words others : List ℕ} {a b : List ℕ} → ((i : ℕ) → IsNoneOf others i → IsNoneOf words i) → ChangesOnly words a b → ChangesOnly others a b
 changes_by weaker changes = record { size = changes.size; others = λ i none. changes.others i (weaker i none) }
 
 -- words that are none of the changed ones agree
-pub links_agree : {places : List ℕ} {a b : List ℕ} → ChangesOnly places a b → (xs : List ℕ) → AllByRecursion (λ x. IsNoneOf places (x + 1)) xs → AllByRecursion (λ x. slice_index b (x + 1) ≡ slice_index a (x + 1)) xs
+pub links_agree : {words : List ℕ} {a b : List ℕ} → ChangesOnly words a b → (xs : List ℕ) → AllByRecursion (λ x. IsNoneOf words (x + 1)) xs → AllByRecursion (λ x. slice_index b (x + 1) ≡ slice_index a (x + 1)) xs
 links_agree changes [] none = tt
 links_agree changes (x ∷ xs) none = (changes.others (x + 1) none.0, links_agree changes xs none.1)

@@ -10,15 +10,15 @@ use Rattle.record_heap.specs.declared.pool.Pool.{Pool}
 use Rattle.record_heap.specs.Changes.{IsNoneOf, ChangesOnly}
 use Rattle.record_heap.specs.Pool.{IsRecord, FitsPool, IsHeader, IsPool, Takes, Gives}
 use Rattle.record_heap.proofs.Arrays.{linked_from, changes_none, changes_more, changes_by, links_agree}
-use Rattle.record_heap.proofs.Places.{each_is_record, has_record, as_many, none_twice, others_differ}
+use Rattle.record_heap.proofs.Records.{each_is_record, has_record, as_many, none_twice, others_differ}
 
--- the front of a list of records
-front_of : (pool : Pool) (xs ys : List ℕ) → AllByRecursion (IsRecord pool) (xs ++ ys) → AllByRecursion (IsRecord pool) xs
-front_of pool [] ys all = tt
-front_of pool (x ∷ xs) ys all = (all.0, front_of pool xs ys all.1)
+-- a prefix of a list of records
+prefix_of : (pool : Pool) (xs ys : List ℕ) → AllByRecursion (IsRecord pool) (xs ++ ys) → AllByRecursion (IsRecord pool) xs
+prefix_of pool [] ys all = tt
+prefix_of pool (x ∷ xs) ys all = (all.0, prefix_of pool xs ys all.1)
 
 pub free_records : {pool : Pool} {array free taken : List ℕ} → IsPool pool array free taken → AllByRecursion (IsRecord pool) free
-free_records {pool} {free = free} {taken = taken} lawful = front_of pool free taken (each_is_record pool (free ++ taken) lawful.once)
+free_records {pool} {free = free} {taken = taken} lawful = prefix_of pool free taken (each_is_record pool (free ++ taken) lawful.once)
 
 -- where the first link is no record, none is free
 pub takes_none : {pool : Pool} {a : List ℕ} {first : ℕ} → first ≡ slice_index a pool.base → (IsRecord pool first → ⊥) → (free taken : List ℕ) → IsPool pool a free taken → Takes pool free taken None a a

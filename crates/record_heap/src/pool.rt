@@ -10,8 +10,8 @@ use word_space::words::Words;
 /// A header line at the word `base`, and `count` records of `size` words each from the word `first`.
 ///
 /// Word 0 of the header links the first free record, and word 1 counts the taken records. Word 1 of
-/// a free record links the next one. A link is the place of a record, that is of its word 0, or 0
-/// for none.
+/// a free record links the next one. A record goes by the number of its word 0, and so does a link
+/// to it; a link of 0 leads to none.
 #[derive(Clone, Copy, Debug, PartialEq, Eq)]
 pub struct Pool {
     pub base: u64,
@@ -28,7 +28,7 @@ struct Header {
 }
 
 impl Pool {
-    /// Whether `at` is the place of a record, free or taken.
+    /// Whether a record, free or taken, begins at the word `at`.
     pub fn has(&self, at: u64) -> bool
         requires size { 0 < self.now.size }
         ensures { IsTrue result ↔ IsRecord self.now at }
@@ -40,10 +40,9 @@ impl Pool {
         offset % self.size == 0 && offset / self.size < self.count
     }
 
-    /// Takes the first free record, and gives its place.
+    /// Takes the first free record, and answers it.
     ///
-    /// In an array that is no lawful pool, a link that is not the place of a record counts as the
-    /// end of the free list.
+    /// In an array that is no lawful pool, a link that is no record ends the free list.
     #[tactic(auto, using(crate::proofs::Calls::calling))]
     pub fn take<W: Words>(&self, w: &mut W) -> Result<Option<u64>, Stop>
         requires fits { FitsPool self.now (W.sight w.old).count }
@@ -69,7 +68,7 @@ impl Pool {
         Ok(Some(header.first))
     }
 
-    /// Puts a record at the front of the free list.
+    /// Puts a record before the others of the free list.
     ///
     /// What it does is said of arrays in which that record is not free. After a Stop the writes made before it are still
     /// pending, here as in `take`: the caller drops them.

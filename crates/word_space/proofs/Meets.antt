@@ -20,7 +20,7 @@ value_by s t at v (Some x) is inside does array below =
     let size : length array ≡ s.count = below.size ∙ ap (λ (u : WordsSight). u.count) does.1 in
     does.0 ∙ sym (index-overwritten s.writes array at (omega arith) ∙ ap (λ o. unwrap_or o (slice_index array at)) is)
 
--- the value of a read is the one that is seen at its place
+-- the value of a read is the one that is seen at its word
 pub value_read : (s t : WordsSight) (at v : ℕ) → at < s.count → DoesRead at (Ok v) s t → (array : List ℕ) → IsBelow t array → v ≡ slice_index (shown s array) at
 value_read s t at v inside does = value_by s t at v (written s.writes at) refl inside does
 

@@ -4,7 +4,7 @@ use Rattle.dude_base.specs.declared.write.Write.{Write}
 use Rattle.dude_base.specs.Writes.{IsWriteList, overwritten}
 use Rattle.word_space.specs.declared.stop.Stop.{Stop}
 
--- how many words there are; the reads made from the array below, each a place and the value found;
+-- how many words there are; the reads made from the array below, each a word's number and the value found;
 -- the writes, which are pending; the last Stop answered
 pub record WordsSight : Type 0 where
   pub count : ℕ
@@ -18,7 +18,7 @@ pub record IsWellFormed (s : WordsSight) : Type 0 where
   pub writes : IsWriteList s.writes
   pub inside : All (λ w. w.at < s.count) s.writes
 
--- the array agrees with a list of reads: it has at each place the value that was read
+-- the array agrees with a list of reads: it has at each word the value that was read
 pub record Agrees (reads : List (ℕ × ℕ)) (array : List ℕ) : Type 0 where
   pub each : All (λ r. slice_index array r.0 ≡ r.1) reads
 

@@ -42,7 +42,7 @@ pub record ReadsWord (at : ℕ) (result : Result ℕ Stop) (s t : WordsSight) : 
   pub looked : Looked (stop_of result) s t
   pub does : DoesRead at result s t
 
--- A write takes the place of the one of the same word, or comes last. It is Wide exactly where it would
+-- A write replaces the one of the same word, or comes last. It is Wide exactly where it would
 -- be the 25th. After a Stop only the last Stop is new.
 abbrev pub DoesWrite : ℕ → ℕ → Result (Unit {0}) Stop → WordsSight → WordsSight → Type 0
 DoesWrite at value (Ok _) s t = (¬ IsWide s.writes at) × (t ≡ record s { writes = put_write s.writes (record { at = at; value = value }) })

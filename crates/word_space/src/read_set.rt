@@ -3,7 +3,7 @@ ghost use Rattle.std.specs.Prelude.{◌≡◌, ◌<◌, [], ◌∷◌, ◌++◌,
 use std::alloc::{AllocError, Global};
 use std::marker::Model;
 
-/// The reads of a transaction in their order, each a place and the value that was found there.
+/// The reads of a transaction in their order, each a word's number and the value that was found there.
 #[derive(Drop)]
 pub struct ReadSet {
     items: Vec<(u64, u64)>,
@@ -27,7 +27,7 @@ impl ReadSet {
         }
     }
 
-    /// Notes a read behind the others, also one of a place that was read before.
+    /// Notes a read behind the others, also one of a word that was read before.
     pub fn add(&mut self, at: u64, value: u64) -> Result<(), AllocError>
         ensures ok { OnOk result (self.new ≡ self.old ++ (at, value) ∷ []) }
         ensures err { OnErr result (self.new ≡ self.old) }
@@ -36,14 +36,14 @@ impl ReadSet {
         Ok(())
     }
 
-    /// How many reads were noted; each read of the same place counts.
+    /// How many reads were noted; each read of the same word counts.
     pub fn len(&self) -> u64
         ensures { result ≡ length self.now }
     {
         self.items.len() as u64
     }
 
-    /// The read at place `k`, counted from 0.
+    /// The read at index `k`, counted from 0.
     pub fn get(&self, k: u64) -> (u64, u64)
         requires { k < length self.now }
         ensures { slice_get self.now k ≡ Some result }

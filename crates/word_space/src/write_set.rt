@@ -56,7 +56,7 @@ impl WriteSet {
         self.writes.len()
     }
 
-    /// The write at place `k`, counted from 0.
+    /// The write at index `k`, counted from 0.
     pub fn get(&self, k: u64) -> Write
         requires { k < length self.now }
         ensures { slice_get self.now k ≡ Some result }

@@ -4,7 +4,7 @@ use Rattle.word_space.specs.Sights.{shown}
 use Rattle.word_space.proofs.Runs.{below_back, ran_then}
 use Rattle.record_heap.specs.Pool.{FitsPool, IsPool}
 use Rattle.store_tests.proofs.Drains.{takes_last, takes_more}
-use Rattle.record_heap.proofs.Places.{as_many}
+use Rattle.record_heap.proofs.Records.{as_many}
 use Rattle.store_tests.proofs.callers.take_all.Goals as goal
 
 pub returns-then-is_none-clause-drained : goal.returns-then-is_none-clause-drained

@@ -1,5 +1,6 @@
-use Rattle.std.proofs.Common.{arith, ap, ◌∙◌, ◌+◌, slice_set}
-use Rattle.word_space.proofs.Runs.{below_back, below_looked, shown_looked}
+use Rattle.std.proofs.Common.{arith, ap, ◌∙◌, ◌+◌, slice_set, None, sym, subst}
+use Rattle.word_space.proofs.Runs.{below_back, below_looked, shown_looked, ran_then}
+use Rattle.record_heap.specs.Pool.{FitsPool}
 use Rattle.record_heap.proofs.Calls.{length_shown, most_more, most_then, most_write, wrote_none, wrote_one, wrote_then}
 use Rattle.record_heap.proofs.Pools.{gives_back}
 use Rattle.record_heap.proofs.pool.Pool.give.Goals as goal
@@ -36,3 +37,12 @@ returns-in_err-put_header-clause-most g c = most_then c.in_ok-header.ensures.mos
 
 pub returns-clause-most : goal.returns-clause-most
 returns-clause-most g c = most_then c.in_ok-header.ensures.most (most_then (most_write c.in_ok-write.ensures.writes) c.in_ok-put_header.ensures.most)
+
+pub returns-in_err-header-clause-most : goal.returns-in_err-header-clause-most
+returns-in_err-header-clause-most g c = most_more 2 3 c.in_err-header.ensures.most (omega arith) (omega arith)
+
+pub put_header-requires : goal.put_header-requires
+put_header-requires g c = record { fits = subst (FitsPool c.args.self.now) (sym (c.in_ok-write.ensures.writes.ran.count ∙ c.in_ok-header.ensures.looked.ran.count)) c.requires.fits }
+
+pub returns-clause-ran : goal.returns-clause-ran
+returns-clause-ran g c = ran_then {stop = None} (ran_then {stop = None} c.in_ok-header.ensures.looked.ran c.in_ok-write.ensures.writes.ran) c.in_ok-put_header.ensures.ran

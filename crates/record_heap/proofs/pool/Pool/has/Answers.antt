@@ -1,6 +1,6 @@
 use Rattle.std.proofs.Common.{arith}
 use Rattle.std.proofs.lemmas.Bool.{ltb-true, lt-ltb}
-use Rattle.record_heap.proofs.Places.{record_from, record_passes}
+use Rattle.record_heap.proofs.Records.{record_from, record_passes}
 use Rattle.record_heap.proofs.pool.Pool.has.Goals as goal
 
 pub returns-then-offset-self-eq0 : goal.returns-then-offset-self-eq0

@@ -1,9 +1,9 @@
 use Rattle.std.proofs.Common.{arith, None, ap, sym, ◌∙◌, ◌+◌, subst, slice_index, slice_set}
 use Rattle.std.proofs.lemmas.Bool.{false≢true}
 use Rattle.word_space.specs.Sights.{shown}
-use Rattle.word_space.proofs.Runs.{below_back, below_looked, shown_looked, looked_then}
-use Rattle.record_heap.specs.Pool.{Takes}
-use Rattle.record_heap.proofs.Calls.{length_shown, most_more, most_read, most_then}
+use Rattle.word_space.proofs.Runs.{below_back, below_looked, shown_looked, looked_then, ran_then}
+use Rattle.record_heap.specs.Pool.{Takes, FitsPool, IsRecord}
+use Rattle.record_heap.proofs.Calls.{length_shown, most_more, most_read, most_then, wrote_none, wrote_then}
 use Rattle.record_heap.proofs.Pools.{takes_none, takes_first}
 use Rattle.record_heap.proofs.pool.Pool.take.Goals as goal
 
@@ -42,3 +42,35 @@ returns-in_err-put_header-clause-most g c = most_then c.in_ok-header.ensures.mos
 
 pub returns-clause-most : goal.returns-clause-most
 returns-clause-most g c = most_then c.in_ok-header.ensures.most (most_then (most_read c.in_ok-next.ensures.reads) c.in_ok-put_header.ensures.most)
+
+pub returns-in_err-header-clause-most : goal.returns-in_err-header-clause-most
+returns-in_err-header-clause-most g c = most_more 3 2 c.in_err-header.ensures.most (omega arith) (omega arith)
+
+pub returns-then-not-has-clause-most : goal.returns-then-not-has-clause-most
+returns-then-not-has-clause-most g c = most_more 3 2 c.in_ok-header.ensures.most (omega arith) (omega arith)
+
+pub returns-then-not-has-clause-wrote : goal.returns-then-not-has-clause-wrote
+returns-then-not-has-clause-wrote g c = wrote_none c.in_ok-header.ensures.looked
+
+pub returns-then-not-has-clause-first : goal.returns-then-not-has-clause-first
+returns-then-not-has-clause-first g c = λ array below there.
+    false≢true (c.if-not-has.ensures.1 (subst (IsRecord c.args.self.now) (sym (c.in_ok-header.ensures.words array below).first) there))
+
+pub overflow_add-header : goal.overflow_add-header
+overflow_add-header g c = omega (arith, c.requires.fits.inside _ (c.has.ensures.0 c.if-not-has.false), c.requires.fits.size, (g.met.W.Words.well_formed c.args.w.now).count)
+
+pub read-requires : goal.read-requires
+read-requires g c = record { inside = omega (arith, c.requires.fits.inside _ (c.has.ensures.0 c.if-not-has.false), c.requires.fits.size, c.in_ok-header.ensures.looked.ran.count) }
+
+pub put_header-requires : goal.put_header-requires
+put_header-requires g c = record { fits = subst (FitsPool c.args.self.now) (sym (c.in_ok-next.ensures.reads.looked.ran.count ∙ c.in_ok-header.ensures.looked.ran.count)) c.requires.fits }
+
+pub returns-clause-ran : goal.returns-clause-ran
+returns-clause-ran g c = ran_then {stop = None} (ran_then {stop = None} c.in_ok-header.ensures.looked.ran c.in_ok-next.ensures.reads.looked.ran) c.in_ok-put_header.ensures.ran
+
+pub returns-clause-wrote : goal.returns-clause-wrote
+returns-clause-wrote g c = wrote_then (wrote_none (looked_then {stop = None} c.in_ok-header.ensures.looked c.in_ok-next.ensures.reads.looked)) c.in_ok-put_header.ensures.wrote
+
+pub returns-clause-first : goal.returns-clause-first
+returns-clause-first g c = λ array below.
+    (c.has.ensures.0 c.if-not-has.false, sym (c.in_ok-header.ensures.words array (below_looked {stop = None} c.in_ok-next.ensures.reads.looked (below_back {stop = None} c.in_ok-put_header.ensures.ran below))).first)

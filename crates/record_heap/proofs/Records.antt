@@ -1,4 +1,4 @@
--- The records of a pool: they lie apart, and a list that has each of them once has no other place.
+-- The records of a pool: they lie apart, and a list that has each of them once has nothing else.
 use Rattle.std.proofs.Common.{◌≡◌, ◌≢◌, ℕ, ◌+◌, ◌-◌, ◌*◌, ◌/◌, ◌%◌, ◌<◌, ◌≤◌, ◌⊎◌, inl, inr, List, [], ◌∷◌, length, All, Contains, eqb, false, sym, ap, ◌∙◌, subst, arith}
 use Rattle.std.proofs.Math.Nat.{mul-le-mul_left, mul-mod_right, mul-div_cancel_left, div-add-mod}
 use Rattle.std.proofs.lemmas.Bool.{eqb-false, ne_eqb, cases_eq, cases_lt, cases_order}
@@ -76,7 +76,7 @@ differ_by_recursion x (y ∷ ys) h = ((λ same. eqb-false x y h.0 (sym same)), d
 pub others_differ : (x : ℕ) (xs : List ℕ) → IsDistinct eqb (x ∷ xs) → AllByRecursion (λ y. y ≢ x) xs
 others_differ x xs h = differ_by_recursion x xs (IsDistinct-head eqb x xs h)
 
--- what `has` tests: it is the place of a record
+-- what `has` tests: it is a record
 pub record_from : (pool : Pool) (at offset : ℕ) → offset + pool.first ≡ at → offset % pool.size ≡ 0 → offset / pool.size < pool.count → IsRecord pool at
 record_from pool at offset is even few = record { index = offset / pool.size; below = few; is = omega (arith, is, even, div-add-mod offset pool.size) }
 
