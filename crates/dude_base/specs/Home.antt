@@ -25,9 +25,9 @@ home_tables subscribers calls =
     ∷ record { buckets = calls; records = calls; size = 4 }
     ∷ []
 
-abbrev pub home_words : ℕ → ℕ → ℕ
-home_words subscribers calls = sum_by table_words (home_tables subscribers calls)
+abbrev pub home_length : ℕ → ℕ → ℕ
+home_length subscribers calls = sum_by table_words (home_tables subscribers calls)
 
 -- the pages that the tables need
 abbrev pub pages_for : ℕ → ℕ → ℕ
-pages_for subscribers calls = (home_words subscribers calls + 63) / 64
+pages_for subscribers calls = (home_length subscribers calls + 63) / 64

@@ -6,23 +6,31 @@
 --     word 7                          0
 --     word 8                          the mark: the number up to which the home has all writes
 --     words 9 to 15                   not read
---     16 + (r * cells + c) * 8        the front of cell c of ring r, a line
+--     16 + (r * cells + c) * 8        the start of cell c of ring r, a line
 --     16 + rings * cells * 8 + i      home word i, below pages * 64
 use Rattle.std.specs.Prelude.{ℕ, ◌+◌, ◌*◌, List, [], ◌∷◌}
-use Rattle.dude_base.specs.declared.limits.TheConstants.{HEAD, LINE, PAGE, MAGIC, VERSION}
+use Rattle.dude_base.specs.declared.limits.TheConstants.{HEADER, LINE, PAGE, MAGIC, VERSION}
 use Rattle.dude_base.specs.declared.sizes.Sizes.{Sizes}
 
 -- words 0 to 7
-abbrev pub head_words : Sizes → List ℕ
-head_words s = MAGIC ∷ VERSION ∷ s.subscribers ∷ s.calls ∷ s.rings ∷ s.cells ∷ s.pages ∷ 0 ∷ []
+abbrev pub header_words : Sizes → List ℕ
+header_words s = MAGIC ∷ VERSION ∷ s.subscribers ∷ s.calls ∷ s.rings ∷ s.cells ∷ s.pages ∷ 0 ∷ []
 
--- the front of cell c of ring r
-abbrev pub cell_front : Sizes → ℕ → ℕ → ℕ
-cell_front s r c = HEAD + (r * s.cells + c) * LINE
+-- A cell, by its ring and its slot in the ring.
+pub record Cell : Type 0 where
+  pub ring : ℕ
+  pub slot : ℕ
+
+abbrev pub cell_at : ℕ → ℕ → Cell
+cell_at ring slot = record { ring = ring; slot = slot }
+
+-- where the first word of a cell stands
+abbrev pub cell_start : Sizes → Cell → ℕ
+cell_start s cell = HEADER + (cell.ring * s.cells + cell.slot) * LINE
 
 -- word i of the home
 abbrev pub home_word : Sizes → ℕ → ℕ
-home_word s i = HEAD + s.rings * s.cells * LINE + i
+home_word s i = HEADER + s.rings * s.cells * LINE + i
 
 -- the words of the image, home included; what stands behind them is not read
 abbrev pub image_words : Sizes → ℕ

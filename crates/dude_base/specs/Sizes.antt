@@ -28,18 +28,18 @@ pub record IsAccepted (s : Sizes) : Type 0 where
   pub pages : IsWithin Pages s
 
 -- the order of the fields in the struct
-abbrev pub rank : Field → ℕ
-rank Subscribers = 0
-rank Calls = 1
-rank Rings = 2
-rank Cells = 3
-rank Pages = 4
+abbrev pub field_rank : Field → ℕ
+field_rank Subscribers = 0
+field_rank Calls = 1
+field_rank Rings = 2
+field_rank Cells = 3
+field_rank Pages = 4
 
 -- this field is out of its limits, and each one before it is within them
 pub record IsFirstOut (field : Field) (s : Sizes) : Type 0 where
   pub out : ¬ IsWithin field s
-  pub before : (other : Field) → rank other < rank field → IsWithin other s
+  pub before : (other : Field) → field_rank other < field_rank field → IsWithin other s
 
 -- the sizes with the pages that the tables need
-abbrev pub sized : ℕ → ℕ → ℕ → ℕ → Sizes
-sized subscribers calls rings cells = record { subscribers = subscribers; calls = calls; rings = rings; cells = cells; pages = pages_for subscribers calls }
+abbrev pub sizes_for : ℕ → ℕ → ℕ → ℕ → Sizes
+sizes_for subscribers calls rings cells = record { subscribers = subscribers; calls = calls; rings = rings; cells = cells; pages = pages_for subscribers calls }

@@ -4,7 +4,7 @@ use Rattle.dude_base.specs.declared.limits.TheConstants.{MAX_WRITES}
 use Rattle.dude_base.specs.declared.write_list.WriteList.TheInside.{Inside}
 use Rattle.dude_base.specs.Writes.{HasDistinctPlaces}
 
-pub record IsKept (a : Inside) : Type 0 where
+pub record IsKeptWriteList (a : Inside) : Type 0 where
   pub slots : length a.slots ≡ MAX_WRITES
   pub len : a.len ≤ MAX_WRITES
   pub distinct : HasDistinctPlaces (take a.len a.slots)

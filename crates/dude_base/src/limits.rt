@@ -45,7 +45,7 @@ pub const DEFAULT_BOXES: u64 = 8;
 pub const MAX_NUMBER: u64 = 281_474_976_710_655;
 
 /// Words of an image before its rings.
-pub const HEAD: u64 = 16;
+pub const HEADER: u64 = 16;
 
 /// The first word of an image: the bytes `DUDETMEM`, the least first.
 pub const MAGIC: u64 = 0x4D45_4D54_4544_5544;

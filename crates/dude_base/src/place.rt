@@ -1,8 +1,8 @@
 ghost use Rattle.std.specs.Prelude.{◌≡◌, ◌<◌, ◌≤◌, ◌+◌, ◌*◌};
-ghost use Rattle.dude_base.specs.Image.{cell_front, home_word, image_words};
+ghost use Rattle.dude_base.specs.Image.{cell_at, cell_start, home_word, image_words};
 ghost use Rattle.dude_base.specs.Sizes.{IsAccepted};
 
-use crate::limits::{HEAD, LINE, PAGE};
+use crate::limits::{HEADER, LINE, PAGE};
 use crate::sizes::Sizes;
 use std::marker::Model;
 
@@ -46,11 +46,11 @@ impl Place {
     pub fn cell(&self, ring: u64, cell: u64) -> u64
         requires ring { ring < self.now.rings }
         requires cell { cell < self.now.cells }
-        ensures place { result ≡ cell_front self.now ring cell }
+        ensures place { result ≡ cell_start self.now (cell_at ring cell) }
         ensures inside { result + LINE ≤ home_word self.now 0 }
     {
         let sizes = &self.sizes;
-        HEAD + (ring * sizes.cells + cell) * LINE
+        HEADER + (ring * sizes.cells + cell) * LINE
     }
 
     /// A word of the home.
@@ -60,7 +60,7 @@ impl Place {
         ensures inside { result < image_words self.now }
     {
         let sizes = &self.sizes;
-        HEAD + sizes.rings * sizes.cells * LINE + word
+        HEADER + sizes.rings * sizes.cells * LINE + word
     }
 
     /// The length of the image.
@@ -68,6 +68,6 @@ impl Place {
         ensures { result ≡ image_words self.now }
     {
         let sizes = &self.sizes;
-        HEAD + sizes.rings * sizes.cells * LINE + sizes.pages * PAGE
+        HEADER + sizes.rings * sizes.cells * LINE + sizes.pages * PAGE
     }
 }

@@ -1,7 +1,7 @@
 ghost use Rattle.std.specs.Prelude.{◌≡◌, ◌<◌, ◌≤◌, ◌+◌, ◌*◌, ℕ, IfOk, IfErr, OnOk};
 ghost use Rattle.dude_base.specs.declared.field.Field.{Field};
 ghost use Rattle.dude_base.specs.Home.{up8, table_words, pages_for};
-ghost use Rattle.dude_base.specs.Sizes.{IsAccepted, IsFirstOut, IsFrom, IsWithin, rank, sized};
+ghost use Rattle.dude_base.specs.Sizes.{IsAccepted, IsFirstOut, IsFrom, IsWithin, field_rank, sizes_for};
 
 use crate::field::Field;
 use crate::limits::{LINE, MAX_CALLS, MAX_CELLS, MAX_RINGS, MAX_SUBSCRIBERS, MIN_CELLS, PAGE};
@@ -25,8 +25,8 @@ pub struct Sizes {
 impl Sizes {
     /// The sizes with the pages that these tables need.
     pub fn of(subscribers: u64, calls: u64, rings: u64, cells: u64) -> Result<Sizes, SizeFault>
-        ensures ok { IfOk result (λ s. (s ≡ sized subscribers calls rings cells) × IsAccepted s) }
-        ensures fault { IfErr result (λ e. IsFirstOut e.field (sized subscribers calls rings cells)) }
+        ensures ok { IfOk result (λ s. (s ≡ sizes_for subscribers calls rings cells) × IsAccepted s) }
+        ensures fault { IfErr result (λ e. IsFirstOut e.field (sizes_for subscribers calls rings cells)) }
     {
         let mut sizes = Sizes {
             subscribers,
@@ -56,8 +56,8 @@ impl Sizes {
 
     // The fields but for the pages.
     fn check_counts(&self) -> Result<(), SizeFault>
-        ensures ok { OnOk result ((f : Field) → rank f < rank Field.Pages → IsWithin f self.now) }
-        ensures fault { IfErr result (λ e. IsFirstOut e.field self.now × (rank e.field < rank Field.Pages)) }
+        ensures ok { OnOk result ((f : Field) → field_rank f < field_rank Field.Pages → IsWithin f self.now) }
+        ensures fault { IfErr result (λ e. IsFirstOut e.field self.now × (field_rank e.field < field_rank Field.Pages)) }
     {
         within(Field::Subscribers, self.subscribers, 1, MAX_SUBSCRIBERS)?;
         within(Field::Calls, self.calls, 1, MAX_CALLS)?;

@@ -21,11 +21,11 @@ impl Model for WriteList {
 
     ghost Value = { List Write };
 
-    ghost use Rattle.dude_base.specs.WriteList.{IsKept};
+    ghost use Rattle.dude_base.specs.WriteList.{IsKeptWriteList};
 
     ghost view = { λ a. take a.len a.slots };
 
-    ghost invariant = { IsKept };
+    ghost invariant = { IsKeptWriteList };
 }
 
 impl WriteList {

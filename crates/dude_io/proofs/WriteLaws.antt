@@ -4,14 +4,14 @@ use Rattle.std.proofs.Math.Seq.{take-add}
 use Rattle.dude_io.specs.Sink.{SinkSight, Took}
 
 pub took_none : {s : SinkSight} → Took [] s s
-took_none {s} = record { faults = omega arith; tells = refl; taken = λ told. sym (append-nil s.taken) }
+took_none {s} = record { faults = omega arith; is_visible = refl; taken = λ told. sym (append-nil s.taken) }
 
 -- one list behind another
 pub took-then : {xs ys : List ℕ} {s t u : SinkSight} → Took xs s t → Took ys t u → Took (xs ++ ys) s u
 took-then {xs} {ys} {s} {t} {u} a b = record {
   faults = omega arith;
-  tells = b.tells ∙ a.tells;
-  taken = λ told. b.taken (rw a.tells told) ∙ ap (λ z. z ++ ys) (a.taken told) ∙ append_assoc s.taken xs ys;
+  is_visible = b.is_visible ∙ a.is_visible;
+  taken = λ told. b.taken (rw a.is_visible told) ∙ ap (λ z. z ++ ys) (a.taken told) ∙ append_assoc s.taken xs ys;
 }
 
 -- the front of a list grows by the piece that was taken of its rest

@@ -1,6 +1,6 @@
 -- What clauses see of a medium that tells no content.
 use Rattle.std.specs.Prelude.{ℕ, false, []}
-use Rattle.pmem_trait.specs.Words.{still}
+use Rattle.pmem_trait.specs.Words.{settled_at}
 use Rattle.pmem_trait.specs.Sights.{Sight}
 use Rattle.dude_io.specs.declared.clock.Clock.{Clock}
 
@@ -10,8 +10,8 @@ silent_medium len clock = record {
   len = len;
   now = clock.now;
   faults = clock.faults.count;
-  tells = false;
-  point = λ _. record { word = λ _. still 0; told = [] };
-  lists = false;
+  is_visible = false;
+  state = λ _. record { word = λ _. settled_at 0; told = [] };
+  lists_calls = false;
   made = [];
 }

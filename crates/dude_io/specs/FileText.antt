@@ -12,11 +12,11 @@ IsBounded limit (Whole bytes) = length bytes.items ≤ limit
 IsBounded limit TooLong = ⊤
 
 -- the whole text, or that it is longer than the limit
-abbrev pub ShowsText : ℕ → FileText → List ℕ → Type 0
-ShowsText limit (Whole bytes) text = bytes.items ≡ text
-ShowsText limit TooLong text = limit < length text
+abbrev pub HoldsText : ℕ → FileText → List ℕ → Type 0
+HoldsText limit (Whole bytes) text = bytes.items ≡ text
+HoldsText limit TooLong text = limit < length text
 
 -- a fault of the files comes only where their count rose; want of memory is free
-abbrev pub HasCause : ℕ → ℕ → FileFault → Type 0
-HasCause old new Failed = Risen old new
-HasCause old new NoMemory = ⊤
+abbrev pub IsReadFault : ℕ → ℕ → FileFault → Type 0
+IsReadFault old new Failed = Risen old new
+IsReadFault old new NoMemory = ⊤

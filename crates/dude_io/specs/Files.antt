@@ -7,17 +7,17 @@ use Rattle.pmem_trait.specs.Sights.{Risen}
 -- each file by the bytes of its name, none where it isn't there
 pub record FilesSight : Type 0 where
   pub faults : ℕ
-  pub tells : Bool
+  pub is_visible : Bool
   pub text : List ℕ → Option (List ℕ)
 
 -- the count of faults doesn't fall, and the texts stay
 pub record FilesStay (s t : FilesSight) : Type 0 where
   pub faults : s.faults ≤ t.faults
-  pub tells : t.tells ≡ s.tells
-  pub text : IsTrue s.tells → t.text ≡ s.text
+  pub is_visible : t.is_visible ≡ s.is_visible
+  pub text : IsTrue s.is_visible → t.text ≡ s.text
 
 -- a buffer begins with n bytes of the text from `at` on, is as it was behind them, and n is 0 only at the end
-pub record Gives (text : List ℕ) (at n : ℕ) (old new : List ℕ) : Type 0 where
+pub record GivesBytes (text : List ℕ) (at n : ℕ) (old new : List ℕ) : Type 0 where
   pub within : n ≤ length text - at
   pub bytes : take n new ≡ take n (drop at text)
   pub behind : drop n new ≡ drop n old
@@ -27,9 +27,9 @@ pub record Gives (text : List ℕ) (at n : ℕ) (old new : List ℕ) : Type 0 wh
 pub record Gave (name : List ℕ) (at n : ℕ) (old new : List ℕ) (s t : FilesSight) : Type 0 where
   pub stays : FilesStay s t
   pub most : n ≤ length old
-  pub told : IsTrue s.tells → IsSomeAnd (s.text name) (λ text. Gives text at n old new)
+  pub told : IsTrue s.is_visible → IsSomeAnd (s.text name) (λ text. GivesBytes text at n old new)
 
 -- one read: it is answered, or it failed, and then the count of faults rose
-abbrev pub Reads : List ℕ → ℕ → List ℕ → List ℕ → Result ℕ Failed → FilesSight → FilesSight → Type 0
-Reads name at old new (Ok n) s t = Gave name at n old new s t
-Reads name at old new (Err e) s t = FilesStay s t × Risen s.faults t.faults
+abbrev pub ReadsFile : List ℕ → ℕ → List ℕ → List ℕ → Result ℕ Failed → FilesSight → FilesSight → Type 0
+ReadsFile name at old new (Ok n) s t = Gave name at n old new s t
+ReadsFile name at old new (Err e) s t = FilesStay s t × Risen s.faults t.faults

@@ -9,7 +9,7 @@ use Rattle.dude_io.specs.Script.{IsNewScript}
 
 -- they tell their texts
 abbrev pub files_sight : MemFiles → FilesSight
-files_sight m = record { faults = m.script.faults.count; tells = true; text = text_of m.files.items }
+files_sight m = record { faults = m.script.faults.count; is_visible = true; text = text_of m.files.items }
 
 -- which calls fail, and how much a read gives
 abbrev pub files_script : MemFiles → Script

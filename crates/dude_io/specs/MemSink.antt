@@ -7,7 +7,7 @@ use Rattle.dude_io.specs.Script.{IsNewScript}
 
 -- it tells what it took
 abbrev pub sink_sight : MemSink → SinkSight
-sink_sight m = record { faults = m.script.faults.count; tells = true; taken = m.taken.items }
+sink_sight m = record { faults = m.script.faults.count; is_visible = true; taken = m.taken.items }
 
 -- which calls fail, and how much a write takes
 abbrev pub sink_script : MemSink → Script

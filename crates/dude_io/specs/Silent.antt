@@ -6,10 +6,10 @@ use Rattle.dude_io.specs.Files.{FilesSight}
 use Rattle.dude_io.specs.Sink.{SinkSight}
 
 abbrev pub silent_files : ℕ → FilesSight
-silent_files faults = record { faults = faults; tells = false; text = λ _. None }
+silent_files faults = record { faults = faults; is_visible = false; text = λ _. None }
 
 abbrev pub silent_sink : ℕ → SinkSight
-silent_sink faults = record { faults = faults; tells = false; taken = [] }
+silent_sink faults = record { faults = faults; is_visible = false; taken = [] }
 
 -- the files of the system
 abbrev pub real_files_sight : {R F D : Type 0} → RealFiles R F D → FilesSight

@@ -6,25 +6,25 @@ use Rattle.pmem_trait.specs.Sights.{Risen}
 -- what may be known of a sink: the count of its faults, whether the bytes taken are told, and these bytes
 pub record SinkSight : Type 0 where
   pub faults : ℕ
-  pub tells : Bool
+  pub is_visible : Bool
   pub taken : List ℕ
 
 -- the sink took just these bytes, behind those that it had; the count of faults doesn't fall
 pub record Took (bytes : List ℕ) (s t : SinkSight) : Type 0 where
   pub faults : s.faults ≤ t.faults
-  pub tells : t.tells ≡ s.tells
-  pub taken : IsTrue s.tells → t.taken ≡ s.taken ++ bytes
+  pub is_visible : t.is_visible ≡ s.is_visible
+  pub taken : IsTrue s.is_visible → t.taken ≡ s.taken ++ bytes
 
 -- a write that was answered: it took a front of the piece that isn't empty
-pub record TookFront (piece : List ℕ) (n : ℕ) (s t : SinkSight) : Type 0 where
+pub record TookSome (piece : List ℕ) (n : ℕ) (s t : SinkSight) : Type 0 where
   pub some : 1 ≤ n
   pub most : n ≤ length piece
   pub took : Took (take n piece) s t
 
 -- one write: it is answered, or it took nothing, and then the count of faults rose
-abbrev pub Writes : List ℕ → Result ℕ Failed → SinkSight → SinkSight → Type 0
-Writes piece (Ok n) s t = TookFront piece n s t
-Writes piece (Err e) s t = Took [] s t × Risen s.faults t.faults
+abbrev pub WritesSink : List ℕ → Result ℕ Failed → SinkSight → SinkSight → Type 0
+WritesSink piece (Ok n) s t = TookSome piece n s t
+WritesSink piece (Err e) s t = Took [] s t × Risen s.faults t.faults
 
 -- a list of which a front was taken, but not the whole, before the count of faults rose
 pub record TookPart (bytes : List ℕ) (s t : SinkSight) : Type 0 where

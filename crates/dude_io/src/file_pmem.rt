@@ -67,7 +67,7 @@ impl<R: FileSystem + Eprint> Medium for FilePmem<R> {
     ghost use Rattle.std.specs.Prelude.{◌≡◌, ◌+◌, ◌-◌, ◌*◌, ◌^◌, ◌<◌, ◌≤◌, ◌==◌, nat_lt, is_ok, IfOk, IsTrue, OnOk, if◌then◌else◌};
     ghost use Rattle.pmem_trait.specs.declared.call.Call.TheVariants.{Read, Put, Flush, Fence, Tell};
     ghost use Rattle.pmem_trait.specs.Words.{value_of};
-    ghost use Rattle.pmem_trait.specs.Sights.{here, Goes};
+    ghost use Rattle.pmem_trait.specs.Sights.{state_now, OneCall};
     ghost use Rattle.dude_io.specs.FaultCount.{faults_after};
     ghost use Rattle.dude_io.specs.FilePmem.{pmem_sight, pmem_room};
     ghost use Rattle.std.proofs.Common.{rules};
@@ -84,8 +84,8 @@ impl<R: FileSystem + Eprint> Medium for FilePmem<R> {
 
     fn read(&mut self, at: u64) -> Result<u64, Failed>
         requires { at < (pmem_sight self.old).len }
-        ensures goes { Goes (Read at) (is_ok result) (pmem_sight self.old) (pmem_sight self.new) }
-        ensures value { IfOk result (λ v. IsTrue (pmem_sight self.old).tells → v ≡ value_of ((here (pmem_sight self.old)).word at)) }
+        ensures goes { OneCall (Read at) (is_ok result) (pmem_sight self.old) (pmem_sight self.new) }
+        ensures value { IfOk result (λ v. IsTrue (pmem_sight self.old).is_visible → v ≡ value_of ((state_now (pmem_sight self.old)).word at)) }
         ensures faults { (pmem_sight self.new).faults ≡ faults_after (is_ok result) (pmem_sight self.old).faults }
     {
         if !self.clock.tick() {
@@ -96,7 +96,7 @@ impl<R: FileSystem + Eprint> Medium for FilePmem<R> {
 
     fn put(&mut self, at: u64, value: u64) -> Result<(), Failed>
         requires { at < (pmem_sight self.old).len }
-        ensures goes { Goes (Put at value) (is_ok result) (pmem_sight self.old) (pmem_sight self.new) }
+        ensures goes { OneCall (Put at value) (is_ok result) (pmem_sight self.old) (pmem_sight self.new) }
         ensures faults { (pmem_sight self.new).faults ≡ faults_after (is_ok result) (pmem_sight self.old).faults }
     {
         if !self.clock.tick() {
@@ -108,7 +108,7 @@ impl<R: FileSystem + Eprint> Medium for FilePmem<R> {
 
     fn flush(&mut self, line: u64) -> Result<(), Failed>
         requires { 8 * line + 8 ≤ (pmem_sight self.old).len }
-        ensures goes { Goes (Flush line) (is_ok result) (pmem_sight self.old) (pmem_sight self.new) }
+        ensures goes { OneCall (Flush line) (is_ok result) (pmem_sight self.old) (pmem_sight self.new) }
         ensures faults { (pmem_sight self.new).faults ≡ faults_after (is_ok result) (pmem_sight self.old).faults }
 
         // Where there is room for the note, it fails only since no moment is left.
@@ -127,7 +127,7 @@ impl<R: FileSystem + Eprint> Medium for FilePmem<R> {
     }
 
     fn fence(&mut self) -> Result<(), Failed>
-        ensures goes { Goes Fence (is_ok result) (pmem_sight self.old) (pmem_sight self.new) }
+        ensures goes { OneCall Fence (is_ok result) (pmem_sight self.old) (pmem_sight self.new) }
         ensures faults { (pmem_sight self.new).faults ≡ faults_after (is_ok result) (pmem_sight self.old).faults }
         ensures room { OnOk result (pmem_room self.new ≡ 4096) }
     {
@@ -142,7 +142,7 @@ impl<R: FileSystem + Eprint> Medium for FilePmem<R> {
     }
 
     fn tell(&mut self, number: u64) -> Result<(), Failed>
-        ensures goes { Goes (Tell number) (is_ok result) (pmem_sight self.old) (pmem_sight self.new) }
+        ensures goes { OneCall (Tell number) (is_ok result) (pmem_sight self.old) (pmem_sight self.new) }
         ensures faults { (pmem_sight self.new).faults ≡ faults_after (is_ok result) (pmem_sight self.old).faults }
     {
         if !self.clock.tick() {

@@ -1,5 +1,5 @@
 ghost use Rattle.std.specs.Prelude.{◌<◌, length};
-ghost use Rattle.dude_io.specs.Files.{FilesSight, Reads};
+ghost use Rattle.dude_io.specs.Files.{FilesSight, ReadsFile};
 
 use pmem_trait::Failed;
 
@@ -13,5 +13,5 @@ pub trait Files {
     /// and `into` may hold anything.
     fn read(&mut self, name: &str, at: u64, into: &mut [u8]) -> Result<u64, Failed>
         requires { 0 < length into.old }
-        ensures { Reads name.now at into.old into.new result (sight self.old) (sight self.new) };
+        ensures { ReadsFile name.now at into.old into.new result (sight self.old) (sight self.new) };
 }

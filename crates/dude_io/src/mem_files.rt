@@ -1,6 +1,6 @@
 ghost use Rattle.std.specs.Prelude.{◌≡◌, ◌<◌, ◌≤◌, ◌-◌, min, length};
 ghost use Rattle.std.specs.Option.{option_copied};
-ghost use Rattle.dude_io.specs.Files.{Gives};
+ghost use Rattle.dude_io.specs.Files.{GivesBytes};
 ghost use Rattle.dude_io.specs.MemFile.{text_of};
 
 use crate::Files;
@@ -35,7 +35,7 @@ impl MemFiles {
 impl Files for MemFiles {
     ghost use Rattle.std.specs.Prelude.{◌≡◌, ◌<◌, ◌-◌, min, length, is_ok, is_err, is_none, ◌||◌, IfOk, IfSome};
     ghost use Rattle.dude_io.specs.FaultCount.{faults_after};
-    ghost use Rattle.dude_io.specs.Files.{Reads};
+    ghost use Rattle.dude_io.specs.Files.{ReadsFile};
     ghost use Rattle.dude_io.specs.Script.{is_to_fail, CountsCall};
     ghost use Rattle.dude_io.specs.MemFiles.{files_sight, files_script};
 
@@ -43,7 +43,7 @@ impl Files for MemFiles {
 
     fn read(&mut self, name: &str, at: u64, into: &mut [u8]) -> Result<u64, Failed>
         requires { 0 < length into.old }
-        ensures reads { Reads name.now at into.old into.new result (files_sight self.old) (files_sight self.new) }
+        ensures reads { ReadsFile name.now at into.old into.new result (files_sight self.old) (files_sight self.new) }
 
         // It fails exactly where it is to fail or the file isn't there.
         ensures fails { is_err result ≡ (is_to_fail (files_script self.old) || is_none ((files_sight self.old).text name.now)) }
@@ -78,7 +78,7 @@ fn text_in<'a>(files: &'a [MemFile], name: &str) -> Option<&'a [u8]>
 fn give(text: &[u8], at: u64, into: &mut [u8], chunk: u64) -> u64
     requires room { 0 < length into.old }
     requires some { 1 ≤ chunk }
-    ensures gives { Gives text.now at result into.old into.new }
+    ensures gives { GivesBytes text.now at result into.old into.new }
     ensures most { result ≡ min chunk (min (length into.old) (length text.now - at)) }
 {
     let rest = &text[at.min(text.len() as u64) as usize..];

@@ -44,7 +44,7 @@ impl MemSink {
 impl Sink for MemSink {
     ghost use Rattle.std.specs.Prelude.{◌≡◌, ◌<◌, ◌-◌, ◌==◌, min, length, is_ok, is_err, ◌||◌, IfOk};
     ghost use Rattle.dude_io.specs.FaultCount.{faults_after};
-    ghost use Rattle.dude_io.specs.Sink.{Writes};
+    ghost use Rattle.dude_io.specs.Sink.{WritesSink};
     ghost use Rattle.dude_io.specs.Script.{is_to_fail, CountsCall};
     ghost use Rattle.dude_io.specs.MemSink.{sink_sight, sink_script, room_left};
 
@@ -52,7 +52,7 @@ impl Sink for MemSink {
 
     fn write(&mut self, piece: &[u8]) -> Result<u64, Failed>
         requires { 0 < length piece.now }
-        ensures writes { Writes piece.now result (sink_sight self.old) (sink_sight self.new) }
+        ensures writes { WritesSink piece.now result (sink_sight self.old) (sink_sight self.new) }
 
         // It fails exactly where it is to fail or no room is left.
         ensures fails { is_err result ≡ (is_to_fail (sink_script self.old) || room_left self.old == 0) }

@@ -1,6 +1,6 @@
 ghost use Rattle.std.specs.Prelude.{IfOk, IfErr, IsTrue, IsSomeAnd};
 ghost use Rattle.dude_io.specs.Files.{FilesStay};
-ghost use Rattle.dude_io.specs.FileText.{IsBounded, HasCause, ShowsText};
+ghost use Rattle.dude_io.specs.FileText.{IsBounded, IsReadFault, HoldsText};
 
 use crate::{FileFault, FileText, Files};
 use std::alloc::Global;
@@ -21,9 +21,9 @@ pub fn read_file<F: Files>(
     ensures bounded { IfOk result (IsBounded limit) }
 
     // Where the texts are told, a file that isn't there has no text, and is too long exactly over the limit.
-    ensures text { IfOk result (λ found. IsTrue (F.sight files.old).tells →
-        IsSomeAnd ((F.sight files.old).text name.now) (ShowsText limit found)) }
-    ensures cause { IfErr result (HasCause (F.sight files.old).faults (F.sight files.new).faults) }
+    ensures text { IfOk result (λ found. IsTrue (F.sight files.old).is_visible →
+        IsSomeAnd ((F.sight files.old).text name.now) (HoldsText limit found)) }
+    ensures cause { IfErr result (IsReadFault (F.sight files.old).faults (F.sight files.new).faults) }
 {
     let mut bytes = Vec::new(alloc);
     let mut piece = [0; PIECE];

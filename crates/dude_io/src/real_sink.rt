@@ -27,7 +27,7 @@ impl<R: Print> RealSink<R> {
 impl<R: Print> Sink for RealSink<R> {
     ghost use Rattle.std.specs.Prelude.{◌≡◌, ◌<◌, length, is_ok};
     ghost use Rattle.dude_io.specs.FaultCount.{faults_after};
-    ghost use Rattle.dude_io.specs.Sink.{Writes};
+    ghost use Rattle.dude_io.specs.Sink.{WritesSink};
     ghost use Rattle.dude_io.specs.Silent.{real_sink_sight};
 
     ghost sight = { real_sink_sight };
@@ -35,7 +35,7 @@ impl<R: Print> Sink for RealSink<R> {
     /// Nothing taken is a fault too.
     fn write(&mut self, piece: &[u8]) -> Result<u64, Failed>
         requires { 0 < length piece.now }
-        ensures writes { Writes piece.now result (real_sink_sight self.old) (real_sink_sight self.new) }
+        ensures writes { WritesSink piece.now result (real_sink_sight self.old) (real_sink_sight self.new) }
         ensures faults { (real_sink_sight self.new).faults ≡ faults_after (is_ok result) (real_sink_sight self.old).faults }
     {
         match self.rt.write_some(piece) {

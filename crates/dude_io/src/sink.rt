@@ -1,5 +1,5 @@
 ghost use Rattle.std.specs.Prelude.{◌<◌, length};
-ghost use Rattle.dude_io.specs.Sink.{SinkSight, Writes};
+ghost use Rattle.dude_io.specs.Sink.{SinkSight, WritesSink};
 
 use pmem_trait::Failed;
 
@@ -11,5 +11,5 @@ pub trait Sink {
     /// Takes a front of the piece, at least one byte, and answers how many. At an `Err` it took nothing.
     fn write(&mut self, piece: &[u8]) -> Result<u64, Failed>
         requires { 0 < length piece.now }
-        ensures { Writes piece.now result (sight self.old) (sight self.new) };
+        ensures { WritesSink piece.now result (sight self.old) (sight self.new) };
 }

@@ -2,8 +2,8 @@
 use Rattle.std.proofs.Common.{◌≡◌, ℕ, ◌<◌, ◌≤◌, IsTrue, List, [], ◌∷◌, ◌++◌, length, take, refl, sym, ◌∙◌, ap, subst, arith, inl, inr, ◌⊎◌, Option, Some, None, append-nil}
 use Rattle.std.specs.Prelude.{◌↔◌, IsSome}
 use Rattle.std.proofs.Math.Seq.{drop-length, take-append_seam}
-use Rattle.pmem_trait.specs.Sights.{Sight, here, Risen}
-use Rattle.pmem_trait.proofs.Laws.{keeps_here}
+use Rattle.pmem_trait.specs.Sights.{Sight, state_now, Risen}
+use Rattle.pmem_trait.proofs.Laws.{every_moment_here}
 use Rattle.tatp_model.specs.declared.done.Done.{Done}
 use Rattle.tatp_model.specs.declared.request.Request.{Request}
 use Rattle.dude_text.specs.declared.fault.Fault.{Fault}
@@ -18,7 +18,7 @@ use Rattle.dude_program.specs.Headline.{Replies, Crash, End, RecoversSince, last
 use Rattle.dude_program.specs.Plans.{IsPlan, HasPlanFault}
 use Rattle.dude_program.specs.Outcome.{CarriesOut, RanUnlessDevice}
 use Rattle.dude_program.specs.Printing.{StopsIn, PrintsOutcome}
-use Rattle.dude_program.specs.Causes.{world_of, words_needed, HasCause, StoppedAtFiles, MissesFile, RefusesMissing, RefusesBadFile, RefusesSmall, IsComplete, OnAllDone, AllDone, EndsDone, OnRefusal, Bytes}
+use Rattle.dude_program.specs.Causes.{world_of, words_needed, HasCause, StoppedAtFiles, MissesFile, RefusesMissing, RefusesBadFile, RefusesSmall, SucceedsIfGood, OnAllDone, AllDone, EndsDone, OnRefusal, Bytes}
 use Rattle.dude_program.specs.Ending.{Ends}
 use Rattle.dude_program.proofs.Runs.{going_none, serves_front}
 use Rattle.dude_program.proofs.Outcomes.{calls_none}
@@ -40,7 +40,7 @@ crash_nothing : (own : Meaning) (s : Sight) → Crash own [] s s
 crash_nothing own s = record {
   order = [];
   printed = (serves_front (going_none 1) ([], refl)).1;
-  keeps = keeps_here (RecoversSince (length (here s).told) own []) (λ tells. record { each = λ image is. inl (drop-length (here s).told) });
+  keeps = every_moment_here (RecoversSince (length (state_now s).told) own []) (λ visible. record { each = λ image is. inl (drop-length (state_now s).told) });
 }
 
 -- what is known alike where words or files were refused
@@ -49,7 +49,7 @@ refused : {meaning : Option Meaning} {s : Sight} {f g : FilesSight} {k : SinkSig
     → OnAllDone (Some fault) (AllDone meaning (world_of s f k) []) → OnAllDone (Some fault) (EndsDone meaning (world_of s f k) (world_of s g k) [])
     → HasCause meaning (world_of s f k) (world_of s g k) (Some fault) → (◌≡◌ {A = Option Fault} (Some fault) (Some Usage)) ↔ (meaning ≡ None)
     → RefusesBadFile meaning (world_of s f k) (Some fault) → RefusesSmall meaning (world_of s f k) (Some fault)
-    → IsComplete meaning (world_of s f k) (world_of s g k) (Some fault)
+    → SucceedsIfGood meaning (world_of s f k) (world_of s g k) (Some fault)
     → (◌≡◌ {A = Option Fault} (Some fault) (Some Device) → ⊥)
     → (meaning ≡ None → g ≡ f) → RefusesMissing meaning (world_of s f k) (Some fault)
     → Ends meaning (world_of s f k) (world_of s g k) [] (Some fault)
@@ -86,21 +86,21 @@ pub ends_refused : {meaning : Option Meaning} {s : Sight} {f g : FilesSight} {k 
 ends_refused {meaning} Usage files h =
     let none = h.0 in
     refused Usage files (λ own is. refl) tt tt none (λ _. none, λ _. refl)
-    (λ own is tells bad. absurd (let no : ⊥ = cc in no)) (λ own is short. absurd (let no : ⊥ = cc in no))
-    (λ own requests is tells good long a b c. absurd (let no : ⊥ = cc in no)) (λ e. let no : ⊥ = cc in no)
-    (λ _. h.1) (λ own is tells misses. absurd (let no : ⊥ = cc in no))
+    (λ own is visible bad. absurd (let no : ⊥ = cc in no)) (λ own is short. absurd (let no : ⊥ = cc in no))
+    (λ own requests is visible good long a b c. absurd (let no : ⊥ = cc in no)) (λ e. let no : ⊥ = cc in no)
+    (λ _. h.1) (λ own is visible misses. absurd (let no : ⊥ = cc in no))
 ends_refused (File n) files h =
     let one : ◌≡◌ {A = Option Fault} (Some (File n)) (Some (File 1)) = ap (λ (k : ℕ). let o : Option Fault = Some (File k) in o) h.1 in
     refused (File n) files (λ own is. refl) tt tt (h.1, h.2) (not_usage (Some (File n)) (λ e. let no : ⊥ = cc in no) h.0)
-    (λ own is tells bad. inr (inl one)) (λ own is short. inr (inr (inl one)))
-    (λ own requests is tells good long a b c. absurd (b h.2)) (λ e. let no : ⊥ = cc in no)
-    (λ none. absurd (means _ h.0 none)) (λ own is tells misses. inl one)
+    (λ own is visible bad. inr (inl one)) (λ own is short. inr (inr (inl one)))
+    (λ own requests is visible good long a b c. absurd (b h.2)) (λ e. let no : ⊥ = cc in no)
+    (λ none. absurd (means _ h.0 none)) (λ own is visible misses. inl one)
 ends_refused {meaning} {f = f} (Text n r c) files h =
     let same : ◌≡◌ {A = Option Fault} (Some (Text n r c)) (Some (Text 1 0 0)) = text_is h.1 h.2 h.3 in
     refused (Text n r c) files (λ own is. refl) tt tt (h.1, h.2, h.3, h.4) (not_usage (Some (Text n r c)) (λ e. let no : ⊥ = cc in no) h.0)
-    (λ own is tells bad. inl same) (λ own is short. inr (inl same))
-    (λ own requests is tells good long x y z. absurd (contradicts own requests is good (h.4 tells))) (λ e. let no : ⊥ = cc in no)
-    (λ none. absurd (means _ h.0 none)) (λ own is tells misses. absurd (bad_not_missing own f (is_bad own is (h.4 tells)) misses))
+    (λ own is visible bad. inl same) (λ own is short. inr (inl same))
+    (λ own requests is visible good long x y z. absurd (contradicts own requests is good (h.4 visible))) (λ e. let no : ⊥ = cc in no)
+    (λ none. absurd (means _ h.0 none)) (λ own is visible misses. absurd (bad_not_missing own f (is_bad own is (h.4 visible)) misses))
   where
     text_is : {n r c : ℕ} → n ≡ 1 → r ≡ 0 → c ≡ 0 → ◌≡◌ {A = Option Fault} (Some (Text n r c)) (Some (Text 1 0 0))
     text_is a b d = cc
@@ -113,9 +113,9 @@ ends_refused {meaning} {f = f} (Text n r c) files h =
     contradicts : (own : Meaning) (requests : List (List Request)) → meaning ≡ Some own → FilesMean own f requests → (other : Meaning) × (meaning ≡ Some other) × HasBadFile other f → ⊥
     contradicts own requests is good bad = good_not_bad own f requests good (is_bad own is bad)
 ends_refused {k = k} Memory files some =
-    refused Memory files (λ own is tells. (0, sym (append-nil k.taken))) tt tt tt (not_usage (Some Memory) (λ e. let no : ⊥ = cc in no) some)
-    (λ own is tells bad. inr (inr refl)) (λ own is short. inr (inr (inr refl))) (λ own requests is tells good long a b c. inr refl)
-    (λ e. let no : ⊥ = cc in no) (λ none. absurd (means _ some none)) (λ own is tells misses. inr refl)
+    refused Memory files (λ own is visible. (0, sym (append-nil k.taken))) tt tt tt (not_usage (Some Memory) (λ e. let no : ⊥ = cc in no) some)
+    (λ own is visible bad. inr (inr refl)) (λ own is short. inr (inr (inr refl))) (λ own requests is visible good long a b c. inr refl)
+    (λ e. let no : ⊥ = cc in no) (λ none. absurd (means _ some none)) (λ own is visible misses. inr refl)
 ends_refused (Small a b) files h = absurd h
 ends_refused (TooFew a b) files h = absurd h
 ends_refused Unformatted files h = absurd h
@@ -154,11 +154,11 @@ tried {meaning} {S} {requests} {done} {last} {earlier} {s} {t} {f} {g} {k} {l} f
   cause = cause;
   usage = (λ is. absurd (other is), λ none. absurd (let e = it.plan.meant in let no : ⊥ = cc in no));
   refused_words = λ none. absurd (let e = it.plan.meant in let no : ⊥ = cc in no);
-  missing = λ own is tells misses. absurd (good_not_missing own f (requests ∷ []) (subst (λ (m : Meaning). FilesMean m f (requests ∷ [])) (same own is) (it.plan.read tells)) misses);
-  bad_file = λ own is tells bad. absurd (good_not_bad own f (requests ∷ []) (subst (λ (m : Meaning). FilesMean m f (requests ∷ [])) (same own is) (it.plan.read tells)) bad);
+  missing = λ own is visible misses. absurd (good_not_missing own f (requests ∷ []) (subst (λ (m : Meaning). FilesMean m f (requests ∷ [])) (same own is) (it.plan.read visible)) misses);
+  bad_file = λ own is visible bad. absurd (good_not_bad own f (requests ∷ []) (subst (λ (m : Meaning). FilesMean m f (requests ∷ [])) (same own is) (it.plan.read visible)) bad);
   too_small = λ own is short. subst (λ (m : Meaning). (fault ≡ Some (Small s.len (words_needed m))) ⊎ StoppedAtFiles fault) (same own is)
       (small (subst (λ (m : Meaning). s.len < words_needed m) (sym (same own is)) short));
-  complete = λ own reqs is tells good long a b c. complete (subst (λ (m : Meaning). words_needed m ≤ s.len) (sym (same own is)) long) a c;
+  complete = λ own reqs is visible good long a b c. complete (subst (λ (m : Meaning). words_needed m ≤ s.len) (sym (same own is)) long) a c;
   untouched = untouched;
   ran = ran;
   files = it.files;
@@ -175,9 +175,9 @@ all_done {S = S} {requests = requests} k it =
 
 ends_done : {meaning : Option Meaning} {S : ℕ} {requests : List Request} {done : List Done} {last : ℕ} {s t : Sight} {f g : FilesSight} (k l : SinkSight)
     → Tried meaning S requests done last None s t f g → EndsDone meaning (world_of s f k) (world_of t g l) done
-ends_done {S = S} {done = done} {s = s} {t = t} k l it own is tells =
+ends_done {S = S} {done = done} {s = s} {t = t} k l it own is visible =
     let same : FreshRun S it.plan.file ≡ own = (let e = it.plan.meant in cc) in
-    subst (λ (m : Meaning). End m done s t) same (it.carried.end refl tells)
+    subst (λ (m : Meaning). End m done s t) same (it.carried.end refl visible)
 
 -- A fault ended the plan before its output.
 pub ends_faulted : {meaning : Option Meaning} {S : ℕ} {requests : List Request} {done : List Done} {last : ℕ} {s t : Sight} {f g : FilesSight} {k : SinkSight} (earlier : Fault)
@@ -190,7 +190,7 @@ ends_faulted {S = S} {s = s} (Small has needs) it =
     small_is : {a b n m : ℕ} → a ≡ b → n ≡ m → ◌≡◌ {A = Option Fault} (Some (Small a n)) (Some (Small b m))
     small_is p q = cc
 ends_faulted {k = k} Memory it =
-    tried (Some Memory) it tt (λ tells. (0, sym (append-nil k.taken))) tt tt (λ e. let no : ⊥ = cc in no) (λ short. inr (inr (inr refl))) (λ long a b. inr refl)
+    tried (Some Memory) it tt (λ visible. (0, sym (append-nil k.taken))) tt tt (λ e. let no : ⊥ = cc in no) (λ short. inr (inr (inr refl))) (λ long a b. inr refl)
     (λ low high. (it.carried.cause.1, it.carried.cause.0)) it.carried.ran
 ends_faulted Device it =
     let c = it.carried.cause in
@@ -213,7 +213,7 @@ ends_faulted Output it = absurd it.carried.cause
 pub ends_whole : {meaning : Option Meaning} {S : ℕ} {requests : List Request} {done : List Done} {last : ℕ} {s t : Sight} {f g : FilesSight} {k l : SinkSight}
     → Tried meaning S requests done last None s t f g → Took (output_of done last) k l → Ends meaning (world_of s f k) (world_of t g l) done None
 ends_whole {done = done} {k = k} {l = l} it took =
-    tried None it (all_done k it) (λ tells. took.taken tells ∙ ap (λ (n : ℕ). k.taken ++ output_of done n) (it.carried.last_is refl)) (ends_done k l it) tt (λ e. let no : ⊥ = cc in no)
+    tried None it (all_done k it) (λ visible. took.taken visible ∙ ap (λ (n : ℕ). k.taken ++ output_of done n) (it.carried.last_is refl)) (ends_done k l it) tt (λ e. let no : ⊥ = cc in no)
     (λ short. absurd (omega (arith, it.carried.cause))) (λ long a b. inl refl) (λ low high. absurd (omega arith)) it.carried.ran
 
 -- the calls before a fault that isn't the medium's
@@ -222,10 +222,10 @@ calls_well ran other = (ran.0, ran.1, (λ failed. absurd (let e = ran.2.0 failed
 
 -- the front of the output that was taken
 took_front : (done : List Done) (last : ℕ) {k l : SinkSight} {fault : Fault} → last ≡ last_of 0 done → StopsIn (output_of done last) k l fault
-    → IsTrue k.tells → (n : ℕ) × (l.taken ≡ k.taken ++ take n (output_of done (last_of 0 done)))
-took_front done last {k} {l} is stops tells = (
+    → IsTrue k.is_visible → (n : ℕ) × (l.taken ≡ k.taken ++ take n (output_of done (last_of 0 done)))
+took_front done last {k} {l} is stops visible = (
   length stops.front,
-  stops.took.taken tells ∙ ap (λ (x : List ℕ). k.taken ++ x)
+  stops.took.taken visible ∙ ap (λ (x : List ℕ). k.taken ++ x)
       (sym (ap (λ (n : ℕ). take (length stops.front) (output_of done n)) (sym is) ∙ (ap (take (length stops.front)) stops.split ∙ take-append_seam stops.front stops.rest))),
 )
 

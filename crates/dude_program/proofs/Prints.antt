@@ -9,7 +9,7 @@ use Rattle.pmem_trait.proofs.Runs.{risen_later}
 use Rattle.tatp_model.specs.declared.done.Done.{Done}
 use Rattle.dude_text.specs.declared.fault.Fault.{Fault}
 use Rattle.dude_text.specs.declared.fault.Fault.TheVariants.{Output, Memory}
-use Rattle.dude_text.specs.Output.{line_of, last_line, output_of}
+use Rattle.dude_text.specs.Output.{output_line, last_line, output_of}
 use Rattle.dude_io.specs.Sink.{SinkSight, Took, TookPart}
 use Rattle.dude_io.proofs.WriteLaws.{took_none, took-then}
 use Rattle.dude_program.specs.Printing.{Collects, StopsIn}
@@ -46,30 +46,30 @@ later_stops {fault} {text} all more front {s} {t} {u} whole took h = record {
 -- What was taken and what is held back are the lines of the first so many requests.
 pub record Printed (done : List Done) (i : ℕ) (held : List ℕ) (s t : SinkSight) : Type 0 where
   pub front : List ℕ
-  pub lines : front ++ held ≡ flat_map line_of (take i done)
+  pub lines : front ++ held ≡ flat_map output_line (take i done)
   pub took : Took front s t
 
 pub printed_none : (done : List Done) (s : SinkSight) → Printed done 0 [] s s
 printed_none done s = record { front = []; lines = refl; took = took_none }
 
-pub printed_more : (done : List Done) (i : ℕ) (d : Done) {line held next : List ℕ} {s t u : SinkSight} → i < length done → line ≡ line_of (get_or done i d)
+pub printed_more : (done : List Done) (i : ℕ) (d : Done) {line held next : List ℕ} {s t u : SinkSight} → i < length done → line ≡ output_line (get_or done i d)
     → Printed done i held s t → Collects line held next t u → Printed done (i + 1) next s u
 printed_more done i d {line} {held} {next} below is p c = record {
   front = p.front ++ c.front;
   lines = append_assoc p.front c.front next ∙ (ap (λ (x : List ℕ). p.front ++ x) (sym c.split) ∙ (sym (append_assoc p.front held line)
-      ∙ (ap (λ (x : List ℕ). x ++ line) p.lines ∙ (ap (λ (x : List ℕ). flat_map line_of (take i done) ++ x) is
-      ∙ (flat_map_more line_of [] (take i done) (get_or done i d) ∙ ap (flat_map line_of) (sym (take_more done i d below)))))));
+      ∙ (ap (λ (x : List ℕ). x ++ line) p.lines ∙ (ap (λ (x : List ℕ). flat_map output_line (take i done) ++ x) is
+      ∙ (flat_map_more output_line [] (take i done) (get_or done i d) ∙ ap (flat_map output_line) (sym (take_more done i d below)))))));
   took = took-then p.took c.took;
 }
 
 -- the lines so far, what comes next, and the rest are the output
-pub output_is : (done : List Done) (i : ℕ) (d : Done) (last : ℕ) {line held : List ℕ} {s t : SinkSight} → i < length done → line ≡ line_of (get_or done i d) → (p : Printed done i held s t)
-    → output_of done last ≡ p.front ++ ((held ++ line) ++ (flat_map line_of (drop (i + 1) done) ++ last_line last))
+pub output_is : (done : List Done) (i : ℕ) (d : Done) (last : ℕ) {line held : List ℕ} {s t : SinkSight} → i < length done → line ≡ output_line (get_or done i d) → (p : Printed done i held s t)
+    → output_of done last ≡ p.front ++ ((held ++ line) ++ (flat_map output_line (drop (i + 1) done) ++ last_line last))
 output_is done i d last {line} {held} below is p =
-    ap (λ (x : List ℕ). x ++ last_line last) (ap (flat_map line_of) (split done i d below) ∙ flat_map-append line_of (take i done) (get_or done i d ∷ drop (i + 1) done))
-    ∙ (ap (λ (x : List ℕ). (x ++ (line_of (get_or done i d) ++ flat_map line_of (drop (i + 1) done))) ++ last_line last) (sym p.lines)
-    ∙ (regroup p.front held (line_of (get_or done i d)) (flat_map line_of (drop (i + 1) done)) (last_line last)
-    ∙ ap (λ (x : List ℕ). p.front ++ ((held ++ x) ++ (flat_map line_of (drop (i + 1) done) ++ last_line last))) (sym is)))
+    ap (λ (x : List ℕ). x ++ last_line last) (ap (flat_map output_line) (split done i d below) ∙ flat_map-append output_line (take i done) (get_or done i d ∷ drop (i + 1) done))
+    ∙ (ap (λ (x : List ℕ). (x ++ (output_line (get_or done i d) ++ flat_map output_line (drop (i + 1) done))) ++ last_line last) (sym p.lines)
+    ∙ (regroup p.front held (output_line (get_or done i d)) (flat_map output_line (drop (i + 1) done)) (last_line last)
+    ∙ ap (λ (x : List ℕ). p.front ++ ((held ++ x) ++ (flat_map output_line (drop (i + 1) done) ++ last_line last))) (sym is)))
   where
     split : (xs : List Done) (i : ℕ) (d : Done) → i < length xs → xs ≡ take i xs ++ get_or xs i d ∷ drop (i + 1) xs
     split xs i d below =
@@ -82,7 +82,7 @@ output_is done i d last {line} {held} below is p =
 pub output_ends : (done : List Done) (i : ℕ) (last : ℕ) (held : List ℕ) {s t : SinkSight} → length done ≤ i → (p : Printed done i held s t)
     → output_of done last ≡ p.front ++ (held ++ last_line last)
 output_ends done i last held past p =
-    ap (λ (x : List Done). flat_map line_of x ++ last_line last) (sym (take_all i done past)) ∙ (ap (λ (x : List ℕ). x ++ last_line last) (sym p.lines) ∙ append_assoc p.front held (last_line last))
+    ap (λ (x : List Done). flat_map output_line x ++ last_line last) (sym (take_all i done past)) ∙ (ap (λ (x : List ℕ). x ++ last_line last) (sym p.lines) ∙ append_assoc p.front held (last_line last))
 
 -- a fact for each error gives another
 pub err_map : {T E : Type 0} {P Q : E → Type 0} (r : Result T E) → ((e : E) → P e → Q e) → IfErr r P → IfErr r Q

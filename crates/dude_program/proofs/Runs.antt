@@ -8,31 +8,31 @@ use Rattle.std.proofs.lemmas.Bool.{lt-leb}
 use Rattle.std.proofs.lemmas.List.{take_more, take_all, take-append-drop, length-take-le, length-append}
 use Rattle.std.proofs.lemmas.List.Elements.{All-weaker, All-head, All-tail}
 use Rattle.std.proofs.lemmas.List.Sorted.{IsPermutation-refl}
-use Rattle.pmem_trait.specs.Words.{Point, IsIn}
-use Rattle.pmem_trait.specs.Sights.{Sight, here, Keeps, Ran}
-use Rattle.pmem_trait.proofs.Laws.{keeps_here, keeps_then, keeps_weaker}
-use Rattle.pmem_trait.proofs.Runs.{ran_here, ran_then, makes_later}
+use Rattle.pmem_trait.specs.Words.{State, IsIn}
+use Rattle.pmem_trait.specs.Sights.{Sight, state_now, AtEveryMoment, SomeCalls}
+use Rattle.pmem_trait.proofs.Laws.{every_moment_here, every_moment_then, every_moment_weaker}
+use Rattle.pmem_trait.proofs.Runs.{ran_here, ran_then, made_later}
 use Rattle.tatp_model.specs.declared.done.Done.{Done}
 use Rattle.tatp_model.specs.declared.request.Request.{Request}
 use Rattle.tatp_model.specs.declared.request.Request.TheVariants.{GetSubscriber, GetDestination, GetAccess, UpdateSubscriber, UpdateLocation, InsertCall, DeleteCall, Sync}
 use Rattle.tatp_model.specs.Database.{Database}
 use Rattle.tatp_model.specs.Population.{population}
-use Rattle.tatp_model.specs.Transaction.{Outcome, answers, changes, update_where, has_number, is_subscriber, reply_to, after_request}
+use Rattle.tatp_model.specs.Transaction.{Outcome, answers, changes, update_where, has_phone, is_subscriber, reply_to, after_request}
 use Rattle.tatp_model.specs.declared.reply.Reply.TheVariants.{Missing, Subscriber}
-use Rattle.tatp_model.specs.OneThread.{is_changed, is_sync, after_number, IsPrintedOrder, IsFront, Precedes, Replies}
+use Rattle.tatp_model.specs.OneThread.{is_changed, is_sync, after_number, IsPrintedOrder, IsPrefixOf, Precedes, RepliesOfOneThread}
 use Rattle.tatp_model.proofs.Run.{after_order, after_order-push, after_number-push, after_number-all}
 use Rattle.tatp_model.proofs.Sequential.{Sequential, Sequential-start, IsNext, Sequential-push, Replies-from_sequential}
 use Rattle.dude_text.specs.Command.{Meaning.FreshRun}
-use Rattle.dude_text.specs.RequestFile.{IsServed}
-use Rattle.fresh_image.specs.Fresh.{Rests, fresh_length}
+use Rattle.dude_text.specs.RequestFile.{IsServable}
+use Rattle.fresh_image.specs.Fresh.{AtRest, fresh_length}
 use Rattle.dude_base.specs.declared.limits.TheConstants.{MAX_NUMBER}
 use Rattle.fresh_image.proofs.UpdateLaw.{rest_images}
 use Rattle.fresh_image.proofs.RowWords.{rows_fit}
 use Rattle.fresh_image.proofs.Lists.{IsIn-drop_push}
 use Rattle.fresh_image.specs.Rows.{home_words, StandsFor}
-use Rattle.fresh_image.specs.Calls.{AtLeast, ShowsEither, StepsFrom, RestsTold}
+use Rattle.fresh_image.specs.Calls.{AtLeast, RecoversToEither, AtRestFor, AtRestTold}
 use Rattle.dude_program.specs.Headline.{last_of, RecoversTo, RecoversSince}
-use Rattle.dude_program.specs.Serving.{Stage, Idle, Adds, Serves, ServesAll, ShowsStep, opening_stage, changes_it, next_number, next_database}
+use Rattle.dude_program.specs.Serving.{Stage, RunAtRest, Adds, Serves, ServesAll, RecoversToStep, opening_stage, changes_it, next_number, next_database}
 
 -- the lists that `fresh` never changes are the population's
 pub record OthersStay (S : ℕ) (db : Database) : Type 0 where
@@ -45,11 +45,11 @@ others_cond S true x y h k = h
 others_cond S false x y h k = k
 
 -- no request that is served changes them
-pub others_next : (S : ℕ) (stage : Stage) (request : Request) → IsServed request → OthersStay S stage.db → OthersStay S (next_database S stage request)
+pub others_next : (S : ℕ) (stage : Stage) (request : Request) → IsServable request → OthersStay S stage.db → OthersStay S (next_database S stage request)
 others_next S stage (GetSubscriber s_id) served h = h
 others_next S stage (UpdateLocation sub_nbr vlr) served h =
-    others_cond S (list_any (has_number sub_nbr) stage.db.subscribers)
-    (changes (record stage.db { subscribers = update_where (has_number sub_nbr) (λ r. record r { vlr = vlr }) stage.db.subscribers })) (answers stage.db Missing)
+    others_cond S (list_any (has_phone sub_nbr) stage.db.subscribers)
+    (changes (record stage.db { subscribers = update_where (has_phone sub_nbr) (λ r. record r { vlr = vlr }) stage.db.subscribers })) (answers stage.db Missing)
     (record { access = h.access; facilities = h.facilities; calls = h.calls }) h
 others_next S stage (GetDestination a b c d) served h = absurd served
 others_next S stage (GetAccess a b) served h = absurd served
@@ -59,7 +59,7 @@ others_next S stage (DeleteCall a b c) served h = absurd served
 others_next S stage Sync served h = absurd served
 
 -- no request that is served is a `SYNC`
-pub served_no_sync : (request : Request) → IsServed request → is_sync request ≡ false
+pub served_no_sync : (request : Request) → IsServable request → is_sync request ≡ false
 served_no_sync (GetSubscriber s_id) served = refl
 served_no_sync (UpdateLocation sub_nbr vlr) served = refl
 served_no_sync (GetDestination a b c d) served = refl
@@ -94,7 +94,7 @@ next_from true last = omega arith
 next_from false last = omega arith
 
 -- one request more
-pub going_next : (S : ℕ) (front : List Request) (request : Request) {stage : Stage} {new : List Done} → IsServed request → Going S front stage → Adds S (length front) request stage new
+pub going_next : (S : ℕ) (front : List Request) (request : Request) {stage : Stage} {new : List Done} → IsServable request → Going S front stage → Adds S (length front) request stage new
     → Going S (front ++ request ∷ []) (stage_after S stage request new)
 going_next S front request {stage} {new} served going adds =
     let P : List Done → Type 0 = λ done. Going S (front ++ request ∷ []) (stage_after S stage request done) in
@@ -150,7 +150,7 @@ next_at_least : (S : ℕ) (stage : Stage) (request : Request) → stage.last ≤
 next_at_least S stage request = next_from (changes_it S stage.db request) stage.last
 
 -- What an image shows of the requests so far, it shows of one more.
-recovers_more : {S : ℕ} {front : List Request} {request : Request} {stage : Stage} {new : List Done} (file : List ℕ) (before : ℕ) → IsServed request
+recovers_more : {S : ℕ} {front : List Request} {request : Request} {stage : Stage} {new : List Done} (file : List ℕ) (before : ℕ) → IsServable request
     → Going S front stage → Adds S (length front) request stage new → (told image : List ℕ)
     → RecoversSince before (FreshRun S file) stage.done told image → RecoversSince before (FreshRun S file) new told image
 recovers_more {S} {front} {request} {stage} {new} file before served going adds told image (inl none) = inl none
@@ -165,9 +165,9 @@ recovers_more {S} {front} {request} {stage} {new} file before served going adds 
     )
 
 -- What an image shows of a step, it shows of the requests with one more.
-recovers_step : {S : ℕ} {front : List Request} {request : Request} {stage : Stage} {new : List Done} (file : List ℕ) (before : ℕ) → IsServed request
+recovers_step : {S : ℕ} {front : List Request} {request : Request} {stage : Stage} {new : List Done} (file : List ℕ) (before : ℕ) → IsServable request
     → Going S front stage → Adds S (length front) request stage new → (told image : List ℕ)
-    → ShowsStep S before stage request told image → RecoversSince before (FreshRun S file) new told image
+    → RecoversToStep S before stage request told image → RecoversSince before (FreshRun S file) new told image
 recovers_step {S} {front} {request} {stage} {new} file before served going adds told image (inl shows) =
     let after = going_next S front request served going adds in
     let db_is : stage.db ≡ after_number (12 * S) (population S) new stage.last = sym (not_counted S stage.last (omega arith) adds ∙ going_database stage.last (omega arith) going) in
@@ -193,9 +193,9 @@ recovers_step {S} {front} {request} {stage} {new} file before served going adds 
     )
 
 -- A run whose stage has other requests noted, and is else as it was.
-pub idle_same : {S before : ℕ} {old new : Stage} {p : Point} → new.last ≡ old.last → new.db ≡ old.db → Idle S before old p → Idle S before new p
+pub idle_same : {S before : ℕ} {old new : Stage} {p : State} → new.last ≡ old.last → new.db ≡ old.db → RunAtRest S before old p → RunAtRest S before new p
 idle_same {S} {before} {old} {new} {p} last db idle = record {
-  rests = subst (λ (d : Database). Rests S new.last (home_words S d.subscribers) p) (sym db) (subst (λ (n : ℕ). Rests S n (home_words S old.db.subscribers) p) (sym last) idle.rests);
+  rests = subst (λ (d : Database). AtRest S new.last (home_words S d.subscribers) p) (sym db) (subst (λ (n : ℕ). AtRest S n (home_words S old.db.subscribers) p) (sym last) idle.rests);
   floor = subst (λ (n : ℕ). AtLeast before p.told n) (sym last) idle.floor;
   told = subst (λ (n : ℕ). (front : List ℕ) × (p.told ≡ front ++ n ∷ []) × (before ≤ length front)) (sym last) idle.told;
 }
@@ -207,14 +207,14 @@ pub serves_unchanged : (S index : ℕ) (request : Request) (old new : Stage) (s 
 serves_unchanged S index request old new s low high long small unchanged db_is last_same db_same adds = record {
   adds = adds;
   moves = (last_same ∙ ap (λ (b : Bool). cond b (old.last + 1) old.last) (sym unchanged), db_same ∙ sym db_is);
-  idle = λ ok before tells idle. idle_same last_same db_same idle;
-  images = λ before idle. keeps_here (ShowsStep S before old request) (λ tells. let i = idle tells in
+  idle = λ ok before visible idle. idle_same last_same db_same idle;
+  images = λ before idle. every_moment_here (RecoversToStep S before old request) (λ visible. let i = idle visible in
       record { each = λ image is. inl (rest_images low high long small i.rests image is, i.floor) });
   ran = ran_here s;
 }
 
 -- an update whose number is told leaves the medium idle
-pub idle_next : {S before : ℕ} {old new : Stage} {p q : Point} → new.last ≡ old.last + 1 → RestsTold S new.last (home_words S new.db.subscribers) p q → Idle S before old p → Idle S before new q
+pub idle_next : {S before : ℕ} {old new : Stage} {p q : State} → new.last ≡ old.last + 1 → AtRestTold S new.last (home_words S new.db.subscribers) p q → RunAtRest S before old p → RunAtRest S before new q
 idle_next {S} {before} {old} {new} {p} {q} next rests idle = record {
   rests = rests.0;
   floor = λ x is. elim (IsIn-drop_push before x new.last p.told (subst (λ (told : List ℕ). IsIn x (drop before told)) rests.1 is)) [
@@ -230,19 +230,19 @@ idle_next {S} {before} {old} {new} {p} {q} next rests idle = record {
 -- An update makes the calls that log it.
 pub serves_changed : (S index : ℕ) (request : Request) (ok : Bool) (old new : Stage) (s t : Sight) → changes_it S old.db request ≡ true
     → new.last ≡ old.last + 1 → new.db ≡ next_database S old request → Adds S index request old new.done
-    → ((before : ℕ) → (IsTrue s.tells → Idle S before old (here s)) → Keeps (ShowsEither before old.last (home_words S old.db.subscribers) (home_words S (next_database S old request).subscribers)) s t)
-    → (ok ≡ true → IsTrue s.tells → Rests S old.last (home_words S old.db.subscribers) (here s) → RestsTold S new.last (home_words S new.db.subscribers) (here s) (here t))
-    → Ran ok s t → Serves S index request ok old new s t
+    → ((before : ℕ) → (IsTrue s.is_visible → RunAtRest S before old (state_now s)) → AtEveryMoment (RecoversToEither before old.last (home_words S old.db.subscribers) (home_words S (next_database S old request).subscribers)) s t)
+    → (ok ≡ true → IsTrue s.is_visible → AtRest S old.last (home_words S old.db.subscribers) (state_now s) → AtRestTold S new.last (home_words S new.db.subscribers) (state_now s) (state_now t))
+    → SomeCalls ok s t → Serves S index request ok old new s t
 serves_changed S index request ok old new s t changes next db_is adds images rests ran = record {
   adds = adds;
   moves = (next ∙ ap (λ (b : Bool). cond b (old.last + 1) old.last) (sym changes), db_is);
-  idle = λ done before tells idle. idle_next next (rests done tells idle.rests) idle;
-  images = λ before idle. keeps_weaker (λ told image size either. step before told image either) (images before idle);
+  idle = λ done before visible idle. idle_next next (rests done visible idle.rests) idle;
+  images = λ before idle. every_moment_weaker (λ told image size either. step before told image either) (images before idle);
   ran = ran;
 }
   where
-    step : (before : ℕ) (told image : List ℕ) → ShowsEither before old.last (home_words S old.db.subscribers) (home_words S (next_database S old request).subscribers) told image
-        → ShowsStep S before old request told image
+    step : (before : ℕ) (told image : List ℕ) → RecoversToEither before old.last (home_words S old.db.subscribers) (home_words S (next_database S old request).subscribers) told image
+        → RecoversToStep S before old request told image
     step before told image (inl shows) = inl shows
     step before told image (inr shows) = inr (changes, shows)
 
@@ -263,24 +263,24 @@ ok_part (Err e) h ok = absurd (let no : ⊥ = cc in no)
 pub serves_logged : (S T index number at vlr : ℕ) (request : Request) (ok : Bool) (old new : Stage) (s t : Sight) → T ≡ S → changes_it S old.db request ≡ true
     → new.last ≡ old.last + 1 → number ≡ new.last → new.db ≡ next_database S old request → Adds S index request old new.done
     → at < 8 * S → slice_set (home_words S old.db.subscribers) at vlr ≡ home_words S new.db.subscribers
-    → ((before n : ℕ) (home : List ℕ) → n + 1 ≡ number → (IsTrue s.tells → StepsFrom T before n home at (here s)) → Keeps (ShowsEither before n home (slice_set home at vlr)) s t)
-    → (ok ≡ true → (n : ℕ) (home : List ℕ) → n + 1 ≡ number → at < length home → IsTrue s.tells → Rests T n home (here s) → RestsTold T number (slice_set home at vlr) (here s) (here t))
-    → Ran ok s t → Serves S index request ok old new s t
+    → ((before n : ℕ) (home : List ℕ) → n + 1 ≡ number → (IsTrue s.is_visible → AtRestFor T before n home at (state_now s)) → AtEveryMoment (RecoversToEither before n home (slice_set home at vlr)) s t)
+    → (ok ≡ true → (n : ℕ) (home : List ℕ) → n + 1 ≡ number → at < length home → IsTrue s.is_visible → AtRest T n home (state_now s) → AtRestTold T number (slice_set home at vlr) (state_now s) (state_now t))
+    → SomeCalls ok s t → Serves S index request ok old new s t
 serves_logged S T index number at vlr request ok old new s t same changes next number_is db_is adds inside home images rests ran =
     serves_changed S index request ok old new s t changes next db_is adds
-    (λ before idle. subst (λ (h : List ℕ). Keeps (ShowsEither before old.last old_home h) s t) (home ∙ ap (λ (d : Database). home_words S d.subscribers) db_is)
-    (images before old.last old_home (sym next ∙ sym number_is) (λ tells. let i = idle tells in
-    subst (λ (z : ℕ). StepsFrom z before old.last old_home at (here s)) (sym same) (there i.rests, i.rests, i.floor))))
-    (λ done tells r. subst (λ (h : List ℕ). RestsTold S new.last h (here s) (here t)) home
-    (subst (λ (n : ℕ). RestsTold S n (slice_set old_home at vlr) (here s) (here t)) number_is
-    (subst (λ (z : ℕ). RestsTold z number (slice_set old_home at vlr) (here s) (here t)) same
-    (rests done old.last old_home (sym next ∙ sym number_is) (there r) tells (subst (λ (z : ℕ). Rests z old.last old_home (here s)) (sym same) r)))))
+    (λ before idle. subst (λ (h : List ℕ). AtEveryMoment (RecoversToEither before old.last old_home h) s t) (home ∙ ap (λ (d : Database). home_words S d.subscribers) db_is)
+    (images before old.last old_home (sym next ∙ sym number_is) (λ visible. let i = idle visible in
+    subst (λ (z : ℕ). AtRestFor z before old.last old_home at (state_now s)) (sym same) (there i.rests, i.rests, i.floor))))
+    (λ done visible r. subst (λ (h : List ℕ). AtRestTold S new.last h (state_now s) (state_now t)) home
+    (subst (λ (n : ℕ). AtRestTold S n (slice_set old_home at vlr) (state_now s) (state_now t)) number_is
+    (subst (λ (z : ℕ). AtRestTold z number (slice_set old_home at vlr) (state_now s) (state_now t)) same
+    (rests done old.last old_home (sym next ∙ sym number_is) (there r) visible (subst (λ (z : ℕ). AtRest z old.last old_home (state_now s)) (sym same) r)))))
     ran
   where
     old_home : List ℕ
     old_home = home_words S old.db.subscribers
 
-    there : Rests S old.last old_home (here s) → at < length old_home
+    there : AtRest S old.last old_home (state_now s) → at < length old_home
     there r = omega (arith, r.count, rows_fit S)
 
 -- A list of requests without `SYNC` that is sorted is its own printed order.
@@ -296,17 +296,17 @@ own_order done asked sorted = record { same = rw (all_kept done asked) (IsPermut
 pub record GoesOn (S i : ℕ) (requests : List Request) (stage : Stage) (s t : Sight) : Type 0 where
   pub going : Going S (take i requests) stage
   pub few : stage.last ≤ i
-  pub kept : (file : List ℕ) (before : ℕ) → (IsTrue s.tells → Idle S before (opening_stage S) (here s))
-      → Keeps (RecoversSince before (FreshRun S file) stage.done) s t
-  pub idle : (before : ℕ) → IsTrue s.tells → Idle S before (opening_stage S) (here s) → Idle S before stage (here t)
-  pub ran : Ran true s t
+  pub kept : (file : List ℕ) (before : ℕ) → (IsTrue s.is_visible → RunAtRest S before (opening_stage S) (state_now s))
+      → AtEveryMoment (RecoversSince before (FreshRun S file) stage.done) s t
+  pub idle : (before : ℕ) → IsTrue s.is_visible → RunAtRest S before (opening_stage S) (state_now s) → RunAtRest S before stage (state_now t)
+  pub ran : SomeCalls true s t
 
 -- nothing was carried out yet
 pub goes_none : (S : ℕ) (requests : List Request) (s : Sight) → 1 ≤ S → S ≤ 10000 → fresh_length S ≤ s.len → GoesOn S 0 requests (opening_stage S) s s
 goes_none S requests s low high long = record {
   going = going_none S;
   few = omega arith;
-  kept = λ file before idle. keeps_here (RecoversSince before (FreshRun S file) []) (λ tells. let i = idle tells in
+  kept = λ file before idle. every_moment_here (RecoversSince before (FreshRun S file) []) (λ visible. let i = idle visible in
       record {
         each = λ image is. inr (
           0,
@@ -319,23 +319,23 @@ goes_none S requests s low high long = record {
           ),
         );
       });
-  idle = λ before tells idle. idle;
+  idle = λ before visible idle. idle;
   ran = ran_here s;
 }
 
 -- the medium tells its states as it did
-pub still_tells : {ok : Bool} {s t : Sight} → Ran ok s t → IsTrue t.tells → IsTrue s.tells
-still_tells ran tells = subst (λ (b : Bool). IsTrue b) (makes_later ran.1).tells tells
+pub still_tells : {ok : Bool} {s t : Sight} → SomeCalls ok s t → IsTrue t.is_visible → IsTrue s.is_visible
+still_tells ran visible = subst (λ (b : Bool). IsTrue b) (made_later ran.1).is_visible visible
 
 -- Images so far and in one step more.
-kept_more : {S i : ℕ} {requests : List Request} {request : Request} {ok : Bool} {old new : Stage} {s t u : Sight} → i ≤ length requests → IsServed request
-    → GoesOn S i requests old s t → Serves S i request ok old new t u → (file : List ℕ) (before : ℕ) → (IsTrue s.tells → Idle S before (opening_stage S) (here s))
-    → Keeps (RecoversSince before (FreshRun S file) new.done) s u
+kept_more : {S i : ℕ} {requests : List Request} {request : Request} {ok : Bool} {old new : Stage} {s t u : Sight} → i ≤ length requests → IsServable request
+    → GoesOn S i requests old s t → Serves S i request ok old new t u → (file : List ℕ) (before : ℕ) → (IsTrue s.is_visible → RunAtRest S before (opening_stage S) (state_now s))
+    → AtEveryMoment (RecoversSince before (FreshRun S file) new.done) s u
 kept_more {S} {i} {requests} {request} {old = old} {new = new} below served goes step file before idle =
     let adds : Adds S (length (take i requests)) request old new.done = subst (λ (n : ℕ). Adds S n request old new.done) (sym (length-take-le i requests below)) step.adds in
-    keeps_then (keeps_weaker (λ told image size shown. recovers_more file before served goes.going adds told image shown) (goes.kept file before idle))
-    (keeps_weaker (λ told image size shown. recovers_step file before served goes.going adds told image shown)
-    (step.images before (λ tells. let was = still_tells goes.ran tells in goes.idle before was (idle was))))
+    every_moment_then (every_moment_weaker (λ told image size shown. recovers_more file before served goes.going adds told image shown) (goes.kept file before idle))
+    (every_moment_weaker (λ told image size shown. recovers_step file before served goes.going adds told image shown)
+    (step.images before (λ visible. let was = still_tells goes.ran visible in goes.idle before was (idle was))))
 
 -- where the run stands after a step
 stage_is : {S i : ℕ} {request : Request} {ok : Bool} {old new : Stage} {s t : Sight} → Serves S i request ok old new s t → stage_after S old request new.done ≡ new
@@ -343,7 +343,7 @@ stage_is {S} {request = request} {old = old} {new = new} step =
     let f : ℕ → Database → Stage = λ n d. record { last = n; db = d; done = new.done } in
     sym (ap (λ (n : ℕ). f n new.db) step.moves.0 ∙ ap (λ (d : Database). f (next_number S old request) d) step.moves.1)
 
-going_more : {S i : ℕ} {requests : List Request} {request : Request} {ok : Bool} {old new : Stage} {s t u : Sight} → i ≤ length requests → IsServed request
+going_more : {S i : ℕ} {requests : List Request} {request : Request} {ok : Bool} {old new : Stage} {s t u : Sight} → i ≤ length requests → IsServable request
     → GoesOn S i requests old s t → Serves S i request ok old new t u → Going S (take i requests ++ request ∷ []) new
 going_more {S} {i} {requests} {request} {old = old} {new = new} below served goes step =
     let adds : Adds S (length (take i requests)) request old new.done = subst (λ (n : ℕ). Adds S n request old new.done) (sym (length-take-le i requests below)) step.adds in
@@ -355,25 +355,25 @@ number_grows true last = omega arith
 number_grows false last = omega arith
 
 -- One request more was carried out.
-pub goes_next : {S T i : ℕ} {requests : List Request} (d : Request) {old new : Stage} {s t u : Sight} → T ≡ S → i < length requests → IsServed (get_or requests i d)
+pub goes_next : {S T i : ℕ} {requests : List Request} (d : Request) {old new : Stage} {s t u : Sight} → T ≡ S → i < length requests → IsServable (get_or requests i d)
     → GoesOn S i requests old s t → Serves T i (get_or requests i d) true old new t u → GoesOn S (i + 1) requests new s u
 goes_next {S} {T} {i} {requests} d {old} {new} {s} {t} {u} same below served goes was =
     let step : Serves S i (get_or requests i d) true old new t u = subst (λ (z : ℕ). Serves z i (get_or requests i d) true old new t u) same was in record {
       going = subst (λ (front : List Request). Going S front new) (sym (take_more requests i d below)) (going_more (omega arith) served goes step);
       few = omega (arith, goes.few, step.moves.0, number_grows (changes_it S old.db (get_or requests i d)) old.last);
       kept = kept_more (omega arith) served goes step;
-      idle = λ before tells idle. step.idle refl before (subst (λ (b : Bool). IsTrue b) (sym (makes_later goes.ran.1).tells) tells) (goes.idle before tells idle);
+      idle = λ before visible idle. step.idle refl before (subst (λ (b : Bool). IsTrue b) (sym (made_later goes.ran.1).is_visible) visible) (goes.idle before visible idle);
       ran = ran_then goes.ran step.ran;
     }
 
 -- what is said of the whole, where a front of the requests is done
-pub serves_front : {S : ℕ} {front requests : List Request} {stage : Stage} → Going S front stage → IsFront front requests
-    → Replies 0 (12 * S) (population S) (requests ∷ []) stage.done × IsPrintedOrder stage.done stage.done
+pub serves_front : {S : ℕ} {front requests : List Request} {stage : Stage} → Going S front stage → IsPrefixOf front requests
+    → RepliesOfOneThread 0 (12 * S) (population S) (requests ∷ []) stage.done × IsPrintedOrder stage.done stage.done
 serves_front {S} {front} {requests} {stage} going is =
-    (Replies-from_sequential 0 stage.last (12 * S) (population S) front requests stage.done going.run is, own_order stage.done going.run.asked going.run.sorted)
+    (RepliesOfOneThread-from_sequential 0 stage.last (12 * S) (population S) front requests stage.done going.run is, own_order stage.done going.run.asked going.run.sorted)
 
 -- The medium failed in a request.
-pub goes_stops : {S T i : ℕ} {requests : List Request} (d : Request) {old new : Stage} {s t u : Sight} (file : List ℕ) → T ≡ S → i < length requests → IsServed (get_or requests i d)
+pub goes_stops : {S T i : ℕ} {requests : List Request} (d : Request) {old new : Stage} {s t u : Sight} (file : List ℕ) → T ≡ S → i < length requests → IsServable (get_or requests i d)
     → GoesOn S i requests old s t → Serves T i (get_or requests i d) false old new t u → ServesAll S file requests false new s u
 goes_stops {S} {T} {i} {requests} d {old} {new} {s} {t} {u} file same below served goes was =
     let step : Serves S i (get_or requests i d) false old new t u = subst (λ (z : ℕ). Serves z i (get_or requests i d) false old new t u) same was in

@@ -41,7 +41,7 @@ HasCause meaning old new (Some Usage) = meaning ≡ None
 HasCause meaning old new (Some (File file)) = (file ≡ 1) × Risen old.files.faults new.files.faults
 HasCause meaning old new (Some (Text file row field)) =
     (file ≡ 1) × (row ≡ 0) × (field ≡ 0)
-    × (IsTrue old.files.tells → (own : Meaning) × (meaning ≡ Some own) × HasBadFile own old.files)
+    × (IsTrue old.files.is_visible → (own : Meaning) × (meaning ≡ Some own) × HasBadFile own old.files)
 HasCause meaning old new (Some (Small has needs)) =
     (has ≡ old.medium.len) × (has < needs) × (own : Meaning) × (meaning ≡ Some own) × (needs ≡ words_needed own)
 HasCause meaning old new (Some Device) = Risen old.medium.faults new.medium.faults
@@ -57,7 +57,7 @@ StoppedEarlier fault = (fault ≡ Some (File 1)) ⊎ (fault ≡ Some Memory)
 -- A file that isn't there is answered before a short medium and all that follows: it can't be read, or there was no memory.
 abbrev pub RefusesMissing : Option Meaning → World → Option Fault → Type 0
 RefusesMissing meaning old fault =
-    (own : Meaning) → meaning ≡ Some own → IsTrue old.files.tells → MissesFile own old.files → StoppedEarlier fault
+    (own : Meaning) → meaning ≡ Some own → IsTrue old.files.is_visible → MissesFile own old.files → StoppedEarlier fault
 
 -- the files stopped it: they are bad, or it stopped earlier
 abbrev pub StoppedAtFiles : Option Fault → Type 0
@@ -66,7 +66,7 @@ StoppedAtFiles fault = (fault ≡ Some (Text 1 0 0)) ⊎ StoppedEarlier fault
 -- A bad file is answered as such, unless the command stopped earlier.
 abbrev pub RefusesBadFile : Option Meaning → World → Option Fault → Type 0
 RefusesBadFile meaning old fault =
-    (own : Meaning) → meaning ≡ Some own → IsTrue old.files.tells → HasBadFile own old.files → StoppedAtFiles fault
+    (own : Meaning) → meaning ≡ Some own → IsTrue old.files.is_visible → HasBadFile own old.files → StoppedAtFiles fault
 
 -- So is a medium that is too short, unless the files stopped it.
 abbrev pub RefusesSmall : Option Meaning → World → Option Fault → Type 0
@@ -76,9 +76,9 @@ RefusesSmall meaning old fault =
 
 -- Completeness: where words and files are accepted, the medium is long enough and no count of faults rose, the command
 -- carries all out, or there was no memory.
-abbrev pub IsComplete : Option Meaning → World → World → Option Fault → Type 0
-IsComplete meaning old new fault =
-    (own : Meaning) (requests : List (List Request)) → meaning ≡ Some own → IsTrue old.files.tells → FilesMean own old.files requests
+abbrev pub SucceedsIfGood : Option Meaning → World → World → Option Fault → Type 0
+SucceedsIfGood meaning old new fault =
+    (own : Meaning) (requests : List (List Request)) → meaning ≡ Some own → IsTrue old.files.is_visible → FilesMean own old.files requests
     → words_needed own ≤ old.medium.len
     → (Risen old.medium.faults new.medium.faults → ⊥) → (Risen old.files.faults new.files.faults → ⊥) → (Risen old.sink.faults new.sink.faults → ⊥)
     → (fault ≡ None) ⊎ (fault ≡ Some Memory)
@@ -96,7 +96,7 @@ AllDone meaning old done = (own : Meaning) × (meaning ≡ Some own) × RepliesT
 -- and what was told at the end is told of all of them
 abbrev pub EndsDone : Option Meaning → World → World → List Done → Type 0
 EndsDone meaning old new done =
-    (own : Meaning) → meaning ≡ Some own → IsTrue old.medium.tells → End own done old.medium new.medium
+    (own : Meaning) → meaning ≡ Some own → IsTrue old.medium.is_visible → End own done old.medium new.medium
 
 -- words, files or the medium were refused: the statuses 2 to 5
 abbrev pub OnRefusal : Option Fault → Type 0 → Type 0

@@ -7,7 +7,7 @@ use Rattle.dude_text.specs.Command.{Meaning}
 use Rattle.dude_io.specs.Files.{FilesStay}
 use Rattle.dude_program.specs.Headline.{Replies, Crash}
 use Rattle.dude_program.specs.Outcome.{RanUnlessDevice}
-use Rattle.dude_program.specs.Causes.{World, NothingCalled, HasCause, RefusesMissing, RefusesBadFile, RefusesSmall, IsComplete, OnAllDone, AllDone, EndsDone, OnRefusal, Bytes}
+use Rattle.dude_program.specs.Causes.{World, NothingCalled, HasCause, RefusesMissing, RefusesBadFile, RefusesSmall, SucceedsIfGood, OnAllDone, AllDone, EndsDone, OnRefusal, Bytes}
 
 pub record Ends (meaning : Option Meaning) (old new : World) (done : List Done) (fault : Option Fault) : Type 0 where
   pub replies : (own : Meaning) → meaning ≡ Some own → (done ≡ []) ⊎ Replies own old.files done
@@ -21,7 +21,7 @@ pub record Ends (meaning : Option Meaning) (old new : World) (done : List Done) 
   pub missing : RefusesMissing meaning old fault
   pub bad_file : RefusesBadFile meaning old fault
   pub too_small : RefusesSmall meaning old fault
-  pub complete : IsComplete meaning old new fault
+  pub complete : SucceedsIfGood meaning old new fault
   pub untouched : OnRefusal fault ((new.medium ≡ old.medium) × (done ≡ []))
   pub ran : RanUnlessDevice fault old.medium new.medium
   pub files : FilesStay old.files new.files

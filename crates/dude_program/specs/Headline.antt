@@ -3,13 +3,13 @@
 -- crash may leave recovers to the database after a prefix of that order, with everything up to the last number told as
 -- durable.
 use Rattle.std.specs.Prelude.{◌≡◌, ◌⊎◌, ℕ, ◌≤◌, max, IsTrue, List, [], ◌∷◌, ◌++◌, drop, take, length, fold, All}
-use Rattle.pmem_trait.specs.Words.{Leaves}
-use Rattle.pmem_trait.specs.Sights.{Sight, Keeps, here}
+use Rattle.pmem_trait.specs.Words.{EveryImage}
+use Rattle.pmem_trait.specs.Sights.{Sight, AtEveryMoment, state_now}
 use Rattle.tatp_model.specs.declared.done.Done.{Done}
 use Rattle.tatp_model.specs.declared.request.Request.{Request}
 use Rattle.tatp_model.specs.Database.{Database}
 use Rattle.tatp_model.specs.OneThread.{IsPrintedOrder, HoldsAll, after_number}
-use Rattle.tatp_model.specs.OneThread.{Replies as RepliesAreOneThreads}
+use Rattle.tatp_model.specs.OneThread.{RepliesOfOneThread}
 use Rattle.dude_text.specs.Command.{Meaning, Meaning.FreshRun}
 use Rattle.dude_text.specs.Output.{output_of}
 use Rattle.dude_io.specs.Files.{FilesSight}
@@ -23,8 +23,8 @@ use Rattle.dude_program.specs.Opening.{opening_of, FilesMean}
 -- its order, each once; and the replies are those of one thread along the printed order.
 pub record Replies (meaning : Meaning) (files : FilesSight) (done : List Done) : Type 0 where
   pub requests : List (List Request)
-  pub read : IsTrue files.tells → FilesMean meaning files requests
-  pub answered : RepliesAreOneThreads (opening_of meaning).number (opening_of meaning).limit (opening_of meaning).database requests done
+  pub read : IsTrue files.is_visible → FilesMean meaning files requests
+  pub answered : RepliesOfOneThread (opening_of meaning).number (opening_of meaning).limit (opening_of meaning).database requests done
 
 -- and all of their requests are done
 pub record RepliesToAll (meaning : Meaning) (files : FilesSight) (done : List Done) : Type 0 where
@@ -55,26 +55,26 @@ RecoversSince before meaning order told image =
 pub record Crash (meaning : Meaning) (done : List Done) (s t : Sight) : Type 0 where
   pub order : List Done
   pub printed : IsPrintedOrder done order
-  pub keeps : Keeps (RecoversSince (length (here s).told) meaning order) s t
+  pub keeps : AtEveryMoment (RecoversSince (length (state_now s).told) meaning order) s t
 
 -- End: the last number told, in this call, is the last of the requests done, and every image at exit recovers to it.
 pub record End (meaning : Meaning) (done : List Done) (s t : Sight) : Type 0 where
   pub order : List Done
   pub printed : IsPrintedOrder done order
-  pub told : (front : List ℕ) × ((here t).told ≡ front ++ last_of (opening_of meaning).number done ∷ []) × (length (here s).told ≤ length front)
+  pub told : (front : List ℕ) × ((state_now t).told ≡ front ++ last_of (opening_of meaning).number done ∷ []) × (length (state_now s).told ≤ length front)
   pub none_over : All (λ d. d.number ≤ last_of (opening_of meaning).number done) done
-  pub images : Leaves t.len (λ told image. RecoversTo meaning image (last_of (opening_of meaning).number done)
-      (database_after meaning order (last_of (opening_of meaning).number done))) (here t)
+  pub images : EveryImage t.len (λ told image. RecoversTo meaning image (last_of (opening_of meaning).number done)
+      (database_after meaning order (last_of (opening_of meaning).number done))) (state_now t)
 
 -- Bytes: the sink took the whole output of the requests done and nothing else
 abbrev pub Prints : Meaning → List Done → SinkSight → SinkSight → Type 0
 Prints meaning done s t =
-    IsTrue s.tells → t.taken ≡ s.taken ++ output_of done (last_of (opening_of meaning).number done)
+    IsTrue s.is_visible → t.taken ≡ s.taken ++ output_of done (last_of (opening_of meaning).number done)
 
 -- or a prefix of it
 abbrev pub PrintsFront : Meaning → List Done → SinkSight → SinkSight → Type 0
 PrintsFront meaning done s t =
-    IsTrue s.tells → (n : ℕ) × (t.taken ≡ s.taken ++ take n (output_of done (last_of (opening_of meaning).number done)))
+    IsTrue s.is_visible → (n : ℕ) × (t.taken ≡ s.taken ++ take n (output_of done (last_of (opening_of meaning).number done)))
 
 -- or nothing: the sink wasn't called
 abbrev pub PrintsNothing : SinkSight → SinkSight → Type 0

@@ -1,11 +1,11 @@
 -- What became of a plan: what is done, the last number, and the fault, if any.
 use Rattle.std.specs.Prelude.{◌≡◌, ◌↔◌, ℕ, ◌<◌, ◌≤◌, ◌*◌, Bool, true, false, Option, Some, None, IsTrue, List, [], ◌∷◌, length}
-use Rattle.pmem_trait.specs.Sights.{Sight, here, Keeps, Ran, Risen}
+use Rattle.pmem_trait.specs.Sights.{Sight, state_now, AtEveryMoment, SomeCalls, Risen}
 use Rattle.tatp_model.specs.declared.done.Done.{Done}
 use Rattle.tatp_model.specs.declared.request.Request.{Request}
 use Rattle.tatp_model.specs.Population.{population}
 use Rattle.tatp_model.specs.OneThread.{HoldsAll, IsPrintedOrder}
-use Rattle.tatp_model.specs.OneThread.{Replies as RepliesAreOneThreads}
+use Rattle.tatp_model.specs.OneThread.{RepliesOfOneThread}
 use Rattle.dude_text.specs.declared.fault.Fault.{Fault}
 use Rattle.dude_text.specs.declared.fault.Fault.TheVariants.{Small, Device, Memory}
 use Rattle.dude_text.specs.Command.{Meaning.FreshRun}
@@ -24,18 +24,18 @@ HasRunFault subscribers done s t (Some _) = ⊥
 
 -- Some calls were made on the medium. None failed but perhaps the last, and that one exactly where the fault is `Device`.
 abbrev pub RanUnlessDevice : Option Fault → Sight → Sight → Type 0
-RanUnlessDevice fault s t = (ok : Bool) × Ran ok s t × ((ok ≡ false) ↔ (fault ≡ Some Device))
+RanUnlessDevice fault s t = (ok : Bool) × SomeCalls ok s t × ((ok ≡ false) ↔ (fault ≡ Some Device))
 
 -- The plan was carried out, or a fault ended it.
 pub record CarriesOut (subscribers : ℕ) (file : List ℕ) (requests : List Request) (done : List Done) (last : ℕ) (fault : Option Fault) (s t : Sight) : Type 0 where
-  pub replies : RepliesAreOneThreads 0 (12 * subscribers) (population subscribers) (requests ∷ []) done
+  pub replies : RepliesOfOneThread 0 (12 * subscribers) (population subscribers) (requests ∷ []) done
   pub printed : IsPrintedOrder done done
-  pub keeps : Keeps (RecoversSince (length (here s).told) (FreshRun subscribers file) done) s t
+  pub keeps : AtEveryMoment (RecoversSince (length (state_now s).told) (FreshRun subscribers file) done) s t
   pub ran : RanUnlessDevice fault s t
   pub cause : HasRunFault subscribers done s t fault
   pub all : fault ≡ None → HoldsAll (requests ∷ []) done
   pub last_is : fault ≡ None → last ≡ last_of 0 done
-  pub end : fault ≡ None → IsTrue s.tells → End (FreshRun subscribers file) done s t
+  pub end : fault ≡ None → IsTrue s.is_visible → End (FreshRun subscribers file) done s t
 
 -- the fault where the medium failed
 abbrev pub device_fault : Bool → Option Fault
@@ -44,10 +44,10 @@ device_fault false = Some Device
 
 -- The medium was formatted and the requests carried out, or the medium failed on the way.
 pub record FormatsAndServes (subscribers : ℕ) (file : List ℕ) (requests : List Request) (ok : Bool) (stage : Stage) (s t : Sight) : Type 0 where
-  pub replies : RepliesAreOneThreads 0 (12 * subscribers) (population subscribers) (requests ∷ []) stage.done
+  pub replies : RepliesOfOneThread 0 (12 * subscribers) (population subscribers) (requests ∷ []) stage.done
   pub printed : IsPrintedOrder stage.done stage.done
-  pub keeps : Keeps (RecoversSince (length (here s).told) (FreshRun subscribers file) stage.done) s t
-  pub ran : Ran ok s t
+  pub keeps : AtEveryMoment (RecoversSince (length (state_now s).told) (FreshRun subscribers file) stage.done) s t
+  pub ran : SomeCalls ok s t
   pub all : ok ≡ true → HoldsAll (requests ∷ []) stage.done
   pub last_is : ok ≡ true → stage.last ≡ last_of 0 stage.done
-  pub end : ok ≡ true → IsTrue s.tells → End (FreshRun subscribers file) stage.done s t
+  pub end : ok ≡ true → IsTrue s.is_visible → End (FreshRun subscribers file) stage.done s t

@@ -1,12 +1,12 @@
 -- Where a run stands, as its fields say.
 use Rattle.std.specs.Prelude.{◌≡◌, ℕ, ◌+◌, vec_len, vec_capacity}
-use Rattle.fresh_image.specs.Rings.{IsIdle}
-use Rattle.fresh_image.specs.Store.{database_of}
+use Rattle.fresh_image.specs.Rings.{RingAtRest}
+use Rattle.fresh_image.specs.Store.{database_at}
 use Rattle.dude_program.specs.declared.run.Run.{Run}
 use Rattle.dude_program.specs.Serving.{Stage}
 
 abbrev pub stage_of : Run → Stage
-stage_of run = record { last = run.last; db = database_of run.store; done = run.done.items }
+stage_of run = record { last = run.last; db = database_at run.store; done = run.done.items }
 
 -- how many subscribers there are
 abbrev pub subscribers_of : Run → ℕ
@@ -24,4 +24,4 @@ pub record NotesOne (old new : Run) : Type 0 where
 
 -- between two requests the log ring has no record
 abbrev pub HasIdleRing : Run → Type 0
-HasIdleRing run = IsIdle (subscribers_of run) run.last run.ring
+HasIdleRing run = RingAtRest (subscribers_of run) run.last run.ring

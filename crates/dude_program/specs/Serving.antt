@@ -1,19 +1,19 @@
 -- Requests of `fresh`, one after another: what each adds to what is done, and what it leaves of the medium.
 use Rattle.std.specs.Prelude.{◌≡◌, ◌⊎◌, ℕ, ◌+◌, ◌*◌, ◌≤◌, Bool, true, IsTrue, List, [], ◌∷◌, ◌++◌, length, if◌then◌else◌, All}
-use Rattle.pmem_trait.specs.Words.{Point}
-use Rattle.pmem_trait.specs.Sights.{Sight, here, Keeps, Ran}
+use Rattle.pmem_trait.specs.Words.{State}
+use Rattle.pmem_trait.specs.Sights.{Sight, state_now, AtEveryMoment, SomeCalls}
 use Rattle.tatp_model.specs.declared.done.Done.{Done}
 use Rattle.tatp_model.specs.declared.request.Request.{Request}
 use Rattle.tatp_model.specs.Database.{Database}
 use Rattle.tatp_model.specs.Population.{population}
 use Rattle.tatp_model.specs.Transaction.{reply_to, after_request}
 use Rattle.tatp_model.specs.OneThread.{is_changed, HoldsAll, IsPrintedOrder}
-use Rattle.tatp_model.specs.OneThread.{Replies as RepliesAreOneThreads}
+use Rattle.tatp_model.specs.OneThread.{RepliesOfOneThread}
 use Rattle.dude_text.specs.Command.{Meaning.FreshRun}
 use Rattle.dude_base.specs.declared.limits.TheConstants.{MAX_NUMBER}
-use Rattle.fresh_image.specs.Fresh.{Rests}
+use Rattle.fresh_image.specs.Fresh.{AtRest}
 use Rattle.fresh_image.specs.Rows.{home_words}
-use Rattle.fresh_image.specs.Calls.{AtLeast, Shows}
+use Rattle.fresh_image.specs.Calls.{AtLeast, RecoversToTold}
 use Rattle.dude_program.specs.Headline.{last_of, database_after, RecoversSince}
 
 -- Where a run stands: the last number drawn, the database, and what is done.
@@ -24,8 +24,8 @@ pub record Stage : Type 0 where
 
 -- Between two requests the medium rests at the last number and the database's home words; the last number was told
 -- last, since the first so many numbers.
-pub record Idle (subscribers before : ℕ) (stage : Stage) (p : Point) : Type 0 where
-  pub rests : Rests subscribers stage.last (home_words subscribers stage.db.subscribers) p
+pub record RunAtRest (subscribers before : ℕ) (stage : Stage) (p : State) : Type 0 where
+  pub rests : AtRest subscribers stage.last (home_words subscribers stage.db.subscribers) p
   pub floor : AtLeast before p.told stage.last
   pub told : (front : List ℕ) × (p.told ≡ front ++ stage.last ∷ []) × (before ≤ length front)
 
@@ -52,19 +52,19 @@ pub record Adds (subscribers index : ℕ) (request : Request) (stage : Stage) (n
   pub number : entry.number ≡ next_number subscribers stage request
 
 -- an image is as before the request, or as after it, where it changes the database
-abbrev pub ShowsStep : ℕ → ℕ → Stage → Request → List ℕ → List ℕ → Type 0
-ShowsStep subscribers before stage request told image =
-    Shows before stage.last (home_words subscribers stage.db.subscribers) told image
+abbrev pub RecoversToStep : ℕ → ℕ → Stage → Request → List ℕ → List ℕ → Type 0
+RecoversToStep subscribers before stage request told image =
+    RecoversToTold before stage.last (home_words subscribers stage.db.subscribers) told image
     ⊎ (IsTrue (changes_it subscribers stage.db request)
-    × Shows before (stage.last + 1) (home_words subscribers (next_database subscribers stage request).subscribers) told image)
+    × RecoversToTold before (stage.last + 1) (home_words subscribers (next_database subscribers stage request).subscribers) told image)
 
 -- One request was carried out, or the medium failed on the way.
 pub record Serves (subscribers index : ℕ) (request : Request) (ok : Bool) (old new : Stage) (s t : Sight) : Type 0 where
   pub adds : Adds subscribers index request old new.done
   pub moves : (new.last ≡ next_number subscribers old request) × (new.db ≡ next_database subscribers old request)
-  pub idle : ok ≡ true → (before : ℕ) → IsTrue s.tells → Idle subscribers before old (here s) → Idle subscribers before new (here t)
-  pub images : (before : ℕ) → (IsTrue s.tells → Idle subscribers before old (here s)) → Keeps (ShowsStep subscribers before old request) s t
-  pub ran : Ran ok s t
+  pub idle : ok ≡ true → (before : ℕ) → IsTrue s.is_visible → RunAtRest subscribers before old (state_now s) → RunAtRest subscribers before new (state_now t)
+  pub images : (before : ℕ) → (IsTrue s.is_visible → RunAtRest subscribers before old (state_now s)) → AtEveryMoment (RecoversToStep subscribers before old request) s t
+  pub ran : SomeCalls ok s t
 
 -- the population, with nothing done
 abbrev pub opening_stage : ℕ → Stage
@@ -72,16 +72,16 @@ opening_stage subscribers = record { last = 0; db = population subscribers; done
 
 -- The requests were carried out from the population on, or the medium failed on the way.
 pub record ServesAll (subscribers : ℕ) (file : List ℕ) (requests : List Request) (ok : Bool) (new : Stage) (s t : Sight) : Type 0 where
-  pub replies : RepliesAreOneThreads 0 (12 * subscribers) (population subscribers) (requests ∷ []) new.done
+  pub replies : RepliesOfOneThread 0 (12 * subscribers) (population subscribers) (requests ∷ []) new.done
   pub printed : IsPrintedOrder new.done new.done
-  pub keeps : (before : ℕ) → (IsTrue s.tells → Idle subscribers before (opening_stage subscribers) (here s))
-      → Keeps (RecoversSince before (FreshRun subscribers file) new.done) s t
-  pub ran : Ran ok s t
+  pub keeps : (before : ℕ) → (IsTrue s.is_visible → RunAtRest subscribers before (opening_stage subscribers) (state_now s))
+      → AtEveryMoment (RecoversSince before (FreshRun subscribers file) new.done) s t
+  pub ran : SomeCalls ok s t
   pub all : ok ≡ true → HoldsAll (requests ∷ []) new.done
   pub last : ok ≡ true → new.last ≡ last_of 0 new.done
   pub db : ok ≡ true → new.db ≡ database_after (FreshRun subscribers file) new.done new.last
-  pub idle : ok ≡ true → (before : ℕ) → IsTrue s.tells → Idle subscribers before (opening_stage subscribers) (here s)
-      → Idle subscribers before new (here t)
+  pub idle : ok ≡ true → (before : ℕ) → IsTrue s.is_visible → RunAtRest subscribers before (opening_stage subscribers) (state_now s)
+      → RunAtRest subscribers before new (state_now t)
   pub within : ok ≡ true → All (λ d. d.number ≤ new.last) new.done
   pub small : ok ≡ true → new.last ≤ MAX_NUMBER
   pub others : ok ≡ true → (new.db.access ≡ (population subscribers).access)

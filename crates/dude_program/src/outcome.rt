@@ -1,7 +1,7 @@
 ghost use Rattle.std.specs.Prelude.{◌≡◌, ℕ, ◌≤◌, length, is_ok, IsTrue, List, [], Some, None};
 ghost use Rattle.pmem_trait.specs.Words.{IsSettled};
-ghost use Rattle.pmem_trait.specs.Sights.{here};
-ghost use Rattle.dude_text.specs.RequestFile.{AreServed};
+ghost use Rattle.pmem_trait.specs.Sights.{state_now};
+ghost use Rattle.dude_text.specs.RequestFile.{AreServable};
 ghost use Rattle.fresh_image.specs.Fresh.{fresh_length};
 ghost use Rattle.dude_program.specs.Outcome.{CarriesOut, FormatsAndServes, device_fault};
 ghost use Rattle.dude_program.specs.Serving.{opening_stage};
@@ -27,10 +27,10 @@ fn format_and_serve<M: Medium>(m: &mut M, run: &mut Run, requests: &[Request]) -
     requires opening { stage_of run.old ≡ opening_stage (subscribers_of run.old) }
     requires room { length requests.now ≤ room_of run.old }
     requires few { length requests.now ≤ 100000 }
-    requires served { AreServed requests.now }
+    requires served { AreServable requests.now }
     requires medium { fresh_length (subscribers_of run.old) ≤ (M.sight m.old).len }
     requires ring { HasIdleRing run.old }
-    requires settled { IsTrue (M.sight m.old).tells → IsSettled (here (M.sight m.old)) }
+    requires settled { IsTrue (M.sight m.old).is_visible → IsSettled (state_now (M.sight m.old)) }
     ensures { (file : List ℕ) → FormatsAndServes (subscribers_of run.old) file requests.now (is_ok result) (stage_of run.new) (M.sight m.old) (M.sight m.new) }
 {
     format_image(m, &run.sizes)?;
@@ -47,8 +47,8 @@ pub fn carry_out<M: Medium>(
     requires some { 1 ≤ subscribers }
     requires limited { subscribers ≤ 10000 }
     requires few { length requests.now ≤ 100000 }
-    requires served { AreServed requests.now }
-    requires settled { IsTrue (M.sight m.old).tells → IsSettled (here (M.sight m.old)) }
+    requires served { AreServable requests.now }
+    requires settled { IsTrue (M.sight m.old).is_visible → IsSettled (state_now (M.sight m.old)) }
     ensures { (file : List ℕ) → CarriesOut subscribers file requests.now result.done.items result.last result.fault (M.sight m.old) (M.sight m.new) }
 {
     let sizes = ImageSizes::new(subscribers);

@@ -4,7 +4,7 @@ ghost use Rattle.dude_text.specs.Command.{meaning_of};
 ghost use Rattle.dude_io.specs.Files.{FilesStay};
 ghost use Rattle.dude_program.specs.Opening.{HasRequests};
 ghost use Rattle.dude_program.specs.Plans.{IsPlan, HasPlanFault, HasFileFault};
-ghost use Rattle.dude_text.specs.RequestFile.{AreServed};
+ghost use Rattle.dude_text.specs.RequestFile.{AreServable};
 
 use dude_io::{FileFault, FileText, Files, read_file};
 use dude_text::{Command, Fault, MAX_BYTES, TextFault, command_of, read_requests};
@@ -29,7 +29,7 @@ const BAD_FILE: Fault = Fault::Text {
 /// The bytes of the file of this name.
 fn read_bytes<F: Files>(alloc: Global, name: &str, files: &mut F) -> Result<Vec<u8>, Fault>
     ensures stays { FilesStay (F.sight files.old) (F.sight files.new) }
-    ensures text { IfOk result (λ bytes. IsTrue (F.sight files.old).tells → (F.sight files.old).text name.now ≡ Some bytes.items) }
+    ensures text { IfOk result (λ bytes. IsTrue (F.sight files.old).is_visible → (F.sight files.old).text name.now ≡ Some bytes.items) }
     ensures fault { IfErr result (HasFileFault (F.sight files.old) (F.sight files.new) name.now) }
 {
     match read_file(alloc, files, name, MAX_BYTES as u64) {
@@ -47,8 +47,8 @@ fn read_own_requests<F: Files>(
     files: &mut F,
 ) -> Result<Vec<Request>, Fault>
     ensures stays { FilesStay (F.sight files.old) (F.sight files.new) }
-    ensures read { IfOk result (λ requests. IsTrue (F.sight files.old).tells → HasRequests (F.sight files.old) name.now requests.items) }
-    ensures served { IfOk result (λ requests. AreServed requests.items) }
+    ensures read { IfOk result (λ requests. IsTrue (F.sight files.old).is_visible → HasRequests (F.sight files.old) name.now requests.items) }
+    ensures served { IfOk result (λ requests. AreServable requests.items) }
     ensures few { IfOk result (λ requests. length requests.items ≤ 100000) }
     ensures fault { IfErr result (HasFileFault (F.sight files.old) (F.sight files.new) name.now) }
 {

@@ -1,5 +1,5 @@
 ghost use Rattle.std.specs.Prelude.{◌≡◌, ◌++◌, [], OnOk, IfErr};
-ghost use Rattle.dude_text.specs.Output.{line_of, last_line, output_of};
+ghost use Rattle.dude_text.specs.Output.{output_line, last_line, output_of};
 ghost use Rattle.dude_io.specs.Sink.{Took};
 ghost use Rattle.dude_program.specs.Printing.{Collects, StopsIn};
 
@@ -24,8 +24,8 @@ fn flush<K: Sink>(text: &[u8], out: &mut K) -> Result<(), Fault>
 
 /// Adds the line of a request, and hands the sink what was held back where that is much.
 fn print_line<K: Sink>(done: &Done, text: &mut Vec<u8>, out: &mut K) -> Result<(), Fault>
-    ensures ok { OnOk result (Collects (line_of done.now) text.old.items text.new.items (K.sight out.old) (K.sight out.new)) }
-    ensures err { IfErr result (StopsIn (text.old.items ++ line_of done.now) (K.sight out.old) (K.sight out.new)) }
+    ensures ok { OnOk result (Collects (output_line done.now) text.old.items text.new.items (K.sight out.old) (K.sight out.new)) }
+    ensures err { IfErr result (StopsIn (text.old.items ++ output_line done.now) (K.sight out.old) (K.sight out.new)) }
 {
     if write_done(done, text).is_err() {
         return Err(Fault::Memory);

@@ -1,5 +1,5 @@
 ghost use Rattle.std.specs.Prelude.{◌≡◌};
-ghost use Rattle.fresh_image.specs.Store.{count_of};
+ghost use Rattle.fresh_image.specs.Store.{subscriber_count};
 
 use fresh_image::{ImageSizes, Store, log_update};
 use log_ring::Ring;
@@ -15,18 +15,18 @@ pub struct Run {
     pub store: Store,
     pub last: u64,
     pub done: Vec<Done>,
-    ghost sized: { count_of store ≡ sizes.subscribers },
+    ghost sized: { subscriber_count store ≡ sizes.subscribers },
 }
 
 impl Run {
     ghost use Rattle.std.specs.Prelude.{ℕ, ◌+◌, ◌-◌, ◌*◌, ◌<◌, ◌≤◌, vec_len, is_ok, false, IfOk, OnOk, slice_set, length, List};
     ghost use Rattle.fresh_image.specs.Rows.{home_words};
-    ghost use Rattle.pmem_trait.specs.Sights.{Ran};
+    ghost use Rattle.pmem_trait.specs.Sights.{SomeCalls};
     ghost use Rattle.tatp_model.specs.declared.reply.Reply.TheVariants.{Changed, Missing};
     ghost use Rattle.tatp_model.specs.declared.request.Request.TheVariants.{GetSubscriber, UpdateLocation};
     ghost use Rattle.tatp_model.specs.Transaction.{reply_to};
     ghost use Rattle.tatp_model.specs.OneThread.{is_changed};
-    ghost use Rattle.dude_text.specs.RequestFile.{IsServed, AreServed};
+    ghost use Rattle.dude_text.specs.RequestFile.{IsServable, AreServable};
     ghost use Rattle.dude_base.specs.declared.limits.TheConstants.{MAX_NUMBER};
     ghost use Rattle.fresh_image.specs.Fresh.{fresh_length};
     ghost use Rattle.dude_program.specs.Serving.{Adds, Serves, ServesAll, opening_stage, next_number, next_database};
@@ -147,7 +147,7 @@ impl Run {
     fn serve<M: Medium>(&mut self, m: &mut M, index: u64, request: &Request) -> Result<(), Failed>
         requires room { vec_len self.old.done < room_of self.old }
         requires number { self.old.last < MAX_NUMBER }
-        requires served { IsServed request.now }
+        requires served { IsServable request.now }
         requires medium { fresh_length (subscribers_of self.old) ≤ (M.sight m.old).len }
         requires ring { HasIdleRing self.old }
         ensures serves { Serves (subscribers_of self.old) index request.now (is_ok result) (stage_of self.old) (stage_of self.new) (M.sight m.old) (M.sight m.new) }
@@ -168,7 +168,7 @@ impl Run {
         requires opening { stage_of self.old ≡ opening_stage (subscribers_of self.old) }
         requires room { length requests.now ≤ room_of self.old }
         requires few { length requests.now ≤ 100000 }
-        requires served { AreServed requests.now }
+        requires served { AreServable requests.now }
         requires medium { fresh_length (subscribers_of self.old) ≤ (M.sight m.old).len }
         requires ring { HasIdleRing self.old }
         ensures serves { (file : List ℕ) → ServesAll (subscribers_of self.old) file requests.now (is_ok result) (stage_of self.new) (M.sight m.old) (M.sight m.new) }

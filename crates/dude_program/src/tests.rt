@@ -1,6 +1,6 @@
 ghost use Rattle.std.specs.Prelude.{◌<◌, IfOk, IfSome, IsTrue};
 ghost use Rattle.pmem_trait.specs.Words.{IsSettled};
-ghost use Rattle.pmem_trait.specs.Sights.{here};
+ghost use Rattle.pmem_trait.specs.Sights.{state_now};
 ghost use Rattle.pmem_fake.specs.Fakes.{sight};
 
 use crate::ended::Ended;
@@ -28,7 +28,7 @@ const UPDATE_THEN_READ: &[u8] = b"UPDATE_LOCATION,000000000000001,7\nGET_SUBSCRI
 
 /// A medium of zero words, of which the calls counted in `fail` fail.
 fn medium(alloc: Global, words: usize, fail: &[u64]) -> Result<MemPmem, AllocError>
-    ensures settled { IfOk result (λ medium. IsTrue (sight medium).tells → IsSettled (here (sight medium))) }
+    ensures settled { IfOk result (λ medium. IsTrue (sight medium).is_visible → IsSettled (state_now (sight medium))) }
 {
     let words = vec![in alloc; 0; words]?;
     let medium = MemPmem::new(alloc, words, 4000, fail.to_vec(alloc)?)?;
@@ -58,7 +58,7 @@ fn carried_out(
     files: &mut MemFiles,
     out: &mut MemSink,
 ) -> Result<Ended<MemPmem>, AllocError>
-    requires settled { IsTrue (sight medium).tells → IsSettled (here (sight medium)) }
+    requires settled { IsTrue (sight medium).is_visible → IsSettled (state_now (sight medium)) }
 {
     let mut owned = Vec::new(alloc);
     for word in words {

@@ -1,12 +1,12 @@
 ghost use Rattle.std.specs.Prelude.{◌≡◌, ◌⊎◌, ◌↔◌, ℕ, ◌≤◌, ◌<◌, map, Some, None, IsTrue, List, []};
 ghost use Rattle.std.specs.Rc.{rc_str_bytes};
 ghost use Rattle.pmem_trait.specs.Words.{IsSettled};
-ghost use Rattle.pmem_trait.specs.Sights.{here};
+ghost use Rattle.pmem_trait.specs.Sights.{state_now};
 ghost use Rattle.dude_io.specs.Files.{FilesStay};
 ghost use Rattle.dude_text.specs.Command.{Meaning, meaning_of};
 ghost use Rattle.dude_text.specs.Fault.{status_of};
 ghost use Rattle.dude_program.specs.Headline.{Replies, Crash};
-ghost use Rattle.dude_program.specs.Causes.{world_of, NothingCalled, HasCause, RefusesMissing, RefusesBadFile, RefusesSmall, IsComplete, OnAllDone, AllDone, EndsDone, OnRefusal, Bytes};
+ghost use Rattle.dude_program.specs.Causes.{world_of, NothingCalled, HasCause, RefusesMissing, RefusesBadFile, RefusesSmall, SucceedsIfGood, OnAllDone, AllDone, EndsDone, OnRefusal, Bytes};
 ghost use Rattle.dude_program.specs.Ending.{Ends};
 ghost use Rattle.dude_program.specs.Outcome.{RanUnlessDevice};
 ghost use Rattle.dude_program.specs.Printing.{PrintsOutcome};
@@ -46,7 +46,7 @@ fn carry_out_words<M: Medium, F: Files, K: Sink>(
     files: &mut F,
     out: &mut K,
 ) -> Work
-    requires settled { IsTrue (M.sight m.old).tells → IsSettled (here (M.sight m.old)) }
+    requires settled { IsTrue (M.sight m.old).is_visible → IsSettled (state_now (M.sight m.old)) }
     ensures { Ends (meaning_of (map rc_str_bytes words.now)) (world_of (M.sight m.old) (F.sight files.old) (K.sight out.old))
         (world_of (M.sight m.new) (F.sight files.new) (K.sight out.new)) result.done.items result.fault }
 {
@@ -78,7 +78,7 @@ pub fn dude<M: Medium + Send, F: Files, K: Sink>(
     files: &mut F,
     out: &mut K,
 ) -> Ended<M>
-    requires settled { IsTrue (M.sight medium).tells → IsSettled (here (M.sight medium)) }
+    requires settled { IsTrue (M.sight medium).is_visible → IsSettled (state_now (M.sight medium)) }
     ensures status { result.status ≡ status_of result.fault }
 
     // Replies: those of one thread that executes the requests in the order of their numbers.
@@ -102,7 +102,7 @@ pub fn dude<M: Medium + Send, F: Files, K: Sink>(
     ensures missing { RefusesMissing (meaning_of (map rc_str_bytes words.now)) (world_of (M.sight medium) (F.sight files.old) (K.sight out.old)) result.fault }
     ensures bad_file { RefusesBadFile (meaning_of (map rc_str_bytes words.now)) (world_of (M.sight medium) (F.sight files.old) (K.sight out.old)) result.fault }
     ensures too_small { RefusesSmall (meaning_of (map rc_str_bytes words.now)) (world_of (M.sight medium) (F.sight files.old) (K.sight out.old)) result.fault }
-    ensures complete { IsComplete (meaning_of (map rc_str_bytes words.now)) (world_of (M.sight medium) (F.sight files.old) (K.sight out.old)) (world_of (M.sight result.medium) (F.sight files.new) (K.sight out.new)) result.fault }
+    ensures complete { SucceedsIfGood (meaning_of (map rc_str_bytes words.now)) (world_of (M.sight medium) (F.sight files.old) (K.sight out.old)) (world_of (M.sight result.medium) (F.sight files.new) (K.sight out.new)) result.fault }
 
     // What stays. A failed call on the medium is the last one, and comes exactly where the fault is `Device`.
     ensures untouched { OnRefusal result.fault ((M.sight result.medium ≡ M.sight medium) × (result.done.items ≡ [])) }

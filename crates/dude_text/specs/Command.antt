@@ -27,8 +27,8 @@ meaning_of (name ∷ subscribers ∷ file ∷ []) = if bytes_eq name (codes "fre
 meaning_of _ = None
 
 -- what a command of the code says
-abbrev pub meant : Command → Meaning
-meant (Fresh subscribers file) = FreshRun subscribers file.now
+abbrev pub meaning_of_command : Command → Meaning
+meaning_of_command (Fresh subscribers file) = FreshRun subscribers file.now
 
 -- the numbers of a command are in their limits
 abbrev pub IsInLimits : Command → Type 0

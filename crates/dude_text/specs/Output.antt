@@ -5,8 +5,8 @@ use Rattle.tatp_model.specs.declared.done.Done.{Done}
 use Rattle.dude_text.specs.ReplyText.{reply_text}
 
 -- the line of a request that was carried out: its number and its reply
-abbrev pub line_of : Done → List ℕ
-line_of done = decimal done.number ++ 32 ∷ [] ++ reply_text done.reply ++ 10 ∷ []
+abbrev pub output_line : Done → List ℕ
+output_line done = decimal done.number ++ 32 ∷ [] ++ reply_text done.reply ++ 10 ∷ []
 
 -- the line that closes the output: the last number told
 abbrev pub last_line : ℕ → List ℕ
@@ -14,4 +14,4 @@ last_line number = codes "last " ++ decimal number ++ 10 ∷ []
 
 -- the output of a run: a line for each request, and the last line
 abbrev pub output_of : List Done → ℕ → List ℕ
-output_of done last = flat_map line_of done ++ last_line last
+output_of done last = flat_map output_line done ++ last_line last

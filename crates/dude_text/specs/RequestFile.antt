@@ -25,15 +25,15 @@ abbrev pub requests_of : List ℕ → Option (List Request)
 requests_of bytes = if is_request_file bytes then Some (filter_map request_of (lines_of bytes)) else None
 
 -- why a file is refused: it is bad, and no place in it is named; or there is no memory, which comes freely
-abbrev pub HasCause : List ℕ → TextFault → Type 0
-HasCause bytes (Bad row field) = (row ≡ 0) × (field ≡ 0) × (requests_of bytes ≡ None)
-HasCause bytes NoMemory = ⊤
+abbrev pub IsTextFault : List ℕ → TextFault → Type 0
+IsTextFault bytes (Bad row field) = (row ≡ 0) × (field ≡ 0) × (requests_of bytes ≡ None)
+IsTextFault bytes NoMemory = ⊤
 
 -- a request that files may hold, with its fields in their ranges
-abbrev pub IsServed : Request → Type 0
-IsServed (GetSubscriber s_id) = IsId s_id
-IsServed (UpdateLocation sub_nbr vlr) = IsPhone sub_nbr × IsLocation vlr
-IsServed _ = ⊥
+abbrev pub IsServable : Request → Type 0
+IsServable (GetSubscriber s_id) = IsId s_id
+IsServable (UpdateLocation sub_nbr vlr) = IsPhone sub_nbr × IsLocation vlr
+IsServable _ = ⊥
 
-abbrev pub AreServed : List Request → Type 0
-AreServed requests = All IsServed requests
+abbrev pub AreServable : List Request → Type 0
+AreServable requests = All IsServable requests

@@ -3,7 +3,7 @@
 ghost use Rattle.std.specs.Prelude.{◌≡◌, map, IfSome};
 ghost use Rattle.std.specs.Option.{option_map};
 ghost use Rattle.std.specs.Rc.{rc_str_bytes};
-ghost use Rattle.dude_text.specs.Command.{meaning_of, fresh_of, meant, IsInLimits};
+ghost use Rattle.dude_text.specs.Command.{meaning_of, fresh_of, meaning_of_command, IsInLimits};
 
 use crate::number::number_in;
 use dude_base::limits::MAX_SUBSCRIBERS;
@@ -22,7 +22,7 @@ pub enum Command<'a> {
 
 /// The command that the words mean; none where they are refused.
 pub fn command_of(words: &[RcStr]) -> Option<Command<'_>>
-    ensures meaning { option_map meant result ≡ meaning_of (map rc_str_bytes words.now) }
+    ensures meaning { option_map meaning_of_command result ≡ meaning_of (map rc_str_bytes words.now) }
     ensures limits { IfSome result IsInLimits }
 {
     match words {
@@ -35,7 +35,7 @@ pub fn command_of(words: &[RcStr]) -> Option<Command<'_>>
 
 // `fresh` with its two words.
 fn fresh<'a>(subscribers: &str, file: &'a str) -> Option<Command<'a>>
-    ensures meaning { option_map meant result ≡ fresh_of subscribers.now file.now }
+    ensures meaning { option_map meaning_of_command result ≡ fresh_of subscribers.now file.now }
     ensures limits { IfSome result IsInLimits }
 {
     if file.is_empty() || file.starts_with('-') {

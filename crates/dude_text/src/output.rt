@@ -1,7 +1,7 @@
 //! What a run prints.
 
 ghost use Rattle.std.specs.Prelude.{◌≡◌, ◌++◌, OnOk, OnErr};
-ghost use Rattle.dude_text.specs.Output.{line_of, last_line};
+ghost use Rattle.dude_text.specs.Output.{output_line, last_line};
 
 use crate::reply_text::{push_number, push_reply};
 use std::alloc::AllocError;
@@ -9,7 +9,7 @@ use tatp_model::Done;
 
 /// Appends the line of a request that was carried out. `out` is as it was where there is no memory.
 pub fn write_done(done: &Done, out: &mut Vec<u8>) -> Result<(), AllocError>
-    ensures ok { OnOk result (out.new.items ≡ out.old.items ++ line_of done.now) }
+    ensures ok { OnOk result (out.new.items ≡ out.old.items ++ output_line done.now) }
     ensures err { OnErr result (out.new.items ≡ out.old.items) }
 {
     let mut line = Vec::new(*out.allocator());

@@ -1,7 +1,7 @@
 //! The request files.
 
 ghost use Rattle.std.specs.Prelude.{◌≡◌, Some, IfOk, IfErr};
-ghost use Rattle.dude_text.specs.RequestFile.{requests_of, AreServed, HasCause};
+ghost use Rattle.dude_text.specs.RequestFile.{requests_of, AreServable, IsTextFault};
 
 use crate::record::request_of;
 use crate::text_fault::TextFault;
@@ -20,8 +20,8 @@ const BAD: TextFault = TextFault::Bad { row: 0, field: 0 };
 /// Reads a request file, in time that grows with its bytes. A bad file is answered with record 0 and field 0.
 pub fn read_requests(alloc: Global, bytes: &[u8]) -> Result<Vec<Request>, TextFault>
     ensures read { IfOk result (λ requests. requests_of bytes.now ≡ Some requests.items) }
-    ensures served { IfOk result (λ requests. AreServed requests.items) }
-    ensures refused { IfErr result (HasCause bytes.now) }
+    ensures served { IfOk result (λ requests. AreServable requests.items) }
+    ensures refused { IfErr result (IsTextFault bytes.now) }
 {
     if bytes.len() > MAX_BYTES {
         return Err(BAD);

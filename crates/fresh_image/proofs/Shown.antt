@@ -6,12 +6,12 @@ use Rattle.std.specs.Prelude.{slice_index, slice_set}
 use Rattle.dude_base.specs.declared.limits.TheConstants.{MAX_NUMBER}
 use Rattle.dude_base.specs.declared.sizes.Sizes.{Sizes}
 use Rattle.dude_base.specs.Sizes.{IsAccepted}
-use Rattle.dude_base.specs.Image.{image_words}
+use Rattle.dude_base.specs.Image.{image_words, Cell, cell_start}
 use Rattle.dude_base.specs.Records.{RedoRecord}
 use Rattle.redo_record.specs.Tags.{number_of}
-use Rattle.redo_record.specs.Cells.{Cell, front_of, word_place}
+use Rattle.redo_record.specs.Cells.{word_place}
 use Rattle.redo_record.specs.Record.{record_of, writes_of}
-use Rattle.redo_record.specs.Images.{sizes_of, mark_of, home_of, tag_of, cells_from, IsComplete, IsNewHead}
+use Rattle.redo_record.specs.Images.{sizes_of, mark_of, home_of, tag_of, word_in_image, IsComplete, IsNewHead}
 use Rattle.redo_record.specs.Recovery.{IsFormatted, IsOverMark, Recovers}
 use Rattle.fresh_image.specs.Fresh.{fresh_pages, fresh_sizes, fresh_length, fresh_home_length, fresh_home_start, fresh_header}
 use Rattle.fresh_image.specs.Calls.{update_record}
@@ -101,7 +101,7 @@ module _ {S m : ℕ} {home image : List ℕ} (reads : Reads S m home image) wher
   -- number, with the write in the home words.
   pub recovers_next : (head : Cell) (at value : ℕ) → 1 ≤ S → S ≤ 10000 → m + 1 ≤ MAX_NUMBER
       → IsNewHead (fresh_sizes S) m image head → IsComplete (fresh_sizes S) image head
-      → record_of (cells_from (fresh_sizes S) image head) ≡ update_record (m + 1) at value
+      → record_of (word_in_image (fresh_sizes S) image head) ≡ update_record (m + 1) at value
       → ((c : Cell) → IsNewHead (fresh_sizes S) m image c → c ≡ head) → Recovers 0 image (m + 1) (slice_set home at value)
   recovers_next head at value low high small new complete is only = record {
     formatted = reads_formatted low high;
@@ -116,7 +116,7 @@ module _ {S m : ℕ} {home image : List ℕ} (reads : Reads S m home image) wher
       head = head;
       new = head_reads head new;
       number = number_is ∙ omega (arith, reads.mark_is);
-      same_writes = subst (λ (s : Sizes). writes_of (cells_from s image head) ≡ (update_record (m + 1) at value).writes) (sym reads_sizes) (ap (λ (r : RedoRecord). r.writes) is);
+      same_writes = subst (λ (s : Sizes). writes_of (word_in_image s image head) ≡ (update_record (m + 1) at value).writes) (sym reads_sizes) (ap (λ (r : RedoRecord). r.writes) is);
     };
     greatest = λ c over e. omega (arith, number_of_head c (only c (reads_head c over)), reads.mark_is);
     result = let z : m + 1 - mark_of image ≡ 1 = omega (arith, reads.mark_is) in rw z (ap (λ (h : List ℕ). slice_set h at value) (sym reads_home));
@@ -124,8 +124,8 @@ module _ {S m : ℕ} {home image : List ℕ} (reads : Reads S m home image) wher
     where
       number_is : number_of (tag_of (sizes_of image) image head) ≡ m + 1
       number_is =
-          let place_is = new.cell.place_is in
-          let front_is : front_of (fresh_sizes S) head ≡ word_place (fresh_sizes S) head 0 0 = omega arith in
+          let slot_is = new.cell.slot_is in
+          let front_is : cell_start (fresh_sizes S) head ≡ word_place (fresh_sizes S) head 0 0 = omega arith in
           subst (λ (s : Sizes). number_of (tag_of s image head) ≡ m + 1) (sym reads_sizes)
           (ap (λ (i : ℕ). number_of (slice_index image i)) front_is ∙ ap (λ (r : RedoRecord). r.number) is)
 

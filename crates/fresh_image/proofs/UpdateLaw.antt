@@ -10,27 +10,28 @@ use Rattle.dude_base.specs.declared.write.Write.{Write}
 use Rattle.dude_base.specs.Records.{RedoRecord}
 use Rattle.pmem_trait.specs.declared.call.Call.{Call}
 use Rattle.pmem_trait.specs.declared.call.Call.TheVariants.{Tell}
-use Rattle.pmem_trait.specs.Words.{newest, Word, Point, IsIn, MayBe, IsImage, still, after, after_all, Leaves, Along, more}
+use Rattle.pmem_trait.specs.Words.{newest, Word, State, IsIn, MayHold, IsImage, settled_at, after, after_all, EveryImage, AfterEachCall, more}
 use Rattle.pmem_trait.specs.Groups.{group_calls, OldOrNew, final}
 use Rattle.pmem_trait.proofs.GroupLaw.{group_law, group_word, group_told, mix_may}
 use Rattle.pmem_trait.proofs.Images.{may_still}
-use Rattle.pmem_trait.proofs.Laws.{along_last, along_leaves, along_then, after_all_then}
+use Rattle.pmem_trait.proofs.Laws.{after_each_last, after_each_leaves, after_each_then, after_all_then}
 use Rattle.redo_record.specs.Tags.{kind_of, number_of, head_tag, IsHeadOver}
-use Rattle.redo_record.specs.Cells.{Cell, front_of, word_place}
+use Rattle.dude_base.specs.Image.{Cell, cell_start}
+use Rattle.redo_record.specs.Cells.{word_place}
 use Rattle.redo_record.specs.Record.{HoldComplete, record_of}
 use Rattle.redo_record.specs.Encoding.{IsEncodable, encoded}
-use Rattle.redo_record.specs.Images.{mark_of, tag_of, cells_from, IsComplete, IsNewHead}
+use Rattle.redo_record.specs.Images.{mark_of, tag_of, word_in_image, IsComplete, IsNewHead}
 use Rattle.redo_record.specs.Recovery.{Recovers}
 use Rattle.redo_record.specs.Calls.{append_calls}
-use Rattle.redo_record.specs.Fits.{Logged, IsStill, FitsRing, settled_mark}
+use Rattle.redo_record.specs.Fits.{Logged, IsSettledWord, FitsRing, settled_mark}
 use Rattle.redo_record.specs.AppendLaw.{CanAppend, logged_as, IsElsewhere, HeadsHold, Appended}
 use Rattle.redo_record.proofs.AppendedRecord.{append_law}
 use Rattle.redo_record.proofs.EncodedCells.{cells_of_record, encoded_holds, encoded_record, encoded_writes}
 use Rattle.redo_record.proofs.HeldRecords.{AreSame, complete_same, record_same}
 use Rattle.redo_record.proofs.RingHeads.{is_still, cell_is}
 use Rattle.redo_record.proofs.RingRoom.{release_law, rest_law}
-use Rattle.fresh_image.specs.Fresh.{Stands, Rests, fresh_sizes, fresh_home_start, fresh_length}
-use Rattle.fresh_image.specs.Calls.{update_record, update_cell, home_write, mark_write, reproduce_calls, update_calls, AtLeast, ShowsEither}
+use Rattle.fresh_image.specs.Fresh.{RestsWith, AtRest, fresh_sizes, fresh_home_start, fresh_length}
+use Rattle.fresh_image.specs.Calls.{update_record, update_cell, home_write, mark_write, reproduce_calls, update_calls, AtLeast, RecoversToEither}
 use Rattle.fresh_image.proofs.Groups.{Within, written-outside, written-same, kept, either, left}
 use Rattle.fresh_image.proofs.Lists.{set-set_same, IsIn-drop_push}
 use Rattle.fresh_image.proofs.Shown.{Reads, fresh_sizes_are, recovers_rest, recovers_next}
@@ -45,7 +46,7 @@ over_or_not above tag = by (cases_eq (kind_of tag) 1) (cases_order above (number
     by (inl kind) (inr (inr past)) = inr (λ h. let o = h.over in omega arith)
     by (inr other) order = inr (λ h. other h.kind)
 
-settled_is : (w : Word) (x : ℕ) → w ≡ still x → w.settled ≡ x
+settled_is : (w : Word) (x : ℕ) → w ≡ settled_at x → w.settled ≡ x
 settled_is w x is = ap (λ (w : Word). w.settled) is
 
 -- No word before the ring or behind it is one of a record's cells.
@@ -54,11 +55,11 @@ elsewhere S place number at value i (inl low) k j few below e = omega arith
 elsewhere S place number at value i (inr high) k j few below e = omega arith
 
 -- the record of an update may be appended to a ring that has none
-can_append : {S n : ℕ} {home : List ℕ} {p : Point} (place at value : ℕ) → 1 ≤ S → S ≤ 10000 → place < 16 → n + 1 ≤ MAX_NUMBER → at < length home → Rests S n home p
+can_append : {S n : ℕ} {home : List ℕ} {p : State} (place at value : ℕ) → 1 ≤ S → S ≤ 10000 → place < 16 → n + 1 ≤ MAX_NUMBER → at < length home → AtRest S n home p
     → CanAppend (fresh_sizes S) (settled_mark p) [] (update_cell place) (update_record (n + 1) at value)
 can_append {S} {n} {home} {p} place at value low high inside small below rests = record {
   sizes = fresh_sizes_are S low high;
-  cell = record { ring_is = omega arith; place_is = inside };
+  cell = record { ring_is = omega arith; slot_is = inside };
   encodable = encodable;
   home = λ k d lt. let z : k ≡ 0 = omega arith in rw z (omega (arith, rests.count));
   free = λ k d lt. absurd (omega arith);
@@ -75,8 +76,8 @@ abbrev logged_update : ℕ → ℕ → ℕ → ℕ → Logged
 logged_update place number at value = logged_as (update_cell place) (update_record number at value)
 
 -- Each image on the way of an append is as before the update, or has its record.
-held_shows : {S n len : ℕ} {home : List ℕ} {p : Point} {told image : List ℕ} (place at value : ℕ) → 1 ≤ S → S ≤ 10000 → fresh_length S ≤ len
-    → place < 16 → n + 1 ≤ MAX_NUMBER → Rests S n home p → length image ≡ len
+held_shows : {S n len : ℕ} {home : List ℕ} {p : State} {told image : List ℕ} (place at value : ℕ) → 1 ≤ S → S ≤ 10000 → fresh_length S ≤ len
+    → place < 16 → n + 1 ≤ MAX_NUMBER → AtRest S n home p → length image ≡ len
     → HeadsHold (fresh_sizes S) [] (update_cell place) (update_record (n + 1) at value) p told image
     → Recovers 0 image n home ⊎ Recovers 0 image (n + 1) (slice_set home at value)
 held_shows {S} {n} {len} {home} {p} {told} {image} place at value low high long inside small rests size held =
@@ -88,7 +89,7 @@ held_shows {S} {n} {len} {home} {p} {told} {image} place at value low high long 
     head : Cell
     head = update_cell place
 
-    keep : (i x : ℕ) → i < fresh_length S → (i < 16) ⊎ (144 ≤ i) → p.word i ≡ still x → slice_index image i ≡ x
+    keep : (i x : ℕ) → i < fresh_length S → (i < 16) ⊎ (144 ≤ i) → p.word i ≡ settled_at x → slice_index image i ≡ x
     keep i x below out is = may_still _ _ _ is (held.others i (omega (arith, long, size)) (elsewhere S place (n + 1) at value i out))
 
     reads : Reads S n home image
@@ -106,23 +107,23 @@ held_shows {S} {n} {len} {home} {p} {told} {image} place at value low high long 
     ring_is : (c : Cell) → IsNewHead s n image c → c.ring ≡ 0
     ring_is c new = let r = new.cell.ring_is in omega arith
 
-    known : (c : Cell) → IsNewHead s n image c → (c ≡ head) × (record_of (cells_from s image c) ≡ update_record (n + 1) at value)
+    known : (c : Cell) → IsNewHead s n image c → (c ≡ head) × (record_of (word_in_image s image c) ≡ update_record (n + 1) at value)
     known c new = elim (held.known c (ring_is c new) (at_mark c new)) [ inl none ↦ absurd none | inr is ↦ is ]
 
     by : IsHeadOver n (tag_of s image head) ⊎ (IsHeadOver n (tag_of s image head) → ⊥) → Recovers 0 image n home ⊎ Recovers 0 image (n + 1) (slice_set home at value)
     by (inl over) =
-        let new : IsNewHead s n image head = record { cell = record { ring_is = omega arith; place_is = inside }; new = over } in
+        let new : IsNewHead s n image head = record { cell = record { ring_is = omega arith; slot_is = inside }; new = over } in
         inr (recovers_next reads head at value low high small new (held.complete head refl (at_mark head new)) (known head new).1 (λ c other. (known c other).0))
     by (inr none) = inl (recovers_rest reads low high (omega arith) (λ c new. none (subst (λ (c : Cell). IsHeadOver n (tag_of s image c)) (known c new).0 new.new)))
 
 -- The record of an update stands in the ring's cell at this place.
-pub record Logs (place number at value : ℕ) (p : Point) : Type 0 where
-  pub word : (j : ℕ) → j < 8 → p.word (16 + place * 8 + j) ≡ still (slice_index (encoded (update_record number at value) 0) j)
+pub record Logs (place number at value : ℕ) (p : State) : Type 0 where
+  pub word : (j : ℕ) → j < 8 → p.word (16 + place * 8 + j) ≡ settled_at (slice_index (encoded (update_record number at value) 0) j)
 
 -- An image that has the record of an update and no other head over its mark has the update.
-logged_shows : {S n : ℕ} {home next : List ℕ} {p : Point} {image : List ℕ} (place at value : ℕ) → 1 ≤ S → S ≤ 10000 → place < 16 → n + 1 ≤ MAX_NUMBER
-    → at < length home → Stands S n (logged_update place (n + 1) at value ∷ []) home p → Logs place (n + 1) at value p → Reads S n next image
-    → ((k : ℕ) → 16 ≤ k → k < 144 → MayBe (p.word k) (slice_index image k)) → Recovers 0 image (n + 1) (slice_set next at value)
+logged_shows : {S n : ℕ} {home next : List ℕ} {p : State} {image : List ℕ} (place at value : ℕ) → 1 ≤ S → S ≤ 10000 → place < 16 → n + 1 ≤ MAX_NUMBER
+    → at < length home → RestsWith S n (logged_update place (n + 1) at value ∷ []) home p → Logs place (n + 1) at value p → Reads S n next image
+    → ((k : ℕ) → 16 ≤ k → k < 144 → MayHold (p.word k) (slice_index image k)) → Recovers 0 image (n + 1) (slice_set next at value)
 logged_shows {S} {n} {home} {next} {p} {image} place at value low high inside small below st logs reads may =
     recovers_next reads head at value low high small new complete (record_same same ∙ encoded_record r encodable) only
   where
@@ -146,17 +147,17 @@ logged_shows {S} {n} {home} {next} {p} {image} place at value low high inside sm
         let place_is : word_place s head 0 j ≡ 16 + place * 8 + j = omega arith in
         ap (slice_index image) place_is ∙ may_still _ _ _ (logs.word j lt) (may (16 + place * 8 + j) (omega arith) (omega arith))
 
-    same : AreSame (cells_of_record r) (cells_from s image head) 1
+    same : AreSame (cells_of_record r) (word_in_image s image head) 1
     same = record {
-      word = λ k j few lt. let P : ℕ → Type 0 = λ k. cells_from s image head k j ≡ cells_of_record r k j in
+      word = λ k j few lt. let P : ℕ → Type 0 = λ k. word_in_image s image head k j ≡ cells_of_record r k j in
           let z : 0 ≡ k = omega arith in subst P z (word j lt);
     }
 
     tag_is : tag_of s image head ≡ head_tag (n + 1)
-    tag_is = let e : front_of s head ≡ word_place s head 0 0 = omega arith in ap (slice_index image) e ∙ word 0 (omega arith)
+    tag_is = let e : cell_start s head ≡ word_place s head 0 0 = omega arith in ap (slice_index image) e ∙ word 0 (omega arith)
 
     new : IsNewHead s n image head
-    new = record { cell = record { ring_is = omega arith; place_is = inside }; new = record { kind = omega (arith, tag_is); over = omega (arith, tag_is) } }
+    new = record { cell = record { ring_is = omega arith; slot_is = inside }; new = record { kind = omega (arith, tag_is); over = omega (arith, tag_is) } }
 
     homes : HoldComplete s (cells_of_record r)
     homes = record {
@@ -170,18 +171,18 @@ logged_shows {S} {n} {home} {next} {p} {image} place at value low high inside sm
     only : (c : Cell) → IsNewHead s n image c → c ≡ head
     only c other =
         let ring_is : c.ring ≡ 0 = (let z = other.cell.ring_is in omega arith) in
-        let place_is = other.cell.place_is in
-        let front_is : front_of s c ≡ front_of s (update_cell c.place) = ap (λ (ring : ℕ). 16 + (ring * 16 + c.place) * 8) ring_is in
-        let tag : IsHeadOver n (slice_index image (front_of s (update_cell c.place))) = subst (λ (i : ℕ). IsHeadOver n (slice_index image i)) front_is other.new in
-        let over : IsHeadOver (settled_mark p) (slice_index image (front_of s (update_cell c.place))) = subst (λ (m : ℕ). IsHeadOver m (slice_index image (front_of s (update_cell c.place)))) (sym (settled_is _ _ st.mark)) tag in
-        elim (st.ring.heads c.place _ place_is (may (front_of s (update_cell c.place)) (omega arith) (omega arith)) over) [
+        let slot_is = other.cell.slot_is in
+        let front_is : cell_start s c ≡ cell_start s (update_cell c.slot) = ap (λ (ring : ℕ). 16 + (ring * 16 + c.slot) * 8) ring_is in
+        let tag : IsHeadOver n (slice_index image (cell_start s (update_cell c.slot))) = subst (λ (i : ℕ). IsHeadOver n (slice_index image i)) front_is other.new in
+        let over : IsHeadOver (settled_mark p) (slice_index image (cell_start s (update_cell c.slot))) = subst (λ (m : ℕ). IsHeadOver m (slice_index image (cell_start s (update_cell c.slot)))) (sym (settled_is _ _ st.mark)) tag in
+        elim (st.ring.heads c.slot _ slot_is (may (cell_start s (update_cell c.slot)) (omega arith) (omega arith)) over) [
           | inl is ↦ cell_is c (update_cell place) ring_is (sym is.1)
           | inr none ↦ absurd none
         ]
 
 -- a word that a group doesn't write may be in a mix what it was
-may_stay : (low high : ℕ) {len : ℕ} {p : Point} {ws : List (ℕ × ℕ)} {image : List ℕ} → OldOrNew len p ws image → Within low high ws
-    → (k : ℕ) → k < len → (k < low) ⊎ (high ≤ k) → MayBe (p.word k) (slice_index image k)
+may_stay : (low high : ℕ) {len : ℕ} {p : State} {ws : List (ℕ × ℕ)} {image : List ℕ} → OldOrNew len p ws image → Within low high ws
+    → (k : ℕ) → k < len → (k < low) ⊎ (high ≤ k) → MayHold (p.word k) (slice_index image k)
 may_stay low high mix inside k below out = mix_may mix k below (written-outside low high _ k inside out)
 
 -- a place that isn't the one written lies outside
@@ -194,7 +195,7 @@ apart k at ne = side (cases_order k at)
     side (inr (inr gt)) = inr (omega arith)
 
 -- Each image of a medium at rest recovers to its number and its home words.
-pub rest_images : {S n len : ℕ} {home : List ℕ} {p : Point} → 1 ≤ S → S ≤ 10000 → fresh_length S ≤ len → n ≤ MAX_NUMBER → Rests S n home p
+pub rest_images : {S n len : ℕ} {home : List ℕ} {p : State} → 1 ≤ S → S ≤ 10000 → fresh_length S ≤ len → n ≤ MAX_NUMBER → AtRest S n home p
     → (image : List ℕ) → IsImage len p image → Recovers 0 image n home
 rest_images {S} {n} {len} {home} {p} low high long small rests image is =
     recovers_rest reads low high small none
@@ -202,7 +203,7 @@ rest_images {S} {n} {len} {home} {p} low high long small rests image is =
     s : Sizes
     s = fresh_sizes S
 
-    value_is : (k x : ℕ) → k < fresh_length S → p.word k ≡ still x → slice_index image k ≡ x
+    value_is : (k x : ℕ) → k < fresh_length S → p.word k ≡ settled_at x → slice_index image k ≡ x
     value_is k x below e = may_still _ _ _ e (is.each k (omega (arith, long)))
 
     reads : Reads S n home image
@@ -217,19 +218,19 @@ rest_images {S} {n} {len} {home} {p} low high long small rests image is =
     none : (c : Cell) → IsNewHead s n image c → ⊥
     none c new =
         let ring_is : c.ring ≡ 0 = (let z = new.cell.ring_is in omega arith) in
-        let place_is = new.cell.place_is in
-        let front_is : front_of s c ≡ front_of s (update_cell c.place) = ap (λ (ring : ℕ). 16 + (ring * 16 + c.place) * 8) ring_is in
-        let tag : IsHeadOver n (slice_index image (front_of s (update_cell c.place))) = subst (λ (i : ℕ). IsHeadOver n (slice_index image i)) front_is new.new in
-        let over : IsHeadOver (settled_mark p) (slice_index image (front_of s (update_cell c.place))) = subst (λ (m : ℕ). IsHeadOver m (slice_index image (front_of s (update_cell c.place)))) (sym (settled_is _ _ rests.mark)) tag in
-        rests.ring.heads c.place _ place_is (is.each (front_of s (update_cell c.place)) (omega (arith, long))) over
+        let slot_is = new.cell.slot_is in
+        let front_is : cell_start s c ≡ cell_start s (update_cell c.slot) = ap (λ (ring : ℕ). 16 + (ring * 16 + c.slot) * 8) ring_is in
+        let tag : IsHeadOver n (slice_index image (cell_start s (update_cell c.slot))) = subst (λ (i : ℕ). IsHeadOver n (slice_index image i)) front_is new.new in
+        let over : IsHeadOver (settled_mark p) (slice_index image (cell_start s (update_cell c.slot))) = subst (λ (m : ℕ). IsHeadOver m (slice_index image (cell_start s (update_cell c.slot)))) (sym (settled_is _ _ rests.mark)) tag in
+        rests.ring.heads c.slot _ slot_is (is.each (cell_start s (update_cell c.slot)) (omega (arith, long))) over
 
 -- A ring whose words are clear fits without records.
-pub empty_ring : (S n : ℕ) {p : Point} → p.word 8 ≡ still n → ((k : ℕ) → 16 ≤ k → k < 144 → p.word k ≡ still 0) → FitsRing (fresh_sizes S) 0 [] n p
+pub empty_ring : (S n : ℕ) {p : State} → p.word 8 ≡ settled_at n → ((k : ℕ) → 16 ≤ k → k < 144 → p.word k ≡ settled_at 0) → FitsRing (fresh_sizes S) 0 [] n p
 empty_ring S n {p} mark clear = record {
   mark = is_still mark;
   reproduced = omega (arith, settled_is _ _ mark);
   heads = λ place tag below may over.
-      let front = front_of (fresh_sizes S) (update_cell place) in
+      let front = cell_start (fresh_sizes S) (update_cell place) in
       let zero_tag : tag ≡ 0 = may_still (p.word front) 0 tag (clear front (omega arith) (omega arith)) may in
       let kind = over.kind in
       absurd (omega arith);
@@ -237,7 +238,7 @@ empty_ring S n {p} mark clear = record {
 }
 
 -- A tell leaves all words.
-pub stands_told : {S n : ℕ} {logged : List Logged} {home : List ℕ} {p : Point} (number : ℕ) → Stands S n logged home p → Stands S n logged home (after (Tell number) p)
+pub stands_told : {S n : ℕ} {logged : List Logged} {home : List ℕ} {p : State} (number : ℕ) → RestsWith S n logged home p → RestsWith S n logged home (after (Tell number) p)
 stands_told number st = record {
   header = st.header;
   mark = st.mark;
@@ -246,7 +247,7 @@ stands_told number st = record {
     reproduced = st.ring.reproduced;
     heads = st.ring.heads;
     records = λ k d lt over. let r = st.ring.records k d lt over in record {
-      still_words = r.still_words;
+      settled_words = r.settled_words;
       complete = r.complete;
       same_number = r.same_number;
       same_cells = r.same_cells;
@@ -258,30 +259,30 @@ stands_told number st = record {
 }
 
 -- The ring still fits after a group that writes none of its words and leaves the mark settled at no less.
-ring_past : {S n m : ℕ} {logged : List Logged} {p : Point} (low high : ℕ) (ws : List (ℕ × ℕ)) (ls : List ℕ) → Within low high ws → (high ≤ 16) ⊎ (144 ≤ low)
-    → ((k : ℕ) → 16 ≤ k → k < 144 → IsStill (p.word k)) → p.word 8 ≡ still n → (after_all (group_calls ws ls) p).word 8 ≡ still m → n ≤ m
+ring_past : {S n m : ℕ} {logged : List Logged} {p : State} (low high : ℕ) (ws : List (ℕ × ℕ)) (ls : List ℕ) → Within low high ws → (high ≤ 16) ⊎ (144 ≤ low)
+    → ((k : ℕ) → 16 ≤ k → k < 144 → IsSettledWord (p.word k)) → p.word 8 ≡ settled_at n → (after_all (group_calls ws ls) p).word 8 ≡ settled_at m → n ≤ m
     → FitsRing (fresh_sizes S) 0 logged n p → FitsRing (fresh_sizes S) 0 logged n (after_all (group_calls ws ls) p)
 ring_past {S} {n} {m} {logged} {p} low high ws ls inside out cells mark next upto fits =
     rest_law (fresh_sizes S) 0 logged n p q (omega arith) fits (is_still next) (omega (arith, settled_is _ _ mark, settled_is _ _ next)) tags
-    (λ place j x below lt is. left low high p ws ls inside (front_of (fresh_sizes S) (update_cell place) + j) x (side _ out (omega arith) (omega arith)) is)
+    (λ place j x below lt is. left low high p ws ls inside (cell_start (fresh_sizes S) (update_cell place) + j) x (side _ out (omega arith) (omega arith)) is)
   where
-    q : Point
+    q : State
     q = after_all (group_calls ws ls) p
 
     side : (k : ℕ) → (high ≤ 16) ⊎ (144 ≤ low) → 16 ≤ k → k < 144 → (k < low) ⊎ (high ≤ k)
     side k (inl a) from below = inr (omega arith)
     side k (inr a) from below = inl (omega arith)
 
-    tags : (place tag : ℕ) → place < 16 → MayBe (q.word (front_of (fresh_sizes S) (update_cell place))) tag → MayBe (p.word (front_of (fresh_sizes S) (update_cell place))) tag
+    tags : (place tag : ℕ) → place < 16 → MayHold (q.word (cell_start (fresh_sizes S) (update_cell place))) tag → MayHold (p.word (cell_start (fresh_sizes S) (update_cell place))) tag
     tags place tag below may =
-        let front = front_of (fresh_sizes S) (update_cell place) in
+        let front = cell_start (fresh_sizes S) (update_cell place) in
         let was = cells front (omega arith) (omega arith) in
         let is = left low high p ws ls inside front _ (side front out (omega arith) (omega arith)) was in
         inl (may_still (q.word front) _ tag is may)
 
 -- A group that writes a home word leaves the medium standing, with that word changed.
-stands_past_home : {S n : ℕ} {logged : List Logged} {home : List ℕ} {p : Point} (at value : ℕ) → at < length home → Stands S n logged home p
-    → Stands S n logged (slice_set home at value) (after_all (group_calls (home_write at value) ((fresh_home_start + at) / 8 ∷ [])) p)
+stands_past_home : {S n : ℕ} {logged : List Logged} {home : List ℕ} {p : State} (at value : ℕ) → at < length home → RestsWith S n logged home p
+    → RestsWith S n logged (slice_set home at value) (after_all (group_calls (home_write at value) ((fresh_home_start + at) / 8 ∷ [])) p)
 stands_past_home {S} {n} {logged} {home} {p} at value small st = record {
   header = λ k below. left (144 + at) (145 + at) p ws ls inside k _ (inl (omega arith)) (st.header k below);
   mark = mark;
@@ -300,23 +301,23 @@ stands_past_home {S} {n} {logged} {home} {p} at value small st = record {
     inside : Within (144 + at) (145 + at) ws
     inside = (omega arith, omega arith, tt)
 
-    mark : (after_all (group_calls ws ls) p).word 8 ≡ still n
+    mark : (after_all (group_calls ws ls) p).word 8 ≡ settled_at n
     mark = left (144 + at) (145 + at) p ws ls inside 8 _ (inl (omega arith)) st.mark
 
-    word : (k : ℕ) → k < length home → (k ≡ at) ⊎ (k ≢ at) → (after_all (group_calls ws ls) p).word (fresh_home_start + k) ≡ still (slice_index (slice_set home at value) k)
+    word : (k : ℕ) → k < length home → (k ≡ at) ⊎ (k ≢ at) → (after_all (group_calls ws ls) p).word (fresh_home_start + k) ≡ settled_at (slice_index (slice_set home at value) k)
     word k below (inl e) =
-        let P : ℕ → Type 0 = λ k. (after_all (group_calls ws ls) p).word (fresh_home_start + k) ≡ still (slice_index (slice_set home at value) k) in
+        let P : ℕ → Type 0 = λ k. (after_all (group_calls ws ls) p).word (fresh_home_start + k) ≡ settled_at (slice_index (slice_set home at value) k) in
         let final_is : final ws (fresh_home_start + at) (slice_index home at) ≡ value =
         ap (newest (slice_index home at)) (written-same (fresh_home_start + at) value) in
         let same : slice_index (slice_set home at value) at ≡ value = get_or-set_same home at value 0 small in
-        subst P (sym e) (group_word ws ls p (fresh_home_start + at) _ (st.words at small) (inr (inl refl)) ∙ ap still (final_is ∙ sym same))
+        subst P (sym e) (group_word ws ls p (fresh_home_start + at) _ (st.words at small) (inr (inl refl)) ∙ ap settled_at (final_is ∙ sym same))
     word k below (inr ne) =
         left (144 + at) (145 + at) p ws ls inside (fresh_home_start + k) _ (apart k at ne) (st.words k below)
-        ∙ ap still (sym (get_or-set_other home at k value 0 ne))
+        ∙ ap settled_at (sym (get_or-set_other home at k value 0 ne))
 
 -- A group that raises the mark to the number of the one record leaves the medium at rest there.
-rests_past_mark : {S n : ℕ} {home : List ℕ} {p : Point} (place at value : ℕ) → Stands S n (logged_update place (n + 1) at value ∷ []) home p
-    → Rests S (n + 1) home (after_all (group_calls (mark_write (n + 1)) (1 ∷ [])) p)
+rests_past_mark : {S n : ℕ} {home : List ℕ} {p : State} (place at value : ℕ) → RestsWith S n (logged_update place (n + 1) at value ∷ []) home p
+    → AtRest S (n + 1) home (after_all (group_calls (mark_write (n + 1)) (1 ∷ [])) p)
 rests_past_mark {S} {n} {home} {p} place at value st = record {
   header = λ k below. left 8 9 p ws (1 ∷ []) inside k _ (inl (omega arith)) (st.header k below);
   mark = mark;
@@ -335,19 +336,19 @@ rests_past_mark {S} {n} {home} {p} place at value st = record {
     l : Logged
     l = logged_update place (n + 1) at value
 
-    q : Point
+    q : State
     q = after_all (group_calls ws (1 ∷ [])) p
 
     inside : Within 8 9 ws
     inside = (omega arith, omega arith, tt)
 
-    mark : q.word 8 ≡ still (n + 1)
+    mark : q.word 8 ≡ settled_at (n + 1)
     mark = group_word ws (1 ∷ []) p 8 _ st.mark (inr (inl refl))
 
 -- After the append the medium stands with the record in its ring.
-stands_appended : {S n : ℕ} {home : List ℕ} {p q : Point} (place at value : ℕ) → place < 16 → Rests S n home p
+stands_appended : {S n : ℕ} {home : List ℕ} {p q : State} (place at value : ℕ) → place < 16 → AtRest S n home p
     → Appended (fresh_sizes S) [] n (update_cell place) (update_record (n + 1) at value) p q
-    → Stands S n (logged_update place (n + 1) at value ∷ []) home q × Logs place (n + 1) at value q
+    → RestsWith S n (logged_update place (n + 1) at value ∷ []) home q × Logs place (n + 1) at value q
 stands_appended {S} {n} {home} {p} {q} place at value small rests done = (
   record {
     header = λ k below. other k _ (inl (omega arith)) (rests.header k below);
@@ -369,22 +370,22 @@ stands_appended {S} {n} {home} {p} {q} place at value small rests done = (
     r : RedoRecord
     r = update_record (n + 1) at value
 
-    other : (k x : ℕ) → (k < 16) ⊎ (144 ≤ k) → p.word k ≡ still x → q.word k ≡ still x
-    other k x out is = done.still_others k x (elsewhere S place (n + 1) at value k out) is
+    other : (k x : ℕ) → (k < 16) ⊎ (144 ≤ k) → p.word k ≡ settled_at x → q.word k ≡ settled_at x
+    other k x out is = done.settled_others k x (elsewhere S place (n + 1) at value k out) is
 
-    word : (j : ℕ) → j < 8 → q.word (16 + place * 8 + j) ≡ still (slice_index (encoded r 0) j)
+    word : (j : ℕ) → j < 8 → q.word (16 + place * 8 + j) ≡ settled_at (slice_index (encoded r 0) j)
     word j lt = let e : word_place s head 0 j ≡ 16 + place * 8 + j = omega arith in
-        subst (λ (i : ℕ). q.word i ≡ still (slice_index (encoded r 0) j)) e (done.settled 0 j (omega arith) lt)
+        subst (λ (i : ℕ). q.word i ≡ settled_at (slice_index (encoded r 0) j)) e (done.settled 0 j (omega arith) lt)
 
-    cell : (k : ℕ) → 16 ≤ k → k < 144 → ((k - 16) / 8 ≡ place) ⊎ ((k - 16) / 8 ≢ place) → IsStill (q.word k)
+    cell : (k : ℕ) → 16 ≤ k → k < 144 → ((k - 16) / 8 ≡ place) ⊎ ((k - 16) / 8 ≢ place) → IsSettledWord (q.word k)
     cell k from below (inl same) =
         let e : 16 + place * 8 + (k - 16) % 8 ≡ k = omega arith in
-        subst (λ (i : ℕ). IsStill (q.word i)) e (is_still (word ((k - 16) % 8) (omega arith)))
-    cell k from below (inr ne) = is_still (done.still_others k _ (λ i j few lt e. ne (omega arith)) (rests.cells k from below))
+        subst (λ (i : ℕ). IsSettledWord (q.word i)) e (is_still (word ((k - 16) % 8) (omega arith)))
+    cell k from below (inr ne) = is_still (done.settled_others k _ (λ i j few lt e. ne (omega arith)) (rests.cells k from below))
 
 -- The group of the home word: each image has the update.
-home_images : {S n len : ℕ} {home : List ℕ} {p : Point} {image : List ℕ} (place at value : ℕ) → 1 ≤ S → S ≤ 10000 → fresh_length S ≤ len → place < 16
-    → n + 1 ≤ MAX_NUMBER → at < length home → Stands S n (logged_update place (n + 1) at value ∷ []) home p → Logs place (n + 1) at value p
+home_images : {S n len : ℕ} {home : List ℕ} {p : State} {image : List ℕ} (place at value : ℕ) → 1 ≤ S → S ≤ 10000 → fresh_length S ≤ len → place < 16
+    → n + 1 ≤ MAX_NUMBER → at < length home → RestsWith S n (logged_update place (n + 1) at value ∷ []) home p → Logs place (n + 1) at value p
     → OldOrNew len p (home_write at value) image → Recovers 0 image (n + 1) (slice_set home at value)
 home_images {S} {n} {len} {home} {p} {image} place at value low high long small number inside st logs mix =
     subst (Recovers 0 image (n + 1)) (set-set_same home at _ value)
@@ -393,7 +394,7 @@ home_images {S} {n} {len} {home} {p} {image} place at value low high long small 
     within : Within (144 + at) (145 + at) (home_write at value)
     within = (omega arith, omega arith, tt)
 
-    keep : (k x : ℕ) → k < fresh_length S → (k < 144 + at) ⊎ (145 + at ≤ k) → p.word k ≡ still x → slice_index image k ≡ x
+    keep : (k x : ℕ) → k < fresh_length S → (k < 144 + at) ⊎ (145 + at ≤ k) → p.word k ≡ settled_at x → slice_index image k ≡ x
     keep k x below out is = kept (144 + at) (145 + at) mix within k x (omega (arith, long)) out is
 
     word : (k : ℕ) → k < length home → (k ≡ at) ⊎ (k ≢ at) → slice_index image (144 + k) ≡ slice_index (slice_set home at (slice_index image (144 + at))) k
@@ -412,8 +413,8 @@ home_images {S} {n} {len} {home} {p} {image} place at value low high long small 
     }
 
 -- The group of the mark: each image has the update.
-mark_images : {S n len : ℕ} {home : List ℕ} {p : Point} {image : List ℕ} (place at value : ℕ) → 1 ≤ S → S ≤ 10000 → fresh_length S ≤ len → place < 16
-    → n + 1 ≤ MAX_NUMBER → at < length home → slice_set home at value ≡ home → Stands S n (logged_update place (n + 1) at value ∷ []) home p → Logs place (n + 1) at value p
+mark_images : {S n len : ℕ} {home : List ℕ} {p : State} {image : List ℕ} (place at value : ℕ) → 1 ≤ S → S ≤ 10000 → fresh_length S ≤ len → place < 16
+    → n + 1 ≤ MAX_NUMBER → at < length home → slice_set home at value ≡ home → RestsWith S n (logged_update place (n + 1) at value ∷ []) home p → Logs place (n + 1) at value p
     → OldOrNew len p (mark_write (n + 1)) image → Recovers 0 image (n + 1) home
 mark_images {S} {n} {len} {home} {p} {image} place at value low high long small number inside same st logs mix =
     by_mark (either mix 8 n (omega (arith, long)) st.mark)
@@ -424,10 +425,10 @@ mark_images {S} {n} {len} {home} {p} {image} place at value low high long small 
     within : Within 8 9 (mark_write (n + 1))
     within = (omega arith, omega arith, tt)
 
-    keep : (k x : ℕ) → k < fresh_length S → (k < 8) ⊎ (9 ≤ k) → p.word k ≡ still x → slice_index image k ≡ x
+    keep : (k x : ℕ) → k < fresh_length S → (k < 8) ⊎ (9 ≤ k) → p.word k ≡ settled_at x → slice_index image k ≡ x
     keep k x below out is = kept 8 9 mix within k x (omega (arith, long)) out is
 
-    may : (k : ℕ) → 16 ≤ k → k < 144 → MayBe (p.word k) (slice_index image k)
+    may : (k : ℕ) → 16 ≤ k → k < 144 → MayHold (p.word k) (slice_index image k)
     may k from below = may_stay 8 9 mix within k (omega (arith, long)) (inr (omega arith))
 
     reads : (mark : ℕ) → slice_index image 8 ≡ mark → Reads S mark home image
@@ -442,13 +443,13 @@ mark_images {S} {n} {len} {home} {p} {image} place at value low high long small 
     none : (c : Cell) → IsNewHead s (n + 1) image c → ⊥
     none c new =
         let ring_is : c.ring ≡ 0 = (let z = new.cell.ring_is in omega arith) in
-        let place_is = new.cell.place_is in
-        let front = front_of s (update_cell c.place) in
-        let front_is : front_of s c ≡ front = ap (λ (ring : ℕ). 16 + (ring * 16 + c.place) * 8) ring_is in
+        let slot_is = new.cell.slot_is in
+        let front = cell_start s (update_cell c.slot) in
+        let front_is : cell_start s c ≡ front = ap (λ (ring : ℕ). 16 + (ring * 16 + c.slot) * 8) ring_is in
         let tag : IsHeadOver (n + 1) (slice_index image front) = subst (λ (i : ℕ). IsHeadOver (n + 1) (slice_index image i)) front_is new.new in
         let past = tag.over in
         let over : IsHeadOver (settled_mark p) (slice_index image front) = record { kind = tag.kind; over = omega (arith, settled_is _ _ st.mark) } in
-        elim (st.ring.heads c.place _ place_is (may front (omega arith) (omega arith)) over) [
+        elim (st.ring.heads c.slot _ slot_is (may front (omega arith) (omega arith)) over) [
           | inl is ↦ (let e = is.0 in omega arith)
           | inr none_left ↦ absurd none_left
         ]
@@ -459,7 +460,7 @@ mark_images {S} {n} {len} {home} {p} {image} place at value low high long small 
     by_mark (inr (inr none_left)) = absurd none_left
 
 -- the record stays past groups behind the ring and before it
-logs_past : {place number at value : ℕ} {p : Point} (low high : ℕ) (ws : List (ℕ × ℕ)) (ls : List ℕ) → Within low high ws → 144 ≤ low → place < 16
+logs_past : {place number at value : ℕ} {p : State} (low high : ℕ) (ws : List (ℕ × ℕ)) (ls : List ℕ) → Within low high ws → 144 ≤ low → place < 16
     → Logs place number at value p → Logs place number at value (after_all (group_calls ws ls) p)
 logs_past {place} {p = p} low high ws ls inside out small logs = record {
   word = λ j lt. left low high p ws ls inside (16 + place * 8 + j) _ (inl (omega arith)) (logs.word j lt);
@@ -474,28 +475,28 @@ at_least_next : (before number : ℕ) (told : List ℕ) → AtLeast before told 
 at_least_next before number told h x is = let b = h x is in omega arith
 
 -- the medium after each step of an update
-abbrev after_append : ℕ → ℕ → ℕ → ℕ → ℕ → Point → Point
+abbrev after_append : ℕ → ℕ → ℕ → ℕ → ℕ → State → State
 after_append S n place at value p = after_all (append_calls (fresh_sizes S) (update_cell place) (update_record (n + 1) at value)) p
 
-abbrev after_home : ℕ → ℕ → Point → Point
+abbrev after_home : ℕ → ℕ → State → State
 after_home at value p = after_all (group_calls (home_write at value) ((fresh_home_start + at) / 8 ∷ [])) p
 
-abbrev after_mark : ℕ → Point → Point
+abbrev after_mark : ℕ → State → State
 after_mark n p = after_all (group_calls (mark_write (n + 1)) (1 ∷ [])) p
 
 -- the medium after the append
-module _ {S n : ℕ} {home : List ℕ} {p : Point} (place at value : ℕ) (low : 1 ≤ S) (high : S ≤ 10000) (inside : place < 16) (small : n + 1 ≤ MAX_NUMBER)
-    (below : at < length home) (rests : Rests S n home p) where
+module _ {S n : ℕ} {home : List ℕ} {p : State} (place at value : ℕ) (low : 1 ≤ S) (high : S ≤ 10000) (inside : place < 16) (small : n + 1 ≤ MAX_NUMBER)
+    (below : at < length home) (rests : AtRest S n home p) where
   appended : Appended (fresh_sizes S) [] n (update_cell place) (update_record (n + 1) at value) p (after_append S n place at value p)
   appended = (append_law (fresh_sizes S) [] n (update_cell place) (update_record (n + 1) at value) p (fresh_length S) (omega arith) rests.ring (can_append place at value low high inside small below rests)).2
 
-  stands2 : Stands S n (logged_update place (n + 1) at value ∷ []) home (after_append S n place at value p)
+  stands2 : RestsWith S n (logged_update place (n + 1) at value ∷ []) home (after_append S n place at value p)
   stands2 = (stands_appended place at value inside rests appended).0
 
   logs2 : Logs place (n + 1) at value (after_append S n place at value p)
   logs2 = (stands_appended place at value inside rests appended).1
 
-  stands3 : Stands S n (logged_update place (n + 1) at value ∷ []) home (after (Tell (n + 1)) (after_append S n place at value p))
+  stands3 : RestsWith S n (logged_update place (n + 1) at value ∷ []) home (after (Tell (n + 1)) (after_append S n place at value p))
   stands3 = stands_told (n + 1) stands2
 
   logs3 : Logs place (n + 1) at value (after (Tell (n + 1)) (after_append S n place at value p))
@@ -507,13 +508,13 @@ module _ {S n : ℕ} {home : List ℕ} {p : Point} (place at value : ℕ) (low :
   -- From a medium at rest each image at each moment of an update is as before it or as after it, and what it shows is at
   -- least every number told.
   pub update_images : {len : ℕ} (before : ℕ) → fresh_length S ≤ len → AtLeast before p.told n
-      → Along (Leaves len (ShowsEither before n home (slice_set home at value))) p (update_calls S place (n + 1) at value)
+      → AfterEachCall (EveryImage len (RecoversToEither before n home (slice_set home at value))) p (update_calls S place (n + 1) at value)
   unfolding update_calls reproduce_calls
   update_images {len} before long floor =
-      along_then along_append (more (along_last along_append) (along_then along_home along_mark))
+      after_each_then after_each_append (more (after_each_last after_each_append) (after_each_then after_each_home after_each_mark))
     where
       P : List ℕ → List ℕ → Type 0
-      P = ShowsEither before n home (slice_set home at value)
+      P = RecoversToEither before n home (slice_set home at value)
 
       held : (told image : List ℕ) → length image ≡ len → HeadsHold (fresh_sizes S) [] (update_cell place) (update_record (n + 1) at value) p told image → P told image
       held told image size h =
@@ -524,23 +525,23 @@ module _ {S n : ℕ} {home : List ℕ} {p : Point} (place at value : ℕ) (low :
             | inr r ↦ inr (r, at_least_next before n told floor2)
           ]
 
-      along_append : Along (Leaves len P) p (append_calls (fresh_sizes S) (update_cell place) (update_record (n + 1) at value))
-      along_append = along_leaves held
+      after_each_append : AfterEachCall (EveryImage len P) p (append_calls (fresh_sizes S) (update_cell place) (update_record (n + 1) at value))
+      after_each_append = after_each_leaves held
           (append_law (fresh_sizes S) [] n (update_cell place) (update_record (n + 1) at value) p len long rests.ring (can_append place at value low high inside small below rests)).0
 
-      p3 : Point
+      p3 : State
       p3 = after (Tell (n + 1)) (after_append S n place at value p)
 
       floor3 : AtLeast before p3.told (n + 1)
       floor3 = subst (λ (told : List ℕ). AtLeast before told (n + 1)) (sym told3) (at_least_told before n p.told floor)
 
-      along_home : Along (Leaves len P) p3 (group_calls (home_write at value) ((fresh_home_start + at) / 8 ∷ []))
-      along_home = group_law (home_write at value) (λ image mix. inr (home_images place at value low high long inside small below stands3 logs3 mix, floor3)) ((fresh_home_start + at) / 8 ∷ [])
+      after_each_home : AfterEachCall (EveryImage len P) p3 (group_calls (home_write at value) ((fresh_home_start + at) / 8 ∷ []))
+      after_each_home = group_law (home_write at value) (λ image mix. inr (home_images place at value low high long inside small below stands3 logs3 mix, floor3)) ((fresh_home_start + at) / 8 ∷ [])
 
-      p4 : Point
+      p4 : State
       p4 = after_home at value p3
 
-      stands4 : Stands S n (logged_update place (n + 1) at value ∷ []) (slice_set home at value) p4
+      stands4 : RestsWith S n (logged_update place (n + 1) at value ∷ []) (slice_set home at value) p4
       stands4 = stands_past_home at value below stands3
 
       logs4 : Logs place (n + 1) at value p4
@@ -549,19 +550,19 @@ module _ {S n : ℕ} {home : List ℕ} {p : Point} (place at value : ℕ) (low :
       floor4 : AtLeast before p4.told (n + 1)
       floor4 = subst (λ (told : List ℕ). AtLeast before told (n + 1)) (sym (group_told (home_write at value) ((fresh_home_start + at) / 8 ∷ []) p3)) floor3
 
-      along_mark : Along (Leaves len P) p4 (group_calls (mark_write (n + 1)) (1 ∷ []))
-      along_mark = group_law (mark_write (n + 1)) (λ image mix. inr (
+      after_each_mark : AfterEachCall (EveryImage len P) p4 (group_calls (mark_write (n + 1)) (1 ∷ []))
+      after_each_mark = group_law (mark_write (n + 1)) (λ image mix. inr (
         mark_images place at value low high long inside small
             (rw (length-set home at value) below) (set-set_same home at value value) stands4 logs4 mix,
         floor4,
       )) (1 ∷ [])
 
   -- After the update the medium rests at the next number and home, and the number was told.
-  pub update_rests : Rests S (n + 1) (slice_set home at value) (after_all (update_calls S place (n + 1) at value) p)
+  pub update_rests : AtRest S (n + 1) (slice_set home at value) (after_all (update_calls S place (n + 1) at value) p)
       × ((after_all (update_calls S place (n + 1) at value) p).told ≡ p.told ++ (n + 1) ∷ [])
   unfolding update_calls reproduce_calls
   update_rests =
-      let Q : Point → Type 0 = λ q. Rests S (n + 1) (slice_set home at value) q × (q.told ≡ p.told ++ (n + 1) ∷ []) in
+      let Q : State → Type 0 = λ q. AtRest S (n + 1) (slice_set home at value) q × (q.told ≡ p.told ++ (n + 1) ∷ []) in
       subst Q (sym whole) (rests_past_mark place at value stands4, told5)
     where
       calls : List Call
@@ -573,13 +574,13 @@ module _ {S n : ℕ} {home : List ℕ} {p : Point} (place at value : ℕ) (low :
       mark : List Call
       mark = group_calls (mark_write (n + 1)) (1 ∷ [])
 
-      p3 : Point
+      p3 : State
       p3 = after (Tell (n + 1)) (after_append S n place at value p)
 
-      p4 : Point
+      p4 : State
       p4 = after_home at value p3
 
-      stands4 : Stands S n (logged_update place (n + 1) at value ∷ []) (slice_set home at value) p4
+      stands4 : RestsWith S n (logged_update place (n + 1) at value ∷ []) (slice_set home at value) p4
       stands4 = stands_past_home at value below stands3
 
       whole : after_all (calls ++ (Tell (n + 1) ∷ (store ++ mark))) p ≡ after_mark n p4

@@ -3,13 +3,13 @@
 use Rattle.std.specs.Prelude.{◌≡◌, ◌⊎◌, ℕ, ◌+◌, ◌/◌, ◌<◌, ◌≤◌, List, [], ◌∷◌, ◌++◌, length, drop}
 use Rattle.pmem_trait.specs.declared.call.Call.{Call}
 use Rattle.pmem_trait.specs.declared.call.Call.TheVariants.{Tell}
-use Rattle.pmem_trait.specs.Words.{IsIn, Point}
+use Rattle.pmem_trait.specs.Words.{IsIn, State}
 use Rattle.pmem_trait.specs.Groups.{group_calls}
 use Rattle.dude_base.specs.Records.{RedoRecord}
-use Rattle.redo_record.specs.Cells.{Cell}
+use Rattle.dude_base.specs.Image.{Cell}
 use Rattle.redo_record.specs.Calls.{append_calls}
 use Rattle.redo_record.specs.Recovery.{Recovers}
-use Rattle.fresh_image.specs.Fresh.{Rests, fresh_sizes, fresh_home_start}
+use Rattle.fresh_image.specs.Fresh.{AtRest, fresh_sizes, fresh_home_start}
 
 -- the record of an update
 abbrev pub update_record : ℕ → ℕ → ℕ → RedoRecord
@@ -17,7 +17,7 @@ update_record number at value = record { number = number; writes = record { at =
 
 -- the cell of its head
 abbrev pub update_cell : ℕ → Cell
-update_cell place = record { ring = 0; place = place }
+update_cell place = record { ring = 0; slot = place }
 
 abbrev pub home_write : ℕ → ℕ → List (ℕ × ℕ)
 home_write at value = (fresh_home_start + at, value) ∷ []
@@ -40,19 +40,19 @@ abbrev pub AtLeast : ℕ → List ℕ → ℕ → Type 0
 AtLeast before told number = (x : ℕ) → IsIn x (drop before told) → x ≤ number
 
 -- The image recovers to this number and these home words, and nothing greater was told.
-abbrev pub Shows : ℕ → ℕ → List ℕ → List ℕ → List ℕ → Type 0
-Shows before number home told image = Recovers 0 image number home × AtLeast before told number
+abbrev pub RecoversToTold : ℕ → ℕ → List ℕ → List ℕ → List ℕ → Type 0
+RecoversToTold before number home told image = Recovers 0 image number home × AtLeast before told number
 
 -- the image is as before an update, or as after it
-abbrev pub ShowsEither : ℕ → ℕ → List ℕ → List ℕ → List ℕ → List ℕ → Type 0
-ShowsEither before number home next told image =
-    Shows before number home told image ⊎ Shows before (number + 1) next told image
+abbrev pub RecoversToEither : ℕ → ℕ → List ℕ → List ℕ → List ℕ → List ℕ → Type 0
+RecoversToEither before number home next told image =
+    RecoversToTold before number home told image ⊎ RecoversToTold before (number + 1) next told image
 
 -- the medium rests before an update of this home word, and the numbers told are at most its number
-abbrev pub StepsFrom : ℕ → ℕ → ℕ → List ℕ → ℕ → Point → Type 0
-StepsFrom subscribers before number home at p =
-    (at < length home) × Rests subscribers number home p × AtLeast before p.told number
+abbrev pub AtRestFor : ℕ → ℕ → ℕ → List ℕ → ℕ → State → Type 0
+AtRestFor subscribers before number home at p =
+    (at < length home) × AtRest subscribers number home p × AtLeast before p.told number
 
 -- the medium rests at this number and these home words, and the number was told
-abbrev pub RestsTold : ℕ → ℕ → List ℕ → Point → Point → Type 0
-RestsTold subscribers number home old new = Rests subscribers number home new × (new.told ≡ old.told ++ number ∷ [])
+abbrev pub AtRestTold : ℕ → ℕ → List ℕ → State → State → Type 0
+AtRestTold subscribers number home old new = AtRest subscribers number home new × (new.told ≡ old.told ++ number ∷ [])

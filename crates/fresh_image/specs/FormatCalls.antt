@@ -6,9 +6,9 @@ use Rattle.pmem_trait.specs.declared.call.Call.{Call}
 use Rattle.pmem_trait.specs.declared.call.Call.TheVariants.{Tell}
 use Rattle.pmem_trait.specs.Groups.{group_calls}
 use Rattle.dude_base.specs.declared.limits.TheConstants.{MAGIC}
-use Rattle.pmem_trait.specs.Words.{Point}
+use Rattle.pmem_trait.specs.Words.{State}
 use Rattle.tatp_model.specs.Population.{population}
-use Rattle.fresh_image.specs.Fresh.{fresh_length, fresh_pages, Rests}
+use Rattle.fresh_image.specs.Fresh.{fresh_length, fresh_pages, AtRest}
 use Rattle.fresh_image.specs.Rows.{home_words}
 use Rattle.redo_record.specs.Recovery.{Recovers}
 
@@ -38,10 +38,10 @@ format_calls subscribers home =
     ++ (group_calls (header_writes subscribers) (0 ∷ []) ++ (group_calls (magic_write MAGIC) (0 ∷ []) ++ Tell 0 ∷ [])))
 
 -- nothing was told yet, or the image recovers to 0 and these home words
-abbrev pub ShowsOnceTold : List ℕ → List ℕ → List ℕ → List ℕ → Type 0
-ShowsOnceTold before home told image = (told ≡ before) ⊎ ((told ≡ before ++ 0 ∷ []) × Recovers 0 image 0 home)
+abbrev pub RecoversOnceTold : List ℕ → List ℕ → List ℕ → List ℕ → Type 0
+RecoversOnceTold before home told image = (told ≡ before) ⊎ ((told ≡ before ++ 0 ∷ []) × Recovers 0 image 0 home)
 
 -- the medium rests at 0 with the population's home words, and 0 was told
-abbrev pub RestsFormatted : ℕ → Point → Point → Type 0
-RestsFormatted subscribers old new =
-    Rests subscribers 0 (home_words subscribers (population subscribers).subscribers) new × (new.told ≡ old.told ++ 0 ∷ [])
+abbrev pub AtRestFormatted : ℕ → State → State → Type 0
+AtRestFormatted subscribers old new =
+    AtRest subscribers 0 (home_words subscribers (population subscribers).subscribers) new × (new.told ≡ old.told ++ 0 ∷ [])

@@ -3,8 +3,8 @@ use Rattle.std.specs.Prelude.{◌≡◌, ℕ, ◌+◌, ◌*◌, ◌<◌, ◌≤�
 use Rattle.dude_base.specs.declared.limits.TheConstants.{MAGIC}
 use Rattle.dude_base.specs.declared.sizes.Sizes.{Sizes}
 use Rattle.dude_base.specs.Home.{pages_for}
-use Rattle.pmem_trait.specs.Words.{Point, still}
-use Rattle.redo_record.specs.Fits.{Logged, IsStill, FitsRing}
+use Rattle.pmem_trait.specs.Words.{State, settled_at}
+use Rattle.redo_record.specs.Fits.{Logged, IsSettledWord, FitsRing}
 
 -- the pages that the tables of so many subscribers need, with twelve call rows a subscriber
 unfoldable pub fresh_pages : ℕ → ℕ
@@ -37,14 +37,14 @@ fresh_header subscribers = MAGIC ∷ 0 ∷ subscribers ∷ 12 * subscribers ∷ 
 
 -- The medium stands at a number, with these records in its ring: the header, the mark and the home words are settled at
 -- these values, the ring fits, and its words are settled.
-pub record Stands (subscribers number : ℕ) (logged : List Logged) (home : List ℕ) (p : Point) : Type 0 where
-  pub header : (k : ℕ) → k < 8 → p.word k ≡ still (slice_index (fresh_header subscribers) k)
-  pub mark : p.word 8 ≡ still number
+pub record RestsWith (subscribers number : ℕ) (logged : List Logged) (home : List ℕ) (p : State) : Type 0 where
+  pub header : (k : ℕ) → k < 8 → p.word k ≡ settled_at (slice_index (fresh_header subscribers) k)
+  pub mark : p.word 8 ≡ settled_at number
   pub ring : FitsRing (fresh_sizes subscribers) 0 logged number p
-  pub cells : (k : ℕ) → 16 ≤ k → k < 144 → IsStill (p.word k)
+  pub cells : (k : ℕ) → 16 ≤ k → k < 144 → IsSettledWord (p.word k)
   pub count : length home ≡ fresh_home_length subscribers
-  pub words : (k : ℕ) → k < length home → p.word (fresh_home_start + k) ≡ still (slice_index home k)
+  pub words : (k : ℕ) → k < length home → p.word (fresh_home_start + k) ≡ settled_at (slice_index home k)
 
 -- The medium between two requests: no record is over the mark.
-abbrev pub Rests : ℕ → ℕ → List ℕ → Point → Type 0
-Rests subscribers number home p = Stands subscribers number [] home p
+abbrev pub AtRest : ℕ → ℕ → List ℕ → State → Type 0
+AtRest subscribers number home p = RestsWith subscribers number [] home p

@@ -4,7 +4,7 @@ use Rattle.log_ring.specs.Ring.{RingState}
 use Rattle.fresh_image.specs.Fresh.{fresh_sizes}
 
 -- The ring is the only one of the image, and has no record; the numbers released are up to this one.
-pub record IsIdle (subscribers number : ℕ) (ring : RingState) : Type 0 where
+pub record RingAtRest (subscribers number : ℕ) (ring : RingState) : Type 0 where
   pub sizes : ring.sizes ≡ fresh_sizes subscribers
   pub first : ring.ring ≡ 0
   pub empty : ring.logged ≡ []

@@ -11,14 +11,14 @@ abbrev pub subscriber_with : ℕ → ℕ → SubRow
 subscriber_with s vlr = record (subscriber_at s) { vlr = vlr }
 
 -- the population's subscribers from number s on, one at each of these locations
-abbrev pub located : ℕ → List ℕ → List SubRow
-located s [] = []
-located s (vlr ∷ vlrs) = subscriber_with s vlr ∷ located (s + 1) vlrs
+abbrev pub subscribers_at : ℕ → List ℕ → List SubRow
+subscribers_at s [] = []
+subscribers_at s (vlr ∷ vlrs) = subscriber_with s vlr ∷ subscribers_at (s + 1) vlrs
 
 -- how many subscribers there are
-abbrev pub count_of : Store → ℕ
-count_of store = vec_len store.locations
+abbrev pub subscriber_count : Store → ℕ
+subscriber_count store = vec_len store.locations
 
 -- the four tables: the population's, with the locations of the store
-abbrev pub database_of : Store → Database
-database_of store = record (population (count_of store)) { subscribers = located 1 store.locations.items }
+abbrev pub database_at : Store → Database
+database_at store = record (population (subscriber_count store)) { subscribers = subscribers_at 1 store.locations.items }

@@ -1,14 +1,14 @@
 ghost use Rattle.std.specs.Prelude.{◌≡◌, ℕ, ◌+◌, ◌-◌, ◌≤◌, ◌/◌, length, is_ok, OnOk, IsTrue, ◌++◌, ◌∷◌, []};
 ghost use Rattle.std.specs.List.{enumerate_from};
 ghost use Rattle.pmem_trait.specs.Words.{IsSettled};
-ghost use Rattle.pmem_trait.specs.Sights.{here, Makes, Keeps};
+ghost use Rattle.pmem_trait.specs.Sights.{state_now, CallsMade, AtEveryMoment};
 ghost use Rattle.pmem_trait.specs.Groups.{put_pairs, flush_lines, group_calls};
 ghost use Rattle.tatp_model.specs.Population.{population};
 ghost use Rattle.pmem_trait.specs.declared.call.Call.TheVariants.{Tell};
 ghost use Rattle.dude_base.specs.declared.limits.TheConstants.{MAGIC};
 ghost use Rattle.fresh_image.specs.Fresh.{fresh_length};
 ghost use Rattle.fresh_image.specs.Rows.{home_words};
-ghost use Rattle.fresh_image.specs.FormatCalls.{clear_cells, content_writes, content_lines, header_writes, magic_write, format_calls, ShowsOnceTold, RestsFormatted};
+ghost use Rattle.fresh_image.specs.FormatCalls.{clear_cells, content_writes, content_lines, header_writes, magic_write, format_calls, RecoversOnceTold, AtRestFormatted};
 
 use crate::population::initial_word;
 use crate::sizes::ImageSizes;
@@ -19,7 +19,7 @@ use pmem_trait::{Failed, Medium, settle_group};
 fn put_words<M: Medium>(m: &mut M, sizes: &ImageSizes) -> Result<(), Failed>
     requires room { fresh_length sizes.now.subscribers ≤ (M.sight m.old).len }
     ensures len { (M.sight m.new).len ≡ (M.sight m.old).len }
-    ensures made { Makes (put_pairs (enumerate_from 16 (clear_cells ++ home_words sizes.now.subscribers (population sizes.now.subscribers).subscribers))) (is_ok result) (M.sight m.old) (M.sight m.new) }
+    ensures made { CallsMade (put_pairs (enumerate_from 16 (clear_cells ++ home_words sizes.now.subscribers (population sizes.now.subscribers).subscribers))) (is_ok result) (M.sight m.old) (M.sight m.new) }
 {
     for place in 16..sizes.words() {
         m.put(place, initial_word(sizes, place))?;
@@ -31,7 +31,7 @@ fn put_words<M: Medium>(m: &mut M, sizes: &ImageSizes) -> Result<(), Failed>
 fn flush_contents<M: Medium>(m: &mut M, sizes: &ImageSizes) -> Result<(), Failed>
     requires room { fresh_length sizes.now.subscribers ≤ (M.sight m.old).len }
     ensures len { (M.sight m.new).len ≡ (M.sight m.old).len }
-    ensures made { Makes (flush_lines (content_lines sizes.now.subscribers)) (is_ok result) (M.sight m.old) (M.sight m.new) }
+    ensures made { CallsMade (flush_lines (content_lines sizes.now.subscribers)) (is_ok result) (M.sight m.old) (M.sight m.new) }
 {
     for line in 1..sizes.words() / 8 {
         m.flush(line)?;
@@ -43,7 +43,7 @@ fn flush_contents<M: Medium>(m: &mut M, sizes: &ImageSizes) -> Result<(), Failed
 fn put_contents<M: Medium>(m: &mut M, sizes: &ImageSizes) -> Result<(), Failed>
     requires room { fresh_length sizes.now.subscribers ≤ (M.sight m.old).len }
     ensures len { (M.sight m.new).len ≡ (M.sight m.old).len }
-    ensures made { Makes (group_calls (content_writes (home_words sizes.now.subscribers (population sizes.now.subscribers).subscribers)) (content_lines sizes.now.subscribers)) (is_ok result) (M.sight m.old) (M.sight m.new) }
+    ensures made { CallsMade (group_calls (content_writes (home_words sizes.now.subscribers (population sizes.now.subscribers).subscribers)) (content_lines sizes.now.subscribers)) (is_ok result) (M.sight m.old) (M.sight m.new) }
 {
     m.put(8, 0)?;
     put_words(m, sizes)?;
@@ -54,7 +54,7 @@ fn put_contents<M: Medium>(m: &mut M, sizes: &ImageSizes) -> Result<(), Failed>
 fn put_header<M: Medium>(m: &mut M, sizes: &ImageSizes) -> Result<(), Failed>
     requires room { fresh_length sizes.now.subscribers ≤ (M.sight m.old).len }
     ensures len { (M.sight m.new).len ≡ (M.sight m.old).len }
-    ensures made { Makes (group_calls (header_writes sizes.now.subscribers) (0 ∷ [])) (is_ok result) (M.sight m.old) (M.sight m.new) }
+    ensures made { CallsMade (group_calls (header_writes sizes.now.subscribers) (0 ∷ [])) (is_ok result) (M.sight m.old) (M.sight m.new) }
 {
     let header = [
         (1, 0),
@@ -73,7 +73,7 @@ fn put_header<M: Medium>(m: &mut M, sizes: &ImageSizes) -> Result<(), Failed>
 fn make_format<M: Medium>(m: &mut M, sizes: &ImageSizes) -> Result<(), Failed>
     requires room { fresh_length sizes.now.subscribers ≤ (M.sight m.old).len }
     ensures len { (M.sight m.new).len ≡ (M.sight m.old).len }
-    ensures made { Makes (format_calls sizes.now.subscribers (home_words sizes.now.subscribers (population sizes.now.subscribers).subscribers)) (is_ok result) (M.sight m.old) (M.sight m.new) }
+    ensures made { CallsMade (format_calls sizes.now.subscribers (home_words sizes.now.subscribers (population sizes.now.subscribers).subscribers)) (is_ok result) (M.sight m.old) (M.sight m.new) }
 {
     settle_group(m, &[(0, 0)], &[0])?;
     put_contents(m, sizes)?;
@@ -85,7 +85,7 @@ fn make_format<M: Medium>(m: &mut M, sizes: &ImageSizes) -> Result<(), Failed>
 fn put_magic<M: Medium>(m: &mut M) -> Result<(), Failed>
     requires room { 16 ≤ (M.sight m.old).len }
     ensures len { (M.sight m.new).len ≡ (M.sight m.old).len }
-    ensures made { Makes (group_calls (magic_write MAGIC) (0 ∷ []) ++ Tell 0 ∷ []) (is_ok result) (M.sight m.old) (M.sight m.new) }
+    ensures made { CallsMade (group_calls (magic_write MAGIC) (0 ∷ []) ++ Tell 0 ∷ []) (is_ok result) (M.sight m.old) (M.sight m.new) }
 {
     settle_group(m, &[(0, MAGIC)], &[0])?;
     m.tell(0)
@@ -97,12 +97,12 @@ fn put_magic<M: Medium>(m: &mut M) -> Result<(), Failed>
 /// formatted, until the magic number is put again. After an `Err` the medium holds some of a new image.
 pub fn format_image<M: Medium>(m: &mut M, sizes: &ImageSizes) -> Result<(), Failed>
     requires room { fresh_length sizes.now.subscribers ≤ (M.sight m.old).len }
-    requires settled { IsTrue (M.sight m.old).tells → IsSettled (here (M.sight m.old)) }
+    requires settled { IsTrue (M.sight m.old).is_visible → IsSettled (state_now (M.sight m.old)) }
     ensures len { (M.sight m.new).len ≡ (M.sight m.old).len }
-    ensures made { Makes (format_calls sizes.now.subscribers (home_words sizes.now.subscribers (population sizes.now.subscribers).subscribers)) (is_ok result) (M.sight m.old) (M.sight m.new) }
+    ensures made { CallsMade (format_calls sizes.now.subscribers (home_words sizes.now.subscribers (population sizes.now.subscribers).subscribers)) (is_ok result) (M.sight m.old) (M.sight m.new) }
     // From the moment that 0 is told on, each image recovers to 0 and the population.
-    ensures images { Keeps (ShowsOnceTold (here (M.sight m.old)).told (home_words sizes.now.subscribers (population sizes.now.subscribers).subscribers)) (M.sight m.old) (M.sight m.new) }
-    ensures rests { OnOk result (IsTrue (M.sight m.old).tells → RestsFormatted sizes.now.subscribers (here (M.sight m.old)) (here (M.sight m.new))) }
+    ensures images { AtEveryMoment (RecoversOnceTold (state_now (M.sight m.old)).told (home_words sizes.now.subscribers (population sizes.now.subscribers).subscribers)) (M.sight m.old) (M.sight m.new) }
+    ensures rests { OnOk result (IsTrue (M.sight m.old).is_visible → AtRestFormatted sizes.now.subscribers (state_now (M.sight m.old)) (state_now (M.sight m.new))) }
 {
     make_format(m, sizes)
 }

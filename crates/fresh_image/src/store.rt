@@ -23,12 +23,12 @@ impl Store {
     ghost use Rattle.tatp_model.specs.declared.request.Request.TheVariants.{GetSubscriber, UpdateLocation};
     ghost use Rattle.tatp_model.specs.Transaction.{answers, outcome_of, reply_to, after_request};
     ghost use Rattle.fresh_image.specs.Rows.{home_words};
-    ghost use Rattle.fresh_image.specs.Store.{count_of, database_of};
+    ghost use Rattle.fresh_image.specs.Store.{subscriber_count, database_at};
 
     /// The population of an image of these sizes.
     pub fn new(alloc: Global, sizes: &ImageSizes) -> Result<Store, AllocError>
-        ensures count { IfOk result (λ store. count_of store ≡ sizes.now.subscribers) }
-        ensures population { IfOk result (λ store. database_of store ≡ population sizes.now.subscribers) }
+        ensures count { IfOk result (λ store. subscriber_count store ≡ sizes.now.subscribers) }
+        ensures population { IfOk result (λ store. database_at store ≡ population sizes.now.subscribers) }
     {
         let mut locations = Vec::new(alloc);
         for s in 1..sizes.subscribers + 1 {
@@ -39,7 +39,7 @@ impl Store {
 
     /// The reply to `GET_SUBSCRIBER_DATA`.
     pub fn subscriber(&self, s_id: u64) -> Reply
-        ensures { (limit : ℕ) → result ≡ reply_to limit (database_of self.now) (GetSubscriber s_id) }
+        ensures { (limit : ℕ) → result ≡ reply_to limit (database_at self.now) (GetSubscriber s_id) }
     {
         if self.has(s_id) {
             let place = s_id as usize - 1;
@@ -54,10 +54,10 @@ impl Store {
     /// None where `UPDATE_LOCATION` finds no row.
     pub fn location_of(&self, sub_nbr: u64) -> Option<u64>
         ensures reply { (limit vlr : ℕ) → MatchOption result
-            (outcome_of limit (database_of self.now) (UpdateLocation sub_nbr vlr) ≡ answers (database_of self.now) Missing)
-            (λ _. reply_to limit (database_of self.now) (UpdateLocation sub_nbr vlr) ≡ Changed) }
-        ensures there { OnSome result ((1 ≤ sub_nbr) × (sub_nbr ≤ count_of self.now)) }
-        ensures place { IfSome result (λ at. (at ≡ 8 * (sub_nbr - 1) + 6) × (at < 8 * count_of self.now)) }
+            (outcome_of limit (database_at self.now) (UpdateLocation sub_nbr vlr) ≡ answers (database_at self.now) Missing)
+            (λ _. reply_to limit (database_at self.now) (UpdateLocation sub_nbr vlr) ≡ Changed) }
+        ensures there { OnSome result ((1 ≤ sub_nbr) × (sub_nbr ≤ subscriber_count self.now)) }
+        ensures place { IfSome result (λ at. (at ≡ 8 * (sub_nbr - 1) + 6) × (at < 8 * subscriber_count self.now)) }
     {
         if self.has(sub_nbr) {
             Some(8 * (sub_nbr - 1) + 6)
@@ -69,12 +69,12 @@ impl Store {
     /// Carries out `UPDATE_LOCATION` for a subscriber that is there.
     pub fn set_location(&mut self, sub_nbr: u64, vlr: u64)
         requires low { 1 ≤ sub_nbr }
-        requires high { sub_nbr ≤ count_of self.old }
-        ensures after { (limit : ℕ) → database_of self.new ≡ after_request limit (database_of self.old) (UpdateLocation sub_nbr vlr) }
-        ensures count { count_of self.new ≡ count_of self.old }
+        requires high { sub_nbr ≤ subscriber_count self.old }
+        ensures after { (limit : ℕ) → database_at self.new ≡ after_request limit (database_at self.old) (UpdateLocation sub_nbr vlr) }
+        ensures count { subscriber_count self.new ≡ subscriber_count self.old }
         // One home word is another.
-        ensures home { slice_set (home_words (count_of self.old) (database_of self.old).subscribers) (8 * (sub_nbr - 1) + 6) vlr
-            ≡ home_words (count_of self.old) (database_of self.new).subscribers }
+        ensures home { slice_set (home_words (subscriber_count self.old) (database_at self.old).subscribers) (8 * (sub_nbr - 1) + 6) vlr
+            ≡ home_words (subscriber_count self.old) (database_at self.new).subscribers }
     {
         let place = sub_nbr as usize - 1;
         self.locations[place] = vlr;
@@ -82,7 +82,7 @@ impl Store {
 
     // Whether there is a subscriber with this id, which is its phone number too.
     fn has(&self, number: u64) -> bool
-        ensures { IsTrue result ↔ ((1 ≤ number) × (number ≤ count_of self.now)) }
+        ensures { IsTrue result ↔ ((1 ≤ number) × (number ≤ subscriber_count self.now)) }
     {
         1 <= number && number <= self.locations.len() as u64
     }

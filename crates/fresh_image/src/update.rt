@@ -1,11 +1,11 @@
 ghost use Rattle.std.specs.Prelude.{◌≡◌, ℕ, ◌+◌, ◌-◌, ◌%◌, ◌<◌, ◌≤◌, [], ◌∷◌, is_ok, OnOk, IsTrue, List, length, slice_set};
 ghost use Rattle.dude_base.specs.declared.limits.TheConstants.{MAX_NUMBER};
-ghost use Rattle.pmem_trait.specs.Sights.{here, Makes, Keeps};
+ghost use Rattle.pmem_trait.specs.Sights.{state_now, CallsMade, AtEveryMoment};
 ghost use Rattle.redo_record.specs.Calls.{append_calls};
 ghost use Rattle.log_ring.specs.Ring.{with_record};
-ghost use Rattle.fresh_image.specs.Fresh.{Rests, fresh_sizes, fresh_length, fresh_home_length};
-ghost use Rattle.fresh_image.specs.Rings.{IsIdle};
-ghost use Rattle.fresh_image.specs.Calls.{update_record, update_cell, reproduce_calls, update_calls, ShowsEither, StepsFrom, RestsTold};
+ghost use Rattle.fresh_image.specs.Fresh.{AtRest, fresh_sizes, fresh_length, fresh_home_length};
+ghost use Rattle.fresh_image.specs.Rings.{RingAtRest};
+ghost use Rattle.fresh_image.specs.Calls.{update_record, update_cell, reproduce_calls, update_calls, RecoversToEither, AtRestFor, AtRestTold};
 
 use crate::sizes::ImageSizes;
 use dude_base::redo::Redo;
@@ -33,13 +33,13 @@ fn append<M: Medium>(
     at: u64,
     value: u64,
 ) -> Result<(), Failed>
-    requires idle { IsIdle sizes.now.subscribers (number - 1) ring.old }
+    requires idle { RingAtRest sizes.now.subscribers (number - 1) ring.old }
     requires some { 1 ≤ number }
     requires small { number ≤ MAX_NUMBER }
     requires inside { at < fresh_home_length sizes.now.subscribers }
     requires room { fresh_length sizes.now.subscribers ≤ (M.sight m.old).len }
     ensures len { (M.sight m.new).len ≡ (M.sight m.old).len }
-    ensures made { Makes (append_calls (fresh_sizes sizes.now.subscribers) (update_cell ring.old.next) (update_record number at value)) (is_ok result) (M.sight m.old) (M.sight m.new) }
+    ensures made { CallsMade (append_calls (fresh_sizes sizes.now.subscribers) (update_cell ring.old.next) (update_record number at value)) (is_ok result) (M.sight m.old) (M.sight m.new) }
     ensures ring { OnOk result (ring.new ≡ with_record (update_record number at value) ring.old) }
 {
     match ring.append(m, &record_of(number, at, value)) {
@@ -60,7 +60,7 @@ fn reproduce<M: Medium>(
     requires inside { at < fresh_home_length sizes.now.subscribers }
     requires room { fresh_length sizes.now.subscribers ≤ (M.sight m.old).len }
     ensures len { (M.sight m.new).len ≡ (M.sight m.old).len }
-    ensures made { Makes (reproduce_calls number at value) (is_ok result) (M.sight m.old) (M.sight m.new) }
+    ensures made { CallsMade (reproduce_calls number at value) (is_ok result) (M.sight m.old) (M.sight m.new) }
 {
     let place = 144 + at;
     settle_group(m, &[(place, value)], &[place / 8])?;
@@ -77,13 +77,13 @@ fn make_update<M: Medium>(
     at: u64,
     value: u64,
 ) -> Result<(), Failed>
-    requires idle { IsIdle sizes.now.subscribers (number - 1) ring.old }
+    requires idle { RingAtRest sizes.now.subscribers (number - 1) ring.old }
     requires some { 1 ≤ number }
     requires small { number ≤ MAX_NUMBER }
     requires inside { at < fresh_home_length sizes.now.subscribers }
     requires room { fresh_length sizes.now.subscribers ≤ (M.sight m.old).len }
     ensures len { (M.sight m.new).len ≡ (M.sight m.old).len }
-    ensures made { Makes (update_calls sizes.now.subscribers ring.old.next number at value) (is_ok result) (M.sight m.old) (M.sight m.new) }
+    ensures made { CallsMade (update_calls sizes.now.subscribers ring.old.next number at value) (is_ok result) (M.sight m.old) (M.sight m.new) }
     ensures ring { OnOk result (ring.new ≡ with_record (update_record number at value) ring.old) }
 {
     append(m, sizes, ring, number, at, value)?;
@@ -104,24 +104,24 @@ pub fn log_update<M: Medium>(
     at: u64,
     value: u64,
 ) -> Result<(), Failed>
-    requires idle { IsIdle sizes.now.subscribers (number - 1) ring.old }
+    requires idle { RingAtRest sizes.now.subscribers (number - 1) ring.old }
     requires some { 1 ≤ number }
     requires small { number ≤ MAX_NUMBER }
     requires inside { at < fresh_home_length sizes.now.subscribers }
     requires room { fresh_length sizes.now.subscribers ≤ (M.sight m.old).len }
     ensures len { (M.sight m.new).len ≡ (M.sight m.old).len }
-    ensures made { Makes (update_calls sizes.now.subscribers ring.old.next number at value) (is_ok result) (M.sight m.old) (M.sight m.new) }
-    ensures ring { OnOk result (IsIdle sizes.now.subscribers number ring.new) }
+    ensures made { CallsMade (update_calls sizes.now.subscribers ring.old.next number at value) (is_ok result) (M.sight m.old) (M.sight m.new) }
+    ensures ring { OnOk result (RingAtRest sizes.now.subscribers number ring.new) }
     // The ring goes round: the next record's head stands one cell further.
     ensures next { OnOk result (ring.new.next ≡ (ring.old.next + 1) % 16) }
     // From a medium at rest each image at each moment is as before the update or as after it.
     ensures images { (before n : ℕ) (home : List ℕ) → n + 1 ≡ number
-        → (IsTrue (M.sight m.old).tells → StepsFrom sizes.now.subscribers before n home at (here (M.sight m.old)))
-        → Keeps (ShowsEither before n home (slice_set home at value)) (M.sight m.old) (M.sight m.new) }
+        → (IsTrue (M.sight m.old).is_visible → AtRestFor sizes.now.subscribers before n home at (state_now (M.sight m.old)))
+        → AtEveryMoment (RecoversToEither before n home (slice_set home at value)) (M.sight m.old) (M.sight m.new) }
     // At `Ok` the medium rests after the update, and its number was told.
-    ensures rests { OnOk result ((n : ℕ) (home : List ℕ) → n + 1 ≡ number → at < length home → IsTrue (M.sight m.old).tells
-        → Rests sizes.now.subscribers n home (here (M.sight m.old))
-        → RestsTold sizes.now.subscribers number (slice_set home at value) (here (M.sight m.old)) (here (M.sight m.new))) }
+    ensures rests { OnOk result ((n : ℕ) (home : List ℕ) → n + 1 ≡ number → at < length home → IsTrue (M.sight m.old).is_visible
+        → AtRest sizes.now.subscribers n home (state_now (M.sight m.old))
+        → AtRestTold sizes.now.subscribers number (slice_set home at value) (state_now (M.sight m.old)) (state_now (M.sight m.new))) }
 {
     make_update(m, sizes, ring, number, at, value)?;
     ring.release(number);

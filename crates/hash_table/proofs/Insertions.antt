@@ -13,7 +13,7 @@ use Rattle.hash_table.specs.declared.put.Put.TheVariants.{Full, Stored}
 use Rattle.hash_table.specs.declared.table.Spot.{Spot}
 use Rattle.hash_table.specs.declared.table.Table.{Table}
 use Rattle.hash_table.specs.Seek.{IsAmid, Seeks}
-use Rattle.hash_table.specs.Table.{FitsTable, IsTable, Inserts, Stores, chain_of, records_in, record_of}
+use Rattle.hash_table.specs.Table.{FitsTable, IsTable, Inserts, Stores, chain_of, records_in, lookup}
 use Rattle.hash_table.proofs.Chains.{each_from, each_at, first_or_other, first_among, other_among, chain_among, chain_with, records_more}
 use Rattle.hash_table.proofs.Maps.{IsAt, HasKeysApart, record_of-is, record_of-is_at, record_of-same}
 
@@ -47,7 +47,7 @@ in_chain {table} {a = a} chains free key fits lawful x c holds =
     let here : slice_index a x % table.buckets ≡ home.0 = All-contains (λ at. slice_index a at % table.buckets ≡ home.0) (chain_of chains home.0) x (lawful.homes home.0 (omega (arith, home.1, lawful.buckets))) home.2 in
     subst (λ bucket. Contains (chain_of chains bucket) x) (sym here ∙ ap (λ k. k % table.buckets) holds) home.2
 
-pub absent_everywhere : {table : Table} {n : ℕ} {a : List ℕ} (chains : List (List ℕ)) (free : List ℕ) (key : ℕ) → FitsTable table n → IsTable table a chains free → All (λ at. slice_index a at ≢ key) (chain_of chains (key % table.buckets)) → record_of a (records_in chains) key ≡ None
+pub absent_everywhere : {table : Table} {n : ℕ} {a : List ℕ} (chains : List (List ℕ)) (free : List ℕ) (key : ℕ) → FitsTable table n → IsTable table a chains free → All (λ at. slice_index a at ≢ key) (chain_of chains (key % table.buckets)) → lookup a (records_in chains) key ≡ None
 absent_everywhere {table} {a = a} chains free key fits lawful absent =
     record_of-is a (records_in chains) key lawful.keys None
     (λ x c holds. All-contains (λ at. slice_index a at ≢ key) (chain_of chains (key % table.buckets)) x absent (in_chain chains free key fits lawful x c holds) holds)
@@ -55,7 +55,7 @@ absent_everywhere {table} {a = a} chains free key fits lawful absent =
 pub amid_among : (before behind : List ℕ) (x : ℕ) → Contains (before ++ x ∷ behind) x
 amid_among before behind x = Contains-append_right before (x ∷ behind) x (first_among x behind)
 
-pub found_there : {table : Table} {a : List ℕ} (chains : List (List ℕ)) (free : List ℕ) (key : ℕ) (spot : Spot) → IsTable table a chains free → IsAmid a (table.at + key % table.buckets) key (chain_of chains (key % table.buckets)) spot → record_of a (records_in chains) key ≡ Some spot.record
+pub found_there : {table : Table} {a : List ℕ} (chains : List (List ℕ)) (free : List ℕ) (key : ℕ) (spot : Spot) → IsTable table a chains free → IsAmid a (table.at + key % table.buckets) key (chain_of chains (key % table.buckets)) spot → lookup a (records_in chains) key ≡ Some spot.record
 found_there {table} {a} chains free key spot lawful amid =
     record_of-is a (records_in chains) key lawful.keys (Some spot.record)
     (chain_among chains (key % table.buckets) spot.record (subst (λ l. Contains l spot.record) (sym amid.split) (amid_among amid.before amid.behind spot.record)), amid.holds)
@@ -201,7 +201,7 @@ module _ {table : Table} {n key at : ℕ} {a b c : List ℕ} (chains : List (Lis
   still_among : (x : ℕ) → Contains (at ∷ records_in chains) x → Contains (records_in (slice_set chains (key % table.buckets) (at ∷ chain_of chains (key % table.buckets)))) x
   still_among x among = Contains-permutation _ _ x (records_more chains (key % table.buckets) at (omega (arith, lawful.buckets, bucket_below key fits))) among
 
-  module _ (absent : record_of a (records_in chains) key ≡ None) where
+  module _ (absent : lookup a (records_in chains) key ≡ None) where
     none_has : (x : ℕ) → Contains (records_in chains) x → slice_index a x ≢ key
     none_has = subst (λ r. IsAt a (records_in chains) key r) absent (record_of-is_at a (records_in chains) key)
 
@@ -246,7 +246,7 @@ module _ {table : Table} {n key at : ℕ} {a b c : List ℕ} (chains : List (Lis
 -- what `insert` does where a record was taken
 pub inserts_stored : {table : Table} {n key at head : ℕ} {a c : List ℕ} (b : List ℕ) → FitsTable table n → length a ≡ n → IsRecord table.pool at → head ≡ slice_index a (table.at + key % table.buckets) →
     c ≡ slice_set (slice_set (slice_set b at key) (at + 1) head) (table.at + key % table.buckets) at →
-    (chains : List (List ℕ)) (free : List ℕ) → IsTable table a chains free → record_of a (records_in chains) key ≡ None → Takes table.pool free (records_in chains) (Some at) a b → Inserts table key chains free (Stored at) a c
+    (chains : List (List ℕ)) (free : List ℕ) → IsTable table a chains free → lookup a (records_in chains) key ≡ None → Takes table.pool free (records_in chains) (Some at) a b → Inserts table key chains free (Stored at) a c
 inserts_stored b fits long there read is chains [] lawful absent takes = absurd (cc (takes.0))
 inserts_stored {table} {n} {key} {at} {head} {a} {c} b fits long there read is chains (first ∷ left) lawful absent takes =
     let same : at ≡ first = cc (takes.0) in
@@ -255,6 +255,6 @@ inserts_stored {table} {n} {key} {at} {head} {a} {c} b fits long there read is c
     (subst (λ x. IsPool table.pool b left (x ∷ records_in chains)) (sym same) takes.1))
 
 -- what `insert` does where none was free
-pub inserts_full : (table : Table) (key : ℕ) {a b : List ℕ} (chains : List (List ℕ)) (free : List ℕ) → record_of a (records_in chains) key ≡ None → Takes table.pool free (records_in chains) None a b → Inserts table key chains free Full a b
+pub inserts_full : (table : Table) (key : ℕ) {a b : List ℕ} (chains : List (List ℕ)) (free : List ℕ) → lookup a (records_in chains) key ≡ None → Takes table.pool free (records_in chains) None a b → Inserts table key chains free Full a b
 inserts_full table key chains [] absent takes = (absent, refl, takes.1)
 inserts_full table key chains (first ∷ left) absent takes = absurd (cc (takes.0))

@@ -1,14 +1,14 @@
 -- The map from keys to records that an array and a list of records make.
 use Rattle.std.proofs.Common.{◌≡◌, ◌≢◌, ℕ, inl, inr, List, [], ◌∷◌, Contains, Option, Some, None, slice_index, refl, sym, ap, ◌∙◌, subst, cond, arith}
 use Rattle.std.proofs.lemmas.Bool.{cases_eq, eq-eqb, ne_eqb}
-use Rattle.hash_table.specs.Table.{record_of}
+use Rattle.hash_table.specs.Table.{lookup}
 use Rattle.hash_table.proofs.Chains.{first_or_other, first_among, other_among}
 
-step_here : (array : List ℕ) (x : ℕ) (xs : List ℕ) (key : ℕ) → slice_index array x ≡ key → record_of array (x ∷ xs) key ≡ Some x
-step_here array x xs key same = ap (λ b. cond b (Some x) (record_of array xs key)) (eq-eqb (slice_index array x) key same)
+step_here : (array : List ℕ) (x : ℕ) (xs : List ℕ) (key : ℕ) → slice_index array x ≡ key → lookup array (x ∷ xs) key ≡ Some x
+step_here array x xs key same = ap (λ b. cond b (Some x) (lookup array xs key)) (eq-eqb (slice_index array x) key same)
 
-step_on : (array : List ℕ) (x : ℕ) (xs : List ℕ) (key : ℕ) → slice_index array x ≢ key → record_of array (x ∷ xs) key ≡ record_of array xs key
-step_on array x xs key differ = ap (λ b. cond b (Some x) (record_of array xs key)) (ne_eqb (slice_index array x) key differ)
+step_on : (array : List ℕ) (x : ℕ) (xs : List ℕ) (key : ℕ) → slice_index array x ≢ key → lookup array (x ∷ xs) key ≡ lookup array xs key
+step_on array x xs key differ = ap (λ b. cond b (Some x) (lookup array xs key)) (ne_eqb (slice_index array x) key differ)
 
 -- what is said of the map at a key
 abbrev pub IsAt : List ℕ → List ℕ → ℕ → Option ℕ → Type 0
@@ -22,7 +22,7 @@ is_at_on array x xs key (Some y) differ h = (other_among y x xs h.0, h.1)
 along : {A : Type 0} (P : A → Type 0) (a b : A) → a ≡ b → P a → P b
 along P a b e h = subst P e h
 
-pub record_of-is_at : (array xs : List ℕ) (key : ℕ) → IsAt array xs key (record_of array xs key)
+pub record_of-is_at : (array xs : List ℕ) (key : ℕ) → IsAt array xs key (lookup array xs key)
 record_of-is_at array [] key = λ x c same. omega (arith, c.1)
 record_of-is_at array (x ∷ xs) key =
     elim (cases_eq (slice_index array x) key) [
@@ -41,13 +41,13 @@ same_answer array xs key apart (Some x) None h k = absurd (k x h.0 h.1)
 same_answer array xs key apart (Some x) (Some y) h k = ap Some (apart x y h.0 k.0 (h.1 ∙ sym k.1))
 
 -- the map's value, by what is said of it
-pub record_of-is : (array xs : List ℕ) (key : ℕ) → HasKeysApart array xs → (r : Option ℕ) → IsAt array xs key r → record_of array xs key ≡ r
-record_of-is array xs key apart r h = same_answer array xs key apart (record_of array xs key) r (record_of-is_at array xs key) h
+pub record_of-is : (array xs : List ℕ) (key : ℕ) → HasKeysApart array xs → (r : Option ℕ) → IsAt array xs key r → lookup array xs key ≡ r
+record_of-is array xs key apart r h = same_answer array xs key apart (lookup array xs key) r (record_of-is_at array xs key) h
 
 moved : (a b xs ys : List ℕ) (key : ℕ) → ((x : ℕ) → Contains xs x → slice_index a x ≡ key → Contains ys x × (slice_index b x ≡ key)) → ((y : ℕ) → Contains ys y → slice_index b y ≡ key → Contains xs y × (slice_index a y ≡ key)) → (r : Option ℕ) → IsAt a xs key r → IsAt b ys key r
 moved a b xs ys key on back None h = λ y c same. h y (back y c same).0 (back y c same).1
 moved a b xs ys key on back (Some x) h = on x h.0 h.1
 
 -- two maps that have the same records with a key have one value there
-pub record_of-same : (a b xs ys : List ℕ) (key : ℕ) → HasKeysApart b ys → ((x : ℕ) → Contains xs x → slice_index a x ≡ key → Contains ys x × (slice_index b x ≡ key)) → ((y : ℕ) → Contains ys y → slice_index b y ≡ key → Contains xs y × (slice_index a y ≡ key)) → record_of b ys key ≡ record_of a xs key
-record_of-same a b xs ys key apart on back = record_of-is b ys key apart (record_of a xs key) (moved a b xs ys key on back (record_of a xs key) (record_of-is_at a xs key))
+pub record_of-same : (a b xs ys : List ℕ) (key : ℕ) → HasKeysApart b ys → ((x : ℕ) → Contains xs x → slice_index a x ≡ key → Contains ys x × (slice_index b x ≡ key)) → ((y : ℕ) → Contains ys y → slice_index b y ≡ key → Contains xs y × (slice_index a y ≡ key)) → lookup b ys key ≡ lookup a xs key
+record_of-same a b xs ys key apart on back = record_of-is b ys key apart (lookup a xs key) (moved a b xs ys key on back (lookup a xs key) (record_of-is_at a xs key))

@@ -14,7 +14,7 @@ use Rattle.record_heap.proofs.Places.{records_apart, each_is_record, none_twice,
 use Rattle.hash_table.specs.declared.table.Spot.{Spot}
 use Rattle.hash_table.specs.declared.table.Table.{Table}
 use Rattle.hash_table.specs.Seek.{IsAmid}
-use Rattle.hash_table.specs.Table.{FitsTable, IsTable, Drops, chain_of, records_in, record_of, link_after}
+use Rattle.hash_table.specs.Table.{FitsTable, IsTable, Drops, chain_of, records_in, lookup, link_after}
 use Rattle.hash_table.proofs.Chains.{each_from, each_at, first_or_other, first_among, other_among, differ_across, distinct_front, chain_among, chain_put, records_less}
 use Rattle.hash_table.proofs.Insertions.{bucket_below, found_there, front_same, front_other, amid_among}
 use Rattle.hash_table.proofs.Maps.{HasKeysApart, record_of-is, record_of-same}
@@ -250,7 +250,7 @@ module _ {table : Table} {n key at : ℕ} {a b c : List ℕ} (chains : List (Lis
   at_among = chain_among chains (key % table.buckets) at (subst (λ l. Contains l at) (sym split) (amid_among before behind at))
 
   -- `remove` drops the record of a key that was there
-  pub drops : slice_index a at ≡ key → record_of a (records_in chains) key ≡ Some at → (others : List ℕ) → IsPermutation (records_in chains) (at ∷ others) → IsPool table.pool b (at ∷ free) others → Drops table key chains free a c
+  pub drops : slice_index a at ≡ key → lookup a (records_in chains) key ≡ Some at → (others : List ℕ) → IsPermutation (records_in chains) (at ∷ others) → IsPool table.pool b (at ∷ free) others → Drops table key chains free a c
   drops holds there others were gave = record {
     at = at;
     there = there;

@@ -36,8 +36,8 @@ pub record IsTable (table : Table) (array : List ℕ) (chains : List (List ℕ))
   pub keys : (x y : ℕ) → Contains (records_in chains) x → Contains (records_in chains) y → slice_index array x ≡ slice_index array y → x ≡ y
 
 -- the map from keys to records: the record among these whose word 0 is the key
-abbrev pub record_of : List ℕ → List ℕ → ℕ → Option ℕ
-record_of array records key = find (λ at. slice_index array at == key) records
+abbrev pub lookup : List ℕ → List ℕ → ℕ → Option ℕ
+lookup array records key = find (λ at. slice_index array at == key) records
 
 -- the word that links what stands in a chain after these records, where the chain begins at a word
 abbrev pub link_after : ℕ → List ℕ → ℕ
@@ -50,25 +50,25 @@ link_after place (at ∷ others) = link_after (at + 1) others
 pub record Stores (table : Table) (key at : ℕ) (chains : List (List ℕ)) (free : List ℕ) (old new : List ℕ) : Type 0 where
   pub left : List ℕ
   pub first : free ≡ at ∷ left
-  pub absent : record_of old (records_in chains) key ≡ None
+  pub absent : lookup old (records_in chains) key ≡ None
   pub after : List (List ℕ)
   pub front : after ≡ slice_set chains (key % table.buckets) (at ∷ chain_of chains (key % table.buckets))
   pub lawful : IsTable table new after left
-  pub there : record_of new (records_in after) key ≡ Some at
-  pub others : (k : ℕ) → k ≢ key → record_of new (records_in after) k ≡ record_of old (records_in chains) k
+  pub there : lookup new (records_in after) key ≡ Some at
+  pub others : (k : ℕ) → k ≢ key → lookup new (records_in after) k ≡ lookup old (records_in chains) k
   pub changes : ChangesOnly (at ∷ (at + 1) ∷ table.pool.base ∷ (table.pool.base + 1) ∷ (table.at + key % table.buckets) ∷ []) old new
 
 -- what `insert` of a key answers and does, of a table with these chains and free records
 abbrev pub Inserts : Table → ℕ → List (List ℕ) → List ℕ → Put → List ℕ → List ℕ → Type 0
-Inserts table key chains free (There at) old new = (record_of old (records_in chains) key ≡ Some at) × (new ≡ old)
-Inserts table key chains free Full old new = (record_of old (records_in chains) key ≡ None) × (free ≡ []) × (new ≡ old)
+Inserts table key chains free (There at) old new = (lookup old (records_in chains) key ≡ Some at) × (new ≡ old)
+Inserts table key chains free Full old new = (lookup old (records_in chains) key ≡ None) × (free ≡ []) × (new ≡ old)
 Inserts table key chains free (Stored at) old new = Stores table key at chains free old new
 
 -- how many words `insert` writes
-abbrev pub writes_of : Put → ℕ
-writes_of (There at) = 0
-writes_of Full = 0
-writes_of (Stored at) = 5
+abbrev pub write_count : Put → ℕ
+write_count (There at) = 0
+write_count Full = 0
+write_count (Stored at) = 5
 
 -- the record that has the key, where it is there
 abbrev pub place_of : Put → Option ℕ
@@ -81,18 +81,18 @@ place_of (Stored at) = Some at
 -- header's two, and the link that led to the record.
 pub record Drops (table : Table) (key : ℕ) (chains : List (List ℕ)) (free : List ℕ) (old new : List ℕ) : Type 0 where
   pub at : ℕ
-  pub there : record_of old (records_in chains) key ≡ Some at
+  pub there : lookup old (records_in chains) key ≡ Some at
   pub before : List ℕ
   pub behind : List ℕ
   pub chain : chain_of chains (key % table.buckets) ≡ before ++ at ∷ behind
   pub after : List (List ℕ)
   pub rest : after ≡ slice_set chains (key % table.buckets) (before ++ behind)
   pub lawful : IsTable table new after (at ∷ free)
-  pub gone : record_of new (records_in after) key ≡ None
-  pub others : (k : ℕ) → k ≢ key → record_of new (records_in after) k ≡ record_of old (records_in chains) k
+  pub gone : lookup new (records_in after) key ≡ None
+  pub others : (k : ℕ) → k ≢ key → lookup new (records_in after) k ≡ lookup old (records_in chains) k
   pub changes : ChangesOnly ((at + 1) ∷ table.pool.base ∷ (table.pool.base + 1) ∷ link_after (table.at + key % table.buckets) before ∷ []) old new
 
 -- what `remove` of a key answers and does, of a table with these chains and free records
 abbrev pub Removes : Table → ℕ → List (List ℕ) → List ℕ → Bool → List ℕ → List ℕ → Type 0
-Removes table key chains free false old new = (record_of old (records_in chains) key ≡ None) × (new ≡ old)
+Removes table key chains free false old new = (lookup old (records_in chains) key ≡ None) × (new ≡ old)
 Removes table key chains free true old new = Drops table key chains free old new

@@ -2,7 +2,7 @@
 
 ghost use Rattle.std.specs.Prelude.{ℕ, List, IsTrue, IfOk};
 ghost use Rattle.word_space.specs.Sights.{IsBelow, shown};
-ghost use Rattle.word_space.specs.Steps.{GoesOn, Ran, stop_of};
+ghost use Rattle.word_space.specs.Steps.{GoesOn, RanOn, stop_of};
 ghost use Rattle.hash_table.specs.Callers.{HasAll};
 ghost use Rattle.hash_table.specs.Table.{FitsTable, IsTable};
 
@@ -15,7 +15,7 @@ use word_space::words::Words;
 #[tactic(auto, using(record_heap::proofs::Calls::calling))]
 pub fn insert_all<W: Words>(table: &Table, w: &mut W, keys: &[u64]) -> Result<bool, Stop>
     requires fits { FitsTable table.now (W.sight w.old).count }
-    ensures ran { Ran (stop_of result) (W.sight w.old) (W.sight w.new) }
+    ensures ran { RanOn (stop_of result) (W.sight w.old) (W.sight w.new) }
     ensures turns { GoesOn W.turns_into w.old w.new }
     ensures there { IfOk result (λ whole. IsTrue whole → (array : List ℕ) → IsBelow (W.sight w.new) array → (chains : List (List ℕ)) (free : List ℕ) →
         IsTable table.now (shown (W.sight w.old) array) chains free →

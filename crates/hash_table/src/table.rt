@@ -1,11 +1,11 @@
 ghost use Rattle.std.specs.Prelude.{◌≡◌, ◌+◌, ◌%◌, ◌^◌, ◌<◌, ◌≤◌, ℕ, List, length, if◌then◌else◌, IfOk, IfSome, OnOk, All, slice_index, slice_set};
 ghost use Rattle.word_space.specs.Sights.{IsBelow, shown};
-ghost use Rattle.word_space.specs.Steps.{GoesOn, Looked, Ran, stop_of};
+ghost use Rattle.word_space.specs.Steps.{GoesOn, Looked, RanOn, stop_of};
 ghost use Rattle.record_heap.specs.Changes.{Wrote};
 ghost use Rattle.record_heap.specs.Links.{Linked};
 ghost use Rattle.record_heap.specs.Pool.{IsRecord};
 ghost use Rattle.hash_table.specs.Seek.{Seeks};
-ghost use Rattle.hash_table.specs.Table.{FitsTable, Inserts, IsTable, Removes, place_of, record_of, records_in, writes_of};
+ghost use Rattle.hash_table.specs.Table.{FitsTable, Inserts, IsTable, Removes, place_of, lookup, records_in, write_count};
 
 use crate::put::Put;
 use record_heap::pool::Pool;
@@ -43,7 +43,7 @@ impl Table {
         ensures turns { GoesOn W.turns_into w.old w.new }
         ensures found { IfOk result (λ r. (array : List ℕ) → IsBelow (W.sight w.new) array → (chains : List (List ℕ)) (free : List ℕ) →
             IsTable self.now (shown (W.sight w.old) array) chains free →
-            r ≡ record_of (shown (W.sight w.old) array) (records_in chains) key) }
+            r ≡ lookup (shown (W.sight w.old) array) (records_in chains) key) }
         // In any array the answer is the place of a record.
         ensures record { IfOk result (λ r. IfSome r (IsRecord self.now.pool)) }
     {
@@ -59,9 +59,9 @@ impl Table {
     #[tactic(auto, using(record_heap::proofs::Calls::calling))]
     pub fn insert<W: Words>(&self, w: &mut W, key: u64) -> Result<Put, Stop>
         requires fits { FitsTable self.now (W.sight w.old).count }
-        ensures ran { Ran (stop_of result) (W.sight w.old) (W.sight w.new) }
+        ensures ran { RanOn (stop_of result) (W.sight w.old) (W.sight w.new) }
         ensures turns { GoesOn W.turns_into w.old w.new }
-        ensures wrote { IfOk result (λ put. Wrote (writes_of put) (W.sight w.old) (W.sight w.new)) }
+        ensures wrote { IfOk result (λ put. Wrote (write_count put) (W.sight w.old) (W.sight w.new)) }
         ensures inserts { IfOk result (λ put. (array : List ℕ) → IsBelow (W.sight w.new) array → (chains : List (List ℕ)) (free : List ℕ) →
             IsTable self.now (shown (W.sight w.old) array) chains free →
             Inserts self.now key chains free put (shown (W.sight w.old) array) (shown (W.sight w.new) array)) }
@@ -84,7 +84,7 @@ impl Table {
     #[tactic(auto, using(record_heap::proofs::Calls::calling))]
     pub fn remove<W: Words>(&self, w: &mut W, key: u64) -> Result<bool, Stop>
         requires fits { FitsTable self.now (W.sight w.old).count }
-        ensures ran { Ran (stop_of result) (W.sight w.old) (W.sight w.new) }
+        ensures ran { RanOn (stop_of result) (W.sight w.old) (W.sight w.new) }
         ensures turns { GoesOn W.turns_into w.old w.new }
         ensures wrote { IfOk result (λ was. Wrote (if was then 4 else 0) (W.sight w.old) (W.sight w.new)) }
         ensures removes { IfOk result (λ was. (array : List ℕ) → IsBelow (W.sight w.new) array → (chains : List (List ℕ)) (free : List ℕ) →
@@ -141,7 +141,7 @@ impl Table {
     fn put_front<W: Words>(&self, w: &mut W, key: u64, at: u64, head: u64) -> Result<(), Stop>
         requires fits { FitsTable self.now (W.sight w.old).count }
         requires record { IsRecord self.now.pool at }
-        ensures ran { Ran (stop_of result) (W.sight w.old) (W.sight w.new) }
+        ensures ran { RanOn (stop_of result) (W.sight w.old) (W.sight w.new) }
         ensures turns { GoesOn W.turns_into w.old w.new }
         ensures wrote { OnOk result (Wrote 3 (W.sight w.old) (W.sight w.new)) }
         ensures shown { OnOk result ((array : List ℕ) → shown (W.sight w.new) array ≡

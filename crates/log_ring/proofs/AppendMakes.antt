@@ -5,10 +5,10 @@ use Rattle.dude_base.specs.Sizes.{IsAccepted}
 use Rattle.dude_base.specs.Image.{image_words}
 use Rattle.dude_base.specs.Records.{RedoRecord}
 use Rattle.pmem_trait.specs.declared.call.Call.{Call}
-use Rattle.pmem_trait.specs.Words.{Point, Leaves, Along}
-use Rattle.pmem_trait.specs.Sights.{Sight, here, Risen, Keeps}
-use Rattle.pmem_trait.proofs.Runs.{makes_here, makes_cause}
-use Rattle.pmem_trait.proofs.Laws.{makes_keep, keeps_here}
+use Rattle.pmem_trait.specs.Words.{State, EveryImage, AfterEachCall}
+use Rattle.pmem_trait.specs.Sights.{Sight, state_now, Risen, AtEveryMoment}
+use Rattle.pmem_trait.proofs.Runs.{made_here, made_cause}
+use Rattle.pmem_trait.proofs.Laws.{made_keep, every_moment_here}
 use Rattle.redo_record.specs.Cells.{IsCell}
 use Rattle.redo_record.specs.Record.{cells_for}
 use Rattle.redo_record.specs.Encoding.{IsEncodable}
@@ -19,15 +19,15 @@ use Rattle.redo_record.proofs.AppendedRecord.{append_law}
 use Rattle.log_ring.specs.declared.ring_fault.RingFault.{RingFault}
 use Rattle.log_ring.specs.declared.ring_fault.RingFault.TheVariants.{Full, Device}
 use Rattle.log_ring.specs.Laid.{AreLaid}
-use Rattle.log_ring.specs.Ring.{RingState, Fits, next_head}
-use Rattle.log_ring.specs.Outcome.{CallsMade, IsOverfull, full_for}
+use Rattle.log_ring.specs.Ring.{RingState, FitsMedium, next_head}
+use Rattle.log_ring.specs.Appends.{AppendCalls, IsOverfull, full_for}
 use Rattle.log_ring.proofs.Laid.{laid_free}
 use Rattle.log_ring.proofs.HeadsAtRest.{heads_at_rest}
 
 -- at Device the count of faults rose
-pub device_cause : (r : Result (Unit {0}) RingFault) (cs : List Call) (s t : Sight) → CallsMade r cs s t → IsErrOf r Device → Risen s.faults t.faults
+pub device_cause : (r : Result (Unit {0}) RingFault) (cs : List Call) (s t : Sight) → AppendCalls r cs s t → IsErrOf r Device → Risen s.faults t.faults
 device_cause (Ok done) cs s t made is = absurd (search rules)
-device_cause (Err Device) cs s t made is = makes_cause made
+device_cause (Err Device) cs s t made is = made_cause made
 device_cause (Err (Full used need)) cs s t made is = absurd (search rules)
 
 -- what the record needs to be appended, but for room
@@ -50,8 +50,8 @@ can_append v r mark wants room =
       free = λ k d lt over. free k d lt;
     }
 
-along : (v : RingState) (r : RedoRecord) (p : Point) (len : ℕ) → Wants v r → (IsOverfull v r → ⊥) → image_words v.sizes ≤ len → Fits v p
-    → Along (Leaves len (HeadsHold v.sizes v.logged (next_head v) r p)) p (append_calls v.sizes (next_head v) r)
+along : (v : RingState) (r : RedoRecord) (p : State) (len : ℕ) → Wants v r → (IsOverfull v r → ⊥) → image_words v.sizes ≤ len → FitsMedium v p
+    → AfterEachCall (EveryImage len (HeadsHold v.sizes v.logged (next_head v) r p)) p (append_calls v.sizes (next_head v) r)
 along v r p len wants room long fits = (append_law v.sizes v.logged v.released (next_head v) r p len long fits (can_append v r (settled_mark p) wants room)).0
 
 -- not Full, so there is room
@@ -59,21 +59,21 @@ roomy : (v : RingState) (r : RedoRecord) (res : Result (Unit {0}) RingFault) →
 roomy v r res full other over = other (full.1 over)
 
 pub heads_kept : (v : RingState) (r : RedoRecord) (res : Result (Unit {0}) RingFault) (s t : Sight) → Wants v r → image_words v.sizes ≤ s.len
-    → CallsMade res (append_calls v.sizes (next_head v) r) s t → IsErrOf res (full_for v r) ↔ IsOverfull v r → (IsTrue s.tells → Fits v (here s))
-    → Keeps (HeadsHold v.sizes v.logged (next_head v) r (here s)) s t
+    → AppendCalls res (append_calls v.sizes (next_head v) r) s t → IsErrOf res (full_for v r) ↔ IsOverfull v r → (IsTrue s.is_visible → FitsMedium v (state_now s))
+    → AtEveryMoment (HeadsHold v.sizes v.logged (next_head v) r (state_now s)) s t
 heads_kept v r (Ok done) s t wants long made full fits =
-    makes_keep _ made (λ told. along v r (here s) s.len wants (roomy v r (Ok done) full (λ is. absurd (search rules))) long (fits told))
+    made_keep _ made (λ told. along v r (state_now s) s.len wants (roomy v r (Ok done) full (λ is. absurd (search rules))) long (fits told))
 heads_kept v r (Err Device) s t wants long made full fits =
-    makes_keep _ made (λ told. along v r (here s) s.len wants (roomy v r (Err Device) full (λ is. absurd (search rules))) long (fits told))
+    made_keep _ made (λ told. along v r (state_now s) s.len wants (roomy v r (Err Device) full (λ is. absurd (search rules))) long (fits told))
 heads_kept v r (Err (Full used need)) s t wants long made full fits =
-    subst (λ (u : Sight). Keeps (HeadsHold v.sizes v.logged (next_head v) r (here s)) s u) (sym made)
-    (keeps_here _ (λ told. record { each = λ image is. heads_at_rest v.sizes v.logged v.released (next_head v) r (here s) s.len long (fits told) image is }))
+    subst (λ (u : Sight). AtEveryMoment (HeadsHold v.sizes v.logged (next_head v) r (state_now s)) s u) (sym made)
+    (every_moment_here _ (λ told. record { each = λ image is. heads_at_rest v.sizes v.logged v.released (next_head v) r (state_now s) s.len long (fits told) image is }))
 
 pub ends_appended : (v : RingState) (r : RedoRecord) (res : Result (Unit {0}) RingFault) (s t : Sight) → Wants v r → image_words v.sizes ≤ s.len
-    → CallsMade res (append_calls v.sizes (next_head v) r) s t → IsErrOf res (full_for v r) ↔ IsOverfull v r
-    → OnOk res (IsTrue s.tells → Fits v (here s) → Appended v.sizes v.logged v.released (next_head v) r (here s) (here t))
+    → AppendCalls res (append_calls v.sizes (next_head v) r) s t → IsErrOf res (full_for v r) ↔ IsOverfull v r
+    → OnOk res (IsTrue s.is_visible → FitsMedium v (state_now s) → Appended v.sizes v.logged v.released (next_head v) r (state_now s) (state_now t))
 ends_appended v r (Ok done) s t wants long made full = λ told fits.
-    let can = can_append v r (settled_mark (here s)) wants (roomy v r (Ok done) full (λ is. absurd (search rules))) in
-    subst (Appended v.sizes v.logged v.released (next_head v) r (here s)) (sym (makes_here made told))
-    (append_law v.sizes v.logged v.released (next_head v) r (here s) s.len long fits can).2
+    let can = can_append v r (settled_mark (state_now s)) wants (roomy v r (Ok done) full (λ is. absurd (search rules))) in
+    subst (Appended v.sizes v.logged v.released (next_head v) r (state_now s)) (sym (made_here made told))
+    (append_law v.sizes v.logged v.released (next_head v) r (state_now s) s.len long fits can).2
 ends_appended v r (Err fault) s t wants long made full = tt

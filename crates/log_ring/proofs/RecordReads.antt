@@ -4,10 +4,11 @@ use Rattle.std.proofs.lemmas.Bool.{cases_eq}
 use Rattle.dude_base.specs.declared.sizes.Sizes.{Sizes}
 use Rattle.dude_base.specs.Records.{RedoRecord}
 use Rattle.redo_record.specs.Tags.{IsHeadOver}
-use Rattle.redo_record.specs.Cells.{Cell, IsCell, front_of}
+use Rattle.dude_base.specs.Image.{Cell, cell_start}
+use Rattle.redo_record.specs.Cells.{IsCell}
 use Rattle.redo_record.specs.Record.{cells_for, count_of}
-use Rattle.redo_record.specs.Encoding.{cells_in}
-use Rattle.redo_record.specs.Images.{tag_of, cells_from, IsComplete, IsNewHead}
+use Rattle.redo_record.specs.Encoding.{word_in_slice}
+use Rattle.redo_record.specs.Images.{tag_of, word_in_image, IsComplete, IsNewHead}
 use Rattle.redo_record.proofs.CellPlaces.{first_cell}
 use Rattle.redo_record.proofs.HeldRecords.{AreSame, holds_same, complete_same, count_same, record_same}
 use Rattle.log_ring.specs.Scanning.{HoldsHome, IsHomeRecord, IsRecordAt}
@@ -21,37 +22,37 @@ word_more f words i v inside before is j below = ⊎_elim
     (cases_eq j i)
 
 -- word j of a head
-pub word_of_head : (s : Sizes) (content : List ℕ) (head : Cell) (front j v : ℕ) → IsCell s head → front ≡ front_of s head → slice_index content (front + j) ≡ v → cells_from s content head 0 j ≡ v
+pub word_of_head : (s : Sizes) (content : List ℕ) (head : Cell) (front j v : ℕ) → IsCell s head → front ≡ cell_start s head → slice_index content (front + j) ≡ v → word_in_image s content head 0 j ≡ v
 word_of_head s content head front j v is_cell at is = ap (slice_index content) (first_cell s head is_cell j ∙ ap (λ x. x + j) (sym at)) ∙ is
 
 -- the head of a number over this one, by its tag
-pub new_head : (s : Sizes) (above : ℕ) (content : List ℕ) (head : Cell) (front tag : ℕ) → IsCell s head → front ≡ front_of s head → slice_index content front ≡ tag
+pub new_head : (s : Sizes) (above : ℕ) (content : List ℕ) (head : Cell) (front tag : ℕ) → IsCell s head → front ≡ cell_start s head → slice_index content front ≡ tag
     → tag / 2 ^ 62 ≡ 1 → above < tag % 2 ^ 62 → IsNewHead s above content head
 new_head s above content head front tag is_cell at is kind over =
     let tag_is : tag_of s content head ≡ tag = ap (slice_index content) (sym at) ∙ is in
     record { cell = is_cell; new = subst (IsHeadOver above) (sym tag_is) (record { kind = kind; over = over }) }
 
 module _ (s : Sizes) (content words : List ℕ) (head : Cell) (count cells : ℕ) (needs : cells ≡ cells_for count) (few : cells ≤ 8) (long : length words ≡ 64)
-    (counted : count_of (cells_from s content head) ≡ count) (is : (k j : ℕ) → k < cells → j < 8 → slice_index words (8 * k + j) ≡ cells_from s content head k j) where
+    (counted : count_of (word_in_image s content head) ≡ count) (is : (k j : ℕ) → k < cells → j < 8 → slice_index words (8 * k + j) ≡ word_in_image s content head k j) where
   abbrev pub slice : List ℕ
   slice = take (8 * cells) words
 
   size : length slice ≡ 8 * cells
   size = length-take-le (8 * cells) words (omega arith)
 
-  word_same : (k j : ℕ) → k < cells → j < 8 → cells_in slice k j ≡ cells_from s content head k j
+  word_same : (k j : ℕ) → k < cells → j < 8 → word_in_slice slice k j ≡ word_in_image s content head k j
   word_same k j lt small = get_or-take (8 * cells) words (8 * k + j) 0 (omega arith) ∙ is k j lt small
 
   below : {k n : ℕ} → n ≡ count → k < cells_for n → k < cells
   below {k} {n} is_count lt = let same : cells_for n ≡ cells = ap cells_for is_count ∙ sym needs in omega arith
 
-  same : AreSame (cells_from s content head) (cells_in slice) (cells_for (count_of (cells_from s content head)))
+  same : AreSame (word_in_image s content head) (word_in_slice slice) (cells_for (count_of (word_in_image s content head)))
   same = record { word = λ k j lt small. word_same k j (below counted lt) small }
 
-  slice_counted : count_of (cells_in slice) ≡ count
+  slice_counted : count_of (word_in_slice slice) ≡ count
   slice_counted = count_same same ∙ counted
 
-  back : AreSame (cells_in slice) (cells_from s content head) (cells_for (count_of (cells_in slice)))
+  back : AreSame (word_in_slice slice) (word_in_image s content head) (cells_for (count_of (word_in_slice slice)))
   back = record { word = λ k j lt small. sym (word_same k j (below slice_counted lt) small) }
 
   holds_home : IsComplete s content head → HoldsHome s slice

@@ -3,8 +3,8 @@ use Rattle.std.proofs.Common.{◌≡◌, inl, inr, ℕ, ◌<◌, ◌≤◌, max,
 use Rattle.std.specs.List.{filter}
 use Rattle.std.proofs.lemmas.List.Elements.{All-filter}
 use Rattle.dude_base.specs.declared.sizes.Sizes.{Sizes}
-use Rattle.pmem_trait.specs.Words.{Point}
-use Rattle.redo_record.specs.Fits.{Logged, HasHead, Stands, FitsRing, settled_mark}
+use Rattle.pmem_trait.specs.Words.{State}
+use Rattle.redo_record.specs.Fits.{Logged, HasHead, IsIntact, FitsRing, settled_mark}
 
 -- a record numbered over n stays
 pub head_kept : (n number place : ℕ) (ls : List Logged) → n < number → HasHead number place ls → HasHead number place (filter (λ l. nat_lt n l.number) ls)
@@ -18,11 +18,11 @@ head_kept n number place (l ∷ ls) over has = by (head_kept n number place ls o
     by rest false drops (inl is) = let same = is.0 in absurd (grind (arith, drops, same, over))
     by rest false drops (inr later) = rest later
 
-pub fits_released : (s : Sizes) (ring n : ℕ) (ls : List Logged) (released : ℕ) (p : Point) → FitsRing s ring ls released p → n ≤ settled_mark p
+pub fits_released : (s : Sizes) (ring n : ℕ) (ls : List Logged) (released : ℕ) (p : State) → FitsRing s ring ls released p → n ≤ settled_mark p
     → FitsRing s ring (filter (λ l. nat_lt n l.number) ls) (max released n) p
 fits_released s ring n ls released p fits upto = record {
   mark = fits.mark;
   reproduced = (let least = fits.reproduced in omega arith);
   heads = λ place tag below may over. head_kept n _ place ls (let high = over.over in omega arith) (fits.heads place tag below may over);
-  records = All-filter (λ (l : Logged). nat_lt n l.number) (λ (l : Logged). settled_mark p < l.number → Stands s ring p l) ls fits.records;
+  records = All-filter (λ (l : Logged). nat_lt n l.number) (λ (l : Logged). settled_mark p < l.number → IsIntact s ring p l) ls fits.records;
 }

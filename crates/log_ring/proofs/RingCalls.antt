@@ -4,10 +4,10 @@ use Rattle.std.specs.List.{range_with_len}
 use Rattle.std.proofs.lemmas.List.FromFn.{length-map-range_with_len, get_or-map-range_with_len, length-enumerate_from, get_or-enumerate_from}
 use Rattle.pmem_trait.specs.declared.call.Call.{Call}
 use Rattle.pmem_trait.specs.declared.call.Call.TheVariants.{Flush}
-use Rattle.pmem_trait.specs.Sights.{Sight, Goes, Makes}
+use Rattle.pmem_trait.specs.Sights.{Sight, OneCall, CallsMade}
 use Rattle.pmem_trait.specs.Groups.{put_pairs, flush_lines, PlacesFit}
 use Rattle.pmem_trait.specs.Rounds.{rounds}
-use Rattle.pmem_trait.proofs.Runs.{makes_then, makes_stop, rounds_next}
+use Rattle.pmem_trait.proofs.Runs.{made_then, made_stop, rounds_next}
 use Rattle.pmem_trait.proofs.GroupLists.{put_pairs-append, flushes_next, length-flush_lines}
 use Rattle.redo_record.specs.Calls.{words_from}
 
@@ -22,24 +22,24 @@ abbrev pub cell_puts : (ℕ → List (ℕ × ℕ)) → ℕ → List Call
 cell_puts f i = put_pairs (f (1 + i))
 
 -- the puts of the k-th cell
-pub puts_turn : (f : ℕ → List (ℕ × ℕ)) (k : ℕ) {ok : Bool} {s t u : Sight} → 1 ≤ k → Makes (rounds (cell_puts f) (k - 1)) true s t
-    → Makes (put_pairs (f k)) ok t u → Makes (rounds (cell_puts f) (k + 1 - 1)) ok s u
+pub puts_turn : (f : ℕ → List (ℕ × ℕ)) (k : ℕ) {ok : Bool} {s t u : Sight} → 1 ≤ k → CallsMade (rounds (cell_puts f) (k - 1)) true s t
+    → CallsMade (put_pairs (f k)) ok t u → CallsMade (rounds (cell_puts f) (k + 1 - 1)) ok s u
 puts_turn f k {ok} {s} {t} {u} low made on =
     let same : k ≡ 1 + (k - 1) = omega arith in
     let next : k - 1 + 1 ≡ k + 1 - 1 = omega arith in
-    subst (λ (n : ℕ). Makes (rounds (cell_puts f) n) ok s u) next
-    (rounds_next (cell_puts f) (k - 1) made (subst (λ (i : ℕ). Makes (put_pairs (f i)) ok t u) same on))
+    subst (λ (n : ℕ). CallsMade (rounds (cell_puts f) n) ok s u) next
+    (rounds_next (cell_puts f) (k - 1) made (subst (λ (i : ℕ). CallsMade (put_pairs (f i)) ok t u) same on))
 
 -- one list of writes behind another
-pub puts_then : (ws vs : List (ℕ × ℕ)) {ok : Bool} {s t u : Sight} → Makes (put_pairs ws) true s t → Makes (put_pairs vs) ok t u → Makes (put_pairs (ws ++ vs)) ok s u
-puts_then ws vs {ok} {s} {t} {u} made on = subst (λ (l : List Call). Makes l ok s u) (sym (put_pairs-append ws vs)) (makes_then made on)
+pub puts_then : (ws vs : List (ℕ × ℕ)) {ok : Bool} {s t u : Sight} → CallsMade (put_pairs ws) true s t → CallsMade (put_pairs vs) ok t u → CallsMade (put_pairs (ws ++ vs)) ok s u
+puts_then ws vs {ok} {s} {t} {u} made on = subst (λ (l : List Call). CallsMade l ok s u) (sym (put_pairs-append ws vs)) (made_then made on)
 
-pub puts_stop : (ws vs : List (ℕ × ℕ)) {s t : Sight} → Makes (put_pairs ws) false s t → Makes (put_pairs (ws ++ vs)) false s t
-puts_stop ws vs {s} {t} made = subst (λ (l : List Call). Makes l false s t) (sym (put_pairs-append ws vs)) (makes_stop (put_pairs vs) made)
+pub puts_stop : (ws vs : List (ℕ × ℕ)) {s t : Sight} → CallsMade (put_pairs ws) false s t → CallsMade (put_pairs (ws ++ vs)) false s t
+puts_stop ws vs {s} {t} made = subst (λ (l : List Call). CallsMade l false s t) (sym (put_pairs-append ws vs)) (made_stop (put_pairs vs) made)
 
 -- the flush of the k-th line
 pub flush_turn : (f : ℕ → ℕ) (n k line : ℕ) {ok : Bool} {s t u : Sight} → k < n → line ≡ f k
-    → Makes (take k (flush_lines (map f (range_with_len 0 n)))) true s t → Goes (Flush line) ok t u → Makes (take (k + 1) (flush_lines (map f (range_with_len 0 n)))) ok s u
+    → CallsMade (take k (flush_lines (map f (range_with_len 0 n)))) true s t → OneCall (Flush line) ok t u → CallsMade (take (k + 1) (flush_lines (map f (range_with_len 0 n)))) ok s u
 flush_turn f n k line below is made goes = flushes_next (map f (range_with_len 0 n)) k 0 line
     (omega (arith, length-map-range_with_len f 0 n)) (get_or-map-range_with_len f 0 n k k 0 below (omega arith) ∙ sym is) made goes
 

@@ -17,10 +17,11 @@ use Rattle.std.specs.BTreeMap.{IsOrdered, get, is_at}
 use Rattle.dude_base.specs.declared.sizes.Sizes.{Sizes}
 use Rattle.dude_base.specs.Records.{RedoRecord}
 use Rattle.redo_record.specs.Tags.{number_of}
-use Rattle.redo_record.specs.Cells.{Cell, IsCell, line_of}
+use Rattle.dude_base.specs.Image.{Cell}
+use Rattle.redo_record.specs.Cells.{IsCell, line_of}
 use Rattle.redo_record.specs.Record.{record_of}
-use Rattle.redo_record.specs.Images.{tag_of, cells_from, IsComplete, IsNewHead}
-use Rattle.redo_record.specs.Damage.{IsSecond, IsLeastLine, IsUndamaged, IsDamagedAt}
+use Rattle.redo_record.specs.Images.{tag_of, word_in_image, IsComplete, IsNewHead}
+use Rattle.redo_record.specs.Damage.{IsDuplicateHead, IsLeastLine, IsUndamaged, IsDamagedAt}
 use Rattle.log_ring.specs.declared.found.Found.{Found}
 use Rattle.log_ring.specs.Scan.{IsOfHead, AreScanned}
 use Rattle.log_ring.specs.Scanning.{KnowsBelow}
@@ -38,7 +39,7 @@ module _ (s : Sizes) (above : ℕ) (image : List ℕ) (found : Found) (knows : K
   -- every cell was looked at
   below : (cell : Cell) → IsCell s cell → line_of s cell < 2 + s.rings * s.cells
   below cell is_cell =
-      let place = is_cell.place_is in
+      let place = is_cell.slot_is in
       let ring = is_cell.ring_is in
       let rings : (cell.ring + 1) * s.cells ≤ s.rings * s.cells = mul-le-mul_right s.cells (omega arith) in
       omega arith
@@ -50,13 +51,13 @@ module _ (s : Sizes) (above : ℕ) (image : List ℕ) (found : Found) (knows : K
   pub damaged_second : (line : ℕ) → found.second ≡ Some line → IsDamagedAt s above image line
   damaged_second line is = inr (
     (λ cell torn. torn.incomplete (whole cell torn.head)),
-    subst (λ (o : Option ℕ). MatchOption o ((cell : Cell) → line_of s cell < 2 + s.rings * s.cells → ¬ IsSecond s above image cell) (IsLeastLine s (IsSecond s above image))) is knows.second,
+    subst (λ (o : Option ℕ). MatchOption o ((cell : Cell) → line_of s cell < 2 + s.rings * s.cells → ¬ IsDuplicateHead s above image cell) (IsLeastLine s (IsDuplicateHead s above image))) is knows.second,
   )
 
   module _ (ordered : IsOrdered nat_cmp found.records) (none : found.second ≡ None) where
-    no_second : (cell : Cell) → ¬ IsSecond s above image cell
+    no_second : (cell : Cell) → ¬ IsDuplicateHead s above image cell
     no_second cell second =
-        (subst (λ (o : Option ℕ). MatchOption o ((cell : Cell) → line_of s cell < 2 + s.rings * s.cells → ¬ IsSecond s above image cell) (IsLeastLine s (IsSecond s above image))) none knows.second)
+        (subst (λ (o : Option ℕ). MatchOption o ((cell : Cell) → line_of s cell < 2 + s.rings * s.cells → ¬ IsDuplicateHead s above image cell) (IsLeastLine s (IsDuplicateHead s above image))) none knows.second)
         cell (below cell second.head.cell) second
 
     undamaged : IsUndamaged s above image
@@ -100,7 +101,7 @@ module _ (s : Sizes) (above : ℕ) (image : List ℕ) (found : Found) (knows : K
         by (Some q) at some =
             let from = knows.source _ q at in
             let head : from.0 ≡ is.head = undamaged.single from.0 is.head from.2 is.new from.4 in
-            let one : q ≡ r = sym from.3 ∙ (ap (λ (c : Cell). record_of (cells_from s image c)) head ∙ is.same) in
+            let one : q ≡ r = sym from.3 ∙ (ap (λ (c : Cell). record_of (word_in_image s image c)) head ∙ is.same) in
             let place = place_from_lookup (is_at (nat_cmp (number_of (tag_of s image is.head)))) found.records.entries q at in
             subst (Contains (values_of found.records.entries)) one (Contains-values_of found.records.entries place.1 q (place.0, slice_get_within found.records.entries place.0 (place.1, q) place.2, get_or_from_slice_get found.records.entries place.0 (place.1, q) (place.1, q) place.2))
 

@@ -2,7 +2,7 @@
 use Rattle.std.proofs.Common.{◌≡◌, ◌≢◌, true, false, Result, Ok, Err, IfErr, IsErrOf, refl, sym, subst, rules}
 use Rattle.pmem_trait.specs.Sights.{Sight, Risen}
 use Rattle.pmem_trait.specs.Reads.{OnlyReads}
-use Rattle.pmem_trait.proofs.Runs.{makes_cause}
+use Rattle.pmem_trait.proofs.Runs.{made_cause}
 use Rattle.pmem_trait.proofs.ReadRuns.{reads_then}
 use Rattle.log_ring.specs.declared.scan_fault.ScanFault.{ScanFault}
 use Rattle.log_ring.specs.declared.scan_fault.ScanFault.TheVariants.{Damaged, Device, NoMemory}
@@ -34,4 +34,4 @@ pub made_cause : {X : Type 0} (r : Result X ScanFault) (s t : Sight) → ReadsMa
 made_cause (Ok found) s t made is = absurd (search rules)
 made_cause (Err (Damaged line)) s t made is = absurd (search rules)
 made_cause (Err NoMemory) s t made is = absurd (search rules)
-made_cause (Err Device) s t made is = makes_cause made.made
+made_cause (Err Device) s t made is = made_cause made.made

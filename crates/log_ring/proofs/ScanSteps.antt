@@ -9,19 +9,20 @@ use Rattle.std.specs.BTreeMap.{get, is_at, Updates}
 use Rattle.dude_base.specs.declared.sizes.Sizes.{Sizes}
 use Rattle.dude_base.specs.Records.{RedoRecord}
 use Rattle.redo_record.specs.Tags.{number_of}
-use Rattle.redo_record.specs.Cells.{Cell, IsCell, line_of}
+use Rattle.dude_base.specs.Image.{Cell}
+use Rattle.redo_record.specs.Cells.{IsCell, line_of}
 use Rattle.redo_record.specs.Record.{record_of}
-use Rattle.redo_record.specs.Images.{tag_of, cells_from, IsComplete, IsNewHead}
-use Rattle.redo_record.specs.Damage.{IsTorn, IsSecond, IsLeastLine}
+use Rattle.redo_record.specs.Images.{tag_of, word_in_image, IsComplete, IsNewHead}
+use Rattle.redo_record.specs.Damage.{IsTorn, IsDuplicateHead, IsLeastLine}
 use Rattle.redo_record.proofs.CellPlaces.{first_cell}
 use Rattle.redo_record.proofs.RingHeads.{cell_is}
 use Rattle.log_ring.specs.declared.found.Found.{Found}
-use Rattle.log_ring.specs.Scanning.{Takes, KnowsBelow}
+use Rattle.log_ring.specs.Scanning.{TakesRecord, KnowsBelow}
 
 -- a cell of a lower ring stands at a lower line
 lower_ring : (s : Sizes) (a b : Cell) → IsCell s a → a.ring < b.ring → line_of s a < line_of s b
 lower_ring s a b is_cell lt =
-    let place = is_cell.place_is in
+    let place = is_cell.slot_is in
     let rings : (a.ring + 1) * s.cells ≤ b.ring * s.cells = mul-le-mul_right s.cells (omega arith) in
     omega arith
 
@@ -35,7 +36,7 @@ one_cell s a b is_a is_b same = by (cases_order a.ring b.ring)
     by (inr (inr gt)) = absurd (let lower = lower_ring s b a is_b gt in omega arith)
 
 -- the number of a head's record
-pub head_number : (s : Sizes) (image : List ℕ) (head : Cell) (r : RedoRecord) → IsCell s head → record_of (cells_from s image head) ≡ r → r.number ≡ number_of (tag_of s image head)
+pub head_number : (s : Sizes) (image : List ℕ) (head : Cell) (r : RedoRecord) → IsCell s head → record_of (word_in_image s image head) ≡ r → r.number ≡ number_of (tag_of s image head)
 head_number s image head r is_cell same =
     ap (λ (r : RedoRecord). r.number) (sym same) ∙ ap (λ i. number_of (slice_index image i)) (first_cell s head is_cell 0 ∙ omega arith)
 
@@ -52,9 +53,9 @@ module _ (s : Sizes) (above : ℕ) (image : List ℕ) (cell : Cell) (is_cell : I
       (cases_eq (line_of s other) (line_of s cell))
 
   -- no second head, or the first of them: a line more
-  second_more : (o : Option ℕ) → ((other : Cell) → line_of s other < line_of s cell + 1 → IsSecond s above image other → line_of s other < line_of s cell)
-      → MatchOption o ((other : Cell) → line_of s other < line_of s cell → ¬ IsSecond s above image other) (IsLeastLine s (IsSecond s above image))
-      → MatchOption o ((other : Cell) → line_of s other < line_of s cell + 1 → ¬ IsSecond s above image other) (IsLeastLine s (IsSecond s above image))
+  second_more : (o : Option ℕ) → ((other : Cell) → line_of s other < line_of s cell + 1 → IsDuplicateHead s above image other → line_of s other < line_of s cell)
+      → MatchOption o ((other : Cell) → line_of s other < line_of s cell → ¬ IsDuplicateHead s above image other) (IsLeastLine s (IsDuplicateHead s above image))
+      → MatchOption o ((other : Cell) → line_of s other < line_of s cell + 1 → ¬ IsDuplicateHead s above image other) (IsLeastLine s (IsDuplicateHead s above image))
   second_more None only none = λ other lt is. none other (only other lt is) is
   second_more (Some l) only least = least
 
@@ -70,7 +71,7 @@ module _ (s : Sizes) (above : ℕ) (image : List ℕ) (cell : Cell) (is_cell : I
       before : (other : Cell) → line_of s other < line_of s cell + 1 → IsNewHead s above image other → line_of s other < line_of s cell
       before other lt new = ⊎_elim (λ lower. lower) (λ same. absurd (no_head (subst (IsNewHead s above image) same new))) (before_or_here other lt new)
 
-  module _ (r : RedoRecord) (old new : Found) (head : IsNewHead s above image cell) (whole : IsComplete s image cell) (same : record_of (cells_from s image cell) ≡ r)
+  module _ (r : RedoRecord) (old new : Found) (head : IsNewHead s above image cell) (whole : IsComplete s image cell) (same : record_of (word_in_image s image cell) ≡ r)
       (knows : KnowsBelow s above image (line_of s cell) old) where
     number_is : r.number ≡ number_of (tag_of s image cell)
     number_is = head_number s image cell r is_cell same
@@ -90,7 +91,7 @@ module _ (s : Sizes) (above : ℕ) (image : List ℕ) (cell : Cell) (is_cell : I
           lower apart = ⊎_elim (λ lower. lower) (λ here. absurd (apart (ap (λ (c : Cell). number_of (tag_of s image c)) here ∙ sym number_is))) (before_or_here other lt is)
 
       source_first : (n : ℕ) (q : RedoRecord) → get nat_cmp new.records n ≡ Some q
-          → (other : Cell) × (line_of s other < line_of s cell + 1) × IsNewHead s above image other × (record_of (cells_from s image other) ≡ q) × (number_of (tag_of s image other) ≡ n)
+          → (other : Cell) × (line_of s other < line_of s cell + 1) × IsNewHead s above image other × (record_of (word_in_image s image other) ≡ q) × (number_of (tag_of s image other) ≡ n)
       source_first n q is = ⊎_elim
           (λ (key : n ≡ r.number).
           let found : get nat_cmp new.records r.number ≡ Some q = ap (get nat_cmp new.records) (sym key) ∙ is in
@@ -102,7 +103,7 @@ module _ (s : Sizes) (above : ℕ) (image : List ℕ) (cell : Cell) (is_cell : I
           (from.0, omega arith, from.2, from.3, from.4))
           (cases_eq n r.number)
 
-      no_second : (other : Cell) → line_of s other < line_of s cell + 1 → IsSecond s above image other → line_of s other < line_of s cell
+      no_second : (other : Cell) → line_of s other < line_of s cell + 1 → IsDuplicateHead s above image other → line_of s other < line_of s cell
       no_second other lt is = ⊎_elim (λ lower. lower)
           (λ (here : other ≡ cell).
           let lines : line_of s other ≡ line_of s cell = ap (line_of s) here in
@@ -116,13 +117,13 @@ module _ (s : Sizes) (above : ℕ) (image : List ℕ) (cell : Cell) (is_cell : I
         complete = complete_more;
         held = held_first;
         source = source_first;
-        second = subst (λ (o : Option ℕ). MatchOption o ((other : Cell) → line_of s other < line_of s cell + 1 → ¬ IsSecond s above image other) (IsLeastLine s (IsSecond s above image))) (sym second)
+        second = subst (λ (o : Option ℕ). MatchOption o ((other : Cell) → line_of s other < line_of s cell + 1 → ¬ IsDuplicateHead s above image other) (IsLeastLine s (IsDuplicateHead s above image))) (sym second)
             (second_more old.second no_second knows.second);
       }
 
     -- a number that has a head at a lower line
     module _ (first : RedoRecord) (there : get nat_cmp old.records r.number ≡ Some first) (records : new.records ≡ old.records) (second : new.second ≡ option_or old.second (Some (line_of s cell))) where
-      here_second : IsSecond s above image cell
+      here_second : IsDuplicateHead s above image cell
       here_second =
           let from = knows.source r.number first there in
           record { head = head; other = from.0; other_head = from.2; lower = from.1; same_number = from.4 ∙ number_is }
@@ -134,12 +135,12 @@ module _ (s : Sizes) (above : ℕ) (image : List ℕ) (cell : Cell) (is_cell : I
           (before_or_here other lt is)
 
       second_again : (o p : Option ℕ) → p ≡ option_or o (Some (line_of s cell))
-          → MatchOption o ((other : Cell) → line_of s other < line_of s cell → ¬ IsSecond s above image other) (IsLeastLine s (IsSecond s above image))
-          → MatchOption p ((other : Cell) → line_of s other < line_of s cell + 1 → ¬ IsSecond s above image other) (IsLeastLine s (IsSecond s above image))
-      second_again o p is was = subst (λ (q : Option ℕ). MatchOption q ((other : Cell) → line_of s other < line_of s cell + 1 → ¬ IsSecond s above image other) (IsLeastLine s (IsSecond s above image))) (sym is) (by o was)
+          → MatchOption o ((other : Cell) → line_of s other < line_of s cell → ¬ IsDuplicateHead s above image other) (IsLeastLine s (IsDuplicateHead s above image))
+          → MatchOption p ((other : Cell) → line_of s other < line_of s cell + 1 → ¬ IsDuplicateHead s above image other) (IsLeastLine s (IsDuplicateHead s above image))
+      second_again o p is was = subst (λ (q : Option ℕ). MatchOption q ((other : Cell) → line_of s other < line_of s cell + 1 → ¬ IsDuplicateHead s above image other) (IsLeastLine s (IsDuplicateHead s above image))) (sym is) (by o was)
         where
-          by : (o : Option ℕ) → MatchOption o ((other : Cell) → line_of s other < line_of s cell → ¬ IsSecond s above image other) (IsLeastLine s (IsSecond s above image))
-              → MatchOption (option_or o (Some (line_of s cell))) ((other : Cell) → line_of s other < line_of s cell + 1 → ¬ IsSecond s above image other) (IsLeastLine s (IsSecond s above image))
+          by : (o : Option ℕ) → MatchOption o ((other : Cell) → line_of s other < line_of s cell → ¬ IsDuplicateHead s above image other) (IsLeastLine s (IsDuplicateHead s above image))
+              → MatchOption (option_or o (Some (line_of s cell))) ((other : Cell) → line_of s other < line_of s cell + 1 → ¬ IsDuplicateHead s above image other) (IsLeastLine s (IsDuplicateHead s above image))
           by None none = (cell, here_second, refl, none)
           by (Some l) least = least
 
@@ -152,7 +153,7 @@ module _ (s : Sizes) (above : ℕ) (image : List ℕ) (cell : Cell) (is_cell : I
       }
 
     -- a head whose record was taken in
-    pub knows_more : Takes (line_of s cell) r old new → KnowsBelow s above image (line_of s cell + 1) new
+    pub knows_more : TakesRecord (line_of s cell) r old new → KnowsBelow s above image (line_of s cell + 1) new
     knows_more = by (get nat_cmp old.records r.number) refl
       where
         by : (o : Option RedoRecord) → get nat_cmp old.records r.number ≡ o
@@ -167,7 +168,7 @@ knows_nothing s above image line found low empty none = record {
   complete = λ cell lt new. absurd (omega arith);
   held = λ cell lt new. absurd (omega arith);
   source = λ n r is. absurd (true≢false (sym (ap is_some is) ∙ ap (λ (es : List (ℕ × RedoRecord)). is_some (lookup (is_at (nat_cmp n)) es)) empty));
-  second = subst (λ (o : Option ℕ). MatchOption o ((cell : Cell) → line_of s cell < line → ¬ IsSecond s above image cell) (IsLeastLine s (IsSecond s above image))) (sym none) (λ cell lt is. omega arith);
+  second = subst (λ (o : Option ℕ). MatchOption o ((cell : Cell) → line_of s cell < line → ¬ IsDuplicateHead s above image cell) (IsLeastLine s (IsDuplicateHead s above image))) (sym none) (λ cell lt is. omega arith);
 }
 
 -- a head without its record, behind cells that are known, is the first

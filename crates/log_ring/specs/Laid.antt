@@ -18,7 +18,7 @@ abbrev pub AreLaid : ℕ → ℕ → List Logged → Type 0
 AreLaid cells next [] = Unit {0}
 AreLaid cells next (l ∷ ls) = LiesBefore cells next l ls × AreLaid cells next ls
 
-pub record IsKept (a : Inside) : Type 0 where
+pub record IsKeptRing (a : Inside) : Type 0 where
   pub accepted : IsAccepted a.place
   pub ring : a.ring < a.place.rings
   pub next : a.next < a.place.cells

@@ -1,5 +1,5 @@
 pub mod Laid
-pub mod Outcome
+pub mod Appends
 pub mod Ring
 pub mod Scan
 pub mod Scanning

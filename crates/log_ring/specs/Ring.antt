@@ -4,11 +4,11 @@ use Rattle.std.specs.List.{filter}
 use Rattle.dude_base.specs.declared.limits.TheConstants.{MARK}
 use Rattle.dude_base.specs.declared.sizes.Sizes.{Sizes}
 use Rattle.dude_base.specs.Records.{RedoRecord}
-use Rattle.pmem_trait.specs.Words.{Point, MayBe}
+use Rattle.pmem_trait.specs.Words.{State, MayHold}
 use Rattle.redo_record.specs.Tags.{IsHeadOver}
-use Rattle.redo_record.specs.Cells.{Cell, front_of}
+use Rattle.dude_base.specs.Image.{Cell, cell_at, cell_start}
 use Rattle.redo_record.specs.Record.{cells_for}
-use Rattle.redo_record.specs.Fits.{Logged, FitsRing, IsStill, settled_mark}
+use Rattle.redo_record.specs.Fits.{Logged, FitsRing, IsSettledWord, settled_mark}
 
 -- A ring: the sizes of its image, its number among the rings, its records, the oldest first, the place where the next
 -- one's head will stand, and the greatest number released.
@@ -19,17 +19,13 @@ pub record RingState : Type 0 where
   pub next : ℕ
   pub released : ℕ
 
--- the cell at this place of a ring
-abbrev pub cell_at : ℕ → ℕ → Cell
-cell_at ring place = record { ring = ring; place = place }
-
 -- the cell of the next record's head
 abbrev pub next_head : RingState → Cell
 next_head v = cell_at v.ring v.next
 
 -- the ring fits the medium at this state
-abbrev pub Fits : RingState → Point → Type 0
-Fits v p = FitsRing v.sizes v.ring v.logged v.released p
+abbrev pub FitsMedium : RingState → State → Type 0
+FitsMedium v p = FitsRing v.sizes v.ring v.logged v.released p
 
 -- the ring with a record of this number and so many cells behind its others
 abbrev pub with_entry : ℕ → ℕ → RingState → RingState
@@ -47,6 +43,6 @@ abbrev pub released_to : ℕ → RingState → RingState
 released_to n v = record v { logged = filter (λ l. nat_lt n l.number) v.logged; released = max v.released n }
 
 -- The mark is settled, and a crash leaves no head over it in this ring.
-pub record HasNoNewHead (s : Sizes) (ring : ℕ) (p : Point) : Type 0 where
-  pub mark : IsStill (p.word MARK)
-  pub none : (place tag : ℕ) → place < s.cells → MayBe (p.word (front_of s (cell_at ring place))) tag → IsHeadOver (settled_mark p) tag → ⊥
+pub record HasNoNewHead (s : Sizes) (ring : ℕ) (p : State) : Type 0 where
+  pub mark : IsSettledWord (p.word MARK)
+  pub none : (place tag : ℕ) → place < s.cells → MayHold (p.word (cell_start s (cell_at ring place))) tag → IsHeadOver (settled_mark p) tag → ⊥

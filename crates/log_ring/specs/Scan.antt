@@ -5,9 +5,9 @@ use Rattle.dude_base.specs.declared.sizes.Sizes.{Sizes}
 use Rattle.dude_base.specs.Records.{RedoRecord}
 use Rattle.pmem_trait.specs.Sights.{Sight}
 use Rattle.pmem_trait.specs.Reads.{OnlyReads}
-use Rattle.redo_record.specs.Cells.{Cell}
+use Rattle.dude_base.specs.Image.{Cell}
 use Rattle.redo_record.specs.Record.{record_of}
-use Rattle.redo_record.specs.Images.{cells_from, IsNewHead}
+use Rattle.redo_record.specs.Images.{word_in_image, IsNewHead}
 use Rattle.redo_record.specs.Damage.{IsUndamaged}
 use Rattle.log_ring.specs.declared.scan_fault.ScanFault.{ScanFault}
 use Rattle.log_ring.specs.declared.scan_fault.ScanFault.TheVariants.{Damaged, Device, NoMemory}
@@ -16,7 +16,7 @@ use Rattle.log_ring.specs.declared.scan_fault.ScanFault.TheVariants.{Damaged, De
 pub record IsOfHead (s : Sizes) (above : ℕ) (image : List ℕ) (r : RedoRecord) : Type 0 where
   pub head : Cell
   pub new : IsNewHead s above image head
-  pub same : record_of (cells_from s image head) ≡ r
+  pub same : record_of (word_in_image s image head) ≡ r
 
 -- The log is undamaged, and these are the records of all its heads with numbers over this one, in rising order.
 pub record AreScanned (s : Sizes) (above : ℕ) (image : List ℕ) (found : List RedoRecord) : Type 0 where

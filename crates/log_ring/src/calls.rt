@@ -2,15 +2,14 @@
 
 ghost use Rattle.std.specs.Prelude.{◌≡◌, ◌+◌, ◌*◌, ◌-◌, ◌%◌, ◌^◌, ◌<◌, ◌≤◌, [], ◌∷◌, length, drop, flat_map, is_ok};
 ghost use Rattle.std.specs.List.{range_with_len};
-ghost use Rattle.dude_base.specs.Image.{image_words};
-ghost use Rattle.pmem_trait.specs.Sights.{Makes};
+ghost use Rattle.dude_base.specs.Image.{image_words, cell_start, cell_at};
+ghost use Rattle.pmem_trait.specs.Sights.{CallsMade};
 ghost use Rattle.pmem_trait.specs.Groups.{put_pairs, flush_lines, group_calls};
 ghost use Rattle.redo_record.specs.Tags.{IsNumber, head_tag};
-ghost use Rattle.redo_record.specs.Cells.{cell_after, front_of, line_of};
+ghost use Rattle.redo_record.specs.Cells.{cell_after, line_of};
 ghost use Rattle.redo_record.specs.Record.{cells_for};
 ghost use Rattle.redo_record.specs.Encoding.{encoded};
 ghost use Rattle.redo_record.specs.Calls.{words_from, cell_writes, body_writes, lines_from, tag_write, append_calls};
-ghost use Rattle.log_ring.specs.Ring.{cell_at};
 
 use crate::cells::front_after;
 use dude_base::limits::LINE;
@@ -49,7 +48,7 @@ fn put_rest_of_head<M: Medium>(
     requires number { IsNumber r.now.number }
     requires room { image_words place.now ≤ (M.sight m.old).len }
     ensures len { (M.sight m.new).len ≡ (M.sight m.old).len }
-    ensures made { Makes (put_pairs (words_from (front_of place.now (cell_at ring head) + 1) (drop 1 (encoded r.now 0)))) (is_ok result) (M.sight m.old) (M.sight m.new) }
+    ensures made { CallsMade (put_pairs (words_from (cell_start place.now (cell_at ring head) + 1) (drop 1 (encoded r.now 0)))) (is_ok result) (M.sight m.old) (M.sight m.new) }
 {
     let mut words = [0; LINE as usize];
     encode(r, 0, &mut words);
@@ -72,7 +71,7 @@ fn put_cell<M: Medium>(
     requires cell { k < cells_for (length r.now.writes) }
     requires room { image_words place.now ≤ (M.sight m.old).len }
     ensures len { (M.sight m.new).len ≡ (M.sight m.old).len }
-    ensures made { Makes (put_pairs (cell_writes place.now (cell_at ring head) r.now k)) (is_ok result) (M.sight m.old) (M.sight m.new) }
+    ensures made { CallsMade (put_pairs (cell_writes place.now (cell_at ring head) r.now k)) (is_ok result) (M.sight m.old) (M.sight m.new) }
 {
     let _count = r.len();
     let mut words = [0; LINE as usize];
@@ -94,7 +93,7 @@ fn put_continuations<M: Medium>(
     requires number { IsNumber r.now.number }
     requires room { image_words place.now ≤ (M.sight m.old).len }
     ensures len { (M.sight m.new).len ≡ (M.sight m.old).len }
-    ensures made { Makes (put_pairs (flat_map (cell_writes place.now (cell_at ring head) r.now) (range_with_len 1 (cells_for (length r.now.writes) - 1)))) (is_ok result) (M.sight m.old) (M.sight m.new) }
+    ensures made { CallsMade (put_pairs (flat_map (cell_writes place.now (cell_at ring head) r.now) (range_with_len 1 (cells_for (length r.now.writes) - 1)))) (is_ok result) (M.sight m.old) (M.sight m.new) }
 {
     for k in 1..cells_of(r) {
         put_cell(m, place, ring, head, r, k)?;
@@ -115,7 +114,7 @@ fn put_body<M: Medium>(
     requires number { IsNumber r.now.number }
     requires room { image_words place.now ≤ (M.sight m.old).len }
     ensures len { (M.sight m.new).len ≡ (M.sight m.old).len }
-    ensures made { Makes (put_pairs (body_writes place.now (cell_at ring head) r.now)) (is_ok result) (M.sight m.old) (M.sight m.new) }
+    ensures made { CallsMade (put_pairs (body_writes place.now (cell_at ring head) r.now)) (is_ok result) (M.sight m.old) (M.sight m.new) }
 {
     put_rest_of_head(m, place, ring, head, r)?;
     put_continuations(m, place, ring, head, r)
@@ -133,7 +132,7 @@ fn flush_cells<M: Medium>(
     requires head { head < place.now.cells }
     requires room { image_words place.now ≤ (M.sight m.old).len }
     ensures len { (M.sight m.new).len ≡ (M.sight m.old).len }
-    ensures made { Makes (flush_lines (lines_from place.now (cell_at ring head) (cells_for (length r.now.writes)))) (is_ok result) (M.sight m.old) (M.sight m.new) }
+    ensures made { CallsMade (flush_lines (lines_from place.now (cell_at ring head) (cells_for (length r.now.writes)))) (is_ok result) (M.sight m.old) (M.sight m.new) }
 {
     for k in 0..cells_in_record(r) {
         m.flush(front_after(place, ring, head, k) / LINE)?;
@@ -155,7 +154,7 @@ fn settle_body<M: Medium>(
     requires number { IsNumber r.now.number }
     requires room { image_words place.now ≤ (M.sight m.old).len }
     ensures len { (M.sight m.new).len ≡ (M.sight m.old).len }
-    ensures made { Makes (group_calls (body_writes place.now (cell_at ring head) r.now) (lines_from place.now (cell_at ring head) (cells_for (length r.now.writes)))) (is_ok result) (M.sight m.old) (M.sight m.new) }
+    ensures made { CallsMade (group_calls (body_writes place.now (cell_at ring head) r.now) (lines_from place.now (cell_at ring head) (cells_for (length r.now.writes)))) (is_ok result) (M.sight m.old) (M.sight m.new) }
 {
     put_body(m, place, ring, head, r)?;
     flush_cells(m, place, ring, head, r)?;
@@ -185,7 +184,7 @@ fn put_tag<M: Medium>(
     requires number { IsNumber number }
     requires room { image_words place.now ≤ (M.sight m.old).len }
     ensures len { (M.sight m.new).len ≡ (M.sight m.old).len }
-    ensures made { Makes (put_pairs ((front_of place.now (cell_at ring head), head_tag number) ∷ [])) (is_ok result) (M.sight m.old) (M.sight m.new) }
+    ensures made { CallsMade (put_pairs ((cell_start place.now (cell_at ring head), head_tag number) ∷ [])) (is_ok result) (M.sight m.old) (M.sight m.new) }
 {
     put_all(m, &[(place.cell(ring, head), HEAD_KIND + number)])
 }
@@ -196,7 +195,7 @@ fn flush_head<M: Medium>(m: &mut M, place: &Place, ring: u64, head: u64) -> Resu
     requires head { head < place.now.cells }
     requires room { image_words place.now ≤ (M.sight m.old).len }
     ensures len { (M.sight m.new).len ≡ (M.sight m.old).len }
-    ensures made { Makes (flush_lines (line_of place.now (cell_at ring head) ∷ [])) (is_ok result) (M.sight m.old) (M.sight m.new) }
+    ensures made { CallsMade (flush_lines (line_of place.now (cell_at ring head) ∷ [])) (is_ok result) (M.sight m.old) (M.sight m.new) }
 {
     flush_all(m, &[place.cell(ring, head) / LINE])
 }
@@ -215,7 +214,7 @@ fn settle_tag<M: Medium>(
     requires number { IsNumber number }
     requires room { image_words place.now ≤ (M.sight m.old).len }
     ensures len { (M.sight m.new).len ≡ (M.sight m.old).len }
-    ensures made { Makes (group_calls ((front_of place.now (cell_at ring head), head_tag number) ∷ []) (line_of place.now (cell_at ring head) ∷ [])) (is_ok result) (M.sight m.old) (M.sight m.new) }
+    ensures made { CallsMade (group_calls ((cell_start place.now (cell_at ring head), head_tag number) ∷ []) (line_of place.now (cell_at ring head) ∷ [])) (is_ok result) (M.sight m.old) (M.sight m.new) }
 {
     put_tag(m, place, ring, head, number)?;
     flush_head(m, place, ring, head)?;
@@ -236,7 +235,7 @@ pub fn append_record<M: Medium>(
     requires number { IsNumber r.now.number }
     requires room { image_words place.now ≤ (M.sight m.old).len }
     ensures len { (M.sight m.new).len ≡ (M.sight m.old).len }
-    ensures made { Makes (append_calls place.now (cell_at ring head) r.now) (is_ok result) (M.sight m.old) (M.sight m.new) }
+    ensures made { CallsMade (append_calls place.now (cell_at ring head) r.now) (is_ok result) (M.sight m.old) (M.sight m.new) }
 {
     settle_body(m, place, ring, head, r)?;
     settle_tag(m, place, ring, head, r.number())

@@ -20,7 +20,7 @@ impl Found {
     ghost use Rattle.std.specs.Prelude.{◌≡◌, ◌≢◌, ℕ, [], Some, None, IfOk, IfErr, OnOk, IsErrOf};
     ghost use Rattle.std.specs.BTreeMap.{values};
     ghost use Rattle.log_ring.specs.declared.scan_fault.ScanFault.TheVariants.{Damaged, Device};
-    ghost use Rattle.log_ring.specs.Scanning.{Takes};
+    ghost use Rattle.log_ring.specs.Scanning.{TakesRecord};
 
     pub fn new(alloc: Global) -> Found
         ensures records { result.records.entries ≡ [] }
@@ -34,7 +34,7 @@ impl Found {
 
     /// Takes in the record whose head stands at this line.
     pub fn take(&mut self, line: u64, redo: Redo) -> Result<(), AllocError>
-        ensures { OnOk result (Takes line redo self.old self.new) }
+        ensures { OnOk result (TakesRecord line redo self.old self.new) }
     {
         let number = redo.number();
         if self.records.contains_key(&number) {

@@ -2,10 +2,9 @@
 
 ghost use Rattle.std.specs.Prelude.{◌≡◌, ℕ, ◌+◌, ◌*◌, ◌<◌, ◌≤◌, Decides, All, is_ok, slice_index, IfOk, OnOk};
 ghost use Rattle.dude_base.specs.declared.limits.TheConstants.{LINE, PAGE};
-ghost use Rattle.dude_base.specs.Image.{image_words};
+ghost use Rattle.dude_base.specs.Image.{image_words, cell_at};
 ghost use Rattle.pmem_trait.specs.Reads.{OnlyReads, ContentHas};
-ghost use Rattle.redo_record.specs.Images.{cells_from};
-ghost use Rattle.log_ring.specs.Ring.{cell_at};
+ghost use Rattle.redo_record.specs.Images.{word_in_image};
 ghost use Rattle.log_ring.specs.Scanning.{IsRecordAt, IsHomeRecord};
 
 use crate::cells::front_after;
@@ -34,7 +33,7 @@ fn read_cells<M: Medium>(
     requires room { image_words place.now ≤ (M.sight m.old).len }
     ensures len { (M.sight m.new).len ≡ (M.sight m.old).len }
     ensures reads { OnlyReads (is_ok result) (M.sight m.old) (M.sight m.new) }
-    ensures words { OnOk result (ContentHas (λ content. (k j : ℕ) → k < cells → j < LINE → slice_index words.new (LINE * k + j) ≡ cells_from place.now content (cell_at ring head) k j) (M.sight m.old)) }
+    ensures words { OnOk result (ContentHas (λ content. (k j : ℕ) → k < cells → j < LINE → slice_index words.new (LINE * k + j) ≡ word_in_image place.now content (cell_at ring head) k j) (M.sight m.old)) }
 {
     for i in 0..LINE * cells {
         words[i as usize] = m.read(front_after(place, ring, head, i / LINE) + i % LINE)?;

@@ -1,14 +1,14 @@
 ghost use Rattle.std.specs.Prelude.{◌≡◌, ◌⊎◌, ◌↔◌, ◌+◌, ◌<◌, ◌≤◌, ◌*◌, [], All, length, is_ok, if◌then◌else◌, IfOk, IfErr, OnOk, OnErr, IsErrOf, IsTrue};
 ghost use Rattle.dude_base.specs.declared.limits.TheConstants.{PAGE};
 ghost use Rattle.dude_base.specs.Image.{image_words};
-ghost use Rattle.pmem_trait.specs.Words.{Point};
-ghost use Rattle.pmem_trait.specs.Sights.{here, Risen, Keeps};
+ghost use Rattle.pmem_trait.specs.Words.{State};
+ghost use Rattle.pmem_trait.specs.Sights.{state_now, Risen, AtEveryMoment};
 ghost use Rattle.redo_record.specs.Tags.{IsNumber};
 ghost use Rattle.redo_record.specs.Calls.{append_calls};
 ghost use Rattle.redo_record.specs.Fits.{settled_mark, cells_used};
 ghost use Rattle.redo_record.specs.AppendLaw.{HeadsHold, Appended};
-ghost use Rattle.log_ring.specs.Ring.{Fits, HasNoNewHead, next_head, with_entry, with_record, released_to};
-ghost use Rattle.log_ring.specs.Outcome.{CallsMade, IsOverfull, full_for};
+ghost use Rattle.log_ring.specs.Ring.{FitsMedium, HasNoNewHead, next_head, with_entry, with_record, released_to};
+ghost use Rattle.log_ring.specs.Appends.{AppendCalls, IsOverfull, full_for};
 ghost use Rattle.log_ring.specs.declared.ring_fault.RingFault.TheVariants.{Device};
 
 use crate::calls::{append_record, cells_in_record};
@@ -36,11 +36,11 @@ impl Model for Ring {
 
     ghost Value = { RingState };
 
-    ghost use Rattle.log_ring.specs.Laid.{IsKept};
+    ghost use Rattle.log_ring.specs.Laid.{IsKeptRing};
 
     ghost view = { λ a. record { sizes = a.place; ring = a.ring; logged = a.records.items; next = a.next; released = a.released } };
 
-    ghost invariant = { IsKept };
+    ghost invariant = { IsKeptRing };
 }
 
 impl Ring {
@@ -48,7 +48,7 @@ impl Ring {
     pub fn new(alloc: Global, place: Place, ring: u64) -> Result<Ring, AllocError>
         requires { ring < place.rings }
         ensures empty { IfOk result (λ made. made ≡ record { sizes = place; ring = ring; logged = []; next = 0; released = 0 }) }
-        ensures fits { IfOk result (λ made. (p : Point) → HasNoNewHead place ring p → Fits made p) }
+        ensures fits { IfOk result (λ made. (p : State) → HasNoNewHead place ring p → FitsMedium made p) }
     {
         Ok(Ring {
             records: Vec::with_capacity(alloc, place.sizes().cells as usize)?,
@@ -92,7 +92,7 @@ impl Ring {
         requires newest { All (λ l. l.number < r.now.number) self.old.logged }
         requires room { image_words self.old.sizes ≤ (M.sight m.old).len }
         ensures len { (M.sight m.new).len ≡ (M.sight m.old).len }
-        ensures calls { CallsMade result (append_calls self.old.sizes (next_head self.old) r.now) (M.sight m.old) (M.sight m.new) }
+        ensures calls { AppendCalls result (append_calls self.old.sizes (next_head self.old) r.now) (M.sight m.old) (M.sight m.new) }
         ensures full { IsErrOf result (full_for self.old r.now) ↔ IsOverfull self.old r.now }
         ensures fault { IfErr result (λ fault. (fault ≡ full_for self.old r.now) ⊎ (fault ≡ Device)) }
         ensures ring { self.new ≡ (if is_ok result then with_record r.now self.old else self.old) }
@@ -116,18 +116,18 @@ impl Ring {
         requires home { All (λ w. w.at < self.old.sizes.pages * PAGE) r.now.writes }
         requires room { image_words self.old.sizes ≤ (M.sight m.old).len }
         ensures len { (M.sight m.new).len ≡ (M.sight m.old).len }
-        ensures calls { CallsMade result (append_calls self.old.sizes (next_head self.old) r.now) (M.sight m.old) (M.sight m.new) }
+        ensures calls { AppendCalls result (append_calls self.old.sizes (next_head self.old) r.now) (M.sight m.old) (M.sight m.new) }
         ensures full { IsErrOf result (full_for self.old r.now) ↔ IsOverfull self.old r.now }
         ensures fault { IfErr result (λ fault. (fault ≡ full_for self.old r.now) ⊎ (fault ≡ Device)) }
         ensures cause { IsErrOf result Device → Risen (M.sight m.old).faults (M.sight m.new).faults }
         ensures ring { self.new ≡ (if is_ok result then with_record r.now self.old else self.old) }
         // Where the ring fits the medium, each head of this ring over the mark has its complete record at each moment,
         // and is that of one of the ring's records or that of r.
-        ensures heads { (IsTrue (M.sight m.old).tells → Fits self.old (here (M.sight m.old)))
-            → Keeps (HeadsHold self.old.sizes self.old.logged (next_head self.old) r.now (here (M.sight m.old))) (M.sight m.old) (M.sight m.new) }
+        ensures heads { (IsTrue (M.sight m.old).is_visible → FitsMedium self.old (state_now (M.sight m.old)))
+            → AtEveryMoment (HeadsHold self.old.sizes self.old.logged (next_head self.old) r.now (state_now (M.sight m.old))) (M.sight m.old) (M.sight m.new) }
         // At `Ok` the record's cells are settled, and the ring fits again.
-        ensures appended { OnOk result (IsTrue (M.sight m.old).tells → Fits self.old (here (M.sight m.old))
-            → Appended self.old.sizes self.old.logged self.old.released (next_head self.old) r.now (here (M.sight m.old)) (here (M.sight m.new))) }
+        ensures appended { OnOk result (IsTrue (M.sight m.old).is_visible → FitsMedium self.old (state_now (M.sight m.old))
+            → Appended self.old.sizes self.old.logged self.old.released (next_head self.old) r.now (state_now (M.sight m.old)) (state_now (M.sight m.new))) }
     {
         let _kept = &self.place;
         let _count = r.len();
@@ -138,7 +138,7 @@ impl Ring {
     pub fn release(&mut self, reproduced: u64)
         ensures ring { self.new ≡ released_to reproduced self.old }
         // The ring still fits where the mark is settled at that number or more.
-        ensures fits { (p : Point) → Fits self.old p → reproduced ≤ settled_mark p → Fits self.new p }
+        ensures fits { (p : State) → FitsMedium self.old p → reproduced ≤ settled_mark p → FitsMedium self.new p }
     {
         self.records.retain(|record| record.number > reproduced);
         self.released = self.released.max(reproduced);

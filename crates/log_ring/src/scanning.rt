@@ -1,13 +1,12 @@
 //! A scan of the rings of an image.
 
 ghost use Rattle.std.specs.Prelude.{◌≡◌, ℕ, ◌+◌, ◌*◌, ◌<◌, ◌≤◌, IfOk, OnOk, IsErrOf};
-ghost use Rattle.dude_base.specs.Image.{image_words};
+ghost use Rattle.dude_base.specs.Image.{image_words, cell_at};
 ghost use Rattle.pmem_trait.specs.Sights.{Risen};
 ghost use Rattle.pmem_trait.specs.Reads.{ContentHas};
 ghost use Rattle.redo_record.specs.Cells.{line_of};
 ghost use Rattle.redo_record.specs.Damage.{IsTorn, IsLeastLine, IsDamagedAt};
 ghost use Rattle.log_ring.specs.declared.scan_fault.ScanFault.TheVariants.{Damaged, Device};
-ghost use Rattle.log_ring.specs.Ring.{cell_at};
 ghost use Rattle.log_ring.specs.Scan.{ReadsMade, AreScanned};
 ghost use Rattle.log_ring.specs.Scanning.{IsSeen, KnowsBelow};
 

@@ -97,7 +97,7 @@ fn a_crash_leaves_no_head_without_its_record(rt: HostRuntime) -> Result<(), Fail
     Ok(())
 }
 
-const HEAD: u64 = 4_611_686_018_427_387_904;
+const HEADER: u64 = 4_611_686_018_427_387_904;
 
 const NEXT: u64 = 9_223_372_036_854_775_808;
 
@@ -144,7 +144,7 @@ fn a_scan_gives_the_records_in_order(rt: HostRuntime) -> Result<(), Fail> {
     let alloc = rt.alloc();
     let around = [
         [NEXT + 5, 1, 3, 33, 9, 9, 9, 9],
-        [HEAD + 2, 0, 9, 9, 9, 9, 9, 9],
+        [HEADER + 2, 0, 9, 9, 9, 9, 9, 9],
         NONE,
         NONE,
         NONE,
@@ -158,11 +158,11 @@ fn a_scan_gives_the_records_in_order(rt: HostRuntime) -> Result<(), Fail> {
         NONE,
         NONE,
         NONE,
-        [HEAD + 5, 4, 0, 30, 1, 31, 2, 32],
+        [HEADER + 5, 4, 0, 30, 1, 31, 2, 32],
     ];
     let other = [
-        [HEAD + 4, 1, 22, 7, 0, 0, 0, 0],
-        [HEAD + 1, 25, 0, 0, 0, 0, 0, 0],
+        [HEADER + 4, 1, 22, 7, 0, 0, 0, 0],
+        [HEADER + 1, 25, 0, 0, 0, 0, 0, 0],
     ];
     let mut medium = medium_of(alloc, &around, &other)?;
     let all = records_over(alloc, &mut medium, 1)?;
@@ -175,10 +175,10 @@ fn a_scan_gives_the_records_in_order(rt: HostRuntime) -> Result<(), Fail> {
 #[test]
 fn a_scan_names_the_first_damage(rt: HostRuntime) -> Result<(), Fail> {
     let alloc = rt.alloc();
-    let fine = [HEAD + 3, 1, 22, 7, 0, 0, 0, 0];
-    let alone = [HEAD + 4, 4, 0, 0, 1, 1, 2, 2];
-    let outside = [HEAD + 4, 1, 960, 7, 0, 0, 0, 0];
-    let crowded = [HEAD + 4, 25, 0, 0, 0, 0, 0, 0];
+    let fine = [HEADER + 3, 1, 22, 7, 0, 0, 0, 0];
+    let alone = [HEADER + 4, 4, 0, 0, 1, 1, 2, 2];
+    let outside = [HEADER + 4, 1, 960, 7, 0, 0, 0, 0];
+    let crowded = [HEADER + 4, 25, 0, 0, 0, 0, 0, 0];
     let cases: [([[u64; 8]; 3], [[u64; 8]; 2], u64); 6] = [
         ([NONE, alone, NONE], [NONE, NONE], 3),
         ([NONE, NONE, outside], [NONE, NONE], 4),

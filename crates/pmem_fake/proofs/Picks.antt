@@ -6,8 +6,8 @@ use Rattle.std.proofs.Math.Seq.{get_or-append_seam}
 use Rattle.pmem_trait.specs.declared.call.Call.{Call}
 use Rattle.pmem_trait.specs.declared.call.Call.TheVariants.{Read, Put, Flush, Fence, Tell}
 use Rattle.pmem_trait.specs.declared.made.Made.{Made}
-use Rattle.pmem_trait.specs.Words.{IsIn, Word, Point, MayBe, IsImage, with_later, with_note, word_after, after}
-use Rattle.pmem_fake.specs.History.{start_point, after_made, choices, picked, IsPicked, EachIsPicked}
+use Rattle.pmem_trait.specs.Words.{IsIn, Word, State, MayHold, IsImage, with_later, with_note, word_after, after}
+use Rattle.pmem_fake.specs.History.{start_state, after_made, choices, picked_value, IsPicked, EachIsPicked}
 
 -- an element of a list by its place
 is_in_at : (xs : List ℕ) (i : ℕ) → i < length xs → IsIn (get_or xs i 0) xs
@@ -16,13 +16,13 @@ is_in_at (x ∷ xs) zero below = inl refl
 is_in_at (x ∷ xs) (suc i) below = inr (is_in_at xs i (omega arith))
 
 -- a pick takes an allowed value
-picked_may : (w : Word) (pick : ℕ) → MayBe w (picked w pick)
+picked_may : (w : Word) (pick : ℕ) → MayHold w (picked_value w pick)
 picked_may w pick = is_in_at (choices w) (pick % length (choices w)) (omega arith)
 
-pub picked_allowed : {len : ℕ} {p : Point} {picks image : List ℕ} → IsPicked len p picks image → IsImage len p image
+pub picked_allowed : {len : ℕ} {p : State} {picks image : List ℕ} → IsPicked len p picks image → IsImage len p image
 picked_allowed {len} {p} {picks} is = record {
   size = is.size;
-  each = λ k below. subst (λ (x : ℕ). MayBe (p.word k) x) (sym (is.each k below)) (picked_may (p.word k) (slice_index picks k));
+  each = λ k below. subst (λ (x : ℕ). MayHold (p.word k) x) (sym (is.each k below)) (picked_may (p.word k) (slice_index picks k));
 }
 
 -- the place of an element
@@ -32,14 +32,14 @@ place_of x (y ∷ ys) (inl is) = (0, omega arith, is)
 place_of x (y ∷ ys) (inr is) = let rest = place_of x ys is in (suc rest.0, omega (arith, rest.1), rest.2)
 
 -- the pick that takes an allowed value
-pick_of : (w : Word) (x : ℕ) → MayBe w x → (pick : ℕ) × (pick ≤ length w.later) × (x ≡ picked w pick)
+pick_of : (w : Word) (x : ℕ) → MayHold w x → (pick : ℕ) × (pick ≤ length w.later) × (x ≡ picked_value w pick)
 pick_of w x may =
     let place = place_of x (choices w) may in
     (place.0, omega (arith, place.1), place.2 ∙ ap (λ (i : ℕ). get_or (choices w) i 0) (sym (mod-eq_of_lt place.1)))
 
 -- picks for the first n words
-choose : (n : ℕ) (word : ℕ → Word) (value : ℕ → ℕ) → ((k : ℕ) → k < n → MayBe (word k) (value k))
-    → (picks : List ℕ) × (length picks ≡ n) × ((k : ℕ) → k < n → (get_or picks k 0 ≤ length (word k).later) × (value k ≡ picked (word k) (get_or picks k 0)))
+choose : (n : ℕ) (word : ℕ → Word) (value : ℕ → ℕ) → ((k : ℕ) → k < n → MayHold (word k) (value k))
+    → (picks : List ℕ) × (length picks ≡ n) × ((k : ℕ) → k < n → (get_or picks k 0 ≤ length (word k).later) × (value k ≡ picked_value (word k) (get_or picks k 0)))
 choose zero word value may = ([], refl, λ k below. absurd (omega arith))
 choose (suc n) word value may =
     let before = choose n word value (λ k below. may k (omega arith)) in
@@ -49,11 +49,11 @@ choose (suc n) word value may =
       λ k below. ⊎_elim
           (λ (earlier : k < n).
           let same : get_or (before.0 ++ last.0 ∷ []) k 0 ≡ get_or before.0 k 0 = get_or_append_left before.0 (last.0 ∷ []) 0 k (omega (arith, before.1)) in
-          (omega (arith, same, (before.2 k earlier).0), (before.2 k earlier).1 ∙ ap (λ (i : ℕ). picked (word k) i) (sym same)))
+          (omega (arith, same, (before.2 k earlier).0), (before.2 k earlier).1 ∙ ap (λ (i : ℕ). picked_value (word k) i) (sym same)))
           (λ (is : k ≡ n).
           let same : get_or (before.0 ++ last.0 ∷ []) n 0 ≡ last.0 = ap (λ (j : ℕ). get_or (before.0 ++ last.0 ∷ []) j 0) (sym before.1) ∙ get_or-append_seam before.0 last.0 [] 0 in
-          subst (λ (j : ℕ). (get_or (before.0 ++ last.0 ∷ []) j 0 ≤ length (word j).later) × (value j ≡ picked (word j) (get_or (before.0 ++ last.0 ∷ []) j 0))) (sym is)
-          (omega (arith, same, last.1), last.2 ∙ ap (λ (i : ℕ). picked (word n) i) (sym same)))
+          subst (λ (j : ℕ). (get_or (before.0 ++ last.0 ∷ []) j 0 ≤ length (word j).later) × (value j ≡ picked_value (word j) (get_or (before.0 ++ last.0 ∷ []) j 0))) (sym is)
+          (omega (arith, same, last.1), last.2 ∙ ap (λ (i : ℕ). picked_value (word n) i) (sym same)))
           (before_or_here k n below),
     )
   where
@@ -76,28 +76,28 @@ one_more (Flush line) k w = by (k / 8 == line)
 one_more Fence k w = omega (arith, length-drop w.noted w.later)
 one_more (Tell number) k w = omega arith
 
-as_many : (ms : List Made) (k : ℕ) (p : Point) → length ((after_made ms p).word k).later ≤ length (p.word k).later + length ms
+as_many : (ms : List Made) (k : ℕ) (p : State) → length ((after_made ms p).word k).later ≤ length (p.word k).later + length ms
 as_many [] k p = omega arith
 as_many (m ∷ ms) k p = by m.failed (λ q. as_many ms k q)
   where
-    by : (b : Bool) → ((q : Point) → length ((after_made ms q).word k).later ≤ length (q.word k).later + length ms)
+    by : (b : Bool) → ((q : State) → length ((after_made ms q).word k).later ≤ length (q.word k).later + length ms)
         → length ((after_made ms (if b then p else after m.call p)).word k).later ≤ length (p.word k).later + suc (length ms)
     by true rest = omega (arith, rest p)
     by false rest = omega (arith, rest (after m.call p), one_more m.call k (p.word k))
 
 -- each image that a crash may leave after some calls is taken by picks of 64 bits
-pub each_picked : (len : ℕ) (ms : List Made) (start : List ℕ) → length ms ≤ 10000000 → EachIsPicked len (after_made ms (start_point start))
+pub each_picked : (len : ℕ) (ms : List Made) (start : List ℕ) → length ms ≤ 10000000 → EachIsPicked len (after_made ms (start_state start))
 each_picked len ms start few image is =
-    let p = after_made ms (start_point start) in
+    let p = after_made ms (start_state start) in
     let chosen = choose len p.word (λ k. get_or image k 0) is.each in (
       chosen.0,
       All-from_get_or (λ pick. pick < 2 ^ 64) chosen.0 0 (λ k below.
-          let bound : length (p.word k).later ≤ length ms = omega (arith, as_many ms k (start_point start)) in
+          let bound : length (p.word k).later ≤ length ms = omega (arith, as_many ms k (start_state start)) in
           omega (arith, (chosen.2 k (omega (arith, chosen.1))).0, bound)),
       record { size = is.size; each = λ k below. (chosen.2 k below).1 },
     )
 
 -- a picked image is one that a crash may leave
-pub ok_allowed : {E : Type 0} (r : Result (Vec ℕ Global) E) (len : ℕ) (p : Point) (picks : List ℕ) → IfOk r (λ image. IsPicked len p picks image.items) → IfOk r (λ image. IsImage len p image.items)
+pub ok_allowed : {E : Type 0} (r : Result (Vec ℕ Global) E) (len : ℕ) (p : State) (picks : List ℕ) → IfOk r (λ image. IsPicked len p picks image.items) → IfOk r (λ image. IsImage len p image.items)
 ok_allowed (Ok image) len p picks is = picked_allowed is
 ok_allowed (Err e) len p picks is = tt

@@ -3,9 +3,9 @@ use Rattle.std.proofs.Common.{take_at, length-drop, ◌≡◌, ℕ, zero, suc, �
 use Rattle.std.proofs.lemmas.List.{drop-drop, get_or-drop}
 use Rattle.pmem_trait.specs.declared.call.Call.{Call}
 use Rattle.pmem_trait.specs.declared.made.Made.{Made}
-use Rattle.pmem_trait.specs.Words.{after, Word, Point, newest, still, settle, word_after}
+use Rattle.pmem_trait.specs.Words.{after, Word, State, newest, settled_at, settle, word_after}
 use Rattle.pmem_fake.specs.History.{after_made}
-use Rattle.pmem_fake.specs.Replays.{StandsAt}
+use Rattle.pmem_fake.specs.Replays.{AreInState}
 use Rattle.pmem_fake.proofs.Histories.{made_next}
 
 -- the last of the first n + 1 values
@@ -27,18 +27,18 @@ settle_noted s f (suc n) last puts some within is =
 -- the words below i are as a call leaves them, and the others are as they were
 pub record SteppedTo (c : Call) (old : List Word) (i : ℕ) (new : List Word) : Type 0 where
   pub size : length new ≡ length old
-  pub below : (k : ℕ) → k < i → k < length old → get_or new k (still 0) ≡ word_after c k (get_or old k (still 0))
-  pub above : (k : ℕ) → i ≤ k → get_or new k (still 0) ≡ get_or old k (still 0)
+  pub below : (k : ℕ) → k < i → k < length old → get_or new k (settled_at 0) ≡ word_after c k (get_or old k (settled_at 0))
+  pub above : (k : ℕ) → i ≤ k → get_or new k (settled_at 0) ≡ get_or old k (settled_at 0)
 
 -- One turn of the replay: the words, lent and given back, stand as after one call more.
-pub replay_turn : {len n : ℕ} {old lent new : List Word} (calls : List Made) (i : ℕ) (d : Made) (p : Point) → i < length calls → n ≡ length old → lent ≡ old
-    → StandsAt len old (after_made (take i calls) p) → length new ≡ length lent
-    → ((q : Point) → StandsAt (length lent) lent q → StandsAt (length lent) new (if (get_or calls i d).failed then q else after (get_or calls i d).call q))
-    → StandsAt len (take n (new ++ drop (length new) old)) (after_made (take (i + 1) calls) p)
+pub replay_turn : {len n : ℕ} {old lent new : List Word} (calls : List Made) (i : ℕ) (d : Made) (p : State) → i < length calls → n ≡ length old → lent ≡ old
+    → AreInState len old (after_made (take i calls) p) → length new ≡ length lent
+    → ((q : State) → AreInState (length lent) lent q → AreInState (length lent) new (if (get_or calls i d).failed then q else after (get_or calls i d).call q))
+    → AreInState len (take n (new ++ drop (length new) old)) (after_made (take (i + 1) calls) p)
 replay_turn {len} {n} {old} {lent} {new} calls i d p below whole is stands size turn =
     let same : length lent ≡ len = ap length is ∙ stands.size in
-    let begun : StandsAt (length lent) lent (after_made (take i calls) p) = subst (λ (m : ℕ). StandsAt m lent (after_made (take i calls) p)) (sym same) (subst (λ (ws : List Word). StandsAt len ws (after_made (take i calls) p)) (sym is) stands) in
+    let begun : AreInState (length lent) lent (after_made (take i calls) p) = subst (λ (m : ℕ). AreInState m lent (after_made (take i calls) p)) (sym same) (subst (λ (ws : List Word). AreInState len ws (after_made (take i calls) p)) (sym is) stands) in
     let back : take n (new ++ drop (length new) old) ≡ new = take_at new _ n (omega (arith, ap length is)) in
-    subst (λ (ws : List Word). StandsAt len ws (after_made (take (i + 1) calls) p)) (sym back)
-    (subst (λ (q : Point). StandsAt len new q) (sym (made_next calls i d p below))
-    (subst (λ (m : ℕ). StandsAt m new (if (get_or calls i d).failed then after_made (take i calls) p else after (get_or calls i d).call (after_made (take i calls) p))) same (turn _ begun)))
+    subst (λ (ws : List Word). AreInState len ws (after_made (take (i + 1) calls) p)) (sym back)
+    (subst (λ (q : State). AreInState len new q) (sym (made_next calls i d p below))
+    (subst (λ (m : ℕ). AreInState m new (if (get_or calls i d).failed then after_made (take i calls) p else after (get_or calls i d).call (after_made (take i calls) p))) same (turn _ begun)))

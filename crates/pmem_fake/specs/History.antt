@@ -1,15 +1,15 @@
 -- The state of a medium in memory after the calls made on it, and what a crash then leaves.
 use Rattle.std.specs.Prelude.{◌≡◌, ℕ, ◌%◌, ◌<◌, ◌^◌, true, if◌then◌else◌, nat_le, List, [], ◌∷◌, take, length, slice_index, IsTrue, All}
 use Rattle.pmem_trait.specs.declared.made.Made.{Made}
-use Rattle.pmem_trait.specs.Words.{Word, Point, still, after, IsImage}
-use Rattle.pmem_trait.specs.Sights.{Sight, here}
+use Rattle.pmem_trait.specs.Words.{Word, State, settled_at, after, IsImage}
+use Rattle.pmem_trait.specs.Sights.{Sight, state_now}
 
 -- settled at these words, and nothing told
-abbrev pub start_point : List ℕ → Point
-start_point words = record { word = λ k. still (slice_index words k); told = [] }
+abbrev pub start_state : List ℕ → State
+start_state words = record { word = λ k. settled_at (slice_index words k); told = [] }
 
 -- the state after these calls, of which a failed one has done nothing
-abbrev pub after_made : List Made → Point → Point
+abbrev pub after_made : List Made → State → State
 after_made [] p = p
 after_made (m ∷ ms) p = after_made ms (if m.failed then p else after m.call p)
 
@@ -20,20 +20,20 @@ sight_of start calls now budget faults = record {
   len = length start;
   now = now;
   faults = faults;
-  tells = true;
-  point = λ moment. after_made (take moment calls) (start_point start);
-  lists = nat_le now budget;
+  is_visible = true;
+  state = λ moment. after_made (take moment calls) (start_state start);
+  lists_calls = nat_le now budget;
   made = calls;
 }
 
 -- settled at these words, at moment 0, with no fault, no call and nothing told
-pub record Opening (words : List ℕ) (s : Sight) : Type 0 where
+pub record IsUntouched (words : List ℕ) (s : Sight) : Type 0 where
   pub len : s.len ≡ length words
   pub now : s.now ≡ 0
   pub faults : s.faults ≡ 0
-  pub tells : IsTrue s.tells
-  pub point : here s ≡ start_point words
-  pub lists : IsTrue s.lists
+  pub is_visible : IsTrue s.is_visible
+  pub state : state_now s ≡ start_state words
+  pub lists_calls : IsTrue s.lists_calls
   pub made : s.made ≡ []
 
 -- what a crash may leave of a word: its settled value, and then its later values in order of their puts
@@ -41,14 +41,14 @@ abbrev pub choices : Word → List ℕ
 choices w = w.settled ∷ w.later
 
 -- the one that a pick takes, modulo their number
-abbrev pub picked : Word → ℕ → ℕ
-picked w pick = slice_index (choices w) (pick % length (choices w))
+abbrev pub picked_value : Word → ℕ → ℕ
+picked_value w pick = slice_index (choices w) (pick % length (choices w))
 
 -- The image that these picks take. An absent pick counts as 0.
-pub record IsPicked (len : ℕ) (p : Point) (picks image : List ℕ) : Type 0 where
+pub record IsPicked (len : ℕ) (p : State) (picks image : List ℕ) : Type 0 where
   pub size : length image ≡ len
-  pub each : (k : ℕ) → k < len → slice_index image k ≡ picked (p.word k) (slice_index picks k)
+  pub each : (k : ℕ) → k < len → slice_index image k ≡ picked_value (p.word k) (slice_index picks k)
 
 -- each image that a crash may leave is taken by some picks of 64 bits
-abbrev pub EachIsPicked : ℕ → Point → Type 0
+abbrev pub EachIsPicked : ℕ → State → Type 0
 EachIsPicked len p = (image : List ℕ) → IsImage len p image → (picks : List ℕ) × All (λ pick. pick < 2 ^ 64) picks × IsPicked len p picks image

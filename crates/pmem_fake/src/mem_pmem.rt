@@ -1,6 +1,6 @@
 ghost use Rattle.std.specs.Prelude.{◌≡◌, ℕ, ◌<◌, length, slice_index};
 ghost use Rattle.pmem_trait.specs.Words.{value_of};
-ghost use Rattle.pmem_fake.specs.History.{after_made, start_point};
+ghost use Rattle.pmem_fake.specs.History.{after_made, start_state};
 
 use crate::image_fault::ImageFault;
 use crate::log::Log;
@@ -15,14 +15,14 @@ pub struct MemPmem {
     words: Vec<u64>,
     log: Log,
     ghost same_len: { length words.items ≡ length start.items },
-    ghost content: { (k : ℕ) → k < length start.items → slice_index words.items k ≡ value_of ((after_made log.calls.items (start_point start.items)).word k) },
+    ghost content: { (k : ℕ) → k < length start.items → slice_index words.items k ≡ value_of ((after_made log.calls.items (start_state start.items)).word k) },
 }
 
 impl MemPmem {
     ghost use Rattle.std.specs.Prelude.{◌≡◌, ℕ, ◌<◌, ◌≤◌, length, slice_index, IfOk, IfErr, IsErrOf, ◌⊎◌, ◌↔◌};
     ghost use Rattle.pmem_trait.specs.Words.{last_told, value_of, IsContent, IsImage};
-    ghost use Rattle.pmem_trait.specs.Sights.{here};
-    ghost use Rattle.pmem_fake.specs.History.{Opening, IsPicked, EachIsPicked};
+    ghost use Rattle.pmem_trait.specs.Sights.{state_now};
+    ghost use Rattle.pmem_fake.specs.History.{IsUntouched, IsPicked, EachIsPicked};
     ghost use Rattle.pmem_fake.specs.Fakes.{sight, allowed, failing};
 
     /// A medium that is settled at these words. Of its calls, counted from 1, those over `budget` fail and do nothing,
@@ -34,7 +34,7 @@ impl MemPmem {
         fail: Vec<u64>,
     ) -> Result<MemPmem, AllocError>
         requires { budget ≤ 10000000 }
-        ensures opening { IfOk result (λ medium. Opening words.items (sight medium)) }
+        ensures opening { IfOk result (λ medium. IsUntouched words.items (sight medium)) }
         ensures budget { IfOk result (λ medium. allowed medium ≡ budget) }
         ensures fail { IfOk result (λ medium. failing medium ≡ fail.items) }
     {
@@ -47,7 +47,7 @@ impl MemPmem {
 
     /// What reads give, by place.
     pub fn content(&self) -> &[u64]
-        ensures { IsContent (sight self.now).len (here (sight self.now)) result.now }
+        ensures { IsContent (sight self.now).len (state_now (sight self.now)) result.now }
     {
         &self.words
     }
@@ -68,7 +68,7 @@ impl MemPmem {
 
     /// The last number told.
     pub fn told(&self) -> Option<u64>
-        ensures { result ≡ last_told (here (sight self.now)).told }
+        ensures { result ≡ last_told (state_now (sight self.now)).told }
     {
         last_told_by(&self.log.calls)
     }
@@ -76,9 +76,9 @@ impl MemPmem {
     /// An image that a crash may leave now. Word k takes its allowed value number `picks[k]`, modulo their count: the
     /// settled value first, and then the later ones in order of their puts. An absent pick takes the settled value.
     pub fn crash(&self, alloc: Global, picks: &[u64]) -> Result<Vec<u64>, AllocError>
-        ensures picked { IfOk result (λ image. IsPicked (sight self.now).len (here (sight self.now)) picks.now image.items) }
-        ensures allowed { IfOk result (λ image. IsImage (sight self.now).len (here (sight self.now)) image.items) }
-        ensures every { EachIsPicked (sight self.now).len (here (sight self.now)) }
+        ensures picked { IfOk result (λ image. IsPicked (sight self.now).len (state_now (sight self.now)) picks.now image.items) }
+        ensures allowed { IfOk result (λ image. IsImage (sight self.now).len (state_now (sight self.now)) image.items) }
+        ensures every { EachIsPicked (sight self.now).len (state_now (sight self.now)) }
     {
         image_after(alloc, &self.start, &self.log.calls, picks)
     }
@@ -90,9 +90,9 @@ impl MemPmem {
         moment: u64,
         picks: &[u64],
     ) -> Result<Vec<u64>, ImageFault>
-        ensures picked { IfOk result (λ image. IsPicked (sight self.now).len ((sight self.now).point moment) picks.now image.items) }
-        ensures allowed { IfOk result (λ image. IsImage (sight self.now).len ((sight self.now).point moment) image.items) }
-        ensures every { EachIsPicked (sight self.now).len ((sight self.now).point moment) }
+        ensures picked { IfOk result (λ image. IsPicked (sight self.now).len ((sight self.now).state moment) picks.now image.items) }
+        ensures allowed { IfOk result (λ image. IsImage (sight self.now).len ((sight self.now).state moment) image.items) }
+        ensures every { EachIsPicked (sight self.now).len ((sight self.now).state moment) }
         ensures later { (sight self.now).now < moment ↔ IsErrOf result (ImageFault.Later moment (sight self.now).now) }
         ensures fault { IfErr result (λ fault. (fault ≡ ImageFault.Later moment (sight self.now).now) ⊎ (fault ≡ ImageFault.NoMemory)) }
     {
@@ -110,7 +110,7 @@ impl Medium for MemPmem {
     ghost use Rattle.std.specs.Prelude.{◌≡◌, ℕ, ◌+◌, ◌*◌, ◌<◌, ◌≤◌, is_ok, IfOk, OnErr, IsTrue};
     ghost use Rattle.pmem_trait.specs.declared.call.Call.TheVariants.{Read, Put, Flush, Fence, Tell};
     ghost use Rattle.pmem_trait.specs.Words.{value_of};
-    ghost use Rattle.pmem_trait.specs.Sights.{here, Goes};
+    ghost use Rattle.pmem_trait.specs.Sights.{state_now, OneCall};
     ghost use Rattle.pmem_fake.specs.Entries.{faults_after};
     ghost use Rattle.pmem_fake.specs.Sizes.{items_fit};
     ghost use Rattle.pmem_fake.specs.Fakes.{sight, is_next_done, SameLimits};
@@ -127,10 +127,10 @@ impl Medium for MemPmem {
 
     fn read(&mut self, at: u64) -> Result<u64, Failed>
         requires { at < (sight self.old).len }
-        ensures goes { Goes (Read at) (is_ok result) (sight self.old) (sight self.new) }
-        ensures value { IfOk result (λ v. IsTrue (sight self.old).tells → v ≡ value_of ((here (sight self.old)).word at)) }
+        ensures goes { OneCall (Read at) (is_ok result) (sight self.old) (sight self.new) }
+        ensures value { IfOk result (λ v. IsTrue (sight self.old).is_visible → v ≡ value_of ((state_now (sight self.old)).word at)) }
         ensures exact { is_ok result ≡ is_next_done self.old }
-        ensures undone { OnErr result (here (sight self.new) ≡ here (sight self.old)) }
+        ensures undone { OnErr result (state_now (sight self.new) ≡ state_now (sight self.old)) }
         ensures faults { (sight self.new).faults ≡ faults_after (is_ok result) (sight self.old).faults }
         ensures limits { SameLimits self.old self.new }
     {
@@ -140,9 +140,9 @@ impl Medium for MemPmem {
 
     fn put(&mut self, at: u64, value: u64) -> Result<(), Failed>
         requires { at < (sight self.old).len }
-        ensures goes { Goes (Put at value) (is_ok result) (sight self.old) (sight self.new) }
+        ensures goes { OneCall (Put at value) (is_ok result) (sight self.old) (sight self.new) }
         ensures exact { is_ok result ≡ is_next_done self.old }
-        ensures undone { OnErr result (here (sight self.new) ≡ here (sight self.old)) }
+        ensures undone { OnErr result (state_now (sight self.new) ≡ state_now (sight self.old)) }
         ensures faults { (sight self.new).faults ≡ faults_after (is_ok result) (sight self.old).faults }
         ensures limits { SameLimits self.old self.new }
     {
@@ -153,9 +153,9 @@ impl Medium for MemPmem {
 
     fn flush(&mut self, line: u64) -> Result<(), Failed>
         requires { 8 * line + 8 ≤ (sight self.old).len }
-        ensures goes { Goes (Flush line) (is_ok result) (sight self.old) (sight self.new) }
+        ensures goes { OneCall (Flush line) (is_ok result) (sight self.old) (sight self.new) }
         ensures exact { is_ok result ≡ is_next_done self.old }
-        ensures undone { OnErr result (here (sight self.new) ≡ here (sight self.old)) }
+        ensures undone { OnErr result (state_now (sight self.new) ≡ state_now (sight self.old)) }
         ensures faults { (sight self.new).faults ≡ faults_after (is_ok result) (sight self.old).faults }
         ensures limits { SameLimits self.old self.new }
     {
@@ -163,9 +163,9 @@ impl Medium for MemPmem {
     }
 
     fn fence(&mut self) -> Result<(), Failed>
-        ensures goes { Goes Fence (is_ok result) (sight self.old) (sight self.new) }
+        ensures goes { OneCall Fence (is_ok result) (sight self.old) (sight self.new) }
         ensures exact { is_ok result ≡ is_next_done self.old }
-        ensures undone { OnErr result (here (sight self.new) ≡ here (sight self.old)) }
+        ensures undone { OnErr result (state_now (sight self.new) ≡ state_now (sight self.old)) }
         ensures faults { (sight self.new).faults ≡ faults_after (is_ok result) (sight self.old).faults }
         ensures limits { SameLimits self.old self.new }
     {
@@ -173,9 +173,9 @@ impl Medium for MemPmem {
     }
 
     fn tell(&mut self, number: u64) -> Result<(), Failed>
-        ensures goes { Goes (Tell number) (is_ok result) (sight self.old) (sight self.new) }
+        ensures goes { OneCall (Tell number) (is_ok result) (sight self.old) (sight self.new) }
         ensures exact { is_ok result ≡ is_next_done self.old }
-        ensures undone { OnErr result (here (sight self.new) ≡ here (sight self.old)) }
+        ensures undone { OnErr result (state_now (sight self.new) ≡ state_now (sight self.old)) }
         ensures faults { (sight self.new).faults ≡ faults_after (is_ok result) (sight self.old).faults }
         ensures limits { SameLimits self.old self.new }
     {

@@ -1,8 +1,8 @@
 ghost use Rattle.std.specs.Prelude.{◌≡◌, ℕ, List, length, slice_index, IfOk, OnOk, if◌then◌else◌};
 ghost use Rattle.pmem_trait.specs.declared.call.Call.TheVariants.{Put, Flush, Fence};
-ghost use Rattle.pmem_trait.specs.Words.{Point, after, last_told};
-ghost use Rattle.pmem_fake.specs.History.{start_point, after_made, IsPicked};
-ghost use Rattle.pmem_fake.specs.Replays.{StandsAt, Steps, Takes};
+ghost use Rattle.pmem_trait.specs.Words.{State, after, last_told};
+ghost use Rattle.pmem_fake.specs.History.{start_state, after_made, IsPicked};
+ghost use Rattle.pmem_fake.specs.Replays.{AreInState, Steps, TakesPicks};
 
 use crate::word_state::WordState;
 use pmem_trait::{Call, Made};
@@ -10,7 +10,7 @@ use std::alloc::{AllocError, Global};
 
 // The words at the opening.
 fn open_words(alloc: Global, start: &[u64]) -> Result<Vec<WordState>, AllocError>
-    ensures { IfOk result (λ words. StandsAt (length start.now) words.items (start_point start.now)) }
+    ensures { IfOk result (λ words. AreInState (length start.now) words.items (start_state start.now)) }
 {
     let mut words = Vec::with_capacity(alloc, start.len())?;
     for value in start {
@@ -69,7 +69,7 @@ fn repeat(words: &mut [WordState], call: Call) -> Result<(), AllocError>
 // Does a call again, unless it failed.
 fn repeat_made(words: &mut [WordState], made: &Made) -> Result<(), AllocError>
     ensures len { OnOk result (length words.new ≡ length words.old) }
-    ensures state { OnOk result ((p : Point) → StandsAt (length words.old) words.old p → StandsAt (length words.old) words.new (if made.now.failed then p else after made.now.call p)) }
+    ensures state { OnOk result ((p : State) → AreInState (length words.old) words.old p → AreInState (length words.old) words.new (if made.now.failed then p else after made.now.call p)) }
 {
     if made.failed {
         Ok(())
@@ -80,7 +80,7 @@ fn repeat_made(words: &mut [WordState], made: &Made) -> Result<(), AllocError>
 
 // The words after these calls.
 fn replay(alloc: Global, start: &[u64], calls: &[Made]) -> Result<Vec<WordState>, AllocError>
-    ensures { IfOk result (λ words. StandsAt (length start.now) words.items (after_made calls.now (start_point start.now))) }
+    ensures { IfOk result (λ words. AreInState (length start.now) words.items (after_made calls.now (start_state start.now))) }
 {
     let mut words = open_words(alloc, start)?;
     for made in calls {
@@ -98,7 +98,7 @@ fn pick_at(picks: &[u64], k: usize) -> u64
 
 // The image that the picks take of these words.
 fn take_picks(alloc: Global, words: &[WordState], picks: &[u64]) -> Result<Vec<u64>, AllocError>
-    ensures { IfOk result (λ image. Takes words.now picks.now image.items) }
+    ensures { IfOk result (λ image. TakesPicks words.now picks.now image.items) }
 {
     let mut image = Vec::with_capacity(alloc, words.len())?;
     for (k, word) in words.iter().enumerate() {
@@ -114,7 +114,7 @@ pub fn image_after(
     calls: &[Made],
     picks: &[u64],
 ) -> Result<Vec<u64>, AllocError>
-    ensures { IfOk result (λ image. IsPicked (length start.now) (after_made calls.now (start_point start.now)) picks.now image.items) }
+    ensures { IfOk result (λ image. IsPicked (length start.now) (after_made calls.now (start_state start.now)) picks.now image.items) }
 {
     let words = replay(alloc, start, calls)?;
     take_picks(alloc, &words, picks)
@@ -122,7 +122,7 @@ pub fn image_after(
 
 // The last number told after a call, by the last one before it.
 fn told_after_made(before: Option<u64>, made: &Made) -> Option<u64>
-    ensures { (p : Point) → before ≡ last_told p.told → result ≡ last_told (if made.now.failed then p else after made.now.call p).told }
+    ensures { (p : State) → before ≡ last_told p.told → result ≡ last_told (if made.now.failed then p else after made.now.call p).told }
 {
     match made.call {
         Call::Tell(number) if !made.failed => Some(number),
@@ -132,7 +132,7 @@ fn told_after_made(before: Option<u64>, made: &Made) -> Option<u64>
 
 /// The last number told in these calls.
 pub fn last_told_by(calls: &[Made]) -> Option<u64>
-    ensures { (start : List ℕ) → result ≡ last_told (after_made calls.now (start_point start)).told }
+    ensures { (start : List ℕ) → result ≡ last_told (after_made calls.now (start_state start)).told }
 {
     let mut told = None;
     for made in calls {

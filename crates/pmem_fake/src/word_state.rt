@@ -24,12 +24,12 @@ impl Model for WordState {
 
 impl WordState {
     ghost use Rattle.std.specs.Prelude.{◌≡◌, OnOk};
-    ghost use Rattle.pmem_trait.specs.Words.{still, with_later, with_note, settle};
-    ghost use Rattle.pmem_fake.specs.History.{picked};
+    ghost use Rattle.pmem_trait.specs.Words.{settled_at, with_later, with_note, settle};
+    ghost use Rattle.pmem_fake.specs.History.{picked_value};
 
     /// A word with no later value.
     pub fn new(alloc: Global, value: u64) -> WordState
-        ensures { result ≡ still value }
+        ensures { result ≡ settled_at value }
     {
         WordState {
             settled: value,
@@ -67,7 +67,7 @@ impl WordState {
 
     /// The value that a pick takes.
     pub fn pick(&self, pick: u64) -> u64
-        ensures { result ≡ picked self.now pick }
+        ensures { result ≡ picked_value self.now pick }
     {
         let later = self.puts.len() - self.fenced;
         let chosen = (pick % (later as u64 + 1)) as usize;

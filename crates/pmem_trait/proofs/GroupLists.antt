@@ -3,10 +3,10 @@ use Rattle.std.proofs.Common.{◌≡◌, ◌≢◌, ℕ, zero, suc, ◌+◌, ◌
 use Rattle.std.specs.List.{range_with_len, enumerate_from}
 use Rattle.pmem_trait.specs.declared.call.Call.{Call}
 use Rattle.pmem_trait.specs.declared.call.Call.TheVariants.{Put, Flush}
-use Rattle.pmem_trait.specs.Sights.{Sight, Goes, Makes}
-use Rattle.pmem_trait.specs.Groups.{put_pairs, flush_lines, written}
+use Rattle.pmem_trait.specs.Sights.{Sight, OneCall, CallsMade}
+use Rattle.pmem_trait.specs.Groups.{put_pairs, flush_lines, values_put}
 use Rattle.pmem_trait.specs.Rounds.{rounds}
-use Rattle.pmem_trait.proofs.Runs.{makes_next}
+use Rattle.pmem_trait.proofs.Runs.{made_next}
 
 pub length-put_pairs : (ws : List (ℕ × ℕ)) → length (put_pairs ws) ≡ length ws
 length-put_pairs [] = refl
@@ -36,23 +36,23 @@ pub flush_lines-append : (ls ks : List ℕ) → flush_lines (ls ++ ks) ≡ flush
 flush_lines-append [] ks = refl
 flush_lines-append (l ∷ ls) ks = ap (λ (r : List Call). Flush l ∷ r) (flush_lines-append ls ks)
 
-pub written-append : (ws vs : List (ℕ × ℕ)) (k : ℕ) → written (ws ++ vs) k ≡ written ws k ++ written vs k
+pub written-append : (ws vs : List (ℕ × ℕ)) (k : ℕ) → values_put (ws ++ vs) k ≡ values_put ws k ++ values_put vs k
 written-append [] vs k = refl
-written-append (w ∷ ws) vs k = one_more (k == w.0) w.1 (written ws k) (written vs k) (written (ws ++ vs) k) (written-append ws vs k)
+written-append (w ∷ ws) vs k = one_more (k == w.0) w.1 (values_put ws k) (values_put vs k) (values_put (ws ++ vs) k) (written-append ws vs k)
   where
     one_more : (b : Bool) (v : ℕ) (xs ys zs : List ℕ) → zs ≡ xs ++ ys → (if b then v ∷ zs else zs) ≡ (if b then v ∷ xs else xs) ++ ys
     one_more true v xs ys zs is = ap (λ (l : List ℕ). v ∷ l) is
     one_more false v xs ys zs is = is
 
 -- words put one after another from a place on: nothing is written elsewhere
-pub words_outside : (at : ℕ) (xs : List ℕ) (i : ℕ) → ((j : ℕ) → j < length xs → i ≡ at + j → ⊥) → written (enumerate_from at xs) i ≡ []
+pub words_outside : (at : ℕ) (xs : List ℕ) (i : ℕ) → ((j : ℕ) → j < length xs → i ≡ at + j → ⊥) → values_put (enumerate_from at xs) i ≡ []
 words_outside at [] i other = refl
 words_outside at (x ∷ xs) i other =
     let ne : i ≢ at = λ e. other 0 (omega arith) (omega arith) in
     rw (ne_eqb i at ne) (words_outside (at + 1) xs i (λ j lt is. other (suc j) (omega arith) (omega arith)))
 
 -- and at each of their places just the word of that place
-pub words_inside : (at : ℕ) (xs : List ℕ) (j i : ℕ) → i ≡ at + j → j < length xs → written (enumerate_from at xs) i ≡ slice_index xs j ∷ []
+pub words_inside : (at : ℕ) (xs : List ℕ) (j i : ℕ) → i ≡ at + j → j < length xs → values_put (enumerate_from at xs) i ≡ slice_index xs j ∷ []
 words_inside at [] j i is lt = absurd (omega arith)
 words_inside at (x ∷ xs) zero i is lt =
     let same : i ≡ at = omega arith in
@@ -63,14 +63,14 @@ words_inside at (x ∷ xs) (suc j) i is lt =
 
 -- A loop over the writes, or over the lines: one turn more.
 pub puts_next : (ws : List (ℕ × ℕ)) (i : ℕ) (d w : ℕ × ℕ) {ok : Bool} {s t u : Sight} → i < length ws → get_or ws i d ≡ w
-    → Makes (take i (put_pairs ws)) true s t → Goes (Put w.0 w.1) ok t u → Makes (take (i + 1) (put_pairs ws)) ok s u
+    → CallsMade (take i (put_pairs ws)) true s t → OneCall (Put w.0 w.1) ok t u → CallsMade (take (i + 1) (put_pairs ws)) ok s u
 puts_next ws i d w below is made g =
-    makes_next (put_pairs ws) i (Put w.0 w.1) (omega (arith, length-put_pairs ws)) (put_pairs_at ws i d _ below ∙ ap (λ (v : ℕ × ℕ). Put v.0 v.1) is) made g
+    made_next (put_pairs ws) i (Put w.0 w.1) (omega (arith, length-put_pairs ws)) (put_pairs_at ws i d _ below ∙ ap (λ (v : ℕ × ℕ). Put v.0 v.1) is) made g
 
 pub flushes_next : (ls : List ℕ) (i d line : ℕ) {ok : Bool} {s t u : Sight} → i < length ls → get_or ls i d ≡ line
-    → Makes (take i (flush_lines ls)) true s t → Goes (Flush line) ok t u → Makes (take (i + 1) (flush_lines ls)) ok s u
+    → CallsMade (take i (flush_lines ls)) true s t → OneCall (Flush line) ok t u → CallsMade (take (i + 1) (flush_lines ls)) ok s u
 flushes_next ls i d line below is made g =
-    makes_next (flush_lines ls) i (Flush line) (omega (arith, length-flush_lines ls)) (flush_lines_at ls i d _ below ∙ ap Flush is) made g
+    made_next (flush_lines ls) i (Flush line) (omega (arith, length-flush_lines ls)) (flush_lines_at ls i d _ below ∙ ap Flush is) made g
 
 -- A loop whose rounds put the lists of writes of the numbers from a on.
 flat_more : (f : ℕ → List (ℕ × ℕ)) (a n : ℕ) → flat_map f (range_with_len a (suc n)) ≡ flat_map f (range_with_len a n) ++ f (a + n)

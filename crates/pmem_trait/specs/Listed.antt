@@ -10,10 +10,10 @@ was_made c = record { call = c; failed = false }
 
 -- these calls were made and none of them failed
 abbrev pub AllMade : List Call → Sight → Sight → Type 0
-AllMade cs s t = IsTrue t.lists → t.made ≡ s.made ++ map was_made cs
+AllMade cs s t = IsTrue t.lists_calls → t.made ≡ s.made ++ map was_made cs
 
 -- a front of these calls was made, the last of which failed and no other
-abbrev pub FrontMade : List Call → Sight → Sight → Type 0
-FrontMade cs s t = IsTrue t.lists →
+abbrev pub PrefixMade : List Call → Sight → Sight → Type 0
+PrefixMade cs s t = IsTrue t.lists_calls →
     (front : List Call) × (last : Call) × (rest : List Call)
     × (cs ≡ front ++ last ∷ rest) × (t.made ≡ s.made ++ (map was_made front ++ record { call = last; failed = true } ∷ []))

@@ -16,7 +16,7 @@ pub record Word : Type 0 where
   pub noted : ℕ
 
 -- The state at a moment: each word by its place, and all the numbers told so far, in order.
-pub record Point : Type 0 where
+pub record State : Type 0 where
   pub word : ℕ → Word
   pub told : List ℕ
 
@@ -63,46 +63,46 @@ told_after Fence told = told
 told_after (Read at) told = told
 
 -- the state after a call
-abbrev pub after : Call → Point → Point
+abbrev pub after : Call → State → State
 after c p = record { word = λ k. word_after c k (p.word k); told = told_after c p.told }
 
 -- the state after some calls, the first one first
-abbrev pub after_all : List Call → Point → Point
+abbrev pub after_all : List Call → State → State
 after_all [] p = p
 after_all (c ∷ cs) p = after_all cs (after c p)
 
 -- A failed call: at each word it has done nothing, or what it would have done, and so with the numbers told.
-pub record HalfDone (c : Call) (p q : Point) : Type 0 where
+pub record HalfDone (c : Call) (p q : State) : Type 0 where
   pub word : (k : ℕ) → (q.word k ≡ p.word k) ⊎ (q.word k ≡ word_after c k (p.word k))
   pub told : (q.told ≡ p.told) ⊎ (q.told ≡ told_after c p.told)
 
 -- a crash may leave this value of the word: the settled one or a later one
-abbrev pub MayBe : Word → ℕ → Type 0
-MayBe w x = (x ≡ w.settled) ⊎ IsIn x w.later
+abbrev pub MayHold : Word → ℕ → Type 0
+MayHold w x = (x ≡ w.settled) ⊎ IsIn x w.later
 
 -- An image that a crash may leave of the first len words: each word by itself.
-pub record IsImage (len : ℕ) (p : Point) (image : List ℕ) : Type 0 where
+pub record IsImage (len : ℕ) (p : State) (image : List ℕ) : Type 0 where
   pub size : length image ≡ len
-  pub each : (k : ℕ) → k < len → MayBe (p.word k) (slice_index image k)
+  pub each : (k : ℕ) → k < len → MayHold (p.word k) (slice_index image k)
 
 -- The content at this state, as reads give it: of each of the first len words the last value put, or the settled one.
-pub record IsContent (len : ℕ) (p : Point) (content : List ℕ) : Type 0 where
+pub record IsContent (len : ℕ) (p : State) (content : List ℕ) : Type 0 where
   pub size : length content ≡ len
   pub each : (k : ℕ) → k < len → slice_index content k ≡ value_of (p.word k)
 
 -- Every image that a crash may leave at this state has P, beside the numbers told.
-pub record Leaves (len : ℕ) (P : List ℕ → List ℕ → Type 0) (p : Point) : Type 0 where
+pub record EveryImage (len : ℕ) (P : List ℕ → List ℕ → Type 0) (p : State) : Type 0 where
   pub each : (image : List ℕ) → IsImage len p image → P p.told image
 
 -- a word with no later value and no note
-abbrev pub still : ℕ → Word
-still x = record { settled = x; later = []; noted = 0 }
+abbrev pub settled_at : ℕ → Word
+settled_at x = record { settled = x; later = []; noted = 0 }
 
 -- no word has a later value
-abbrev pub IsSettled : Point → Type 0
-IsSettled p = (k : ℕ) → (x : ℕ) × (p.word k ≡ still x)
+abbrev pub IsSettled : State → Type 0
+IsSettled p = (k : ℕ) → (x : ℕ) × (p.word k ≡ settled_at x)
 
 -- P holds here and after each call of a list, none of which fails
-pub data Along (P : Point → Type 0) : Point → List Call → Type 0 where
-  end : {p : Point} → P p → Along P p []
-  more : {p : Point} {c : Call} {cs : List Call} → P p → Along P (after c p) cs → Along P p (c ∷ cs)
+pub data AfterEachCall (P : State → Type 0) : State → List Call → Type 0 where
+  end : {p : State} → P p → AfterEachCall P p []
+  more : {p : State} {c : Call} {cs : List Call} → P p → AfterEachCall P (after c p) cs → AfterEachCall P p (c ∷ cs)

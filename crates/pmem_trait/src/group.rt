@@ -1,5 +1,5 @@
 ghost use Rattle.std.specs.Prelude.{◌≡◌, IsTrue, OnOk, is_ok};
-ghost use Rattle.pmem_trait.specs.Sights.{here, Makes, Keeps};
+ghost use Rattle.pmem_trait.specs.Sights.{state_now, CallsMade, AtEveryMoment};
 ghost use Rattle.pmem_trait.specs.Groups.{put_pairs, flush_lines, group_calls, PlacesFit, LinesFit, MixOf, SettlesGroup};
 
 use crate::failed::Failed;
@@ -10,7 +10,7 @@ use crate::medium::Medium;
 pub fn put_all<M: Medium>(m: &mut M, writes: &[(u64, u64)]) -> Result<(), Failed>
     requires { PlacesFit (M.sight m.old).len writes.now }
     ensures len { (M.sight m.new).len ≡ (M.sight m.old).len }
-    ensures made { Makes (put_pairs writes.now) (is_ok result) (M.sight m.old) (M.sight m.new) }
+    ensures made { CallsMade (put_pairs writes.now) (is_ok result) (M.sight m.old) (M.sight m.new) }
 {
     for &(at, value) in writes {
         m.put(at, value)?;
@@ -23,7 +23,7 @@ pub fn put_all<M: Medium>(m: &mut M, writes: &[(u64, u64)]) -> Result<(), Failed
 pub fn flush_all<M: Medium>(m: &mut M, lines: &[u64]) -> Result<(), Failed>
     requires { LinesFit (M.sight m.old).len lines.now }
     ensures len { (M.sight m.new).len ≡ (M.sight m.old).len }
-    ensures made { Makes (flush_lines lines.now) (is_ok result) (M.sight m.old) (M.sight m.new) }
+    ensures made { CallsMade (flush_lines lines.now) (is_ok result) (M.sight m.old) (M.sight m.new) }
 {
     for line in lines {
         m.flush(*line)?;
@@ -37,7 +37,7 @@ fn make_group<M: Medium>(m: &mut M, writes: &[(u64, u64)], lines: &[u64]) -> Res
     requires places { PlacesFit (M.sight m.old).len writes.now }
     requires whole { LinesFit (M.sight m.old).len lines.now }
     ensures len { (M.sight m.new).len ≡ (M.sight m.old).len }
-    ensures made { Makes (group_calls writes.now lines.now) (is_ok result) (M.sight m.old) (M.sight m.new) }
+    ensures made { CallsMade (group_calls writes.now lines.now) (is_ok result) (M.sight m.old) (M.sight m.new) }
 {
     put_all(m, writes)?;
     flush_all(m, lines)?;
@@ -57,9 +57,9 @@ pub fn settle_group<M: Medium>(
     requires places { PlacesFit (M.sight m.old).len writes.now }
     requires whole { LinesFit (M.sight m.old).len lines.now }
     ensures len { (M.sight m.new).len ≡ (M.sight m.old).len }
-    ensures made { Makes (group_calls writes.now lines.now) (is_ok result) (M.sight m.old) (M.sight m.new) }
-    ensures mix { Keeps (MixOf (M.sight m.old).len (here (M.sight m.old)) writes.now) (M.sight m.old) (M.sight m.new) }
-    ensures settles { OnOk result (IsTrue (M.sight m.old).tells → SettlesGroup writes.now lines.now (here (M.sight m.old)) (here (M.sight m.new))) }
+    ensures made { CallsMade (group_calls writes.now lines.now) (is_ok result) (M.sight m.old) (M.sight m.new) }
+    ensures mix { AtEveryMoment (MixOf (M.sight m.old).len (state_now (M.sight m.old)) writes.now) (M.sight m.old) (M.sight m.new) }
+    ensures settles { OnOk result (IsTrue (M.sight m.old).is_visible → SettlesGroup writes.now lines.now (state_now (M.sight m.old)) (state_now (M.sight m.new))) }
 {
     make_group(m, writes, lines)
 }

@@ -1,7 +1,7 @@
 ghost use Rattle.std.specs.Prelude.{◌≡◌, ℕ, ◌+◌, ◌*◌, ◌^◌, ◌<◌, ◌≤◌, is_ok, IfOk, IsTrue};
 ghost use Rattle.pmem_trait.specs.declared.call.Call.TheVariants.{Read, Put, Flush, Fence, Tell};
 ghost use Rattle.pmem_trait.specs.Words.{value_of};
-ghost use Rattle.pmem_trait.specs.Sights.{Sight, here, Goes};
+ghost use Rattle.pmem_trait.specs.Sights.{Sight, state_now, OneCall};
 
 use crate::failed::Failed;
 
@@ -26,27 +26,27 @@ pub trait Medium {
     /// The last value put at this place.
     fn read(&mut self, at: u64) -> Result<u64, Failed>
         requires { at < (sight self.old).len }
-        ensures goes { Goes (Read at) (is_ok result) (sight self.old) (sight self.new) }
-        ensures value { IfOk result (λ v. IsTrue (sight self.old).tells → v ≡ value_of ((here (sight self.old)).word at)) };
+        ensures goes { OneCall (Read at) (is_ok result) (sight self.old) (sight self.new) }
+        ensures value { IfOk result (λ v. IsTrue (sight self.old).is_visible → v ≡ value_of ((state_now (sight self.old)).word at)) };
 
     /// Puts a value at this place.
     fn put(&mut self, at: u64, value: u64) -> Result<(), Failed>
         requires { at < (sight self.old).len }
-        ensures { Goes (Put at value) (is_ok result) (sight self.old) (sight self.new) };
+        ensures { OneCall (Put at value) (is_ok result) (sight self.old) (sight self.new) };
 
     /// Notes the values of the eight words of a line, which begins at place `8 * line`. A second flush of the line
     /// notes anew.
     fn flush(&mut self, line: u64) -> Result<(), Failed>
         requires { 8 * line + 8 ≤ (sight self.old).len }
-        ensures { Goes (Flush line) (is_ok result) (sight self.old) (sight self.new) };
+        ensures { OneCall (Flush line) (is_ok result) (sight self.old) (sight self.new) };
 
     /// Makes the noted values durable.
     fn fence(&mut self) -> Result<(), Failed>
-        ensures { Goes Fence (is_ok result) (sight self.old) (sight self.new) };
+        ensures { OneCall Fence (is_ok result) (sight self.old) (sight self.new) };
 
     /// Tells that everything up to a number is durable. The caller sees to it that it is.
     fn tell(&mut self, number: u64) -> Result<(), Failed>
-        ensures { Goes (Tell number) (is_ok result) (sight self.old) (sight self.new) };
+        ensures { OneCall (Tell number) (is_ok result) (sight self.old) (sight self.new) };
 
     /// Length and moment are numbers of 64 bits.
     ghost fits: { (medium : Self) → ((sight medium).len < 2 ^ 64) × ((sight medium).now < 2 ^ 64) };

@@ -2,7 +2,7 @@
 use Rattle.std.specs.Prelude.{◌≡◌, ◌≢◌, ℕ, List, [], ◌∷◌, length, slice_index}
 use Rattle.dude_base.specs.declared.write.Write.{Write}
 use Rattle.dude_base.specs.Writes.{put_write}
-use Rattle.word_space.specs.Sights.{Sight}
+use Rattle.word_space.specs.Sights.{WordsSight}
 
 -- i is none of these places
 abbrev pub IsNoneOf : List ℕ → ℕ → Type 0
@@ -20,7 +20,7 @@ put_writes ws [] = ws
 put_writes ws (v ∷ vs) = put_writes (put_write ws v) vs
 
 -- n writes were made, each over those before it
-pub record Wrote (n : ℕ) (s t : Sight) : Type 0 where
+pub record Wrote (n : ℕ) (s t : WordsSight) : Type 0 where
   pub made : List Write
   pub number : length made ≡ n
   pub writes : t.writes ≡ put_writes s.writes made

@@ -2,7 +2,7 @@
 
 ghost use Rattle.std.specs.Prelude.{◌≡◌, ℕ, List, length, IfOk};
 ghost use Rattle.word_space.specs.Sights.{IsBelow, shown};
-ghost use Rattle.word_space.specs.Steps.{GoesOn, Ran, stop_of};
+ghost use Rattle.word_space.specs.Steps.{GoesOn, RanOn, stop_of};
 ghost use Rattle.record_heap.specs.Pool.{FitsPool, IsPool};
 ghost use Rattle.record_heap.specs.Callers.{IsDrained};
 
@@ -14,7 +14,7 @@ use word_space::words::Words;
 #[tactic(auto, using(crate::proofs::Calls::calling))]
 pub fn take_all<W: Words>(pool: &Pool, w: &mut W) -> Result<u64, Stop>
     requires fits { FitsPool pool.now (W.sight w.old).count }
-    ensures ran { Ran (stop_of result) (W.sight w.old) (W.sight w.new) }
+    ensures ran { RanOn (stop_of result) (W.sight w.old) (W.sight w.new) }
     ensures turns { GoesOn W.turns_into w.old w.new }
     ensures drained { IfOk result (λ n. (array : List ℕ) → IsBelow (W.sight w.new) array → (free taken : List ℕ) →
         IsPool pool.now (shown (W.sight w.old) array) free taken →

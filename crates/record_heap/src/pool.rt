@@ -1,6 +1,6 @@
 ghost use Rattle.std.specs.Prelude.{◌≡◌, ◌+◌, ◌<◌, ◌↔◌, ℕ, List, length, is_some, if◌then◌else◌, IsTrue, IfOk, IfSome, OnOk, Contains, slice_set};
 ghost use Rattle.word_space.specs.Sights.{IsBelow, shown};
-ghost use Rattle.word_space.specs.Steps.{GoesOn, Looked, Ran, stop_of};
+ghost use Rattle.word_space.specs.Steps.{GoesOn, Looked, RanOn, stop_of};
 ghost use Rattle.record_heap.specs.Changes.{Wrote};
 ghost use Rattle.record_heap.specs.Pool.{FitsPool, Gives, IsHeader, IsPool, IsRecord, Takes};
 
@@ -47,7 +47,7 @@ impl Pool {
     #[tactic(auto, using(crate::proofs::Calls::calling))]
     pub fn take<W: Words>(&self, w: &mut W) -> Result<Option<u64>, Stop>
         requires fits { FitsPool self.now (W.sight w.old).count }
-        ensures ran { Ran (stop_of result) (W.sight w.old) (W.sight w.new) }
+        ensures ran { RanOn (stop_of result) (W.sight w.old) (W.sight w.new) }
         ensures turns { GoesOn W.turns_into w.old w.new }
         ensures wrote { IfOk result (λ r. Wrote (if is_some r then 2 else 0) (W.sight w.old) (W.sight w.new)) }
         ensures record { IfOk result (λ r. IfSome r (IsRecord self.now)) }
@@ -73,7 +73,7 @@ impl Pool {
     pub fn give<W: Words>(&self, w: &mut W, at: u64) -> Result<(), Stop>
         requires fits { FitsPool self.now (W.sight w.old).count }
         requires record { IsRecord self.now at }
-        ensures ran { Ran (stop_of result) (W.sight w.old) (W.sight w.new) }
+        ensures ran { RanOn (stop_of result) (W.sight w.old) (W.sight w.new) }
         ensures turns { GoesOn W.turns_into w.old w.new }
         ensures wrote { OnOk result (Wrote 3 (W.sight w.old) (W.sight w.new)) }
         ensures gives { OnOk result ((array : List ℕ) → IsBelow (W.sight w.new) array → (free taken : List ℕ) →
@@ -115,7 +115,7 @@ impl Pool {
     #[tactic(auto, using(crate::proofs::Calls::calling))]
     fn put_header<W: Words>(&self, w: &mut W, header: Header) -> Result<(), Stop>
         requires fits { FitsPool self.now (W.sight w.old).count }
-        ensures ran { Ran (stop_of result) (W.sight w.old) (W.sight w.new) }
+        ensures ran { RanOn (stop_of result) (W.sight w.old) (W.sight w.new) }
         ensures turns { GoesOn W.turns_into w.old w.new }
         ensures wrote { OnOk result (Wrote 2 (W.sight w.old) (W.sight w.new)) }
         ensures shown { OnOk result ((array : List ℕ) → shown (W.sight w.new) array ≡

@@ -4,9 +4,9 @@ use Rattle.std.specs.List.{range_with_len}
 use Rattle.std.proofs.Math.Nat.{mod-add-mod, mod-eq_of_lt, mod-eq-sub-mod, mod-lt, mul-le-mul_right}
 use Rattle.std.proofs.lemmas.Bool.{cases_lt, cases_eq}
 use Rattle.dude_base.specs.declared.sizes.Sizes.{Sizes}
-use Rattle.dude_base.specs.Image.{image_words}
+use Rattle.dude_base.specs.Image.{image_words, Cell, cell_start}
 use Rattle.pmem_trait.specs.Words.{IsIn}
-use Rattle.redo_record.specs.Cells.{Cell, IsCell, cell_after, front_of, line_of, word_place}
+use Rattle.redo_record.specs.Cells.{IsCell, cell_after, line_of, word_place}
 use Rattle.redo_record.specs.Calls.{lines_from}
 
 -- k places on, in a ring of c places
@@ -53,28 +53,28 @@ pub words_same : (base x y j m : ℕ) → j < 8 → m < 8 → 16 + (base + x) * 
 words_same base x y j m a b same = (omega arith, omega arith)
 
 module _ (s : Sizes) (head : Cell) (is_cell : IsCell s head) where
-  cell_below : (k : ℕ) → (head.place + k) % s.cells < s.cells
-  cell_below k = let lt = is_cell.place_is in mod-lt (head.place + k) (omega arith)
+  cell_below : (k : ℕ) → (head.slot + k) % s.cells < s.cells
+  cell_below k = let lt = is_cell.slot_is in mod-lt (head.slot + k) (omega arith)
 
   -- the head's own cell is the first
-  pub first_cell : (j : ℕ) → word_place s head 0 j ≡ front_of s head + j
+  pub first_cell : (j : ℕ) → word_place s head 0 j ≡ cell_start s head + j
   first_cell j =
-      let lt = is_cell.place_is in
-      let is : (head.place + 0) % s.cells ≡ head.place = ap (λ x. x % s.cells) (omega arith) ∙ mod-eq_of_lt lt in
+      let lt = is_cell.slot_is in
+      let is : (head.slot + 0) % s.cells ≡ head.slot = ap (λ x. x % s.cells) (omega arith) ∙ mod-eq_of_lt lt in
       ap (λ x. 16 + (head.ring * s.cells + x) * 8 + j) is
 
   -- a word of a cell lies in its line
   pub word_line : (k j : ℕ) → j < 8 → word_place s head k j / 8 ≡ line_of s (cell_after s head k)
   word_line k j small = omega arith
 
-  pub head_line : front_of s head / 8 ≡ line_of s head
+  pub head_line : cell_start s head / 8 ≡ line_of s head
   head_line = omega arith
 
   -- two words of the record's cells
   pub places_same : (n : ℕ) → n ≤ s.cells → (k i j m : ℕ) → k < n → i < n → j < 8 → m < 8 → word_place s head k j ≡ word_place s head i m → (k ≡ i) × (j ≡ m)
   places_same n few k i j m a b small tiny same =
-      let apart = words_same (head.ring * s.cells) ((head.place + k) % s.cells) ((head.place + i) % s.cells) j m small tiny same in
-      (steps_same s.cells head.place k i is_cell.place_is (omega arith) (omega arith) apart.0, apart.1)
+      let apart = words_same (head.ring * s.cells) ((head.slot + k) % s.cells) ((head.slot + i) % s.cells) j m small tiny same in
+      (steps_same s.cells head.slot k i is_cell.slot_is (omega arith) (omega arith) apart.0, apart.1)
 
   -- inside the image
   pub word_inside : (k j : ℕ) → j < 8 → word_place s head k j < image_words s

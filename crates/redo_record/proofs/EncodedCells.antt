@@ -9,7 +9,7 @@ use Rattle.dude_base.specs.Records.{RedoRecord}
 use Rattle.dude_base.specs.Writes.{HasDistinctPlaces}
 use Rattle.redo_record.specs.Tags.{kind_of, number_of, head_tag, continuation_tag}
 use Rattle.redo_record.specs.Record.{cells_for, count_of, write_of, writes_of, record_of, HoldRecord}
-use Rattle.redo_record.specs.Encoding.{IsEncodable, write_or_zeros, encoded, encoded_cells, cells_in, IsRead, LawOfEncoding, LawOfDecoding}
+use Rattle.redo_record.specs.Encoding.{IsEncodable, write_or_zeros, encoded, encoded_cells, word_in_slice, IsRead, LawOfEncoding, LawOfDecoding}
 use Rattle.redo_record.proofs.HeldRecords.{map_range, AreSame, holds_same, record_same, count_same}
 
 -- word j of the record's k-th cell
@@ -93,7 +93,7 @@ module _ (f : ℕ → List ℕ) (eight : (k : ℕ) → length (f k) ≡ 8) where
       ∙ (ap (slice_index (flat_map f (range_with_len (a + 1) n))) (omega arith)
       ∙ (word_of_cells (a + 1) n k j (omega arith) below ∙ ap (λ i. slice_index (f i) j) (omega arith)))
 
-slice_same : (r : RedoRecord) → AreSame (cells_of_record r) (cells_in (encoded_cells r)) (cells_for (length r.writes))
+slice_same : (r : RedoRecord) → AreSame (cells_of_record r) (word_in_slice (encoded_cells r)) (cells_for (length r.writes))
 slice_same r = record {
   word = λ k j lt below. word_of_cells (encoded r) (λ k. refl) 0 (cells_for (length r.writes)) k j lt below ∙ ap (λ i. slice_index (encoded r i) j) (omega arith);
 }

@@ -9,7 +9,7 @@ use Rattle.dude_base.specs.Writes.{written, put_write, HasDistinctPlaces}
 use Rattle.dude_base.proofs.WriteLists.{written_absent, absent_written, put_absent}
 use Rattle.redo_record.specs.Record.{cells_for, write_of, record_of}
 use Rattle.redo_record.specs.declared.bad_record.BadRecord.{BadRecord}
-use Rattle.redo_record.specs.Encoding.{cells_in, encoded_cells, IsEncodable, IsRecordSlice}
+use Rattle.redo_record.specs.Encoding.{word_in_slice, encoded_cells, IsEncodable, IsRecordSlice}
 use Rattle.redo_record.specs.Decoding.{HasHeadFor, Continues}
 use Rattle.redo_record.proofs.EncodedCells.{encoding_law}
 
@@ -18,7 +18,7 @@ pub slice_continues : (words : List ℕ) (count k : ℕ) → HasHeadFor words co
     → (get_or words (8 * k) 0 ≡ 2 * 2 ^ 62 + slice_index words 0 % 2 ^ 62) × (get_or words (8 * k + 1) 0 ≡ k)
 slice_continues words count k head slice low high =
     let next = slice.whole.continued k low (subst (λ (n : ℕ). k < cells_for n) (sym head.count_is) high) in
-    let at : get_or words (8 * k) 0 ≡ cells_in words k 0 = ap (slice_index words) (omega arith) in
+    let at : get_or words (8 * k) 0 ≡ word_in_slice words k 0 = ap (slice_index words) (omega arith) in
     let kind = next.kind in
     let number = next.same_number in
     (omega arith, next.same_index)
@@ -54,7 +54,7 @@ module _ (cells : ℕ → ℕ → ℕ) where
 
 -- the slice is that of a record, whose writes these are
 pub slice_is_record : (words : List ℕ) (count : ℕ) → HasHeadFor words count → Continues words (cells_for count)
-    → HasDistinctPlaces (map (write_of (cells_in words)) (range_with_len 0 count)) → IsRecordSlice words
+    → HasDistinctPlaces (map (write_of (word_in_slice words)) (range_with_len 0 count)) → IsRecordSlice words
 slice_is_record words count head continues distinct =
     let back = sym head.count_is in
     record {
@@ -63,17 +63,17 @@ slice_is_record words count head continues distinct =
         number = head.number;
         count = subst (λ (n : ℕ). n ≤ 24) back head.few;
         continued = λ k low high. continues k low (subst (λ (n : ℕ). k < cells_for n) head.count_is high);
-        distinct = subst (λ (n : ℕ). HasDistinctPlaces (map (write_of (cells_in words)) (range_with_len 0 n))) back distinct;
+        distinct = subst (λ (n : ℕ). HasDistinctPlaces (map (write_of (word_in_slice words)) (range_with_len 0 n))) back distinct;
       };
       size = head.size ∙ ap (λ n. 8 * cells_for n) back;
     }
 
 -- the writes of a record's slice are distinct
-pub slice_distinct : (words : List ℕ) (count : ℕ) → HasHeadFor words count → IsRecordSlice words → HasDistinctPlaces (map (write_of (cells_in words)) (range_with_len 0 count))
-slice_distinct words count head slice = subst (λ (n : ℕ). HasDistinctPlaces (map (write_of (cells_in words)) (range_with_len 0 n))) head.count_is slice.whole.distinct
+pub slice_distinct : (words : List ℕ) (count : ℕ) → HasHeadFor words count → IsRecordSlice words → HasDistinctPlaces (map (write_of (word_in_slice words)) (range_with_len 0 count))
+slice_distinct words count head slice = subst (λ (n : ℕ). HasDistinctPlaces (map (write_of (word_in_slice words)) (range_with_len 0 n))) head.count_is slice.whole.distinct
 
 -- what is read from the cells that a record has is this record
-pub decodes_back : {words : List ℕ} (answer : Result RedoRecord BadRecord) → IfOk answer (λ r. IsRecordSlice words × (r ≡ record_of (cells_in words))) → OnErr answer (¬ IsRecordSlice words)
+pub decodes_back : {words : List ℕ} (answer : Result RedoRecord BadRecord) → IfOk answer (λ r. IsRecordSlice words × (r ≡ record_of (word_in_slice words))) → OnErr answer (¬ IsRecordSlice words)
     → (r : RedoRecord) → IsEncodable r → words ≡ encoded_cells r → answer ≡ Ok r
-decodes_back (Ok found) ok bad r fine is = ap (λ (x : RedoRecord). let it : Result RedoRecord BadRecord = Ok x in it) (ok.1 ∙ (ap (λ (l : List ℕ). record_of (cells_in l)) is ∙ (encoding_law r fine).3))
+decodes_back (Ok found) ok bad r fine is = ap (λ (x : RedoRecord). let it : Result RedoRecord BadRecord = Ok x in it) (ok.1 ∙ (ap (λ (l : List ℕ). record_of (word_in_slice l)) is ∙ (encoding_law r fine).3))
 decodes_back (Err e) ok bad r fine is = absurd (bad (subst IsRecordSlice (sym is) (encoding_law r fine).2))

@@ -5,8 +5,8 @@ use Rattle.std.proofs.lemmas.List.Elements.{All-cons, All-nil, All-head, All-tai
 use Rattle.std.proofs.lemmas.List.Sums.{sum_by-cons}
 use Rattle.dude_base.specs.declared.sizes.Sizes.{Sizes}
 use Rattle.redo_record.specs.Tags.{number_of}
-use Rattle.redo_record.specs.Fits.{Logged, HasHead, settled_mark, Stands, AreFree, cells_used, FollowFrom}
-use Rattle.redo_record.specs.RingLaws.{place_after, LawOfRoom, LawOfFollowing, LawOfRelease, LawOfRest}
+use Rattle.redo_record.specs.Fits.{Logged, HasHead, settled_mark, IsIntact, AreFree, cells_used, FollowFrom}
+use Rattle.redo_record.specs.RingLaws.{slot_after, LawOfRoom, LawOfFollowing, LawOfRelease, LawOfRest}
 use Rattle.redo_record.proofs.CellPlaces.{steps_same, steps_more}
 use Rattle.redo_record.proofs.RingHeads.{stands_by}
 
@@ -28,7 +28,7 @@ module _ (s : Sizes) (place : ℕ) (below : place < s.cells) where
         omega arith)
         (free_from ((at + l.cells) % s.cells) (offset + l.cells) ls (ap (λ x. (x + l.cells) % s.cells) is ∙ steps_more s.cells place offset l.cells) (omega arith) follow.1)
 
-  pub room_is_free : (n mark : ℕ) (logged : List Logged) → FollowFrom s place logged → cells_used logged + n ≤ s.cells → AreFree s mark (place_after s place (cells_used logged)) n logged
+  pub room_is_free : (n mark : ℕ) (logged : List Logged) → FollowFrom s place logged → cells_used logged + n ≤ s.cells → AreFree s mark (slot_after s place (cells_used logged)) n logged
   room_is_free n mark logged follow room =
       free_from n mark (cells_used logged) room place 0 logged (sym (ap (λ x. x % s.cells) (omega arith) ∙ mod-eq_of_lt below)) (omega arith) follow
 
@@ -71,7 +71,7 @@ release_law s ring gone rest released number p fits old upto =
       mark = fits.mark;
       reproduced = omega arith;
       heads = λ place tag below may over. let high = over.over in head_of_rest (number_of tag) place number gone rest old (omega arith) (fits.heads place tag below may over);
-      records = all_rest (λ l. settled_mark p < l.number → Stands s ring p l) gone rest fits.records;
+      records = all_rest (λ l. settled_mark p < l.number → IsIntact s ring p l) gone rest fits.records;
     }
 
 pub rest_law : LawOfRest
@@ -82,5 +82,5 @@ rest_law s ring logged released p q positive fits mark more tags words =
       reproduced = omega arith;
       heads = λ place tag below may over. let high = over.over in fits.heads place tag below (tags place tag below may) (record { kind = over.kind; over = omega arith });
       records = λ k d lt over. let stands = fits.records k d lt (omega arith) in
-          stands_by stands (λ i j small tiny. words (((get_or logged k d).first + i) % s.cells) j _ (mod-lt ((get_or logged k d).first + i) positive) tiny (stands.still_words i j small tiny));
+          stands_by stands (λ i j small tiny. words (((get_or logged k d).first + i) % s.cells) j _ (mod-lt ((get_or logged k d).first + i) positive) tiny (stands.settled_words i j small tiny));
     }

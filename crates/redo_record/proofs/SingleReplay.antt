@@ -4,10 +4,11 @@ use Rattle.std.specs.List.{range_with_len}
 use Rattle.std.proofs.lemmas.Bool.{cases_order}
 use Rattle.dude_base.specs.declared.sizes.Sizes.{Sizes}
 use Rattle.dude_base.specs.declared.write.Write.{Write}
-use Rattle.redo_record.specs.Cells.{Cell, line_of}
+use Rattle.dude_base.specs.Image.{Cell}
+use Rattle.redo_record.specs.Cells.{line_of}
 use Rattle.redo_record.specs.Record.{writes_of}
-use Rattle.redo_record.specs.Images.{sizes_of, mark_of, home_of, cells_from}
-use Rattle.redo_record.specs.Damage.{IsTorn, IsSecond, IsLeastLine, IsUndamaged, IsDamagedAt}
+use Rattle.redo_record.specs.Images.{sizes_of, mark_of, home_of, word_in_image}
+use Rattle.redo_record.specs.Damage.{IsTorn, IsDuplicateHead, IsLeastLine, IsUndamaged, IsDamagedAt}
 use Rattle.redo_record.specs.Recovery.{Recovers, HasRecord, overwritten_by_all, IsDamaged, Unformatted, Damaged, Recovered, LawOfReplay}
 use Rattle.redo_record.proofs.HeldRecords.{map_same}
 
@@ -24,7 +25,7 @@ damage_same : (s : Sizes) (above : ℕ) (image : List ℕ) (k l : ℕ) → IsDam
 damage_same s above image k l (inl a) (inl b) = least_same s (IsTorn s above image) k l a b
 damage_same s above image k l (inl a) (inr b) = absurd (b.0 a.0 a.1)
 damage_same s above image k l (inr a) (inl b) = absurd (a.0 b.0 b.1)
-damage_same s above image k l (inr a) (inr b) = least_same s (IsSecond s above image) k l a.1 b.1
+damage_same s above image k l (inr a) (inr b) = least_same s (IsDuplicateHead s above image) k l a.1 b.1
 
 lines_same : (image : List ℕ) (k l : ℕ) → IsDamaged image k → IsDamaged image l → k ≡ l
 lines_same image k l (inl a) (inl b) = a.1 ∙ sym b.1
@@ -49,7 +50,7 @@ recovers_not version image number array line recovers (inr a) = undamaged_not (s
 writes_same_of : (image : List ℕ) (k : ℕ) (ws vs : List Write) → IsUndamaged (sizes_of image) (mark_of image) image → HasRecord image k ws → HasRecord image k vs → ws ≡ vs
 writes_same_of image k ws vs fine a b =
     let same : a.head ≡ b.head = fine.single a.head b.head a.new b.new (a.number ∙ sym b.number) in
-    sym a.same_writes ∙ (ap (λ (c : Cell). writes_of (cells_from (sizes_of image) image c)) same ∙ b.same_writes)
+    sym a.same_writes ∙ (ap (λ (c : Cell). writes_of (word_in_image (sizes_of image) image c)) same ∙ b.same_writes)
 
 module _ (version : ℕ) (image : List ℕ) (n m : ℕ) (a b : List ℕ) (one : Recovers version image n a) (other : Recovers version image m b) where
   no_greater : {x y : ℕ} {c d : List ℕ} → Recovers version image x c → Recovers version image y d → x < y → ⊥

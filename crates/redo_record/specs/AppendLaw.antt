@@ -3,15 +3,15 @@ use Rattle.std.specs.Prelude.{◌≡◌, ◌⊎◌, ℕ, ◌*◌, ◌<◌, ◌�
 use Rattle.dude_base.specs.declared.limits.TheConstants.{LINE, PAGE}
 use Rattle.dude_base.specs.declared.sizes.Sizes.{Sizes}
 use Rattle.dude_base.specs.Sizes.{IsAccepted}
-use Rattle.dude_base.specs.Image.{image_words}
+use Rattle.dude_base.specs.Image.{image_words, Cell}
 use Rattle.dude_base.specs.Records.{RedoRecord}
 use Rattle.pmem_trait.specs.declared.call.Call.{Call}
-use Rattle.pmem_trait.specs.Words.{Point, MayBe, HalfDone, Leaves, Along, still, after_all}
+use Rattle.pmem_trait.specs.Words.{State, MayHold, HalfDone, EveryImage, AfterEachCall, settled_at, after_all}
 use Rattle.redo_record.specs.Tags.{number_of}
-use Rattle.redo_record.specs.Cells.{Cell, IsCell, word_place}
+use Rattle.redo_record.specs.Cells.{IsCell, word_place}
 use Rattle.redo_record.specs.Record.{cells_for, record_of}
 use Rattle.redo_record.specs.Encoding.{IsEncodable, encoded}
-use Rattle.redo_record.specs.Images.{mark_of, tag_of, cells_from, IsComplete, IsNewHead}
+use Rattle.redo_record.specs.Images.{mark_of, tag_of, word_in_image, IsComplete, IsNewHead}
 use Rattle.redo_record.specs.Fits.{Logged, HasHead, FitsRing, AreFree, settled_mark}
 use Rattle.redo_record.specs.Calls.{append_calls}
 
@@ -21,11 +21,11 @@ pub record CanAppend (s : Sizes) (mark : ℕ) (logged : List Logged) (head : Cel
   pub cell : IsCell s head
   pub encodable : IsEncodable r
   pub home : All (λ w. w.at < s.pages * PAGE) r.writes
-  pub free : AreFree s mark head.place (cells_for (length r.writes)) logged
+  pub free : AreFree s mark head.slot (cells_for (length r.writes)) logged
 
 -- the record as one of its ring
 abbrev pub logged_as : Cell → RedoRecord → Logged
-logged_as head r = record { number = r.number; first = head.place; cells = cells_for (length r.writes) }
+logged_as head r = record { number = r.number; first = head.slot; cells = cells_for (length r.writes) }
 
 -- no word of the record's cells, which begin at this one, stands at this place
 abbrev pub IsElsewhere : Sizes → Cell → RedoRecord → ℕ → Type 0
@@ -33,29 +33,29 @@ IsElsewhere s head r i = (k j : ℕ) → k < cells_for (length r.writes) → j <
 
 -- An image on the way. Each head over the mark in this ring has its complete record, and is that of one of these records
 -- or that of r, which then holds r. Each word elsewhere is as it might have been before, and nothing more was told.
-pub record HeadsHold (s : Sizes) (logged : List Logged) (head : Cell) (r : RedoRecord) (p : Point) (told image : List ℕ) : Type 0 where
+pub record HeadsHold (s : Sizes) (logged : List Logged) (head : Cell) (r : RedoRecord) (p : State) (told image : List ℕ) : Type 0 where
   pub complete : (other : Cell) → other.ring ≡ head.ring → IsNewHead s (mark_of image) image other → IsComplete s image other
   pub known : (other : Cell) → other.ring ≡ head.ring → IsNewHead s (mark_of image) image other
-      → HasHead (number_of (tag_of s image other)) other.place logged
-      ⊎ ((other ≡ head) × (record_of (cells_from s image other) ≡ r))
-  pub others : (i : ℕ) → i < length image → IsElsewhere s head r i → MayBe (p.word i) (slice_index image i)
+      → HasHead (number_of (tag_of s image other)) other.slot logged
+      ⊎ ((other ≡ head) × (record_of (word_in_image s image other) ≡ r))
+  pub others : (i : ℕ) → i < length image → IsElsewhere s head r i → MayHold (p.word i) (slice_index image i)
   pub same_told : told ≡ p.told
 
 -- The whole record is settled in its cells. Each word elsewhere has no value that it might not have had before, and stands
 -- as it was where it was settled. Nothing more was told, and the ring fits with the record added.
-pub record Appended (s : Sizes) (logged : List Logged) (released : ℕ) (head : Cell) (r : RedoRecord) (p q : Point) : Type 0 where
-  pub settled : (k j : ℕ) → k < cells_for (length r.writes) → j < LINE → q.word (word_place s head k j) ≡ still (slice_index (encoded r k) j)
-  pub others : (i x : ℕ) → IsElsewhere s head r i → MayBe (q.word i) x → MayBe (p.word i) x
-  pub still_others : (i x : ℕ) → IsElsewhere s head r i → p.word i ≡ still x → q.word i ≡ still x
+pub record Appended (s : Sizes) (logged : List Logged) (released : ℕ) (head : Cell) (r : RedoRecord) (p q : State) : Type 0 where
+  pub settled : (k j : ℕ) → k < cells_for (length r.writes) → j < LINE → q.word (word_place s head k j) ≡ settled_at (slice_index (encoded r k) j)
+  pub others : (i x : ℕ) → IsElsewhere s head r i → MayHold (q.word i) x → MayHold (p.word i) x
+  pub settled_others : (i x : ℕ) → IsElsewhere s head r i → p.word i ≡ settled_at x → q.word i ≡ settled_at x
   pub told : q.told ≡ p.told
   pub fits : FitsRing s head.ring (logged ++ logged_as head r ∷ []) released q
 
 -- From a state that the ring fits, and whose cells are free: every image at the entry and after each call has its heads,
 -- also after a call that failed; and after the whole list the record is appended.
 abbrev pub LawOfAppend : Type 0
-LawOfAppend = (s : Sizes) (logged : List Logged) (released : ℕ) (head : Cell) (r : RedoRecord) (p : Point) (len : ℕ)
+LawOfAppend = (s : Sizes) (logged : List Logged) (released : ℕ) (head : Cell) (r : RedoRecord) (p : State) (len : ℕ)
     → image_words s ≤ len → FitsRing s head.ring logged released p → CanAppend s (settled_mark p) logged head r
-    → Along (Leaves len (HeadsHold s logged head r p)) p (append_calls s head r)
-    × ((front : List Call) (last : Call) (rest : List Call) (q : Point) → append_calls s head r ≡ front ++ last ∷ rest
-    → HalfDone last (after_all front p) q → Leaves len (HeadsHold s logged head r p) q)
+    → AfterEachCall (EveryImage len (HeadsHold s logged head r p)) p (append_calls s head r)
+    × ((front : List Call) (last : Call) (rest : List Call) (q : State) → append_calls s head r ≡ front ++ last ∷ rest
+    → HalfDone last (after_all front p) q → EveryImage len (HeadsHold s logged head r p) q)
     × Appended s logged released head r p (after_all (append_calls s head r) p)

@@ -6,7 +6,8 @@ use Rattle.dude_base.specs.Records.{RedoRecord}
 use Rattle.pmem_trait.specs.declared.call.Call.{Call}
 use Rattle.pmem_trait.specs.Groups.{group_calls}
 use Rattle.redo_record.specs.Tags.{head_tag}
-use Rattle.redo_record.specs.Cells.{Cell, cell_after, front_of, line_of}
+use Rattle.dude_base.specs.Image.{Cell, cell_start}
+use Rattle.redo_record.specs.Cells.{cell_after, line_of}
 use Rattle.redo_record.specs.Record.{cells_for}
 use Rattle.redo_record.specs.Encoding.{encoded}
 
@@ -16,12 +17,12 @@ words_from at xs = enumerate_from at xs
 
 -- the words of the record's k-th cell, where the head stands at this cell
 abbrev pub cell_writes : Sizes → Cell → RedoRecord → ℕ → List (ℕ × ℕ)
-cell_writes s head r k = words_from (front_of s (cell_after s head k)) (encoded r k)
+cell_writes s head r k = words_from (cell_start s (cell_after s head k)) (encoded r k)
 
 -- every word of the record's cells but the head's tag, in order of cell and word
 abbrev pub body_writes : Sizes → Cell → RedoRecord → List (ℕ × ℕ)
 body_writes s head r =
-    words_from (front_of s head + 1) (drop 1 (encoded r 0))
+    words_from (cell_start s head + 1) (drop 1 (encoded r 0))
     ++ flat_map (cell_writes s head r) (range_with_len 1 (cells_for (length r.writes) - 1))
 
 -- the lines of n cells from this one on
@@ -29,7 +30,7 @@ abbrev pub lines_from : Sizes → Cell → ℕ → List ℕ
 lines_from s head n = map (λ k. line_of s (cell_after s head k)) (range_with_len 0 n)
 
 abbrev pub tag_write : Sizes → Cell → RedoRecord → List (ℕ × ℕ)
-tag_write s head r = (front_of s head, head_tag r.number) ∷ []
+tag_write s head r = (cell_start s head, head_tag r.number) ∷ []
 
 -- the body is made durable, and then the tag
 unfoldable pub append_calls : Sizes → Cell → RedoRecord → List Call

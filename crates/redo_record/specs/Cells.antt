@@ -1,30 +1,21 @@
 -- The cells of the rings: a record takes cells that follow one another in its ring.
 use Rattle.std.specs.Prelude.{ℕ, ◌+◌, ◌*◌, ◌%◌, ◌<◌}
 use Rattle.dude_base.specs.declared.sizes.Sizes.{Sizes}
-use Rattle.dude_base.specs.Image.{cell_front}
-
--- A cell, by its ring and its place in the ring.
-pub record Cell : Type 0 where
-  pub ring : ℕ
-  pub place : ℕ
+use Rattle.dude_base.specs.Image.{Cell, cell_start}
 
 -- the cell is one of an image of these sizes
 pub record IsCell (s : Sizes) (cell : Cell) : Type 0 where
   pub ring_is : cell.ring < s.rings
-  pub place_is : cell.place < s.cells
+  pub slot_is : cell.slot < s.cells
 
 -- the k-th cell from this one on; after the last cell of the ring comes its first
 abbrev pub cell_after : Sizes → Cell → ℕ → Cell
-cell_after s head k = record { ring = head.ring; place = (head.place + k) % s.cells }
-
--- where the first word of a cell stands
-abbrev pub front_of : Sizes → Cell → ℕ
-front_of s cell = cell_front s cell.ring cell.place
+cell_after s head k = record { ring = head.ring; slot = (head.slot + k) % s.cells }
 
 -- the line of a cell
 abbrev pub line_of : Sizes → Cell → ℕ
-line_of s cell = 2 + cell.ring * s.cells + cell.place
+line_of s cell = 2 + cell.ring * s.cells + cell.slot
 
 -- where word j of the k-th cell from this one on stands
 abbrev pub word_place : Sizes → Cell → ℕ → ℕ → ℕ
-word_place s head k j = front_of s (cell_after s head k) + j
+word_place s head k j = cell_start s (cell_after s head k) + j

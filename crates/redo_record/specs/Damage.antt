@@ -2,7 +2,8 @@
 use Rattle.std.specs.Prelude.{◌≡◌, ◌⊎◌, ℕ, ◌<◌, List}
 use Rattle.dude_base.specs.declared.sizes.Sizes.{Sizes}
 use Rattle.redo_record.specs.Tags.{number_of}
-use Rattle.redo_record.specs.Cells.{Cell, line_of}
+use Rattle.dude_base.specs.Image.{Cell}
+use Rattle.redo_record.specs.Cells.{line_of}
 use Rattle.redo_record.specs.Images.{tag_of, IsComplete, IsNewHead}
 
 -- a head that has no complete record
@@ -11,7 +12,7 @@ pub record IsTorn (s : Sizes) (above : ℕ) (image : List ℕ) (cell : Cell) : T
   pub incomplete : ¬ IsComplete s image cell
 
 -- a head whose number a head at a lower line has too
-pub record IsSecond (s : Sizes) (above : ℕ) (image : List ℕ) (cell : Cell) : Type 0 where
+pub record IsDuplicateHead (s : Sizes) (above : ℕ) (image : List ℕ) (cell : Cell) : Type 0 where
   pub head : IsNewHead s above image cell
   pub other : Cell
   pub other_head : IsNewHead s above image other
@@ -33,4 +34,4 @@ pub record IsUndamaged (s : Sizes) (above : ℕ) (image : List ℕ) : Type 0 whe
 abbrev pub IsDamagedAt : Sizes → ℕ → List ℕ → ℕ → Type 0
 IsDamagedAt s above image line =
     IsLeastLine s (IsTorn s above image) line
-    ⊎ (((cell : Cell) → ¬ IsTorn s above image cell) × IsLeastLine s (IsSecond s above image) line)
+    ⊎ (((cell : Cell) → ¬ IsTorn s above image cell) × IsLeastLine s (IsDuplicateHead s above image) line)

@@ -3,7 +3,7 @@ use Rattle.std.specs.Prelude.{◌≡◌, ◌*◌, ℕ, ◌<◌, ◌≤◌, List,
 use Rattle.dude_base.specs.declared.limits.TheConstants.{LINE, MAX_WRITES}
 use Rattle.redo_record.specs.Tags.{kind_of, number_of, IsNumber}
 use Rattle.redo_record.specs.Record.{cells_for, IsContinuation}
-use Rattle.redo_record.specs.Encoding.{cells_in}
+use Rattle.redo_record.specs.Encoding.{word_in_slice}
 
 -- The slice begins with a head that counts so many writes, and has just the cells that they need.
 pub record HasHeadFor (words : List ℕ) (count : ℕ) : Type 0 where
@@ -15,4 +15,4 @@ pub record HasHeadFor (words : List ℕ) (count : ℕ) : Type 0 where
 
 -- each further cell is a continuation
 abbrev pub Continues : List ℕ → ℕ → Type 0
-Continues words count = (k : ℕ) → 1 ≤ k → k < count → IsContinuation (number_of (slice_index words 0)) k (cells_in words k)
+Continues words count = (k : ℕ) → 1 ≤ k → k < count → IsContinuation (number_of (slice_index words 0)) k (word_in_slice words k)

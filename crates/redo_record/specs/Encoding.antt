@@ -36,19 +36,19 @@ abbrev pub encoded_cells : RedoRecord → List ℕ
 encoded_cells r = flat_map (encoded r) (range_with_len 0 (cells_for (length r.writes)))
 
 -- word j of the k-th cell of a slice of cells
-abbrev pub cells_in : List ℕ → ℕ → ℕ → ℕ
-cells_in words k j = slice_index words (LINE * k + j)
+abbrev pub word_in_slice : List ℕ → ℕ → ℕ → ℕ
+word_in_slice words k j = slice_index words (LINE * k + j)
 
 -- The slice is exactly the cells of a record.
 pub record IsRecordSlice (words : List ℕ) : Type 0 where
-  pub whole : HoldRecord (cells_in words)
-  pub size : length words ≡ LINE * cells_for (count_of (cells_in words))
+  pub whole : HoldRecord (word_in_slice words)
+  pub size : length words ≡ LINE * cells_for (count_of (word_in_slice words))
 
 -- The cells that `encode` gives hold the record, one by one and as a slice.
 abbrev pub LawOfEncoding : Type 0
 LawOfEncoding = (r : RedoRecord) → IsEncodable r
     → HoldRecord (λ k j. slice_index (encoded r k) j) × (record_of (λ k j. slice_index (encoded r k) j) ≡ r)
-    × IsRecordSlice (encoded_cells r) × (record_of (cells_in (encoded_cells r)) ≡ r)
+    × IsRecordSlice (encoded_cells r) × (record_of (word_in_slice (encoded_cells r)) ≡ r)
 
 -- word j of the k-th cell is read where the record has so many writes: its tag and word 1, and the pairs of its writes
 abbrev pub IsRead : ℕ → ℕ → ℕ → Type 0

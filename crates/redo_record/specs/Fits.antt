@@ -2,9 +2,10 @@
 use Rattle.std.specs.Prelude.{◌≡◌, ◌⊎◌, ℕ, ◌+◌, ◌%◌, ◌<◌, ◌≤◌, List, [], ◌∷◌, All, sum_by}
 use Rattle.dude_base.specs.declared.limits.TheConstants.{LINE, MARK}
 use Rattle.dude_base.specs.declared.sizes.Sizes.{Sizes}
-use Rattle.pmem_trait.specs.Words.{Word, Point, MayBe, still}
+use Rattle.pmem_trait.specs.Words.{Word, State, MayHold, settled_at}
 use Rattle.redo_record.specs.Tags.{number_of, IsHeadOver}
-use Rattle.redo_record.specs.Cells.{Cell, front_of, word_place}
+use Rattle.dude_base.specs.Image.{Cell, cell_start}
+use Rattle.redo_record.specs.Cells.{word_place}
 use Rattle.redo_record.specs.Record.{cells_for, count_of, HoldComplete}
 
 -- A record in a ring: its number, the place of its head in the ring, and how many cells it takes.
@@ -15,7 +16,7 @@ pub record Logged : Type 0 where
 
 -- the cell of its head
 abbrev pub head_of : ℕ → Logged → Cell
-head_of ring l = record { ring = ring; place = l.first }
+head_of ring l = record { ring = ring; slot = l.first }
 
 -- one of these records has this number and its head at this place
 abbrev pub HasHead : ℕ → ℕ → List Logged → Type 0
@@ -23,33 +24,33 @@ HasHead number place [] = ⊥
 HasHead number place (l ∷ ls) = ((l.number ≡ number) × (l.first ≡ place)) ⊎ HasHead number place ls
 
 -- a word with no later value and no note
-abbrev pub IsStill : Word → Type 0
-IsStill w = w ≡ still w.settled
+abbrev pub IsSettledWord : Word → Type 0
+IsSettledWord w = w ≡ settled_at w.settled
 
 -- the mark, as it is settled
-abbrev pub settled_mark : Point → ℕ
+abbrev pub settled_mark : State → ℕ
 settled_mark p = (p.word MARK).settled
 
 -- word j of the k-th cell from this one on, as it is settled
-abbrev pub settled_cells : Sizes → Point → Cell → ℕ → ℕ → ℕ
-settled_cells s p head k j = (p.word (word_place s head k j)).settled
+abbrev pub settled_word : Sizes → State → Cell → ℕ → ℕ → ℕ
+settled_word s p head k j = (p.word (word_place s head k j)).settled
 
 -- The record stands complete in its cells, which are settled.
-pub record Stands (s : Sizes) (ring : ℕ) (p : Point) (l : Logged) : Type 0 where
-  pub still_words : (k j : ℕ) → k < l.cells → j < LINE → IsStill (p.word (word_place s (head_of ring l) k j))
-  pub complete : HoldComplete s (settled_cells s p (head_of ring l))
-  pub same_number : number_of (settled_cells s p (head_of ring l) 0 0) ≡ l.number
-  pub same_cells : cells_for (count_of (settled_cells s p (head_of ring l))) ≡ l.cells
+pub record IsIntact (s : Sizes) (ring : ℕ) (p : State) (l : Logged) : Type 0 where
+  pub settled_words : (k j : ℕ) → k < l.cells → j < LINE → IsSettledWord (p.word (word_place s (head_of ring l) k j))
+  pub complete : HoldComplete s (settled_word s p (head_of ring l))
+  pub same_number : number_of (settled_word s p (head_of ring l) 0 0) ≡ l.number
+  pub same_cells : cells_for (count_of (settled_word s p (head_of ring l))) ≡ l.cells
 
 -- The ring, with these records and this greatest number released, fits the medium: each head over the mark that a crash
 -- may leave in this ring is that of one of its records; its records over the mark stand complete; the mark is settled at
 -- the number released or more.
-pub record FitsRing (s : Sizes) (ring : ℕ) (logged : List Logged) (released : ℕ) (p : Point) : Type 0 where
-  pub mark : IsStill (p.word MARK)
+pub record FitsRing (s : Sizes) (ring : ℕ) (logged : List Logged) (released : ℕ) (p : State) : Type 0 where
+  pub mark : IsSettledWord (p.word MARK)
   pub reproduced : released ≤ settled_mark p
-  pub heads : (place tag : ℕ) → place < s.cells → MayBe (p.word (front_of s (record { ring = ring; place = place }))) tag
+  pub heads : (place tag : ℕ) → place < s.cells → MayHold (p.word (cell_start s (record { ring = ring; slot = place }))) tag
       → IsHeadOver (settled_mark p) tag → HasHead (number_of tag) place logged
-  pub records : All (λ l. settled_mark p < l.number → Stands s ring p l) logged
+  pub records : All (λ l. settled_mark p < l.number → IsIntact s ring p l) logged
 
 -- None of the n cells from this place on is one of a record over the mark.
 abbrev pub AreFree : Sizes → ℕ → ℕ → ℕ → List Logged → Type 0

@@ -2,9 +2,9 @@
 use Rattle.std.specs.Prelude.{ℕ, List, slice_index, slice_range}
 use Rattle.dude_base.specs.declared.limits.TheConstants.{MARK}
 use Rattle.dude_base.specs.declared.sizes.Sizes.{Sizes}
-use Rattle.dude_base.specs.Image.{home_word, image_words}
+use Rattle.dude_base.specs.Image.{home_word, image_words, Cell, cell_start}
 use Rattle.redo_record.specs.Tags.{IsHeadOver}
-use Rattle.redo_record.specs.Cells.{Cell, IsCell, word_place, front_of}
+use Rattle.redo_record.specs.Cells.{IsCell, word_place}
 use Rattle.redo_record.specs.Record.{HoldComplete}
 
 -- the sizes that an image names
@@ -27,15 +27,15 @@ home_of s image = slice_range image (home_word s 0) (image_words s)
 
 -- the tag of a cell
 abbrev pub tag_of : Sizes → List ℕ → Cell → ℕ
-tag_of s image cell = slice_index image (front_of s cell)
+tag_of s image cell = slice_index image (cell_start s cell)
 
 -- word j of the k-th cell from this one on
-abbrev pub cells_from : Sizes → List ℕ → Cell → ℕ → ℕ → ℕ
-cells_from s image head k j = slice_index image (word_place s head k j)
+abbrev pub word_in_image : Sizes → List ℕ → Cell → ℕ → ℕ → ℕ
+word_in_image s image head k j = slice_index image (word_place s head k j)
 
 -- The head at this cell has a complete record.
 abbrev pub IsComplete : Sizes → List ℕ → Cell → Type 0
-IsComplete s image head = HoldComplete s (cells_from s image head)
+IsComplete s image head = HoldComplete s (word_in_image s image head)
 
 -- The cell is a head with a number over this one.
 pub record IsNewHead (s : Sizes) (above : ℕ) (image : List ℕ) (head : Cell) : Type 0 where

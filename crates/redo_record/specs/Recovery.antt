@@ -1,20 +1,19 @@
 -- What an image recovers to, by its words alone: why it can't be read, or a number and an array of home words.
 use Rattle.std.specs.Prelude.{◌≡◌, ◌≢◌, ◌⊎◌, ℕ, ◌+◌, ◌-◌, ◌<◌, ◌≤◌, List, [], ◌∷◌, length, slice_index, map}
 use Rattle.std.specs.List.{range_with_len}
-use Rattle.dude_base.specs.declared.limits.TheConstants.{HEAD, MAGIC, MAX_NUMBER}
+use Rattle.dude_base.specs.declared.limits.TheConstants.{HEADER, MAGIC, MAX_NUMBER}
 use Rattle.dude_base.specs.declared.write.Write.{Write}
 use Rattle.dude_base.specs.Sizes.{IsAccepted}
-use Rattle.dude_base.specs.Image.{image_words}
+use Rattle.dude_base.specs.Image.{image_words, Cell}
 use Rattle.dude_base.specs.Writes.{overwritten}
 use Rattle.redo_record.specs.Tags.{number_of}
-use Rattle.redo_record.specs.Cells.{Cell}
 use Rattle.redo_record.specs.Record.{writes_of}
-use Rattle.redo_record.specs.Images.{sizes_of, mark_of, home_of, tag_of, cells_from, IsNewHead}
+use Rattle.redo_record.specs.Images.{sizes_of, mark_of, home_of, tag_of, word_in_image, IsNewHead}
 use Rattle.redo_record.specs.Damage.{IsUndamaged, IsDamagedAt}
 
 -- The image is formatted, in this version.
 pub record IsFormatted (version : ℕ) (image : List ℕ) : Type 0 where
-  pub header : HEAD ≤ length image
+  pub header : HEADER ≤ length image
   pub magic : slice_index image 0 ≡ MAGIC
   pub same_version : slice_index image 1 ≡ version
   pub sizes : IsAccepted (sizes_of image)
@@ -30,7 +29,7 @@ pub record HasRecord (image : List ℕ) (n : ℕ) (writes : List Write) : Type 0
   pub head : Cell
   pub new : IsOverMark image head
   pub number : number_of (tag_of (sizes_of image) image head) ≡ n
-  pub same_writes : writes_of (cells_from (sizes_of image) image head) ≡ writes
+  pub same_writes : writes_of (word_in_image (sizes_of image) image head) ≡ writes
 
 -- an array overwritten by lists of writes, one list after another
 abbrev pub overwritten_by_all : List (List Write) → List ℕ → List ℕ

@@ -2,35 +2,35 @@
 use Rattle.std.specs.Prelude.{◌≡◌, ℕ, ◌+◌, ◌%◌, ◌<◌, ◌≤◌, max, List, [], ◌∷◌, ◌++◌, All}
 use Rattle.dude_base.specs.declared.limits.TheConstants.{LINE, MARK}
 use Rattle.dude_base.specs.declared.sizes.Sizes.{Sizes}
-use Rattle.pmem_trait.specs.Words.{Point, MayBe, still}
-use Rattle.redo_record.specs.Cells.{front_of}
-use Rattle.redo_record.specs.Fits.{Logged, IsStill, settled_mark, FitsRing, AreFree, cells_used, FollowFrom}
+use Rattle.pmem_trait.specs.Words.{State, MayHold, settled_at}
+use Rattle.dude_base.specs.Image.{cell_start}
+use Rattle.redo_record.specs.Fits.{Logged, IsSettledWord, settled_mark, FitsRing, AreFree, cells_used, FollowFrom}
 
 -- The place after n cells, in a ring.
-abbrev pub place_after : Sizes → ℕ → ℕ → ℕ
-place_after s place n = (place + n) % s.cells
+abbrev pub slot_after : Sizes → ℕ → ℕ → ℕ
+slot_after s place n = (place + n) % s.cells
 
 -- Where the records of a ring follow one another and leave n cells, the n cells after the last record are free.
 abbrev pub LawOfRoom : Type 0
 LawOfRoom = (s : Sizes) (place n mark : ℕ) (logged : List Logged) → place < s.cells → FollowFrom s place logged
-    → cells_used logged + n ≤ s.cells → AreFree s mark (place_after s place (cells_used logged)) n logged
+    → cells_used logged + n ≤ s.cells → AreFree s mark (slot_after s place (cells_used logged)) n logged
 
 -- Records follow one another also with one more after the last, and without the first ones.
 abbrev pub LawOfFollowing : Type 0
 LawOfFollowing = (s : Sizes) (place : ℕ) → place < s.cells
-    → ((logged : List Logged) (next : Logged) → FollowFrom s place logged → next.first ≡ place_after s place (cells_used logged) → FollowFrom s place (logged ++ next ∷ []))
-    × ((gone rest : List Logged) → FollowFrom s place (gone ++ rest) → FollowFrom s (place_after s place (cells_used gone)) rest)
+    → ((logged : List Logged) (next : Logged) → FollowFrom s place logged → next.first ≡ slot_after s place (cells_used logged) → FollowFrom s place (logged ++ next ∷ []))
+    × ((gone rest : List Logged) → FollowFrom s place (gone ++ rest) → FollowFrom s (slot_after s place (cells_used gone)) rest)
 
 -- A ring fits without records up to a number that is no more than the mark.
 abbrev pub LawOfRelease : Type 0
-LawOfRelease = (s : Sizes) (ring : ℕ) (gone rest : List Logged) (released number : ℕ) (p : Point) → FitsRing s ring (gone ++ rest) released p
+LawOfRelease = (s : Sizes) (ring : ℕ) (gone rest : List Logged) (released number : ℕ) (p : State) → FitsRing s ring (gone ++ rest) released p
     → All (λ l. l.number ≤ number) gone → number ≤ settled_mark p → FitsRing s ring rest (max released number) p
 
 -- A ring fits in a state where the mark is settled at no less, no tag in its cells may be another, and the settled words
 -- of its cells are as they were.
 abbrev pub LawOfRest : Type 0
-LawOfRest = (s : Sizes) (ring : ℕ) (logged : List Logged) (released : ℕ) (p q : Point) → 0 < s.cells → FitsRing s ring logged released p
-    → IsStill (q.word MARK) → settled_mark p ≤ settled_mark q
-    → ((place tag : ℕ) → place < s.cells → MayBe (q.word (front_of s (record { ring = ring; place = place }))) tag → MayBe (p.word (front_of s (record { ring = ring; place = place }))) tag)
-    → ((place j x : ℕ) → place < s.cells → j < LINE → p.word (front_of s (record { ring = ring; place = place }) + j) ≡ still x → q.word (front_of s (record { ring = ring; place = place }) + j) ≡ still x)
+LawOfRest = (s : Sizes) (ring : ℕ) (logged : List Logged) (released : ℕ) (p q : State) → 0 < s.cells → FitsRing s ring logged released p
+    → IsSettledWord (q.word MARK) → settled_mark p ≤ settled_mark q
+    → ((place tag : ℕ) → place < s.cells → MayHold (q.word (cell_start s (record { ring = ring; slot = place }))) tag → MayHold (p.word (cell_start s (record { ring = ring; slot = place }))) tag)
+    → ((place j x : ℕ) → place < s.cells → j < LINE → p.word (cell_start s (record { ring = ring; slot = place }) + j) ≡ settled_at x → q.word (cell_start s (record { ring = ring; slot = place }) + j) ≡ settled_at x)
     → FitsRing s ring logged released q

@@ -3,7 +3,7 @@ ghost use Rattle.std.specs.List.{range_with_len};
 ghost use Rattle.dude_base.specs.Records.{RedoRecord};
 ghost use Rattle.dude_base.specs.Writes.{HasDistinctPlaces};
 ghost use Rattle.redo_record.specs.Record.{cells_for, write_of, record_of};
-ghost use Rattle.redo_record.specs.Encoding.{cells_in, encoded_cells, IsEncodable, IsRecordSlice};
+ghost use Rattle.redo_record.specs.Encoding.{word_in_slice, encoded_cells, IsEncodable, IsRecordSlice};
 ghost use Rattle.redo_record.specs.Decoding.{HasHeadFor, Continues};
 
 use crate::bad_record::BadRecord;
@@ -19,7 +19,7 @@ use dude_base::write_list::WriteList;
 /// places, and the others just the continuations that these writes need. Whether the places are home words isn't looked
 /// at, and pairs that hold no write aren't read.
 pub fn decode(cells: &[u64]) -> Result<Redo, BadRecord>
-    ensures ok { IfOk result (λ r. IsRecordSlice cells.now × (r ≡ record_of (cells_in cells.now))) }
+    ensures ok { IfOk result (λ r. IsRecordSlice cells.now × (r ≡ record_of (word_in_slice cells.now))) }
     ensures bad { OnErr result (¬ IsRecordSlice cells.now) }
     ensures back { (r : RedoRecord) → IsEncodable r → cells.now ≡ encoded_cells r → result ≡ Ok r }
 {
@@ -27,7 +27,7 @@ pub fn decode(cells: &[u64]) -> Result<Redo, BadRecord>
 }
 
 fn read_record(cells: &[u64]) -> Result<Redo, BadRecord>
-    ensures ok { IfOk result (λ r. IsRecordSlice cells.now × (r ≡ record_of (cells_in cells.now))) }
+    ensures ok { IfOk result (λ r. IsRecordSlice cells.now × (r ≡ record_of (word_in_slice cells.now))) }
     ensures bad { OnErr result (¬ IsRecordSlice cells.now) }
 {
     let count = check_head(cells)?;
@@ -72,7 +72,7 @@ fn check_continuations(cells: &[u64], count: u64) -> Result<(), BadRecord>
 // The writes, where their places differ.
 fn read_writes(cells: &[u64], count: u64) -> Result<WriteList, BadRecord>
     requires { HasHeadFor cells.now count }
-    ensures ok { IfOk result (λ ws. (ws ≡ map (write_of (cells_in cells.now)) (range_with_len 0 count)) × HasDistinctPlaces ws) }
+    ensures ok { IfOk result (λ ws. (ws ≡ map (write_of (word_in_slice cells.now)) (range_with_len 0 count)) × HasDistinctPlaces ws) }
     ensures bad { OnErr result (¬ IsRecordSlice cells.now) }
 {
     let mut writes = WriteList::new();
@@ -88,7 +88,7 @@ fn read_writes(cells: &[u64], count: u64) -> Result<WriteList, BadRecord>
 
 fn write_in(cells: &[u64], i: u64) -> Write
     requires { LINE * (i / 3) + (3 + 2 * (i % 3)) < length cells.now }
-    ensures { result ≡ write_of (cells_in cells.now) i }
+    ensures { result ≡ write_of (word_in_slice cells.now) i }
 {
     Write {
         at: cells[(LINE * (i / 3) + (2 + 2 * (i % 3))) as usize],

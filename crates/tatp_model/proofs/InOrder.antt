@@ -15,7 +15,7 @@ use Rattle.tatp_model.specs.declared.sub_row.SubRow.{SubRow}
 use Rattle.tatp_model.specs.declared.fac_row.FacRow.{FacRow}
 use Rattle.tatp_model.specs.declared.call_row.CallRow.{CallRow}
 use Rattle.tatp_model.specs.Database.{Database, IsInOrder, IsSubRow, IsFacRow, IsCallRow, facility_key, call_key}
-use Rattle.tatp_model.specs.Transaction.{update_where, is_subscriber, has_number, is_facility, is_call, with_call, Outcome, answers, changes, insert_call, delete_call, after_request}
+use Rattle.tatp_model.specs.Transaction.{update_where, is_subscriber, has_phone, is_facility, is_call, with_call, Outcome, answers, changes, insert_call, delete_call, after_request}
 use Rattle.tatp_model.specs.Ranges.{IsBit}
 use Rattle.tatp_model.specs.Request.{IsInRange}
 use Rattle.tatp_model.specs.declared.request.Request.{Request}
@@ -205,15 +205,15 @@ KeepsOrder-after_request limit db (UpdateSubscriber s b f d) range kept =
       room = kept.room;
     }) (λ _. kept)
 KeepsOrder-after_request limit db (UpdateLocation n v) range kept =
-    keeps_cond limit (list_any (has_number n) db.subscribers) (changes (record db { subscribers = update_where (has_number n) (λ r. record r { vlr = v }) db.subscribers })) (answers db Missing) (λ _. record {
-      order = IsInOrder-subscribers db (has_number n) (λ r. record r { vlr = v }) (λ r. refl) (λ r. refl) (λ r h. record { s_id = h.s_id; sub_nbr = h.sub_nbr; bits = h.bits; hexes = h.hexes; bytes = h.bytes; msc = h.msc; vlr = range.1 }) kept.order;
+    keeps_cond limit (list_any (has_phone n) db.subscribers) (changes (record db { subscribers = update_where (has_phone n) (λ r. record r { vlr = v }) db.subscribers })) (answers db Missing) (λ _. record {
+      order = IsInOrder-subscribers db (has_phone n) (λ r. record r { vlr = v }) (λ r. refl) (λ r. refl) (λ r h. record { s_id = h.s_id; sub_nbr = h.sub_nbr; bits = h.bits; hexes = h.hexes; bytes = h.bytes; msc = h.msc; vlr = range.1 }) kept.order;
       room = kept.room;
     }) (λ _. kept)
 KeepsOrder-after_request limit db (InsertCall n f t e x) range kept =
-    keeps_find limit (λ r. insert_call limit db (record { s_id = r.s_id; sf_type = f; start_time = t; end_time = e; numberx = x })) (find (has_number n) db.subscribers) (answers db Missing) (λ r found.
-    keeps_insert limit db (record { s_id = r.s_id; sf_type = f; start_time = t; end_time = e; numberx = x }) (record { s_id = (All-find IsSubRow (has_number n) db.subscribers r kept.order.subscribers_in_range found).s_id; sf_type = range.1; start_time = range.2; end_time = range.3; numberx = range.4 }) kept) kept
+    keeps_find limit (λ r. insert_call limit db (record { s_id = r.s_id; sf_type = f; start_time = t; end_time = e; numberx = x })) (find (has_phone n) db.subscribers) (answers db Missing) (λ r found.
+    keeps_insert limit db (record { s_id = r.s_id; sf_type = f; start_time = t; end_time = e; numberx = x }) (record { s_id = (All-find IsSubRow (has_phone n) db.subscribers r kept.order.subscribers_in_range found).s_id; sf_type = range.1; start_time = range.2; end_time = range.3; numberx = range.4 }) kept) kept
 KeepsOrder-after_request limit db (DeleteCall n f t) range kept =
-    keeps_find limit (λ r. delete_call db r.s_id f t) (find (has_number n) db.subscribers) (answers db Missing) (λ r found.
+    keeps_find limit (λ r. delete_call db r.s_id f t) (find (has_phone n) db.subscribers) (answers db Missing) (λ r found.
     keeps_cond limit (list_any (is_call r.s_id f t) db.calls) (changes (record db { calls = filter (λ c. not (is_call r.s_id f t c)) db.calls })) (answers db Missing) (λ _. record {
       order = IsInOrder-filter db (λ c. not (is_call r.s_id f t c)) kept.order;
       room = omega (arith, kept.room, length-filter_both (is_call r.s_id f t) (λ c. not (is_call r.s_id f t c)) (λ c. refl) db.calls);

@@ -8,7 +8,7 @@ use Rattle.std.proofs.lemmas.List.FromFn.{get_or-map-range_with_len, length-rang
 use Rattle.std.proofs.lemmas.Option.{slice_get_past}
 use Rattle.std.proofs.lemmas.List.Folds.{list_any_at}
 use Rattle.tatp_model.specs.declared.sub_row.SubRow.{SubRow}
-use Rattle.tatp_model.specs.Transaction.{update_where, is_subscriber, has_number, Outcome, answers, changes, outcome_of, after_request}
+use Rattle.tatp_model.specs.Transaction.{update_where, is_subscriber, has_phone, Outcome, answers, changes, outcome_of, after_request}
 use Rattle.tatp_model.specs.declared.request.Request.TheVariants.{UpdateLocation}
 use Rattle.tatp_model.specs.declared.reply.Reply.TheVariants.{Missing}
 use Rattle.tatp_model.specs.Database.{Database}
@@ -123,15 +123,15 @@ get_or-subscribers S k d within = get_or-map-range_with_len subscriber_at 1 S k 
 pub find_subscriber : (rows : List SubRow) (n : ℕ) → IsNumbered rows → find (is_subscriber (1 + n)) rows ≡ slice_get rows n
 find_subscriber rows n numbered = find-at (λ r. r.s_id) 1 n rows numbered.ids
 
-pub find_numbered : (rows : List SubRow) (n : ℕ) → IsNumbered rows → find (has_number (1 + n)) rows ≡ slice_get rows n
+pub find_numbered : (rows : List SubRow) (n : ℕ) → IsNumbered rows → find (has_phone (1 + n)) rows ≡ slice_get rows n
 find_numbered rows n numbered = find-at (λ r. r.sub_nbr) 1 n rows numbered.numbers
 
 -- no subscriber has the number 0, or one past the rows
-pub find_numbered-missing : (rows : List SubRow) (n : ℕ) → IsNumbered rows → (n ≡ 0) ⊎ (length rows < n) → find (has_number n) rows ≡ None
+pub find_numbered-missing : (rows : List SubRow) (n : ℕ) → IsNumbered rows → (n ≡ 0) ⊎ (length rows < n) → find (has_phone n) rows ≡ None
 find_numbered-missing rows zero numbered out = find-zero (λ r. r.sub_nbr) 0 rows numbered.numbers
 find_numbered-missing rows (suc n) numbered out =
     let same : suc n ≡ 1 + n = omega arith in
-    ap (λ m. find (has_number m) rows) same ∙ find_numbered rows n numbered ∙ slice_get_past rows n (⊎_elim (λ e. absurd (omega (arith, e))) (λ h. omega (arith, h)) out)
+    ap (λ m. find (has_phone m) rows) same ∙ find_numbered rows n numbered ∙ slice_get_past rows n (⊎_elim (λ e. absurd (omega (arith, e))) (λ h. omega (arith, h)) out)
 
 pub find_subscriber-missing : (rows : List SubRow) (n : ℕ) → IsNumbered rows → (n ≡ 0) ⊎ (length rows < n) → find (is_subscriber n) rows ≡ None
 find_subscriber-missing rows zero numbered out = find-zero (λ r. r.s_id) 0 rows numbered.ids
@@ -142,28 +142,28 @@ find_subscriber-missing rows (suc n) numbered out =
 -- UPDATE_LOCATION sets the `vlr` of the one row with that number, in its place, and keeps every other row and table
 pub update_location-at : (limit : ℕ) (db : Database) (n vlr : ℕ) (d : SubRow) → IsNumbered db.subscribers → n < length db.subscribers → outcome_of limit db (UpdateLocation (1 + n) vlr) ≡ changes (record db { subscribers = set db.subscribers n (record (get_or db.subscribers n d) { vlr = vlr }) })
 update_location-at limit db n vlr d numbered within =
-    let there : list_any (has_number (1 + n)) db.subscribers ≡ true = list_any_at (has_number (1 + n)) db.subscribers n d within (eq-eqb _ _ (key_at (λ r. r.sub_nbr) 1 db.subscribers n d numbered.numbers within)) in
+    let there : list_any (has_phone (1 + n)) db.subscribers ≡ true = list_any_at (has_phone (1 + n)) db.subscribers n d within (eq-eqb _ _ (key_at (λ r. r.sub_nbr) 1 db.subscribers n d numbered.numbers within)) in
     rw there (ap (λ (rows : List SubRow). changes (record db { subscribers = rows })) (update_where-key (λ r. r.sub_nbr) (λ r. record r { vlr = vlr }) 1 n db.subscribers d numbered.numbers within))
 
 pub update_location-missing : (limit : ℕ) (db : Database) (n vlr : ℕ) → IsNumbered db.subscribers → (n ≡ 0) ⊎ (length db.subscribers < n) → outcome_of limit db (UpdateLocation n vlr) ≡ answers db Missing
 update_location-missing limit db n vlr numbered out =
-    let none : list_any (has_number n) db.subscribers ≡ false = list_any-find (has_number n) db.subscribers ∙ ap is_some (find_numbered-missing db.subscribers n numbered out) in
+    let none : list_any (has_phone n) db.subscribers ≡ false = list_any-find (has_phone n) db.subscribers ∙ ap is_some (find_numbered-missing db.subscribers n numbered out) in
     rw none refl
 
 -- UPDATE_LOCATION answers by whether the number is there
-pub update_location-there : (limit : ℕ) (db : Database) (n vlr : ℕ) → list_any (has_number n) db.subscribers ≡ true → outcome_of limit db (UpdateLocation n vlr) ≡ changes (record db { subscribers = update_where (has_number n) (λ r. record r { vlr = vlr }) db.subscribers })
+pub update_location-there : (limit : ℕ) (db : Database) (n vlr : ℕ) → list_any (has_phone n) db.subscribers ≡ true → outcome_of limit db (UpdateLocation n vlr) ≡ changes (record db { subscribers = update_where (has_phone n) (λ r. record r { vlr = vlr }) db.subscribers })
 update_location-there limit db n vlr there = rw there refl
 
-pub update_location-none : (limit : ℕ) (db : Database) (n vlr : ℕ) → list_any (has_number n) db.subscribers ≡ false → outcome_of limit db (UpdateLocation n vlr) ≡ answers db Missing
+pub update_location-none : (limit : ℕ) (db : Database) (n vlr : ℕ) → list_any (has_phone n) db.subscribers ≡ false → outcome_of limit db (UpdateLocation n vlr) ≡ answers db Missing
 update_location-none limit db n vlr none = rw none refl
 
 -- UPDATE_LOCATION keeps the subscribers numbered, and as many
 pub IsNumbered-update_location : (limit : ℕ) (db : Database) (n vlr : ℕ) → IsNumbered db.subscribers → IsNumbered (after_request limit db (UpdateLocation n vlr)).subscribers
 IsNumbered-update_location limit db n vlr numbered =
-    ⊎_elim (λ e. subst (λ (o : Outcome). IsNumbered o.after.subscribers) (sym (update_location-there limit db n vlr e)) (IsNumbered-update_where (has_number n) (λ r. record r { vlr = vlr }) db.subscribers (λ r. refl) (λ r. refl) numbered))
-    (λ e. subst (λ (o : Outcome). IsNumbered o.after.subscribers) (sym (update_location-none limit db n vlr e)) numbered) (cases_Bool (list_any (has_number n) db.subscribers))
+    ⊎_elim (λ e. subst (λ (o : Outcome). IsNumbered o.after.subscribers) (sym (update_location-there limit db n vlr e)) (IsNumbered-update_where (has_phone n) (λ r. record r { vlr = vlr }) db.subscribers (λ r. refl) (λ r. refl) numbered))
+    (λ e. subst (λ (o : Outcome). IsNumbered o.after.subscribers) (sym (update_location-none limit db n vlr e)) numbered) (cases_Bool (list_any (has_phone n) db.subscribers))
 
 pub length-update_location : (limit : ℕ) (db : Database) (n vlr : ℕ) → length (after_request limit db (UpdateLocation n vlr)).subscribers ≡ length db.subscribers
 length-update_location limit db n vlr =
-    ⊎_elim (λ e. ap (λ (o : Outcome). length o.after.subscribers) (update_location-there limit db n vlr e) ∙ length-map db.subscribers (λ r. cond (has_number n r) (record r { vlr = vlr }) r))
-    (λ e. ap (λ (o : Outcome). length o.after.subscribers) (update_location-none limit db n vlr e)) (cases_Bool (list_any (has_number n) db.subscribers))
+    ⊎_elim (λ e. ap (λ (o : Outcome). length o.after.subscribers) (update_location-there limit db n vlr e) ∙ length-map db.subscribers (λ r. cond (has_phone n r) (record r { vlr = vlr }) r))
+    (λ e. ap (λ (o : Outcome). length o.after.subscribers) (update_location-none limit db n vlr e)) (cases_Bool (list_any (has_phone n) db.subscribers))

@@ -12,7 +12,7 @@ use Rattle.tatp_model.specs.declared.request.Request.{Request}
 use Rattle.tatp_model.specs.declared.reply.Reply.TheVariants.{Durable}
 use Rattle.tatp_model.specs.Database.{Database}
 use Rattle.tatp_model.specs.Transaction.{reply_to}
-use Rattle.tatp_model.specs.OneThread.{is_sync, is_changed, Precedes, RepliesAlong, PlacedRequest, placed_request_of, placed_requests_from, HoldsAll, IsFront, Replies}
+use Rattle.tatp_model.specs.OneThread.{is_sync, is_changed, Precedes, RepliesAlong, PlacedRequest, placed_request_of, placed_requests_from, HoldsAll, IsPrefixOf, RepliesOfOneThread}
 use Rattle.tatp_model.proofs.Run.{after_order, RepliesAlong-push}
 
 -- `done` answers the requests of one file up to number `last`, in turn
@@ -54,8 +54,8 @@ filter_none p [] none = refl
 filter_none p (d ∷ done) none = rw (All-head (λ e. p e ≡ false) d done none) (filter_none p done (All-tail (λ e. p e ≡ false) d done none))
 
 -- the replies of such a run are one thread's
-pub Replies-from_sequential : (first last limit : ℕ) (db : Database) (front requests : List Request) (done : List Done) → Sequential first last limit db front done → IsFront front requests → Replies first limit db (requests ∷ []) done
-Replies-from_sequential first last limit db front requests done run is_front =
+pub RepliesOfOneThread-from_sequential : (first last limit : ℕ) (db : Database) (front requests : List Request) (done : List Done) → Sequential first last limit db front done → IsPrefixOf front requests → RepliesOfOneThread first limit db (requests ∷ []) done
+RepliesOfOneThread-from_sequential first last limit db front requests done run is_front =
     let asked : filter (λ d. not (is_sync d.request)) done ≡ done = filter_all (λ d. not (is_sync d.request)) done (λ k d h. ap not (run.asked k d h)) in
     let no_syncs : filter (λ d. is_sync d.request) done ≡ [] = filter_none (λ d. is_sync d.request) done run.asked in
     record {

@@ -69,16 +69,16 @@ placed_requests_from file (requests ∷ files) =
 abbrev pub HoldsAll : List (List Request) → List Done → Type 0
 HoldsAll files done = map placed_request_of done ≡ placed_requests_from 0 files
 
-abbrev pub IsFront : List Request → List Request → Type 0
-IsFront front requests = (rest : List Request) × (requests ≡ front ++ rest)
+abbrev pub IsPrefixOf : List Request → List Request → Type 0
+IsPrefixOf front requests = (rest : List Request) × (requests ≡ front ++ rest)
 
 -- `done` holds a prefix of each file's requests
 abbrev pub HoldsPrefixes : List (List Request) → List Done → Type 0
-HoldsPrefixes files done = (fronts : List (List Request)) × AllZip IsFront fronts files × HoldsAll fronts done
+HoldsPrefixes files done = (fronts : List (List Request)) × AllZip IsPrefixOf fronts files × HoldsAll fronts done
 
 -- the replies of a run over the files are those of one thread that starts with db after number `first` and executes
 -- the requests in their printed order
-pub record Replies (first limit : ℕ) (db : Database) (files : List (List Request)) (done : List Done) : Type 0 where
+pub record RepliesOfOneThread (first limit : ℕ) (db : Database) (files : List (List Request)) (done : List Done) : Type 0 where
   -- each request of the files' prefixes stands in `done` once
   pub held : HoldsPrefixes files done
   -- those that wrote have distinct numbers over `first`

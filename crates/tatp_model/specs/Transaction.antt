@@ -17,8 +17,8 @@ use Rattle.tatp_model.specs.Database.{Database, call_key}
 abbrev pub is_subscriber : ℕ → SubRow → Bool
 is_subscriber s_id r = r.s_id == s_id
 
-abbrev pub has_number : ℕ → SubRow → Bool
-has_number sub_nbr r = r.sub_nbr == sub_nbr
+abbrev pub has_phone : ℕ → SubRow → Bool
+has_phone sub_nbr r = r.sub_nbr == sub_nbr
 
 abbrev pub is_access : ℕ → ℕ → AccessRow → Bool
 is_access s_id ai_type r = (r.s_id == s_id) && (r.ai_type == ai_type)
@@ -92,8 +92,8 @@ outcome_of limit db (UpdateSubscriber s_id bit_1 sf_type data_a) =
     })
     else answers db Missing
 outcome_of limit db (UpdateLocation sub_nbr vlr) =
-    if list_any (has_number sub_nbr) db.subscribers
-    then changes (record db { subscribers = update_where (has_number sub_nbr) (λ r. record r { vlr = vlr }) db.subscribers })
+    if list_any (has_phone sub_nbr) db.subscribers
+    then changes (record db { subscribers = update_where (has_phone sub_nbr) (λ r. record r { vlr = vlr }) db.subscribers })
     else answers db Missing
 outcome_of limit db (InsertCall sub_nbr sf_type start_time end_time numberx) =
     option_map_or (λ r. insert_call limit db (record {
@@ -102,9 +102,9 @@ outcome_of limit db (InsertCall sub_nbr sf_type start_time end_time numberx) =
       start_time = start_time;
       end_time = end_time;
       numberx = numberx;
-    })) (find (has_number sub_nbr) db.subscribers) (answers db Missing)
+    })) (find (has_phone sub_nbr) db.subscribers) (answers db Missing)
 outcome_of limit db (DeleteCall sub_nbr sf_type start_time) =
-    option_map_or (λ r. delete_call db r.s_id sf_type start_time) (find (has_number sub_nbr) db.subscribers) (answers db Missing)
+    option_map_or (λ r. delete_call db r.s_id sf_type start_time) (find (has_phone sub_nbr) db.subscribers) (answers db Missing)
 outcome_of limit db Sync = answers db Durable
 
 abbrev pub reply_to : ℕ → Database → Request → Reply

@@ -6,7 +6,7 @@ ghost use Rattle.std.specs.List.{list_any};
 ghost use Rattle.std.specs.List.Sorted.{IsStrictlyIncreasing};
 ghost use Rattle.tatp_model.specs.Database.{call_key, IsCallRow};
 ghost use Rattle.tatp_model.specs.Numbers.{numbers_of};
-ghost use Rattle.tatp_model.specs.Transaction.{is_subscriber, has_number, is_access, is_facility, is_active_facility, is_call, forwards};
+ghost use Rattle.tatp_model.specs.Transaction.{is_subscriber, has_phone, is_access, is_facility, is_active_facility, is_call, forwards};
 
 use crate::access_row::AccessRow;
 use crate::call_row::CallRow;
@@ -39,7 +39,7 @@ pub(crate) fn has_facility(rows: &[FacRow], s_id: u64, sf_type: u64) -> bool
 
 /// Where the subscriber with this number stands.
 pub(crate) fn place_of_number(rows: &[SubRow], sub_nbr: u64) -> Option<usize>
-    ensures { result ≡ position (has_number sub_nbr) rows.now }
+    ensures { result ≡ position (has_phone sub_nbr) rows.now }
 {
     rows.iter().position(|r| r.sub_nbr == sub_nbr)
 }
@@ -61,7 +61,7 @@ pub(crate) fn place_of_facility(rows: &[FacRow], s_id: u64, sf_type: u64) -> Opt
 
 /// The subscriber with this number.
 pub(crate) fn numbered(rows: &[SubRow], sub_nbr: u64) -> Option<SubRow>
-    ensures { result ≡ find (has_number sub_nbr) rows.now }
+    ensures { result ≡ find (has_phone sub_nbr) rows.now }
 {
     rows.iter().find(|r| r.sub_nbr == sub_nbr).copied()
 }

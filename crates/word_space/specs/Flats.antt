@@ -1,7 +1,7 @@
 -- What contracts see of a `Flat`.
 use Rattle.std.specs.Prelude.{ℕ, List, [], None, length, refl}
 use Rattle.word_space.specs.declared.flat.Flat.{Flat}
-use Rattle.word_space.specs.Sights.{Sight, Fits, IsBelow}
+use Rattle.word_space.specs.Sights.{WordsSight, IsWellFormed, IsBelow}
 use Rattle.word_space.specs.Sound.{IsWideOrNoMemory}
 
 -- the array at rest
@@ -9,20 +9,20 @@ abbrev pub words_of : Flat → List ℕ
 words_of f = f.words.items
 
 -- what is seen of it as words
-abbrev pub sight_of : Flat → Sight
-sight_of f = record { count = length f.words.items; reads = f.reads; writes = f.writes; stopped = f.stopped }
+abbrev pub flat_sight : Flat → WordsSight
+flat_sight f = record { count = length f.words.items; reads = f.reads; writes = f.writes; stopped = f.stopped }
 
 -- nothing was read or written, and no Stop was answered
-abbrev pub fresh : List ℕ → Sight
+abbrev pub fresh : List ℕ → WordsSight
 fresh words = record { count = length words; reads = []; writes = []; stopped = None }
 
-pub flat_fits : (f : Flat) → Fits (sight_of f)
+pub flat_fits : (f : Flat) → IsWellFormed (flat_sight f)
 flat_fits f = record { count = f.sound.fits; writes = f.sound.list; inside = f.sound.inside }
 
 -- every list of reads that it makes agrees with its array
-pub flat_below : (f : Flat) → IsBelow (sight_of f) (words_of f)
+pub flat_below : (f : Flat) → IsBelow (flat_sight f) (words_of f)
 flat_below f = record { size = refl; agrees = f.sound.agrees }
 
 -- it answers no Stop but Wide and want of memory
-pub flat_stops : (f : Flat) → IsWideOrNoMemory (sight_of f).stopped
+pub flat_stops : (f : Flat) → IsWideOrNoMemory (flat_sight f).stopped
 flat_stops f = f.sound.stops

@@ -6,14 +6,14 @@ use Rattle.word_space.specs.declared.stop.Stop.{Stop}
 
 -- how many words there are; the reads made from the array below, each a place and the value found;
 -- the writes, which are pending; the last Stop answered
-pub record Sight : Type 0 where
+pub record WordsSight : Type 0 where
   pub count : ℕ
   pub reads : List (ℕ × ℕ)
   pub writes : List Write
   pub stopped : Option Stop
 
 -- what always holds of it
-pub record Fits (s : Sight) : Type 0 where
+pub record IsWellFormed (s : WordsSight) : Type 0 where
   pub count : s.count < 2 ^ 64
   pub writes : IsWriteList s.writes
   pub inside : All (λ w. w.at < s.count) s.writes
@@ -23,10 +23,10 @@ pub record Agrees (reads : List (ℕ × ℕ)) (array : List ℕ) : Type 0 where
   pub each : All (λ r. slice_index array r.0 ≡ r.1) reads
 
 -- this array may lie below: it has the right length and agrees with the reads made
-pub record IsBelow (s : Sight) (array : List ℕ) : Type 0 where
+pub record IsBelow (s : WordsSight) (array : List ℕ) : Type 0 where
   pub size : length array ≡ s.count
   pub agrees : Agrees s.reads array
 
 -- the words as they are seen where this array lies below: the writes are applied
-abbrev pub shown : Sight → List ℕ → List ℕ
+abbrev pub shown : WordsSight → List ℕ → List ℕ
 shown s array = overwritten s.writes array

@@ -3,8 +3,8 @@ use Rattle.std.specs.Prelude.{◌≡◌, ℕ, ◌-◌, Option, Some}
 use Rattle.word_space.specs.declared.flat.Flat.{Flat}
 use Rattle.word_space.specs.declared.stop.Stop.{Stop}
 use Rattle.word_space.specs.declared.stopping.Stopping.{Stopping}
-use Rattle.word_space.specs.Flats.{words_of, sight_of, flat_fits}
-use Rattle.word_space.specs.Sights.{Sight, Fits}
+use Rattle.word_space.specs.Flats.{words_of, flat_sight, flat_fits}
+use Rattle.word_space.specs.Sights.{WordsSight, IsWellFormed}
 use Rattle.word_space.specs.Sound.{IsWideOrNoMemory}
 
 abbrev pub flat_of : Stopping → Flat
@@ -19,14 +19,14 @@ abbrev pub planned_stop : Stopping → Stop
 planned_stop s = s.stop
 
 -- that of the array, but for the last Stop
-abbrev pub stopping_sight : Stopping → Sight
-stopping_sight s = record (sight_of s.flat) { stopped = s.stopped }
+abbrev pub stopping_sight : Stopping → WordsSight
+stopping_sight s = record (flat_sight s.flat) { stopped = s.stopped }
 
 -- the array at rest is the same
 abbrev pub HasSameWords : Stopping → Stopping → Type 0
 HasSameWords s t = words_of (flat_of t) ≡ words_of (flat_of s)
 
-pub stopping_fits : (s : Stopping) → Fits (stopping_sight s)
+pub stopping_fits : (s : Stopping) → IsWellFormed (stopping_sight s)
 stopping_fits s = let fits = flat_fits s.flat in record { count = fits.count; writes = fits.writes; inside = fits.inside }
 
 -- the planned Stop is answered, and only the last Stop is new

@@ -3,7 +3,7 @@
 ghost use Rattle.std.specs.Prelude.{◌≡◌, ℕ, ◌<◌, ◌≤◌, List, IfOk, OnOk};
 ghost use Rattle.word_space.specs.Callers.{IsAtPlace, IsFirst, exchanged};
 ghost use Rattle.word_space.specs.Sights.{IsBelow, shown};
-ghost use Rattle.word_space.specs.Steps.{GoesOn, Looked, Ran, stop_of};
+ghost use Rattle.word_space.specs.Steps.{GoesOn, Looked, RanOn, stop_of};
 
 use crate::stop::Stop;
 use crate::words::Words;
@@ -28,7 +28,7 @@ pub fn at_place<W: Words>(w: &mut W, at: u64) -> Result<Option<u64>, Stop>
 pub fn exchange<W: Words>(w: &mut W, i: u64, j: u64) -> Result<(), Stop>
     requires i_inside { i < (W.sight w.old).count }
     requires j_inside { j < (W.sight w.old).count }
-    ensures ran { Ran (stop_of result) (W.sight w.old) (W.sight w.new) }
+    ensures ran { RanOn (stop_of result) (W.sight w.old) (W.sight w.new) }
     ensures turns { GoesOn W.turns_into w.old w.new }
     ensures shown { OnOk result ((array : List ℕ) → IsBelow (W.sight w.new) array
         → shown (W.sight w.new) array ≡ exchanged (shown (W.sight w.old) array) i j) }

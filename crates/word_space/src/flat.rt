@@ -24,14 +24,14 @@ pub struct Flat {
 impl Flat {
     ghost use Rattle.std.specs.Prelude.{◌≡◌, ◌↔◌, [], None, IsTrue};
     ghost use Rattle.dude_base.specs.Writes.{overwritten, IsWide};
-    ghost use Rattle.word_space.specs.Flats.{words_of, sight_of, fresh};
+    ghost use Rattle.word_space.specs.Flats.{words_of, flat_sight, fresh};
     ghost use Rattle.word_space.specs.Sights.{IsBelow};
     ghost use Rattle.word_space.specs.Sound.{IsWideOrNoMemory};
 
     /// The array, with nothing read and nothing written yet.
     pub fn new(words: Vec<u64>) -> Self
         ensures words { words_of result ≡ words.items }
-        ensures fresh { sight_of result ≡ fresh words.items }
+        ensures fresh { flat_sight result ≡ fresh words.items }
     {
         let alloc = *words.allocator();
         Flat {
@@ -47,15 +47,15 @@ impl Flat {
         ensures words { result.now ≡ words_of self.now }
 
         // Every list of reads that it makes agrees with its array.
-        ensures below { IsBelow (sight_of self.now) (words_of self.now) }
-        ensures stops { IsWideOrNoMemory (sight_of self.now).stopped }
+        ensures below { IsBelow (flat_sight self.now) (words_of self.now) }
+        ensures stops { IsWideOrNoMemory (flat_sight self.now).stopped }
     {
         &self.words
     }
 
     /// Whether a write of the word `at` would be of a word too many.
     pub fn is_wide(&self, at: u64) -> bool
-        ensures { IsTrue result ↔ IsWide (sight_of self.now).writes at }
+        ensures { IsTrue result ↔ IsWide (flat_sight self.now).writes at }
     {
         self.writes.len() == MAX_WRITES && self.writes.find(at).is_none()
     }
@@ -63,9 +63,9 @@ impl Flat {
     /// The pending writes as the record of this number. They are applied to the array, and both lists
     /// are cleared.
     pub fn take(&mut self, number: u64) -> Redo
-        ensures record { result ≡ record { number = number; writes = (sight_of self.old).writes } }
-        ensures words { words_of self.new ≡ overwritten (sight_of self.old).writes (words_of self.old) }
-        ensures fresh { sight_of self.new ≡ fresh (words_of self.new) }
+        ensures record { result ≡ record { number = number; writes = (flat_sight self.old).writes } }
+        ensures words { words_of self.new ≡ overwritten (flat_sight self.old).writes (words_of self.old) }
+        ensures fresh { flat_sight self.new ≡ fresh (words_of self.new) }
     {
         let writes = mem::replace(&mut self.writes, WriteSet::new()).into_list();
         self.reads.clear();
@@ -77,7 +77,7 @@ impl Flat {
     /// Clears both lists; the pending writes are lost.
     pub fn forget(&mut self)
         ensures words { words_of self.new ≡ words_of self.old }
-        ensures fresh { sight_of self.new ≡ fresh (words_of self.old) }
+        ensures fresh { flat_sight self.new ≡ fresh (words_of self.old) }
     {
         self.writes = WriteSet::new();
         self.reads.clear();
@@ -95,9 +95,9 @@ impl Flat {
 impl Words for Flat {
     ghost use Rattle.std.specs.Prelude.{◌≡◌};
     ghost use Rattle.std.proofs.Common.{refl, ◌∙◌};
-    ghost use Rattle.word_space.specs.Flats.{words_of, sight_of, flat_fits};
+    ghost use Rattle.word_space.specs.Flats.{words_of, flat_sight, flat_fits};
 
-    ghost sight = { sight_of };
+    ghost sight = { flat_sight };
 
     ghost turns_into = { λ x y. words_of y ≡ words_of x };
 

@@ -18,7 +18,7 @@ pub struct Stopping {
 impl Stopping {
     ghost use Rattle.std.specs.Prelude.{◌≡◌, None};
     ghost use Rattle.word_space.specs.Stops.{IsNotWide};
-    ghost use Rattle.word_space.specs.Flats.{sight_of};
+    ghost use Rattle.word_space.specs.Flats.{flat_sight};
     ghost use Rattle.word_space.specs.Stoppings.{flat_of, calls_left, planned_stop, stopping_sight};
 
     /// The array, which answers `calls` calls itself before it stops. `stop` is no `Wide`, since that
@@ -26,7 +26,7 @@ impl Stopping {
     pub fn new(flat: Flat, calls: u64, stop: Stop) -> Self
         requires { IsNotWide stop }
         ensures flat { flat_of result ≡ flat }
-        ensures sight { stopping_sight result ≡ record (sight_of flat) { stopped = None } }
+        ensures sight { stopping_sight result ≡ record (flat_sight flat) { stopped = None } }
         ensures calls { calls_left result ≡ calls }
         ensures stop { planned_stop result ≡ stop }
     {
@@ -58,7 +58,7 @@ impl Words for Stopping {
     ghost use Rattle.std.proofs.Common.{refl, ◌∙◌};
     ghost use Rattle.dude_base.specs.Writes.{IsWide};
     ghost use Rattle.word_space.specs.Sights.{IsBelow, shown};
-    ghost use Rattle.word_space.specs.Steps.{Reads, Writes, GoesOn, stop_of};
+    ghost use Rattle.word_space.specs.Steps.{ReadsWord, WritesWord, GoesOn, stop_of};
     ghost use Rattle.word_space.specs.Stoppings.{calls_left, stopping_sight, stopping_fits, HasSameWords, Halts, Passes};
 
     ghost sight = { stopping_sight };
@@ -77,7 +77,7 @@ impl Words for Stopping {
 
     fn read(&mut self, at: u64) -> Result<u64, Stop>
         requires inside { at < (stopping_sight self.old).count }
-        ensures reads { Reads at result (stopping_sight self.old) (stopping_sight self.new) }
+        ensures reads { ReadsWord at result (stopping_sight self.old) (stopping_sight self.new) }
         ensures value { IfOk result (λ v. (array : List ℕ) → IsBelow (stopping_sight self.new) array
             → v ≡ slice_index (shown (stopping_sight self.old) array) at) }
         ensures turns { GoesOn HasSameWords self.old self.new }
@@ -100,7 +100,7 @@ impl Words for Stopping {
 
     fn write(&mut self, at: u64, value: u64) -> Result<(), Stop>
         requires inside { at < (stopping_sight self.old).count }
-        ensures writes { Writes at value result (stopping_sight self.old) (stopping_sight self.new) }
+        ensures writes { WritesWord at value result (stopping_sight self.old) (stopping_sight self.new) }
         ensures shown { OnOk result ((array : List ℕ) → shown (stopping_sight self.new) array
             ≡ slice_set (shown (stopping_sight self.old) array) at value) }
         ensures turns { GoesOn HasSameWords self.old self.new }

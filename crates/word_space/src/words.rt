@@ -1,6 +1,6 @@
 ghost use Rattle.std.specs.Prelude.{◌≡◌, ℕ, ◌<◌, IfOk, OnOk, List, slice_index, slice_set};
-ghost use Rattle.word_space.specs.Sights.{Sight, IsBelow, shown, Fits};
-ghost use Rattle.word_space.specs.Steps.{Reads, Writes, GoesOn};
+ghost use Rattle.word_space.specs.Sights.{WordsSight, IsBelow, shown, IsWellFormed};
+ghost use Rattle.word_space.specs.Steps.{ReadsWord, WritesWord, GoesOn};
 
 use crate::stop::Stop;
 
@@ -10,7 +10,7 @@ use crate::stop::Stop;
 /// from it, and the writes, which are pending. What is read or shown is said for each array that may
 /// lie below, that is, which agrees with the reads made.
 pub trait Words {
-    ghost sight: { Self → Sight };
+    ghost sight: { Self → WordsSight };
 
     // The one value may become the other by calls of this trait. It says what an implementation keeps
     // beside its sight, as the array of a `Flat`. Each call ensures it from entry to exit, in the form that
@@ -25,7 +25,7 @@ pub trait Words {
     /// array.
     fn read(&mut self, at: u64) -> Result<u64, Stop>
         requires inside { at < (sight self.old).count }
-        ensures reads { Reads at result (sight self.old) (sight self.new) }
+        ensures reads { ReadsWord at result (sight self.old) (sight self.new) }
         ensures value { IfOk result (λ v. (array : List ℕ) → IsBelow (sight self.new) array
             → v ≡ slice_index (shown (sight self.old) array) at) }
         ensures turns { GoesOn turns_into self.old self.new };
@@ -34,12 +34,12 @@ pub trait Words {
     /// different word.
     fn write(&mut self, at: u64, value: u64) -> Result<(), Stop>
         requires inside { at < (sight self.old).count }
-        ensures writes { Writes at value result (sight self.old) (sight self.new) }
+        ensures writes { WritesWord at value result (sight self.old) (sight self.new) }
         ensures shown { OnOk result ((array : List ℕ) → shown (sight self.new) array
             ≡ slice_set (shown (sight self.old) array) at value) }
         ensures turns { GoesOn turns_into self.old self.new };
 
-    ghost fits: { (x : Self) → Fits (sight x) };
+    ghost fits: { (x : Self) → IsWellFormed (sight x) };
 
     ghost begins: { (x : Self) → turns_into x x };
 

@@ -1,6 +1,6 @@
 use Rattle.std.proofs.Common.{◌+◌, ◌++◌, drop, refl}
 use Rattle.std.specs.List.{flat_map}
-use Rattle.dude_text.specs.Output.{line_of, last_line}
+use Rattle.dude_text.specs.Output.{output_line, last_line}
 use Rattle.dude_program.proofs.Prints.{printed_more, output_is, later_stops, err_map, last_stops}
 use Rattle.dude_program.proofs.printing.print.Goals as goal
 
@@ -9,7 +9,7 @@ loop-entry-preserved g c = printed_more c.args.done.now c.loop-entry.entry-index
 
 pub returns-in-Err-clause-err : goal.returns-in-Err-clause-err
 returns-in-Err-clause-err g c =
-    later_stops _ (flat_map line_of (drop (c.loop-entry.entry-index + 1) c.args.done.now) ++ last_line c.args.last) _
+    later_stops _ (flat_map output_line (drop (c.loop-entry.entry-index + 1) c.args.done.now) ++ last_line c.args.last) _
     (output_is c.args.done.now c.loop-entry.entry-index _ c.args.last c.loop-entry-test.true refl c.loop-entry.invariant) c.loop-entry.invariant.took c.in-Err.ensures.err
 
 pub returns-clause-err : goal.returns-clause-err

@@ -4,7 +4,7 @@ use Rattle.std.proofs.lemmas.List.Elements.{All-push}
 use Rattle.std.proofs.lemmas.List.{length_push}
 use Rattle.std.proofs.lemmas.Iterator.Consumers.{YieldsList-from_filter, YieldsList-at, YieldsList-turn, YieldsList-end}
 use Rattle.std.proofs.lemmas.Iterator.Splits.{YieldsList-from_slice_split}
-use Rattle.dude_text.specs.RequestFile.{lines_of, IsServed}
+use Rattle.dude_text.specs.RequestFile.{lines_of, IsServable}
 use Rattle.dude_text.proofs.Lines.{requests_of-bad_line, requests_of-long, requests_of-read, list_all-take_line, filter_map-take_line}
 use Rattle.dude_text.proofs.Served.{request_of-served}
 use Rattle.dude_text.proofs.request_file.read_requests.Goals as goal
@@ -56,7 +56,7 @@ loop-line-preserved c =
       few = omega (arith, c.in_ok-push.ensures.len);
       records = rw more (list_all-take_line lines i line request at some c.loop-line.invariant.records);
       read = rw (more, filter_map-take_line lines i line request at some, c.in_ok-push.ensures.items, c.loop-line.invariant.read) refl;
-      served = rw c.in_ok-push.ensures.items (All-push IsServed c.loop-line.requests.items request c.loop-line.invariant.served (request_of-served line request some));
+      served = rw c.in_ok-push.ensures.items (All-push IsServable c.loop-line.requests.items request c.loop-line.invariant.served (request_of-served line request some));
     }
 
 pub returns-clause-read : goal.returns-clause-read

@@ -1,6 +1,6 @@
 use Rattle.std.proofs.Common.{◌≡◌, ◌-◌, is_ok, false, refl, arith, rules}
-use Rattle.pmem_trait.specs.Sights.{Makes.none}
-use Rattle.pmem_trait.proofs.Runs.{makes_cut, makes_whole}
+use Rattle.pmem_trait.specs.Sights.{CallsMade.none}
+use Rattle.pmem_trait.proofs.Runs.{made_cut, made_whole}
 use Rattle.fresh_image.proofs.Loops.{flush_turn, length-lines}
 use Rattle.fresh_image.proofs.format.flush_contents.Goals as goal
 
@@ -10,7 +10,7 @@ loop-line-init g c = record { len = refl; made = none }
 pub returns-in_err-flush-clause-made : goal.returns-in_err-flush-clause-made
 returns-in_err-flush-clause-made g c =
     let err : is_ok c.from_residual.result ≡ false = search rules in
-    rw err (makes_cut _ _ (flush_turn c.args.sizes.now.subscribers c.loop-line.line {ok = false} (omega arith) (omega arith) c.loop-line.invariant.made c.in_err-flush.ensures))
+    rw err (made_cut _ _ (flush_turn c.args.sizes.now.subscribers c.loop-line.line {ok = false} (omega arith) (omega arith) c.loop-line.invariant.made c.in_err-flush.ensures))
 
 pub loop-line-preserved : goal.loop-line-preserved
 loop-line-preserved g c = record {
@@ -19,4 +19,4 @@ loop-line-preserved g c = record {
 }
 
 pub returns-clause-made : goal.returns-clause-made
-returns-clause-made g c = makes_whole _ (c.loop-line.line - 1) (omega (arith, length-lines c.args.sizes.now.subscribers)) c.loop-line.invariant.made
+returns-clause-made g c = made_whole _ (c.loop-line.line - 1) (omega (arith, length-lines c.args.sizes.now.subscribers)) c.loop-line.invariant.made

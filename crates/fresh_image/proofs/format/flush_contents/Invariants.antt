@@ -1,5 +1,5 @@
 use Rattle.std.proofs.Common.{◌≡◌, ◌-◌, take, true}
-use Rattle.pmem_trait.specs.Sights.{Makes}
+use Rattle.pmem_trait.specs.Sights.{CallsMade}
 use Rattle.pmem_trait.specs.Groups.{flush_lines}
 use Rattle.fresh_image.specs.FormatCalls.{content_lines}
 use Rattle.fresh_image.proofs.format.flush_contents.Given as goal
@@ -7,5 +7,5 @@ use Rattle.fresh_image.proofs.format.flush_contents.Given as goal
 abbrev pub invariant-loop-line : goal.invariant-loop-line
 invariant-loop-line g l = record {
   len : (g.M.Medium.sight l.m).len ≡ (g.M.Medium.sight l.initial.m).len;
-  made : Makes (take (l.line - 1) (flush_lines (content_lines l.sizes.subscribers))) true (g.M.Medium.sight l.initial.m) (g.M.Medium.sight l.m);
+  made : CallsMade (take (l.line - 1) (flush_lines (content_lines l.sizes.subscribers))) true (g.M.Medium.sight l.initial.m) (g.M.Medium.sight l.m);
 }

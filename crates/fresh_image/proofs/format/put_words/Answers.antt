@@ -1,6 +1,6 @@
 use Rattle.std.proofs.Common.{◌≡◌, is_ok, true, false, ◌-◌, refl, arith, rules}
-use Rattle.pmem_trait.specs.Sights.{Makes.none}
-use Rattle.pmem_trait.proofs.Runs.{makes_cut, makes_whole}
+use Rattle.pmem_trait.specs.Sights.{CallsMade.none}
+use Rattle.pmem_trait.proofs.Runs.{made_cut, made_whole}
 use Rattle.tatp_model.specs.Population.{population}
 use Rattle.fresh_image.specs.Rows.{home_words}
 use Rattle.fresh_image.proofs.RowWords.{length-home_words, length-population}
@@ -14,7 +14,7 @@ pub returns-in_err-put-clause-made : goal.returns-in_err-put-clause-made
 returns-in_err-put-clause-made g c =
     let err : is_ok c.from_residual.result ≡ false = search rules in
     let S = c.args.sizes.now.subscribers in
-    rw err (makes_cut _ _ (put_turn (home_words S (population S).subscribers) S c.loop-place.place c.initial_word.result {ok = false}
+    rw err (made_cut _ _ (put_turn (home_words S (population S).subscribers) S c.loop-place.place c.initial_word.result {ok = false}
     (length-home_words S (population S).subscribers (length-population S)) (omega arith) (omega arith) c.initial_word.ensures c.loop-place.invariant.made c.in_err-put.ensures))
 
 pub loop-place-preserved : goal.loop-place-preserved
@@ -29,4 +29,4 @@ loop-place-preserved g c =
 pub returns-clause-made : goal.returns-clause-made
 returns-clause-made g c =
     let S = c.args.sizes.now.subscribers in
-    makes_whole _ (c.loop-place.place - 16) (omega (arith, length-words (home_words S (population S).subscribers) S (length-home_words S (population S).subscribers (length-population S)))) c.loop-place.invariant.made
+    made_whole _ (c.loop-place.place - 16) (omega (arith, length-words (home_words S (population S).subscribers) S (length-home_words S (population S).subscribers (length-population S)))) c.loop-place.invariant.made

@@ -1,7 +1,7 @@
 use Rattle.std.proofs.Common.{◌≡◌, ◌/◌, true, arith, rules, subst}
 use Rattle.pmem_trait.proofs.ReadRuns.{reads_here, reads_then, read_alone, read_content, content_before}
 use Rattle.redo_record.specs.Cells.{line_of}
-use Rattle.log_ring.specs.Ring.{cell_at}
+use Rattle.dude_base.specs.Image.{cell_at}
 use Rattle.log_ring.specs.Scanning.{IsRecordAt}
 use Rattle.log_ring.proofs.RecordReads.{new_head}
 use Rattle.log_ring.proofs.ScanReads.{made_at_device}
@@ -19,7 +19,7 @@ returns-in_default-clause-torn g c line is =
     let on : line ≡ line_of c.args.place.now (cell_at c.args.ring c.args.cell) = omega (arith, at) in (
       on,
       λ told content holds. record {
-        head = new_head c.args.place.now c.args.above content (cell_at c.args.ring c.args.cell) c.cell-front.result c.in_ok-tag.tag (record { ring_is = c.requires.ring; place_is = c.requires.cell }) c.cell-front.ensures.place
+        head = new_head c.args.place.now c.args.above content (cell_at c.args.ring c.args.cell) c.cell-front.result c.in_ok-tag.tag (record { ring_is = c.requires.ring; slot_is = c.requires.cell }) c.cell-front.ensures.place
             (read_content c.cell-front.result (reads_here (g.M.Medium.sight c.args.m.now)) (omega arith) c.in_ok-tag.ensures.value told content holds) (omega arith) (omega arith);
         incomplete =
             let found = content_before {P = λ l. IsRecordAt c.args.place.now l (cell_at c.args.ring c.args.cell) c.in_ok-redo.field-0} {ok = true} (read_alone {ok = true} c.in_ok-tag.ensures.goes) c.in_ok-redo.ensures.record told content holds in

@@ -1,10 +1,10 @@
 use Rattle.std.proofs.Common.{◌≡◌, ◌+◌, ◌/◌, true, Err, refl, sym, ap, ◌∙◌, subst, arith, rules}
 use Rattle.pmem_trait.proofs.ReadRuns.{reads_here, reads_then, content_before}
-use Rattle.redo_record.specs.Cells.{Cell, IsCell, line_of}
+use Rattle.dude_base.specs.Image.{Cell, cell_at}
+use Rattle.redo_record.specs.Cells.{IsCell, line_of}
 use Rattle.redo_record.specs.Damage.{IsTorn, IsLeastLine}
 use Rattle.log_ring.specs.declared.scan_fault.ScanFault.TheVariants.{Damaged}
-use Rattle.log_ring.specs.Ring.{cell_at}
-use Rattle.log_ring.specs.Scanning.{IsSeen, Takes, KnowsBelow}
+use Rattle.log_ring.specs.Scanning.{IsSeen, TakesRecord, KnowsBelow}
 use Rattle.log_ring.proofs.ScanReads.{made_well, made_again}
 use Rattle.log_ring.proofs.ScanSteps.{knows_skip, knows_more, torn_first}
 use Rattle.log_ring.proofs.scanning.scan_ring.Goals.{in-Some+in_ok-take, in_default}
@@ -40,7 +40,7 @@ loop-cell-preserved g c = record {
   knows = λ told content holds before.
       let cell : Cell = cell_at c.args.ring c.loop-cell.cell in
       let cells : c.sizes-cell-end.result.cells ≡ c.args.place.now.cells = ap (λ s. s.cells) c.sizes-cell-end.ensures.sizes in
-      let is_cell : IsCell c.args.place.now cell = record { ring_is = c.requires.ring; place_is = omega arith } in
+      let is_cell : IsCell c.args.place.now cell = record { ring_is = c.requires.ring; slot_is = omega arith } in
       let known : KnowsBelow c.args.place.now c.args.above content (line_of c.args.place.now cell) c.loop-cell.found = c.loop-cell.invariant.knows told content holds before in
       let seen = content_before {P = λ l. IsSeen c.args.place.now c.args.above l cell c.in_ok-redo.field-0} {ok = true} c.loop-cell.invariant.reads c.in_ok-redo.ensures.seen told content holds in
       subst (λ n. KnowsBelow c.args.place.now c.args.above content n c.match-branch-2.found) (omega arith)
@@ -48,7 +48,7 @@ loop-cell-preserved g c = record {
         | in-Some+in_ok-take w ↦
             let head = subst (IsSeen c.args.place.now c.args.above content cell) w.in-Some.is seen in
             let line : w.cell.result / 8 ≡ line_of c.args.place.now cell = omega (arith, w.cell.ensures.place) in
-            let takes : Takes (line_of c.args.place.now cell) w.in-Some.redo c.loop-cell.found w.take.new.self = subst (λ l. Takes l w.in-Some.redo c.loop-cell.found w.take.new.self) line w.in_ok-take.ensures in
+            let takes : TakesRecord (line_of c.args.place.now cell) w.in-Some.redo c.loop-cell.found w.take.new.self = subst (λ l. TakesRecord l w.in-Some.redo c.loop-cell.found w.take.new.self) line w.in_ok-take.ensures in
             subst (KnowsBelow c.args.place.now c.args.above content (line_of c.args.place.now cell + 1)) (sym w.found-is)
             (knows_more c.args.place.now c.args.above content cell is_cell w.in-Some.redo c.loop-cell.found w.take.new.self head.0 head.1.0 head.1.1 known takes)
         | in_default w ↦

@@ -1,6 +1,6 @@
 use Rattle.std.proofs.Common.{◌≡◌, is_ok, false, arith, rules, refl}
-use Rattle.pmem_trait.specs.Sights.{Makes.none}
-use Rattle.pmem_trait.proofs.Runs.{makes_cut, makes_whole}
+use Rattle.pmem_trait.specs.Sights.{CallsMade.none}
+use Rattle.pmem_trait.proofs.Runs.{made_cut, made_whole}
 use Rattle.pmem_trait.proofs.GroupLists.{length-flush_lines, flushes_next}
 use Rattle.pmem_trait.proofs.group.flush_all.Goals as goal
 
@@ -13,7 +13,7 @@ flush-requires g c = omega (arith, c.requires c.loop-line.line-index 0 c.loop-li
 pub returns-in_err-flush-clause-made : goal.returns-in_err-flush-clause-made
 returns-in_err-flush-clause-made g c =
     let err : is_ok c.from_residual.result ≡ false = search rules in
-    rw err (makes_cut _ _ (flushes_next c.args.lines.now c.loop-line.line-index 0 _ {ok = false} c.loop-line-test.true refl c.loop-line.invariant.made c.in_err-flush.ensures))
+    rw err (made_cut _ _ (flushes_next c.args.lines.now c.loop-line.line-index 0 _ {ok = false} c.loop-line-test.true refl c.loop-line.invariant.made c.in_err-flush.ensures))
 
 pub loop-line-preserved : goal.loop-line-preserved
 loop-line-preserved g c = record {
@@ -22,4 +22,4 @@ loop-line-preserved g c = record {
 }
 
 pub returns-clause-made : goal.returns-clause-made
-returns-clause-made g c = makes_whole _ c.loop-line.line-index (omega (arith, length-flush_lines c.args.lines.now)) c.loop-line.invariant.made
+returns-clause-made g c = made_whole _ c.loop-line.line-index (omega (arith, length-flush_lines c.args.lines.now)) c.loop-line.invariant.made

@@ -1,6 +1,6 @@
 use Rattle.std.proofs.Common.{◌≡◌, is_ok, false, arith, rules, refl}
-use Rattle.pmem_trait.specs.Sights.{Makes.none}
-use Rattle.pmem_trait.proofs.Runs.{makes_cut, makes_whole}
+use Rattle.pmem_trait.specs.Sights.{CallsMade.none}
+use Rattle.pmem_trait.proofs.Runs.{made_cut, made_whole}
 use Rattle.pmem_trait.proofs.GroupLists.{length-put_pairs, puts_next}
 use Rattle.pmem_trait.proofs.group.put_all.Goals as goal
 
@@ -13,7 +13,7 @@ put-requires g c = omega (arith, c.requires c.loop-at.at-index (0, 0) c.loop-at-
 pub returns-in_err-put-clause-made : goal.returns-in_err-put-clause-made
 returns-in_err-put-clause-made g c =
     let err : is_ok c.from_residual.result ≡ false = search rules in
-    rw err (makes_cut _ _ (puts_next c.args.writes.now c.loop-at.at-index (0, 0) _ {ok = false} c.loop-at-test.true refl c.loop-at.invariant.made c.in_err-put.ensures))
+    rw err (made_cut _ _ (puts_next c.args.writes.now c.loop-at.at-index (0, 0) _ {ok = false} c.loop-at-test.true refl c.loop-at.invariant.made c.in_err-put.ensures))
 
 pub loop-at-preserved : goal.loop-at-preserved
 loop-at-preserved g c = record {
@@ -22,4 +22,4 @@ loop-at-preserved g c = record {
 }
 
 pub returns-clause-made : goal.returns-clause-made
-returns-clause-made g c = makes_whole _ c.loop-at.at-index (omega (arith, length-put_pairs c.args.writes.now)) c.loop-at.invariant.made
+returns-clause-made g c = made_whole _ c.loop-at.at-index (omega (arith, length-put_pairs c.args.writes.now)) c.loop-at.invariant.made

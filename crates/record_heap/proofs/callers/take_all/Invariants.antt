@@ -1,12 +1,12 @@
 use Rattle.std.proofs.Common.{None, ℕ, List, ◌≤◌, drop, length}
 use Rattle.word_space.specs.Sights.{IsBelow, shown}
-use Rattle.word_space.specs.Steps.{GoesOn, Ran}
+use Rattle.word_space.specs.Steps.{GoesOn, RanOn}
 use Rattle.record_heap.specs.Pool.{IsPool}
 use Rattle.record_heap.proofs.callers.take_all.Given as goal
 
 abbrev pub invariant-loop-number : goal.invariant-loop-number
 invariant-loop-number g l = record {
-  ran : Ran None (g.W.Words.sight l.initial.w) (g.W.Words.sight l.w);
+  ran : RanOn None (g.W.Words.sight l.initial.w) (g.W.Words.sight l.w);
   turns : GoesOn g.W.Words.turns_into l.initial.w l.w;
   took : (array : List ℕ) → IsBelow (g.W.Words.sight l.w) array → (free taken : List ℕ) → IsPool l.pool (shown (g.W.Words.sight l.initial.w) array) free taken →
       (l.number ≤ length free) × ((now_taken : List ℕ) × IsPool l.pool (shown (g.W.Words.sight l.w) array) (drop l.number free) now_taken);

@@ -7,7 +7,7 @@ use Rattle.pmem_fake.proofs.mem_pmem.MemPmem.images_at.Goals as goal
 
 pub returns-clause-allowed : goal.returns-clause-allowed
 returns-clause-allowed c =
-    let picked : IsPicked (sight c.args.self.now).len ((sight c.args.self.now).point c.args.moment) c.args.picks.now c.in_ok-image_after.field-0.items = grind (arith, common_steps) in
+    let picked : IsPicked (sight c.args.self.now).len ((sight c.args.self.now).state c.args.moment) c.args.picks.now c.in_ok-image_after.field-0.items = grind (arith, common_steps) in
     picked_allowed picked
 
 pub returns-then-moment-now-clause-every : goal.returns-then-moment-now-clause-every

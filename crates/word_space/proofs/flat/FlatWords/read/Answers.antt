@@ -1,14 +1,14 @@
 use Rattle.std.proofs.Common.{rules}
-use Rattle.word_space.specs.Flats.{sight_of}
+use Rattle.word_space.specs.Flats.{flat_sight}
 use Rattle.word_space.proofs.Meets.{value_read}
 use Rattle.word_space.proofs.flat.FlatWords.read.Goals as goal
 
 pub returns-in-Some-clause-value : goal.returns-in-Some-clause-value
 returns-in-Some-clause-value c =
-    let s = sight_of c.args.self.now in
+    let s = flat_sight c.args.self.now in
     value_read s s c.args.at c.in-Some.value c.requires.inside (search rules)
 
 pub returns-in-Ok-clause-value : goal.returns-in-Ok-clause-value
 returns-in-Ok-clause-value c =
-    let s = sight_of c.args.self.now in
+    let s = flat_sight c.args.self.now in
     value_read s (record s { reads = c.add.new.self }) c.args.at c.index-value.result.now c.requires.inside (search rules)

@@ -2,7 +2,7 @@ use Rattle.std.proofs.Common.{◌<◌, length, sym, subst, List, rules}
 use Rattle.dude_base.specs.declared.write.Write.{Write}
 use Rattle.dude_base.specs.Writes.{IsWide}
 use Rattle.dude_base.proofs.WriteLists.{All-put_write, IsWriteList-put_write}
-use Rattle.word_space.specs.Flats.{sight_of}
+use Rattle.word_space.specs.Flats.{flat_sight}
 use Rattle.word_space.specs.Sound.{IsSound}
 use Rattle.word_space.proofs.Meets.{shown_write}
 use Rattle.word_space.proofs.flat.FlatWords.write.Goals as goal
@@ -24,5 +24,5 @@ invariant_of-self c =
 
 pub returns-in-Ok-clause-shown : goal.returns-in-Ok-clause-shown
 returns-in-Ok-clause-shown c =
-    let s = sight_of c.args.self.now in
+    let s = flat_sight c.args.self.now in
     shown_write s (record s { writes = c.put.new.self }) c.args.at c.args.value (search rules)

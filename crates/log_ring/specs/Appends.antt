@@ -2,7 +2,7 @@
 use Rattle.std.specs.Prelude.{◌≡◌, ◌+◌, ◌<◌, true, false, List, length, Result, Ok, Err}
 use Rattle.dude_base.specs.Records.{RedoRecord}
 use Rattle.pmem_trait.specs.declared.call.Call.{Call}
-use Rattle.pmem_trait.specs.Sights.{Sight, Makes}
+use Rattle.pmem_trait.specs.Sights.{Sight, CallsMade}
 use Rattle.redo_record.specs.Record.{cells_for}
 use Rattle.redo_record.specs.Fits.{cells_used}
 use Rattle.log_ring.specs.Ring.{RingState}
@@ -10,10 +10,10 @@ use Rattle.log_ring.specs.declared.ring_fault.RingFault.{RingFault}
 use Rattle.log_ring.specs.declared.ring_fault.RingFault.TheVariants.{Full, Device}
 
 -- At Ok exactly these calls were made; at Device a front of them, whose last one failed; at Full none.
-abbrev pub CallsMade : Result (Unit {0}) RingFault → List Call → Sight → Sight → Type 0
-CallsMade (Ok done) calls s t = Makes calls true s t
-CallsMade (Err Device) calls s t = Makes calls false s t
-CallsMade (Err (Full used need)) calls s t = t ≡ s
+abbrev pub AppendCalls : Result (Unit {0}) RingFault → List Call → Sight → Sight → Type 0
+AppendCalls (Ok done) calls s t = CallsMade calls true s t
+AppendCalls (Err Device) calls s t = CallsMade calls false s t
+AppendCalls (Err (Full used need)) calls s t = t ≡ s
 
 -- the record needs more cells than are free
 abbrev pub IsOverfull : RingState → RedoRecord → Type 0
