@@ -202,7 +202,7 @@ format_rests S home p count settled =
 -- From a settled medium each image at each moment of the format has this: nothing was told yet, or the image recovers
 -- to 0 and these home words.
 pub format_images : {S len : ℕ} {home : List ℕ} {p : State} → 1 ≤ S → S ≤ 10000 → fresh_length S ≤ len → length home ≡ fresh_home_length S
-    → IsSettled p → AfterEachCall (EveryImage len (RecoversOnceTold p.told home)) p (format_calls S home)
+    → IsSettled p → AfterEachCall (EveryImage len (RecoversOnceTold S p.told home)) p (format_calls S home)
 unfolding format_calls
 format_images {S} {len} {home} {p} low high long count settled =
     after_each_then (group_law (magic_write 0) (λ image mix. inl refl) (0 ∷ []))

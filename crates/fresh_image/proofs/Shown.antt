@@ -12,9 +12,10 @@ use Rattle.redo_record.specs.Tags.{number_of}
 use Rattle.redo_record.specs.Cells.{word_place}
 use Rattle.redo_record.specs.Record.{record_of, writes_of}
 use Rattle.redo_record.specs.Images.{sizes_of, mark_of, home_of, tag_of, word_in_image, IsComplete, IsNewHead}
-use Rattle.redo_record.specs.Recovery.{IsFormatted, IsOverMark, Recovers}
+use Rattle.redo_record.specs.Recovery.{IsFormatted, IsOverMark}
 use Rattle.fresh_image.specs.Fresh.{fresh_pages, fresh_sizes, fresh_length, fresh_home_length, fresh_home_start, fresh_header}
 use Rattle.fresh_image.specs.Calls.{update_record}
+use Rattle.fresh_image.specs.Recovered.{RecoversHome}
 
 -- The header, the mark and the home words of an image.
 pub record Reads (subscribers mark : ℕ) (home image : List ℕ) : Type 0 where
@@ -82,8 +83,8 @@ module _ {S m : ℕ} {home image : List ℕ} (reads : Reads S m home image) wher
       subst Q (sym reads.mark_is) (subst P (sym reads_sizes) new)
 
   -- Where no head is over the mark, the image recovers to the mark and the home words.
-  pub recovers_rest : 1 ≤ S → S ≤ 10000 → m ≤ MAX_NUMBER → ((c : Cell) → IsNewHead (fresh_sizes S) m image c → ⊥) → Recovers 0 image m home
-  recovers_rest low high small none = record {
+  pub recovers_rest : 1 ≤ S → S ≤ 10000 → m ≤ MAX_NUMBER → ((c : Cell) → IsNewHead (fresh_sizes S) m image c → ⊥) → RecoversHome S image m home
+  recovers_rest low high small none = record { same_sizes = reads_sizes; recovered = record {
     formatted = reads_formatted low high;
     small = omega (arith, reads.mark_is);
     undamaged = record {
@@ -95,15 +96,15 @@ module _ {S m : ℕ} {home image : List ℕ} (reads : Reads S m home image) wher
     logged = λ k over upto. absurd (omega (arith, reads.mark_is));
     greatest = λ c new. absurd (none c (reads_head c new));
     result = let z : m - mark_of image ≡ 0 = omega (arith, reads.mark_is) in rw z (sym reads_home);
-  }
+  } }
 
   -- Where the one head over the mark has the record of the next number, with one write, the image recovers to that
   -- number, with the write in the home words.
   pub recovers_next : (head : Cell) (at value : ℕ) → 1 ≤ S → S ≤ 10000 → m + 1 ≤ MAX_NUMBER
       → IsNewHead (fresh_sizes S) m image head → IsComplete (fresh_sizes S) image head
       → record_of (word_in_image (fresh_sizes S) image head) ≡ update_record (m + 1) at value
-      → ((c : Cell) → IsNewHead (fresh_sizes S) m image c → c ≡ head) → Recovers 0 image (m + 1) (slice_set home at value)
-  recovers_next head at value low high small new complete is only = record {
+      → ((c : Cell) → IsNewHead (fresh_sizes S) m image c → c ≡ head) → RecoversHome S image (m + 1) (slice_set home at value)
+  recovers_next head at value low high small new complete is only = record { same_sizes = reads_sizes; recovered = record {
     formatted = reads_formatted low high;
     small = omega (arith, reads.mark_is);
     undamaged = record {
@@ -120,7 +121,7 @@ module _ {S m : ℕ} {home image : List ℕ} (reads : Reads S m home image) wher
     };
     greatest = λ c over e. omega (arith, number_of_head c (only c (reads_head c over)), reads.mark_is);
     result = let z : m + 1 - mark_of image ≡ 1 = omega (arith, reads.mark_is) in rw z (ap (λ (h : List ℕ). slice_set h at value) (sym reads_home));
-  }
+  } }
     where
       number_is : number_of (tag_of (sizes_of image) image head) ≡ m + 1
       number_is =

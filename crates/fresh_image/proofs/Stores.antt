@@ -14,7 +14,7 @@ use Rattle.tatp_model.specs.Transaction.{is_subscriber, reply_to, outcome_of, an
 use Rattle.tatp_model.proofs.Numbered.{IsNumbered, find_subscriber, find_subscriber-missing, update_location-at, update_location-missing}
 use Rattle.fresh_image.specs.Fresh.{fresh_home_length}
 use Rattle.fresh_image.specs.Rows.{home_words}
-use Rattle.fresh_image.specs.Store.{subscriber_with, subscribers_at}
+use Rattle.fresh_image.specs.Locations.{subscriber_with, subscribers_at}
 use Rattle.fresh_image.proofs.RowWords.{home_with_location}
 
 -- a function of the numbers, counted from one further on

@@ -21,7 +21,7 @@ use Rattle.redo_record.specs.Cells.{word_place}
 use Rattle.redo_record.specs.Record.{HoldComplete, record_of}
 use Rattle.redo_record.specs.Encoding.{IsEncodable, encoded}
 use Rattle.redo_record.specs.Images.{mark_of, tag_of, word_in_image, IsComplete, IsNewHead}
-use Rattle.redo_record.specs.Recovery.{Recovers}
+use Rattle.fresh_image.specs.Recovered.{RecoversHome}
 use Rattle.redo_record.specs.Calls.{append_calls}
 use Rattle.redo_record.specs.Fits.{Logged, IsSettledWord, FitsRing, settled_mark}
 use Rattle.redo_record.specs.AppendLaw.{CanAppend, logged_as, IsElsewhere, HeadsHold, Appended}
@@ -79,7 +79,7 @@ logged_update place number at value = logged_as (update_cell place) (update_reco
 held_shows : {S n len : ℕ} {home : List ℕ} {p : State} {told image : List ℕ} (place at value : ℕ) → 1 ≤ S → S ≤ 10000 → fresh_length S ≤ len
     → place < 16 → n + 1 ≤ MAX_NUMBER → AtRest S n home p → length image ≡ len
     → HeadsHold (fresh_sizes S) [] (update_cell place) (update_record (n + 1) at value) p told image
-    → Recovers 0 image n home ⊎ Recovers 0 image (n + 1) (slice_set home at value)
+    → RecoversHome S image n home ⊎ RecoversHome S image (n + 1) (slice_set home at value)
 held_shows {S} {n} {len} {home} {p} {told} {image} place at value low high long inside small rests size held =
     by (over_or_not n (tag_of s image head))
   where
@@ -110,7 +110,7 @@ held_shows {S} {n} {len} {home} {p} {told} {image} place at value low high long 
     known : (c : Cell) → IsNewHead s n image c → (c ≡ head) × (record_of (word_in_image s image c) ≡ update_record (n + 1) at value)
     known c new = elim (held.known c (ring_is c new) (at_mark c new)) [ inl none ↦ absurd none | inr is ↦ is ]
 
-    by : IsHeadOver n (tag_of s image head) ⊎ (IsHeadOver n (tag_of s image head) → ⊥) → Recovers 0 image n home ⊎ Recovers 0 image (n + 1) (slice_set home at value)
+    by : IsHeadOver n (tag_of s image head) ⊎ (IsHeadOver n (tag_of s image head) → ⊥) → RecoversHome S image n home ⊎ RecoversHome S image (n + 1) (slice_set home at value)
     by (inl over) =
         let new : IsNewHead s n image head = record { cell = record { ring_is = omega arith; slot_is = inside }; new = over } in
         inr (recovers_next reads head at value low high small new (held.complete head refl (at_mark head new)) (known head new).1 (λ c other. (known c other).0))
@@ -123,7 +123,7 @@ pub record Logs (place number at value : ℕ) (p : State) : Type 0 where
 -- An image that has the record of an update and no other head over its mark has the update.
 logged_shows : {S n : ℕ} {home next : List ℕ} {p : State} {image : List ℕ} (place at value : ℕ) → 1 ≤ S → S ≤ 10000 → place < 16 → n + 1 ≤ MAX_NUMBER
     → at < length home → RestsWith S n (logged_update place (n + 1) at value ∷ []) home p → Logs place (n + 1) at value p → Reads S n next image
-    → ((k : ℕ) → 16 ≤ k → k < 144 → MayHold (p.word k) (slice_index image k)) → Recovers 0 image (n + 1) (slice_set next at value)
+    → ((k : ℕ) → 16 ≤ k → k < 144 → MayHold (p.word k) (slice_index image k)) → RecoversHome S image (n + 1) (slice_set next at value)
 logged_shows {S} {n} {home} {next} {p} {image} place at value low high inside small below st logs reads may =
     recovers_next reads head at value low high small new complete (record_same same ∙ encoded_record r encodable) only
   where
@@ -196,7 +196,7 @@ apart k at ne = side (cases_order k at)
 
 -- Each image of a medium at rest recovers to its number and its home words.
 pub rest_images : {S n len : ℕ} {home : List ℕ} {p : State} → 1 ≤ S → S ≤ 10000 → fresh_length S ≤ len → n ≤ MAX_NUMBER → AtRest S n home p
-    → (image : List ℕ) → IsImage len p image → Recovers 0 image n home
+    → (image : List ℕ) → IsImage len p image → RecoversHome S image n home
 rest_images {S} {n} {len} {home} {p} low high long small rests image is =
     recovers_rest reads low high small none
   where
@@ -386,9 +386,9 @@ stands_appended {S} {n} {home} {p} {q} place at value small rests done = (
 -- The group of the home word: each image has the update.
 home_images : {S n len : ℕ} {home : List ℕ} {p : State} {image : List ℕ} (place at value : ℕ) → 1 ≤ S → S ≤ 10000 → fresh_length S ≤ len → place < 16
     → n + 1 ≤ MAX_NUMBER → at < length home → RestsWith S n (logged_update place (n + 1) at value ∷ []) home p → Logs place (n + 1) at value p
-    → OldOrNew len p (home_write at value) image → Recovers 0 image (n + 1) (slice_set home at value)
+    → OldOrNew len p (home_write at value) image → RecoversHome S image (n + 1) (slice_set home at value)
 home_images {S} {n} {len} {home} {p} {image} place at value low high long small number inside st logs mix =
-    subst (Recovers 0 image (n + 1)) (set-set_same home at _ value)
+    subst (RecoversHome S image (n + 1)) (set-set_same home at _ value)
     (logged_shows place at value low high small number inside st logs reads (λ k from below. may_stay (144 + at) (145 + at) mix within k (omega (arith, long)) (inl (omega arith))))
   where
     within : Within (144 + at) (145 + at) (home_write at value)
@@ -415,7 +415,7 @@ home_images {S} {n} {len} {home} {p} {image} place at value low high long small 
 -- The group of the mark: each image has the update.
 mark_images : {S n len : ℕ} {home : List ℕ} {p : State} {image : List ℕ} (place at value : ℕ) → 1 ≤ S → S ≤ 10000 → fresh_length S ≤ len → place < 16
     → n + 1 ≤ MAX_NUMBER → at < length home → slice_set home at value ≡ home → RestsWith S n (logged_update place (n + 1) at value ∷ []) home p → Logs place (n + 1) at value p
-    → OldOrNew len p (mark_write (n + 1)) image → Recovers 0 image (n + 1) home
+    → OldOrNew len p (mark_write (n + 1)) image → RecoversHome S image (n + 1) home
 mark_images {S} {n} {len} {home} {p} {image} place at value low high long small number inside same st logs mix =
     by_mark (either mix 8 n (omega (arith, long)) st.mark)
   where
@@ -454,8 +454,8 @@ mark_images {S} {n} {len} {home} {p} {image} place at value low high long small 
           | inr none_left ↦ absurd none_left
         ]
 
-    by_mark : (slice_index image 8 ≡ n) ⊎ IsIn (slice_index image 8) ((n + 1) ∷ []) → Recovers 0 image (n + 1) home
-    by_mark (inl is) = subst (Recovers 0 image (n + 1)) same (logged_shows place at value low high small number inside st logs (reads n is) may)
+    by_mark : (slice_index image 8 ≡ n) ⊎ IsIn (slice_index image 8) ((n + 1) ∷ []) → RecoversHome S image (n + 1) home
+    by_mark (inl is) = subst (RecoversHome S image (n + 1)) same (logged_shows place at value low high small number inside st logs (reads n is) may)
     by_mark (inr (inl is)) = recovers_rest (reads (n + 1) is) low high number none
     by_mark (inr (inr none_left)) = absurd none_left
 
@@ -508,13 +508,13 @@ module _ {S n : ℕ} {home : List ℕ} {p : State} (place at value : ℕ) (low :
   -- From a medium at rest each image at each moment of an update is as before it or as after it, and what it shows is at
   -- least every number told.
   pub update_images : {len : ℕ} (before : ℕ) → fresh_length S ≤ len → AtLeast before p.told n
-      → AfterEachCall (EveryImage len (RecoversToEither before n home (slice_set home at value))) p (update_calls S place (n + 1) at value)
+      → AfterEachCall (EveryImage len (RecoversToEither S before n home (slice_set home at value))) p (update_calls S place (n + 1) at value)
   unfolding update_calls reproduce_calls
   update_images {len} before long floor =
       after_each_then after_each_append (more (after_each_last after_each_append) (after_each_then after_each_home after_each_mark))
     where
       P : List ℕ → List ℕ → Type 0
-      P = RecoversToEither before n home (slice_set home at value)
+      P = RecoversToEither S before n home (slice_set home at value)
 
       held : (told image : List ℕ) → length image ≡ len → HeadsHold (fresh_sizes S) [] (update_cell place) (update_record (n + 1) at value) p told image → P told image
       held told image size h =

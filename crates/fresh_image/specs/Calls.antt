@@ -8,8 +8,8 @@ use Rattle.pmem_trait.specs.Groups.{group_calls}
 use Rattle.dude_base.specs.Records.{RedoRecord}
 use Rattle.dude_base.specs.Image.{Cell}
 use Rattle.redo_record.specs.Calls.{append_calls}
-use Rattle.redo_record.specs.Recovery.{Recovers}
 use Rattle.fresh_image.specs.Fresh.{AtRest, fresh_sizes, fresh_home_start}
+use Rattle.fresh_image.specs.Recovered.{RecoversHome}
 
 -- the record of an update
 abbrev pub update_record : ℕ → ℕ → ℕ → RedoRecord
@@ -40,13 +40,13 @@ abbrev pub AtLeast : ℕ → List ℕ → ℕ → Type 0
 AtLeast before told number = (x : ℕ) → IsIn x (drop before told) → x ≤ number
 
 -- The image recovers to this number and these home words, and nothing greater was told.
-abbrev pub RecoversToTold : ℕ → ℕ → List ℕ → List ℕ → List ℕ → Type 0
-RecoversToTold before number home told image = Recovers 0 image number home × AtLeast before told number
+abbrev pub RecoversToTold : ℕ → ℕ → ℕ → List ℕ → List ℕ → List ℕ → Type 0
+RecoversToTold subscribers before number home told image = RecoversHome subscribers image number home × AtLeast before told number
 
 -- the image is as before an update, or as after it
-abbrev pub RecoversToEither : ℕ → ℕ → List ℕ → List ℕ → List ℕ → List ℕ → Type 0
-RecoversToEither before number home next told image =
-    RecoversToTold before number home told image ⊎ RecoversToTold before (number + 1) next told image
+abbrev pub RecoversToEither : ℕ → ℕ → ℕ → List ℕ → List ℕ → List ℕ → List ℕ → Type 0
+RecoversToEither subscribers before number home next told image =
+    RecoversToTold subscribers before number home told image ⊎ RecoversToTold subscribers before (number + 1) next told image
 
 -- the medium rests before an update of this home word, and the numbers told are at most its number
 abbrev pub AtRestFor : ℕ → ℕ → ℕ → List ℕ → ℕ → State → Type 0

@@ -10,7 +10,7 @@ use Rattle.pmem_trait.specs.Words.{State}
 use Rattle.tatp_model.specs.Population.{population}
 use Rattle.fresh_image.specs.Fresh.{fresh_length, fresh_pages, AtRest}
 use Rattle.fresh_image.specs.Rows.{home_words}
-use Rattle.redo_record.specs.Recovery.{Recovers}
+use Rattle.fresh_image.specs.Recovered.{RecoversHome}
 
 -- the words of the sixteen cells
 unfoldable pub clear_cells : List ℕ
@@ -38,8 +38,9 @@ format_calls subscribers home =
     ++ (group_calls (header_writes subscribers) (0 ∷ []) ++ (group_calls (magic_write MAGIC) (0 ∷ []) ++ Tell 0 ∷ [])))
 
 -- nothing was told yet, or the image recovers to 0 and these home words
-abbrev pub RecoversOnceTold : List ℕ → List ℕ → List ℕ → List ℕ → Type 0
-RecoversOnceTold before home told image = (told ≡ before) ⊎ ((told ≡ before ++ 0 ∷ []) × Recovers 0 image 0 home)
+abbrev pub RecoversOnceTold : ℕ → List ℕ → List ℕ → List ℕ → List ℕ → Type 0
+RecoversOnceTold subscribers before home told image =
+    (told ≡ before) ⊎ ((told ≡ before ++ 0 ∷ []) × RecoversHome subscribers image 0 home)
 
 -- the medium rests at 0 with the population's home words, and 0 was told
 abbrev pub AtRestFormatted : ℕ → State → State → Type 0

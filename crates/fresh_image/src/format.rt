@@ -101,7 +101,7 @@ pub fn format_image<M: Medium>(m: &mut M, sizes: &ImageSizes) -> Result<(), Fail
     ensures len { (M.sight m.new).len ≡ (M.sight m.old).len }
     ensures made { CallsMade (format_calls sizes.now.subscribers (home_words sizes.now.subscribers (population sizes.now.subscribers).subscribers)) (is_ok result) (M.sight m.old) (M.sight m.new) }
     // From the moment that 0 is told on, each image recovers to 0 and the population.
-    ensures images { AtEveryMoment (RecoversOnceTold (state_now (M.sight m.old)).told (home_words sizes.now.subscribers (population sizes.now.subscribers).subscribers)) (M.sight m.old) (M.sight m.new) }
+    ensures images { AtEveryMoment (RecoversOnceTold sizes.now.subscribers (state_now (M.sight m.old)).told (home_words sizes.now.subscribers (population sizes.now.subscribers).subscribers)) (M.sight m.old) (M.sight m.new) }
     ensures rests { OnOk result (IsTrue (M.sight m.old).is_visible → AtRestFormatted sizes.now.subscribers (state_now (M.sight m.old)) (state_now (M.sight m.new))) }
 {
     make_format(m, sizes)

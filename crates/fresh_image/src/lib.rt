@@ -10,10 +10,10 @@ mod format;
 mod population;
 mod row;
 mod sizes;
-mod store;
+mod locations;
 mod update;
 
 pub use format::format_image;
 pub use sizes::ImageSizes;
-pub use store::Store;
+pub use locations::Locations;
 pub use update::log_update;

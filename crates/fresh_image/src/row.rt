@@ -1,6 +1,6 @@
 ghost use Rattle.std.specs.Prelude.{◌≡◌, ◌+◌, ◌%◌, ◌<◌, ◌≤◌, ◌^◌, map};
 ghost use Rattle.std.specs.List.{range_with_len};
-ghost use Rattle.fresh_image.specs.Store.{subscriber_with};
+ghost use Rattle.fresh_image.specs.Locations.{subscriber_with};
 
 use tatp_model::SubRow;
 

@@ -117,7 +117,7 @@ pub fn log_update<M: Medium>(
     // From a medium at rest each image at each moment is as before the update or as after it.
     ensures images { (before n : ℕ) (home : List ℕ) → n + 1 ≡ number
         → (IsTrue (M.sight m.old).is_visible → AtRestFor sizes.now.subscribers before n home at (state_now (M.sight m.old)))
-        → AtEveryMoment (RecoversToEither before n home (slice_set home at value)) (M.sight m.old) (M.sight m.new) }
+        → AtEveryMoment (RecoversToEither sizes.now.subscribers before n home (slice_set home at value)) (M.sight m.old) (M.sight m.new) }
     // At `Ok` the medium rests after the update, and its number was told.
     ensures rests { OnOk result ((n : ℕ) (home : List ℕ) → n + 1 ≡ number → at < length home → IsTrue (M.sight m.old).is_visible
         → AtRest sizes.now.subscribers n home (state_now (M.sight m.old))

@@ -30,8 +30,8 @@ made_again {X} {Y} r q fault s t u r_is q_is before made =
     by NoMemory made = reads_then before made
 
 -- at Device the count of faults rose
-pub made_cause : {X : Type 0} (r : Result X ScanFault) (s t : Sight) → ReadsMade r s t → IsErrOf r Device → Risen s.faults t.faults
-made_cause (Ok found) s t made is = absurd (search rules)
-made_cause (Err (Damaged line)) s t made is = absurd (search rules)
-made_cause (Err NoMemory) s t made is = absurd (search rules)
-made_cause (Err Device) s t made is = made_cause made.made
+pub read_cause : {X : Type 0} (r : Result X ScanFault) (s t : Sight) → ReadsMade r s t → IsErrOf r Device → Risen s.faults t.faults
+read_cause (Ok found) s t made is = absurd (search rules)
+read_cause (Err (Damaged line)) s t made is = absurd (search rules)
+read_cause (Err NoMemory) s t made is = absurd (search rules)
+read_cause (Err Device) s t made is = made_cause made.made

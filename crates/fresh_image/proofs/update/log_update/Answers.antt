@@ -12,9 +12,9 @@ use Rattle.fresh_image.proofs.update.log_update.Goals as goal
 -- each image of the calls of an update, from a medium at rest
 images_kept : (S next number at value : ℕ) {ok : Bool} {s t : Sight} → 1 ≤ S → S ≤ 10000 → fresh_length S ≤ s.len → next < 16 → number ≤ 281474976710655
     → CallsMade (update_calls S next number at value) ok s t → (before n : ℕ) (home : List ℕ) → n + 1 ≡ number
-    → (IsTrue s.is_visible → AtRestFor S before n home at (state_now s)) → AtEveryMoment (RecoversToEither before n home (slice_set home at value)) s t
+    → (IsTrue s.is_visible → AtRestFor S before n home at (state_now s)) → AtEveryMoment (RecoversToEither S before n home (slice_set home at value)) s t
 images_kept S next number at value {s = s} low high long inside small made before n home same from =
-    let P : ℕ → Type 0 = λ number. AfterEachCall (EveryImage s.len (RecoversToEither before n home (slice_set home at value))) (state_now s) (update_calls S next number at value) in
+    let P : ℕ → Type 0 = λ number. AfterEachCall (EveryImage s.len (RecoversToEither S before n home (slice_set home at value))) (state_now s) (update_calls S next number at value) in
     made_keep _ made (λ visible.
     let f = from visible in
     subst P same (update_images next at value low high inside (omega arith) f.0 f.1 before long f.2))

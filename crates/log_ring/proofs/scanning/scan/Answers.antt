@@ -7,7 +7,7 @@ use Rattle.redo_record.specs.Damage.{IsTorn, IsLeastLine}
 use Rattle.log_ring.specs.declared.scan_fault.ScanFault.TheVariants.{Damaged}
 use Rattle.log_ring.specs.Scan.{AreScanned}
 use Rattle.log_ring.specs.Scanning.{KnowsBelow}
-use Rattle.log_ring.proofs.ScanReads.{made_well, made_again, made_cause}
+use Rattle.log_ring.proofs.ScanReads.{made_well, made_again, read_cause}
 use Rattle.log_ring.proofs.ScanSteps.{knows_nothing}
 use Rattle.log_ring.proofs.ScanEnd.{damaged_second, scanned}
 use Rattle.log_ring.proofs.scanning.scan.Goals as goal
@@ -25,7 +25,7 @@ returns-in_err-scan_ring-clause-reads g c =
 
 pub returns-in_err-scan_ring-clause-cause : goal.returns-in_err-scan_ring-clause-cause
 returns-in_err-scan_ring-clause-cause g c =
-    made_cause c.from_residual.result _ _
+    read_cause c.from_residual.result _ _
     (made_again c.from_residual.result c.scan_ring.result c.in_err-scan_ring.field-0.0 (g.M.Medium.sight c.args.m.now) (g.M.Medium.sight c.loop-ring.m) (g.M.Medium.sight c.scan_ring.new.m) (search rules) c.in_err-scan_ring.was c.loop-ring.invariant.reads c.scan_ring.ensures.reads)
 
 pub returns-in_err-scan_ring-clause-damaged : goal.returns-in_err-scan_ring-clause-damaged
@@ -47,7 +47,7 @@ pub returns-clause-reads : goal.returns-clause-reads
 returns-clause-reads g c = made_well c.into_records.result c.into_records.ensures.fault c.loop-ring.invariant.reads
 
 pub returns-clause-cause : goal.returns-clause-cause
-returns-clause-cause g c = made_cause c.into_records.result _ _ (made_well c.into_records.result c.into_records.ensures.fault c.loop-ring.invariant.reads)
+returns-clause-cause g c = read_cause c.into_records.result _ _ (made_well c.into_records.result c.into_records.ensures.fault c.loop-ring.invariant.reads)
 
 pub returns-clause-records : goal.returns-clause-records
 returns-clause-records g c =

@@ -1,8 +1,8 @@
 use Rattle.std.proofs.Common.{ap, sym, arith}
 use Rattle.tatp_model.specs.Transaction.{Outcome}
-use Rattle.fresh_image.specs.Store.{subscriber_count}
+use Rattle.fresh_image.specs.Locations.{subscriber_count}
 use Rattle.fresh_image.proofs.Stores.{outcome_there, home_moved}
-use Rattle.fresh_image.proofs.store.Store.set_location.Goals as goal
+use Rattle.fresh_image.proofs.locations.Locations.set_location.Goals as goal
 
 pub returns-clause-after : goal.returns-clause-after
 returns-clause-after c limit =

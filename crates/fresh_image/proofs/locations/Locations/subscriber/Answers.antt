@@ -1,8 +1,8 @@
 use Rattle.std.proofs.Common.{◌∙◌, ap, arith}
 use Rattle.tatp_model.specs.declared.reply.Reply.TheVariants.{Subscriber}
-use Rattle.fresh_image.specs.Store.{subscriber_count}
+use Rattle.fresh_image.specs.Locations.{subscriber_count}
 use Rattle.fresh_image.proofs.Stores.{reply_there, reply_missing}
-use Rattle.fresh_image.proofs.store.Store.subscriber.Goals as goal
+use Rattle.fresh_image.proofs.locations.Locations.subscriber.Goals as goal
 
 pub returns-then-has : goal.returns-then-has
 returns-then-has c limit =

@@ -4,7 +4,7 @@ use Rattle.std.specs.Vec.{vec_len}
 use Rattle.tatp_model.specs.declared.sub_row.SubRow.{SubRow}
 use Rattle.tatp_model.specs.Database.{Database}
 use Rattle.tatp_model.specs.Population.{population, subscriber_at}
-use Rattle.fresh_image.specs.declared.store.Store.{Store}
+use Rattle.fresh_image.specs.declared.locations.Locations.{Locations}
 
 -- a subscriber of the population who is at another location
 abbrev pub subscriber_with : ℕ → ℕ → SubRow
@@ -16,9 +16,9 @@ subscribers_at s [] = []
 subscribers_at s (vlr ∷ vlrs) = subscriber_with s vlr ∷ subscribers_at (s + 1) vlrs
 
 -- how many subscribers there are
-abbrev pub subscriber_count : Store → ℕ
+abbrev pub subscriber_count : Locations → ℕ
 subscriber_count store = vec_len store.locations
 
 -- the four tables: the population's, with the locations of the store
-abbrev pub database_at : Store → Database
+abbrev pub database_at : Locations → Database
 database_at store = record (population (subscriber_count store)) { subscribers = subscribers_at 1 store.locations.items }

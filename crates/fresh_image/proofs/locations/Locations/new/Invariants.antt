@@ -1,7 +1,7 @@
 use Rattle.std.proofs.Common.{◌≡◌, ◌+◌, ◌-◌, map}
 use Rattle.std.specs.List.{range_with_len}
 use Rattle.std.specs.Vec.{vec_len}
-use Rattle.fresh_image.proofs.store.Store.new.Given as goal
+use Rattle.fresh_image.proofs.locations.Locations.new.Given as goal
 
 -- the first locations of the subscribers below s
 abbrev pub invariant-loop-s : goal.invariant-loop-s

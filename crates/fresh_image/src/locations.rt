@@ -10,23 +10,23 @@ use tatp_model::Reply;
 ///
 /// Only the locations are held; the other columns follow from the subscriber's number.
 #[derive(Drop)]
-pub struct Store {
+pub struct Locations {
     // the location of subscriber s is at index s - 1
     locations: Vec<u64>,
     ghost few: { vec_len locations ≤ 10000 },
 }
 
-impl Store {
+impl Locations {
     ghost use Rattle.std.specs.Prelude.{◌*◌, ◌-◌, ◌<◌, ◌↔◌, IsTrue, IfOk, IfSome, OnSome, MatchOption, slice_set};
     ghost use Rattle.tatp_model.specs.Population.{population};
     ghost use Rattle.tatp_model.specs.declared.reply.Reply.TheVariants.{Missing, Changed};
     ghost use Rattle.tatp_model.specs.declared.request.Request.TheVariants.{GetSubscriber, UpdateLocation};
     ghost use Rattle.tatp_model.specs.Transaction.{answers, outcome_of, reply_to, after_request};
     ghost use Rattle.fresh_image.specs.Rows.{home_words};
-    ghost use Rattle.fresh_image.specs.Store.{subscriber_count, database_at};
+    ghost use Rattle.fresh_image.specs.Locations.{subscriber_count, database_at};
 
     /// The population of an image of these sizes.
-    pub fn new(alloc: Global, sizes: &ImageSizes) -> Result<Store, AllocError>
+    pub fn new(alloc: Global, sizes: &ImageSizes) -> Result<Locations, AllocError>
         ensures count { IfOk result (λ store. subscriber_count store ≡ sizes.now.subscribers) }
         ensures population { IfOk result (λ store. database_at store ≡ population sizes.now.subscribers) }
     {
@@ -34,7 +34,7 @@ impl Store {
         for s in 1..sizes.subscribers + 1 {
             locations.push(1_000_000 + s)?;
         }
-        Ok(Store { locations })
+        Ok(Locations { locations })
     }
 
     /// The reply to `GET_SUBSCRIBER_DATA`.
@@ -96,7 +96,7 @@ mod tests {
 
     #[test]
     fn a_subscriber_moves(rt: HostRuntime) -> Result<(), Fail> {
-        let mut store = Store::new(rt.alloc(), &ImageSizes::new(3))?;
+        let mut store = Locations::new(rt.alloc(), &ImageSizes::new(3))?;
         assert_eq!(rt; store.location_of(0), None);
         assert_eq!(rt; store.location_of(3), Some(22));
         assert_eq!(rt; store.location_of(4), None);

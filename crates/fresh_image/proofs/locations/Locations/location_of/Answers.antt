@@ -1,8 +1,8 @@
 use Rattle.std.proofs.Common.{ap, arith}
 use Rattle.tatp_model.specs.Transaction.{Outcome}
-use Rattle.fresh_image.specs.Store.{subscriber_count}
+use Rattle.fresh_image.specs.Locations.{subscriber_count}
 use Rattle.fresh_image.proofs.Stores.{outcome_there, outcome_missing}
-use Rattle.fresh_image.proofs.store.Store.location_of.Goals as goal
+use Rattle.fresh_image.proofs.locations.Locations.location_of.Goals as goal
 
 pub returns-then-has-clause-reply : goal.returns-then-has-clause-reply
 returns-then-has-clause-reply c limit vlr =
