@@ -3,7 +3,7 @@
 # nothing, and the must-fail edits. Prints the rows of the table in docs/GATE.md. Works on a copy, one step at a time.
 #
 #     bench/gate.sh [CRATE..]     these crates, or all in crates.txt
-set -eu
+set -euo pipefail
 top=$(cd "$(dirname "$0")/.." && pwd)
 [ $# -gt 0 ] || set -- $(sed -n 's/^\([a-z0-9_]*\)\b[^:]*:.*/\1/p' "$top/crates.txt")
 room=$(mktemp -d)
@@ -34,4 +34,5 @@ for crate in "$@"; do
     edits=$(seconds rt must-fail "$crate")
   fi
   echo "| \`$crate\` | $check | $tests | $edits | $count |"
-done
+done | awk -F ' *[|] *' '{ print; fflush(); for (i = 3; i <= 6; i++) sum[i] += $i }
+  END { print "| all | " sum[3] " | " sum[4] " | " sum[5] " | " sum[6] " |" }'
