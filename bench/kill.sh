@@ -34,7 +34,7 @@ while [ "$kills" -lt "$most" ] && [ "$SECONDS" -lt "$limit" ]; do
   # Below a second, and early moments more often.
   moment=$(awk -v a="$RANDOM" 'BEGIN { u = (a + 1) / 32769; printf "%.5f", u * u }')
   status=0
-  timeout --foreground -s KILL "$moment" "$program" "$image" fresh 1000 "$folder/requests.csv" \
+  timeout --foreground --preserve-status -s KILL "$moment" "$program" "$image" fresh 1000 "$folder/requests.csv" \
     > "$folder/replies" 2> "$folder/told" || status=$?
   [ "$status" -eq 0 ] || [ "$status" -eq 137 ] || wrong "the run ended with $status"
   [ "$status" -eq 0 ] || kills=$((kills + 1))
@@ -54,6 +54,6 @@ while [ "$kills" -lt "$most" ] && [ "$SECONDS" -lt "$limit" ]; do
   [ "$told" -le "$furthest" ] || furthest=$told
 done
 rm -rf "$folder"
-echo "$kills of $runs runs were killed, in $SECONDS s: $unmade before the image was there, $untold more before durable 0"
-echo "after each other kill the image recovered to at least the last number printed, and at most $ahead over it"
-echo "the longest run had printed durable $furthest when it was killed"
+echo "$kills of $runs runs were killed, in $SECONDS s: $unmade ended before the image was there, $untold more before durable 0"
+echo "after each other one the image recovered to at least the last number printed, and at most $ahead over it"
+echo "the greatest number printed by then was $furthest"
