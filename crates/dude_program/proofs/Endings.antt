@@ -1,262 +1,294 @@
 -- How a command ended, case by case.
-use Rattle.std.proofs.Common.{◌≡◌, ℕ, ◌<◌, ◌≤◌, IsTrue, List, [], ◌∷◌, ◌++◌, length, take, refl, sym, ◌∙◌, ap, subst, arith, inl, inr, ◌⊎◌, Option, Some, None, append-nil}
-use Rattle.std.specs.Prelude.{◌↔◌, IsSome}
+use Rattle.std.proofs.Common.{◌≡◌, ℕ, ◌<◌, ◌≤◌, IsTrue, List, [], ◌∷◌, ◌++◌, length, take, false, refl, sym, ◌∙◌, ap, subst, arith, inl, inr, ◌⊎◌, Option, Some, None}
+use Rattle.std.specs.List.{All}
+use Rattle.std.proofs.lemmas.List.Elements.{All-nil}
 use Rattle.std.proofs.Math.Seq.{drop-length, take-append_seam}
 use Rattle.pmem_trait.specs.Sights.{Sight, state_now, Risen}
 use Rattle.pmem_trait.proofs.Laws.{every_moment_here}
 use Rattle.tatp_model.specs.declared.done.Done.{Done}
 use Rattle.tatp_model.specs.declared.request.Request.{Request}
-use Rattle.dude_text.specs.declared.fault.Fault.{Fault}
-use Rattle.dude_text.specs.declared.fault.Fault.TheVariants.{Usage, File, Text, Small, TooFew, Unformatted, Damaged, NotDb, ManyFiles, Frames, FewSubscribers, Numbers, Device, Output, Memory}
-use Rattle.dude_text.specs.Command.{Meaning, Meaning.FreshRun}
+use Rattle.tatp_model.specs.OneThread.{is_sync}
 use Rattle.dude_text.specs.Output.{output_of}
 use Rattle.dude_io.specs.Files.{FilesSight, FilesStay}
 use Rattle.dude_io.specs.Sink.{SinkSight, Took}
+use Rattle.dude_io.proofs.ReadLaws.{files_stay}
 use Rattle.fresh_image.specs.Fresh.{fresh_length}
-use Rattle.dude_program.specs.Opening.{FilesMean, HasBadFile}
-use Rattle.dude_program.specs.Headline.{Replies, Crash, End, RecoversSince, last_of}
-use Rattle.dude_program.specs.Plans.{IsPlan, HasPlanFault}
-use Rattle.dude_program.specs.Outcome.{CarriesOut, RanUnlessDevice}
+use Rattle.dude_program.specs.declared.fault.Fault.{Fault}
+use Rattle.dude_program.specs.declared.fault.Fault.TheVariants.{Usage, File, Text, Small, TooFew, Unformatted, Damaged, NotDb, ManyFiles, Frames, FewSubscribers, Numbers, Device, Output, Memory}
+use Rattle.dude_program.specs.Command.{Meaning, Meaning.FreshRun}
+use Rattle.dude_program.specs.World.{World, world_of}
+use Rattle.dude_program.specs.Opening.{Opening, OfFile, fresh_opening}
+use Rattle.dude_program.specs.Headline.{Replies, Crash, Sync, AllDone, TookAll, TookPrefix, Printed, Headline, RecoversSince}
+use Rattle.dude_program.specs.Requests.{IsGoodFile, IsBadFile, HasFileFault}
+use Rattle.dude_program.specs.Outcome.{DidAll, ServesFresh}
 use Rattle.dude_program.specs.Printing.{StopsIn, PrintsOutcome}
-use Rattle.dude_program.specs.Causes.{world_of, words_needed, HasCause, StoppedAtFiles, MissesFile, RefusesMissing, RefusesBadFile, RefusesSmall, SucceedsIfGood, OnAllDone, AllDone, EndsDone, OnRefusal, Bytes}
+use Rattle.dude_program.specs.Causes.{words_needed, MissesFile, HasBadFile, IsGood, HasCause, StoppedReading, StoppedAtFiles, Untouched, RanUnlessDevice, Causes}
 use Rattle.dude_program.specs.Ending.{Ends}
 use Rattle.dude_program.proofs.Runs.{going_none, serves_front}
+use Rattle.dude_program.proofs.Openings.{opening_lawful}
 use Rattle.dude_program.proofs.Outcomes.{calls_none}
+use Rattle.dude_program.proofs.Told.{told_none}
 
--- a good file isn't bad
-good_not_bad : (own : Meaning) (files : FilesSight) (requests : List (List Request)) → FilesMean own files requests → HasBadFile own files → ⊥
-good_not_bad (FreshRun S file) files requests good bad =
-    let e = good.1.1 in let f = good.1.2 in let g = bad.1 in let h = bad.2 in let no : ⊥ = cc in no
+-- a file is of one kind: it isn't there, it is bad, or it holds requests
+missing_not_bad : (files : FilesSight) (name : List ℕ) → files.text name ≡ None → IsBadFile files name → ⊥
+missing_not_bad files name misses bad = let e = bad.1 in let no : ⊥ = cc in no
 
--- a file that isn't there is neither good nor bad
-good_not_missing : (own : Meaning) (files : FilesSight) (requests : List (List Request)) → FilesMean own files requests → MissesFile own files → ⊥
-good_not_missing (FreshRun S file) files requests good misses = let e = good.1.1 in let no : ⊥ = cc in no
+good_not_bad : (files : FilesSight) (name : List ℕ) → IsGoodFile files name → IsBadFile files name → ⊥
+good_not_bad files name good bad =
+    let e = good.2 in let f = good.3 in let g = bad.1 in let h = bad.2 in let no : ⊥ = cc in no
 
-bad_not_missing : (own : Meaning) (files : FilesSight) → HasBadFile own files → MissesFile own files → ⊥
-bad_not_missing (FreshRun S file) files bad misses = let e = bad.1 in let no : ⊥ = cc in no
+good_not_missing : (files : FilesSight) (name : List ℕ) → IsGoodFile files name → files.text name ≡ None → ⊥
+good_not_missing files name good misses = let e = good.2 in let no : ⊥ = cc in no
 
--- nothing is done
-crash_nothing : (own : Meaning) (s : Sight) → Crash own [] s s
-crash_nothing own s = record {
-  order = [];
-  printed = (serves_front (going_none 1) ([], refl)).1;
-  keeps = every_moment_here (RecoversSince (length (state_now s).told) own []) (λ visible. record { each = λ image is. inl (drop-length (state_now s).told) });
-}
+-- where the files tell, these requests are the file's
+is_good : (files : FilesSight) (name : List ℕ) (requests : List Request) → OfFile files name requests → IsTrue files.is_visible → IsGoodFile files name
+is_good files name requests of visible = (of.0, requests, of.2 visible, of.1)
 
--- what is known alike where words or files were refused
-refused : {meaning : Option Meaning} {s : Sight} {f g : FilesSight} {k : SinkSight} (fault : Fault) → FilesStay f g
-    → ((own : Meaning) → meaning ≡ Some own → Bytes own [] (world_of s f k) (world_of s g k) (Some fault))
-    → OnAllDone (Some fault) (AllDone meaning (world_of s f k) []) → OnAllDone (Some fault) (EndsDone meaning (world_of s f k) (world_of s g k) [])
-    → HasCause meaning (world_of s f k) (world_of s g k) (Some fault) → (◌≡◌ {A = Option Fault} (Some fault) (Some Usage)) ↔ (meaning ≡ None)
-    → RefusesBadFile meaning (world_of s f k) (Some fault) → RefusesSmall meaning (world_of s f k) (Some fault)
-    → SucceedsIfGood meaning (world_of s f k) (world_of s g k) (Some fault)
-    → (◌≡◌ {A = Option Fault} (Some fault) (Some Device) → ⊥)
-    → (meaning ≡ None → g ≡ f) → RefusesMissing meaning (world_of s f k) (Some fault)
-    → Ends meaning (world_of s f k) (world_of s g k) [] (Some fault)
-refused {meaning} {s} {f} {g} {k} fault files bytes all end cause usage bad_file too_small complete other unread missing = record {
-  replies = λ own is. inl refl;
-  all = all;
-  crash = λ own is. crash_nothing own s;
-  bytes = bytes;
-  end = end;
+-- what is said of every meaning of the words, of the one that they have
+of_own : (P : Meaning → Type 0) {own other : Meaning} → ◌≡◌ {A = Option Meaning} (Some own) (Some other) → P own → P other
+of_own P {own} {other} is h = let same : own ≡ other = cc in subst P same h
+
+back_to_own : (P : Meaning → Type 0) {own other : Meaning} → ◌≡◌ {A = Option Meaning} (Some own) (Some other) → P other → P own
+back_to_own P {own} {other} is h = let same : other ≡ own = cc in subst P same h
+
+-- the causes, where the words mean a command
+causes_of : {own : Meaning} {old new : World} {done : List Done} {fault : Option Fault} → HasCause (Some own) old new fault → (fault ≡ Some Usage → ⊥)
+    → (IsTrue old.files.is_visible → MissesFile own old.files → StoppedReading fault) → (IsTrue old.files.is_visible → HasBadFile own old.files → StoppedAtFiles fault)
+    → (old.medium.len < words_needed own → (fault ≡ Some (Small old.medium.len (words_needed own))) ⊎ StoppedAtFiles fault)
+    → (IsGood own old → (Risen old.medium.faults new.medium.faults → ⊥) → (Risen old.files.faults new.files.faults → ⊥) → (Risen old.sink.faults new.sink.faults → ⊥)
+    → (fault ≡ None) ⊎ (fault ≡ Some Memory))
+    → Untouched fault old.medium new.medium done → RanUnlessDevice fault old.medium new.medium → FilesStay old.files new.files → Causes (Some own) old new done fault
+causes_of {own} {old} {new} {done} {fault} cause other missing bad small good untouched ran files = record {
   cause = cause;
-  usage = usage;
-  refused_words = λ none. (refl, unread none, refl);
-  missing = missing;
-  bad_file = bad_file;
-  too_small = too_small;
-  complete = complete;
-  untouched = λ low high. (refl, refl);
-  ran = calls_none s other;
+  usage = (λ is. absurd (other is), λ none. absurd (let no : ⊥ = cc in no));
+  refused_words = λ none. absurd (let no : ⊥ = cc in no);
+  missing = λ it is visible misses. missing visible (back_to_own (λ (m : Meaning). MissesFile m old.files) is misses);
+  bad_file = λ it is visible file. bad visible (back_to_own (λ (m : Meaning). HasBadFile m old.files) is file);
+  too_small = λ it is short. of_own (λ (m : Meaning). (fault ≡ Some (Small old.medium.len (words_needed m))) ⊎ StoppedAtFiles fault) is
+      (small (back_to_own (λ (m : Meaning). old.medium.len < words_needed m) is short));
+  complete = λ it is accepted a b c. good (back_to_own (λ (m : Meaning). IsGood m old) is accepted) a b c;
+  untouched = untouched;
+  ran = ran;
   files = files;
 }
 
--- words that mean something don't mean nothing
-means : (meaning : Option Meaning) → IsSome meaning → meaning ≡ None → ⊥
-means None some none = let no : ⊥ = cc in no
-means (Some own) some none = let no : ⊥ = cc in no
+-- a run without `SYNC` has nothing to show for them
+sync_none : (done : List Done) (s t : Sight) → All (λ d. is_sync d.request ≡ false) done → Sync done s t
+sync_none done s t none = record {
+  over_earlier = λ i j d before below same sync. absurd (let e = none j d below in let no : ⊥ = cc in no);
+  told = λ visible k d below sync. absurd (let e = none k d below in let no : ⊥ = cc in no);
+}
 
--- Another fault than `Usage` comes where the words mean something.
-not_usage : {meaning : Option Meaning} (fault : Option Fault) → (fault ≡ Some Usage → ⊥) → IsSome meaning → (fault ≡ Some Usage) ↔ (meaning ≡ None)
-not_usage {meaning} fault other some = (λ is. absurd (other is), λ none. absurd (means meaning some none))
+-- The headline where nothing is done, and neither the medium nor the sink was called.
+headline_none : (S : ℕ) (file : List ℕ) {s : Sight} {f g : FilesSight} {k : SinkSight} (fault : Fault) → Printed (FreshRun S file) (world_of s f k) (world_of s g k) [] (Some fault)
+    → Headline (FreshRun S file) (world_of s f k) (world_of s g k) [] (Some fault)
+headline_none S file {s} fault printed = record {
+  replies = inl refl;
+  crash = λ opening is. record {
+    order = [];
+    printed = (serves_front (going_none 1) ([], refl)).1;
+    keeps = every_moment_here (RecoversSince (FreshRun S file) (length (state_now s).told) opening []) (λ visible. record { each = λ image is. inl (refl, drop-length (state_now s).told) });
+    first_told = λ visible. told_none opening.number s s refl;
+  };
+  sync = sync_none [] s s (All-nil (λ d. is_sync d.request ≡ false));
+  printed = printed;
+  only_read = λ none. absurd (none (fresh_opening S) refl);
+}
 
--- The words or the files were refused.
-pub ends_refused : {meaning : Option Meaning} {s : Sight} {f g : FilesSight} {k : SinkSight} (fault : Fault) → FilesStay f g → HasPlanFault meaning f g fault
-    → Ends meaning (world_of s f k) (world_of s g k) [] (Some fault)
-ends_refused {meaning} Usage files h =
-    let none = h.0 in
-    refused Usage files (λ own is. refl) tt tt none (λ _. none, λ _. refl)
-    (λ own is visible bad. absurd (let no : ⊥ = cc in no)) (λ own is short. absurd (let no : ⊥ = cc in no))
-    (λ own requests is visible good long a b c. absurd (let no : ⊥ = cc in no)) (λ e. let no : ⊥ = cc in no)
-    (λ _. h.1) (λ own is visible misses. absurd (let no : ⊥ = cc in no))
-ends_refused (File n) files h =
-    let one : ◌≡◌ {A = Option Fault} (Some (File n)) (Some (File 1)) = ap (λ (k : ℕ). let o : Option Fault = Some (File k) in o) h.1 in
-    refused (File n) files (λ own is. refl) tt tt (h.1, h.2) (not_usage (Some (File n)) (λ e. let no : ⊥ = cc in no) h.0)
-    (λ own is visible bad. inr (inl one)) (λ own is short. inr (inr (inl one)))
-    (λ own requests is visible good long a b c. absurd (b h.2)) (λ e. let no : ⊥ = cc in no)
-    (λ none. absurd (means _ h.0 none)) (λ own is visible misses. inl one)
-ends_refused {meaning} {f = f} (Text n r c) files h =
-    let same : ◌≡◌ {A = Option Fault} (Some (Text n r c)) (Some (Text 1 0 0)) = text_is h.1 h.2 h.3 in
-    refused (Text n r c) files (λ own is. refl) tt tt (h.1, h.2, h.3, h.4) (not_usage (Some (Text n r c)) (λ e. let no : ⊥ = cc in no) h.0)
-    (λ own is visible bad. inl same) (λ own is short. inr (inl same))
-    (λ own requests is visible good long x y z. absurd (contradicts own requests is good (h.4 visible))) (λ e. let no : ⊥ = cc in no)
-    (λ none. absurd (means _ h.0 none)) (λ own is visible misses. absurd (bad_not_missing own f (is_bad own is (h.4 visible)) misses))
-  where
-    text_is : {n r c : ℕ} → n ≡ 1 → r ≡ 0 → c ≡ 0 → ◌≡◌ {A = Option Fault} (Some (Text n r c)) (Some (Text 1 0 0))
-    text_is a b d = cc
+-- The words were refused.
+pub ends_usage : (s : Sight) (f : FilesSight) (k : SinkSight) → Causes None (world_of s f k) (world_of s f k) [] (Some Usage)
+ends_usage s f k = record {
+  cause = refl;
+  usage = (λ _. refl, λ _. refl);
+  refused_words = λ _. (refl, refl, refl);
+  missing = λ own is visible misses. absurd (let no : ⊥ = cc in no);
+  bad_file = λ own is visible bad. absurd (let no : ⊥ = cc in no);
+  too_small = λ own is short. absurd (let no : ⊥ = cc in no);
+  complete = λ own is good a b c. absurd (let no : ⊥ = cc in no);
+  untouched = (refl, refl);
+  ran = calls_none s (λ e. let no : ⊥ = cc in no);
+  files = files_stay;
+}
 
-    is_bad : (own : Meaning) → meaning ≡ Some own → (other : Meaning) × (meaning ≡ Some other) × HasBadFile other f → HasBadFile own f
-    is_bad own is bad =
-        let same : bad.0 ≡ own = (let e = bad.1 in cc) in
-        subst (λ (m : Meaning). HasBadFile m f) same bad.2
+-- The file was refused.
+pub ends_refused : (S : ℕ) (file : List ℕ) {s : Sight} {f g : FilesSight} {k : SinkSight} (fault : Fault) → FilesStay f g → HasFileFault f g file fault
+    → Ends (FreshRun S file) (world_of s f k) (world_of s g k) [] (Some fault)
+ends_refused S file {s} (File n) files h = record {
+  headline = headline_none S file (File n) refl;
+  causes = causes_of (FreshRun S file, refl, h.0, h.1) (λ e. let no : ⊥ = cc in no) (λ visible misses. tt) (λ visible bad. tt) (λ short. inr tt)
+      (λ good a b c. absurd (b h.1)) (refl, refl) (calls_none s (λ e. let no : ⊥ = cc in no)) files;
+}
+ends_refused S file {s} {f} (Text n r c) files h = record {
+  headline = headline_none S file (Text n r c) refl;
+  causes = causes_of (FreshRun S file, refl, h) (λ e. let no : ⊥ = cc in no) (λ visible misses. absurd (missing_not_bad f file misses (h.3 visible))) (λ visible bad. tt) (λ short. inr tt)
+      (λ good x y z. absurd (good_not_bad f file good.1 (h.3 good.0))) (refl, refl) (calls_none s (λ e. let no : ⊥ = cc in no)) files;
+}
+ends_refused S file {s} Memory files h = record {
+  headline = headline_none S file Memory (inl refl);
+  causes = causes_of tt (λ e. let no : ⊥ = cc in no) (λ visible misses. tt) (λ visible bad. tt) (λ short. inr tt)
+      (λ good a b c. inr refl) tt (calls_none s (λ e. let no : ⊥ = cc in no)) files;
+}
+ends_refused S file Usage files h = absurd h
+ends_refused S file (Small a b) files h = absurd h
+ends_refused S file (TooFew a b) files h = absurd h
+ends_refused S file Unformatted files h = absurd h
+ends_refused S file (Damaged a) files h = absurd h
+ends_refused S file (NotDb a) files h = absurd h
+ends_refused S file (ManyFiles a b) files h = absurd h
+ends_refused S file (Frames a b) files h = absurd h
+ends_refused S file (FewSubscribers a b) files h = absurd h
+ends_refused S file (Numbers a b) files h = absurd h
+ends_refused S file Device files h = absurd h
+ends_refused S file Output files h = absurd h
 
-    contradicts : (own : Meaning) (requests : List (List Request)) → meaning ≡ Some own → FilesMean own f requests → (other : Meaning) × (meaning ≡ Some other) × HasBadFile other f → ⊥
-    contradicts own requests is good bad = good_not_bad own f requests good (is_bad own is bad)
-ends_refused {k = k} Memory files some =
-    refused Memory files (λ own is visible. (0, sym (append-nil k.taken))) tt tt tt (not_usage (Some Memory) (λ e. let no : ⊥ = cc in no) some)
-    (λ own is visible bad. inr (inr refl)) (λ own is short. inr (inr (inr refl))) (λ own requests is visible good long a b c. inr refl)
-    (λ e. let no : ⊥ = cc in no) (λ none. absurd (means _ some none)) (λ own is visible misses. inr refl)
-ends_refused (Small a b) files h = absurd h
-ends_refused (TooFew a b) files h = absurd h
-ends_refused Unformatted files h = absurd h
-ends_refused (Damaged a) files h = absurd h
-ends_refused (NotDb a) files h = absurd h
-ends_refused (ManyFiles a b) files h = absurd h
-ends_refused (Frames a b) files h = absurd h
-ends_refused (FewSubscribers a b) files h = absurd h
-ends_refused (Numbers a b) files h = absurd h
-ends_refused Device files h = absurd h
-ends_refused Output files h = absurd h
-
--- What is known of the files and the medium where a plan was tried.
-pub record Tried (meaning : Option Meaning) (S : ℕ) (requests : List Request) (done : List Done) (last : ℕ) (earlier : Option Fault) (s t : Sight) (f g : FilesSight) : Type 0 where
-  pub plan : IsPlan meaning f S requests
-  pub carried : CarriesOut S plan.file requests done last earlier s t
+-- What is known where the requests of the file were served.
+pub record Served (S : ℕ) (file : List ℕ) (requests : List Request) (done : List Done) (last : ℕ) (earlier : Option Fault) (s t : Sight) (f g : FilesSight) : Type 0 where
+  pub some : 1 ≤ S
+  pub limited : S ≤ 10000
+  pub read : OfFile f file requests
+  pub served : ServesFresh S file requests done last earlier s t
   pub files : FilesStay f g
 
--- what is known alike where a plan was tried
-tried : {meaning : Option Meaning} {S : ℕ} {requests : List Request} {done : List Done} {last : ℕ} {earlier : Option Fault} {s t : Sight} {f g : FilesSight} {k l : SinkSight} (fault : Option Fault)
-    → (tried : Tried meaning S requests done last earlier s t f g)
-    → OnAllDone fault (AllDone meaning (world_of s f k) done) → Bytes (FreshRun S tried.plan.file) done (world_of s f k) (world_of t g l) fault
-    → OnAllDone fault (EndsDone meaning (world_of s f k) (world_of t g l) done) → HasCause meaning (world_of s f k) (world_of t g l) fault
-    → (fault ≡ Some Usage → ⊥)
-    → (s.len < fresh_length S → (fault ≡ Some (Small s.len (fresh_length S))) ⊎ StoppedAtFiles fault)
-    → (fresh_length S ≤ s.len → (Risen s.faults t.faults → ⊥) → (Risen k.faults l.faults → ⊥) → (fault ≡ None) ⊎ (fault ≡ Some Memory))
-    → OnRefusal fault ((t ≡ s) × (done ≡ []))
-    → RanUnlessDevice fault s t
-    → Ends meaning (world_of s f k) (world_of t g l) done fault
-tried {meaning} {S} {requests} {done} {last} {earlier} {s} {t} {f} {g} {k} {l} fault it all bytes end cause other small complete untouched ran = record {
-  replies = λ own is. inr (subst (λ (m : Meaning). Replies m f done) (same own is) (record { requests = requests ∷ []; read = it.plan.read; answered = it.carried.replies }));
-  all = all;
-  crash = λ own is. subst (λ (m : Meaning). Crash m done s t) (same own is) (record { order = done; printed = it.carried.printed; keeps = it.carried.keeps });
-  bytes = λ own is. subst (λ (m : Meaning). Bytes m done (world_of s f k) (world_of t g l) fault) (same own is) bytes;
-  end = end;
-  cause = cause;
-  usage = (λ is. absurd (other is), λ none. absurd (let e = it.plan.meant in let no : ⊥ = cc in no));
-  refused_words = λ none. absurd (let e = it.plan.meant in let no : ⊥ = cc in no);
-  missing = λ own is visible misses. absurd (good_not_missing own f (requests ∷ []) (subst (λ (m : Meaning). FilesMean m f (requests ∷ [])) (same own is) (it.plan.read visible)) misses);
-  bad_file = λ own is visible bad. absurd (good_not_bad own f (requests ∷ []) (subst (λ (m : Meaning). FilesMean m f (requests ∷ [])) (same own is) (it.plan.read visible)) bad);
-  too_small = λ own is short. subst (λ (m : Meaning). (fault ≡ Some (Small s.len (words_needed m))) ⊎ StoppedAtFiles fault) (same own is)
-      (small (subst (λ (m : Meaning). s.len < words_needed m) (sym (same own is)) short));
-  complete = λ own reqs is visible good long a b c. complete (subst (λ (m : Meaning). words_needed m ≤ s.len) (sym (same own is)) long) a c;
-  untouched = untouched;
-  ran = ran;
-  files = it.files;
-}
-  where
-    same : (own : Meaning) → meaning ≡ Some own → FreshRun S it.plan.file ≡ own
-    same own is = let e = it.plan.meant in cc
+module _ {S : ℕ} {file : List ℕ} {requests : List Request} {done : List Done} {last : ℕ} {earlier : Option Fault} {s t : Sight} {f g : FilesSight}
+    (it : Served S file requests done last earlier s t f g) where
+  abbrev replies_of : Replies (FreshRun S file) f (fresh_opening S) done
+  replies_of = record {
+    requests = requests ∷ [];
+    read = (requests, it.read, refl);
+    answered = it.served.did.replies;
+    syncs_from = λ i d below sync. omega arith;
+  }
 
--- all requests are done
-all_done : {meaning : Option Meaning} {S : ℕ} {requests : List Request} {done : List Done} {last : ℕ} {s t : Sight} {f g : FilesSight} (k : SinkSight)
-    → Tried meaning S requests done last None s t f g → AllDone meaning (world_of s f k) done
-all_done {S = S} {requests = requests} k it =
-    (FreshRun S it.plan.file, it.plan.meant, record { replies = record { requests = requests ∷ []; read = it.plan.read; answered = it.carried.replies }; all = it.carried.all refl })
+  crash_of : (opening : Opening) → opening ≡ fresh_opening S → Crash (FreshRun S file) opening done s t
+  crash_of opening is = subst (λ (o : Opening). Crash (FreshRun S file) o done s t) (sym is) (record {
+    order = done;
+    printed = it.served.did.printed;
+    keeps = it.served.did.keeps;
+    first_told = it.served.did.first_told;
+  })
 
-ends_done : {meaning : Option Meaning} {S : ℕ} {requests : List Request} {done : List Done} {last : ℕ} {s t : Sight} {f g : FilesSight} (k l : SinkSight)
-    → Tried meaning S requests done last None s t f g → EndsDone meaning (world_of s f k) (world_of t g l) done
-ends_done {S = S} {done = done} {s = s} {t = t} k l it own is visible =
-    let same : FreshRun S it.plan.file ≡ own = (let e = it.plan.meant in cc) in
-    subst (λ (m : Meaning). End m done s t) same (it.carried.end refl visible)
+  -- the headline, but for what was printed
+  headline_of : {k l : SinkSight} (fault : Option Fault) → Printed (FreshRun S file) (world_of s f k) (world_of t g l) done fault
+      → Headline (FreshRun S file) (world_of s f k) (world_of t g l) done fault
+  headline_of fault printed = record {
+    replies = inr (fresh_opening S, refl, opening_lawful S it.some it.limited, replies_of);
+    crash = crash_of;
+    sync = sync_none done s t it.served.did.no_sync;
+    printed = printed;
+    only_read = λ none. absurd (none (fresh_opening S) refl);
+  }
 
--- A fault ended the plan before its output.
-pub ends_faulted : {meaning : Option Meaning} {S : ℕ} {requests : List Request} {done : List Done} {last : ℕ} {s t : Sight} {f g : FilesSight} {k : SinkSight} (earlier : Fault)
-    → Tried meaning S requests done last (Some earlier) s t f g → Ends meaning (world_of s f k) (world_of t g k) done (Some earlier)
-ends_faulted {S = S} {s = s} (Small has needs) it =
-    let c = it.carried.cause in
-    tried (Some (Small has needs)) it tt refl tt (c.2, omega (arith, c.2, c.3, c.4), FreshRun S it.plan.file, it.plan.meant, c.3) (λ e. let no : ⊥ = cc in no)
-    (λ short. inl (small_is c.2 c.3)) (λ long a b. absurd (omega (arith, c.2, c.3, c.4))) (λ low high. (c.1, c.0)) it.carried.ran
+  all_done : (k l : SinkSight) {Taken : List ℕ → Type 0} → DidAll S requests done last s t → Taken (output_of done last) → AllDone (FreshRun S file) (world_of s f k) (world_of t g l) done Taken
+  all_done k l all taken = record {
+    opening = fresh_opening S;
+    starts = refl;
+    lawful = opening_lawful S it.some it.limited;
+    replies = replies_of;
+    all = all.all;
+    last = last;
+    none_over = all.within;
+    from = omega arith;
+    reachable = omega (arith, all.last_is);
+    end = all.end;
+    text = output_of done last;
+    output = refl;
+    bytes = taken;
+  }
+
+  not_missing : (fault : Option Fault) → IsTrue f.is_visible → f.text file ≡ None → StoppedReading fault
+  not_missing fault visible misses = absurd (good_not_missing f file (is_good f file requests it.read visible) misses)
+
+  not_bad : (fault : Option Fault) → IsTrue f.is_visible → IsBadFile f file → StoppedAtFiles fault
+  not_bad fault visible bad = absurd (good_not_bad f file (is_good f file requests it.read visible) bad)
+
+-- A fault ended the run before its output.
+ends_faulted : {S : ℕ} {file : List ℕ} {requests : List Request} {done : List Done} {last : ℕ} {s t : Sight} {f g : FilesSight} {k : SinkSight} (earlier : Fault)
+    → Served S file requests done last (Some earlier) s t f g → Ends (FreshRun S file) (world_of s f k) (world_of t g k) done (Some earlier)
+ends_faulted {S} {file} {s = s} (Small has needs) it =
+    let c = it.served.cause in record {
+      headline = headline_of it (Some (Small has needs)) refl;
+      causes = causes_of (FreshRun S file, refl, c.2, c.3, c.4) (λ e. let no : ⊥ = cc in no) (not_missing it (Some (Small has needs))) (not_bad it (Some (Small has needs))) (λ short. inl (small_is c.2 c.3))
+          (λ good a b d. absurd (omega (arith, good.2, c.2, c.3, c.4))) (c.1, c.0) it.served.ran it.files;
+    }
   where
     small_is : {a b n m : ℕ} → a ≡ b → n ≡ m → ◌≡◌ {A = Option Fault} (Some (Small a n)) (Some (Small b m))
     small_is p q = cc
-ends_faulted {k = k} Memory it =
-    tried (Some Memory) it tt (λ visible. (0, sym (append-nil k.taken))) tt tt (λ e. let no : ⊥ = cc in no) (λ short. inr (inr (inr refl))) (λ long a b. inr refl)
-    (λ low high. (it.carried.cause.1, it.carried.cause.0)) it.carried.ran
+ends_faulted Memory it = record {
+  headline = headline_of it (Some Memory) (inl refl);
+  causes = causes_of tt (λ e. let no : ⊥ = cc in no) (λ visible misses. tt) (λ visible bad. tt) (λ short. inr tt) (λ good a b c. inr refl) tt it.served.ran it.files;
+}
 ends_faulted Device it =
-    let c = it.carried.cause in
-    tried (Some Device) it tt refl tt c.1 (λ e. let no : ⊥ = cc in no) (λ short. absurd (omega (arith, c.0))) (λ long a b. absurd (a c.1)) (λ low high. absurd (omega arith))
-    it.carried.ran
-ends_faulted Usage it = absurd it.carried.cause
-ends_faulted (File n) it = absurd it.carried.cause
-ends_faulted (Text n r c) it = absurd it.carried.cause
-ends_faulted (TooFew a b) it = absurd it.carried.cause
-ends_faulted Unformatted it = absurd it.carried.cause
-ends_faulted (Damaged a) it = absurd it.carried.cause
-ends_faulted (NotDb a) it = absurd it.carried.cause
-ends_faulted (ManyFiles a b) it = absurd it.carried.cause
-ends_faulted (Frames a b) it = absurd it.carried.cause
-ends_faulted (FewSubscribers a b) it = absurd it.carried.cause
-ends_faulted (Numbers a b) it = absurd it.carried.cause
-ends_faulted Output it = absurd it.carried.cause
+    let c = it.served.cause in record {
+      headline = headline_of it (Some Device) refl;
+      causes = causes_of c.1 (λ e. let no : ⊥ = cc in no) (not_missing it (Some Device)) (not_bad it (Some Device)) (λ short. absurd (omega (arith, c.0))) (λ good a b d. absurd (a c.1)) tt it.served.ran it.files;
+    }
+ends_faulted Usage it = absurd it.served.cause
+ends_faulted (File n) it = absurd it.served.cause
+ends_faulted (Text n r c) it = absurd it.served.cause
+ends_faulted (TooFew a b) it = absurd it.served.cause
+ends_faulted Unformatted it = absurd it.served.cause
+ends_faulted (Damaged a) it = absurd it.served.cause
+ends_faulted (NotDb a) it = absurd it.served.cause
+ends_faulted (ManyFiles a b) it = absurd it.served.cause
+ends_faulted (Frames a b) it = absurd it.served.cause
+ends_faulted (FewSubscribers a b) it = absurd it.served.cause
+ends_faulted (Numbers a b) it = absurd it.served.cause
+ends_faulted Output it = absurd it.served.cause
 
--- All was carried out and printed.
-pub ends_whole : {meaning : Option Meaning} {S : ℕ} {requests : List Request} {done : List Done} {last : ℕ} {s t : Sight} {f g : FilesSight} {k l : SinkSight}
-    → Tried meaning S requests done last None s t f g → Took (output_of done last) k l → Ends meaning (world_of s f k) (world_of t g l) done None
-ends_whole {done = done} {k = k} {l = l} it took =
-    tried None it (all_done k it) (λ visible. took.taken visible ∙ ap (λ (n : ℕ). k.taken ++ output_of done n) (it.carried.last_is refl)) (ends_done k l it) tt (λ e. let no : ⊥ = cc in no)
-    (λ short. absurd (omega (arith, it.carried.cause))) (λ long a b. inl refl) (λ low high. absurd (omega arith)) it.carried.ran
+-- All was served and printed.
+ends_whole : {S : ℕ} {file : List ℕ} {requests : List Request} {done : List Done} {last : ℕ} {s t : Sight} {f g : FilesSight} {k l : SinkSight}
+    → Served S file requests done last None s t f g → Took (output_of done last) k l → Ends (FreshRun S file) (world_of s f k) (world_of t g l) done None
+ends_whole {k = k} {l = l} it took = record {
+  headline = headline_of it None (all_done it k l {Taken = TookAll k l} (it.served.whole refl) took.taken);
+  causes = causes_of tt (λ e. let no : ⊥ = cc in no) (not_missing it None) (not_bad it None) (λ short. absurd (omega (arith, it.served.cause))) (λ good a b c. inl refl) tt it.served.ran it.files;
+}
 
 -- the calls before a fault that isn't the medium's
 calls_well : {fault : Option Fault} {s t : Sight} → RanUnlessDevice None s t → (fault ≡ Some Device → ⊥) → RanUnlessDevice fault s t
 calls_well ran other = (ran.0, ran.1, (λ failed. absurd (let e = ran.2.0 failed in let no : ⊥ = cc in no), λ is. absurd (other is)))
 
--- the front of the output that was taken
-took_front : (done : List Done) (last : ℕ) {k l : SinkSight} {fault : Fault} → last ≡ last_of 0 done → StopsIn (output_of done last) k l fault
-    → IsTrue k.is_visible → (n : ℕ) × (l.taken ≡ k.taken ++ take n (output_of done (last_of 0 done)))
-took_front done last {k} {l} is stops visible = (
+-- the prefix of the output that was taken
+took_prefix : {text : List ℕ} {k l : SinkSight} {fault : Fault} → StopsIn text k l fault → TookPrefix k l text
+took_prefix {text} {k} stops visible = (
   length stops.front,
-  stops.took.taken visible ∙ ap (λ (x : List ℕ). k.taken ++ x)
-      (sym (ap (λ (n : ℕ). take (length stops.front) (output_of done n)) (sym is) ∙ (ap (take (length stops.front)) stops.split ∙ take-append_seam stops.front stops.rest))),
+  stops.took.taken visible ∙ ap (λ (x : List ℕ). k.taken ++ x) (sym (ap (take (length stops.front)) stops.split ∙ take-append_seam stops.front stops.rest)),
 )
 
--- All was carried out, and a front of it printed.
-pub ends_unprinted : {meaning : Option Meaning} {S : ℕ} {requests : List Request} {done : List Done} {last : ℕ} {s t : Sight} {f g : FilesSight} {k l : SinkSight} (fault : Fault)
-    → Tried meaning S requests done last None s t f g → StopsIn (output_of done last) k l fault → Ends meaning (world_of s f k) (world_of t g l) done (Some fault)
-ends_unprinted {meaning} {done = done} {last = last} {s = s} {t = t} {f = f} {g = g} {k = k} {l = l} fault it stops =
+-- All was served, and a prefix of it printed.
+ends_unprinted : {S : ℕ} {file : List ℕ} {requests : List Request} {done : List Done} {last : ℕ} {s t : Sight} {f g : FilesSight} {k l : SinkSight} (fault : Fault)
+    → Served S file requests done last None s t f g → StopsIn (output_of done last) k l fault → Ends (FreshRun S file) (world_of s f k) (world_of t g l) done (Some fault)
+ends_unprinted {S} {file} {requests} {done} {last} {s} {t} {f} {g} {k} {l} fault it stops =
     by_fault stops.only
   where
     P : Fault → Type 0
-    P x = Ends meaning (world_of s f k) (world_of t g l) done (Some x)
+    P x = Ends (FreshRun S file) (world_of s f k) (world_of t g l) done (Some x)
+
+    all : AllDone (FreshRun S file) (world_of s f k) (world_of t g l) done (TookPrefix k l)
+    all = all_done it k l {Taken = TookPrefix k l} (it.served.whole refl) (took_prefix stops)
 
     at_output : Risen k.faults l.faults → P Output
-    at_output risen = tried (Some Output) it (all_done k it) (took_front done last (it.carried.last_is refl) stops) (ends_done k l it) risen (λ e. let no : ⊥ = cc in no)
-        (λ short. absurd (omega (arith, it.carried.cause))) (λ long a b. absurd (b risen)) (λ low high. absurd (omega arith))
-        (calls_well it.carried.ran (λ e. let no : ⊥ = cc in no))
+    at_output risen = record {
+      headline = headline_of it (Some Output) all;
+      causes = causes_of risen (λ e. let no : ⊥ = cc in no) (not_missing it (Some Output)) (not_bad it (Some Output)) (λ short. absurd (omega (arith, it.served.cause))) (λ good a b c. absurd (c risen)) tt
+          (calls_well it.served.ran (λ e. let no : ⊥ = cc in no)) it.files;
+    }
 
     at_memory : P Memory
-    at_memory = tried (Some Memory) it tt (took_front done last (it.carried.last_is refl) stops) tt tt (λ e. let no : ⊥ = cc in no)
-        (λ short. absurd (omega (arith, it.carried.cause))) (λ long a b. inr refl) (λ low high. absurd (omega arith))
-        (calls_well it.carried.ran (λ e. let no : ⊥ = cc in no))
+    at_memory = record {
+      headline = headline_of it (Some Memory) (inr all);
+      causes = causes_of tt (λ e. let no : ⊥ = cc in no) (λ visible misses. tt) (λ visible bad. tt) (λ short. inr tt) (λ good a b c. inr refl) tt
+          (calls_well it.served.ran (λ e. let no : ⊥ = cc in no)) it.files;
+    }
 
     by_fault : (fault ≡ Output) ⊎ (fault ≡ Memory) → P fault
     by_fault (inl is) = subst P (sym is) (at_output (stops.cause is))
     by_fault (inr is) = subst P (sym is) at_memory
 
 -- What is printed decides how the command ends.
-pub ends_printed : {meaning : Option Meaning} {S : ℕ} {requests : List Request} {done : List Done} {last : ℕ} {s t : Sight} {f g : FilesSight} {k l : SinkSight} (earlier fault : Option Fault)
-    → Tried meaning S requests done last earlier s t f g → PrintsOutcome done last earlier fault k l → Ends meaning (world_of s f k) (world_of t g l) done fault
-ends_printed {meaning} {done = done} {s = s} {t = t} {f = f} {g = g} {k = k} {l = l} (Some earlier) fault it printed =
-    subst (λ (o : Option Fault). Ends meaning (world_of s f k) (world_of t g l) done o) (sym printed.0)
-    (subst (λ (x : SinkSight). Ends meaning (world_of s f k) (world_of t g x) done (Some earlier)) (sym printed.1) (ends_faulted earlier it))
+pub ends_printed : {S : ℕ} {file : List ℕ} {requests : List Request} {done : List Done} {last : ℕ} {s t : Sight} {f g : FilesSight} {k l : SinkSight} (earlier fault : Option Fault)
+    → Served S file requests done last earlier s t f g → PrintsOutcome done last earlier fault k l → Ends (FreshRun S file) (world_of s f k) (world_of t g l) done fault
+ends_printed {S} {file} {done = done} {s = s} {t = t} {f = f} {g = g} {k = k} {l = l} (Some earlier) fault it printed =
+    subst (λ (o : Option Fault). Ends (FreshRun S file) (world_of s f k) (world_of t g l) done o) (sym printed.0)
+    (subst (λ (x : SinkSight). Ends (FreshRun S file) (world_of s f k) (world_of t g x) done (Some earlier)) (sym printed.1) (ends_faulted earlier it))
 ends_printed None None it printed = ends_whole it printed
 ends_printed None (Some fault) it printed = ends_unprinted fault it printed

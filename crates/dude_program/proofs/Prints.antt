@@ -7,8 +7,8 @@ use Rattle.std.proofs.Math.Seq.{drop-cons}
 use Rattle.std.specs.List.{flat_map}
 use Rattle.pmem_trait.proofs.Runs.{risen_later}
 use Rattle.tatp_model.specs.declared.done.Done.{Done}
-use Rattle.dude_text.specs.declared.fault.Fault.{Fault}
-use Rattle.dude_text.specs.declared.fault.Fault.TheVariants.{Output, Memory}
+use Rattle.dude_program.specs.declared.fault.Fault.{Fault}
+use Rattle.dude_program.specs.declared.fault.Fault.TheVariants.{Output, Memory}
 use Rattle.dude_text.specs.Output.{output_line, last_line, output_of}
 use Rattle.dude_io.specs.Sink.{SinkSight, Took, TookPart}
 use Rattle.dude_io.proofs.WriteLaws.{took_none, took-then}

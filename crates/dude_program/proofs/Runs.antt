@@ -8,7 +8,7 @@ use Rattle.std.proofs.lemmas.Bool.{lt-leb}
 use Rattle.std.proofs.lemmas.List.{take_more, take_all, take-append-drop, length-take-le, length-append}
 use Rattle.std.proofs.lemmas.List.Elements.{All-weaker, All-head, All-tail}
 use Rattle.std.proofs.lemmas.List.Sorted.{IsPermutation-refl}
-use Rattle.pmem_trait.specs.Words.{State, IsIn}
+use Rattle.pmem_trait.specs.Words.{State, IsIn, AtLeast}
 use Rattle.pmem_trait.specs.Sights.{Sight, state_now, AtEveryMoment, SomeCalls}
 use Rattle.pmem_trait.proofs.Laws.{every_moment_here, every_moment_then, every_moment_weaker}
 use Rattle.pmem_trait.proofs.Runs.{ran_here, ran_then, made_later}
@@ -21,17 +21,19 @@ use Rattle.tatp_model.specs.Transaction.{Outcome, answers, changes, update_where
 use Rattle.tatp_model.specs.declared.reply.Reply.TheVariants.{Missing, Subscriber}
 use Rattle.tatp_model.specs.OneThread.{is_changed, is_sync, after_number, IsPrintedOrder, IsPrefixOf, Precedes, RepliesOfOneThread}
 use Rattle.tatp_model.proofs.Run.{after_order, after_order-push, after_number-push, after_number-all}
-use Rattle.tatp_model.proofs.Sequential.{Sequential, Sequential-start, IsNext, Sequential-push, Replies-from_sequential}
-use Rattle.dude_text.specs.Command.{Meaning.FreshRun}
+use Rattle.tatp_model.proofs.Sequential.{Sequential, Sequential-start, IsNext, Sequential-push, RepliesOfOneThread-from_sequential}
+use Rattle.dude_program.specs.Command.{Meaning.FreshRun}
 use Rattle.dude_text.specs.RequestFile.{IsServable}
-use Rattle.fresh_image.specs.Fresh.{AtRest, fresh_length}
+use Rattle.fresh_image.specs.Fresh.{AtRest, fresh_length, fresh_sizes}
 use Rattle.dude_base.specs.declared.limits.TheConstants.{MAX_NUMBER}
 use Rattle.fresh_image.proofs.UpdateLaw.{rest_images}
 use Rattle.fresh_image.proofs.RowWords.{rows_fit}
 use Rattle.fresh_image.proofs.Lists.{IsIn-drop_push}
 use Rattle.fresh_image.specs.Rows.{home_words, StandsFor}
-use Rattle.fresh_image.specs.Calls.{AtLeast, RecoversToEither, AtRestFor, AtRestTold}
-use Rattle.dude_program.specs.Headline.{last_of, RecoversTo, RecoversSince}
+use Rattle.fresh_image.specs.Calls.{RecoversToEither, AtRestFor, AtRestTold}
+use Rattle.fresh_image.specs.Recovered.{RecoversHome, RecoversTo}
+use Rattle.dude_program.specs.Opening.{last_of, fresh_opening}
+use Rattle.dude_program.specs.Headline.{RecoversSince}
 use Rattle.dude_program.specs.Serving.{Stage, RunAtRest, Adds, Serves, ServesAll, RecoversToStep, opening_stage, changes_it, next_number, next_database}
 
 -- the lists that `fresh` never changes are the population's
@@ -149,47 +151,56 @@ going_database {S} {stage = stage} n high going =
 next_at_least : (S : ℕ) (stage : Stage) (request : Request) → stage.last ≤ next_number S stage request
 next_at_least S stage request = next_from (changes_it S stage.db request) stage.last
 
+-- an image with the home words of a database recovers to it
+pub recovers_to : {S n : ℕ} {db : Database} {image : List ℕ} → OthersStay S db → RecoversHome S image n (home_words S db.subscribers) → RecoversTo image n (fresh_sizes S) db
+recovers_to {S} {n} {db} {image} others home = record {
+  array = home_words S db.subscribers;
+  recovered = home.recovered;
+  same_sizes = home.same_sizes;
+  stands = record { rows = refl; access = others.access; facilities = others.facilities; calls = others.calls };
+}
+
 -- What an image shows of the requests so far, it shows of one more.
 recovers_more : {S : ℕ} {front : List Request} {request : Request} {stage : Stage} {new : List Done} (file : List ℕ) (before : ℕ) → IsServable request
     → Going S front stage → Adds S (length front) request stage new → (told image : List ℕ)
-    → RecoversSince before (FreshRun S file) stage.done told image → RecoversSince before (FreshRun S file) new told image
+    → RecoversSince (FreshRun S file) before (fresh_opening S) stage.done told image → RecoversSince (FreshRun S file) before (fresh_opening S) new told image
 recovers_more {S} {front} {request} {stage} {new} file before served going adds told image (inl none) = inl none
 recovers_more {S} {front} {request} {stage} {new} file before served going adds told image (inr r) =
-    let within : r.0 ≤ stage.last = omega (arith, r.2, going.last_is) in
+    let within : r.0 ≤ stage.last = omega (arith, r.3, going.last_is) in
     let after = going_next S front request served going adds in
     inr (
       r.0,
       r.1,
+      r.2,
       omega (arith, within, after.last_is, next_at_least S stage request),
-      subst (λ (db : Database). RecoversTo (FreshRun S file) image r.0 db) (sym (not_counted S r.0 within adds)) r.3,
+      subst (λ (db : Database). RecoversTo image r.0 (fresh_sizes S) db) (sym (not_counted S r.0 within adds)) r.4,
     )
 
 -- What an image shows of a step, it shows of the requests with one more.
 recovers_step : {S : ℕ} {front : List Request} {request : Request} {stage : Stage} {new : List Done} (file : List ℕ) (before : ℕ) → IsServable request
     → Going S front stage → Adds S (length front) request stage new → (told image : List ℕ)
-    → RecoversToStep S before stage request told image → RecoversSince before (FreshRun S file) new told image
+    → RecoversToStep S before stage request told image → RecoversSince (FreshRun S file) before (fresh_opening S) new told image
 recovers_step {S} {front} {request} {stage} {new} file before served going adds told image (inl shows) =
     let after = going_next S front request served going adds in
     let db_is : stage.db ≡ after_number (12 * S) (population S) new stage.last = sym (not_counted S stage.last (omega arith) adds ∙ going_database stage.last (omega arith) going) in
-    let stands : StandsFor S (home_words S stage.db.subscribers) stage.db = record { rows = refl; access = going.others.access; facilities = going.others.facilities; calls = going.others.calls } in
     inr (
       stage.last,
+      omega arith,
       shows.1,
       omega (arith, after.last_is, next_at_least S stage request),
-      subst (λ (db : Database). RecoversTo (FreshRun S file) image stage.last db) db_is (home_words S stage.db.subscribers, shows.0, stands),
+      subst (λ (db : Database). RecoversTo image stage.last (fresh_sizes S) db) db_is (recovers_to going.others shows.0),
     )
 recovers_step {S} {front} {request} {stage} {new} file before served going adds told image (inr shows) =
     let after = going_next S front request served going adds in
     let number_is : next_number S stage request ≡ stage.last + 1 = rw shows.0 refl in
     let db = next_database S stage request in
-    let others = after.others in
     let db_is : db ≡ after_number (12 * S) (population S) new (stage.last + 1) = sym (going_database (stage.last + 1) (omega (arith, number_is)) after) in
-    let stands : StandsFor S (home_words S db.subscribers) db = record { rows = refl; access = others.access; facilities = others.facilities; calls = others.calls } in
     inr (
       stage.last + 1,
+      omega arith,
       shows.1.1,
       omega (arith, after.last_is, number_is),
-      subst (λ (x : Database). RecoversTo (FreshRun S file) image (stage.last + 1) x) db_is (home_words S db.subscribers, shows.1.0, stands),
+      subst (λ (x : Database). RecoversTo image (stage.last + 1) (fresh_sizes S) x) db_is (recovers_to after.others shows.1.0),
     )
 
 -- A run whose stage has other requests noted, and is else as it was.
@@ -230,7 +241,7 @@ idle_next {S} {before} {old} {new} {p} {q} next rests idle = record {
 -- An update makes the calls that log it.
 pub serves_changed : (S index : ℕ) (request : Request) (ok : Bool) (old new : Stage) (s t : Sight) → changes_it S old.db request ≡ true
     → new.last ≡ old.last + 1 → new.db ≡ next_database S old request → Adds S index request old new.done
-    → ((before : ℕ) → (IsTrue s.is_visible → RunAtRest S before old (state_now s)) → AtEveryMoment (RecoversToEither before old.last (home_words S old.db.subscribers) (home_words S (next_database S old request).subscribers)) s t)
+    → ((before : ℕ) → (IsTrue s.is_visible → RunAtRest S before old (state_now s)) → AtEveryMoment (RecoversToEither S before old.last (home_words S old.db.subscribers) (home_words S (next_database S old request).subscribers)) s t)
     → (ok ≡ true → IsTrue s.is_visible → AtRest S old.last (home_words S old.db.subscribers) (state_now s) → AtRestTold S new.last (home_words S new.db.subscribers) (state_now s) (state_now t))
     → SomeCalls ok s t → Serves S index request ok old new s t
 serves_changed S index request ok old new s t changes next db_is adds images rests ran = record {
@@ -241,7 +252,7 @@ serves_changed S index request ok old new s t changes next db_is adds images res
   ran = ran;
 }
   where
-    step : (before : ℕ) (told image : List ℕ) → RecoversToEither before old.last (home_words S old.db.subscribers) (home_words S (next_database S old request).subscribers) told image
+    step : (before : ℕ) (told image : List ℕ) → RecoversToEither S before old.last (home_words S old.db.subscribers) (home_words S (next_database S old request).subscribers) told image
         → RecoversToStep S before old request told image
     step before told image (inl shows) = inl shows
     step before told image (inr shows) = inr (changes, shows)
@@ -263,14 +274,14 @@ ok_part (Err e) h ok = absurd (let no : ⊥ = cc in no)
 pub serves_logged : (S T index number at vlr : ℕ) (request : Request) (ok : Bool) (old new : Stage) (s t : Sight) → T ≡ S → changes_it S old.db request ≡ true
     → new.last ≡ old.last + 1 → number ≡ new.last → new.db ≡ next_database S old request → Adds S index request old new.done
     → at < 8 * S → slice_set (home_words S old.db.subscribers) at vlr ≡ home_words S new.db.subscribers
-    → ((before n : ℕ) (home : List ℕ) → n + 1 ≡ number → (IsTrue s.is_visible → AtRestFor T before n home at (state_now s)) → AtEveryMoment (RecoversToEither before n home (slice_set home at vlr)) s t)
+    → ((before n : ℕ) (home : List ℕ) → n + 1 ≡ number → (IsTrue s.is_visible → AtRestFor T before n home at (state_now s)) → AtEveryMoment (RecoversToEither T before n home (slice_set home at vlr)) s t)
     → (ok ≡ true → (n : ℕ) (home : List ℕ) → n + 1 ≡ number → at < length home → IsTrue s.is_visible → AtRest T n home (state_now s) → AtRestTold T number (slice_set home at vlr) (state_now s) (state_now t))
     → SomeCalls ok s t → Serves S index request ok old new s t
 serves_logged S T index number at vlr request ok old new s t same changes next number_is db_is adds inside home images rests ran =
     serves_changed S index request ok old new s t changes next db_is adds
-    (λ before idle. subst (λ (h : List ℕ). AtEveryMoment (RecoversToEither before old.last old_home h) s t) (home ∙ ap (λ (d : Database). home_words S d.subscribers) db_is)
-    (images before old.last old_home (sym next ∙ sym number_is) (λ visible. let i = idle visible in
-    subst (λ (z : ℕ). AtRestFor z before old.last old_home at (state_now s)) (sym same) (there i.rests, i.rests, i.floor))))
+    (λ before idle. subst (λ (h : List ℕ). AtEveryMoment (RecoversToEither S before old.last old_home h) s t) (home ∙ ap (λ (d : Database). home_words S d.subscribers) db_is)
+    (subst (λ (z : ℕ). AtEveryMoment (RecoversToEither z before old.last old_home (slice_set old_home at vlr)) s t) same (images before old.last old_home (sym next ∙ sym number_is) (λ visible. let i = idle visible in
+    subst (λ (z : ℕ). AtRestFor z before old.last old_home at (state_now s)) (sym same) (there i.rests, i.rests, i.floor)))))
     (λ done visible r. subst (λ (h : List ℕ). AtRestTold S new.last h (state_now s) (state_now t)) home
     (subst (λ (n : ℕ). AtRestTold S n (slice_set old_home at vlr) (state_now s) (state_now t)) number_is
     (subst (λ (z : ℕ). AtRestTold z number (slice_set old_home at vlr) (state_now s) (state_now t)) same
@@ -297,7 +308,7 @@ pub record GoesOn (S i : ℕ) (requests : List Request) (stage : Stage) (s t : S
   pub going : Going S (take i requests) stage
   pub few : stage.last ≤ i
   pub kept : (file : List ℕ) (before : ℕ) → (IsTrue s.is_visible → RunAtRest S before (opening_stage S) (state_now s))
-      → AtEveryMoment (RecoversSince before (FreshRun S file) stage.done) s t
+      → AtEveryMoment (RecoversSince (FreshRun S file) before (fresh_opening S) stage.done) s t
   pub idle : (before : ℕ) → IsTrue s.is_visible → RunAtRest S before (opening_stage S) (state_now s) → RunAtRest S before stage (state_now t)
   pub ran : SomeCalls true s t
 
@@ -306,17 +317,14 @@ pub goes_none : (S : ℕ) (requests : List Request) (s : Sight) → 1 ≤ S → 
 goes_none S requests s low high long = record {
   going = going_none S;
   few = omega arith;
-  kept = λ file before idle. every_moment_here (RecoversSince before (FreshRun S file) []) (λ visible. let i = idle visible in
+  kept = λ file before idle. every_moment_here (RecoversSince (FreshRun S file) before (fresh_opening S) []) (λ visible. let i = idle visible in
       record {
         each = λ image is. inr (
           0,
+          omega arith,
           i.floor,
           omega arith,
-          (
-            home_words S (population S).subscribers,
-            rest_images low high long (omega arith) i.rests image is,
-            record { rows = refl; access = refl; facilities = refl; calls = refl },
-          ),
+          recovers_to (record { access = refl; facilities = refl; calls = refl }) (rest_images low high long (omega arith) i.rests image is),
         );
       });
   idle = λ before visible idle. idle;
@@ -330,7 +338,7 @@ still_tells ran visible = subst (λ (b : Bool). IsTrue b) (made_later ran.1).is_
 -- Images so far and in one step more.
 kept_more : {S i : ℕ} {requests : List Request} {request : Request} {ok : Bool} {old new : Stage} {s t u : Sight} → i ≤ length requests → IsServable request
     → GoesOn S i requests old s t → Serves S i request ok old new t u → (file : List ℕ) (before : ℕ) → (IsTrue s.is_visible → RunAtRest S before (opening_stage S) (state_now s))
-    → AtEveryMoment (RecoversSince before (FreshRun S file) new.done) s u
+    → AtEveryMoment (RecoversSince (FreshRun S file) before (fresh_opening S) new.done) s u
 kept_more {S} {i} {requests} {request} {old = old} {new = new} below served goes step file before idle =
     let adds : Adds S (length (take i requests)) request old new.done = subst (λ (n : ℕ). Adds S n request old new.done) (sym (length-take-le i requests below)) step.adds in
     every_moment_then (every_moment_weaker (λ told image size shown. recovers_more file before served goes.going adds told image shown) (goes.kept file before idle))
@@ -382,6 +390,7 @@ goes_stops {S} {T} {i} {requests} d {old} {new} {s} {t} {u} file same below serv
     record {
       replies = front.0;
       printed = front.1;
+      no_sync = going.run.asked;
       keeps = kept_more (omega arith) served goes step file;
       ran = ran_then goes.ran step.ran;
       all = λ no. absurd (let never : ⊥ = cc in never);
@@ -401,6 +410,7 @@ goes_ends {S} {i} {requests} {stage} file past small goes =
     record {
       replies = front.0;
       printed = front.1;
+      no_sync = going.run.asked;
       keeps = goes.kept file;
       ran = goes.ran;
       all = λ _. going.run.held;

@@ -2,80 +2,114 @@
 -- their numbers, each request once and each file's in its order; and at every moment of the run, every image that a
 -- crash may leave recovers to the database after a prefix of that order, with everything up to the last number told as
 -- durable.
-use Rattle.std.specs.Prelude.{◌≡◌, ◌⊎◌, ℕ, ◌≤◌, max, IsTrue, List, [], ◌∷◌, ◌++◌, drop, take, length, fold, All}
-use Rattle.pmem_trait.specs.Words.{EveryImage}
+--
+-- It is said over an opening: the number, the sizes and the tables that the command starts from (`Opening`). A command
+-- joins by its cases there.
+use Rattle.std.specs.Prelude.{◌≡◌, ◌⊎◌, ℕ, ◌≤◌, Bool, Option, Some, None, IsTrue, List, [], ◌∷◌, ◌++◌, drop, take, length, All, AllPairs}
+use Rattle.pmem_trait.specs.Words.{EveryImage, AtLeast}
 use Rattle.pmem_trait.specs.Sights.{Sight, AtEveryMoment, state_now}
+use Rattle.pmem_trait.specs.Reads.{OnlyReads}
 use Rattle.tatp_model.specs.declared.done.Done.{Done}
 use Rattle.tatp_model.specs.declared.request.Request.{Request}
-use Rattle.tatp_model.specs.Database.{Database}
-use Rattle.tatp_model.specs.OneThread.{IsPrintedOrder, HoldsAll, after_number}
-use Rattle.tatp_model.specs.OneThread.{RepliesOfOneThread}
-use Rattle.dude_text.specs.Command.{Meaning, Meaning.FreshRun}
-use Rattle.dude_text.specs.Output.{output_of}
+use Rattle.tatp_model.specs.OneThread.{is_sync, IsPrintedOrder, HoldsAll, RepliesOfOneThread, after_number}
 use Rattle.dude_io.specs.Files.{FilesSight}
 use Rattle.dude_io.specs.Sink.{SinkSight}
-use Rattle.redo_record.specs.Recovery.{Recovers}
-use Rattle.fresh_image.specs.Rows.{StandsFor}
-use Rattle.fresh_image.specs.Calls.{AtLeast}
-use Rattle.dude_program.specs.Opening.{opening_of, FilesMean}
+use Rattle.fresh_image.specs.Recovered.{RecoversTo}
+use Rattle.dude_program.specs.declared.fault.Fault.{Fault}
+use Rattle.dude_program.specs.declared.fault.Fault.TheVariants.{Output, Memory}
+use Rattle.dude_program.specs.Command.{Meaning}
+use Rattle.dude_program.specs.World.{World}
+use Rattle.dude_program.specs.Opening.{Opening, IsOpening, makes_image, Starts, RequestsAre, IsReachable, IsOutput}
 
--- Replies: some files, which are the command's where that is told, have these requests done, each file's first ones in
--- its order, each once; and the replies are those of one thread along the printed order.
-pub record Replies (meaning : Meaning) (files : FilesSight) (done : List Done) : Type 0 where
+-- Replies: of the command's requests these are done, each file's first ones in its order, each once; and the replies are
+-- those of one thread along the printed order. A `SYNC` has a number from the opening number on.
+pub record Replies (meaning : Meaning) (files : FilesSight) (opening : Opening) (done : List Done) : Type 0 where
   pub requests : List (List Request)
-  pub read : IsTrue files.is_visible → FilesMean meaning files requests
-  pub answered : RepliesOfOneThread (opening_of meaning).number (opening_of meaning).limit (opening_of meaning).database requests done
+  pub read : RequestsAre meaning files opening requests
+  pub answered : RepliesOfOneThread opening.number opening.sizes.calls opening.database requests done
+  pub syncs_from : All (λ d. IsTrue (is_sync d.request) → opening.number ≤ d.number) done
 
--- and all of their requests are done
-pub record RepliesToAll (meaning : Meaning) (files : FilesSight) (done : List Done) : Type 0 where
-  pub replies : Replies meaning files done
+-- the image recovers to this number, and to the database after the requests of the order that wrote with numbers up to it
+abbrev pub RecoversAt : Opening → List Done → List ℕ → ℕ → Type 0
+RecoversAt opening order image n = RecoversTo image n opening.sizes (after_number opening.sizes.calls opening.database order n)
+
+-- The command makes its image anew and told nothing yet; or the image recovers so to a number that it may come to, which
+-- is at least the opening number and every number told in this call.
+abbrev pub RecoversSince : Meaning → ℕ → Opening → List Done → List ℕ → List ℕ → Type 0
+RecoversSince meaning before opening order told image =
+    (IsTrue (makes_image meaning) × (drop before told ≡ []))
+    ⊎ ((n : ℕ) × (opening.number ≤ n) × AtLeast before told n × IsReachable meaning opening order n × RecoversAt opening order image n)
+
+-- this number was told first, in this call, if any was told
+abbrev pub WasToldFirst : ℕ → Sight → Sight → Type 0
+WasToldFirst first s t =
+    (drop (length (state_now s).told) (state_now t).told ≡ [])
+    ⊎ ((more : List ℕ) × (drop (length (state_now s).told) (state_now t).told ≡ first ∷ more))
+
+-- Crash: at each moment of the call each image that a crash may leave recovers so, along the printed order. The first
+-- number that is told in the call is the opening number.
+pub record Crash (meaning : Meaning) (opening : Opening) (done : List Done) (s t : Sight) : Type 0 where
+  pub order : List Done
+  pub printed : IsPrintedOrder done order
+  pub keeps : AtEveryMoment (RecoversSince meaning (length (state_now s).told) opening order) s t
+  pub first_told : IsTrue s.is_visible → WasToldFirst opening.number s t
+
+-- this number was told last, in this call
+abbrev pub WasToldLast : ℕ → Sight → Sight → Type 0
+WasToldLast last s t =
+    (earlier : List ℕ) × ((state_now t).told ≡ earlier ++ last ∷ []) × (length (state_now s).told ≤ length earlier)
+
+-- Sync: the number of a `SYNC` is at least that of each earlier request of its file, and at most the last number told
+pub record Sync (done : List Done) (s t : Sight) : Type 0 where
+  pub over_earlier : AllPairs (λ d e. d.file ≡ e.file → IsTrue (is_sync e.request) → d.number ≤ e.number) done
+  pub told : IsTrue s.is_visible → All (λ d. IsTrue (is_sync d.request) → (n : ℕ) × WasToldLast n s t × (d.number ≤ n)) done
+
+-- End: this number was told last, and every image at exit recovers to it
+pub record End (opening : Opening) (done : List Done) (last : ℕ) (s t : Sight) : Type 0 where
+  pub told : WasToldLast last s t
+  pub order : List Done
+  pub printed : IsPrintedOrder done order
+  pub images : EveryImage t.len (λ told image. RecoversAt opening order image last) (state_now t)
+
+-- All requests are done. The last number is at least the opening number and each number done; and of its output the sink
+-- took this much.
+pub record AllDone (meaning : Meaning) (old new : World) (done : List Done) (Taken : List ℕ → Type 0) : Type 0 where
+  pub opening : Opening
+  pub starts : Starts meaning old.medium opening
+  pub lawful : IsOpening opening
+  pub replies : Replies meaning old.files opening done
   pub all : HoldsAll replies.requests done
+  pub last : ℕ
+  pub none_over : All (λ d. d.number ≤ last) done
+  pub from : opening.number ≤ last
+  pub reachable : IsReachable meaning opening done last
+  pub end : IsTrue old.medium.is_visible → End opening done last old.medium new.medium
+  pub text : List ℕ
+  pub output : IsOutput meaning opening done last text
+  pub bytes : Taken text
 
--- the greatest number of the requests done, or the opening number
-abbrev pub last_of : ℕ → List Done → ℕ
-last_of first done = fold (λ last d. max last d.number) first done
-
--- the database after the requests of an order that wrote with numbers up to n
-abbrev pub database_after : Meaning → List Done → ℕ → Database
-database_after meaning order n = after_number (opening_of meaning).limit (opening_of meaning).database order n
-
--- the image recovers to this number, and to an array that stands for this database
-abbrev pub RecoversTo : Meaning → List ℕ → ℕ → Database → Type 0
-RecoversTo (FreshRun subscribers file) image number db =
-    (array : List ℕ) × Recovers 0 image number array × StandsFor subscribers array db
-
--- Nothing was told in this call yet; or the image recovers to a number and the database after the requests that wrote
--- with numbers up to it, and it is at least every number told and at most the last of the requests done.
-abbrev pub RecoversSince : ℕ → Meaning → List Done → List ℕ → List ℕ → Type 0
-RecoversSince before meaning order told image =
-    (drop before told ≡ []) ⊎ ((n : ℕ) × AtLeast before told n × (n ≤ last_of (opening_of meaning).number order)
-    × RecoversTo meaning image n (database_after meaning order n))
-
--- Crash: at each moment of the call each image that a crash may leave recovers so, along the printed order.
-pub record Crash (meaning : Meaning) (done : List Done) (s t : Sight) : Type 0 where
-  pub order : List Done
-  pub printed : IsPrintedOrder done order
-  pub keeps : AtEveryMoment (RecoversSince (length (state_now s).told) meaning order) s t
-
--- End: the last number told, in this call, is the last of the requests done, and every image at exit recovers to it.
-pub record End (meaning : Meaning) (done : List Done) (s t : Sight) : Type 0 where
-  pub order : List Done
-  pub printed : IsPrintedOrder done order
-  pub told : (front : List ℕ) × ((state_now t).told ≡ front ++ last_of (opening_of meaning).number done ∷ []) × (length (state_now s).told ≤ length front)
-  pub none_over : All (λ d. d.number ≤ last_of (opening_of meaning).number done) done
-  pub images : EveryImage t.len (λ told image. RecoversTo meaning image (last_of (opening_of meaning).number done)
-      (database_after meaning order (last_of (opening_of meaning).number done))) (state_now t)
-
--- Bytes: the sink took the whole output of the requests done and nothing else
-abbrev pub Prints : Meaning → List Done → SinkSight → SinkSight → Type 0
-Prints meaning done s t =
-    IsTrue s.is_visible → t.taken ≡ s.taken ++ output_of done (last_of (opening_of meaning).number done)
+-- the sink took all of a text
+abbrev pub TookAll : SinkSight → SinkSight → List ℕ → Type 0
+TookAll s t text = IsTrue s.is_visible → t.taken ≡ s.taken ++ text
 
 -- or a prefix of it
-abbrev pub PrintsFront : Meaning → List Done → SinkSight → SinkSight → Type 0
-PrintsFront meaning done s t =
-    IsTrue s.is_visible → (n : ℕ) × (t.taken ≡ s.taken ++ take n (output_of done (last_of (opening_of meaning).number done)))
+abbrev pub TookPrefix : SinkSight → SinkSight → List ℕ → Type 0
+TookPrefix s t text = IsTrue s.is_visible → (n : ℕ) × (t.taken ≡ s.taken ++ take n text)
 
--- or nothing: the sink wasn't called
-abbrev pub PrintsNothing : SinkSight → SinkSight → Type 0
-PrintsNothing s t = t ≡ s
+-- Bytes: where the command ended well, all is done and printed; where the output failed, all is done and a prefix was
+-- printed; where there was no memory, either so or nothing was printed; else nothing was printed.
+abbrev pub Printed : Meaning → World → World → List Done → Option Fault → Type 0
+Printed meaning old new done None = AllDone meaning old new done (TookAll old.sink new.sink)
+Printed meaning old new done (Some Output) = AllDone meaning old new done (TookPrefix old.sink new.sink)
+Printed meaning old new done (Some Memory) = (new.sink ≡ old.sink) ⊎ AllDone meaning old new done (TookPrefix old.sink new.sink)
+Printed meaning old new done (Some _) = new.sink ≡ old.sink
+
+-- The headline, of a command that means something and ended with this fault or none. Where it has no opening, it only
+-- read the medium.
+pub record Headline (meaning : Meaning) (old new : World) (done : List Done) (fault : Option Fault) : Type 0 where
+  pub replies : (done ≡ [])
+      ⊎ ((opening : Opening) × Starts meaning old.medium opening × IsOpening opening × Replies meaning old.files opening done)
+  pub crash : (opening : Opening) → Starts meaning old.medium opening → Crash meaning opening done old.medium new.medium
+  pub sync : Sync done old.medium new.medium
+  pub printed : Printed meaning old new done fault
+  pub only_read : ((opening : Opening) → Starts meaning old.medium opening → ⊥) → (ok : Bool) × OnlyReads ok old.medium new.medium

@@ -1,9 +1,12 @@
 pub mod Causes
+pub mod Command
 pub mod Ending
+pub mod Execution
+pub mod Fault
 pub mod Headline
 pub mod Opening
 pub mod Outcome
-pub mod Plans
 pub mod Printing
-pub mod Run
+pub mod Requests
 pub mod Serving
+pub mod World

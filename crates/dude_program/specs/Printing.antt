@@ -3,8 +3,8 @@ use Rattle.std.specs.Prelude.{◌≡◌, ◌⊎◌, ℕ, Option, Some, None, Lis
 use Rattle.tatp_model.specs.declared.done.Done.{Done}
 use Rattle.dude_text.specs.Output.{output_of}
 use Rattle.pmem_trait.specs.Sights.{Risen}
-use Rattle.dude_text.specs.declared.fault.Fault.{Fault}
-use Rattle.dude_text.specs.declared.fault.Fault.TheVariants.{Output, Memory}
+use Rattle.dude_program.specs.declared.fault.Fault.{Fault}
+use Rattle.dude_program.specs.declared.fault.Fault.TheVariants.{Output, Memory}
 use Rattle.dude_io.specs.Sink.{SinkSight, Took}
 
 -- of what was held back and some more, a front was taken and the rest is held back now

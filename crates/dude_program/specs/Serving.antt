@@ -1,20 +1,20 @@
 -- Requests of `fresh`, one after another: what each adds to what is done, and what it leaves of the medium.
-use Rattle.std.specs.Prelude.{◌≡◌, ◌⊎◌, ℕ, ◌+◌, ◌*◌, ◌≤◌, Bool, true, IsTrue, List, [], ◌∷◌, ◌++◌, length, if◌then◌else◌, All}
-use Rattle.pmem_trait.specs.Words.{State}
+use Rattle.std.specs.Prelude.{◌≡◌, ◌⊎◌, ℕ, ◌+◌, ◌*◌, ◌≤◌, Bool, true, false, IsTrue, List, [], ◌∷◌, ◌++◌, length, if◌then◌else◌, All}
+use Rattle.pmem_trait.specs.Words.{State, AtLeast}
 use Rattle.pmem_trait.specs.Sights.{Sight, state_now, AtEveryMoment, SomeCalls}
 use Rattle.tatp_model.specs.declared.done.Done.{Done}
 use Rattle.tatp_model.specs.declared.request.Request.{Request}
 use Rattle.tatp_model.specs.Database.{Database}
 use Rattle.tatp_model.specs.Population.{population}
 use Rattle.tatp_model.specs.Transaction.{reply_to, after_request}
-use Rattle.tatp_model.specs.OneThread.{is_changed, HoldsAll, IsPrintedOrder}
-use Rattle.tatp_model.specs.OneThread.{RepliesOfOneThread}
-use Rattle.dude_text.specs.Command.{Meaning.FreshRun}
+use Rattle.tatp_model.specs.OneThread.{is_changed, is_sync, after_number, HoldsAll, IsPrintedOrder, RepliesOfOneThread}
+use Rattle.dude_program.specs.Command.{Meaning.FreshRun}
 use Rattle.dude_base.specs.declared.limits.TheConstants.{MAX_NUMBER}
 use Rattle.fresh_image.specs.Fresh.{AtRest}
 use Rattle.fresh_image.specs.Rows.{home_words}
-use Rattle.fresh_image.specs.Calls.{AtLeast, RecoversToTold}
-use Rattle.dude_program.specs.Headline.{last_of, database_after, RecoversSince}
+use Rattle.fresh_image.specs.Calls.{RecoversToTold}
+use Rattle.dude_program.specs.Opening.{fresh_opening, last_of}
+use Rattle.dude_program.specs.Headline.{RecoversSince}
 
 -- Where a run stands: the last number drawn, the database, and what is done.
 pub record Stage : Type 0 where
@@ -54,9 +54,9 @@ pub record Adds (subscribers index : ℕ) (request : Request) (stage : Stage) (n
 -- an image is as before the request, or as after it, where it changes the database
 abbrev pub RecoversToStep : ℕ → ℕ → Stage → Request → List ℕ → List ℕ → Type 0
 RecoversToStep subscribers before stage request told image =
-    RecoversToTold before stage.last (home_words subscribers stage.db.subscribers) told image
+    RecoversToTold subscribers before stage.last (home_words subscribers stage.db.subscribers) told image
     ⊎ (IsTrue (changes_it subscribers stage.db request)
-    × RecoversToTold before (stage.last + 1) (home_words subscribers (next_database subscribers stage request).subscribers) told image)
+    × RecoversToTold subscribers before (stage.last + 1) (home_words subscribers (next_database subscribers stage request).subscribers) told image)
 
 -- One request was carried out, or the medium failed on the way.
 pub record Serves (subscribers index : ℕ) (request : Request) (ok : Bool) (old new : Stage) (s t : Sight) : Type 0 where
@@ -74,12 +74,13 @@ opening_stage subscribers = record { last = 0; db = population subscribers; done
 pub record ServesAll (subscribers : ℕ) (file : List ℕ) (requests : List Request) (ok : Bool) (new : Stage) (s t : Sight) : Type 0 where
   pub replies : RepliesOfOneThread 0 (12 * subscribers) (population subscribers) (requests ∷ []) new.done
   pub printed : IsPrintedOrder new.done new.done
+  pub no_sync : All (λ d. is_sync d.request ≡ false) new.done
   pub keeps : (before : ℕ) → (IsTrue s.is_visible → RunAtRest subscribers before (opening_stage subscribers) (state_now s))
-      → AtEveryMoment (RecoversSince before (FreshRun subscribers file) new.done) s t
+      → AtEveryMoment (RecoversSince (FreshRun subscribers file) before (fresh_opening subscribers) new.done) s t
   pub ran : SomeCalls ok s t
   pub all : ok ≡ true → HoldsAll (requests ∷ []) new.done
   pub last : ok ≡ true → new.last ≡ last_of 0 new.done
-  pub db : ok ≡ true → new.db ≡ database_after (FreshRun subscribers file) new.done new.last
+  pub db : ok ≡ true → new.db ≡ after_number (12 * subscribers) (population subscribers) new.done new.last
   pub idle : ok ≡ true → (before : ℕ) → IsTrue s.is_visible → RunAtRest subscribers before (opening_stage subscribers) (state_now s)
       → RunAtRest subscribers before new (state_now t)
   pub within : ok ≡ true → All (λ d. d.number ≤ new.last) new.done

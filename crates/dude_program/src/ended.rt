@@ -1,7 +1,7 @@
 ghost use Rattle.std.specs.Prelude.{◌≡◌};
-ghost use Rattle.dude_text.specs.Fault.{status_of};
+ghost use Rattle.dude_program.specs.Fault.{status_of};
 
-use dude_text::Fault;
+use crate::fault::Fault;
 use tatp_model::Done;
 
 /// How a command ended.

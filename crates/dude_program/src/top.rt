@@ -1,35 +1,28 @@
-ghost use Rattle.std.specs.Prelude.{◌≡◌, ◌⊎◌, ◌↔◌, ℕ, ◌≤◌, ◌<◌, map, Some, None, IsTrue, List, []};
+ghost use Rattle.std.specs.Prelude.{◌≡◌, ◌≤◌, map, Some, IsTrue};
 ghost use Rattle.std.specs.Rc.{rc_str_bytes};
 ghost use Rattle.pmem_trait.specs.Words.{IsSettled};
 ghost use Rattle.pmem_trait.specs.Sights.{state_now};
-ghost use Rattle.dude_io.specs.Files.{FilesStay};
-ghost use Rattle.dude_text.specs.Command.{Meaning, meaning_of};
-ghost use Rattle.dude_text.specs.Fault.{status_of};
-ghost use Rattle.dude_program.specs.Headline.{Replies, Crash};
-ghost use Rattle.dude_program.specs.Causes.{world_of, NothingCalled, HasCause, RefusesMissing, RefusesBadFile, RefusesSmall, SucceedsIfGood, OnAllDone, AllDone, EndsDone, OnRefusal, Bytes};
+ghost use Rattle.dude_program.specs.Command.{Meaning, Meaning.FreshRun, meaning_of};
+ghost use Rattle.dude_program.specs.Fault.{status_of};
+ghost use Rattle.dude_program.specs.World.{world_of};
+ghost use Rattle.dude_program.specs.Headline.{Headline};
+ghost use Rattle.dude_program.specs.Causes.{Causes};
 ghost use Rattle.dude_program.specs.Ending.{Ends};
-ghost use Rattle.dude_program.specs.Outcome.{RanUnlessDevice};
 ghost use Rattle.dude_program.specs.Printing.{PrintsOutcome};
 
+use crate::command::{Command, command_of};
 use crate::ended::Ended;
-use crate::outcome::{Outcome, carry_out};
-use crate::plan::read_plan;
+use crate::fault::Fault;
+use crate::fresh::serve_fresh;
+use crate::outcome::Outcome;
 use crate::printing::print;
+use crate::requests::read_request_file;
 use dude_io::{Files, Sink};
-use dude_text::Fault;
 use pmem_trait::Medium;
 use std::alloc::Global;
 use std::rc::RcStr;
-use tatp_model::Done;
 
-/// What came of the work: the requests done, and the fault, if any.
-#[derive(Drop)]
-struct Work {
-    done: Vec<Done>,
-    fault: Option<Fault>,
-}
-
-/// Prints what is done, where the plan was carried out.
+/// Prints what is done, unless a fault came before.
 fn print_outcome<K: Sink>(alloc: Global, outcome: &Outcome, out: &mut K) -> Option<Fault>
     ensures { PrintsOutcome outcome.now.done.items outcome.now.last outcome.now.fault result (K.sight out.old) (K.sight out.new) }
 {
@@ -39,31 +32,54 @@ fn print_outcome<K: Sink>(alloc: Global, outcome: &Outcome, out: &mut K) -> Opti
     }
 }
 
-fn carry_out_words<M: Medium, F: Files, K: Sink>(
+/// Carries out `fresh` for so many subscribers, with the requests of this file.
+fn carry_out_fresh<M: Medium, F: Files, K: Sink>(
+    alloc: Global,
+    subscribers: u64,
+    file: &str,
+    m: &mut M,
+    files: &mut F,
+    out: &mut K,
+) -> Outcome
+    requires some { 1 ≤ subscribers }
+    requires limited { subscribers ≤ 10000 }
+    requires settled { IsTrue (M.sight m.old).is_visible → IsSettled (state_now (M.sight m.old)) }
+    ensures { Ends (FreshRun subscribers file.now) (world_of (M.sight m.old) (F.sight files.old) (K.sight out.old))
+        (world_of (M.sight m.new) (F.sight files.new) (K.sight out.new)) result.done.items result.fault }
+{
+    let requests = match read_request_file(alloc, file, files) {
+        Ok(requests) => requests,
+        Err(fault) => return Outcome::refused(alloc, fault),
+    };
+    let served = serve_fresh(alloc, subscribers, &requests, m);
+    let fault = print_outcome(alloc, &served, out);
+    Outcome {
+        done: served.done,
+        last: served.last,
+        fault,
+    }
+}
+
+/// Carries out the command of these words.
+fn carry_out<M: Medium, F: Files, K: Sink>(
     alloc: Global,
     words: &[RcStr],
     m: &mut M,
     files: &mut F,
     out: &mut K,
-) -> Work
+) -> Outcome
     requires settled { IsTrue (M.sight m.old).is_visible → IsSettled (state_now (M.sight m.old)) }
-    ensures { Ends (meaning_of (map rc_str_bytes words.now)) (world_of (M.sight m.old) (F.sight files.old) (K.sight out.old))
+    ensures headline { (own : Meaning) → meaning_of (map rc_str_bytes words.now) ≡ Some own
+        → Headline own (world_of (M.sight m.old) (F.sight files.old) (K.sight out.old))
+        (world_of (M.sight m.new) (F.sight files.new) (K.sight out.new)) result.done.items result.fault }
+    ensures causes { Causes (meaning_of (map rc_str_bytes words.now)) (world_of (M.sight m.old) (F.sight files.old) (K.sight out.old))
         (world_of (M.sight m.new) (F.sight files.new) (K.sight out.new)) result.done.items result.fault }
 {
-    let plan = match read_plan(alloc, words, files) {
-        Ok(plan) => plan,
-        Err(fault) => {
-            return Work {
-                done: Vec::new(alloc),
-                fault: Some(fault),
-            };
+    match command_of(words) {
+        Some(Command::Fresh { subscribers, file }) => {
+            carry_out_fresh(alloc, subscribers, file, m, files, out)
         }
-    };
-    let outcome = carry_out(alloc, plan.subscribers, &plan.requests, m);
-    let fault = print_outcome(alloc, &outcome, out);
-    Work {
-        done: outcome.done,
-        fault,
+        None => Outcome::refused(alloc, Fault::Usage),
     }
 }
 
@@ -80,36 +96,15 @@ pub fn dude<M: Medium + Send, F: Files, K: Sink>(
 ) -> Ended<M>
     requires settled { IsTrue (M.sight medium).is_visible → IsSettled (state_now (M.sight medium)) }
     ensures status { result.status ≡ status_of result.fault }
-
-    // Replies: those of one thread that executes the requests in the order of their numbers.
-    ensures replies { (own : Meaning) → meaning_of (map rc_str_bytes words.now) ≡ Some own
-        → (result.done.items ≡ []) ⊎ Replies own (F.sight files.old) result.done.items }
-    ensures all { OnAllDone result.fault (AllDone (meaning_of (map rc_str_bytes words.now)) (world_of (M.sight medium) (F.sight files.old) (K.sight out.old)) result.done.items) }
-    // Crash: at every moment every image recovers to the database after a prefix of that order, with everything told.
-    ensures crash { (own : Meaning) → meaning_of (map rc_str_bytes words.now) ≡ Some own
-        → Crash own result.done.items (M.sight medium) (M.sight result.medium) }
-    // Bytes: the sink took the lines of these replies.
-    ensures bytes { (own : Meaning) → meaning_of (map rc_str_bytes words.now) ≡ Some own
-        → Bytes own result.done.items (world_of (M.sight medium) (F.sight files.old) (K.sight out.old)) (world_of (M.sight result.medium) (F.sight files.new) (K.sight out.new)) result.fault }
-    // End: where all is done, the last number told is the last of them, and every image recovers to it.
-    ensures end { OnAllDone result.fault (EndsDone (meaning_of (map rc_str_bytes words.now)) (world_of (M.sight medium) (F.sight files.old) (K.sight out.old)) (world_of (M.sight result.medium) (F.sight files.new) (K.sight out.new)) result.done.items) }
-
-    // When each fault comes.
-    ensures cause { HasCause (meaning_of (map rc_str_bytes words.now)) (world_of (M.sight medium) (F.sight files.old) (K.sight out.old)) (world_of (M.sight result.medium) (F.sight files.new) (K.sight out.new)) result.fault }
-    ensures usage { (result.fault ≡ Some Fault.Usage) ↔ (meaning_of (map rc_str_bytes words.now) ≡ None) }
-    ensures refused_words { meaning_of (map rc_str_bytes words.now) ≡ None
-        → NothingCalled (world_of (M.sight medium) (F.sight files.old) (K.sight out.old)) (world_of (M.sight result.medium) (F.sight files.new) (K.sight out.new)) }
-    ensures missing { RefusesMissing (meaning_of (map rc_str_bytes words.now)) (world_of (M.sight medium) (F.sight files.old) (K.sight out.old)) result.fault }
-    ensures bad_file { RefusesBadFile (meaning_of (map rc_str_bytes words.now)) (world_of (M.sight medium) (F.sight files.old) (K.sight out.old)) result.fault }
-    ensures too_small { RefusesSmall (meaning_of (map rc_str_bytes words.now)) (world_of (M.sight medium) (F.sight files.old) (K.sight out.old)) result.fault }
-    ensures complete { SucceedsIfGood (meaning_of (map rc_str_bytes words.now)) (world_of (M.sight medium) (F.sight files.old) (K.sight out.old)) (world_of (M.sight result.medium) (F.sight files.new) (K.sight out.new)) result.fault }
-
-    // What stays. A failed call on the medium is the last one, and comes exactly where the fault is `Device`.
-    ensures untouched { OnRefusal result.fault ((M.sight result.medium ≡ M.sight medium) × (result.done.items ≡ [])) }
-    ensures ran { RanUnlessDevice result.fault (M.sight medium) (M.sight result.medium) }
-    ensures files { FilesStay (F.sight files.old) (F.sight files.new) }
+    // What the command did, where the words mean one.
+    ensures headline { (own : Meaning) → meaning_of (map rc_str_bytes words.now) ≡ Some own
+        → Headline own (world_of (M.sight medium) (F.sight files.old) (K.sight out.old))
+        (world_of (M.sight result.medium) (F.sight files.new) (K.sight out.new)) result.done.items result.fault }
+    // When each fault comes, and what stays then.
+    ensures causes { Causes (meaning_of (map rc_str_bytes words.now)) (world_of (M.sight medium) (F.sight files.old) (K.sight out.old))
+        (world_of (M.sight result.medium) (F.sight files.new) (K.sight out.new)) result.done.items result.fault }
 {
     let mut medium = medium;
-    let work = carry_out_words(alloc, words, &mut medium, files, out);
-    Ended::new(work.fault, medium, work.done)
+    let outcome = carry_out(alloc, words, &mut medium, files, out);
+    Ended::new(outcome.fault, medium, outcome.done)
 }

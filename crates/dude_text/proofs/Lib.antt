@@ -1,5 +1,4 @@
 pub mod Digits
-pub mod Words
 pub mod Joined
 pub mod Fields
 pub mod Served

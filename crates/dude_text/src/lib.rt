@@ -1,9 +1,6 @@
-//! The texts of the program: the command words, the request files, the output, and the faults' lines. Nothing here
-//! needs a medium.
+//! The texts of the first stage: request files, replies and the output of a run. Nothing here needs a medium.
 #![tactic(auto)]
 
-mod command;
-mod fault;
 mod number;
 mod output;
 mod record;
@@ -11,8 +8,7 @@ mod reply_text;
 mod request_file;
 mod text_fault;
 
-pub use command::{Command, command_of};
-pub use fault::{Fault, fault_text};
+pub use number::number_in;
 pub use output::{write_done, write_last};
 pub use request_file::{MAX_BYTES, read_requests};
 pub use text_fault::TextFault;

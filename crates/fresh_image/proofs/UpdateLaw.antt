@@ -10,7 +10,7 @@ use Rattle.dude_base.specs.declared.write.Write.{Write}
 use Rattle.dude_base.specs.Records.{RedoRecord}
 use Rattle.pmem_trait.specs.declared.call.Call.{Call}
 use Rattle.pmem_trait.specs.declared.call.Call.TheVariants.{Tell}
-use Rattle.pmem_trait.specs.Words.{newest, Word, State, IsIn, MayHold, IsImage, settled_at, after, after_all, EveryImage, AfterEachCall, more}
+use Rattle.pmem_trait.specs.Words.{newest, Word, State, IsIn, MayHold, IsImage, settled_at, after, after_all, EveryImage, AfterEachCall, more, IsSettledWord, AtLeast}
 use Rattle.pmem_trait.specs.Groups.{group_calls, OldOrNew, final}
 use Rattle.pmem_trait.proofs.GroupLaw.{group_law, group_word, group_told, mix_may}
 use Rattle.pmem_trait.proofs.Images.{may_still}
@@ -23,7 +23,7 @@ use Rattle.redo_record.specs.Encoding.{IsEncodable, encoded}
 use Rattle.redo_record.specs.Images.{mark_of, tag_of, word_in_image, IsComplete, IsNewHead}
 use Rattle.fresh_image.specs.Recovered.{RecoversHome}
 use Rattle.redo_record.specs.Calls.{append_calls}
-use Rattle.redo_record.specs.Fits.{Logged, IsSettledWord, FitsRing, settled_mark}
+use Rattle.redo_record.specs.Fits.{Logged, FitsRing, settled_mark}
 use Rattle.redo_record.specs.AppendLaw.{CanAppend, logged_as, IsElsewhere, HeadsHold, Appended}
 use Rattle.redo_record.proofs.AppendedRecord.{append_law}
 use Rattle.redo_record.proofs.EncodedCells.{cells_of_record, encoded_holds, encoded_record, encoded_writes}
@@ -31,7 +31,7 @@ use Rattle.redo_record.proofs.HeldRecords.{AreSame, complete_same, record_same}
 use Rattle.redo_record.proofs.RingHeads.{is_still, cell_is}
 use Rattle.redo_record.proofs.RingRoom.{release_law, rest_law}
 use Rattle.fresh_image.specs.Fresh.{RestsWith, AtRest, fresh_sizes, fresh_home_start, fresh_length}
-use Rattle.fresh_image.specs.Calls.{update_record, update_cell, home_write, mark_write, reproduce_calls, update_calls, AtLeast, RecoversToEither}
+use Rattle.fresh_image.specs.Calls.{update_record, update_cell, home_write, mark_write, reproduce_calls, update_calls, RecoversToEither}
 use Rattle.fresh_image.proofs.Groups.{Within, written-outside, written-same, kept, either, left}
 use Rattle.fresh_image.proofs.Lists.{set-set_same, IsIn-drop_push}
 use Rattle.fresh_image.proofs.Shown.{Reads, fresh_sizes_are, recovers_rest, recovers_next}

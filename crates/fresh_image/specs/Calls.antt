@@ -3,7 +3,7 @@
 use Rattle.std.specs.Prelude.{◌≡◌, ◌⊎◌, ℕ, ◌+◌, ◌/◌, ◌<◌, ◌≤◌, List, [], ◌∷◌, ◌++◌, length, drop}
 use Rattle.pmem_trait.specs.declared.call.Call.{Call}
 use Rattle.pmem_trait.specs.declared.call.Call.TheVariants.{Tell}
-use Rattle.pmem_trait.specs.Words.{IsIn, State}
+use Rattle.pmem_trait.specs.Words.{State, AtLeast}
 use Rattle.pmem_trait.specs.Groups.{group_calls}
 use Rattle.dude_base.specs.Records.{RedoRecord}
 use Rattle.dude_base.specs.Image.{Cell}
@@ -34,10 +34,6 @@ reproduce_calls number at value =
 unfoldable pub update_calls : ℕ → ℕ → ℕ → ℕ → ℕ → List Call
 update_calls subscribers place number at value =
     append_calls (fresh_sizes subscribers) (update_cell place) (update_record number at value) ++ (Tell number ∷ reproduce_calls number at value)
-
--- a number is at least every number told since the first so many
-abbrev pub AtLeast : ℕ → List ℕ → ℕ → Type 0
-AtLeast before told number = (x : ℕ) → IsIn x (drop before told) → x ≤ number
 
 -- The image recovers to this number and these home words, and nothing greater was told.
 abbrev pub RecoversToTold : ℕ → ℕ → ℕ → List ℕ → List ℕ → List ℕ → Type 0

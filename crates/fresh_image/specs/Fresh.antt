@@ -3,8 +3,8 @@ use Rattle.std.specs.Prelude.{◌≡◌, ℕ, ◌+◌, ◌*◌, ◌<◌, ◌≤�
 use Rattle.dude_base.specs.declared.limits.TheConstants.{MAGIC}
 use Rattle.dude_base.specs.declared.sizes.Sizes.{Sizes}
 use Rattle.dude_base.specs.Home.{pages_for}
-use Rattle.pmem_trait.specs.Words.{State, settled_at}
-use Rattle.redo_record.specs.Fits.{Logged, IsSettledWord, FitsRing}
+use Rattle.pmem_trait.specs.Words.{State, settled_at, IsSettledWord}
+use Rattle.redo_record.specs.Fits.{Logged, FitsRing}
 
 -- the pages that the tables of so many subscribers need, with twelve call rows a subscriber
 unfoldable pub fresh_pages : ℕ → ℕ

@@ -4,11 +4,11 @@ use Rattle.std.specs.List.{filter}
 use Rattle.dude_base.specs.declared.limits.TheConstants.{MARK}
 use Rattle.dude_base.specs.declared.sizes.Sizes.{Sizes}
 use Rattle.dude_base.specs.Records.{RedoRecord}
-use Rattle.pmem_trait.specs.Words.{State, MayHold}
+use Rattle.pmem_trait.specs.Words.{State, MayHold, IsSettledWord}
 use Rattle.redo_record.specs.Tags.{IsHeadOver}
 use Rattle.dude_base.specs.Image.{Cell, cell_at, cell_start}
 use Rattle.redo_record.specs.Record.{cells_for}
-use Rattle.redo_record.specs.Fits.{Logged, FitsRing, IsSettledWord, settled_mark}
+use Rattle.redo_record.specs.Fits.{Logged, FitsRing, settled_mark}
 
 -- A ring: the sizes of its image, its number among the rings, its records, the oldest first, the place where the next
 -- one's head will stand, and the greatest number released.

@@ -7,9 +7,9 @@ use Rattle.pmem_trait.specs.declared.call.Call.{Call}
 use Rattle.pmem_trait.specs.declared.call.Call.TheVariants.{Read, Put, Flush, Fence, Tell}
 use Rattle.pmem_trait.specs.declared.made.Made.{Made}
 use Rattle.pmem_trait.specs.Words.{IsIn, Word, State, MayHold, IsImage, with_later, with_note, word_after, after}
-use Rattle.pmem_fake.specs.History.{start_state, after_made, choices, picked_value, IsPicked, EachIsPicked}
+use Rattle.pmem_fake.specs.History.{start_state, was_effective, after_made, choices, picked_value, IsPicked, EachIsPicked}
 
--- an element of a list by its place
+-- an element of a list by its index
 is_in_at : (xs : List ℕ) (i : ℕ) → i < length xs → IsIn (get_or xs i 0) xs
 is_in_at [] i below = absurd (omega arith)
 is_in_at (x ∷ xs) zero below = inl refl
@@ -25,17 +25,17 @@ picked_allowed {len} {p} {picks} is = record {
   each = λ k below. subst (λ (x : ℕ). MayHold (p.word k) x) (sym (is.each k below)) (picked_may (p.word k) (slice_index picks k));
 }
 
--- the place of an element
-place_of : (x : ℕ) (xs : List ℕ) → IsIn x xs → (i : ℕ) × (i < length xs) × (x ≡ get_or xs i 0)
-place_of x [] is = absurd is
-place_of x (y ∷ ys) (inl is) = (0, omega arith, is)
-place_of x (y ∷ ys) (inr is) = let rest = place_of x ys is in (suc rest.0, omega (arith, rest.1), rest.2)
+-- the index of an element
+index_of : (x : ℕ) (xs : List ℕ) → IsIn x xs → (i : ℕ) × (i < length xs) × (x ≡ get_or xs i 0)
+index_of x [] is = absurd is
+index_of x (y ∷ ys) (inl is) = (0, omega arith, is)
+index_of x (y ∷ ys) (inr is) = let rest = index_of x ys is in (suc rest.0, omega (arith, rest.1), rest.2)
 
 -- the pick that takes an allowed value
 pick_of : (w : Word) (x : ℕ) → MayHold w x → (pick : ℕ) × (pick ≤ length w.later) × (x ≡ picked_value w pick)
 pick_of w x may =
-    let place = place_of x (choices w) may in
-    (place.0, omega (arith, place.1), place.2 ∙ ap (λ (i : ℕ). get_or (choices w) i 0) (sym (mod-eq_of_lt place.1)))
+    let index = index_of x (choices w) may in
+    (index.0, omega (arith, index.1), index.2 ∙ ap (λ (i : ℕ). get_or (choices w) i 0) (sym (mod-eq_of_lt index.1)))
 
 -- picks for the first n words
 choose : (n : ℕ) (word : ℕ → Word) (value : ℕ → ℕ) → ((k : ℕ) → k < n → MayHold (word k) (value k))
@@ -76,23 +76,23 @@ one_more (Flush line) k w = by (k / 8 == line)
 one_more Fence k w = omega (arith, length-drop w.noted w.later)
 one_more (Tell number) k w = omega arith
 
-as_many : (ms : List Made) (k : ℕ) (p : State) → length ((after_made ms p).word k).later ≤ length (p.word k).later + length ms
-as_many [] k p = omega arith
-as_many (m ∷ ms) k p = by m.failed (λ q. as_many ms k q)
+as_many : (late : Bool) (ms : List Made) (k : ℕ) (p : State) → length ((after_made late ms p).word k).later ≤ length (p.word k).later + length ms
+as_many late [] k p = omega arith
+as_many late (m ∷ ms) k p = by (was_effective late m) (λ q. as_many late ms k q)
   where
-    by : (b : Bool) → ((q : State) → length ((after_made ms q).word k).later ≤ length (q.word k).later + length ms)
-        → length ((after_made ms (if b then p else after m.call p)).word k).later ≤ length (p.word k).later + suc (length ms)
-    by true rest = omega (arith, rest p)
-    by false rest = omega (arith, rest (after m.call p), one_more m.call k (p.word k))
+    by : (b : Bool) → ((q : State) → length ((after_made late ms q).word k).later ≤ length (q.word k).later + length ms)
+        → length ((after_made late ms (if b then after m.call p else p)).word k).later ≤ length (p.word k).later + suc (length ms)
+    by false rest = omega (arith, rest p)
+    by true rest = omega (arith, rest (after m.call p), one_more m.call k (p.word k))
 
 -- each image that a crash may leave after some calls is taken by picks of 64 bits
-pub each_picked : (len : ℕ) (ms : List Made) (start : List ℕ) → length ms ≤ 10000000 → EachIsPicked len (after_made ms (start_state start))
-each_picked len ms start few image is =
-    let p = after_made ms (start_state start) in
+pub each_picked : (len : ℕ) (late : Bool) (ms : List Made) (start : List ℕ) → length ms ≤ 10000000 → EachIsPicked len (after_made late ms (start_state start))
+each_picked len late ms start few image is =
+    let p = after_made late ms (start_state start) in
     let chosen = choose len p.word (λ k. get_or image k 0) is.each in (
       chosen.0,
       All-from_get_or (λ pick. pick < 2 ^ 64) chosen.0 0 (λ k below.
-          let bound : length (p.word k).later ≤ length ms = omega (arith, as_many ms k (start_state start)) in
+          let bound : length (p.word k).later ≤ length ms = omega (arith, as_many late ms k (start_state start)) in
           omega (arith, (chosen.2 k (omega (arith, chosen.1))).0, bound)),
       record { size = is.size; each = λ k below. (chosen.2 k below).1 },
     )

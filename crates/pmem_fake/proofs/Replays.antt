@@ -1,10 +1,10 @@
 -- A replay of the calls, word by word.
-use Rattle.std.proofs.Common.{take_at, length-drop, ◌≡◌, ℕ, zero, suc, ◌+◌, ◌-◌, ◌<◌, ◌≤◌, if◌then◌else◌, List, [], ◌∷◌, ◌++◌, length, take, drop, get_or, refl, sym, ap, ◌∙◌, subst, arith}
+use Rattle.std.proofs.Common.{take_at, length-drop, ◌≡◌, ℕ, zero, suc, ◌+◌, ◌-◌, ◌<◌, ◌≤◌, Bool, List, [], ◌∷◌, ◌++◌, length, take, drop, get_or, refl, sym, ap, ◌∙◌, subst, arith}
 use Rattle.std.proofs.lemmas.List.{drop-drop, get_or-drop}
 use Rattle.pmem_trait.specs.declared.call.Call.{Call}
 use Rattle.pmem_trait.specs.declared.made.Made.{Made}
-use Rattle.pmem_trait.specs.Words.{after, Word, State, newest, settled_at, settle, word_after}
-use Rattle.pmem_fake.specs.History.{after_made}
+use Rattle.pmem_trait.specs.Words.{Word, State, newest, settled_at, settle, word_after}
+use Rattle.pmem_fake.specs.History.{step_made, after_made}
 use Rattle.pmem_fake.specs.Replays.{AreInState}
 use Rattle.pmem_fake.proofs.Histories.{made_next}
 
@@ -19,9 +19,9 @@ pub settle_noted : (s f n last : ℕ) (puts : List ℕ) → 0 < n → f + n ≤ 
     → record { settled = last; later = drop (f + n) puts; noted = 0 } ≡ settle (record { settled = s; later = drop f puts; noted = n })
 settle_noted s f zero last puts some within is = absurd (omega arith)
 settle_noted s f (suc n) last puts some within is =
-    let place : f + suc n - 1 ≡ f + n = omega arith in
+    let index : f + suc n - 1 ≡ f + n = omega arith in
     let chosen : newest s (take (suc n) (drop f puts)) ≡ last =
-    newest-take s n last (drop f puts) (omega (arith, length-drop f puts)) ∙ get_or-drop f puts n last ∙ ap (λ (j : ℕ). get_or puts j last) (sym place) ∙ sym is in
+    newest-take s n last (drop f puts) (omega (arith, length-drop f puts)) ∙ get_or-drop f puts n last ∙ ap (λ (j : ℕ). get_or puts j last) (sym index) ∙ sym is in
     rw (chosen, drop-drop (suc n) f puts)
 
 -- the words below i are as a call leaves them, and the others are as they were
@@ -31,14 +31,15 @@ pub record SteppedTo (c : Call) (old : List Word) (i : ℕ) (new : List Word) : 
   pub above : (k : ℕ) → i ≤ k → get_or new k (settled_at 0) ≡ get_or old k (settled_at 0)
 
 -- One turn of the replay: the words, lent and given back, stand as after one call more.
-pub replay_turn : {len n : ℕ} {old lent new : List Word} (calls : List Made) (i : ℕ) (d : Made) (p : State) → i < length calls → n ≡ length old → lent ≡ old
-    → AreInState len old (after_made (take i calls) p) → length new ≡ length lent
-    → ((q : State) → AreInState (length lent) lent q → AreInState (length lent) new (if (get_or calls i d).failed then q else after (get_or calls i d).call q))
-    → AreInState len (take n (new ++ drop (length new) old)) (after_made (take (i + 1) calls) p)
-replay_turn {len} {n} {old} {lent} {new} calls i d p below whole is stands size turn =
+pub replay_turn : {len n : ℕ} {old lent new : List Word} (late : Bool) (calls : List Made) (i : ℕ) (d : Made) (p : State) → i < length calls → n ≡ length old → lent ≡ old
+    → AreInState len old (after_made late (take i calls) p) → length new ≡ length lent
+    → ((q : State) → AreInState (length lent) lent q → AreInState (length lent) new (step_made late (get_or calls i d) q))
+    → AreInState len (take n (new ++ drop (length new) old)) (after_made late (take (i + 1) calls) p)
+replay_turn {len} {n} {old} {lent} {new} late calls i d p below whole is stands size turn =
+    let before = after_made late (take i calls) p in
     let same : length lent ≡ len = ap length is ∙ stands.size in
-    let begun : AreInState (length lent) lent (after_made (take i calls) p) = subst (λ (m : ℕ). AreInState m lent (after_made (take i calls) p)) (sym same) (subst (λ (ws : List Word). AreInState len ws (after_made (take i calls) p)) (sym is) stands) in
+    let begun : AreInState (length lent) lent before = subst (λ (m : ℕ). AreInState m lent before) (sym same) (subst (λ (ws : List Word). AreInState len ws before) (sym is) stands) in
     let back : take n (new ++ drop (length new) old) ≡ new = take_at new _ n (omega (arith, ap length is)) in
-    subst (λ (ws : List Word). AreInState len ws (after_made (take (i + 1) calls) p)) (sym back)
-    (subst (λ (q : State). AreInState len new q) (sym (made_next calls i d p below))
-    (subst (λ (m : ℕ). AreInState m new (if (get_or calls i d).failed then after_made (take i calls) p else after (get_or calls i d).call (after_made (take i calls) p))) same (turn _ begun)))
+    subst (λ (ws : List Word). AreInState len ws (after_made late (take (i + 1) calls) p)) (sym back)
+    (subst (λ (q : State). AreInState len new q) (sym (made_next late calls i d p below))
+    (subst (λ (m : ℕ). AreInState m new (step_made late (get_or calls i d) before)) same (turn _ begun)))

@@ -1,5 +1,5 @@
 -- The state of a medium in memory after the calls made on it, and what a crash then leaves.
-use Rattle.std.specs.Prelude.{◌≡◌, ℕ, ◌%◌, ◌<◌, ◌^◌, true, if◌then◌else◌, nat_le, List, [], ◌∷◌, take, length, slice_index, IsTrue, All}
+use Rattle.std.specs.Prelude.{◌≡◌, ℕ, ◌%◌, ◌<◌, ◌^◌, Bool, true, not, ◌||◌, if◌then◌else◌, nat_le, List, [], ◌∷◌, take, length, slice_index, IsTrue, All}
 use Rattle.pmem_trait.specs.declared.made.Made.{Made}
 use Rattle.pmem_trait.specs.Words.{Word, State, settled_at, after, IsImage}
 use Rattle.pmem_trait.specs.Sights.{Sight, state_now}
@@ -8,20 +8,28 @@ use Rattle.pmem_trait.specs.Sights.{Sight, state_now}
 abbrev pub start_state : List ℕ → State
 start_state words = record { word = λ k. settled_at (slice_index words k); told = [] }
 
--- the state after these calls, of which a failed one has done nothing
-abbrev pub after_made : List Made → State → State
-after_made [] p = p
-after_made (m ∷ ms) p = after_made ms (if m.failed then p else after m.call p)
+-- a call that was made had its effect: it didn't fail, or it failed late
+abbrev pub was_effective : Bool → Made → Bool
+was_effective late m = late || not m.failed
+
+-- the state after a call that was made
+abbrev pub step_made : Bool → Made → State → State
+step_made late m p = if was_effective late m then after m.call p else p
+
+-- the state after these calls
+abbrev pub after_made : Bool → List Made → State → State
+after_made late [] p = p
+after_made late (m ∷ ms) p = after_made late ms (step_made late m p)
 
 -- What is seen of a medium that began with these words: the state at each moment is the one after the calls up to it.
 -- Calls over the budget aren't listed, and have done nothing.
-abbrev pub sight_of : List ℕ → List Made → ℕ → ℕ → ℕ → Sight
-sight_of start calls now budget faults = record {
+abbrev pub sight_of : Bool → List ℕ → List Made → ℕ → ℕ → ℕ → Sight
+sight_of late start calls now budget faults = record {
   len = length start;
   now = now;
   faults = faults;
   is_visible = true;
-  state = λ moment. after_made (take moment calls) (start_state start);
+  state = λ moment. after_made late (take moment calls) (start_state start);
   lists_calls = nat_le now budget;
   made = calls;
 }
@@ -40,7 +48,7 @@ pub record IsUntouched (words : List ℕ) (s : Sight) : Type 0 where
 abbrev pub choices : Word → List ℕ
 choices w = w.settled ∷ w.later
 
--- the one that a pick takes, modulo their number
+-- the one that a pick takes, modulo their count
 abbrev pub picked_value : Word → ℕ → ℕ
 picked_value w pick = slice_index (choices w) (pick % length (choices w))
 

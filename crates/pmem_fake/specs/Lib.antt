@@ -1,4 +1,4 @@
-pub mod Entries
+pub mod CallHistory
 pub mod Fakes
 pub mod History
 pub mod Replays

@@ -2,8 +2,8 @@ ghost use Rattle.std.specs.Prelude.{◌≡◌, ℕ, ◌<◌, length, slice_index
 ghost use Rattle.pmem_trait.specs.Words.{value_of};
 ghost use Rattle.pmem_fake.specs.History.{after_made, start_state};
 
+use crate::call_history::CallHistory;
 use crate::image_fault::ImageFault;
-use crate::log::Log;
 use crate::replay::{image_after, last_told_by};
 use pmem_trait::{Call, Failed, Made, Medium};
 use std::alloc::{AllocError, Global};
@@ -13,17 +13,17 @@ use std::alloc::{AllocError, Global};
 pub struct MemPmem {
     start: Vec<u64>,
     words: Vec<u64>,
-    log: Log,
+    history: CallHistory,
     ghost same_len: { length words.items ≡ length start.items },
-    ghost content: { (k : ℕ) → k < length start.items → slice_index words.items k ≡ value_of ((after_made log.calls.items (start_state start.items)).word k) },
+    ghost content: { (k : ℕ) → k < length start.items → slice_index words.items k ≡ value_of ((after_made history.late history.calls.items (start_state start.items)).word k) },
 }
 
 impl MemPmem {
-    ghost use Rattle.std.specs.Prelude.{◌≡◌, ℕ, ◌<◌, ◌≤◌, length, slice_index, IfOk, IfErr, IsErrOf, ◌⊎◌, ◌↔◌};
+    ghost use Rattle.std.specs.Prelude.{◌≡◌, ℕ, ◌<◌, ◌≤◌, length, slice_index, true, false, IfOk, IfErr, IsErrOf, ◌⊎◌, ◌↔◌};
     ghost use Rattle.pmem_trait.specs.Words.{last_told, value_of, IsContent, IsImage};
     ghost use Rattle.pmem_trait.specs.Sights.{state_now};
     ghost use Rattle.pmem_fake.specs.History.{IsUntouched, IsPicked, EachIsPicked};
-    ghost use Rattle.pmem_fake.specs.Fakes.{sight, allowed, failing};
+    ghost use Rattle.pmem_fake.specs.Fakes.{sight, allowed, failing, fails_late};
 
     /// A medium that is settled at these words. Of its calls, counted from 1, those over `budget` fail and do nothing,
     /// and so do those whose count is in `fail`. It takes memory for `budget` calls here, and none later.
@@ -34,18 +34,51 @@ impl MemPmem {
         fail: Vec<u64>,
     ) -> Result<MemPmem, AllocError>
         requires { budget ≤ 10000000 }
-        ensures opening { IfOk result (λ medium. IsUntouched words.items (sight medium)) }
+        ensures untouched { IfOk result (λ medium. IsUntouched words.items (sight medium)) }
         ensures budget { IfOk result (λ medium. allowed medium ≡ budget) }
         ensures fail { IfOk result (λ medium. failing medium ≡ fail.items) }
+        ensures early { IfOk result (λ medium. fails_late medium ≡ false) }
+    {
+        MemPmem::start(alloc, words, budget, fail, false)
+    }
+
+    /// The same, but a call whose count is in `fail` has its whole effect before it fails. One over `budget` does nothing.
+    pub fn late(
+        alloc: Global,
+        words: Vec<u64>,
+        budget: u64,
+        fail: Vec<u64>,
+    ) -> Result<MemPmem, AllocError>
+        requires { budget ≤ 10000000 }
+        ensures untouched { IfOk result (λ medium. IsUntouched words.items (sight medium)) }
+        ensures budget { IfOk result (λ medium. allowed medium ≡ budget) }
+        ensures fail { IfOk result (λ medium. failing medium ≡ fail.items) }
+        ensures late { IfOk result (λ medium. fails_late medium ≡ true) }
+    {
+        MemPmem::start(alloc, words, budget, fail, true)
+    }
+
+    fn start(
+        alloc: Global,
+        words: Vec<u64>,
+        budget: u64,
+        fail: Vec<u64>,
+        late: bool,
+    ) -> Result<MemPmem, AllocError>
+        requires { budget ≤ 10000000 }
+        ensures untouched { IfOk result (λ medium. IsUntouched words.items (sight medium)) }
+        ensures budget { IfOk result (λ medium. allowed medium ≡ budget) }
+        ensures fail { IfOk result (λ medium. failing medium ≡ fail.items) }
+        ensures late { IfOk result (λ medium. fails_late medium ≡ late) }
     {
         Ok(MemPmem {
             start: words.to_vec(alloc)?,
             words,
-            log: Log::new(alloc, budget, fail)?,
+            history: CallHistory::new(alloc, budget, fail, late)?,
         })
     }
 
-    /// What reads give, by place.
+    /// What reads give, word by word.
     pub fn content(&self) -> &[u64]
         ensures { IsContent (sight self.now).len (state_now (sight self.now)) result.now }
     {
@@ -56,31 +89,37 @@ impl MemPmem {
     pub fn made(&self) -> &[Made]
         ensures { result.now ≡ (sight self.now).made }
     {
-        &self.log.calls
+        &self.history.calls
     }
 
     /// How many calls failed, up to 2^64 - 1.
     pub fn faults(&self) -> u64
         ensures { result ≡ (sight self.now).faults }
     {
-        self.log.faults
+        self.history.faults
     }
 
     /// The last number told.
     pub fn told(&self) -> Option<u64>
         ensures { result ≡ last_told (state_now (sight self.now)).told }
     {
-        last_told_by(&self.log.calls)
+        last_told_by(&self.history.calls, self.history.late)
     }
 
-    /// An image that a crash may leave now. Word k takes its allowed value number `picks[k]`, modulo their count: the
+    /// An image that a crash may leave now. Word k takes the allowed value of index `picks[k]`, modulo their count: the
     /// settled value first, and then the later ones in order of their puts. An absent pick takes the settled value.
     pub fn crash(&self, alloc: Global, picks: &[u64]) -> Result<Vec<u64>, AllocError>
         ensures picked { IfOk result (λ image. IsPicked (sight self.now).len (state_now (sight self.now)) picks.now image.items) }
         ensures allowed { IfOk result (λ image. IsImage (sight self.now).len (state_now (sight self.now)) image.items) }
         ensures every { EachIsPicked (sight self.now).len (state_now (sight self.now)) }
     {
-        image_after(alloc, &self.start, &self.log.calls, picks)
+        image_after(
+            alloc,
+            &self.start,
+            &self.history.calls,
+            self.history.late,
+            picks,
+        )
     }
 
     /// An image that a crash may leave at a moment up to now; `Later` where the moment hasn't come.
@@ -96,24 +135,24 @@ impl MemPmem {
         ensures later { (sight self.now).now < moment ↔ IsErrOf result (ImageFault.Later moment (sight self.now).now) }
         ensures fault { IfErr result (λ fault. (fault ≡ ImageFault.Later moment (sight self.now).now) ⊎ (fault ≡ ImageFault.NoMemory)) }
     {
-        let now = self.log.now;
+        let now = self.history.now;
         if moment > now {
             return Err(ImageFault::Later { moment, now });
         }
-        let made = self.log.calls.as_slice();
+        let made = self.history.calls.as_slice();
         let count = made.len().min(moment as usize);
-        Ok(image_after(alloc, &self.start, &made[..count], picks)?)
+        Ok(image_after(alloc, &self.start, &made[..count], self.history.late, picks)?)
     }
 }
 
 impl Medium for MemPmem {
-    ghost use Rattle.std.specs.Prelude.{◌≡◌, ℕ, ◌+◌, ◌*◌, ◌<◌, ◌≤◌, is_ok, IfOk, OnErr, IsTrue};
+    ghost use Rattle.std.specs.Prelude.{◌≡◌, ℕ, ◌+◌, ◌*◌, ◌<◌, ◌≤◌, is_ok, IfOk, IsTrue, if◌then◌else◌};
     ghost use Rattle.pmem_trait.specs.declared.call.Call.TheVariants.{Read, Put, Flush, Fence, Tell};
-    ghost use Rattle.pmem_trait.specs.Words.{value_of};
+    ghost use Rattle.pmem_trait.specs.Words.{value_of, after};
     ghost use Rattle.pmem_trait.specs.Sights.{state_now, OneCall};
-    ghost use Rattle.pmem_fake.specs.Entries.{faults_after};
+    ghost use Rattle.pmem_trait.specs.Faults.{faults_after};
     ghost use Rattle.pmem_fake.specs.Sizes.{items_fit};
-    ghost use Rattle.pmem_fake.specs.Fakes.{sight, is_next_done, SameLimits};
+    ghost use Rattle.pmem_fake.specs.Fakes.{sight, is_next_ok, is_next_effective, SamePlan};
 
     ghost sight = { λ medium. sight medium };
 
@@ -122,65 +161,66 @@ impl Medium for MemPmem {
     }
 
     fn now(&self) -> u64 {
-        self.log.now
+        self.history.now
     }
 
     fn read(&mut self, at: u64) -> Result<u64, Failed>
         requires { at < (sight self.old).len }
-        ensures goes { OneCall (Read at) (is_ok result) (sight self.old) (sight self.new) }
+        ensures one_call { OneCall (Read at) (is_ok result) (sight self.old) (sight self.new) }
         ensures value { IfOk result (λ v. IsTrue (sight self.old).is_visible → v ≡ value_of ((state_now (sight self.old)).word at)) }
-        ensures exact { is_ok result ≡ is_next_done self.old }
-        ensures undone { OnErr result (state_now (sight self.new) ≡ state_now (sight self.old)) }
+        ensures exact { is_ok result ≡ is_next_ok self.old }
+        ensures effect { state_now (sight self.new) ≡ (if is_next_effective self.old then after (Read at) (state_now (sight self.old)) else state_now (sight self.old)) }
         ensures faults { (sight self.new).faults ≡ faults_after (is_ok result) (sight self.old).faults }
-        ensures limits { SameLimits self.old self.new }
+        ensures plan { SamePlan self.old self.new }
     {
-        self.log.enter(Call::Read(at))?;
+        self.history.enter(Call::Read(at))?;
         Ok(self.words[at as usize])
     }
 
     fn put(&mut self, at: u64, value: u64) -> Result<(), Failed>
         requires { at < (sight self.old).len }
-        ensures goes { OneCall (Put at value) (is_ok result) (sight self.old) (sight self.new) }
-        ensures exact { is_ok result ≡ is_next_done self.old }
-        ensures undone { OnErr result (state_now (sight self.new) ≡ state_now (sight self.old)) }
+        ensures one_call { OneCall (Put at value) (is_ok result) (sight self.old) (sight self.new) }
+        ensures exact { is_ok result ≡ is_next_ok self.old }
+        ensures effect { state_now (sight self.new) ≡ (if is_next_effective self.old then after (Put at value) (state_now (sight self.old)) else state_now (sight self.old)) }
         ensures faults { (sight self.new).faults ≡ faults_after (is_ok result) (sight self.old).faults }
-        ensures limits { SameLimits self.old self.new }
+        ensures plan { SamePlan self.old self.new }
     {
-        self.log.enter(Call::Put { at, value })?;
-        self.words[at as usize] = value;
-        Ok(())
+        if self.history.is_next_effective() {
+            self.words[at as usize] = value;
+        }
+        self.history.enter(Call::Put { at, value })
     }
 
     fn flush(&mut self, line: u64) -> Result<(), Failed>
         requires { 8 * line + 8 ≤ (sight self.old).len }
-        ensures goes { OneCall (Flush line) (is_ok result) (sight self.old) (sight self.new) }
-        ensures exact { is_ok result ≡ is_next_done self.old }
-        ensures undone { OnErr result (state_now (sight self.new) ≡ state_now (sight self.old)) }
+        ensures one_call { OneCall (Flush line) (is_ok result) (sight self.old) (sight self.new) }
+        ensures exact { is_ok result ≡ is_next_ok self.old }
+        ensures effect { state_now (sight self.new) ≡ (if is_next_effective self.old then after (Flush line) (state_now (sight self.old)) else state_now (sight self.old)) }
         ensures faults { (sight self.new).faults ≡ faults_after (is_ok result) (sight self.old).faults }
-        ensures limits { SameLimits self.old self.new }
+        ensures plan { SamePlan self.old self.new }
     {
-        self.log.enter(Call::Flush(line))
+        self.history.enter(Call::Flush(line))
     }
 
     fn fence(&mut self) -> Result<(), Failed>
-        ensures goes { OneCall Fence (is_ok result) (sight self.old) (sight self.new) }
-        ensures exact { is_ok result ≡ is_next_done self.old }
-        ensures undone { OnErr result (state_now (sight self.new) ≡ state_now (sight self.old)) }
+        ensures one_call { OneCall Fence (is_ok result) (sight self.old) (sight self.new) }
+        ensures exact { is_ok result ≡ is_next_ok self.old }
+        ensures effect { state_now (sight self.new) ≡ (if is_next_effective self.old then after Fence (state_now (sight self.old)) else state_now (sight self.old)) }
         ensures faults { (sight self.new).faults ≡ faults_after (is_ok result) (sight self.old).faults }
-        ensures limits { SameLimits self.old self.new }
+        ensures plan { SamePlan self.old self.new }
     {
-        self.log.enter(Call::Fence)
+        self.history.enter(Call::Fence)
     }
 
     fn tell(&mut self, number: u64) -> Result<(), Failed>
-        ensures goes { OneCall (Tell number) (is_ok result) (sight self.old) (sight self.new) }
-        ensures exact { is_ok result ≡ is_next_done self.old }
-        ensures undone { OnErr result (state_now (sight self.new) ≡ state_now (sight self.old)) }
+        ensures one_call { OneCall (Tell number) (is_ok result) (sight self.old) (sight self.new) }
+        ensures exact { is_ok result ≡ is_next_ok self.old }
+        ensures effect { state_now (sight self.new) ≡ (if is_next_effective self.old then after (Tell number) (state_now (sight self.old)) else state_now (sight self.old)) }
         ensures faults { (sight self.new).faults ≡ faults_after (is_ok result) (sight self.old).faults }
-        ensures limits { SameLimits self.old self.new }
+        ensures plan { SamePlan self.old self.new }
     {
-        self.log.enter(Call::Tell(number))
+        self.history.enter(Call::Tell(number))
     }
 
-    ghost fits = { λ medium. (items_fit medium.start, medium.log.numbers_fit.0) };
+    ghost fits = { λ medium. (items_fit medium.start, medium.history.numbers_fit.0) };
 }

@@ -1,14 +1,14 @@
-ghost use Rattle.std.specs.Prelude.{◌≡◌, ℕ, List, length, slice_index, IfOk, OnOk, if◌then◌else◌};
+ghost use Rattle.std.specs.Prelude.{◌≡◌, ℕ, List, length, slice_index, IfOk, OnOk};
 ghost use Rattle.pmem_trait.specs.declared.call.Call.TheVariants.{Put, Flush, Fence};
-ghost use Rattle.pmem_trait.specs.Words.{State, after, last_told};
-ghost use Rattle.pmem_fake.specs.History.{start_state, after_made, IsPicked};
+ghost use Rattle.pmem_trait.specs.Words.{State, last_told};
+ghost use Rattle.pmem_fake.specs.History.{start_state, step_made, was_effective, after_made, IsPicked};
 ghost use Rattle.pmem_fake.specs.Replays.{AreInState, Steps, TakesPicks};
 
 use crate::word_state::WordState;
 use pmem_trait::{Call, Made};
 use std::alloc::{AllocError, Global};
 
-// The words at the opening.
+// The words of an untouched medium.
 fn open_words(alloc: Global, start: &[u64]) -> Result<Vec<WordState>, AllocError>
     ensures { IfOk result (λ words. AreInState (length start.now) words.items (start_state start.now)) }
 {
@@ -66,30 +66,42 @@ fn repeat(words: &mut [WordState], call: Call) -> Result<(), AllocError>
     }
 }
 
-// Does a call again, unless it failed.
-fn repeat_made(words: &mut [WordState], made: &Made) -> Result<(), AllocError>
-    ensures len { OnOk result (length words.new ≡ length words.old) }
-    ensures state { OnOk result ((p : State) → AreInState (length words.old) words.old p → AreInState (length words.old) words.new (if made.now.failed then p else after made.now.call p)) }
+// Whether a call had its effect.
+fn had_effect(late: bool, made: &Made) -> bool
+    ensures { result ≡ was_effective late made.now }
 {
-    if made.failed {
-        Ok(())
-    } else {
+    late || !made.failed
+}
+
+// Does a call again, if it had its effect.
+fn repeat_made(words: &mut [WordState], late: bool, made: &Made) -> Result<(), AllocError>
+    ensures len { OnOk result (length words.new ≡ length words.old) }
+    ensures state { OnOk result ((p : State) → AreInState (length words.old) words.old p → AreInState (length words.old) words.new (step_made late made.now p)) }
+{
+    if had_effect(late, made) {
         repeat(words, made.call)
+    } else {
+        Ok(())
     }
 }
 
 // The words after these calls.
-fn replay(alloc: Global, start: &[u64], calls: &[Made]) -> Result<Vec<WordState>, AllocError>
-    ensures { IfOk result (λ words. AreInState (length start.now) words.items (after_made calls.now (start_state start.now))) }
+fn replay(
+    alloc: Global,
+    start: &[u64],
+    calls: &[Made],
+    late: bool,
+) -> Result<Vec<WordState>, AllocError>
+    ensures { IfOk result (λ words. AreInState (length start.now) words.items (after_made late calls.now (start_state start.now))) }
 {
     let mut words = open_words(alloc, start)?;
     for made in calls {
-        repeat_made(&mut words, made)?;
+        repeat_made(&mut words, late, made)?;
     }
     Ok(words)
 }
 
-// The pick for this place, 0 where there is none.
+// The pick for word `k`, 0 where there is none.
 fn pick_at(picks: &[u64], k: usize) -> u64
     ensures { result ≡ slice_index picks.now k }
 {
@@ -112,31 +124,32 @@ pub fn image_after(
     alloc: Global,
     start: &[u64],
     calls: &[Made],
+    late: bool,
     picks: &[u64],
 ) -> Result<Vec<u64>, AllocError>
-    ensures { IfOk result (λ image. IsPicked (length start.now) (after_made calls.now (start_state start.now)) picks.now image.items) }
+    ensures { IfOk result (λ image. IsPicked (length start.now) (after_made late calls.now (start_state start.now)) picks.now image.items) }
 {
-    let words = replay(alloc, start, calls)?;
+    let words = replay(alloc, start, calls, late)?;
     take_picks(alloc, &words, picks)
 }
 
 // The last number told after a call, by the last one before it.
-fn told_after_made(before: Option<u64>, made: &Made) -> Option<u64>
-    ensures { (p : State) → before ≡ last_told p.told → result ≡ last_told (if made.now.failed then p else after made.now.call p).told }
+fn told_after_made(before: Option<u64>, late: bool, made: &Made) -> Option<u64>
+    ensures { (p : State) → before ≡ last_told p.told → result ≡ last_told (step_made late made.now p).told }
 {
     match made.call {
-        Call::Tell(number) if !made.failed => Some(number),
+        Call::Tell(number) if had_effect(late, made) => Some(number),
         _ => before,
     }
 }
 
 /// The last number told in these calls.
-pub fn last_told_by(calls: &[Made]) -> Option<u64>
-    ensures { (start : List ℕ) → result ≡ last_told (after_made calls.now (start_state start)).told }
+pub fn last_told_by(calls: &[Made], late: bool) -> Option<u64>
+    ensures { (start : List ℕ) → result ≡ last_told (after_made late calls.now (start_state start)).told }
 {
     let mut told = None;
     for made in calls {
-        told = told_after_made(told, made);
+        told = told_after_made(told, late, made);
     }
     told
 }

@@ -1,8 +1,9 @@
 -- One law for every group of writes: what each mix of the old words and the written ones has, every image has.
 use Rattle.std.proofs.Common.{◌≡◌, ◌⊎◌, inl, inr, ⊎_elim, ℕ, ◌/◌, ◌<◌, ◌==◌, Bool, true, false, if◌then◌else◌, List, [], ◌∷◌, ◌++◌, slice_index, refl, sym, ap, ◌∙◌, subst, eqb-true, eq-eqb}
 use Rattle.pmem_trait.specs.declared.call.Call.TheVariants.{Put, Flush, Fence}
-use Rattle.pmem_trait.specs.Words.{IsIn, Word, State, newest, value_of, with_later, settle, after, after_all, MayHold, EveryImage, settled_at, IsSettled, AfterEachCall, AfterEachCall.end, AfterEachCall.more}
-use Rattle.pmem_trait.specs.Groups.{put_pairs, flush_lines, group_calls, values_put, final, OldOrNew, MixOf, SettlesGroup, Covers}
+use Rattle.pmem_trait.specs.Words.{IsIn, Word, State, newest, value_of, with_later, settle, after, after_all, MayHold, EveryImage, settled_at, AfterEachCall, AfterEachCall.end, AfterEachCall.more}
+use Rattle.pmem_trait.specs.Groups.{put_pairs, flush_lines, group_calls, values_put, final, OldOrNew, MixOf}
+use Rattle.pmem_trait.specs.MediumLaws.{LawOfSettling}
 use Rattle.pmem_trait.proofs.Images.{may_still, note_less, fence_less}
 use Rattle.pmem_trait.proofs.GroupWords.{with_all, puts_word, noted_stays, group_is, group_flushed, group_may, with_all_may}
 
@@ -27,7 +28,7 @@ later_less v x w may = by (with_all_may (v ∷ []) w x may)
     by (inr (inl new)) = inr new
     by (inr (inr none)) = absurd none
 
--- a write stands among those of its place
+-- a write is among those of its word
 written_first : (at v : ℕ) (ws : List (ℕ × ℕ)) → IsIn v (values_put ((at, v) ∷ ws) at)
 written_first at v ws = subst (λ (b : Bool). IsIn v (if b then v ∷ values_put ws at else values_put ws at)) (sym (eq-eqb at at refl)) (inl refl)
 
@@ -109,13 +110,14 @@ group_told ws ls p =
     puts [] q = refl
     puts (w ∷ ws) q = puts ws (after (Put w.0 w.1) q)
 
--- the same of all such words
-pub group_settles : (ws : List (ℕ × ℕ)) (ls : List ℕ) (p : State) → SettlesGroup ws ls p (after_all (group_calls ws ls) p)
-group_settles ws ls p k x at_rest flushed = group_word ws ls p k x at_rest flushed
-
--- a settled medium is settled again after a group whose lines are flushed
-pub group_settled : (ws : List (ℕ × ℕ)) (ls : List ℕ) (p : State) → Covers ws ls → IsSettled p → IsSettled (after_all (group_calls ws ls) p)
-group_settled ws ls p covers at_rest k = (final ws k (at_rest k).0, group_word ws ls p k (at_rest k).0 (at_rest k).1 (covers k))
+-- all that a group leaves
+pub group_settles : LawOfSettling
+group_settles ws ls p = record {
+  flushed = λ k is. group_flushed ws ls p k is;
+  unwritten = λ k x none may. unwritten_may ws ls p k x none may;
+  settled = λ k none is. left_word ws ls p k (p.word k).settled none is ∙ sym is;
+  told = group_told ws ls p;
+}
 
 -- the law that needs no property: each image is such a mix
 pub mix_law : {len : ℕ} {p : State} (ws : List (ℕ × ℕ)) (ls : List ℕ) → AfterEachCall (EveryImage len (MixOf len p ws)) p (group_calls ws ls)

@@ -44,14 +44,14 @@ written-append (w ∷ ws) vs k = one_more (k == w.0) w.1 (values_put ws k) (valu
     one_more true v xs ys zs is = ap (λ (l : List ℕ). v ∷ l) is
     one_more false v xs ys zs is = is
 
--- words put one after another from a place on: nothing is written elsewhere
+-- words put one after another from word `at` on: nothing is written elsewhere
 pub words_outside : (at : ℕ) (xs : List ℕ) (i : ℕ) → ((j : ℕ) → j < length xs → i ≡ at + j → ⊥) → values_put (enumerate_from at xs) i ≡ []
 words_outside at [] i other = refl
 words_outside at (x ∷ xs) i other =
     let ne : i ≢ at = λ e. other 0 (omega arith) (omega arith) in
     rw (ne_eqb i at ne) (words_outside (at + 1) xs i (λ j lt is. other (suc j) (omega arith) (omega arith)))
 
--- and at each of their places just the word of that place
+-- and into each of them just its own value
 pub words_inside : (at : ℕ) (xs : List ℕ) (j i : ℕ) → i ≡ at + j → j < length xs → values_put (enumerate_from at xs) i ≡ slice_index xs j ∷ []
 words_inside at [] j i is lt = absurd (omega arith)
 words_inside at (x ∷ xs) zero i is lt =
@@ -72,7 +72,7 @@ pub flushes_next : (ls : List ℕ) (i d line : ℕ) {ok : Bool} {s t u : Sight} 
 flushes_next ls i d line below is made g =
     made_next (flush_lines ls) i (Flush line) (omega (arith, length-flush_lines ls)) (flush_lines_at ls i d _ below ∙ ap Flush is) made g
 
--- A loop whose rounds put the lists of writes of the numbers from a on.
+-- A loop whose rounds put the lists of writes f a, f (a + 1), and so on.
 flat_more : (f : ℕ → List (ℕ × ℕ)) (a n : ℕ) → flat_map f (range_with_len a (suc n)) ≡ flat_map f (range_with_len a n) ++ f (a + n)
 flat_more f a zero = append-nil (f a) ∙ ap f (omega arith)
 flat_more f a (suc n) =

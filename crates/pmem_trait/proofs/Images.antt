@@ -2,7 +2,8 @@
 use Rattle.std.proofs.Common.{◌==◌, ◌/◌, if◌then◌else◌, ◌≡◌, ◌⊎◌, inl, inr, ⊎_elim, ℕ, zero, suc, List, [], ◌∷◌, take, drop, slice_index, refl, sym, ◌∙◌, subst, eqb-true, true, false, Bool}
 use Rattle.pmem_trait.specs.declared.call.Call.{Call}
 use Rattle.pmem_trait.specs.declared.call.Call.TheVariants.{Read, Put, Flush, Fence, Tell}
-use Rattle.pmem_trait.specs.Words.{IsIn, Word, State, newest, with_note, settle, word_after, after, HalfDone, MayHold, EveryImage, settled_at}
+use Rattle.pmem_trait.specs.Words.{IsIn, Word, State, newest, with_note, settle, word_after, after, HalfDone, MayHold, IsImage, EveryImage, settled_at}
+use Rattle.pmem_trait.specs.MediumLaws.{LawOfHalfDone}
 
 -- fewer values of each word, and the same numbers told
 pub every_image_less : {len : ℕ} {P : List ℕ → List ℕ → Type 0} {p q : State}
@@ -43,10 +44,23 @@ every_image_flush {p = p} line leaves = every_image_less (λ k x may. note_less 
 pub every_image_fence : {len : ℕ} {P : List ℕ → List ℕ → Type 0} {p : State} → EveryImage len P p → EveryImage len P (after Fence p)
 every_image_fence {p = p} leaves = every_image_less (λ k x may. fence_less x (p.word k) may) refl leaves
 
--- the words that a failed put may leave are those before it or those after it
-put_less : (at value : ℕ) (p q : State) → HalfDone (Put at value) p q
+-- an image of a state with fewer values of each word
+image_less : {len : ℕ} {p q : State} {image : List ℕ} → ((k x : ℕ) → MayHold (q.word k) x → MayHold (p.word k) x) → IsImage len q image → IsImage len p image
+image_less {image = image} less is = record { size = is.size; each = λ k below. less k (slice_index image k) (is.each k below) }
+
+-- the words are the same
+image_same : {len : ℕ} {p q : State} {image : List ℕ} → ((k : ℕ) → q.word k ≡ p.word k) → IsImage len q image → IsImage len p image
+image_same same is = image_less (λ k x may. subst (λ (w : Word). MayHold w x) (same k) may) is
+
+-- one of two that are the same
+either_way : {A : Type 0} {x y : A} → (x ≡ y) ⊎ (x ≡ y) → x ≡ y
+either_way (inl is) = is
+either_way (inr is) = is
+
+-- the words that a failed put leaves are those before it or those after it
+put_either : (at value : ℕ) (p q : State) → HalfDone (Put at value) p q
     → ((k : ℕ) → q.word k ≡ p.word k) ⊎ ((k : ℕ) → q.word k ≡ word_after (Put at value) k (p.word k))
-put_less at value p q half = ⊎_elim
+put_either at value p q half = ⊎_elim
     (λ same. inl (λ k. before same k (k == at) refl (half.word k)))
     (λ put. inr (λ k. behind put k (k == at) refl (half.word k)))
     (half.word at)
@@ -61,23 +75,33 @@ put_less at value p q half = ⊎_elim
     behind put k false is (inl old) = old ∙ rw is
     behind put k false is (inr new) = new
 
--- the same words, and the numbers told from one of two states
-told_either : {len : ℕ} {P : List ℕ → List ℕ → Type 0} (p r q : State) → ((k : ℕ) → q.word k ≡ p.word k) → ((k : ℕ) → r.word k ≡ p.word k)
-    → (q.told ≡ p.told) ⊎ (q.told ≡ r.told) → EveryImage len P p → EveryImage len P r → EveryImage len P q
-told_either p r q same alike (inl told) old new = every_image_less (λ k x may. subst (λ (w : Word). MayHold w x) (same k) may) told old
-told_either p r q same alike (inr told) old new = every_image_less (λ k x may. subst (λ (w : Word). MayHold w x) (same k ∙ sym (alike k)) may) told new
+-- Each image of a call that failed half done is one from before the call or one from after it.
+pub half_image : LawOfHalfDone
+half_image (Read at) len p q half image is = inl (either_way half.told, image_same (λ k. either_way (half.word k)) is)
+half_image (Put at value) len p q half image is = ⊎_elim
+    (λ same. inl (either_way half.told, image_same same is))
+    (λ put. inr (either_way half.told, image_same put is))
+    (put_either at value p q half)
+half_image (Flush line) len p q half image is = inl (
+  either_way half.told,
+  image_less
+      (λ k x may. ⊎_elim (λ same. subst (λ (w : Word). MayHold w x) same may) (λ noted. note_less (k / 8 == line) x (p.word k) (subst (λ (w : Word). MayHold w x) noted may)) (half.word k)) is,
+)
+half_image Fence len p q half image is = inl (
+  either_way half.told,
+  image_less
+      (λ k x may. ⊎_elim (λ same. subst (λ (w : Word). MayHold w x) same may) (λ fenced. fence_less x (p.word k) (subst (λ (w : Word). MayHold w x) fenced may)) (half.word k)) is,
+)
+half_image (Tell number) len p q half image is = ⊎_elim
+    (λ same. inl (same, image_same (λ k. either_way (half.word k)) is))
+    (λ told. inr (told, image_same (λ k. either_way (half.word k)) is))
+    half.told
 
 -- What every image has before a call and after it, it has of the call half done.
 pub half_every_image : {len : ℕ} {P : List ℕ → List ℕ → Type 0} (c : Call) {p q : State} → EveryImage len P p → EveryImage len P (after c p) → HalfDone c p q → EveryImage len P q
-half_every_image (Read at) {p} {q} old new half = told_either p p q (λ k. ⊎_elim (λ is. is) (λ is. is) (half.word k)) (λ k. refl) half.told old old
-half_every_image (Put at value) {p} {q} old new half = ⊎_elim
-    (λ same. every_image_less (λ k x may. subst (λ (w : Word). MayHold w x) (same k) may) (⊎_elim (λ is. is) (λ is. is) half.told) old)
-    (λ put. every_image_less (λ k x may. subst (λ (w : Word). MayHold w x) (put k) may) (⊎_elim (λ is. is) (λ is. is) half.told) new)
-    (put_less at value p q half)
-half_every_image (Flush line) {p} {q} old new half = every_image_less
-    (λ k x may. ⊎_elim (λ is. subst (λ (w : Word). MayHold w x) is may) (λ is. note_less (k / 8 == line) x (p.word k) (subst (λ (w : Word). MayHold w x) is may)) (half.word k))
-    (⊎_elim (λ is. is) (λ is. is) half.told) old
-half_every_image Fence {p} {q} old new half = every_image_less
-    (λ k x may. ⊎_elim (λ is. subst (λ (w : Word). MayHold w x) is may) (λ is. fence_less x (p.word k) (subst (λ (w : Word). MayHold w x) is may)) (half.word k))
-    (⊎_elim (λ is. is) (λ is. is) half.told) old
-half_every_image (Tell number) {p} {q} old new half = told_either p (after (Tell number) p) q (λ k. ⊎_elim (λ is. is) (λ is. is) (half.word k)) (λ k. refl) half.told old new
+half_every_image {len} {P} c {p} {q} old new half = record {
+  each = λ image is. ⊎_elim
+      (λ before. subst (λ (told : List ℕ). P told image) (sym before.0) (old.each image before.1))
+      (λ behind. subst (λ (told : List ℕ). P told image) (sym behind.0) (new.each image behind.1))
+      (half_image c len p q half image is);
+}

@@ -88,7 +88,7 @@ pub after_all_then : (bs cs : List Call) (p : State) → after_all (bs ++ cs) p 
 after_all_then [] cs p = refl
 after_all_then (b ∷ bs) cs p = after_all_then bs cs (after b p)
 
--- one call more in front
+-- one call more before the others
 pub after_each_call : {P : State → Type 0} {p : State} {c : Call} {cs : List Call} → P p → P (after c p) → (P (after c p) → AfterEachCall P (after c p) cs) → AfterEachCall P p (c ∷ cs)
 after_each_call h next rest = more h (rest next)
 
@@ -105,8 +105,8 @@ after_each_last (end h) = h
 after_each_last (more h rest) = after_each_last rest
 
 -- and where one call on the way is half done
-pub after_each_half : {len : ℕ} {P : List ℕ → List ℕ → Type 0} (front : List Call) (last : Call) (rest : List Call) {p q : State}
-    → AfterEachCall (EveryImage len P) p (front ++ last ∷ rest) → HalfDone last (after_all front p) q → EveryImage len P q
+pub after_each_half : {len : ℕ} {P : List ℕ → List ℕ → Type 0} (prefix : List Call) (last : Call) (rest : List Call) {p q : State}
+    → AfterEachCall (EveryImage len P) p (prefix ++ last ∷ rest) → HalfDone last (after_all prefix p) q → EveryImage len P q
 after_each_half [] last rest along half = half_every_image last (after_each_here along) (after_each_here (after_each_rest along)) half
 after_each_half (c ∷ cs) last rest along half = after_each_half cs last rest (after_each_rest along) half
 
@@ -117,8 +117,8 @@ after_each_leaves less (end h) = end (record { each = λ image is. less _ image 
 after_each_leaves less (more h rest) = more (record { each = λ image is. less _ image is.size (h.each image is) }) (after_each_leaves less rest)
 
 -- the property after the first k calls
-pub after_each_front : {P : State → Type 0} {cs : List Call} {p : State} (k : ℕ) → AfterEachCall P p cs → P (after_all (take k cs) p)
-after_each_front {P} {cs} {p} k law = go k cs p law
+pub after_each_prefix : {P : State → Type 0} {cs : List Call} {p : State} (k : ℕ) → AfterEachCall P p cs → P (after_all (take k cs) p)
+after_each_prefix {P} {cs} {p} k law = go k cs p law
   where
     go : (k : ℕ) (cs : List Call) (p : State) → AfterEachCall P p cs → P (after_all (take k cs) p)
     go zero cs p law = after_each_here law

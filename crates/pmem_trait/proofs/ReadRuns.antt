@@ -33,30 +33,30 @@ read_same {at} {ok} {s} {t} g told m from upto = by (first_or_next s.now t.now m
 
 -- the same of some reads
 pub reads_same : LawOfReads
-reads_same ok s t reads told = go reads.places reads.made told
+reads_same ok s t reads told = go reads.words reads.made told
   where
     either_side : (a b m : ℕ) → (m ≤ b) ⊎ (b ≤ m)
     either_side a b m = grind arith
 
-    go : (places : List ℕ) {ok : Bool} {s t : Sight} → CallsMade (map Read places) ok s t → IsTrue s.is_visible → (m : ℕ) → s.now ≤ m → m ≤ t.now → IsSameState (state_now s) (t.state m)
+    go : (words : List ℕ) {ok : Bool} {s t : Sight} → CallsMade (map Read words) ok s t → IsTrue s.is_visible → (m : ℕ) → s.now ≤ m → m ≤ t.now → IsSameState (state_now s) (t.state m)
     go [] {s = s} none told m from upto = let now : s.now ≡ m = omega arith in subst (λ (k : ℕ). IsSameState (state_now s) (s.state k)) now (same_here (state_now s))
-    go (at ∷ places) (stop g) told m from upto = read_same g told m from upto
-    go (at ∷ places) {s = s} {t = u} (step {t = t} g rest) told m from upto = ⊎_elim
+    go (at ∷ words) (stop g) told m from upto = read_same g told m from upto
+    go (at ∷ words) {s = s} {t = u} (step {t = t} g rest) told m from upto = ⊎_elim
         (λ (before : m ≤ t.now). subst (IsSameState (state_now s)) (sym ((made_later rest).past (g.later.is_visible ∙ told) m before)) (read_same g told m from before))
-        (λ (behind : t.now ≤ m). same_then (read_same g told t.now g.later.now (omega arith)) (go places rest (g.later.is_visible ∙ told) m behind upto))
+        (λ (behind : t.now ≤ m). same_then (read_same g told t.now g.later.now (omega arith)) (go words rest (g.later.is_visible ∙ told) m behind upto))
         (either_side s.now t.now m)
 
 -- some reads, one after another
 pub reads_here : (s : Sight) → OnlyReads true s s
-reads_here s = record { places = []; made = none }
+reads_here s = record { words = []; made = none }
 
 pub read_alone : {at : ℕ} {ok : Bool} {s t : Sight} → OneCall (Read at) ok s t → OnlyReads ok s t
-read_alone {at} {ok} g = record { places = at ∷ []; made = goes_alone ok g }
+read_alone {at} {ok} g = record { words = at ∷ []; made = goes_alone ok g }
 
 pub reads_then : {ok : Bool} {s t u : Sight} → OnlyReads true s t → OnlyReads ok t u → OnlyReads ok s u
 reads_then {ok} {s} {t} {u} a b = record {
-  places = a.places ++ b.places;
-  made = subst (λ (l : List Call). CallsMade l ok s u) (sym (map-append Read a.places b.places)) (made_then a.made b.made);
+  words = a.words ++ b.words;
+  made = subst (λ (l : List Call). CallsMade l ok s u) (sym (map-append Read a.words b.words)) (made_then a.made b.made);
 }
 
 pub ruleset reading = (reads_here, read_alone, reads_then)

@@ -4,6 +4,7 @@ use Rattle.std.proofs.lemmas.List.{take_more}
 use Rattle.pmem_trait.specs.declared.call.Call.{Call}
 use Rattle.pmem_trait.specs.declared.made.Made.{Made}
 use Rattle.pmem_trait.specs.Words.{State, after, after_all}
+use Rattle.pmem_trait.specs.MediumLaws.{LawOfListing}
 use Rattle.pmem_trait.specs.Sights.{Sight, state_now, Risen, Extends, OneCall, CallsMade, CallsMade.none, CallsMade.stop, CallsMade.step, SomeCalls}
 use Rattle.pmem_trait.specs.Listed.{was_made, AllMade, PrefixMade}
 use Rattle.pmem_trait.specs.Rounds.{rounds}
@@ -70,11 +71,11 @@ made_list (step {c = c} {cs = cs} {s = s} {t = t} g rest) listed =
     ∙ ap (λ (l : List Made). l ++ map was_made cs) (g.lists_calls (made_lists rest listed)).1
     ∙ append_assoc s.made (was_made c ∷ []) (map was_made cs)
 
--- a list that stopped has left a front, whose last call failed
-pub made_front : {cs : List Call} {s t : Sight} → CallsMade cs false s t → PrefixMade cs s t
-made_front (stop {c = c} {cs = cs} g) listed = ([], c, cs, refl, (g.lists_calls listed).1)
-made_front (step {c = c} {cs = cs} {s = s} {t = t} g rest) listed =
-    let behind = made_front rest listed in (
+-- a list that stopped has left a prefix, whose last call failed
+pub made_prefix : {cs : List Call} {s t : Sight} → CallsMade cs false s t → PrefixMade cs s t
+made_prefix (stop {c = c} {cs = cs} g) listed = ([], c, cs, refl, (g.lists_calls listed).1)
+made_prefix (step {c = c} {cs = cs} {s = s} {t = t} g rest) listed =
+    let behind = made_prefix rest listed in (
       c ∷ behind.0,
       behind.1,
       behind.2,
@@ -93,15 +94,12 @@ pub on_ok : {T E : Type 0} (r : Result T E) {P : Type 0} → (is_ok r ≡ true �
 on_ok (Ok x) holds = holds refl
 on_ok (Err e) holds = tt
 
--- the same of a result: just these calls at Ok, a front at an error, and its cause
-pub all_made : {T E : Type 0} (r : Result T E) {cs : List Call} {s t : Sight} → CallsMade cs (is_ok r) s t → OnOk r (AllMade cs s t)
-all_made (Ok x) makes = made_list makes
-all_made (Err e) makes = tt
+-- what the list of calls says
+pub made_listed : LawOfListing
+made_listed cs true s t makes = made_list makes
+made_listed cs false s t makes = made_prefix makes
 
-pub front_made : {T E : Type 0} (r : Result T E) {cs : List Call} {s t : Sight} → CallsMade cs (is_ok r) s t → OnErr r (PrefixMade cs s t)
-front_made (Ok x) makes = tt
-front_made (Err e) makes = made_front makes
-
+-- the cause of an error
 pub has_cause : {T E : Type 0} (r : Result T E) {cs : List Call} {s t : Sight} → CallsMade cs (is_ok r) s t → OnErr r (Risen s.faults t.faults)
 has_cause (Ok x) makes = tt
 has_cause (Err e) makes = made_cause makes

@@ -1,4 +1,4 @@
--- What the list of calls made says of a caller: exactly these, or a front of them whose last one failed.
+-- What the list of calls made says of a caller: exactly these, or a prefix of them whose last one failed.
 use Rattle.std.specs.Prelude.{◌≡◌, false, true, List, [], ◌∷◌, ◌++◌, map, IsTrue}
 use Rattle.pmem_trait.specs.declared.call.Call.{Call}
 use Rattle.pmem_trait.specs.declared.made.Made.{Made}
@@ -12,8 +12,8 @@ was_made c = record { call = c; failed = false }
 abbrev pub AllMade : List Call → Sight → Sight → Type 0
 AllMade cs s t = IsTrue t.lists_calls → t.made ≡ s.made ++ map was_made cs
 
--- a front of these calls was made, the last of which failed and no other
+-- a prefix of these calls was made, the last of which failed and no other
 abbrev pub PrefixMade : List Call → Sight → Sight → Type 0
 PrefixMade cs s t = IsTrue t.lists_calls →
-    (front : List Call) × (last : Call) × (rest : List Call)
-    × (cs ≡ front ++ last ∷ rest) × (t.made ≡ s.made ++ (map was_made front ++ record { call = last; failed = true } ∷ []))
+    (prefix : List Call) × (last : Call) × (rest : List Call)
+    × (cs ≡ prefix ++ last ∷ rest) × (t.made ≡ s.made ++ (map was_made prefix ++ record { call = last; failed = true } ∷ []))

@@ -1,11 +1,12 @@
 -- What clauses see of a medium, what one call leaves of it, and what a list of calls does.
-use Rattle.std.specs.Prelude.{◌≡◌, ◌⊎◌, ℕ, ◌+◌, ◌-◌, ◌^◌, ◌≤◌, min, Bool, true, false, not, List, [], ◌∷◌, ◌++◌, IsTrue, MatchBool}
+use Rattle.std.specs.Prelude.{◌≡◌, ◌⊎◌, ℕ, ◌+◌, ◌-◌, ◌^◌, ◌≤◌, Bool, true, false, not, List, [], ◌∷◌, ◌++◌, IsTrue, MatchBool}
 use Rattle.pmem_trait.specs.declared.call.Call.{Call}
 use Rattle.pmem_trait.specs.declared.made.Made.{Made}
+use Rattle.pmem_trait.specs.Faults.{up_to_last}
 use Rattle.pmem_trait.specs.Words.{State, after, HalfDone, EveryImage}
 
--- A medium: its length, its moment, its count of faults; whether it tells its states, and the state at each moment up
--- to now; whether it tells its calls, and the list of them.
+-- A medium: its length, its moment, its count of faults; whether its states are visible, and the state at each
+-- moment up to now; whether its calls are listed, and the list of them.
 pub record Sight : Type 0 where
   pub len : ℕ
   pub now : ℕ
@@ -21,7 +22,7 @@ state_now s = s.state s.now
 
 -- a count of faults rose, or stands at its last value
 abbrev pub Risen : ℕ → ℕ → Type 0
-Risen old new = min (old + 1) (2 ^ 64 - 1) ≤ new
+Risen old new = up_to_last (old + 1) ≤ new
 
 -- What stays of a medium, whatever calls are made: its length, and each moment up to the entry.
 pub record Extends (s t : Sight) : Type 0 where
@@ -44,7 +45,7 @@ pub record OneCall (c : Call) (ok : Bool) (s t : Sight) : Type 0 where
   pub does : IsTrue s.is_visible → t.now ≡ s.now + 1 → CallEffect c ok (state_now s) (state_now t)
   pub lists_calls : IsTrue t.lists_calls → IsTrue s.lists_calls × (t.made ≡ s.made ++ record { call = c; failed = not ok } ∷ [])
 
--- Exactly these calls, from entry to exit; or, where ok is false, a front of them, whose last one failed.
+-- Exactly these calls, from entry to exit; or, where ok is false, a prefix of them, whose last one failed.
 pub data CallsMade : List Call → Bool → Sight → Sight → Type 0 where
   none : {s : Sight} → CallsMade [] true s s
   stop : {c : Call} {cs : List Call} {s t : Sight} → OneCall c false s t → CallsMade (c ∷ cs) false s t

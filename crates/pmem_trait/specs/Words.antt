@@ -1,5 +1,5 @@
 -- The medium model: the state of each word, what a call does to it, and what a crash may leave.
-use Rattle.std.specs.Prelude.{◌≡◌, ◌⊎◌, ◌==◌, ℕ, ◌/◌, ◌<◌, if◌then◌else◌, List, [], ◌∷◌, ◌++◌, length, take, drop, slice_index, Option, Some, None}
+use Rattle.std.specs.Prelude.{◌≡◌, ◌⊎◌, ◌==◌, ℕ, ◌/◌, ◌<◌, ◌≤◌, if◌then◌else◌, List, [], ◌∷◌, ◌++◌, length, take, drop, slice_index, Option, Some, None}
 use Rattle.pmem_trait.specs.declared.call.Call.{Call}
 use Rattle.pmem_trait.specs.declared.call.Call.TheVariants.{Read, Put, Flush, Fence, Tell}
 
@@ -15,7 +15,7 @@ pub record Word : Type 0 where
   pub later : List ℕ
   pub noted : ℕ
 
--- The state at a moment: each word by its place, and all the numbers told so far, in order.
+-- The state at a moment: each word by its number, and all the numbers told so far, in order.
 pub record State : Type 0 where
   pub word : ℕ → Word
   pub told : List ℕ
@@ -29,6 +29,10 @@ newest x (y ∷ ys) = newest y ys
 abbrev pub last_told : List ℕ → Option ℕ
 last_told [] = None
 last_told (n ∷ ns) = Some (newest n ns)
+
+-- a number is at least every number told behind the first `before` ones
+abbrev pub AtLeast : ℕ → List ℕ → ℕ → Type 0
+AtLeast before told number = (x : ℕ) → IsIn x (drop before told) → x ≤ number
 
 -- what a read gives: the last value put, or the settled one
 abbrev pub value_of : Word → ℕ
@@ -46,7 +50,7 @@ with_note w = record w { noted = length w.later }
 abbrev pub settle : Word → Word
 settle w = record { settled = newest w.settled (take w.noted w.later); later = drop w.noted w.later; noted = 0 }
 
--- what a call leaves of the word at place k
+-- what a call leaves of word k
 abbrev pub word_after : Call → ℕ → Word → Word
 word_after (Put at value) k w = if k == at then with_later value w else w
 word_after (Flush line) k w = if k / 8 == line then with_note w else w
@@ -85,6 +89,10 @@ pub record IsImage (len : ℕ) (p : State) (image : List ℕ) : Type 0 where
   pub size : length image ≡ len
   pub each : (k : ℕ) → k < len → MayHold (p.word k) (slice_index image k)
 
+-- what a crash at this state leaves: this image, beside these numbers told by then
+abbrev pub CrashLeaves : ℕ → State → List ℕ → List ℕ → Type 0
+CrashLeaves len p told image = (told ≡ p.told) × IsImage len p image
+
 -- The content at this state, as reads give it: of each of the first len words the last value put, or the settled one.
 pub record IsContent (len : ℕ) (p : State) (content : List ℕ) : Type 0 where
   pub size : length content ≡ len
@@ -97,6 +105,10 @@ pub record EveryImage (len : ℕ) (P : List ℕ → List ℕ → Type 0) (p : St
 -- a word with no later value and no note
 abbrev pub settled_at : ℕ → Word
 settled_at x = record { settled = x; later = []; noted = 0 }
+
+-- the word has no later value and no note
+abbrev pub IsSettledWord : Word → Type 0
+IsSettledWord w = w ≡ settled_at w.settled
 
 -- no word has a later value
 abbrev pub IsSettled : State → Type 0

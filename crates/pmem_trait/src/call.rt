@@ -1,11 +1,12 @@
-/// One call on a medium. Places and lines are counted from 0; a line is eight words.
+/// One call on a medium. Words and lines are counted from 0; a line is eight words.
 #[derive(Clone, Copy, Debug, PartialEq, Eq)]
 pub enum Call {
-    /// A look at the word at this place.
+    /// A look at this word.
     Read(u64),
-    /// A value for the word at this place. It is durable only once its line was flushed and a fence came after.
+    /// A value for a word. A crash is sure to leave it, or a later one, only once the word's line was flushed after the put
+    /// and a fence was made after that.
     Put { at: u64, value: u64 },
-    /// Notes, for the line of this number, the values that its words hold.
+    /// Notes, for this line, the values that its words hold.
     Flush(u64),
     /// Makes the noted values durable.
     Fence,

@@ -5,7 +5,7 @@ ghost use Rattle.pmem_trait.specs.Groups.{put_pairs, flush_lines, group_calls, P
 use crate::failed::Failed;
 use crate::medium::Medium;
 
-/// Puts each value at its place, in order. A pair is a place and a value. After an `Err` the puts before the failed one
+/// Puts each value in its word, in order. A pair is a word and a value. After an `Err` the puts before the failed one
 /// were made, and that one may have been.
 pub fn put_all<M: Medium>(m: &mut M, writes: &[(u64, u64)]) -> Result<(), Failed>
     requires { PlacesFit (M.sight m.old).len writes.now }
@@ -44,11 +44,11 @@ fn make_group<M: Medium>(m: &mut M, writes: &[(u64, u64)], lines: &[u64]) -> Res
     m.fence()
 }
 
-/// Makes a group of writes: puts each value at its place, flushes these lines, and fences.
+/// Makes a group of writes: puts each value in its word, flushes these lines, and fences.
 ///
-/// A crash on the way leaves a mix: each word as it was, or as some write has it. At `Ok` every word that was settled
-/// before, and whose line was flushed, is settled at the last value written there. Let `lines` name the line of each
-/// place, `place / 8`.
+/// A crash on the way leaves a mix: each word as it was, or as some write has it. At `Ok` every word whose line was
+/// flushed is settled, at the last value written there or at the one that it had. Let `lines` name the line of each
+/// word written, `at / 8`.
 pub fn settle_group<M: Medium>(
     m: &mut M,
     writes: &[(u64, u64)],

@@ -2,7 +2,7 @@
 //! fenced, and what a crash at any moment may leave of them.
 //!
 //! A medium is told apart by one record of plain data, its sight (`specs/Sights`): the length, the moment, the count
-//! of faults, and, where it tells them, the state at each moment and the list of calls made. `proofs/` has the laws
+//! of faults, and, where these are visible, the state at each moment and the list of calls made. `proofs/` has the laws
 //! that callers compose.
 #![tactic(auto)]
 
@@ -18,4 +18,7 @@ pub use failed::Failed;
 pub use group::{flush_all, put_all, settle_group};
 pub use made::Made;
 pub use medium::Medium;
-pub use medium_laws::{OfImages, law_of_calls, law_of_groups, law_of_reads, law_of_settling};
+pub use medium_laws::{
+    OfImages, law_of_calls, law_of_groups, law_of_half_done, law_of_listing, law_of_reads,
+    law_of_settling,
+};

@@ -12,7 +12,7 @@ use crate::failed::Failed;
 /// or one of the later ones. Each call but `len` and `now` is one moment, whether it fails or not. A failed call has
 /// done nothing at a word or what it would have done.
 pub trait Medium {
-    /// The length, the moment and the faults; and, where it tells them, the state at each moment and the calls made.
+    /// The length, the moment and the faults; and, where these are visible, the state at each moment and the calls made.
     ghost sight: { Self → Sight };
 
     /// How many words there are.
@@ -23,18 +23,18 @@ pub trait Medium {
     fn now(&self) -> u64
         ensures { result ≡ (sight self.now).now };
 
-    /// The last value put at this place.
+    /// The last value put in this word, or the settled one.
     fn read(&mut self, at: u64) -> Result<u64, Failed>
         requires { at < (sight self.old).len }
-        ensures goes { OneCall (Read at) (is_ok result) (sight self.old) (sight self.new) }
+        ensures one_call { OneCall (Read at) (is_ok result) (sight self.old) (sight self.new) }
         ensures value { IfOk result (λ v. IsTrue (sight self.old).is_visible → v ≡ value_of ((state_now (sight self.old)).word at)) };
 
-    /// Puts a value at this place.
+    /// Puts a value in this word.
     fn put(&mut self, at: u64, value: u64) -> Result<(), Failed>
         requires { at < (sight self.old).len }
         ensures { OneCall (Put at value) (is_ok result) (sight self.old) (sight self.new) };
 
-    /// Notes the values of the eight words of a line, which begins at place `8 * line`. A second flush of the line
+    /// Notes the values of the eight words of a line, the first of which is word `8 * line`. A second flush of the line
     /// notes anew.
     fn flush(&mut self, line: u64) -> Result<(), Failed>
         requires { 8 * line + 8 ≤ (sight self.old).len }

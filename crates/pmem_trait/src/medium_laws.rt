@@ -1,7 +1,7 @@
 //! The laws of the medium, each as the contract of a function that does nothing.
 
 ghost use Rattle.std.specs.Prelude.{ℕ, Bool, List};
-ghost use Rattle.pmem_trait.specs.MediumLaws.{LawOfCalls, LawOfGroups, LawOfSettling};
+ghost use Rattle.pmem_trait.specs.MediumLaws.{LawOfCalls, LawOfGroups, LawOfSettling, LawOfHalfDone, LawOfListing};
 ghost use Rattle.pmem_trait.specs.Reads.{LawOfReads};
 
 use std::marker::Brand;
@@ -26,9 +26,20 @@ pub fn law_of_groups<P: OfImages>()
     ensures { LawOfGroups P.has }
 {}
 
-/// A group of writes settles each word that was settled before and whose line it flushes, or that it doesn't write.
+/// A group of writes settles each word whose line it flushes, whatever the word was, and leaves the others as they were,
+/// where they were settled.
 pub fn law_of_settling()
     ensures { LawOfSettling }
+{}
+
+/// A call that failed half done leaves no image that couldn't be there before the call or after it.
+pub fn law_of_half_done()
+    ensures { LawOfHalfDone }
+{}
+
+/// Where a medium lists its calls, the list says which calls were made and whether the last one failed.
+pub fn law_of_listing()
+    ensures { LawOfListing }
 {}
 
 /// Reads alone leave the medium's state as it is, at each moment and also where one of them fails.

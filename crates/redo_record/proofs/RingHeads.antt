@@ -5,7 +5,7 @@ use Rattle.std.proofs.lemmas.List.Elements.{All-append}
 use Rattle.dude_base.specs.declared.sizes.Sizes.{Sizes}
 use Rattle.dude_base.specs.Image.{image_words, Cell, cell_start}
 use Rattle.dude_base.specs.Records.{RedoRecord}
-use Rattle.pmem_trait.specs.Words.{Word, State, IsIn, MayHold, settled_at, after_all}
+use Rattle.pmem_trait.specs.Words.{Word, State, IsIn, MayHold, settled_at, after_all, IsSettledWord}
 use Rattle.pmem_trait.specs.Groups.{group_calls, values_put, OldOrNew}
 use Rattle.pmem_trait.proofs.GroupLaw.{kept_word, left_word}
 use Rattle.pmem_trait.proofs.GroupWords.{group_may}
@@ -13,7 +13,7 @@ use Rattle.redo_record.specs.Tags.{number_of, IsHeadOver}
 use Rattle.redo_record.specs.Cells.{IsCell, word_place}
 use Rattle.redo_record.specs.Record.{cells_for, count_of, record_of}
 use Rattle.redo_record.specs.Images.{mark_of, tag_of, word_in_image, IsComplete, IsNewHead}
-use Rattle.redo_record.specs.Fits.{Logged, head_of, HasHead, IsSettledWord, settled_mark, settled_word, IsIntact, FitsRing}
+use Rattle.redo_record.specs.Fits.{Logged, head_of, HasHead, settled_mark, settled_word, IsIntact, FitsRing}
 use Rattle.redo_record.specs.AppendLaw.{CanAppend, IsElsewhere}
 use Rattle.redo_record.proofs.HeldRecords.{AreSame, complete_same, count_same, tag_same}
 use Rattle.redo_record.proofs.CellPlaces.{words_same, word_inside, first_cell}

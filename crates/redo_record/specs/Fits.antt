@@ -2,7 +2,7 @@
 use Rattle.std.specs.Prelude.{◌≡◌, ◌⊎◌, ℕ, ◌+◌, ◌%◌, ◌<◌, ◌≤◌, List, [], ◌∷◌, All, sum_by}
 use Rattle.dude_base.specs.declared.limits.TheConstants.{LINE, MARK}
 use Rattle.dude_base.specs.declared.sizes.Sizes.{Sizes}
-use Rattle.pmem_trait.specs.Words.{Word, State, MayHold, settled_at}
+use Rattle.pmem_trait.specs.Words.{State, MayHold, IsSettledWord}
 use Rattle.redo_record.specs.Tags.{number_of, IsHeadOver}
 use Rattle.dude_base.specs.Image.{Cell, cell_start}
 use Rattle.redo_record.specs.Cells.{word_place}
@@ -22,10 +22,6 @@ head_of ring l = record { ring = ring; slot = l.first }
 abbrev pub HasHead : ℕ → ℕ → List Logged → Type 0
 HasHead number place [] = ⊥
 HasHead number place (l ∷ ls) = ((l.number ≡ number) × (l.first ≡ place)) ⊎ HasHead number place ls
-
--- a word with no later value and no note
-abbrev pub IsSettledWord : Word → Type 0
-IsSettledWord w = w ≡ settled_at w.settled
 
 -- the mark, as it is settled
 abbrev pub settled_mark : State → ℕ

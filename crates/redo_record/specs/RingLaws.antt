@@ -2,9 +2,9 @@
 use Rattle.std.specs.Prelude.{◌≡◌, ℕ, ◌+◌, ◌%◌, ◌<◌, ◌≤◌, max, List, [], ◌∷◌, ◌++◌, All}
 use Rattle.dude_base.specs.declared.limits.TheConstants.{LINE, MARK}
 use Rattle.dude_base.specs.declared.sizes.Sizes.{Sizes}
-use Rattle.pmem_trait.specs.Words.{State, MayHold, settled_at}
+use Rattle.pmem_trait.specs.Words.{State, MayHold, settled_at, IsSettledWord}
 use Rattle.dude_base.specs.Image.{cell_start}
-use Rattle.redo_record.specs.Fits.{Logged, IsSettledWord, settled_mark, FitsRing, AreFree, cells_used, FollowFrom}
+use Rattle.redo_record.specs.Fits.{Logged, settled_mark, FitsRing, AreFree, cells_used, FollowFrom}
 
 -- The place after n cells, in a ring.
 abbrev pub slot_after : Sizes → ℕ → ℕ → ℕ

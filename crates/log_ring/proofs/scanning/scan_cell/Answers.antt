@@ -8,10 +8,10 @@ use Rattle.log_ring.proofs.ScanReads.{made_at_device}
 use Rattle.log_ring.proofs.scanning.scan_cell.Goals as goal
 
 pub returns-in_err-tag-clause-reads : goal.returns-in_err-tag-clause-reads
-returns-in_err-tag-clause-reads g c = made_at_device c.from_residual.result (search rules) (read_alone c.in_err-tag.ensures.goes)
+returns-in_err-tag-clause-reads g c = made_at_device c.from_residual.result (search rules) (read_alone c.in_err-tag.ensures.one_call)
 
 pub returns-in_err-redo-clause-reads : goal.returns-in_err-redo-clause-reads
-returns-in_err-redo-clause-reads g c = made_at_device c.from_residual-in_err-redo.result (search rules) (reads_then (read_alone c.in_ok-tag.ensures.goes) c.in_err-redo.ensures.reads)
+returns-in_err-redo-clause-reads g c = made_at_device c.from_residual-in_err-redo.result (search rules) (reads_then (read_alone c.in_ok-tag.ensures.one_call) c.in_err-redo.ensures.reads)
 
 pub returns-in_default-clause-torn : goal.returns-in_default-clause-torn
 returns-in_default-clause-torn g c line is =
@@ -22,7 +22,7 @@ returns-in_default-clause-torn g c line is =
         head = new_head c.args.place.now c.args.above content (cell_at c.args.ring c.args.cell) c.cell-front.result c.in_ok-tag.tag (record { ring_is = c.requires.ring; slot_is = c.requires.cell }) c.cell-front.ensures.place
             (read_content c.cell-front.result (reads_here (g.M.Medium.sight c.args.m.now)) (omega arith) c.in_ok-tag.ensures.value told content holds) (omega arith) (omega arith);
         incomplete =
-            let found = content_before {P = λ l. IsRecordAt c.args.place.now l (cell_at c.args.ring c.args.cell) c.in_ok-redo.field-0} {ok = true} (read_alone {ok = true} c.in_ok-tag.ensures.goes) c.in_ok-redo.ensures.record told content holds in
+            let found = content_before {P = λ l. IsRecordAt c.args.place.now l (cell_at c.args.ring c.args.cell) c.in_ok-redo.field-0} {ok = true} (read_alone {ok = true} c.in_ok-tag.ensures.one_call) c.in_ok-redo.ensures.record told content holds in
             subst (IsRecordAt c.args.place.now content (cell_at c.args.ring c.args.cell)) c.in_default.is found;
       },
     )

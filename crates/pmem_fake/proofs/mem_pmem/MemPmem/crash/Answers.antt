@@ -13,5 +13,5 @@ returns-clause-allowed c =
 
 pub returns-clause-every : goal.returns-clause-every
 returns-clause-every c =
-    let log = c.args.self.now.log in
-    each_picked _ (take log.now log.calls.items) c.args.self.now.start.items (omega (arith, length-take log.now log.calls.items, log.as_many, log.small))
+    let history = c.args.self.now.history in
+    each_picked _ c.args.self.now.history.late (take history.now history.calls.items) c.args.self.now.start.items (omega (arith, length-take history.now history.calls.items, history.as_many, history.small))

@@ -12,15 +12,15 @@ returns-clause-allowed c =
 
 pub returns-then-moment-now-clause-every : goal.returns-then-moment-now-clause-every
 returns-then-moment-now-clause-every c =
-    let log = c.args.self.now.log in
-    each_picked _ (take c.args.moment log.calls.items) c.args.self.now.start.items (omega (arith, length-take c.args.moment log.calls.items, log.as_many, log.small))
+    let history = c.args.self.now.history in
+    each_picked _ c.args.self.now.history.late (take c.args.moment history.calls.items) c.args.self.now.start.items (omega (arith, length-take c.args.moment history.calls.items, history.as_many, history.small))
 
 pub returns-in_err-image_after-clause-every : goal.returns-in_err-image_after-clause-every
 returns-in_err-image_after-clause-every c =
-    let log = c.args.self.now.log in
-    each_picked _ (take c.args.moment log.calls.items) c.args.self.now.start.items (omega (arith, length-take c.args.moment log.calls.items, log.as_many, log.small))
+    let history = c.args.self.now.history in
+    each_picked _ c.args.self.now.history.late (take c.args.moment history.calls.items) c.args.self.now.start.items (omega (arith, length-take c.args.moment history.calls.items, history.as_many, history.small))
 
 pub returns-clause-every : goal.returns-clause-every
 returns-clause-every c =
-    let log = c.args.self.now.log in
-    each_picked _ (take c.args.moment log.calls.items) c.args.self.now.start.items (omega (arith, length-take c.args.moment log.calls.items, log.as_many, log.small))
+    let history = c.args.self.now.history in
+    each_picked _ c.args.self.now.history.late (take c.args.moment history.calls.items) c.args.self.now.start.items (omega (arith, length-take c.args.moment history.calls.items, history.as_many, history.small))

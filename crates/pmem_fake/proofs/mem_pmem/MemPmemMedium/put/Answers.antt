@@ -1,24 +1,26 @@
-use Rattle.std.proofs.Common.{◌≡◌, false, is_ok, rules, refl, ◌<◌, length, arith, true≢false, sym}
-use Rattle.pmem_trait.proofs.Runs.{on_err}
-use Rattle.pmem_fake.proofs.Histories.{entered_goes, entered_undone, content_stays, content_put}
+use Rattle.std.proofs.Common.{true≢false, length, sym, ◌∙◌, arith, ◌<◌}
+use Rattle.std.proofs.Math.ListN.{length-set}
+use Rattle.pmem_fake.proofs.Histories.{entered_goes, here_after, content_stays, content_put}
 use Rattle.pmem_fake.proofs.mem_pmem.MemPmemMedium.put.Goals as goal
+use Rattle.pmem_fake.proofs.mem_pmem.MemPmemMedium.put.Goals.{then-is_next_effective, else-is_next_effective}
 
 pub invariant_of-self : goal.invariant_of-self
-invariant_of-self c = record {
-  same_len = c.args.self.now.same_len;
-  content = content_stays c.args.self.now.start.items c.args.self.now.words.items c.in_err-enter.ensures (λ k w done. absurd (true≢false (sym done))) c.args.self.now.content;
-}
+invariant_of-self c =
+    let medium = c.args.self.now in
+    let inside : c.args.at < length medium.words.items = omega (arith, medium.same_len, c.requires) in
+    elim c.if-is_next_effective.branch [
+      | then-is_next_effective w ↦ rw w.self-is (record {
+        same_len = length-set medium.words.items c.args.at c.args.value ∙ medium.same_len;
+        content = content_put c.args.at c.args.value medium.start.items medium.words.items c.enter.ensures (sym c.is_next_effective.ensures ∙ w.if-is_next_effective.true) inside medium.content;
+      })
+      | else-is_next_effective w ↦ rw w.self-is (record {
+        same_len = medium.same_len;
+        content = content_stays medium.start.items medium.words.items c.enter.ensures (λ k word acts. absurd (true≢false (sym acts ∙ sym c.is_next_effective.ensures ∙ w.if-is_next_effective.false))) medium.content;
+      })
+    ]
 
-pub returns-in_err-enter-clause-goes : goal.returns-in_err-enter-clause-goes
-returns-in_err-enter-clause-goes c = let err : is_ok c.from_residual.result ≡ false = search rules in rw err (entered_goes c.in_err-enter.ensures c.args.self.now.start.items)
+pub returns-clause-one_call : goal.returns-clause-one_call
+returns-clause-one_call c = entered_goes c.enter.ensures c.args.self.now.start.items
 
-pub returns-in_err-enter-clause-undone : goal.returns-in_err-enter-clause-undone
-returns-in_err-enter-clause-undone c = on_err _ (λ failed. entered_undone c.in_err-enter.ensures c.args.self.now.start.items refl)
-
-pub invariant_of-self-2-clause-content : goal.invariant_of-self-2-clause-content
-invariant_of-self-2-clause-content c =
-    let inside : c.args.at < length c.args.self.now.words.items = omega (arith, c.args.self.now.same_len, c.requires) in
-    content_put c.args.at c.args.value c.args.self.now.start.items c.args.self.now.words.items c.in_ok-enter.ensures inside c.args.self.now.content
-
-pub returns-clause-goes : goal.returns-clause-goes
-returns-clause-goes c = entered_goes c.in_ok-enter.ensures c.args.self.now.start.items
+pub returns-clause-effect : goal.returns-clause-effect
+returns-clause-effect c = here_after c.enter.ensures c.args.self.now.start.items

@@ -1,0 +1,5 @@
+//! Tests of the media, of what logs on them, and of files and sinks: all by public items alone.
+#![tactic(auto)]
+
+#[cfg(test)]
+mod mem_pmem;

@@ -1,0 +1,73 @@
+ghost use Rattle.std.specs.Prelude.{◌+◌, ◌≤◌};
+
+/// How the words of a formatted image are shared out.
+#[derive(Clone, Copy)]
+pub struct Shape {
+    /// How many cells the rings have together.
+    pub all_cells: u64,
+    /// How many cells each ring has.
+    pub cells: u64,
+    /// How many home words there are.
+    pub home: u64,
+    ghost few_cells: { all_cells ≤ 32768 },
+    ghost some: { 16 ≤ cells },
+    ghost few: { cells ≤ 4096 },
+    ghost small: { home ≤ 2000000 },
+}
+
+impl Shape {
+    /// The shape that an image names, where it is formatted in this version.
+    pub fn of(image: &[u64], version: u64) -> Option<Shape> {
+        let word = |at: usize| image.get(at).copied().unwrap_or(0);
+        let known = word(0) == 0x4D45_4D54_4544_5544 && word(1) == version && word(7) == 0;
+        let shape = Shape::of_sizes(word(2), word(3), word(4), word(5), word(6))?;
+        let whole = image.len() as u64 >= shape.home_start() + shape.home;
+        (known && whole).then_some(shape)
+    }
+
+    // The shape of these sizes, where they are accepted.
+    fn of_sizes(subscribers: u64, calls: u64, rings: u64, cells: u64, pages: u64) -> Option<Shape> {
+        if subscribers < 1 || subscribers > 10_000 || calls < 1 || calls > 120_000 {
+            return None;
+        }
+        if rings < 1 || rings > 8 || cells < 16 || cells > 4_096 {
+            return None;
+        }
+        if pages != pages_for(subscribers, calls) {
+            return None;
+        }
+        Some(Shape {
+            all_cells: rings * cells,
+            cells,
+            home: 64 * pages,
+        })
+    }
+
+    /// The first home word.
+    pub fn home_start(&self) -> u64
+        ensures { result ≤ 262160 }
+    {
+        16 + 8 * self.all_cells
+    }
+}
+
+// The pages of five tables.
+fn pages_for(subscribers: u64, calls: u64) -> u64
+    requires subscribers { subscribers ≤ 10000 }
+    requires calls { calls ≤ 120000 }
+    ensures { result ≤ 31250 }
+{
+    let rows = table_words(subscribers, 8 * subscribers)
+        + table_words(subscribers, 4 * subscribers);
+    let parts = 2 * table_words(4 * subscribers, 16 * subscribers);
+    (rows + parts + table_words(calls, 4 * calls)).div_ceil(64)
+}
+
+// A line, the links of the buckets, the records: each in whole lines.
+fn table_words(buckets: u64, records: u64) -> u64
+    requires few { buckets ≤ 120000 }
+    requires small { records ≤ 480000 }
+    ensures { result ≤ buckets + records + 22 }
+{
+    8 + buckets.div_ceil(8) * 8 + records.div_ceil(8) * 8
+}
