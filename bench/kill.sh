@@ -7,7 +7,7 @@
 #     bench/kill.sh [FOLDER [KILLS [SECONDS]]]     at most KILLS (200) kills in about SECONDS (120), in a folder below FOLDER (.)
 set -eu
 here=$(cd "$(dirname "$0")" && pwd)
-program=$here/../crates/dude_program/out/dude_program
+program=$here/../crates/dude/out/dude
 [ -x "$program" ] || { echo "build it first: ./dude --version" >&2; exit 1; }
 most=${2:-200} limit=${3:-120}
 folder=$(mktemp -d "${1:-.}/kill.XXXXXX")
