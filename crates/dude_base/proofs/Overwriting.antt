@@ -85,7 +85,7 @@ written-put ws w i = elim (cases_Bool (is_some (written ws w.at))) [
   | inr new ↦ rw new (written-new w ws i (None-from_is_some _ new))
 ]
 
--- the first k + 1 writes, where the writes have distinct places
+-- the first k + 1 writes, where the writes are of different words
 pub overwritten-more : (ws : List Write) (array : List ℕ) (k : ℕ) (w : Write) → HasDistinctPlaces ws → slice_get ws k ≡ Some w → overwritten (take (k + 1) ws) array ≡ slice_set (overwritten (take k ws) array) w.at w.value
 overwritten-more ws array k w distinct there =
     let lt : k < length ws = slice_get_within ws k w there in

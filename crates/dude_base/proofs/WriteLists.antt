@@ -1,4 +1,4 @@
--- Lists of writes with distinct places: what they write, and one more write.
+-- Lists of writes of different words: what they write, and one more write.
 use Rattle.std.proofs.Common.{true, ◌+◌, ◌≡◌, ◌≢◌, ◌==◌, ℕ, ◌<◌, ◌≤◌, zero, suc, false, List, [], ◌∷◌, ◌++◌, length, length-set, length-take-le, take, get_or, set, map, All, Option, Some, None, is_some, if◌then◌else◌, refl, sym, ap, ◌∙◌, subst, inl, inr, ⊎_elim, arith, get_or-set_same, get_or-set_other}
 use Rattle.std.proofs.Math.Seq.{take-set-lt}
 use Rattle.std.proofs.lemmas.Bool.{cases_eq, cases_Bool}
@@ -13,7 +13,7 @@ pub None-from_is_some : (o : Option ℕ) → is_some o ≡ false → o ≡ None
 None-from_is_some None e = refl
 None-from_is_some (Some x) e = cc
 
--- nothing is written to a place that no write has
+-- nothing is written to a word of no write
 pub written_absent : (ws : List Write) (i : ℕ) → All (λ w. w.at ≢ i) ws → written ws i ≡ None
 written_absent [] i other = refl
 written_absent (w ∷ ws) i other =
@@ -21,7 +21,7 @@ written_absent (w ∷ ws) i other =
     let rest : written ws i ≡ None = written_absent ws i (λ k d lt. other (suc k) d (omega arith)) in
     grind (arith, common_steps)
 
--- no write has a place where nothing is written
+-- no write is of a word where nothing is written
 pub absent_written : (ws : List Write) (i : ℕ) → written ws i ≡ None → All (λ w. w.at ≢ i) ws
 absent_written [] i none k d lt = absurd (omega arith)
 absent_written (w ∷ ws) i none zero d lt = λ same. grind (arith, common_steps)
@@ -30,7 +30,7 @@ absent_written (w ∷ ws) i none (suc k) d lt = ⊎_elim
     (λ other. absent_written ws i (grind (arith, common_steps)) k d (omega arith))
     (cases_eq w.at i)
 
--- the only write of a place says what is written there
+-- the only write of a word says what is written there
 pub written_at : (ws : List Write) (i k : ℕ) (d : Write) → HasDistinctPlaces ws → k < length ws → (get_or ws k d).at ≡ i → written ws i ≡ Some (get_or ws k d).value
 written_at [] i k d distinct lt same = absurd (omega arith)
 written_at (w ∷ ws) i zero d distinct lt same = grind (arith, common_steps)
@@ -39,7 +39,7 @@ written_at (w ∷ ws) i (suc k) d distinct lt same =
     let rest : written ws i ≡ Some (get_or ws k d).value = written_at ws i k d (λ a b e ab bl. distinct (suc a) (suc b) e (omega arith) (omega arith)) (omega arith) same in
     grind (arith, common_steps)
 
--- a write in the place of one of the same word leaves the places distinct
+-- a write in place of one of the same word leaves the words distinct
 pub distinct_set : (ws : List Write) (k : ℕ) (w : Write) → k < length ws → ((d : Write) → (get_or ws k d).at ≡ w.at) → HasDistinctPlaces ws → HasDistinctPlaces (set ws k w)
 distinct_set ws k w lt same distinct i j d ij jl =
     let long = length-set ws k w in
@@ -68,14 +68,14 @@ map_at (v ∷ vs) (suc k) w lt same distinct =
     let rest = map_at vs k w (omega arith) same (λ a b e ab bl. distinct (suc a) (suc b) e (omega arith) (omega arith)) in
     grind (arith, common_steps)
 
--- a write of a written word takes the place of the one of this word
+-- a write of a written word replaces the one of this word
 pub put_at : (ws : List Write) (k : ℕ) (w : Write) → k < length ws → ((d : Write) → (get_or ws k d).at ≡ w.at) → HasDistinctPlaces ws → put_write ws w ≡ set ws k w
 put_at ws k w lt same distinct = rw (written_at ws w.at k w distinct lt (same w)) (map_at ws k w lt same distinct)
 
--- a write in the front of a list, at the place of one of the same word
-pub replaced_front : (slots ws : List Write) (n k : ℕ) (w : Write) → take n slots ≡ ws → n ≤ length slots → k < length ws → ((d : Write) → (get_or ws k d).at ≡ w.at) → HasDistinctPlaces (take n slots)
+-- a write in the prefix of a list, at the index of one of the same word
+pub replaced_prefix : (slots ws : List Write) (n k : ℕ) (w : Write) → take n slots ≡ ws → n ≤ length slots → k < length ws → ((d : Write) → (get_or ws k d).at ≡ w.at) → HasDistinctPlaces (take n slots)
     → (take n (set slots k w) ≡ set ws k w) × HasDistinctPlaces (take n (set slots k w))
-replaced_front slots ws n k w front long lt same distinct =
+replaced_prefix slots ws n k w front long lt same distinct =
     let size : length ws ≡ n = sym (ap length front) ∙ length-take-le n slots long in
     let below : k < n = omega arith in
     let is : take n (set slots k w) ≡ set ws k w = take-set-lt n slots k w below ∙ ap (λ q. set q k w) front in
@@ -92,7 +92,7 @@ module _ (w : Write) where
     all_put_new : (ws : List Write) → All (λ v. P v.at) ws → All (λ v. P v.at) (ws ++ w ∷ [])
     all_put_new ws all = All-append (λ v. P v.at) ws (w ∷ []) all (All-cons (λ v. P v.at) w [] here (All-nil (λ v. P v.at)))
 
-    -- what holds of the place of each write holds of that of each after one more
+    -- what holds of the word of each write holds of that of each after one more
     pub All-put_write : (ws : List Write) → All (λ v. P v.at) ws → All (λ v. P v.at) (put_write ws w)
     All-put_write ws all = elim (cases_Bool (is_some (written ws w.at))) [
       | inl there ↦ rw there (λ k d lt. let inside : k < length ws = omega (arith, length-map ws (λ (v : Write). if v.at == w.at then w else v)) in subst P (sym (at-renewed ws k d inside)) (all k d inside))

@@ -1,9 +1,10 @@
 -- The home: five tables one after another, in whole pages.
-use Rattle.std.specs.Prelude.{ℕ, ◌+◌, ◌*◌, ◌/◌, List, [], ◌∷◌, sum_by}
+use Rattle.std.specs.Prelude.{ℕ, ◌+◌, ◌*◌, ◌/◌, ◌-◌, List, [], ◌∷◌, sum_by}
+use Rattle.dude_base.specs.declared.limits.TheConstants.{LINE, PAGE, MAX_ROWS, SUBSCRIBER_WORDS, ROW_WORDS}
 
--- x rounded up to a multiple of 8
-abbrev pub up8 : ℕ → ℕ
-up8 x = (x + 7) / 8 * 8
+-- x rounded up to whole lines
+abbrev pub in_whole_lines : ℕ → ℕ
+in_whole_lines x = (x + (LINE - 1)) / LINE * LINE
 
 -- how many buckets and records a table has, and how many words a record
 pub record TableShape : Type 0 where
@@ -13,16 +14,16 @@ pub record TableShape : Type 0 where
 
 -- a header of one line, the buckets' links, the records
 abbrev pub table_words : TableShape → ℕ
-table_words t = 8 + up8 t.buckets + up8 (t.records * t.size)
+table_words t = LINE + in_whole_lines t.buckets + in_whole_lines (t.records * t.size)
 
 -- subscribers, numbers, access rows, facilities, call forwardings
 abbrev pub home_tables : ℕ → ℕ → List TableShape
 home_tables subscribers calls =
-    record { buckets = subscribers; records = subscribers; size = 8 }
-    ∷ record { buckets = subscribers; records = subscribers; size = 4 }
-    ∷ record { buckets = 4 * subscribers; records = 4 * subscribers; size = 4 }
-    ∷ record { buckets = 4 * subscribers; records = 4 * subscribers; size = 4 }
-    ∷ record { buckets = calls; records = calls; size = 4 }
+    record { buckets = subscribers; records = subscribers; size = SUBSCRIBER_WORDS }
+    ∷ record { buckets = subscribers; records = subscribers; size = ROW_WORDS }
+    ∷ record { buckets = MAX_ROWS * subscribers; records = MAX_ROWS * subscribers; size = ROW_WORDS }
+    ∷ record { buckets = MAX_ROWS * subscribers; records = MAX_ROWS * subscribers; size = ROW_WORDS }
+    ∷ record { buckets = calls; records = calls; size = ROW_WORDS }
     ∷ []
 
 abbrev pub home_length : ℕ → ℕ → ℕ
@@ -30,4 +31,4 @@ home_length subscribers calls = sum_by table_words (home_tables subscribers call
 
 -- the pages that the tables need
 abbrev pub pages_for : ℕ → ℕ → ℕ
-pages_for subscribers calls = (home_length subscribers calls + 63) / 64
+pages_for subscribers calls = (home_length subscribers calls + (PAGE - 1)) / PAGE

@@ -1,7 +1,7 @@
 -- The image: an array of words. Line k is its words 8 k to 8 k + 7.
 --
 --     word 0                          the magic number, the bytes DUDETMEM as a number
---     word 1                          the version, 1
+--     word 1                          the version
 --     words 2 to 6                    subscribers, calls, rings, cells, pages
 --     word 7                          0
 --     word 8                          the mark: the number up to which the home has all writes
@@ -9,12 +9,12 @@
 --     16 + (r * cells + c) * 8        the start of cell c of ring r, a line
 --     16 + rings * cells * 8 + i      home word i, below pages * 64
 use Rattle.std.specs.Prelude.{ℕ, ◌+◌, ◌*◌, List, [], ◌∷◌}
-use Rattle.dude_base.specs.declared.limits.TheConstants.{HEADER, LINE, PAGE, MAGIC, VERSION}
+use Rattle.dude_base.specs.declared.limits.TheConstants.{HEADER, LINE, PAGE, MAGIC}
 use Rattle.dude_base.specs.declared.sizes.Sizes.{Sizes}
 
--- words 0 to 7
-abbrev pub header_words : Sizes → List ℕ
-header_words s = MAGIC ∷ VERSION ∷ s.subscribers ∷ s.calls ∷ s.rings ∷ s.cells ∷ s.pages ∷ 0 ∷ []
+-- words 0 to 7, in this version
+abbrev pub header_words : ℕ → Sizes → List ℕ
+header_words version s = MAGIC ∷ version ∷ s.subscribers ∷ s.calls ∷ s.rings ∷ s.cells ∷ s.pages ∷ 0 ∷ []
 
 -- A cell, by its ring and its slot in the ring.
 pub record Cell : Type 0 where

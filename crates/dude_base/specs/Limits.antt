@@ -1,7 +1,7 @@
 -- The limits of the store and the units of its image, as numbers.
 use Rattle.std.specs.Prelude.{◌≡◌, ◌-◌, ◌^◌, codes}
 use Rattle.std.specs.Slice.Scan.{little_endian}
-use Rattle.dude_base.specs.declared.limits.TheConstants.{LINE, PAGE, MAX_WRITES, MAX_SUBSCRIBERS, MAX_CALLS, MAX_RINGS, MIN_CELLS, MAX_CELLS, MIN_FRAMES, MAX_LOCKS, DEFAULT_LOCKS, MAX_BOXES, DEFAULT_BOXES, MAX_NUMBER, HEADER, MAGIC, VERSION, MARK}
+use Rattle.dude_base.specs.declared.limits.TheConstants.{LINE, PAGE, MAX_WRITES, MAX_SUBSCRIBERS, MAX_CALLS, MAX_ROWS, SUBSCRIBER_WORDS, ROW_WORDS, MAX_RINGS, MIN_CELLS, MAX_CELLS, MIN_FRAMES, MAX_LOCKS, DEFAULT_LOCKS, MAX_BOXES, DEFAULT_BOXES, MAX_NUMBER, HEADER, MAGIC, VERSION, MARK}
 
 -- what each constant of the code is
 pub record LimitsAre : Type 0 where
@@ -10,6 +10,9 @@ pub record LimitsAre : Type 0 where
   pub max_writes : MAX_WRITES ≡ 24
   pub max_subscribers : MAX_SUBSCRIBERS ≡ 10_000
   pub max_calls : MAX_CALLS ≡ 120_000
+  pub max_rows : MAX_ROWS ≡ 4
+  pub subscriber_words : SUBSCRIBER_WORDS ≡ 8
+  pub row_words : ROW_WORDS ≡ 4
   pub max_rings : MAX_RINGS ≡ 8
   pub min_cells : MIN_CELLS ≡ 16
   pub max_cells : MAX_CELLS ≡ 4_096
@@ -19,7 +22,7 @@ pub record LimitsAre : Type 0 where
   pub max_boxes : MAX_BOXES ≡ 64
   pub default_boxes : DEFAULT_BOXES ≡ 8
   pub max_number : MAX_NUMBER ≡ 2 ^ 48 - 1
-  pub head : HEADER ≡ 16
+  pub header : HEADER ≡ 16
   pub magic : MAGIC ≡ 0x4D45_4D54_4544_5544
   pub magic_bytes : MAGIC ≡ little_endian (codes "DUDETMEM") 0
   pub version : VERSION ≡ 1

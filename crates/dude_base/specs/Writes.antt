@@ -3,12 +3,12 @@ use Rattle.std.specs.Prelude.{◌≡◌, ◌≢◌, ◌==◌, ℕ, ◌≤◌, Li
 use Rattle.dude_base.specs.declared.limits.TheConstants.{MAX_WRITES}
 use Rattle.dude_base.specs.declared.write.Write.{Write}
 
--- what a list of writes puts into the word i, or None where none of them has this place
+-- what a list of writes puts into the word i, or None where none of them is of this word
 abbrev pub written : List Write → ℕ → Option ℕ
 written [] i = None
 written (w ∷ ws) i = if w.at == i then Some w.value else written ws i
 
--- the places of the writes differ
+-- the writes are of different words
 abbrev pub HasDistinctPlaces : List Write → Type 0
 HasDistinctPlaces ws = AllPairs (λ v w. v.at ≢ w.at) ws
 
@@ -17,7 +17,7 @@ pub record IsWriteList (ws : List Write) : Type 0 where
   pub few : length ws ≤ MAX_WRITES
   pub distinct : HasDistinctPlaces ws
 
--- w takes the place of the write of the same word; where there is none, it comes last
+-- w replaces the write of the same word; where there is none, it comes last
 abbrev pub put_write : List Write → Write → List Write
 put_write ws w = if is_some (written ws w.at) then map (λ v. if v.at == w.at then w else v) ws else ws ++ w ∷ []
 
@@ -26,7 +26,7 @@ pub record IsWide (ws : List Write) (i : ℕ) : Type 0 where
   pub full : length ws ≡ MAX_WRITES
   pub new : written ws i ≡ None
 
--- the array with each written word overwritten; the places differ, so that the order does not matter
+-- the array with each written word overwritten; the words differ, so that the order does not matter
 abbrev pub overwritten : List Write → List ℕ → List ℕ
 overwritten [] a = a
 overwritten (w ∷ ws) a = slice_set (overwritten ws a) w.at w.value

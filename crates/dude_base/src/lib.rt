@@ -8,8 +8,6 @@ pub mod redo;
 pub mod run;
 pub mod size_fault;
 pub mod sizes;
-#[cfg(test)]
-mod tests;
 pub mod wide;
 pub mod write;
 pub mod write_list;

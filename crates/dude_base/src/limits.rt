@@ -17,6 +17,15 @@ pub const MAX_SUBSCRIBERS: u64 = 10_000;
 /// The most call forwardings; there is room for at least one.
 pub const MAX_CALLS: u64 = 120_000;
 
+/// The most access rows of a subscriber, and the most facilities.
+pub const MAX_ROWS: u64 = 4;
+
+/// Words of a subscriber's record.
+pub const SUBSCRIBER_WORDS: u64 = 8;
+
+/// Words of a record of each other table.
+pub const ROW_WORDS: u64 = 4;
+
 /// The most log rings; there is at least one.
 pub const MAX_RINGS: u64 = 8;
 

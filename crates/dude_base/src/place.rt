@@ -42,7 +42,7 @@ impl Place {
         self.sizes
     }
 
-    /// The front of a cell of a ring.
+    /// The first word of a cell of a ring.
     pub fn cell(&self, ring: u64, cell: u64) -> u64
         requires ring { ring < self.now.rings }
         requires cell { cell < self.now.cells }

@@ -39,6 +39,16 @@ impl Redo {
         Redo { number, writes }
     }
 
+    /// The same record once more. It takes no memory.
+    pub fn copy(&self) -> Self
+        ensures { result ≡ self.now }
+    {
+        Redo {
+            number: self.number,
+            writes: self.writes.copy(),
+        }
+    }
+
     /// The number of the transaction. Recovery replays records in the order of their numbers.
     pub fn number(&self) -> u64
         ensures { result ≡ self.now.number }
@@ -54,7 +64,7 @@ impl Redo {
         self.writes.len()
     }
 
-    /// The write at place `k`, counted from 0.
+    /// The write at index `k`, counted from 0.
     pub fn write_at(&self, k: u64) -> Write
         requires { k < length self.now.writes }
         ensures { slice_get self.now.writes k ≡ Some result }

@@ -1,10 +1,13 @@
 ghost use Rattle.std.specs.Prelude.{◌≡◌, ◌<◌, ◌≤◌, ◌+◌, ◌*◌, ℕ, IfOk, IfErr, OnOk};
 ghost use Rattle.dude_base.specs.declared.field.Field.{Field};
-ghost use Rattle.dude_base.specs.Home.{up8, table_words, pages_for};
+ghost use Rattle.dude_base.specs.Home.{in_whole_lines, table_words, pages_for};
 ghost use Rattle.dude_base.specs.Sizes.{IsAccepted, IsFirstOut, IsFrom, IsWithin, field_rank, sizes_for};
 
 use crate::field::Field;
-use crate::limits::{LINE, MAX_CALLS, MAX_CELLS, MAX_RINGS, MAX_SUBSCRIBERS, MIN_CELLS, PAGE};
+use crate::limits::{
+    LINE, MAX_CALLS, MAX_CELLS, MAX_RINGS, MAX_ROWS, MAX_SUBSCRIBERS, MIN_CELLS, PAGE, ROW_WORDS,
+    SUBSCRIBER_WORDS,
+};
 use crate::size_fault::SizeFault;
 
 /// How large an image is.
@@ -78,30 +81,31 @@ fn within(field: Field, value: u64, least: u64, most: u64) -> Result<(), SizeFau
 }
 
 fn pages_of_tables(subscribers: u64, calls: u64) -> u64
-    requires subscribers { subscribers ≤ 10000 }
-    requires calls { calls ≤ 120000 }
+    requires subscribers { subscribers ≤ MAX_SUBSCRIBERS }
+    requires calls { calls ≤ MAX_CALLS }
     ensures { result ≡ pages_for subscribers calls }
 {
-    let words = words_of_table(subscribers, subscribers, 8)
-        + words_of_table(subscribers, subscribers, 4)
-        + words_of_table(4 * subscribers, 4 * subscribers, 4)
-        + words_of_table(4 * subscribers, 4 * subscribers, 4)
-        + words_of_table(calls, calls, 4);
+    let rows = MAX_ROWS * subscribers;
+    let words = words_of_table(subscribers, subscribers, SUBSCRIBER_WORDS)
+        + words_of_table(subscribers, subscribers, ROW_WORDS)
+        + words_of_table(rows, rows, ROW_WORDS)
+        + words_of_table(rows, rows, ROW_WORDS)
+        + words_of_table(calls, calls, ROW_WORDS);
     words.div_ceil(PAGE)
 }
 
 // A header line, the links of the buckets and the records, each in whole lines.
 fn words_of_table(buckets: u64, records: u64, size: u64) -> u64
-    requires few { buckets ≤ 120000 }
-    requires small { records * size ≤ 480000 }
+    requires few { buckets ≤ MAX_CALLS }
+    requires small { records * size ≤ MAX_CALLS * ROW_WORDS }
     ensures { result ≡ table_words (record { buckets = buckets; records = records; size = size }) }
 {
     LINE + whole_lines(buckets) + whole_lines(records * size)
 }
 
 fn whole_lines(words: u64) -> u64
-    requires { words ≤ 480000 }
-    ensures { result ≡ up8 words }
+    requires { words ≤ MAX_CALLS * ROW_WORDS }
+    ensures { result ≡ in_whole_lines words }
 {
     words.div_ceil(LINE) * LINE
 }

@@ -39,6 +39,16 @@ impl WriteList {
         }
     }
 
+    /// The same writes once more. It takes no memory either.
+    pub fn copy(&self) -> Self
+        ensures { result ≡ self.now }
+    {
+        WriteList {
+            slots: self.slots,
+            len: self.len,
+        }
+    }
+
     /// How many different words are written.
     pub fn len(&self) -> u64
         ensures len { result ≡ length self.now }
@@ -47,7 +57,7 @@ impl WriteList {
         self.len
     }
 
-    /// The write at place `k`, counted from 0.
+    /// The write at index `k`, counted from 0.
     pub fn get(&self, k: u64) -> Write
         requires { k < length self.now }
         ensures { slice_get self.now k ≡ Some result }
@@ -60,7 +70,7 @@ impl WriteList {
     pub fn find(&self, at: u64) -> Option<u64>
         ensures { result ≡ written self.now at }
     {
-        match self.place_of(at) {
+        match self.index_of(at) {
             Some(k) => Some(self.get(k).value),
             None => None,
         }
@@ -72,7 +82,7 @@ impl WriteList {
         ensures err { OnErr result (self.new ≡ self.old) }
         ensures wide { IsErr result ↔ IsWide self.old w.at }
     {
-        match self.place_of(w.at) {
+        match self.index_of(w.at) {
             Some(k) => self.replace(k, w),
             None if self.len() < MAX_WRITES => self.append(w),
             None => return Err(Wide),
@@ -91,7 +101,7 @@ impl WriteList {
         }
     }
 
-    fn place_of(&self, at: u64) -> Option<u64>
+    fn index_of(&self, at: u64) -> Option<u64>
         ensures some { IfSome result (λ k. (k < length self.now) × HoldsAt (λ w. w.at ≡ at) self.now k) }
         ensures none { IfNone result (All (λ w. w.at ≢ at) self.now) }
         ensures writes { IsWriteList self.now }
@@ -106,7 +116,7 @@ impl WriteList {
 
     fn replace(&mut self, k: u64, w: Write)
         requires inside { k < length self.old }
-        requires same_place { HoldsAt (λ v. v.at ≡ w.at) self.old k }
+        requires same_word { HoldsAt (λ v. v.at ≡ w.at) self.old k }
         ensures { self.new ≡ slice_set self.old k w }
     {
         let slots = &mut self.slots;
@@ -115,7 +125,7 @@ impl WriteList {
 
     fn append(&mut self, w: Write)
         requires room { length self.old < MAX_WRITES }
-        requires new_place { All (λ v. v.at ≢ w.at) self.old }
+        requires new_word { All (λ v. v.at ≢ w.at) self.old }
         ensures { self.new ≡ self.old ++ w ∷ [] }
     {
         self.slots[self.len as usize] = w;

@@ -1,13 +1,8 @@
 pub mod Files
 pub mod Sink
 pub mod FileText
-pub mod Script
+pub mod FailPlan
 pub mod MemFile
 pub mod MemFiles
 pub mod MemSink
-pub mod FaultCount
-pub mod Clock
 pub mod Silent
-pub mod Line
-pub mod Image
-pub mod FilePmem

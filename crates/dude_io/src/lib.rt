@@ -9,31 +9,23 @@
 //! stands at its last value. What the system reads, writes and syncs is trusted.
 #![tactic(auto)]
 
-mod clock;
-mod edge_fault;
-mod fault_count;
+mod fail_plan;
 mod file_fault;
-mod file_pmem;
 mod file_text;
 mod files;
-mod image;
-mod image_file;
-mod line;
 mod mem_file;
 mod mem_files;
 mod mem_sink;
 mod reading;
 mod real_files;
 mod real_sink;
-mod script;
 mod sink;
 #[cfg(test)]
 mod tests;
 mod writing;
 
-pub use edge_fault::EdgeFault;
 pub use file_fault::FileFault;
-pub use file_pmem::FilePmem;
+pub use file_pmem::{EdgeFault, FilePmem};
 pub use file_text::FileText;
 pub use files::Files;
 pub use mem_file::MemFile;

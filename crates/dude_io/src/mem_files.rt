@@ -4,8 +4,8 @@ ghost use Rattle.dude_io.specs.Files.{GivesBytes};
 ghost use Rattle.dude_io.specs.MemFile.{text_of};
 
 use crate::Files;
+use crate::fail_plan::FailPlan;
 use crate::mem_file::MemFile;
-use crate::script::Script;
 use pmem_trait::Failed;
 use std::alloc::AllocError;
 
@@ -13,7 +13,7 @@ use std::alloc::AllocError;
 #[derive(Drop)]
 pub struct MemFiles {
     files: Vec<MemFile>,
-    script: Script,
+    plan: FailPlan,
 }
 
 impl MemFiles {
@@ -27,17 +27,17 @@ impl MemFiles {
     {
         Ok(MemFiles {
             files,
-            script: Script::new(fail, chunk),
+            plan: FailPlan::new(fail, chunk),
         })
     }
 }
 
 impl Files for MemFiles {
     ghost use Rattle.std.specs.Prelude.{◌≡◌, ◌<◌, ◌-◌, min, length, is_ok, is_err, is_none, ◌||◌, IfOk, IfSome};
-    ghost use Rattle.dude_io.specs.FaultCount.{faults_after};
+    ghost use Rattle.pmem_trait.specs.Faults.{faults_after};
     ghost use Rattle.dude_io.specs.Files.{ReadsFile};
-    ghost use Rattle.dude_io.specs.Script.{is_to_fail, CountsCall};
-    ghost use Rattle.dude_io.specs.MemFiles.{files_sight, files_script};
+    ghost use Rattle.dude_io.specs.FailPlan.{is_to_fail, CountsCall};
+    ghost use Rattle.dude_io.specs.MemFiles.{files_sight, files_plan};
 
     ghost sight = { files_sight };
 
@@ -46,21 +46,21 @@ impl Files for MemFiles {
         ensures reads { ReadsFile name.now at into.old into.new result (files_sight self.old) (files_sight self.new) }
 
         // It fails exactly where it is to fail or the file isn't there.
-        ensures fails { is_err result ≡ (is_to_fail (files_script self.old) || is_none ((files_sight self.old).text name.now)) }
+        ensures fails { is_err result ≡ (is_to_fail (files_plan self.old) || is_none ((files_sight self.old).text name.now)) }
         ensures faults { (files_sight self.new).faults ≡ faults_after (is_ok result) (files_sight self.old).faults }
         ensures most { IfOk result (λ n. IfSome ((files_sight self.old).text name.now) (λ text.
-            n ≡ min (files_script self.old).chunk (min (length into.old) (length text - at)))) }
-        ensures counts { CountsCall (files_script self.old) (files_script self.new) }
+            n ≡ min (files_plan self.old).chunk (min (length into.old) (length text - at)))) }
+        ensures counts { CountsCall (files_plan self.old) (files_plan self.new) }
     {
-        if self.script.fails_next() {
+        if self.plan.fails_next() {
             return Err(Failed);
         }
         match text_in(&self.files, name) {
             None => {
-                self.script.count_fault();
+                self.plan.count_fault();
                 Err(Failed)
             }
-            Some(text) => Ok(give(text, at, into, self.script.chunk)),
+            Some(text) => Ok(give(text, at, into, self.plan.chunk)),
         }
     }
 }

@@ -1,7 +1,7 @@
 ghost use Rattle.std.specs.Prelude.{◌≡◌, ◌≤◌, ◌+◌, ◌++◌, length, vec_len, vec_capacity};
 
 use crate::Sink;
-use crate::script::Script;
+use crate::fail_plan::FailPlan;
 use pmem_trait::Failed;
 use std::alloc::{AllocError, Global};
 
@@ -10,7 +10,7 @@ use std::alloc::{AllocError, Global};
 pub struct MemSink {
     taken: Vec<u8>,
     room: u64,
-    script: Script,
+    plan: FailPlan,
     ghost within: { vec_len taken ≤ room },
     ghost reserved: { room ≤ vec_capacity taken },
 }
@@ -29,7 +29,7 @@ impl MemSink {
         Ok(MemSink {
             taken,
             room,
-            script: Script::new(fail, chunk),
+            plan: FailPlan::new(fail, chunk),
         })
     }
 
@@ -43,10 +43,10 @@ impl MemSink {
 
 impl Sink for MemSink {
     ghost use Rattle.std.specs.Prelude.{◌≡◌, ◌<◌, ◌-◌, ◌==◌, min, length, is_ok, is_err, ◌||◌, IfOk};
-    ghost use Rattle.dude_io.specs.FaultCount.{faults_after};
+    ghost use Rattle.pmem_trait.specs.Faults.{faults_after};
     ghost use Rattle.dude_io.specs.Sink.{WritesSink};
-    ghost use Rattle.dude_io.specs.Script.{is_to_fail, CountsCall};
-    ghost use Rattle.dude_io.specs.MemSink.{sink_sight, sink_script, room_left};
+    ghost use Rattle.dude_io.specs.FailPlan.{is_to_fail, CountsCall};
+    ghost use Rattle.dude_io.specs.MemSink.{sink_sight, sink_plan, room_left};
 
     ghost sight = { sink_sight };
 
@@ -55,20 +55,20 @@ impl Sink for MemSink {
         ensures writes { WritesSink piece.now result (sink_sight self.old) (sink_sight self.new) }
 
         // It fails exactly where it is to fail or no room is left.
-        ensures fails { is_err result ≡ (is_to_fail (sink_script self.old) || room_left self.old == 0) }
+        ensures fails { is_err result ≡ (is_to_fail (sink_plan self.old) || room_left self.old == 0) }
         ensures faults { (sink_sight self.new).faults ≡ faults_after (is_ok result) (sink_sight self.old).faults }
-        ensures most { IfOk result (λ n. n ≡ min (sink_script self.old).chunk (min (length piece.now) (room_left self.old))) }
-        ensures counts { CountsCall (sink_script self.old) (sink_script self.new) }
+        ensures most { IfOk result (λ n. n ≡ min (sink_plan self.old).chunk (min (length piece.now) (room_left self.old))) }
+        ensures counts { CountsCall (sink_plan self.old) (sink_plan self.new) }
     {
-        if self.script.fails_next() {
+        if self.plan.fails_next() {
             return Err(Failed);
         }
         let left = self.room - self.taken.len() as u64;
         if left == 0 {
-            self.script.count_fault();
+            self.plan.count_fault();
             return Err(Failed);
         }
-        let takes = self.script.chunk.min(left.min(piece.len() as u64));
+        let takes = self.plan.chunk.min(left.min(piece.len() as u64));
         append(&mut self.taken, &piece[..takes as usize]);
         Ok(takes)
     }

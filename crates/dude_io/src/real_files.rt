@@ -2,8 +2,7 @@ ghost use Rattle.std.specs.Prelude.{◌≡◌, ◌≤◌, length, IfOk};
 ghost use Rattle.dude_io.specs.Silent.{silent_files};
 
 use crate::Files;
-use crate::fault_count::FaultCount;
-use pmem_trait::Failed;
+use pmem_trait::{Failed, FaultCount};
 use std::io::{Read, Seek, SeekFrom};
 use std::rt::Files as FileSystem;
 use std::{fs, io};
@@ -30,7 +29,7 @@ impl<R: FileSystem> RealFiles<R> {
 
 impl<R: FileSystem> Files for RealFiles<R> {
     ghost use Rattle.std.specs.Prelude.{◌≡◌, ◌<◌, length, is_ok};
-    ghost use Rattle.dude_io.specs.FaultCount.{faults_after};
+    ghost use Rattle.pmem_trait.specs.Faults.{faults_after};
     ghost use Rattle.dude_io.specs.Files.{ReadsFile};
     ghost use Rattle.dude_io.specs.Silent.{real_files_sight};
 

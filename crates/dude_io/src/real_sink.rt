@@ -2,8 +2,7 @@ ghost use Rattle.std.specs.Prelude.{◌≡◌};
 ghost use Rattle.dude_io.specs.Silent.{silent_sink};
 
 use crate::Sink;
-use crate::fault_count::FaultCount;
-use pmem_trait::Failed;
+use pmem_trait::{Failed, FaultCount};
 
 /// Standard output. What it took is not told.
 #[derive(Drop)]
@@ -26,7 +25,7 @@ impl<R: Print> RealSink<R> {
 
 impl<R: Print> Sink for RealSink<R> {
     ghost use Rattle.std.specs.Prelude.{◌≡◌, ◌<◌, length, is_ok};
-    ghost use Rattle.dude_io.specs.FaultCount.{faults_after};
+    ghost use Rattle.pmem_trait.specs.Faults.{faults_after};
     ghost use Rattle.dude_io.specs.Sink.{WritesSink};
     ghost use Rattle.dude_io.specs.Silent.{real_sink_sight};
 

@@ -26,7 +26,7 @@ digits_value-lt_power text most digits short = digits_value_short numerals text 
 pub value_in_fits : (text : List ℕ) → list_all is_ascii_digit text ≡ true → digits_value 10 text < 2 ^ 64 → value_in text ≡ Some (digits_value 10 text)
 value_in_fits text digits fits = grind (arith, common_steps, nat_tests)
 
--- a front whose value doesn't fit
+-- a prefix whose value doesn't fit
 pub value_in_past : (text : List ℕ) (i : ℕ) → 2 ^ 64 ≤ digits_value 10 (take i text) → value_in text ≡ None
 value_in_past text i past =
     let all : 2 ^ 64 ≤ digits_value 10 text = omega (arith, digits_value-take-le 10 text i (omega arith)) in

@@ -1,8 +1,8 @@
 -- Lemmas on texts with commas between.
-use Rattle.std.proofs.Common.{ℕ, ◌≡◌, ◌≤◌, List, [], ◌∷◌, ◌++◌, length, take, map, sym, ap, ◌∙◌, append-nil, append_assoc}
-use Rattle.std.specs.Prelude.{decimal}
+use Rattle.std.proofs.Common.{ℕ, ◌≡◌, ◌≤◌, ◌-◌, min, List, [], ◌∷◌, ◌++◌, length, take, drop, map, sym, ap, ◌∙◌, append-nil, append_assoc, arith}
+use Rattle.std.specs.Prelude.{decimal, replicate}
 use Rattle.std.specs.List.{flat_map, join_with_byte}
-use Rattle.std.proofs.lemmas.List.{take_all}
+use Rattle.std.proofs.lemmas.List.{take_all, drop-replicate, length-replicate}
 use Rattle.std.proofs.lemmas.List.Concat.{flat_map-append}
 use Rattle.tatp_model.specs.declared.sub_row.SubRow.{SubRow}
 use Rattle.dude_text.specs.ReplyText.{phone_text, row_fields}
@@ -38,3 +38,9 @@ join_with_byte-row_fields row =
     let joined = join_with_byte-map 44 decimal (phone_text row.sub_nbr) numbers in
     let parts = more_text-append row.bits row.hexes row.bytes (row.msc ∷ row.vlr ∷ []) in
     ap (λ text. decimal row.s_id ++ (44 ∷ text)) (joined ∙ ap (λ text. phone_text row.sub_nbr ++ text) (rw (parts, last)))
+
+-- the last of fifteen zeros, behind as many as a number has digits
+pub zeros_before : (digits skipped : ℕ) → skipped ≡ min digits 15 → take {A = ℕ} (15 - skipped) (drop skipped (replicate 15 48)) ≡ replicate (15 - digits) 48
+zeros_before digits skipped is =
+    let fewer : 15 - skipped ≡ 15 - digits = omega (arith, is) in
+    rw (drop-replicate {X = ℕ} skipped 15 48, fewer) (take_all (15 - digits) (replicate (15 - digits) 48) (omega (arith, length-replicate {A = ℕ} (15 - digits) 48)))

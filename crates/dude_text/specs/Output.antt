@@ -4,7 +4,7 @@ use Rattle.std.specs.List.{flat_map}
 use Rattle.tatp_model.specs.declared.done.Done.{Done}
 use Rattle.dude_text.specs.ReplyText.{reply_text}
 
--- the line of a request that was carried out: its number and its reply
+-- the line of a request that was served: its number and its reply
 abbrev pub output_line : Done → List ℕ
 output_line done = decimal done.number ++ 32 ∷ [] ++ reply_text done.reply ++ 10 ∷ []
 

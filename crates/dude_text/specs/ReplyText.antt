@@ -5,9 +5,9 @@ use Rattle.tatp_model.specs.declared.sub_row.SubRow.{SubRow}
 use Rattle.tatp_model.specs.declared.access_row.AccessData.{AccessData}
 use Rattle.tatp_model.specs.declared.reply.Reply.{Reply}
 use Rattle.tatp_model.specs.declared.reply.Reply.TheVariants.{Subscriber, Destinations, Access, Changed, Missing, NoFacility, Duplicate, FullTable, Durable}
-use Rattle.tatp_model.specs.Numbers.{list_of}
+use Rattle.tatp_model.specs.Phones.{list_of}
 
--- a phone number, with zeros in front where it has fewer than fifteen digits
+-- a phone number, with zeros before it where it has fewer than fifteen digits
 abbrev pub phone_text : ℕ → List ℕ
 phone_text number = replicate (15 - length (decimal number)) 48 ++ decimal number
 
@@ -26,7 +26,7 @@ found_text fields = codes "OK " ++ join_with_byte 44 fields
 
 abbrev pub reply_text : Reply → List ℕ
 reply_text (Subscriber row) = found_text (row_fields row)
-reply_text (Destinations numbers) = found_text (map phone_text (list_of numbers))
+reply_text (Destinations phones) = found_text (map phone_text (list_of phones))
 reply_text (Access info) = found_text (access_fields info)
 reply_text Changed = codes "OK"
 reply_text Missing = codes "NONE"

@@ -24,7 +24,7 @@ is_request_file bytes =
 abbrev pub requests_of : List ℕ → Option (List Request)
 requests_of bytes = if is_request_file bytes then Some (filter_map request_of (lines_of bytes)) else None
 
--- why a file is refused: it is bad, and no place in it is named; or there is no memory, which comes freely
+-- why a file is refused: it is bad, and no record of it is named; or there is no memory, which comes freely
 abbrev pub IsTextFault : List ℕ → TextFault → Type 0
 IsTextFault bytes (Bad row field) = (row ≡ 0) × (field ≡ 0) × (requests_of bytes ≡ None)
 IsTextFault bytes NoMemory = ⊤

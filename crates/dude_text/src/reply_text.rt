@@ -4,14 +4,17 @@
 ghost use Rattle.std.specs.Prelude.{◌≡◌, ◌++◌, ◌∷◌, map, decimal, OnOk};
 ghost use Rattle.std.specs.List.{flat_map, join_with_byte};
 ghost use Rattle.dude_text.specs.ReplyText.{phone_text, row_fields, access_fields, reply_text};
-ghost use Rattle.tatp_model.specs.Numbers.{list_of};
+ghost use Rattle.tatp_model.specs.Phones.{list_of};
 
 use itoa::Buffer;
 use std::alloc::AllocError;
-use tatp_model::{AccessData, Numbers, Reply, SubRow};
+use tatp_model::{AccessData, Phones, Reply, SubRow};
 
 /// How many digits a phone number prints with at least.
 const PHONE_DIGITS: usize = 15;
+
+/// The zeros before the digits of a short phone number.
+const ZEROS: [u8; PHONE_DIGITS] = [b'0'; PHONE_DIGITS];
 
 /// Appends a reply.
 pub fn push_reply(reply: &Reply, line: &mut Vec<u8>) -> Result<(), AllocError>
@@ -22,9 +25,9 @@ pub fn push_reply(reply: &Reply, line: &mut Vec<u8>) -> Result<(), AllocError>
             line.extend_from_slice(b"OK ")?;
             push_row(row, line)
         }
-        Reply::Destinations(numbers) => {
+        Reply::Destinations(phones) => {
             line.extend_from_slice(b"OK ")?;
-            push_phones(list(numbers), line)
+            push_phones(list_of(phones), line)
         }
         Reply::Access(info) => {
             line.extend_from_slice(b"OK ")?;
@@ -69,10 +72,10 @@ fn push_access(info: &AccessData, line: &mut Vec<u8>) -> Result<(), AllocError>
 }
 
 // Phone numbers, with commas between.
-fn push_phones(numbers: &[u64], line: &mut Vec<u8>) -> Result<(), AllocError>
-    ensures { OnOk result (line.new.items ≡ line.old.items ++ join_with_byte 44 (map phone_text numbers.now)) }
+fn push_phones(phones: &[u64], line: &mut Vec<u8>) -> Result<(), AllocError>
+    ensures { OnOk result (line.new.items ≡ line.old.items ++ join_with_byte 44 (map phone_text phones.now)) }
 {
-    if let Some((first, others)) = numbers.split_first() {
+    if let Some((first, others)) = phones.split_first() {
         push_phone(*first, line)?;
         for other in others {
             line.push(b',')?;
@@ -82,18 +85,18 @@ fn push_phones(numbers: &[u64], line: &mut Vec<u8>) -> Result<(), AllocError>
     Ok(())
 }
 
-// The list that the places hold.
-fn list(numbers: &Numbers) -> &[u64]
-    ensures { result.now ≡ list_of numbers.now }
+// The list that the items hold.
+fn list_of(phones: &Phones) -> &[u64]
+    ensures { result.now ≡ list_of phones.now }
 {
-    let places = numbers.items.as_slice();
-    match usize::try_from(numbers.count) {
-        Ok(count) => &places[..count.min(places.len())],
-        Err(_) => places,
+    let items = phones.items.as_slice();
+    match usize::try_from(phones.count) {
+        Ok(count) => &items[..count.min(items.len())],
+        Err(_) => items,
     }
 }
 
-// Numbers, each behind a comma.
+// Phones, each behind a comma.
 fn push_more(numbers: &[u8], line: &mut Vec<u8>) -> Result<(), AllocError>
     ensures { OnOk result (line.new.items ≡ line.old.items ++ flat_map (λ n. 44 ∷ decimal n) numbers.now) }
 {
@@ -110,9 +113,7 @@ fn push_phone(number: u64, line: &mut Vec<u8>) -> Result<(), AllocError>
 {
     let mut buffer = Buffer::new();
     let digits = buffer.format(number).as_bytes();
-    for _zero in 0..PHONE_DIGITS.saturating_sub(digits.len()) {
-        line.push(b'0')?;
-    }
+    line.extend_from_slice(&ZEROS[digits.len().min(PHONE_DIGITS)..])?;
     line.extend_from_slice(digits)
 }
 

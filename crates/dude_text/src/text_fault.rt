@@ -5,7 +5,7 @@ use std::alloc::{AllocError, AllocFailed};
 /// Why a request file was not read.
 #[derive(Clone, Copy, Debug, PartialEq, Eq)]
 pub enum TextFault {
-    /// The first bad record and its first bad field, counted from 1. Both are 0 where no place is named, as for every
+    /// The first bad record and its first bad field, counted from 1. Both are 0 where no record is named, as for every
     /// bad file today.
     Bad { row: u64, field: u64 },
     /// There was no memory for the requests.

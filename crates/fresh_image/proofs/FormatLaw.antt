@@ -4,6 +4,7 @@ use Rattle.std.proofs.lemmas.Bool.{cases_eq}
 use Rattle.std.proofs.lemmas.List.{length-append, length-replicate, get_or-replicate, get_or_append_left, get_or-append_right}
 use Rattle.std.specs.Prelude.{slice_index}
 use Rattle.std.specs.List.{range_with_len, enumerate_from}
+use Rattle.dude_base.specs.Image.{header_words}
 use Rattle.pmem_trait.specs.declared.call.Call.TheVariants.{Tell}
 use Rattle.pmem_trait.specs.Words.{newest, State, IsIn, IsSettled, settled_at, after, after_all, EveryImage, AfterEachCall, end, more}
 use Rattle.pmem_trait.specs.Groups.{group_calls, values_put, final}
@@ -11,8 +12,8 @@ use Rattle.pmem_trait.proofs.GroupLaw.{group_law, group_word, group_told}
 use Rattle.pmem_trait.proofs.GroupLists.{words_outside, words_inside}
 use Rattle.pmem_trait.proofs.Laws.{after_each_then, after_all_then}
 use Rattle.dude_base.specs.declared.limits.TheConstants.{MAGIC}
-use Rattle.redo_record.proofs.RingHeads.{is_still}
-use Rattle.fresh_image.specs.Fresh.{AtRest, fresh_header, fresh_home_length, fresh_length}
+use Rattle.redo_record.proofs.RingHeads.{is_settled}
+use Rattle.fresh_image.specs.Fresh.{AtRest, fresh_sizes, fresh_home_length, fresh_length}
 use Rattle.fresh_image.specs.FormatCalls.{clear_cells, content_writes, content_lines, header_writes, magic_write, format_calls, RecoversOnceTold}
 use Rattle.fresh_image.proofs.Groups.{Within, left}
 use Rattle.fresh_image.proofs.UpdateLaw.{rest_images, empty_ring, stands_told}
@@ -115,13 +116,15 @@ formatted_told S home p = group_told (magic_write MAGIC) (0 ∷ []) (after_heade
 formatted_rests : (S : ℕ) (home : List ℕ) (p : State) → length home ≡ fresh_home_length S → IsSettled p
     → AtRest S 0 home (after_magic (after_header S (after_contents S home (after_clear p))))
 formatted_rests S home p count settled = record {
-  header = header;
-  mark = last 8 0 (inr (omega arith)) (left 1 8 p2 (header_writes S) (0 ∷ []) (within_header S) 8 _ (inr (omega arith)) mark2);
+  image = record {
+    header = header;
+    mark = last 8 0 (inr (omega arith)) (left 1 8 p2 (header_writes S) (0 ∷ []) (within_header S) 8 _ (inr (omega arith)) mark2);
+    count = count;
+    words = λ k below. past (144 + k) _ (omega arith) (subst (λ (i : ℕ). p2.word i ≡ settled_at (slice_index (clear_cells ++ home) (128 + k))) (omega arith) (content_word S home p1 (128 + k) _ count (omega arith) (at_first (16 + (128 + k)) (omega arith)).1)
+        ∙ ap settled_at (home_value home k));
+  };
   ring = empty_ring S 0 (last 8 0 (inr (omega arith)) (left 1 8 p2 (header_writes S) (0 ∷ []) (within_header S) 8 _ (inr (omega arith)) mark2)) far;
-  cells = λ k from below. is_still (far k from below);
-  count = count;
-  words = λ k below. past (144 + k) _ (omega arith) (subst (λ (i : ℕ). p2.word i ≡ settled_at (slice_index (clear_cells ++ home) (128 + k))) (omega arith) (content_word S home p1 (128 + k) _ count (omega arith) (at_first (16 + (128 + k)) (omega arith)).1)
-      ∙ ap settled_at (home_value home k));
+  cells = λ k from below. is_settled (far k from below);
 }
   where
     p1 : State
@@ -161,7 +164,7 @@ formatted_rests S home p count settled = record {
     by_header k from below = let s = at_second k from below in
         last k _ (inr from) (group_word (header_writes S) (0 ∷ []) p2 k s.0 s.1 (inr (inl (omega arith))))
 
-    header : (k : ℕ) → k < 8 → (after_magic p3).word k ≡ settled_at (slice_index (fresh_header S) k)
+    header : (k : ℕ) → k < 8 → (after_magic p3).word k ≡ settled_at (slice_index (header_words 0 (fresh_sizes S)) k)
     header zero below =
         let s = settled 0 in
         group_word (magic_write MAGIC) (0 ∷ []) p3 0 0 (left 1 8 p2 (header_writes S) (0 ∷ []) (within_header S) 0 0 (inl (omega arith))

@@ -36,7 +36,7 @@ keys-located key s (v ∷ vlrs) is = ap₂ (λ (x : ℕ) (xs : List ℕ). x ∷ 
 pub IsNumbered-located : (vlrs : List ℕ) → IsNumbered (subscribers_at 1 vlrs)
 IsNumbered-located vlrs = record {
   ids = record { keys = keys-located (λ r. r.s_id) 1 vlrs (λ t v. refl) };
-  numbers = record { keys = keys-located (λ r. r.sub_nbr) 1 vlrs (λ t v. refl) };
+  phones = record { keys = keys-located (λ r. r.sub_nbr) 1 vlrs (λ t v. refl) };
 }
 
 -- the row at place k

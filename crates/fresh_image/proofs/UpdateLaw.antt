@@ -16,7 +16,7 @@ use Rattle.pmem_trait.proofs.GroupLaw.{group_law, group_word, group_told, mix_ma
 use Rattle.pmem_trait.proofs.Images.{may_still}
 use Rattle.pmem_trait.proofs.Laws.{after_each_last, after_each_leaves, after_each_then, after_all_then}
 use Rattle.redo_record.specs.Tags.{kind_of, number_of, head_tag, IsHeadOver}
-use Rattle.dude_base.specs.Image.{Cell, cell_start}
+use Rattle.dude_base.specs.Image.{Cell, cell_at, cell_start}
 use Rattle.redo_record.specs.Cells.{word_place}
 use Rattle.redo_record.specs.Record.{HoldComplete, record_of}
 use Rattle.redo_record.specs.Encoding.{IsEncodable, encoded}
@@ -26,15 +26,17 @@ use Rattle.redo_record.specs.Calls.{append_calls}
 use Rattle.redo_record.specs.Fits.{Logged, FitsRing, settled_mark}
 use Rattle.redo_record.specs.AppendLaw.{CanAppend, logged_as, IsElsewhere, HeadsHold, Appended}
 use Rattle.redo_record.proofs.AppendedRecord.{append_law}
+use Rattle.redo_record.proofs.AppendingImages.{append_images}
+use Rattle.redo_record.specs.Rest.{HasHome}
 use Rattle.redo_record.proofs.EncodedCells.{cells_of_record, encoded_holds, encoded_record, encoded_writes}
 use Rattle.redo_record.proofs.HeldRecords.{AreSame, complete_same, record_same}
-use Rattle.redo_record.proofs.RingHeads.{is_still, cell_is}
+use Rattle.redo_record.proofs.RingHeads.{is_settled, cell_is}
 use Rattle.redo_record.proofs.RingRoom.{release_law, rest_law}
 use Rattle.fresh_image.specs.Fresh.{RestsWith, AtRest, fresh_sizes, fresh_home_start, fresh_length}
-use Rattle.fresh_image.specs.Calls.{update_record, update_cell, home_write, mark_write, reproduce_calls, update_calls, RecoversToEither}
+use Rattle.fresh_image.specs.Calls.{update_record, home_write, mark_write, reproduce_calls, update_calls, RecoversToEither}
 use Rattle.fresh_image.proofs.Groups.{Within, written-outside, written-same, kept, either, left}
 use Rattle.fresh_image.proofs.Lists.{set-set_same, IsIn-drop_push}
-use Rattle.fresh_image.proofs.Shown.{Reads, fresh_sizes_are, recovers_rest, recovers_next}
+use Rattle.fresh_image.proofs.Shown.{fresh_sizes_are, recovers_rest, recovers_next}
 
 -- a tag is that of a head over a number, or isn't
 over_or_not : (above tag : ℕ) → IsHeadOver above tag ⊎ (IsHeadOver above tag → ⊥)
@@ -50,18 +52,18 @@ settled_is : (w : Word) (x : ℕ) → w ≡ settled_at x → w.settled ≡ x
 settled_is w x is = ap (λ (w : Word). w.settled) is
 
 -- No word before the ring or behind it is one of a record's cells.
-elsewhere : (S place number at value i : ℕ) → (i < 16) ⊎ (144 ≤ i) → IsElsewhere (fresh_sizes S) (update_cell place) (update_record number at value) i
+elsewhere : (S place number at value i : ℕ) → (i < 16) ⊎ (144 ≤ i) → IsElsewhere (fresh_sizes S) (cell_at 0 place) (update_record number at value) i
 elsewhere S place number at value i (inl low) k j few below e = omega arith
 elsewhere S place number at value i (inr high) k j few below e = omega arith
 
 -- the record of an update may be appended to a ring that has none
 can_append : {S n : ℕ} {home : List ℕ} {p : State} (place at value : ℕ) → 1 ≤ S → S ≤ 10000 → place < 16 → n + 1 ≤ MAX_NUMBER → at < length home → AtRest S n home p
-    → CanAppend (fresh_sizes S) (settled_mark p) [] (update_cell place) (update_record (n + 1) at value)
+    → CanAppend (fresh_sizes S) (settled_mark p) [] (cell_at 0 place) (update_record (n + 1) at value)
 can_append {S} {n} {home} {p} place at value low high inside small below rests = record {
   sizes = fresh_sizes_are S low high;
   cell = record { ring_is = omega arith; slot_is = inside };
   encodable = encodable;
-  home = λ k d lt. let z : k ≡ 0 = omega arith in rw z (omega (arith, rests.count));
+  home = λ k d lt. let z : k ≡ 0 = omega arith in rw z (omega (arith, rests.image.count));
   free = λ k d lt. absurd (omega arith);
 }
   where
@@ -73,12 +75,12 @@ can_append {S} {n} {home} {p} place at value low high inside small below rests =
 
 -- the record that an update logs
 abbrev logged_update : ℕ → ℕ → ℕ → ℕ → Logged
-logged_update place number at value = logged_as (update_cell place) (update_record number at value)
+logged_update place number at value = logged_as (cell_at 0 place) (update_record number at value)
 
 -- Each image on the way of an append is as before the update, or has its record.
 held_shows : {S n len : ℕ} {home : List ℕ} {p : State} {told image : List ℕ} (place at value : ℕ) → 1 ≤ S → S ≤ 10000 → fresh_length S ≤ len
     → place < 16 → n + 1 ≤ MAX_NUMBER → AtRest S n home p → length image ≡ len
-    → HeadsHold (fresh_sizes S) [] (update_cell place) (update_record (n + 1) at value) p told image
+    → HeadsHold (fresh_sizes S) [] (cell_at 0 place) (update_record (n + 1) at value) p told image
     → RecoversHome S image n home ⊎ RecoversHome S image (n + 1) (slice_set home at value)
 held_shows {S} {n} {len} {home} {p} {told} {image} place at value low high long inside small rests size held =
     by (over_or_not n (tag_of s image head))
@@ -87,22 +89,22 @@ held_shows {S} {n} {len} {home} {p} {told} {image} place at value low high long 
     s = fresh_sizes S
 
     head : Cell
-    head = update_cell place
+    head = cell_at 0 place
 
     keep : (i x : ℕ) → i < fresh_length S → (i < 16) ⊎ (144 ≤ i) → p.word i ≡ settled_at x → slice_index image i ≡ x
     keep i x below out is = may_still _ _ _ is (held.others i (omega (arith, long, size)) (elsewhere S place (n + 1) at value i out))
 
-    reads : Reads S n home image
+    reads : HasHome 0 (fresh_sizes S) n home image
     reads = record {
-      header = λ k below. keep k _ (omega arith) (inl (omega arith)) (rests.header k below);
-      mark_is = keep 8 _ (omega arith) (inl (omega arith)) rests.mark;
-      count = rests.count;
-      words = λ k below. keep (144 + k) _ (omega (arith, rests.count)) (inr (omega arith)) (rests.words k below);
-      long = omega (arith, long, size);
+      header = λ k below. keep k _ (omega arith) (inl (omega arith)) (rests.image.header k below);
+      mark = keep 8 _ (omega arith) (inl (omega arith)) rests.image.mark;
+      count = rests.image.count;
+      words = λ k below. keep (144 + k) _ (omega (arith, rests.image.count)) (inr (omega arith)) (rests.image.words k below);
+      whole = omega (arith, long, size);
     }
 
     at_mark : (c : Cell) → IsNewHead s n image c → IsNewHead s (mark_of image) image c
-    at_mark c new = subst (λ (m : ℕ). IsNewHead s m image c) (sym reads.mark_is) new
+    at_mark c new = subst (λ (m : ℕ). IsNewHead s m image c) (sym reads.mark) new
 
     ring_is : (c : Cell) → IsNewHead s n image c → c.ring ≡ 0
     ring_is c new = let r = new.cell.ring_is in omega arith
@@ -122,7 +124,7 @@ pub record Logs (place number at value : ℕ) (p : State) : Type 0 where
 
 -- An image that has the record of an update and no other head over its mark has the update.
 logged_shows : {S n : ℕ} {home next : List ℕ} {p : State} {image : List ℕ} (place at value : ℕ) → 1 ≤ S → S ≤ 10000 → place < 16 → n + 1 ≤ MAX_NUMBER
-    → at < length home → RestsWith S n (logged_update place (n + 1) at value ∷ []) home p → Logs place (n + 1) at value p → Reads S n next image
+    → at < length home → RestsWith S n (logged_update place (n + 1) at value ∷ []) home p → Logs place (n + 1) at value p → HasHome 0 (fresh_sizes S) n next image
     → ((k : ℕ) → 16 ≤ k → k < 144 → MayHold (p.word k) (slice_index image k)) → RecoversHome S image (n + 1) (slice_set next at value)
 logged_shows {S} {n} {home} {next} {p} {image} place at value low high inside small below st logs reads may =
     recovers_next reads head at value low high small new complete (record_same same ∙ encoded_record r encodable) only
@@ -131,7 +133,7 @@ logged_shows {S} {n} {home} {next} {p} {image} place at value low high inside sm
     s = fresh_sizes S
 
     head : Cell
-    head = update_cell place
+    head = cell_at 0 place
 
     r : RedoRecord
     r = update_record (n + 1) at value
@@ -162,7 +164,7 @@ logged_shows {S} {n} {home} {next} {p} {image} place at value low high inside sm
     homes : HoldComplete s (cells_of_record r)
     homes = record {
       whole = encoded_holds r encodable;
-      home = subst (λ (ws : List Write). All (λ w. w.at < s.pages * 64) ws) (sym (encoded_writes r)) (λ k d lt. let z : k ≡ 0 = omega arith in rw z (omega (arith, st.count)));
+      home = subst (λ (ws : List Write). All (λ w. w.at < s.pages * 64) ws) (sym (encoded_writes r)) (λ k d lt. let z : k ≡ 0 = omega arith in rw z (omega (arith, st.image.count)));
     }
 
     complete : IsComplete s image head
@@ -172,11 +174,11 @@ logged_shows {S} {n} {home} {next} {p} {image} place at value low high inside sm
     only c other =
         let ring_is : c.ring ≡ 0 = (let z = other.cell.ring_is in omega arith) in
         let slot_is = other.cell.slot_is in
-        let front_is : cell_start s c ≡ cell_start s (update_cell c.slot) = ap (λ (ring : ℕ). 16 + (ring * 16 + c.slot) * 8) ring_is in
-        let tag : IsHeadOver n (slice_index image (cell_start s (update_cell c.slot))) = subst (λ (i : ℕ). IsHeadOver n (slice_index image i)) front_is other.new in
-        let over : IsHeadOver (settled_mark p) (slice_index image (cell_start s (update_cell c.slot))) = subst (λ (m : ℕ). IsHeadOver m (slice_index image (cell_start s (update_cell c.slot)))) (sym (settled_is _ _ st.mark)) tag in
-        elim (st.ring.heads c.slot _ slot_is (may (cell_start s (update_cell c.slot)) (omega arith) (omega arith)) over) [
-          | inl is ↦ cell_is c (update_cell place) ring_is (sym is.1)
+        let front_is : cell_start s c ≡ cell_start s (cell_at 0 c.slot) = ap (λ (ring : ℕ). 16 + (ring * 16 + c.slot) * 8) ring_is in
+        let tag : IsHeadOver n (slice_index image (cell_start s (cell_at 0 c.slot))) = subst (λ (i : ℕ). IsHeadOver n (slice_index image i)) front_is other.new in
+        let over : IsHeadOver (settled_mark p) (slice_index image (cell_start s (cell_at 0 c.slot))) = subst (λ (m : ℕ). IsHeadOver m (slice_index image (cell_start s (cell_at 0 c.slot)))) (sym (settled_is _ _ st.image.mark)) tag in
+        elim (st.ring.heads c.slot _ slot_is (may (cell_start s (cell_at 0 c.slot)) (omega arith) (omega arith)) over) [
+          | inl is ↦ cell_is c (cell_at 0 place) ring_is (sym is.1)
           | inr none ↦ absurd none
         ]
 
@@ -206,31 +208,31 @@ rest_images {S} {n} {len} {home} {p} low high long small rests image is =
     value_is : (k x : ℕ) → k < fresh_length S → p.word k ≡ settled_at x → slice_index image k ≡ x
     value_is k x below e = may_still _ _ _ e (is.each k (omega (arith, long)))
 
-    reads : Reads S n home image
+    reads : HasHome 0 (fresh_sizes S) n home image
     reads = record {
-      header = λ k below. value_is k _ (omega arith) (rests.header k below);
-      mark_is = value_is 8 _ (omega arith) rests.mark;
-      count = rests.count;
-      words = λ k below. value_is (144 + k) _ (omega (arith, rests.count)) (rests.words k below);
-      long = omega (arith, long, is.size);
+      header = λ k below. value_is k _ (omega arith) (rests.image.header k below);
+      mark = value_is 8 _ (omega arith) rests.image.mark;
+      count = rests.image.count;
+      words = λ k below. value_is (144 + k) _ (omega (arith, rests.image.count)) (rests.image.words k below);
+      whole = omega (arith, long, is.size);
     }
 
     none : (c : Cell) → IsNewHead s n image c → ⊥
     none c new =
         let ring_is : c.ring ≡ 0 = (let z = new.cell.ring_is in omega arith) in
         let slot_is = new.cell.slot_is in
-        let front_is : cell_start s c ≡ cell_start s (update_cell c.slot) = ap (λ (ring : ℕ). 16 + (ring * 16 + c.slot) * 8) ring_is in
-        let tag : IsHeadOver n (slice_index image (cell_start s (update_cell c.slot))) = subst (λ (i : ℕ). IsHeadOver n (slice_index image i)) front_is new.new in
-        let over : IsHeadOver (settled_mark p) (slice_index image (cell_start s (update_cell c.slot))) = subst (λ (m : ℕ). IsHeadOver m (slice_index image (cell_start s (update_cell c.slot)))) (sym (settled_is _ _ rests.mark)) tag in
-        rests.ring.heads c.slot _ slot_is (is.each (cell_start s (update_cell c.slot)) (omega (arith, long))) over
+        let front_is : cell_start s c ≡ cell_start s (cell_at 0 c.slot) = ap (λ (ring : ℕ). 16 + (ring * 16 + c.slot) * 8) ring_is in
+        let tag : IsHeadOver n (slice_index image (cell_start s (cell_at 0 c.slot))) = subst (λ (i : ℕ). IsHeadOver n (slice_index image i)) front_is new.new in
+        let over : IsHeadOver (settled_mark p) (slice_index image (cell_start s (cell_at 0 c.slot))) = subst (λ (m : ℕ). IsHeadOver m (slice_index image (cell_start s (cell_at 0 c.slot)))) (sym (settled_is _ _ rests.image.mark)) tag in
+        rests.ring.heads c.slot _ slot_is (is.each (cell_start s (cell_at 0 c.slot)) (omega (arith, long))) over
 
 -- A ring whose words are clear fits without records.
 pub empty_ring : (S n : ℕ) {p : State} → p.word 8 ≡ settled_at n → ((k : ℕ) → 16 ≤ k → k < 144 → p.word k ≡ settled_at 0) → FitsRing (fresh_sizes S) 0 [] n p
 empty_ring S n {p} mark clear = record {
-  mark = is_still mark;
+  mark = is_settled mark;
   reproduced = omega (arith, settled_is _ _ mark);
   heads = λ place tag below may over.
-      let front = cell_start (fresh_sizes S) (update_cell place) in
+      let front = cell_start (fresh_sizes S) (cell_at 0 place) in
       let zero_tag : tag ≡ 0 = may_still (p.word front) 0 tag (clear front (omega arith) (omega arith)) may in
       let kind = over.kind in
       absurd (omega arith);
@@ -240,8 +242,12 @@ empty_ring S n {p} mark clear = record {
 -- A tell leaves all words.
 pub stands_told : {S n : ℕ} {logged : List Logged} {home : List ℕ} {p : State} (number : ℕ) → RestsWith S n logged home p → RestsWith S n logged home (after (Tell number) p)
 stands_told number st = record {
-  header = st.header;
-  mark = st.mark;
+  image = record {
+    header = st.image.header;
+    mark = st.image.mark;
+    count = st.image.count;
+    words = st.image.words;
+  };
   ring = record {
     mark = st.ring.mark;
     reproduced = st.ring.reproduced;
@@ -254,8 +260,6 @@ stands_told number st = record {
     };
   };
   cells = st.cells;
-  count = st.count;
-  words = st.words;
 }
 
 -- The ring still fits after a group that writes none of its words and leaves the mark settled at no less.
@@ -263,8 +267,8 @@ ring_past : {S n m : ℕ} {logged : List Logged} {p : State} (low high : ℕ) (w
     → ((k : ℕ) → 16 ≤ k → k < 144 → IsSettledWord (p.word k)) → p.word 8 ≡ settled_at n → (after_all (group_calls ws ls) p).word 8 ≡ settled_at m → n ≤ m
     → FitsRing (fresh_sizes S) 0 logged n p → FitsRing (fresh_sizes S) 0 logged n (after_all (group_calls ws ls) p)
 ring_past {S} {n} {m} {logged} {p} low high ws ls inside out cells mark next upto fits =
-    rest_law (fresh_sizes S) 0 logged n p q (omega arith) fits (is_still next) (omega (arith, settled_is _ _ mark, settled_is _ _ next)) tags
-    (λ place j x below lt is. left low high p ws ls inside (cell_start (fresh_sizes S) (update_cell place) + j) x (side _ out (omega arith) (omega arith)) is)
+    rest_law (fresh_sizes S) 0 logged n p q (omega arith) fits (is_settled next) (omega (arith, settled_is _ _ mark, settled_is _ _ next)) tags
+    (λ place j x below lt is. left low high p ws ls inside (cell_start (fresh_sizes S) (cell_at 0 place) + j) x (side _ out (omega arith) (omega arith)) is)
   where
     q : State
     q = after_all (group_calls ws ls) p
@@ -273,9 +277,9 @@ ring_past {S} {n} {m} {logged} {p} low high ws ls inside out cells mark next upt
     side k (inl a) from below = inr (omega arith)
     side k (inr a) from below = inl (omega arith)
 
-    tags : (place tag : ℕ) → place < 16 → MayHold (q.word (cell_start (fresh_sizes S) (update_cell place))) tag → MayHold (p.word (cell_start (fresh_sizes S) (update_cell place))) tag
+    tags : (place tag : ℕ) → place < 16 → MayHold (q.word (cell_start (fresh_sizes S) (cell_at 0 place))) tag → MayHold (p.word (cell_start (fresh_sizes S) (cell_at 0 place))) tag
     tags place tag below may =
-        let front = cell_start (fresh_sizes S) (update_cell place) in
+        let front = cell_start (fresh_sizes S) (cell_at 0 place) in
         let was = cells front (omega arith) (omega arith) in
         let is = left low high p ws ls inside front _ (side front out (omega arith) (omega arith)) was in
         inl (may_still (q.word front) _ tag is may)
@@ -284,12 +288,14 @@ ring_past {S} {n} {m} {logged} {p} low high ws ls inside out cells mark next upt
 stands_past_home : {S n : ℕ} {logged : List Logged} {home : List ℕ} {p : State} (at value : ℕ) → at < length home → RestsWith S n logged home p
     → RestsWith S n logged (slice_set home at value) (after_all (group_calls (home_write at value) ((fresh_home_start + at) / 8 ∷ [])) p)
 stands_past_home {S} {n} {logged} {home} {p} at value small st = record {
-  header = λ k below. left (144 + at) (145 + at) p ws ls inside k _ (inl (omega arith)) (st.header k below);
-  mark = mark;
-  ring = ring_past (144 + at) (145 + at) ws ls inside (inr (omega arith)) st.cells st.mark mark (omega arith) st.ring;
-  cells = λ k from below. is_still (left (144 + at) (145 + at) p ws ls inside k _ (inl (omega arith)) (st.cells k from below));
-  count = length-set home at value ∙ st.count;
-  words = λ k below. word k (rw (length-set home at value) at below) (cases_eq k at);
+  image = record {
+    header = λ k below. left (144 + at) (145 + at) p ws ls inside k _ (inl (omega arith)) (st.image.header k below);
+    mark = mark;
+    count = length-set home at value ∙ st.image.count;
+    words = λ k below. word k (rw (length-set home at value) at below) (cases_eq k at);
+  };
+  ring = ring_past (144 + at) (145 + at) ws ls inside (inr (omega arith)) st.cells st.image.mark mark (omega arith) st.ring;
+  cells = λ k from below. is_settled (left (144 + at) (145 + at) p ws ls inside k _ (inl (omega arith)) (st.cells k from below));
 }
   where
     ws : List (ℕ × ℕ)
@@ -302,7 +308,7 @@ stands_past_home {S} {n} {logged} {home} {p} at value small st = record {
     inside = (omega arith, omega arith, tt)
 
     mark : (after_all (group_calls ws ls) p).word 8 ≡ settled_at n
-    mark = left (144 + at) (145 + at) p ws ls inside 8 _ (inl (omega arith)) st.mark
+    mark = left (144 + at) (145 + at) p ws ls inside 8 _ (inl (omega arith)) st.image.mark
 
     word : (k : ℕ) → k < length home → (k ≡ at) ⊎ (k ≢ at) → (after_all (group_calls ws ls) p).word (fresh_home_start + k) ≡ settled_at (slice_index (slice_set home at value) k)
     word k below (inl e) =
@@ -310,24 +316,26 @@ stands_past_home {S} {n} {logged} {home} {p} at value small st = record {
         let final_is : final ws (fresh_home_start + at) (slice_index home at) ≡ value =
         ap (newest (slice_index home at)) (written-same (fresh_home_start + at) value) in
         let same : slice_index (slice_set home at value) at ≡ value = get_or-set_same home at value 0 small in
-        subst P (sym e) (group_word ws ls p (fresh_home_start + at) _ (st.words at small) (inr (inl refl)) ∙ ap settled_at (final_is ∙ sym same))
+        subst P (sym e) (group_word ws ls p (fresh_home_start + at) _ (st.image.words at small) (inr (inl refl)) ∙ ap settled_at (final_is ∙ sym same))
     word k below (inr ne) =
-        left (144 + at) (145 + at) p ws ls inside (fresh_home_start + k) _ (apart k at ne) (st.words k below)
+        left (144 + at) (145 + at) p ws ls inside (fresh_home_start + k) _ (apart k at ne) (st.image.words k below)
         ∙ ap settled_at (sym (get_or-set_other home at k value 0 ne))
 
 -- A group that raises the mark to the number of the one record leaves the medium at rest there.
 rests_past_mark : {S n : ℕ} {home : List ℕ} {p : State} (place at value : ℕ) → RestsWith S n (logged_update place (n + 1) at value ∷ []) home p
     → AtRest S (n + 1) home (after_all (group_calls (mark_write (n + 1)) (1 ∷ [])) p)
 rests_past_mark {S} {n} {home} {p} place at value st = record {
-  header = λ k below. left 8 9 p ws (1 ∷ []) inside k _ (inl (omega arith)) (st.header k below);
-  mark = mark;
+  image = record {
+    header = λ k below. left 8 9 p ws (1 ∷ []) inside k _ (inl (omega arith)) (st.image.header k below);
+    mark = mark;
+    count = st.image.count;
+    words = λ k below. left 8 9 p ws (1 ∷ []) inside (fresh_home_start + k) _ (inr (omega arith)) (st.image.words k below);
+  };
   ring = let r = release_law (fresh_sizes S) 0 (l ∷ []) [] n (n + 1) q
-      (ring_past 8 9 ws (1 ∷ []) inside (inl (omega arith)) st.cells st.mark mark (omega arith) st.ring)
+      (ring_past 8 9 ws (1 ∷ []) inside (inl (omega arith)) st.cells st.image.mark mark (omega arith) st.ring)
       (λ k d lt. let z : k ≡ 0 = omega arith in rw z (omega arith)) (omega (arith, settled_is _ _ mark)) in
       subst (λ (m : ℕ). FitsRing (fresh_sizes S) 0 [] m q) (let e : max n (n + 1) ≡ n + 1 = omega arith in e) r;
-  cells = λ k from below. is_still (left 8 9 p ws (1 ∷ []) inside k _ (inr (omega arith)) (st.cells k from below));
-  count = st.count;
-  words = λ k below. left 8 9 p ws (1 ∷ []) inside (fresh_home_start + k) _ (inr (omega arith)) (st.words k below);
+  cells = λ k from below. is_settled (left 8 9 p ws (1 ∷ []) inside k _ (inr (omega arith)) (st.cells k from below));
 }
   where
     ws : List (ℕ × ℕ)
@@ -343,20 +351,22 @@ rests_past_mark {S} {n} {home} {p} place at value st = record {
     inside = (omega arith, omega arith, tt)
 
     mark : q.word 8 ≡ settled_at (n + 1)
-    mark = group_word ws (1 ∷ []) p 8 _ st.mark (inr (inl refl))
+    mark = group_word ws (1 ∷ []) p 8 _ st.image.mark (inr (inl refl))
 
 -- After the append the medium stands with the record in its ring.
 stands_appended : {S n : ℕ} {home : List ℕ} {p q : State} (place at value : ℕ) → place < 16 → AtRest S n home p
-    → Appended (fresh_sizes S) [] n (update_cell place) (update_record (n + 1) at value) p q
+    → Appended (fresh_sizes S) [] n (cell_at 0 place) (update_record (n + 1) at value) p q
     → RestsWith S n (logged_update place (n + 1) at value ∷ []) home q × Logs place (n + 1) at value q
 stands_appended {S} {n} {home} {p} {q} place at value small rests done = (
   record {
-    header = λ k below. other k _ (inl (omega arith)) (rests.header k below);
-    mark = other 8 _ (inl (omega arith)) rests.mark;
+    image = record {
+      header = λ k below. other k _ (inl (omega arith)) (rests.image.header k below);
+      mark = other 8 _ (inl (omega arith)) rests.image.mark;
+      count = rests.image.count;
+      words = λ k below. other (144 + k) _ (inr (omega arith)) (rests.image.words k below);
+    };
     ring = done.fits;
     cells = λ k from below. cell k from below (cases_eq ((k - 16) / 8) place);
-    count = rests.count;
-    words = λ k below. other (144 + k) _ (inr (omega arith)) (rests.words k below);
   },
   record { word = word },
 )
@@ -365,7 +375,7 @@ stands_appended {S} {n} {home} {p} {q} place at value small rests done = (
     s = fresh_sizes S
 
     head : Cell
-    head = update_cell place
+    head = cell_at 0 place
 
     r : RedoRecord
     r = update_record (n + 1) at value
@@ -380,8 +390,8 @@ stands_appended {S} {n} {home} {p} {q} place at value small rests done = (
     cell : (k : ℕ) → 16 ≤ k → k < 144 → ((k - 16) / 8 ≡ place) ⊎ ((k - 16) / 8 ≢ place) → IsSettledWord (q.word k)
     cell k from below (inl same) =
         let e : 16 + place * 8 + (k - 16) % 8 ≡ k = omega arith in
-        subst (λ (i : ℕ). IsSettledWord (q.word i)) e (is_still (word ((k - 16) % 8) (omega arith)))
-    cell k from below (inr ne) = is_still (done.settled_others k _ (λ i j few lt e. ne (omega arith)) (rests.cells k from below))
+        subst (λ (i : ℕ). IsSettledWord (q.word i)) e (is_settled (word ((k - 16) % 8) (omega arith)))
+    cell k from below (inr ne) = is_settled (done.settled_others k _ (λ i j few lt e. ne (omega arith)) (rests.cells k from below))
 
 -- The group of the home word: each image has the update.
 home_images : {S n len : ℕ} {home : List ℕ} {p : State} {image : List ℕ} (place at value : ℕ) → 1 ≤ S → S ≤ 10000 → fresh_length S ≤ len → place < 16
@@ -401,15 +411,15 @@ home_images {S} {n} {len} {home} {p} {image} place at value low high long small 
     word k below (inl e) =
         let P : ℕ → Type 0 = λ k. slice_index image (144 + k) ≡ slice_index (slice_set home at (slice_index image (144 + at))) k in
         subst P (sym e) (sym (get_or-set_same home at (slice_index image (144 + at)) 0 inside))
-    word k below (inr ne) = keep (144 + k) _ (omega (arith, st.count)) (apart k at ne) (st.words k below) ∙ sym (get_or-set_other home at k _ 0 ne)
+    word k below (inr ne) = keep (144 + k) _ (omega (arith, st.image.count)) (apart k at ne) (st.image.words k below) ∙ sym (get_or-set_other home at k _ 0 ne)
 
-    reads : Reads S n (slice_set home at (slice_index image (144 + at))) image
+    reads : HasHome 0 (fresh_sizes S) n (slice_set home at (slice_index image (144 + at))) image
     reads = record {
-      header = λ k below. keep k _ (omega arith) (inl (omega arith)) (st.header k below);
-      mark_is = keep 8 _ (omega arith) (inl (omega arith)) st.mark;
-      count = length-set home at _ ∙ st.count;
+      header = λ k below. keep k _ (omega arith) (inl (omega arith)) (st.image.header k below);
+      mark = keep 8 _ (omega arith) (inl (omega arith)) st.image.mark;
+      count = length-set home at _ ∙ st.image.count;
       words = λ k below. word k (rw (length-set home at (slice_index image (144 + at))) at below) (cases_eq k at);
-      long = omega (arith, long, mix.size);
+      whole = omega (arith, long, mix.size);
     }
 
 -- The group of the mark: each image has the update.
@@ -417,7 +427,7 @@ mark_images : {S n len : ℕ} {home : List ℕ} {p : State} {image : List ℕ} (
     → n + 1 ≤ MAX_NUMBER → at < length home → slice_set home at value ≡ home → RestsWith S n (logged_update place (n + 1) at value ∷ []) home p → Logs place (n + 1) at value p
     → OldOrNew len p (mark_write (n + 1)) image → RecoversHome S image (n + 1) home
 mark_images {S} {n} {len} {home} {p} {image} place at value low high long small number inside same st logs mix =
-    by_mark (either mix 8 n (omega (arith, long)) st.mark)
+    by_mark (either mix 8 n (omega (arith, long)) st.image.mark)
   where
     s : Sizes
     s = fresh_sizes S
@@ -431,24 +441,24 @@ mark_images {S} {n} {len} {home} {p} {image} place at value low high long small 
     may : (k : ℕ) → 16 ≤ k → k < 144 → MayHold (p.word k) (slice_index image k)
     may k from below = may_stay 8 9 mix within k (omega (arith, long)) (inr (omega arith))
 
-    reads : (mark : ℕ) → slice_index image 8 ≡ mark → Reads S mark home image
+    reads : (mark : ℕ) → slice_index image 8 ≡ mark → HasHome 0 (fresh_sizes S) mark home image
     reads mark is = record {
-      header = λ k below. keep k _ (omega arith) (inl below) (st.header k below);
-      mark_is = is;
-      count = st.count;
-      words = λ k below. keep (144 + k) _ (omega (arith, st.count)) (inr (omega arith)) (st.words k below);
-      long = omega (arith, long, mix.size);
+      header = λ k below. keep k _ (omega arith) (inl below) (st.image.header k below);
+      mark = is;
+      count = st.image.count;
+      words = λ k below. keep (144 + k) _ (omega (arith, st.image.count)) (inr (omega arith)) (st.image.words k below);
+      whole = omega (arith, long, mix.size);
     }
 
     none : (c : Cell) → IsNewHead s (n + 1) image c → ⊥
     none c new =
         let ring_is : c.ring ≡ 0 = (let z = new.cell.ring_is in omega arith) in
         let slot_is = new.cell.slot_is in
-        let front = cell_start s (update_cell c.slot) in
+        let front = cell_start s (cell_at 0 c.slot) in
         let front_is : cell_start s c ≡ front = ap (λ (ring : ℕ). 16 + (ring * 16 + c.slot) * 8) ring_is in
         let tag : IsHeadOver (n + 1) (slice_index image front) = subst (λ (i : ℕ). IsHeadOver (n + 1) (slice_index image i)) front_is new.new in
         let past = tag.over in
-        let over : IsHeadOver (settled_mark p) (slice_index image front) = record { kind = tag.kind; over = omega (arith, settled_is _ _ st.mark) } in
+        let over : IsHeadOver (settled_mark p) (slice_index image front) = record { kind = tag.kind; over = omega (arith, settled_is _ _ st.image.mark) } in
         elim (st.ring.heads c.slot _ slot_is (may front (omega arith) (omega arith)) over) [
           | inl is ↦ (let e = is.0 in omega arith)
           | inr none_left ↦ absurd none_left
@@ -476,7 +486,7 @@ at_least_next before number told h x is = let b = h x is in omega arith
 
 -- the medium after each step of an update
 abbrev after_append : ℕ → ℕ → ℕ → ℕ → ℕ → State → State
-after_append S n place at value p = after_all (append_calls (fresh_sizes S) (update_cell place) (update_record (n + 1) at value)) p
+after_append S n place at value p = after_all (append_calls (fresh_sizes S) (cell_at 0 place) (update_record (n + 1) at value)) p
 
 abbrev after_home : ℕ → ℕ → State → State
 after_home at value p = after_all (group_calls (home_write at value) ((fresh_home_start + at) / 8 ∷ [])) p
@@ -487,8 +497,8 @@ after_mark n p = after_all (group_calls (mark_write (n + 1)) (1 ∷ [])) p
 -- the medium after the append
 module _ {S n : ℕ} {home : List ℕ} {p : State} (place at value : ℕ) (low : 1 ≤ S) (high : S ≤ 10000) (inside : place < 16) (small : n + 1 ≤ MAX_NUMBER)
     (below : at < length home) (rests : AtRest S n home p) where
-  appended : Appended (fresh_sizes S) [] n (update_cell place) (update_record (n + 1) at value) p (after_append S n place at value p)
-  appended = (append_law (fresh_sizes S) [] n (update_cell place) (update_record (n + 1) at value) p (fresh_length S) (omega arith) rests.ring (can_append place at value low high inside small below rests)).2
+  appended : Appended (fresh_sizes S) [] n (cell_at 0 place) (update_record (n + 1) at value) p (after_append S n place at value p)
+  appended = (append_law (fresh_sizes S) [] n (cell_at 0 place) (update_record (n + 1) at value) p rests.ring (can_append place at value low high inside small below rests)).1
 
   stands2 : RestsWith S n (logged_update place (n + 1) at value ∷ []) home (after_append S n place at value p)
   stands2 = (stands_appended place at value inside rests appended).0
@@ -516,7 +526,7 @@ module _ {S n : ℕ} {home : List ℕ} {p : State} (place at value : ℕ) (low :
       P : List ℕ → List ℕ → Type 0
       P = RecoversToEither S before n home (slice_set home at value)
 
-      held : (told image : List ℕ) → length image ≡ len → HeadsHold (fresh_sizes S) [] (update_cell place) (update_record (n + 1) at value) p told image → P told image
+      held : (told image : List ℕ) → length image ≡ len → HeadsHold (fresh_sizes S) [] (cell_at 0 place) (update_record (n + 1) at value) p told image → P told image
       held told image size h =
           let same : told ≡ p.told = h.same_told in
           let floor2 : AtLeast before told n = subst (λ (told : List ℕ). AtLeast before told n) (sym same) floor in
@@ -525,9 +535,9 @@ module _ {S n : ℕ} {home : List ℕ} {p : State} (place at value : ℕ) (low :
             | inr r ↦ inr (r, at_least_next before n told floor2)
           ]
 
-      after_each_append : AfterEachCall (EveryImage len P) p (append_calls (fresh_sizes S) (update_cell place) (update_record (n + 1) at value))
+      after_each_append : AfterEachCall (EveryImage len P) p (append_calls (fresh_sizes S) (cell_at 0 place) (update_record (n + 1) at value))
       after_each_append = after_each_leaves held
-          (append_law (fresh_sizes S) [] n (update_cell place) (update_record (n + 1) at value) p len long rests.ring (can_append place at value low high inside small below rests)).0
+          (append_images (fresh_sizes S) [] n (cell_at 0 place) (update_record (n + 1) at value) p len long rests.ring (can_append place at value low high inside small below rests))
 
       p3 : State
       p3 = after (Tell (n + 1)) (after_append S n place at value p)
@@ -566,7 +576,7 @@ module _ {S n : ℕ} {home : List ℕ} {p : State} (place at value : ℕ) (low :
       subst Q (sym whole) (rests_past_mark place at value stands4, told5)
     where
       calls : List Call
-      calls = append_calls (fresh_sizes S) (update_cell place) (update_record (n + 1) at value)
+      calls = append_calls (fresh_sizes S) (cell_at 0 place) (update_record (n + 1) at value)
 
       store : List Call
       store = group_calls (home_write at value) ((fresh_home_start + at) / 8 ∷ [])

@@ -1,12 +1,12 @@
 -- The calls that log one update: its record is appended to the ring, the number is told, then the home word and at last
 -- the mark are made durable.
-use Rattle.std.specs.Prelude.{◌≡◌, ◌⊎◌, ℕ, ◌+◌, ◌/◌, ◌<◌, ◌≤◌, List, [], ◌∷◌, ◌++◌, length, drop}
+use Rattle.std.specs.Prelude.{◌≡◌, ◌⊎◌, ℕ, ◌+◌, ◌/◌, ◌<◌, List, [], ◌∷◌, ◌++◌, length}
 use Rattle.pmem_trait.specs.declared.call.Call.{Call}
 use Rattle.pmem_trait.specs.declared.call.Call.TheVariants.{Tell}
 use Rattle.pmem_trait.specs.Words.{State, AtLeast}
 use Rattle.pmem_trait.specs.Groups.{group_calls}
 use Rattle.dude_base.specs.Records.{RedoRecord}
-use Rattle.dude_base.specs.Image.{Cell}
+use Rattle.dude_base.specs.Image.{cell_at}
 use Rattle.redo_record.specs.Calls.{append_calls}
 use Rattle.fresh_image.specs.Fresh.{AtRest, fresh_sizes, fresh_home_start}
 use Rattle.fresh_image.specs.Recovered.{RecoversHome}
@@ -14,10 +14,6 @@ use Rattle.fresh_image.specs.Recovered.{RecoversHome}
 -- the record of an update
 abbrev pub update_record : ℕ → ℕ → ℕ → RedoRecord
 update_record number at value = record { number = number; writes = record { at = at; value = value } ∷ [] }
-
--- the cell of its head
-abbrev pub update_cell : ℕ → Cell
-update_cell place = record { ring = 0; slot = place }
 
 abbrev pub home_write : ℕ → ℕ → List (ℕ × ℕ)
 home_write at value = (fresh_home_start + at, value) ∷ []
@@ -33,7 +29,7 @@ reproduce_calls number at value =
 -- the record is appended in the cell at this place of the ring, the number is told, and the record is reproduced
 unfoldable pub update_calls : ℕ → ℕ → ℕ → ℕ → ℕ → List Call
 update_calls subscribers place number at value =
-    append_calls (fresh_sizes subscribers) (update_cell place) (update_record number at value) ++ (Tell number ∷ reproduce_calls number at value)
+    append_calls (fresh_sizes subscribers) (cell_at 0 place) (update_record number at value) ++ (Tell number ∷ reproduce_calls number at value)
 
 -- The image recovers to this number and these home words, and nothing greater was told.
 abbrev pub RecoversToTold : ℕ → ℕ → ℕ → List ℕ → List ℕ → List ℕ → Type 0

@@ -1,14 +1,15 @@
 -- The calls that format an image: the magic number is cleared; the mark, the cells and the home words are made durable;
 -- then the header; then the magic number; at last 0 is told.
-use Rattle.std.specs.Prelude.{◌≡◌, ◌⊎◌, ℕ, ◌-◌, ◌*◌, ◌/◌, List, [], ◌∷◌, ◌++◌, replicate}
+use Rattle.std.specs.Prelude.{◌≡◌, ◌⊎◌, ℕ, ◌-◌, ◌/◌, List, [], ◌∷◌, ◌++◌, drop, replicate}
 use Rattle.std.specs.List.{range_with_len, enumerate_from}
 use Rattle.pmem_trait.specs.declared.call.Call.{Call}
 use Rattle.pmem_trait.specs.declared.call.Call.TheVariants.{Tell}
 use Rattle.pmem_trait.specs.Groups.{group_calls}
 use Rattle.dude_base.specs.declared.limits.TheConstants.{MAGIC}
+use Rattle.dude_base.specs.Image.{header_words}
 use Rattle.pmem_trait.specs.Words.{State}
 use Rattle.tatp_model.specs.Population.{population}
-use Rattle.fresh_image.specs.Fresh.{fresh_length, fresh_pages, AtRest}
+use Rattle.fresh_image.specs.Fresh.{fresh_length, fresh_sizes, AtRest}
 use Rattle.fresh_image.specs.Rows.{home_words}
 use Rattle.fresh_image.specs.Recovered.{RecoversHome}
 
@@ -24,10 +25,9 @@ content_writes home = (8, 0) ∷ enumerate_from 16 (clear_cells ++ home)
 abbrev pub content_lines : ℕ → List ℕ
 content_lines subscribers = range_with_len 1 (fresh_length subscribers / 8 - 1)
 
--- words 1 to 7
+-- the header's words but the magic number
 abbrev pub header_writes : ℕ → List (ℕ × ℕ)
-header_writes subscribers =
-    (1, 0) ∷ (2, subscribers) ∷ (3, 12 * subscribers) ∷ (4, 1) ∷ (5, 16) ∷ (6, fresh_pages subscribers) ∷ (7, 0) ∷ []
+header_writes subscribers = enumerate_from 1 (drop 1 (header_words 0 (fresh_sizes subscribers)))
 
 abbrev pub magic_write : ℕ → List (ℕ × ℕ)
 magic_write value = (0, value) ∷ []

@@ -7,13 +7,13 @@
 #![tactic(auto)]
 
 mod format;
+mod locations;
 mod population;
 mod row;
 mod sizes;
-mod locations;
 mod update;
 
 pub use format::format_image;
-pub use sizes::ImageSizes;
 pub use locations::Locations;
+pub use sizes::ImageSizes;
 pub use update::log_update;

@@ -1,11 +1,12 @@
 ghost use Rattle.std.specs.Prelude.{◌≡◌, ℕ, ◌+◌, ◌-◌, ◌%◌, ◌<◌, ◌≤◌, [], ◌∷◌, is_ok, OnOk, IsTrue, List, length, slice_set};
 ghost use Rattle.dude_base.specs.declared.limits.TheConstants.{MAX_NUMBER};
+ghost use Rattle.dude_base.specs.Image.{cell_at};
 ghost use Rattle.pmem_trait.specs.Sights.{state_now, CallsMade, AtEveryMoment};
 ghost use Rattle.redo_record.specs.Calls.{append_calls};
 ghost use Rattle.log_ring.specs.Ring.{with_record};
 ghost use Rattle.fresh_image.specs.Fresh.{AtRest, fresh_sizes, fresh_length, fresh_home_length};
 ghost use Rattle.fresh_image.specs.Rings.{RingAtRest};
-ghost use Rattle.fresh_image.specs.Calls.{update_record, update_cell, reproduce_calls, update_calls, RecoversToEither, AtRestFor, AtRestTold};
+ghost use Rattle.fresh_image.specs.Calls.{update_record, reproduce_calls, update_calls, RecoversToEither, AtRestFor, AtRestTold};
 
 use crate::sizes::ImageSizes;
 use dude_base::redo::Redo;
@@ -39,7 +40,7 @@ fn append<M: Medium>(
     requires inside { at < fresh_home_length sizes.now.subscribers }
     requires room { fresh_length sizes.now.subscribers ≤ (M.sight m.old).len }
     ensures len { (M.sight m.new).len ≡ (M.sight m.old).len }
-    ensures made { CallsMade (append_calls (fresh_sizes sizes.now.subscribers) (update_cell ring.old.next) (update_record number at value)) (is_ok result) (M.sight m.old) (M.sight m.new) }
+    ensures made { CallsMade (append_calls (fresh_sizes sizes.now.subscribers) (cell_at 0 ring.old.next) (update_record number at value)) (is_ok result) (M.sight m.old) (M.sight m.new) }
     ensures ring { OnOk result (ring.new ≡ with_record (update_record number at value) ring.old) }
 {
     match ring.append(m, &record_of(number, at, value)) {

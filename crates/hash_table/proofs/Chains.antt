@@ -38,7 +38,7 @@ other_among x y ys c = Contains-append_right (y ∷ []) ys x c
 pub no_element : (x : ℕ) → Contains [] x → ⊥
 no_element x c = omega (arith, c.1)
 
--- in a list without repetition the elements of the front differ from those behind
+-- in a list without repetition the elements of a prefix differ from those behind
 pub differ_across : (x y : ℕ) (xs ys : List ℕ) → IsDistinct eqb (xs ++ ys) → Contains xs x → Contains ys y → x ≢ y
 differ_across x y [] ys distinct cx cy same = no_element x cx
 differ_across x y (z ∷ zs) ys distinct cx cy same =
@@ -47,12 +47,12 @@ differ_across x y (z ∷ zs) ys distinct cx cy same =
       | inr other ↦ differ_across x y zs ys (IsDistinct-tail eqb z (zs ++ ys) distinct) other cy same
     ]
 
--- the front of a list without repetition has none
-pub distinct_front : (xs ys : List ℕ) → IsDistinct eqb (xs ++ ys) → IsDistinct eqb xs
-distinct_front [] ys distinct = IsDistinct-from_apart eqb [] (λ i j d lt below. absurd (omega arith))
-distinct_front (x ∷ xs) ys distinct = IsDistinct-cons eqb x xs
+-- a prefix of a list without repetition has none
+pub distinct_prefix : (xs ys : List ℕ) → IsDistinct eqb (xs ++ ys) → IsDistinct eqb xs
+distinct_prefix [] ys distinct = IsDistinct-from_apart eqb [] (λ i j d lt below. absurd (omega arith))
+distinct_prefix (x ∷ xs) ys distinct = IsDistinct-cons eqb x xs
     (each_from (λ y. eqb x y ≡ false) xs (λ y c. each_at (λ v. eqb x v ≡ false) (xs ++ ys) y (IsDistinct-head eqb x (xs ++ ys) distinct) (Contains-append_left xs ys y c)))
-    (distinct_front xs ys (IsDistinct-tail eqb x (xs ++ ys) distinct))
+    (distinct_prefix xs ys (IsDistinct-tail eqb x (xs ++ ys) distinct))
 
 -- what stands in a chain
 pub chain_among : (chains : List (List ℕ)) (bucket x : ℕ) → Contains (chain_of chains bucket) x → Contains (records_in chains) x
@@ -69,8 +69,8 @@ chain_with (chain ∷ chains) x c =
       | inr there ↦ let found = chain_with chains x there in (suc found.0, omega (arith, found.1), found.2)
     ]
 
-move_front : (xs ys zs : List ℕ) → IsPermutation (xs ++ (ys ++ zs)) (ys ++ (xs ++ zs))
-move_front xs ys zs =
+move_first : (xs ys zs : List ℕ) → IsPermutation (xs ++ (ys ++ zs)) (ys ++ (xs ++ zs))
+move_first xs ys zs =
     subst (λ l. IsPermutation l (ys ++ (xs ++ zs))) (append_assoc xs ys zs)
     (subst (λ l. IsPermutation (xs ++ ys ++ zs) l) (append_assoc ys xs zs) (IsPermutation-append_left zs (xs ++ ys) (ys ++ xs) (IsPermutation-append_comm xs ys)))
 
@@ -81,7 +81,7 @@ chain_apart (chain ∷ chains) zero below = IsPermutation-refl (chain ++ records
 chain_apart (chain ∷ chains) (suc bucket) below =
     IsPermutation-trans _ _ _
     (IsPermutation-append_right chain (records_in chains) (chain_of chains bucket ++ records_in (slice_set chains bucket [])) (chain_apart chains bucket (omega arith)))
-    (move_front chain (chain_of chains bucket) (records_in (slice_set chains bucket [])))
+    (move_first chain (chain_of chains bucket) (records_in (slice_set chains bucket [])))
 
 pub chain_put : (chains : List (List ℕ)) (bucket : ℕ) (chain : List ℕ) → bucket < length chains → IsPermutation (records_in (slice_set chains bucket chain)) (chain ++ records_in (slice_set chains bucket []))
 chain_put chains bucket chain below =
@@ -89,7 +89,7 @@ chain_put chains bucket chain below =
     (subst (λ l. IsPermutation (records_in (slice_set chains bucket chain)) (chain_of (slice_set chains bucket chain) bucket ++ records_in l)) (set-set chains bucket chain [])
     (chain_apart (slice_set chains bucket chain) bucket (omega (arith, length-set chains bucket chain))))
 
--- one more record at the front of a chain
+-- one more record before a chain
 pub records_more : (chains : List (List ℕ)) (bucket at : ℕ) → bucket < length chains → IsPermutation (at ∷ records_in chains) (records_in (slice_set chains bucket (at ∷ chain_of chains bucket)))
 records_more chains bucket at below =
     IsPermutation-trans _ _ _

@@ -9,7 +9,7 @@ use Rattle.hash_table.specs.Table.{FitsTable}
 
 record_ends : {pool : Pool} {at : ℕ} → IsRecord pool at → (pool.first ≤ at) × (at + pool.size ≤ pool.first + pool.size * pool.count)
 record_ends {pool} r =
-    let step : pool.size * (r.number + 1) ≤ pool.size * pool.count = mul-le-mul_left pool.size (omega (arith, r.below)) in
+    let step : pool.size * (r.index + 1) ≤ pool.size * pool.count = mul-le-mul_left pool.size (omega (arith, r.below)) in
     (omega (arith, r.is), omega (arith, r.is, step))
 
 -- the records lie behind the header, and the links lie between these two or behind both

@@ -6,16 +6,19 @@ use Rattle.std.proofs.lemmas.List.Sorted.{Contains-permutation, IsPermutation-ap
 use Rattle.std.specs.List.{AllByRecursion}
 use Rattle.record_heap.specs.Changes.{IsNoneOf, ChangesOnly}
 use Rattle.record_heap.specs.Links.{Linked}
-use Rattle.record_heap.specs.Pool.{IsRecord, IsPool, Takes}
+use Rattle.record_heap.specs.Pool.{IsFirstFree, IsRecord, IsPool, Takes}
 use Rattle.record_heap.proofs.Arrays.{linked_from, changes_none, changes_more, changes_by}
 use Rattle.record_heap.proofs.Places.{records_apart, each_is_record, as_many, none_twice, others_differ}
-use Rattle.hash_table.specs.declared.put.Put.TheVariants.{Full, Stored}
-use Rattle.hash_table.specs.declared.table.Spot.{Spot}
+use Rattle.hash_table.specs.declared.put.Put.{Put}
+use Rattle.hash_table.specs.declared.put.Put.TheVariants.{There, Full, Stored}
+use Rattle.hash_table.specs.declared.table.ChainPosition.{ChainPosition}
 use Rattle.hash_table.specs.declared.table.Table.{Table}
-use Rattle.hash_table.specs.Seek.{IsAmid, Seeks}
+use Rattle.hash_table.specs.Seek.{IsAmid, PutsFree, SeeksFirst}
 use Rattle.hash_table.specs.Table.{FitsTable, IsTable, Inserts, Stores, chain_of, records_in, lookup}
+use Rattle.hash_table.specs.Walk.{FindsFirst, IsChainOf, PutsFirst}
 use Rattle.hash_table.proofs.Chains.{each_from, each_at, first_or_other, first_among, other_among, chain_among, chain_with, records_more}
-use Rattle.hash_table.proofs.Maps.{IsAt, HasKeysApart, record_of-is, record_of-is_at, record_of-same}
+use Rattle.hash_table.proofs.Walks.{chain_linked, chain_unique}
+use Rattle.hash_table.proofs.Maps.{IsAt, HasKeysApart, lookup-is, lookup-is_at, lookup-same}
 
 -- ---- the records of a lawful table
 
@@ -47,24 +50,37 @@ in_chain {table} {a = a} chains free key fits lawful x c holds =
     let here : slice_index a x % table.buckets ≡ home.0 = All-contains (λ at. slice_index a at % table.buckets ≡ home.0) (chain_of chains home.0) x (lawful.homes home.0 (omega (arith, home.1, lawful.buckets))) home.2 in
     subst (λ bucket. Contains (chain_of chains bucket) x) (sym here ∙ ap (λ k. k % table.buckets) holds) home.2
 
-pub absent_everywhere : {table : Table} {n : ℕ} {a : List ℕ} (chains : List (List ℕ)) (free : List ℕ) (key : ℕ) → FitsTable table n → IsTable table a chains free → All (λ at. slice_index a at ≢ key) (chain_of chains (key % table.buckets)) → lookup a (records_in chains) key ≡ None
-absent_everywhere {table} {a = a} chains free key fits lawful absent =
-    record_of-is a (records_in chains) key lawful.keys None
-    (λ x c holds. All-contains (λ at. slice_index a at ≢ key) (chain_of chains (key % table.buckets)) x absent (in_chain chains free key fits lawful x c holds) holds)
+everywhere : {table : Table} {n : ℕ} {a : List ℕ} (chains : List (List ℕ)) (free : List ℕ) (key : ℕ) → FitsTable table n → IsTable table a chains free → (r : Option ℕ) → IsAt a (chain_of chains (key % table.buckets)) key r → lookup a (records_in chains) key ≡ r
+everywhere {table} {a = a} chains free key fits lawful None absent =
+    lookup-is a (records_in chains) key lawful.keys None (λ x c holds. absent x (in_chain chains free key fits lawful x c holds) holds)
+everywhere {table} {a = a} chains free key fits lawful (Some x) there =
+    lookup-is a (records_in chains) key lawful.keys (Some x) (chain_among chains (key % table.buckets) x there.0, there.1)
+
+-- what a walk needs to know of the key's chain
+pub chain_premises : {table : Table} {n : ℕ} {a : List ℕ} (chains : List (List ℕ)) (free : List ℕ) (key : ℕ) → FitsTable table n → IsTable table a chains free → IsChainOf table key a (chain_of chains (key % table.buckets))
+chain_premises {table} chains free key fits lawful =
+    let bucket = key % table.buckets in
+    chain_linked table.pool.count (chain_of chains bucket) (λ r. omega (arith, fits.pool.not_at_zero 0 r)) (lawful.links bucket (bucket_below key fits)) (chain_records chains free lawful bucket) (chain_fits chains free lawful bucket)
+
+-- what is found in any array is what a lawful table has
+pub found_first : {table : Table} {n key : ℕ} {a : List ℕ} {found : Option ℕ} (chains : List (List ℕ)) (free : List ℕ) → FitsTable table n → IsTable table a chains free → FindsFirst table key a found → found ≡ lookup a (records_in chains) key
+found_first {table} {key = key} {a = a} chains free fits lawful finds =
+    let chain = chain_of chains (key % table.buckets) in
+    finds.answer ∙ ap (λ l. lookup a l key) (chain_unique finds.chain chain finds.is (chain_premises chains free key fits lawful))
+    ∙ sym (everywhere chains free key fits lawful (lookup a chain key) (lookup-is_at a chain key))
+
+-- and so is where it stands
+pub amid_first : {table : Table} {n key : ℕ} {a : List ℕ} {position : ChainPosition} (chains : List (List ℕ)) (free : List ℕ) → FitsTable table n → IsTable table a chains free → SeeksFirst table key a (Some position) → IsAmid a (table.at + key % table.buckets) key (chain_of chains (key % table.buckets)) position
+amid_first {table} {key = key} {a = a} {position = position} chains free fits lawful seen =
+    subst (λ l. IsAmid a (table.at + key % table.buckets) key l position) (chain_unique seen.chain (chain_of chains (key % table.buckets)) seen.is (chain_premises chains free key fits lawful)) seen.seeks
 
 pub amid_among : (before behind : List ℕ) (x : ℕ) → Contains (before ++ x ∷ behind) x
 amid_among before behind x = Contains-append_right before (x ∷ behind) x (first_among x behind)
 
-pub found_there : {table : Table} {a : List ℕ} (chains : List (List ℕ)) (free : List ℕ) (key : ℕ) (spot : Spot) → IsTable table a chains free → IsAmid a (table.at + key % table.buckets) key (chain_of chains (key % table.buckets)) spot → lookup a (records_in chains) key ≡ Some spot.record
-found_there {table} {a} chains free key spot lawful amid =
-    record_of-is a (records_in chains) key lawful.keys (Some spot.record)
-    (chain_among chains (key % table.buckets) spot.record (subst (λ l. Contains l spot.record) (sym amid.split) (amid_among amid.before amid.behind spot.record)), amid.holds)
-
--- what `seek` says at the key's chain
-pub sought : {table : Table} {n : ℕ} {a : List ℕ} (key : ℕ) (r : Option Spot) (chains : List (List ℕ)) (free : List ℕ) → FitsTable table n → IsTable table a chains free →
-    ((chain : List ℕ) → Linked a (table.at + key % table.buckets) chain → All (IsRecord table.pool) chain → length chain ≤ table.pool.count → Seeks a (table.at + key % table.buckets) key chain r) → Seeks a (table.at + key % table.buckets) key (chain_of chains (key % table.buckets)) r
-sought {table} key r chains free fits lawful seeks =
-    seeks (chain_of chains (key % table.buckets)) (lawful.links (key % table.buckets) (bucket_below key fits)) (chain_records chains free lawful (key % table.buckets)) (chain_fits chains free lawful (key % table.buckets))
+pub found_there : {table : Table} {a : List ℕ} (chains : List (List ℕ)) (free : List ℕ) (key : ℕ) (position : ChainPosition) → IsTable table a chains free → IsAmid a (table.at + key % table.buckets) key (chain_of chains (key % table.buckets)) position → lookup a (records_in chains) key ≡ Some position.record
+found_there {table} {a} chains free key position lawful amid =
+    lookup-is a (records_in chains) key lawful.keys (Some position.record)
+    (chain_among chains (key % table.buckets) position.record (subst (λ l. Contains l position.record) (sym amid.split) (amid_among amid.before amid.behind position.record)), amid.holds)
 
 -- ---- insert
 
@@ -84,13 +100,13 @@ link_apart {table} key at bucket fits rat below differ =
     let header = fits.header in
     (omega (arith, links, below, fits.pool.size), (omega (arith, links, below, fits.pool.size), (omega (arith, header, below), (omega (arith, header, below), ((λ same. differ (omega (arith, same))), tt)))))
 
--- What the words hold once `take` led from a to b, and the key, the link and the chain's front were written.
+-- What the words hold once `take` led from a to b, and the key, the record's link and the bucket's link were written.
 pub record IsPut (table : Table) (key at : ℕ) (a b c : List ℕ) : Type 0 where
   pub changes : ChangesOnly (at ∷ (at + 1) ∷ table.pool.base ∷ (table.pool.base + 1) ∷ (table.at + key % table.buckets) ∷ []) a c
   pub later : ChangesOnly ((table.at + key % table.buckets) ∷ (at + 1) ∷ at ∷ []) b c
   pub holds : slice_index c at ≡ key
   pub link : slice_index c (at + 1) ≡ slice_index a (table.at + key % table.buckets)
-  pub front : slice_index c (table.at + key % table.buckets) ≡ at
+  pub first : slice_index c (table.at + key % table.buckets) ≡ at
 
 put_is : {table : Table} {n key at head : ℕ} {a b c : List ℕ} → FitsTable table n → length a ≡ n → IsRecord table.pool at → ChangesOnly (table.pool.base ∷ (table.pool.base + 1) ∷ []) a b → head ≡ slice_index a (table.at + key % table.buckets) →
     c ≡ slice_set (slice_set (slice_set b at key) (at + 1) head) (table.at + key % table.buckets) at → IsPut table key at a b c
@@ -110,7 +126,7 @@ put_is {table} {n} {key} {at} {head} {a} {b} {c} fits long there took read is =
       later = subst (λ l. ChangesOnly (place ∷ (at + 1) ∷ at ∷ []) b l) (sym is) late;
       holds = ap (λ l. slice_index l at) is ∙ get_or-set_other b2 place at at 0 (omega (arith, links, home, fits.pool.size)) ∙ get_or-set_other b1 (at + 1) at head 0 (omega arith) ∙ get_or-set_same b at key 0 (omega (arith, took.size, long, inside, fits.pool.size));
       link = ap (λ l. slice_index l (at + 1)) is ∙ get_or-set_other b2 place (at + 1) at 0 (omega (arith, links, home, fits.pool.size)) ∙ get_or-set_same b1 (at + 1) head 0 (omega (arith, long1, inside, fits.pool.size)) ∙ read;
-      front = ap (λ l. slice_index l place) is ∙ get_or-set_same b2 place at 0 (omega (arith, long2, fits.links, home));
+      first = ap (λ l. slice_index l place) is ∙ get_or-set_same b2 place at 0 (omega (arith, long2, fits.links, home));
     }
 
 -- what stands in the pool's free list and in the chains once the first free record is taken
@@ -144,11 +160,11 @@ put_pool {table} {n} {key} {at} {a} {b} {c} chains left fits there taken put who
       once = IsPermutation-trans _ _ _ lawful.once (IsPermutation-append_right left (at ∷ records_in chains) _ moves);
     }
 
-pub front_same : (chains : List (List ℕ)) (bucket : ℕ) (chain : List ℕ) → bucket < length chains → chain_of (slice_set chains bucket chain) bucket ≡ chain
-front_same chains bucket chain below = get_or-set_same chains bucket chain [] below
+pub chain_same : (chains : List (List ℕ)) (bucket : ℕ) (chain : List ℕ) → bucket < length chains → chain_of (slice_set chains bucket chain) bucket ≡ chain
+chain_same chains bucket chain below = get_or-set_same chains bucket chain [] below
 
-pub front_other : (chains : List (List ℕ)) (bucket other : ℕ) (chain : List ℕ) → other ≢ bucket → chain_of (slice_set chains bucket chain) other ≡ chain_of chains other
-front_other chains bucket other chain differ = get_or-set_other chains bucket other chain [] differ
+pub chain_other : (chains : List (List ℕ)) (bucket other : ℕ) (chain : List ℕ) → other ≢ bucket → chain_of (slice_set chains bucket chain) other ≡ chain_of chains other
+chain_other chains bucket other chain differ = get_or-set_other chains bucket other chain [] differ
 
 module _ {table : Table} {n key at : ℕ} {a b c : List ℕ} (chains : List (List ℕ)) (left : List ℕ)
     (fits : FitsTable table n) (there : IsRecord table.pool at) (lawful : IsTable table a chains (at ∷ left)) (put : IsPut table key at a b c) where
@@ -170,9 +186,9 @@ module _ {table : Table} {n key at : ℕ} {a b c : List ℕ} (chains : List (Lis
       let chain = chain_of chains home in
       elim (cases_eq bucket home) [
         | inl same ↦ subst (λ d. Linked c (table.at + d) (chain_of (slice_set chains home (at ∷ chain)) d)) (sym same)
-            (subst (λ l. Linked c (table.at + home) l) (sym (front_same chains home (at ∷ chain) (omega (arith, lawful.buckets, bucket_below key fits))))
-            (put.front, linked_from a c (table.at + home) (at + 1) chain put.link (links_kept home) (lawful.links home (bucket_below key fits))))
-        | inr differ ↦ subst (λ l. Linked c (table.at + bucket) l) (sym (front_other chains home bucket (at ∷ chain) differ))
+            (subst (λ l. Linked c (table.at + home) l) (sym (chain_same chains home (at ∷ chain) (omega (arith, lawful.buckets, bucket_below key fits))))
+            (put.first, linked_from a c (table.at + home) (at + 1) chain put.link (links_kept home) (lawful.links home (bucket_below key fits))))
+        | inr differ ↦ subst (λ l. Linked c (table.at + bucket) l) (sym (chain_other chains home bucket (at ∷ chain) differ))
             (linked_from a c (table.at + bucket) (table.at + bucket) (chain_of chains bucket)
             (put.changes.others (table.at + bucket) (link_apart key at bucket fits there below differ)) (links_kept bucket) (lawful.links bucket below))
       ]
@@ -188,9 +204,9 @@ module _ {table : Table} {n key at : ℕ} {a b c : List ℕ} (chains : List (Lis
       let chain = chain_of chains home in
       elim (cases_eq bucket home) [
         | inl same ↦ subst (λ d. All (λ x. slice_index c x % table.buckets ≡ d) (chain_of (slice_set chains home (at ∷ chain)) d)) (sym same)
-            (subst (λ l. All (λ x. slice_index c x % table.buckets ≡ home) l) (sym (front_same chains home (at ∷ chain) (omega (arith, lawful.buckets, bucket_below key fits))))
+            (subst (λ l. All (λ x. slice_index c x % table.buckets ≡ home) l) (sym (chain_same chains home (at ∷ chain) (omega (arith, lawful.buckets, bucket_below key fits))))
             (All-cons (λ x. slice_index c x % table.buckets ≡ home) at chain (ap (λ k. k % table.buckets) put.holds) (homes_kept home (bucket_below key fits))))
-        | inr differ ↦ subst (λ l. All (λ x. slice_index c x % table.buckets ≡ bucket) l) (sym (front_other chains home bucket (at ∷ chain) differ)) (homes_kept bucket below)
+        | inr differ ↦ subst (λ l. All (λ x. slice_index c x % table.buckets ≡ bucket) l) (sym (chain_other chains home bucket (at ∷ chain) differ)) (homes_kept bucket below)
       ]
 
   -- the records of the chains afterwards
@@ -203,7 +219,7 @@ module _ {table : Table} {n key at : ℕ} {a b c : List ℕ} (chains : List (Lis
 
   module _ (absent : lookup a (records_in chains) key ≡ None) where
     none_has : (x : ℕ) → Contains (records_in chains) x → slice_index a x ≢ key
-    none_has = subst (λ r. IsAt a (records_in chains) key r) absent (record_of-is_at a (records_in chains) key)
+    none_has = subst (λ r. IsAt a (records_in chains) key r) absent (lookup-is_at a (records_in chains) key)
 
     put_keys : HasKeysApart c (records_in (slice_set chains (key % table.buckets) (at ∷ chain_of chains (key % table.buckets))))
     put_keys x y cx cy same =
@@ -225,7 +241,7 @@ module _ {table : Table} {n key at : ℕ} {a b c : List ℕ} (chains : List (Lis
       first = refl;
       absent = absent;
       after = slice_set chains (key % table.buckets) (at ∷ chain_of chains (key % table.buckets));
-      front = refl;
+      pushed = refl;
       lawful = record {
         pool = put_pool chains left fits there (taken_is chains left fits lawful) put lawful.buckets took;
         buckets = length-set chains (key % table.buckets) (at ∷ chain_of chains (key % table.buckets)) ∙ lawful.buckets;
@@ -233,8 +249,8 @@ module _ {table : Table} {n key at : ℕ} {a b c : List ℕ} (chains : List (Lis
         homes = put_homes;
         keys = put_keys;
       };
-      there = record_of-is c _ key put_keys (Some at) (still_among at (first_among at (records_in chains)), put.holds);
-      others = λ k differ. record_of-same a c (records_in chains) _ k put_keys
+      there = lookup-is c _ key put_keys (Some at) (still_among at (first_among at (records_in chains)), put.holds);
+      others = λ k differ. lookup-same a c (records_in chains) _ k put_keys
           (λ x among holds. (still_among x (other_among x at (records_in chains) among), keys_kept x among ∙ holds))
           (λ y among holds. elim (among_after y among) [
             | inl yat ↦ absurd (differ (sym holds ∙ ap (λ z. slice_index c z) yat ∙ put.holds))
@@ -258,3 +274,16 @@ inserts_stored {table} {n} {key} {at} {head} {a} {c} b fits long there read is c
 pub inserts_full : (table : Table) (key : ℕ) {a b : List ℕ} (chains : List (List ℕ)) (free : List ℕ) → lookup a (records_in chains) key ≡ None → Takes table.pool free (records_in chains) None a b → Inserts table key chains free Full a b
 inserts_full table key chains [] absent takes = (absent, refl, takes.1)
 inserts_full table key chains (first ∷ left) absent takes = absurd (cc (takes.0))
+
+-- what `insert` answers in any array where the walk did not find the key
+pub puts_absent : {table : Table} {key : ℕ} {a b : List ℕ} (put : Put) → b ≡ a → PutsFree table b put → FindsFirst table key a None → PutsFirst table key a put
+puts_absent (There at) same free none = absurd free
+puts_absent {table} Full same free none = (none, subst (λ x. IsFirstFree table.pool x None) same free)
+puts_absent {table} (Stored at) same free none = (none, subst (λ x. IsFirstFree table.pool x (Some at)) same free)
+
+-- and does in a lawful table
+pub inserts_absent : {table : Table} {a b : List ℕ} (key : ℕ) (c : List ℕ) (put : Put) (chains : List (List ℕ)) (free : List ℕ) → b ≡ a → IsTable table a chains free → lookup a (records_in chains) key ≡ None
+    → (IsTable table b chains free → lookup b (records_in chains) key ≡ None → Inserts table key chains free put b c) → Inserts table key chains free put a c
+inserts_absent {table} key c put chains free same lawful absent inserts =
+    subst (λ x. Inserts table key chains free put x c) same
+    (inserts (subst (λ x. IsTable table x chains free) (sym same) lawful) (subst (λ x. lookup x (records_in chains) key ≡ None) (sym same) absent))

@@ -1,5 +1,5 @@
 -- What `remove` does to a lawful table, on plain arrays.
-use Rattle.std.proofs.Common.{◌≡◌, ◌≢◌, ℕ, ◌+◌, ◌%◌, ◌<◌, ◌⊎◌, inl, inr, List, [], ◌∷◌, ◌++◌, length, length-set, All, Contains, Some, None, slice_index, slice_set, refl, sym, ap, ◌∙◌, subst, arith, false, eqb, get_or-set_same, add-zero}
+use Rattle.std.proofs.Common.{◌≡◌, ◌≢◌, ℕ, ◌+◌, ◌%◌, ◌<◌, ◌⊎◌, inl, inr, List, [], ◌∷◌, ◌++◌, length, length-set, All, Contains, Option, Some, None, slice_index, slice_set, refl, sym, ap, ◌∙◌, subst, arith, false, eqb, get_or-set_same, add-zero}
 use Rattle.std.proofs.lemmas.Bool.{cases_eq, eqb-false}
 use Rattle.std.proofs.lemmas.List.Elements.{All-contains, All-from_recursion, Contains-append_cases, Contains-append_left, Contains-append_right}
 use Rattle.std.proofs.lemmas.List.Sorted.{Contains-permutation, IsPermutation-append_comm, IsPermutation-append_left, IsPermutation-append_right, IsPermutation-middle, IsPermutation-sym, IsPermutation-trans, length_permutation}
@@ -11,18 +11,18 @@ use Rattle.record_heap.specs.Links.{Linked}
 use Rattle.record_heap.specs.Pool.{records_of, IsRecord, IsPool, Gives}
 use Rattle.record_heap.proofs.Arrays.{linked_from, changes_none, changes_more, changes_by}
 use Rattle.record_heap.proofs.Places.{records_apart, each_is_record, none_twice, others_differ}
-use Rattle.hash_table.specs.declared.table.Spot.{Spot}
+use Rattle.hash_table.specs.declared.table.ChainPosition.{ChainPosition}
 use Rattle.hash_table.specs.declared.table.Table.{Table}
-use Rattle.hash_table.specs.Seek.{IsAmid}
+use Rattle.hash_table.specs.Seek.{IsAmid, SeeksFirst}
 use Rattle.hash_table.specs.Table.{FitsTable, IsTable, Drops, chain_of, records_in, lookup, link_after}
-use Rattle.hash_table.proofs.Chains.{each_from, each_at, first_or_other, first_among, other_among, differ_across, distinct_front, chain_among, chain_put, records_less}
-use Rattle.hash_table.proofs.Insertions.{bucket_below, found_there, front_same, front_other, amid_among}
-use Rattle.hash_table.proofs.Maps.{HasKeysApart, record_of-is, record_of-same}
+use Rattle.hash_table.proofs.Chains.{each_from, each_at, first_or_other, first_among, other_among, differ_across, distinct_prefix, chain_among, chain_put, records_less}
+use Rattle.hash_table.proofs.Insertions.{amid_first, bucket_below, found_there, chain_same, chain_other, amid_among}
+use Rattle.hash_table.proofs.Maps.{HasKeysApart, lookup-is, lookup-same}
 
 -- ---- one chain
 
 -- the link behind some records of a chain: the chain's own, or that of one of them
-link_cases : (place : ℕ) (before : List ℕ) → (link_after place before ≡ place) ⊎ ((y : ℕ) × Contains before y × (link_after place before ≡ y + 1))
+pub link_cases : (place : ℕ) (before : List ℕ) → (link_after place before ≡ place) ⊎ ((y : ℕ) × Contains before y × (link_after place before ≡ y + 1))
 link_cases place [] = inl refl
 link_cases place (x ∷ xs) =
     elim (link_cases (x + 1) xs) [
@@ -182,7 +182,7 @@ module _ {table : Table} {n key at : ℕ} {a b c : List ℕ} (chains : List (Lis
       }
 
   distinct_chain : IsDistinct eqb (before ++ behind)
-  distinct_chain = distinct_front (before ++ behind) _ (distinct_front ((before ++ behind) ++ records_in (slice_set chains (key % table.buckets) [])) (at ∷ free)
+  distinct_chain = distinct_prefix (before ++ behind) _ (distinct_prefix ((before ++ behind) ++ records_in (slice_set chains (key % table.buckets) [])) (at ∷ free)
       (none_twice table.pool _
       (IsPermutation-trans _ _ _ once_at
       (IsPermutation-trans _ _ _ (IsPermutation-append_comm (at ∷ free) (records_in (slice_set chains (key % table.buckets) (before ++ behind))))
@@ -194,7 +194,7 @@ module _ {table : Table} {n key at : ℕ} {a b c : List ℕ} (chains : List (Lis
   cut_chain = unlinked a c at (table.at + key % table.buckets) before behind
       (subst (λ l. Linked a (table.at + key % table.buckets) l) split (lawful.links (key % table.buckets) (bucket_below key fits)))
       cut.leads
-      (distinct_front before behind distinct_chain)
+      (distinct_prefix before behind distinct_chain)
       (λ y early same. omega (arith, same, fits.records y (record_left y (before_left y early)), bucket_below key fits, fits.pool.size))
       (cut_bucket (key % table.buckets) (bucket_below key fits))
       (λ y early. cut_link y (in_left y (Contains-append_left before behind y early)))
@@ -217,7 +217,7 @@ module _ {table : Table} {n key at : ℕ} {a b c : List ℕ} (chains : List (Lis
   other_chain bucket below differ = linked_from a c (table.at + bucket) (table.at + bucket) (chain_of chains bucket)
       (cut_bucket bucket below (link_no_bucket bucket below differ))
       (each_from (λ x. slice_index c (x + 1) ≡ slice_index a (x + 1)) (chain_of chains bucket) (λ x in_other.
-      let among = chain_among (slice_set chains (key % table.buckets) (before ++ behind)) bucket x (subst (λ l. Contains l x) (sym (front_other chains (key % table.buckets) bucket (before ++ behind) differ)) in_other) in
+      let among = chain_among (slice_set chains (key % table.buckets) (before ++ behind)) bucket x (subst (λ l. Contains l x) (sym (chain_other chains (key % table.buckets) bucket (before ++ behind) differ)) in_other) in
       cut_link x among (link_no_other x (record_left x (Contains-append_right free _ x among)) (λ y early same.
       differ (sym (home_of bucket x below in_other) ∙ ap (λ z. slice_index a z % table.buckets) (sym same) ∙ home_of (key % table.buckets) y (bucket_below key fits) (more_amid y (Contains-append_left before behind y early)))))))
       (lawful.links bucket below)
@@ -226,16 +226,16 @@ module _ {table : Table} {n key at : ℕ} {a b c : List ℕ} (chains : List (Lis
   cut_links bucket below =
       elim (cases_eq bucket (key % table.buckets)) [
         | inl same ↦ subst (λ d. Linked c (table.at + d) (chain_of (slice_set chains (key % table.buckets) (before ++ behind)) d)) (sym same)
-            (subst (λ l. Linked c (table.at + key % table.buckets) l) (sym (front_same chains (key % table.buckets) (before ++ behind) home_below)) cut_chain)
-        | inr differ ↦ subst (λ l. Linked c (table.at + bucket) l) (sym (front_other chains (key % table.buckets) bucket (before ++ behind) differ)) (other_chain bucket below differ)
+            (subst (λ l. Linked c (table.at + key % table.buckets) l) (sym (chain_same chains (key % table.buckets) (before ++ behind) home_below)) cut_chain)
+        | inr differ ↦ subst (λ l. Linked c (table.at + bucket) l) (sym (chain_other chains (key % table.buckets) bucket (before ++ behind) differ)) (other_chain bucket below differ)
       ]
 
   was_in_chain : (bucket x : ℕ) → bucket < table.buckets → Contains (chain_of (slice_set chains (key % table.buckets) (before ++ behind)) bucket) x → Contains (chain_of chains bucket) x
   was_in_chain bucket x below among =
       elim (cases_eq bucket (key % table.buckets)) [
         | inl same ↦ subst (λ d. Contains (chain_of chains d) x) (sym same)
-            (more_amid x (subst (λ l. Contains l x) (front_same chains (key % table.buckets) (before ++ behind) home_below) (subst (λ d. Contains (chain_of (slice_set chains (key % table.buckets) (before ++ behind)) d) x) same among)))
-        | inr differ ↦ subst (λ l. Contains l x) (front_other chains (key % table.buckets) bucket (before ++ behind) differ) among
+            (more_amid x (subst (λ l. Contains l x) (chain_same chains (key % table.buckets) (before ++ behind) home_below) (subst (λ d. Contains (chain_of (slice_set chains (key % table.buckets) (before ++ behind)) d) x) same among)))
+        | inr differ ↦ subst (λ l. Contains l x) (chain_other chains (key % table.buckets) bucket (before ++ behind) differ) among
       ]
 
   cut_homes : (bucket : ℕ) → bucket < table.buckets → All (λ x. slice_index c x % table.buckets ≡ bucket) (chain_of (slice_set chains (key % table.buckets) (before ++ behind)) bucket)
@@ -266,8 +266,8 @@ module _ {table : Table} {n key at : ℕ} {a b c : List ℕ} (chains : List (Lis
       homes = cut_homes;
       keys = cut_keys;
     };
-    gone = record_of-is c _ key cut_keys None (λ x among has. differs x (Contains-append_right free _ x among) (lawful.keys x at (was_among x among) at_among (sym (cut_key x among) ∙ has ∙ sym holds)));
-    others = λ k differ. record_of-same a c (records_in chains) _ k cut_keys
+    gone = lookup-is c _ key cut_keys None (λ x among has. differs x (Contains-append_right free _ x among) (lawful.keys x at (was_among x among) at_among (sym (cut_key x among) ∙ has ∙ sym holds)));
+    others = λ k differ. lookup-same a c (records_in chains) _ k cut_keys
         (λ x among has. elim (still_or_at x among) [
           | inl xat ↦ absurd (differ (sym has ∙ ap (λ z. slice_index a z) xat ∙ holds))
           | inr left ↦ (left, cut_key x left ∙ has)
@@ -277,14 +277,22 @@ module _ {table : Table} {n key at : ℕ} {a b c : List ℕ} (chains : List (Lis
   }
 
 -- what `remove` does where the key was found
-pub removes_found : {table : Table} {n key next : ℕ} {a c : List ℕ} (b : List ℕ) (spot : Spot) (chains : List (List ℕ)) (free : List ℕ) → FitsTable table n → length a ≡ n → spot.link < n → IsTable table a chains free →
-    IsAmid a (table.at + key % table.buckets) key (chain_of chains (key % table.buckets)) spot → Gives table.pool spot.record free (records_in chains) a b → next ≡ slice_index a (spot.record + 1) → c ≡ slice_set b spot.link next → Drops table key chains free a c
-removes_found {table} {n} {key} b spot chains free fits long inside lawful amid gives read is =
-    drops chains free amid.before amid.behind fits lawful amid.split (cut_is b long inside gives.changes amid.link read is)
-    amid.holds (found_there chains free key spot lawful amid) gives.others gives.were gives.lawful
+pub removes_found : {table : Table} {n key next : ℕ} {a c : List ℕ} (b : List ℕ) (position : ChainPosition) (chains : List (List ℕ)) (free : List ℕ) → FitsTable table n → length a ≡ n → position.link < n → IsTable table a chains free →
+    IsAmid a (table.at + key % table.buckets) key (chain_of chains (key % table.buckets)) position → Gives table.pool position.record free (records_in chains) a b → next ≡ slice_index a (position.record + 1) → c ≡ slice_set b position.link next → Drops table key chains free a c
+removes_found {table} {n} {key} b position chains free fits long inside lawful amid gives read is =
+    drops chains free amid.before amid.behind fits lawful amid.split (cut_is b long inside gives.changes amid.met read is)
+    amid.holds (found_there chains free key position lawful amid) gives.others gives.were gives.lawful
 
 -- a record of a chain is not free
-pub not_free : {table : Table} {n : ℕ} {a : List ℕ} (chains : List (List ℕ)) (free : List ℕ) (key : ℕ) (spot : Spot) → FitsTable table n → IsTable table a chains free → IsAmid a (table.at + key % table.buckets) key (chain_of chains (key % table.buckets)) spot → ¬ Contains free spot.record
-not_free {table} chains free key spot fits lawful amid kept =
-    differ_across spot.record spot.record free (records_in chains) (none_twice table.pool (free ++ records_in chains) lawful.pool.once (omega (arith, fits.pool.size))) kept
-    (chain_among chains (key % table.buckets) spot.record (subst (λ l. Contains l spot.record) (sym amid.split) (amid_among amid.before amid.behind spot.record))) refl
+pub not_free : {table : Table} {n : ℕ} {a : List ℕ} (chains : List (List ℕ)) (free : List ℕ) (key : ℕ) (position : ChainPosition) → FitsTable table n → IsTable table a chains free → IsAmid a (table.at + key % table.buckets) key (chain_of chains (key % table.buckets)) position → ¬ Contains free position.record
+not_free {table} chains free key position fits lawful amid kept =
+    differ_across position.record position.record free (records_in chains) (none_twice table.pool (free ++ records_in chains) lawful.pool.once (omega (arith, fits.pool.size))) kept
+    (chain_among chains (key % table.buckets) position.record (subst (λ l. Contains l position.record) (sym amid.split) (amid_among amid.before amid.behind position.record))) refl
+
+-- what `remove` does where the walk found the key
+pub drops_there : {table : Table} {n key : ℕ} {a b c : List ℕ} (chains : List (List ℕ)) (free : List ℕ) → FitsTable table n → IsTable table a chains free → (r : Option ChainPosition) (position : ChainPosition) → r ≡ Some position → SeeksFirst table key a r → b ≡ a →
+    (IsAmid b (table.at + key % table.buckets) key (chain_of chains (key % table.buckets)) position → IsTable table b chains free → Drops table key chains free b c) → Drops table key chains free a c
+drops_there {table} {key = key} {a = a} {c = c} chains free fits lawful r position is seen same drops =
+    let amid = amid_first chains free fits lawful (subst (SeeksFirst table key a) is seen) in
+    subst (λ x. Drops table key chains free x c) same
+    (drops (subst (λ x. IsAmid x (table.at + key % table.buckets) key (chain_of chains (key % table.buckets)) position) (sym same) amid) (subst (λ x. IsTable table x chains free) (sym same) lawful))

@@ -1,3 +1,4 @@
-pub mod Callers
+pub mod Ranges
 pub mod Seek
 pub mod Table
+pub mod Walk

@@ -1,17 +1,35 @@
 -- What a walk along one chain finds.
-use Rattle.std.specs.Prelude.{◌≡◌, ◌≢◌, ℕ, List, ◌∷◌, ◌++◌, Option, Some, None, All, slice_index}
-use Rattle.hash_table.specs.declared.table.Spot.{Spot}
+use Rattle.std.specs.Prelude.{◌≡◌, ◌≢◌, ℕ, ◌+◌, ◌%◌, List, ◌∷◌, ◌++◌, Option, Some, None, All, slice_index}
+use Rattle.record_heap.specs.Pool.{IsFirstFree}
+use Rattle.hash_table.specs.declared.put.Put.{Put}
+use Rattle.hash_table.specs.declared.put.Put.TheVariants.{There, Full, Stored}
+use Rattle.hash_table.specs.declared.table.ChainPosition.{ChainPosition}
+use Rattle.hash_table.specs.declared.table.Table.{Table}
 use Rattle.hash_table.specs.Table.{link_after}
+use Rattle.hash_table.specs.Walk.{IsChainOf}
 
--- the record with the key stands in the chain between these, and its link was met
-pub record IsAmid (array : List ℕ) (place key : ℕ) (chain : List ℕ) (spot : Spot) : Type 0 where
+-- the first record with the key stands in the chain between these, and its link was met
+pub record IsAmid (array : List ℕ) (link key : ℕ) (chain : List ℕ) (position : ChainPosition) : Type 0 where
   pub before : List ℕ
   pub behind : List ℕ
-  pub split : chain ≡ before ++ spot.record ∷ behind
-  pub link : spot.link ≡ link_after place before
-  pub holds : slice_index array spot.record ≡ key
+  pub split : chain ≡ before ++ position.record ∷ behind
+  pub met : position.link ≡ link_after link before
+  pub absent : All (λ at. slice_index array at ≢ key) before
+  pub holds : slice_index array position.record ≡ key
 
--- the walk along a chain that is linked from this word finds the record with the key, if there is one
-abbrev pub Seeks : List ℕ → ℕ → ℕ → List ℕ → Option Spot → Type 0
-Seeks array place key chain None = All (λ at. slice_index array at ≢ key) chain
-Seeks array place key chain (Some spot) = IsAmid array place key chain spot
+-- a walk along a chain that begins at the word `link` finds the first record with the key, if there is one
+abbrev pub Seeks : List ℕ → ℕ → ℕ → List ℕ → Option ChainPosition → Type 0
+Seeks array link key chain None = All (λ at. slice_index array at ≢ key) chain
+Seeks array link key chain (Some position) = IsAmid array link key chain position
+
+-- the walk for a key in any array
+pub record SeeksFirst (table : Table) (key : ℕ) (array : List ℕ) (result : Option ChainPosition) : Type 0 where
+  pub chain : List ℕ
+  pub is : IsChainOf table key array chain
+  pub seeks : Seeks array (table.at + key % table.buckets) key chain result
+
+-- what `store` answers in any array
+abbrev pub PutsFree : Table → List ℕ → Put → Type 0
+PutsFree table array (There at) = ⊥
+PutsFree table array Full = IsFirstFree table.pool array None
+PutsFree table array (Stored at) = IsFirstFree table.pool array (Some at)

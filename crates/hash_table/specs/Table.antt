@@ -39,10 +39,10 @@ pub record IsTable (table : Table) (array : List ℕ) (chains : List (List ℕ))
 abbrev pub lookup : List ℕ → List ℕ → ℕ → Option ℕ
 lookup array records key = find (λ at. slice_index array at == key) records
 
--- the word that links what stands in a chain after these records, where the chain begins at a word
+-- the word that links what stands in a chain after these records, where the word `link` links the first
 abbrev pub link_after : ℕ → List ℕ → ℕ
-link_after place [] = place
-link_after place (at ∷ others) = link_after (at + 1) others
+link_after link [] = link
+link_after link (at ∷ others) = link_after (at + 1) others
 
 -- The key was not there, and is in the first free record now, which is the first of its chain. Each other
 -- key is in the record where it was, and no word changes but the record's first two, the header's two
@@ -52,7 +52,7 @@ pub record Stores (table : Table) (key at : ℕ) (chains : List (List ℕ)) (fre
   pub first : free ≡ at ∷ left
   pub absent : lookup old (records_in chains) key ≡ None
   pub after : List (List ℕ)
-  pub front : after ≡ slice_set chains (key % table.buckets) (at ∷ chain_of chains (key % table.buckets))
+  pub pushed : after ≡ slice_set chains (key % table.buckets) (at ∷ chain_of chains (key % table.buckets))
   pub lawful : IsTable table new after left
   pub there : lookup new (records_in after) key ≡ Some at
   pub others : (k : ℕ) → k ≢ key → lookup new (records_in after) k ≡ lookup old (records_in chains) k
@@ -71,10 +71,10 @@ write_count Full = 0
 write_count (Stored at) = 5
 
 -- the record that has the key, where it is there
-abbrev pub place_of : Put → Option ℕ
-place_of (There at) = Some at
-place_of Full = None
-place_of (Stored at) = Some at
+abbrev pub put_record : Put → Option ℕ
+put_record (There at) = Some at
+put_record Full = None
+put_record (Stored at) = Some at
 
 -- The key was in a record, which is the first free one now, and its chain has the records before and
 -- after it. Each other key is in the record where it was, and no word changes but the record's link, the

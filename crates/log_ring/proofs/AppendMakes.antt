@@ -16,13 +16,13 @@ use Rattle.redo_record.specs.Fits.{settled_mark, cells_used}
 use Rattle.redo_record.specs.AppendLaw.{CanAppend, HeadsHold, Appended}
 use Rattle.redo_record.specs.Calls.{append_calls}
 use Rattle.redo_record.proofs.AppendedRecord.{append_law}
+use Rattle.redo_record.proofs.AppendingImages.{append_images, appending_here, appending_law}
 use Rattle.log_ring.specs.declared.ring_fault.RingFault.{RingFault}
 use Rattle.log_ring.specs.declared.ring_fault.RingFault.TheVariants.{Full, Device}
 use Rattle.log_ring.specs.Laid.{AreLaid}
 use Rattle.log_ring.specs.Ring.{RingState, FitsMedium, next_head}
 use Rattle.log_ring.specs.Appends.{AppendCalls, IsOverfull, full_for}
 use Rattle.log_ring.proofs.Laid.{laid_free}
-use Rattle.log_ring.proofs.HeadsAtRest.{heads_at_rest}
 
 -- at Device the count of faults rose
 pub device_cause : (r : Result (Unit {0}) RingFault) (cs : List Call) (s t : Sight) → AppendCalls r cs s t → IsErrOf r Device → Risen s.faults t.faults
@@ -34,25 +34,24 @@ device_cause (Err (Full used need)) cs s t made is = absurd (search rules)
 pub record Wants (v : RingState) (r : RedoRecord) : Type 0 where
   pub sizes : IsAccepted v.sizes
   pub cell : IsCell v.sizes (next_head v)
-  pub laid : AreLaid v.sizes.cells v.next v.logged
+  pub laid : AreLaid v.sizes v.next v.logged
   pub encodable : IsEncodable r
   pub home : All (λ w. w.at < v.sizes.pages * PAGE) r.writes
 
 can_append : (v : RingState) (r : RedoRecord) (mark : ℕ) → Wants v r → (IsOverfull v r → ⊥) → CanAppend v.sizes mark v.logged (next_head v) r
 can_append v r mark wants room =
     let few : cells_used v.logged + cells_for (length r.writes) ≤ v.sizes.cells = grind (arith, room) in
-    let free = laid_free v.sizes.cells v.next (cells_for (length r.writes)) v.logged wants.laid few in
     record {
       sizes = wants.sizes;
       cell = wants.cell;
       encodable = wants.encodable;
       home = wants.home;
-      free = λ k d lt over. free k d lt;
+      free = laid_free v.sizes v.next (cells_for (length r.writes)) mark v.logged wants.laid few;
     }
 
 along : (v : RingState) (r : RedoRecord) (p : State) (len : ℕ) → Wants v r → (IsOverfull v r → ⊥) → image_words v.sizes ≤ len → FitsMedium v p
     → AfterEachCall (EveryImage len (HeadsHold v.sizes v.logged (next_head v) r p)) p (append_calls v.sizes (next_head v) r)
-along v r p len wants room long fits = (append_law v.sizes v.logged v.released (next_head v) r p len long fits (can_append v r (settled_mark p) wants room)).0
+along v r p len wants room long fits = append_images v.sizes v.logged v.released (next_head v) r p len long fits (can_append v r (settled_mark p) wants room)
 
 -- not Full, so there is room
 roomy : (v : RingState) (r : RedoRecord) (res : Result (Unit {0}) RingFault) → IsErrOf res (full_for v r) ↔ IsOverfull v r → (res ≡ Err (full_for v r) → ⊥) → IsOverfull v r → ⊥
@@ -67,7 +66,8 @@ heads_kept v r (Err Device) s t wants long made full fits =
     made_keep _ made (λ told. along v r (state_now s) s.len wants (roomy v r (Err Device) full (λ is. absurd (search rules))) long (fits told))
 heads_kept v r (Err (Full used need)) s t wants long made full fits =
     subst (λ (u : Sight). AtEveryMoment (HeadsHold v.sizes v.logged (next_head v) r (state_now s)) s u) (sym made)
-    (every_moment_here _ (λ told. record { each = λ image is. heads_at_rest v.sizes v.logged v.released (next_head v) r (state_now s) s.len long (fits told) image is }))
+    (every_moment_here _ (λ told. (appending_law v.sizes v.logged (next_head v) r (state_now s) (state_now s) wants.cell wants.encodable wants.home (fits told).mark
+    (appending_here v.sizes v.logged v.released (next_head v) r (state_now s) (fits told))).0 s.len long))
 
 pub ends_appended : (v : RingState) (r : RedoRecord) (res : Result (Unit {0}) RingFault) (s t : Sight) → Wants v r → image_words v.sizes ≤ s.len
     → AppendCalls res (append_calls v.sizes (next_head v) r) s t → IsErrOf res (full_for v r) ↔ IsOverfull v r
@@ -75,5 +75,5 @@ pub ends_appended : (v : RingState) (r : RedoRecord) (res : Result (Unit {0}) Ri
 ends_appended v r (Ok done) s t wants long made full = λ told fits.
     let can = can_append v r (settled_mark (state_now s)) wants (roomy v r (Ok done) full (λ is. absurd (search rules))) in
     subst (Appended v.sizes v.logged v.released (next_head v) r (state_now s)) (sym (made_here made told))
-    (append_law v.sizes v.logged v.released (next_head v) r (state_now s) s.len long fits can).2
+    (append_law v.sizes v.logged v.released (next_head v) r (state_now s) fits can).1
 ends_appended v r (Err fault) s t wants long made full = tt

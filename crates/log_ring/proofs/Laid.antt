@@ -1,17 +1,142 @@
--- Records that follow one another round a ring: the cells behind them are free, and what stays where one is added or the
--- oldest are taken away.
-use Rattle.std.proofs.Common.{◌≡◌, ◌⊎◌, inl, inr, ℕ, suc, ◌+◌, ◌%◌, ◌<◌, ◌≤◌, Bool, true, false, List, [], ◌∷◌, ◌++◌, length, refl, sym, ap, ◌∙◌, subst, arith, rules, All, Some, nat_lt, if◌then◌else◌}
-use Rattle.std.specs.List.{filter, slice_get}
-use Rattle.std.proofs.Math.Nat.{mod-add-mod}
-use Rattle.std.proofs.lemmas.List.Elements.{All-nil, All-cons, All-append}
+-- Records that follow one another round a ring, up to the next slot.
+use Rattle.std.proofs.Common.{◌≡◌, ◌⊎◌, inl, inr, ℕ, suc, ◌+◌, ◌%◌, ◌<◌, ◌≤◌, max, Bool, true, false, List, [], ◌∷◌, ◌++◌, length, refl, sym, ap, ◌∙◌, subst, arith, rules, All, Some, nat_lt}
+use Rattle.std.specs.List.{filter, slice_get, AllPairs}
+use Rattle.std.proofs.lemmas.List.Elements.{All-nil, All-cons, All-append, All-filter}
+use Rattle.std.proofs.lemmas.List.Kept.{AllPairs-filter}
+use Rattle.std.proofs.lemmas.List.Quantifiers.{all_pairs_push}
 use Rattle.std.proofs.lemmas.List.Sums.{sum_by-append}
-use Rattle.redo_record.specs.Fits.{Logged, cells_used}
-use Rattle.redo_record.proofs.CellPlaces.{wrapped, steps_same}
-use Rattle.redo_record.proofs.RingRoom.{used_more}
-use Rattle.log_ring.specs.Laid.{AreLaid}
+use Rattle.dude_base.specs.declared.sizes.Sizes.{Sizes}
+use Rattle.pmem_trait.specs.Words.{State}
+use Rattle.redo_record.specs.Fits.{Logged, AreFree, FollowFrom, FitsRing, cells_used, settled_mark}
+use Rattle.redo_record.specs.RingLaws.{slot_after}
+use Rattle.redo_record.proofs.CellPlaces.{wrapped, steps_more}
+use Rattle.redo_record.proofs.RingRoom.{used_more, room_law, following_law, release_law}
+use Rattle.log_ring.specs.Laid.{AreLaid, oldest_slot}
 
--- the way from the oldest head to the next place is what the records take
-pub used_is : (c next first used d : ℕ) → first < c → 1 ≤ used → used ≤ c → (first + used) % c ≡ next
+-- the cells of records one behind another
+used-append : (ls ms : List Logged) → cells_used (ls ++ ms) ≡ cells_used ls + cells_used ms
+used-append ls ms = sum_by-append (λ (l : Logged). l.cells) ls ms
+
+used-one : (l : Logged) → cells_used (l ∷ []) ≡ l.cells
+used-one l = used_more l [] ∙ omega arith
+
+-- the next cells are free
+pub laid_free : (s : Sizes) (next n mark : ℕ) (logged : List Logged) → AreLaid s next logged → cells_used logged + n ≤ s.cells → AreFree s mark next n logged
+laid_free s next n mark logged laid room =
+    subst (λ (slot : ℕ). AreFree s mark slot n logged) laid.ends (room_law s (oldest_slot next logged) n mark logged laid.oldest laid.follow room)
+
+-- there are no more records than cells
+pub laid_few : (ls : List Logged) → All (λ l. 1 ≤ l.cells) ls → length ls ≤ cells_used ls
+laid_few [] some = omega arith
+laid_few (l ∷ ls) some =
+    let one : 1 ≤ l.cells = some 0 l (omega arith) in
+    let rest = laid_few ls (λ k d lt. some (suc k) d (omega arith)) in
+    omega (arith, used_more l ls)
+
+-- One more record in the next slot.
+module _ (s : Sizes) (next : ℕ) (l : Logged) (first : l.first ≡ next) (below : next < s.cells) where
+  oldest-push : (ls : List Logged) (last : ℕ) → oldest_slot last (ls ++ l ∷ []) ≡ oldest_slot next ls
+  oldest-push [] last = first
+  oldest-push (k ∷ ls) last = refl
+
+  pub laid_more : (ls : List Logged) → 1 ≤ l.cells → cells_used ls + l.cells ≤ s.cells → All (λ k. k.number < l.number) ls
+      → AreLaid s next ls → AreLaid s (slot_after s next l.cells) (ls ++ l ∷ [])
+  laid_more ls some few newest laid =
+      let oldest = oldest-push ls (slot_after s next l.cells) in
+      let used : cells_used (ls ++ l ∷ []) ≡ cells_used ls + l.cells = used-append ls (l ∷ []) ∙ ap (λ n. cells_used ls + n) (used-one l) in
+      record {
+        some = All-append (λ (k : Logged). 1 ≤ k.cells) ls (l ∷ []) laid.some (All-cons (λ (k : Logged). 1 ≤ k.cells) l [] some (All-nil (λ (k : Logged). 1 ≤ k.cells)));
+        rising = all_pairs_push (λ (k m : Logged). k.number < m.number) ls l laid.rising newest;
+        oldest = subst (λ (slot : ℕ). slot < s.cells) (sym oldest) laid.oldest;
+        follow = subst (λ (slot : ℕ). FollowFrom s slot (ls ++ l ∷ [])) (sym oldest) ((following_law s (oldest_slot next ls) laid.oldest).0 ls l laid.follow (first ∙ sym laid.ends));
+        ends =
+            ap (λ (slot : ℕ). (slot + cells_used (ls ++ l ∷ [])) % s.cells) oldest
+            ∙ (ap (λ (n : ℕ). (oldest_slot next ls + n) % s.cells) used
+            ∙ (sym (steps_more s.cells (oldest_slot next ls) (cells_used ls) l.cells) ∙ ap (λ (slot : ℕ). (slot + l.cells) % s.cells) laid.ends));
+        few = omega (arith, used);
+      }
+
+-- Rising records are those up to a number, and then those over it.
+record Parts (n : ℕ) (ls : List Logged) : Type 0 where
+  gone : List Logged
+  old : All (λ l. l.number ≤ n) gone
+  whole : ls ≡ gone ++ filter (λ l. nat_lt n l.number) ls
+
+-- where all pass, a filter changes nothing
+filter_all : (p : Logged → Bool) (ls : List Logged) → All (λ l. p l ≡ true) ls → filter p ls ≡ ls
+filter_all p [] all = refl
+filter_all p (l ∷ ls) all = rw (all 0 l (omega arith)) (ap (λ (r : List Logged). l ∷ r) (filter_all p ls (λ k d lt. all (suc k) d (omega arith))))
+
+parts : (n : ℕ) (ls : List Logged) → AllPairs (λ l m. l.number < m.number) ls → Parts n ls
+parts n [] rising = record { gone = []; old = All-nil (λ (l : Logged). l.number ≤ n); whole = refl }
+parts n (l ∷ ls) rising = by (parts n ls (λ i j d lt inside. rising (suc i) (suc j) d (omega arith) (omega arith))) (nat_lt n l.number) refl
+  where
+    by : Parts n ls → (b : Bool) → nat_lt n l.number ≡ b → Parts n (l ∷ ls)
+    by rest true over = record {
+      gone = [];
+      old = All-nil (λ (l : Logged). l.number ≤ n);
+      whole = sym (filter_all (λ (m : Logged). nat_lt n m.number) (l ∷ ls) (All-cons (λ (m : Logged). nat_lt n m.number ≡ true) l ls over later));
+    }
+      where
+        later : All (λ (m : Logged). nat_lt n m.number ≡ true) ls
+        later k d lt = let more = rising 0 (suc k) d (omega arith) (omega arith) in grind (arith, over, more)
+    by rest false under =
+        let old : l.number ≤ n = grind (arith, under) in
+        record {
+          gone = l ∷ rest.gone;
+          old = All-cons (λ (m : Logged). m.number ≤ n) l rest.gone old rest.old;
+          whole = ap (λ (r : List Logged). l ∷ r) rest.whole ∙ rw under refl;
+        }
+
+-- Without the records up to n.
+pub laid_less : (s : Sizes) (next n : ℕ) (ls : List Logged) → next < s.cells → AreLaid s next ls → AreLaid s next (filter (λ l. nat_lt n l.number) ls)
+laid_less s next n ls inside laid = record {
+  some = All-filter (λ (l : Logged). nat_lt n l.number) (λ (l : Logged). 1 ≤ l.cells) ls laid.some;
+  rising = AllPairs-filter (λ (l m : Logged). l.number < m.number) (λ (l : Logged). nat_lt n l.number) ls laid.rising;
+  oldest = below kept follow;
+  follow = subst (λ (slot : ℕ). FollowFrom s slot kept) (sym (start_is kept follow ends)) follow;
+  ends = ap (λ (slot : ℕ). (slot + cells_used kept) % s.cells) (start_is kept follow ends) ∙ ends;
+  few = (let few = laid.few in omega (arith, used));
+}
+  where
+    kept : List Logged
+    kept = filter (λ l. nat_lt n l.number) ls
+
+    split : Parts n ls
+    split = parts n ls laid.rising
+
+    used : cells_used ls ≡ cells_used split.gone + cells_used kept
+    used = ap cells_used split.whole ∙ used-append split.gone kept
+
+    start : ℕ
+    start = slot_after s (oldest_slot next ls) (cells_used split.gone)
+
+    follow : FollowFrom s start kept
+    follow = (following_law s (oldest_slot next ls) laid.oldest).1 split.gone kept (subst (λ (l : List Logged). FollowFrom s (oldest_slot next ls) l) split.whole laid.follow)
+
+    ends : slot_after s start (cells_used kept) ≡ next
+    ends = steps_more s.cells (oldest_slot next ls) (cells_used split.gone) (cells_used kept) ∙ (ap (λ (n : ℕ). (oldest_slot next ls + n) % s.cells) (sym used) ∙ laid.ends)
+
+    start_is : (ks : List Logged) → FollowFrom s start ks → slot_after s start (cells_used ks) ≡ next → oldest_slot next ks ≡ start
+    start_is [] from at = sym at ∙ again
+      where
+        again : (start + 0) % s.cells ≡ start
+        again = steps_more s.cells (oldest_slot next ls) (cells_used split.gone) 0 ∙ ap (λ (x : ℕ). (oldest_slot next ls + x) % s.cells) (omega arith)
+    start_is (k ∷ ks) from at = from.0
+
+    below : (ks : List Logged) → FollowFrom s start ks → oldest_slot next ks < s.cells
+    below [] from = inside
+    below (k ∷ ks) from = let at : k.first ≡ start = from.0 in omega arith
+
+-- The ring still fits then.
+pub fits_less : (s : Sizes) (ring next n : ℕ) (ls : List Logged) (released : ℕ) (p : State) → AreLaid s next ls → FitsRing s ring ls released p → n ≤ settled_mark p
+    → FitsRing s ring (filter (λ l. nat_lt n l.number) ls) (max released n) p
+fits_less s ring next n ls released p laid fits upto =
+    let split = parts n ls laid.rising in
+    release_law s ring split.gone (filter (λ l. nat_lt n l.number) ls) released n p (subst (λ (l : List Logged). FitsRing s ring l released p) split.whole fits) split.old upto
+
+-- The way from the oldest head to the next slot is what the records take.
+used_is : (c next first used d : ℕ) → first < c → 1 ≤ used → used ≤ c → (first + used) % c ≡ next
     → (first < next → first + d ≡ next) → (next ≤ first → first + d ≡ c + next) → d ≡ used
 used_is c next first used d below some few ends up around = by (wrapped c first used below few)
   where
@@ -19,88 +144,10 @@ used_is c next first used d below some few ends up around = by (wrapped c first 
     by (inl u) = let is = u.1 in let later : first < next = omega arith in omega (arith, up later)
     by (inr u) = let is = u.1 in let before : next ≤ first = omega arith in omega (arith, around before)
 
--- a cell of a record isn't one of the next n cells
-abbrev pub IsApart : ℕ → ℕ → ℕ → Logged → Type 0
-IsApart c next n l = (i k : ℕ) → i < l.cells → k < n → (l.first + i) % c ≡ (next + k) % c → ⊥
-
-pub laid_free : (c next n : ℕ) (ls : List Logged) → AreLaid c next ls → cells_used ls + n ≤ c → All (IsApart c next n) ls
-laid_free c next n [] laid few = All-nil (IsApart c next n)
-laid_free c next n (l ∷ ls) laid few = All-cons (IsApart c next n) l ls apart (laid_free c next n ls laid.1 (omega (arith, used_more l ls)))
-  where
-    apart : IsApart c next n l
-    apart i k lt below same =
-        let on : (next + k) % c ≡ (l.first + (l.cells + cells_used ls + k)) % c =
-        ap (λ (x : ℕ). (x + k) % c) (sym laid.0.ends) ∙ mod-add-mod (l.first + (l.cells + cells_used ls)) c k ∙ ap (λ (x : ℕ). x % c) (omega arith) in
-        let is : i ≡ l.cells + cells_used ls + k = steps_same c l.first i (l.cells + cells_used ls + k) laid.0.place (omega (arith, laid.0.few)) (omega (arith, used_more l ls)) (same ∙ on) in
-        omega arith
-
--- one more record
-pub laid_more : (c next cells number : ℕ) (ls : List Logged) → next < c → 1 ≤ cells → cells_used ls + cells ≤ c → All (λ l. l.number < number) ls
-    → AreLaid c next ls → AreLaid c ((next + cells) % c) (ls ++ record { number = number; first = next; cells = cells } ∷ [])
-laid_more c next cells number [] below some few newest laid = (
-  record {
-    place = below;
-    some = some;
-    ends = ap (λ (x : ℕ). x % c) (omega arith);
-    few = omega arith;
-    lower = All-nil (λ (m : Logged). number < m.number);
-  },
-  tt,
-)
-laid_more c next cells number (l ∷ ls) below some few newest laid = (
-  record {
-    place = laid.0.place;
-    some = laid.0.some;
-    ends = ap (λ (x : ℕ). x % c) (omega (arith, more, used_more l ls)) ∙ sym (mod-add-mod (l.first + (l.cells + cells_used ls)) c cells) ∙ ap (λ (x : ℕ). (x + cells) % c) laid.0.ends;
-    few = omega (arith, more, used_more l ls);
-    lower = All-append (λ (m : Logged). l.number < m.number) ls (last ∷ []) laid.0.lower
-        (All-cons (λ (m : Logged). l.number < m.number) last [] (newest 0 l (omega arith)) (All-nil (λ (m : Logged). l.number < m.number)));
-  },
-  laid_more c next cells number ls below some (omega (arith, used_more l ls)) (λ k d lt. newest (suc k) d (omega arith)) laid.1,
-)
-  where
-    last : Logged
-    last = record { number = number; first = next; cells = cells }
-
-    more : cells_used (ls ++ last ∷ []) ≡ cells_used ls + cells
-    more = sum_by-append (λ (l : Logged). l.cells) ls (last ∷ []) ∙ omega arith
-
--- there are no more records than cells
-pub laid_few : (c next : ℕ) (ls : List Logged) → AreLaid c next ls → (length ls ≤ cells_used ls) × (cells_used ls ≤ c)
-laid_few c next [] laid = (omega arith, omega arith)
-laid_few c next (l ∷ ls) laid =
-    let some = laid.0.some in
-    let few = laid.0.few in
-    let rest = laid_few c next ls laid.1 in
-    let count = rest.0 in
-    (omega (arith, used_more l ls), omega (arith, used_more l ls))
-
--- where all pass, a filter changes nothing
-pub filter_all : (p : Logged → Bool) (ls : List Logged) → All (λ l. p l ≡ true) ls → filter p ls ≡ ls
-filter_all p [] all = refl
-filter_all p (l ∷ ls) all = rw (all 0 l (omega arith)) (ap (λ (r : List Logged). l ∷ r) (filter_all p ls (λ k d lt. all (suc k) d (omega arith))))
-
--- without the records up to n
-pub laid_less : (c next n : ℕ) (ls : List Logged) → AreLaid c next ls → AreLaid c next (filter (λ l. nat_lt n l.number) ls)
-laid_less c next n [] laid = tt
-laid_less c next n (l ∷ ls) laid = by (laid_less c next n ls laid.1) (nat_lt n l.number) refl
-  where
-    by : AreLaid c next (filter (λ l. nat_lt n l.number) ls) → (b : Bool) → nat_lt n l.number ≡ b → AreLaid c next (if b then l ∷ filter (λ l. nat_lt n l.number) ls else filter (λ l. nat_lt n l.number) ls)
-    by rest true over =
-        let all : filter (λ (l : Logged). nat_lt n l.number) ls ≡ ls = filter_all (λ (l : Logged). nat_lt n l.number) ls (λ k d lt. later k d lt) in
-        subst (λ (r : List Logged). AreLaid c next (l ∷ r)) (sym all) laid
-      where
-        later : All (λ (m : Logged). nat_lt n m.number ≡ true) ls
-        later k d lt = let more = laid.0.lower k d lt in grind (arith, over, more)
-    by rest false under = rest
-
--- what the way from the oldest record's head to the next place is
-pub used_first : (c next d : ℕ) (ls : List Logged) (o : Logged) → slice_get ls 0 ≡ Some o → AreLaid c next ls
-    → (o.first < next → o.first + d ≡ next) → (next ≤ o.first → o.first + d ≡ c + next) → d ≡ cells_used ls
-used_first c next d [] o is laid up around = absurd (search rules)
-used_first c next d (l ∷ ls) o is laid up around =
+pub used_first : (s : Sizes) (next d : ℕ) (ls : List Logged) (o : Logged) → slice_get ls 0 ≡ Some o → AreLaid s next ls
+    → (o.first < next → o.first + d ≡ next) → (next ≤ o.first → o.first + d ≡ s.cells + next) → d ≡ cells_used ls
+used_first s next d [] o is laid up around = absurd (search rules)
+used_first s next d (l ∷ ls) o is laid up around =
     let same : l ≡ o = cc in
-    let some = laid.0.some in
-    subst (λ (n : ℕ). d ≡ n) (sym (used_more l ls))
-    (used_is c next l.first (l.cells + cells_used ls) d laid.0.place (omega arith) laid.0.few laid.0.ends
-    (rw same up) (rw same around))
+    let some : 1 ≤ l.cells = laid.some 0 l (omega arith) in
+    used_is s.cells next l.first (cells_used (l ∷ ls)) d laid.oldest (omega (arith, used_more l ls)) laid.few laid.ends (rw same up) (rw same around)

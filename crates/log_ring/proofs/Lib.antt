@@ -1,8 +1,6 @@
 pub mod AppendMakes
-pub mod HeadsAtRest
 pub mod Laid
-pub mod RingCalls
-pub mod Released
+pub mod RecordPairs
 pub mod RecordReads
 pub mod ScanReads
 pub mod ScanSteps

@@ -22,8 +22,9 @@ use Rattle.redo_record.specs.Cells.{IsCell, line_of}
 use Rattle.redo_record.specs.Record.{record_of}
 use Rattle.redo_record.specs.Images.{tag_of, word_in_image, IsComplete, IsNewHead}
 use Rattle.redo_record.specs.Damage.{IsDuplicateHead, IsLeastLine, IsUndamaged, IsDamagedAt}
-use Rattle.log_ring.specs.declared.found.Found.{Found}
-use Rattle.log_ring.specs.Scan.{IsOfHead, AreScanned}
+use Rattle.log_ring.specs.declared.scan_state.ScanState.{ScanState}
+use Rattle.redo_record.specs.Recovery.{HasRecord}
+use Rattle.log_ring.specs.Scan.{AreScanned}
 use Rattle.log_ring.specs.Scanning.{KnowsBelow}
 use Rattle.log_ring.proofs.ScanSteps.{one_cell, head_number}
 
@@ -35,7 +36,7 @@ keys_are_numbers (e ∷ es) each =
     let rest = keys_are_numbers es (λ i d lt. each (suc i) d (omega arith)) in
     cc
 
-module _ (s : Sizes) (above : ℕ) (image : List ℕ) (found : Found) (knows : KnowsBelow s above image (2 + s.rings * s.cells) found) where
+module _ (s : Sizes) (above : ℕ) (image : List ℕ) (found : ScanState) (knows : KnowsBelow s above image (2 + s.rings * s.cells) found) where
   -- every cell was looked at
   below : (cell : Cell) → IsCell s cell → line_of s cell < 2 + s.rings * s.cells
   below cell is_cell =
@@ -47,18 +48,18 @@ module _ (s : Sizes) (above : ℕ) (image : List ℕ) (found : Found) (knows : K
   whole : (cell : Cell) → IsNewHead s above image cell → IsComplete s image cell
   whole cell new = knows.complete cell (below cell new.cell) new
 
-  -- a second head is damage
-  pub damaged_second : (line : ℕ) → found.second ≡ Some line → IsDamagedAt s above image line
-  damaged_second line is = inr (
+  -- a duplicate head is damage
+  pub damaged_duplicate : (line : ℕ) → found.duplicate ≡ Some line → IsDamagedAt s above image line
+  damaged_duplicate line is = inr (
     (λ cell torn. torn.incomplete (whole cell torn.head)),
-    subst (λ (o : Option ℕ). MatchOption o ((cell : Cell) → line_of s cell < 2 + s.rings * s.cells → ¬ IsDuplicateHead s above image cell) (IsLeastLine s (IsDuplicateHead s above image))) is knows.second,
+    subst (λ (o : Option ℕ). MatchOption o ((cell : Cell) → line_of s cell < 2 + s.rings * s.cells → ¬ IsDuplicateHead s above image cell) (IsLeastLine s (IsDuplicateHead s above image))) is knows.duplicate,
   )
 
-  module _ (ordered : IsOrdered nat_cmp found.records) (none : found.second ≡ None) where
-    no_second : (cell : Cell) → ¬ IsDuplicateHead s above image cell
-    no_second cell second =
-        (subst (λ (o : Option ℕ). MatchOption o ((cell : Cell) → line_of s cell < 2 + s.rings * s.cells → ¬ IsDuplicateHead s above image cell) (IsLeastLine s (IsDuplicateHead s above image))) none knows.second)
-        cell (below cell second.head.cell) second
+  module _ (ordered : IsOrdered nat_cmp found.records) (none : found.duplicate ≡ None) where
+    no_duplicate : (cell : Cell) → ¬ IsDuplicateHead s above image cell
+    no_duplicate cell duplicate =
+        (subst (λ (o : Option ℕ). MatchOption o ((cell : Cell) → line_of s cell < 2 + s.rings * s.cells → ¬ IsDuplicateHead s above image cell) (IsLeastLine s (IsDuplicateHead s above image))) none knows.duplicate)
+        cell (below cell duplicate.head.cell) duplicate
 
     undamaged : IsUndamaged s above image
     undamaged = record {
@@ -69,8 +70,8 @@ module _ (s : Sizes) (above : ℕ) (image : List ℕ) (found : Found) (knows : K
         by : (head other : Cell) → IsNewHead s above image head → IsNewHead s above image other → number_of (tag_of s image head) ≡ number_of (tag_of s image other)
             → (line_of s head ≡ line_of s other) ⊎ ((line_of s head < line_of s other) ⊎ (line_of s other < line_of s head)) → head ≡ other
         by head other a b same (inl line) = one_cell s head other a.cell b.cell line
-        by head other a b same (inr (inl lt)) = absurd (no_second other (record { head = b; other = head; other_head = a; lower = lt; same_number = same }))
-        by head other a b same (inr (inr gt)) = absurd (no_second head (record { head = a; other = other; other_head = b; lower = gt; same_number = sym same }))
+        by head other a b same (inr (inl lt)) = absurd (no_duplicate other (record { head = b; other = head; other_head = a; lower = lt; same_number = same }))
+        by head other a b same (inr (inr gt)) = absurd (no_duplicate head (record { head = a; other = other; other_head = b; lower = gt; same_number = sym same }))
 
     -- the record at each place, and its head
     entry : (i : ℕ) (d : ℕ × RedoRecord) → i < length found.records.entries → get nat_cmp found.records (get_or found.records.entries i d).0 ≡ Some (get_or found.records.entries i d).1
@@ -79,8 +80,8 @@ module _ (s : Sizes) (above : ℕ) (image : List ℕ) (found : Found) (knows : K
     numbered : (i : ℕ) (d : ℕ × RedoRecord) → i < length found.records.entries → (get_or found.records.entries i d).1.number ≡ (get_or found.records.entries i d).0
     numbered i d lt = let from = knows.source _ _ (entry i d lt) in head_number s image from.0 _ from.2.cell from.3 ∙ from.4
 
-    logged : All (IsOfHead s above image) (values_of found.records.entries)
-    logged = All-map (IsOfHead s above image) (λ (e : ℕ × RedoRecord). e.1) found.records.entries
+    logged : All (HasRecord s above image) (values_of found.records.entries)
+    logged = All-map (HasRecord s above image) (λ (e : ℕ × RedoRecord). e.1) found.records.entries
         (λ i d lt. let from = knows.source _ _ (entry i d lt) in record { head = from.0; new = from.2; same = from.3 })
 
     rising : AllPairs (λ (r t : RedoRecord). r.number < t.number) (values_of found.records.entries)
@@ -93,7 +94,7 @@ module _ (s : Sizes) (above : ℕ) (image : List ℕ) (found : Found) (knows : K
         let last : get_or numbers j 0 ≡ (get_or (values_of found.records.entries) j d).number = get_or-map (λ (r : RedoRecord). r.number) (values_of found.records.entries) j d 0 (omega arith) in
         omega arith
 
-    every : (r : RedoRecord) → IsOfHead s above image r → Contains (values_of found.records.entries) r
+    every : (r : RedoRecord) → HasRecord s above image r → Contains (values_of found.records.entries) r
     every r is = by (get nat_cmp found.records (number_of (tag_of s image is.head))) refl (knows.held is.head (below is.head is.new.cell) is.new)
       where
         by : (o : Option RedoRecord) → get nat_cmp found.records (number_of (tag_of s image is.head)) ≡ o → IsSome o → Contains (values_of found.records.entries) r

@@ -16,7 +16,7 @@ use Rattle.redo_record.specs.Images.{tag_of, word_in_image, IsComplete, IsNewHea
 use Rattle.redo_record.specs.Damage.{IsTorn, IsDuplicateHead, IsLeastLine}
 use Rattle.redo_record.proofs.CellPlaces.{first_cell}
 use Rattle.redo_record.proofs.RingHeads.{cell_is}
-use Rattle.log_ring.specs.declared.found.Found.{Found}
+use Rattle.log_ring.specs.declared.scan_state.ScanState.{ScanState}
 use Rattle.log_ring.specs.Scanning.{TakesRecord, KnowsBelow}
 
 -- a cell of a lower ring stands at a lower line
@@ -52,26 +52,26 @@ module _ (s : Sizes) (above : ℕ) (image : List ℕ) (cell : Cell) (is_cell : I
       (λ (apart : line_of s other ≢ line_of s cell). let lower : line_of s other < line_of s cell = omega (arith, apart) in inl lower)
       (cases_eq (line_of s other) (line_of s cell))
 
-  -- no second head, or the first of them: a line more
-  second_more : (o : Option ℕ) → ((other : Cell) → line_of s other < line_of s cell + 1 → IsDuplicateHead s above image other → line_of s other < line_of s cell)
+  -- no duplicate head, or the first of them: a line more
+  duplicate_more : (o : Option ℕ) → ((other : Cell) → line_of s other < line_of s cell + 1 → IsDuplicateHead s above image other → line_of s other < line_of s cell)
       → MatchOption o ((other : Cell) → line_of s other < line_of s cell → ¬ IsDuplicateHead s above image other) (IsLeastLine s (IsDuplicateHead s above image))
       → MatchOption o ((other : Cell) → line_of s other < line_of s cell + 1 → ¬ IsDuplicateHead s above image other) (IsLeastLine s (IsDuplicateHead s above image))
-  second_more None only none = λ other lt is. none other (only other lt is) is
-  second_more (Some l) only least = least
+  duplicate_more None only none = λ other lt is. none other (only other lt is) is
+  duplicate_more (Some l) only least = least
 
   -- a cell that is no head
-  pub knows_skip : (found : Found) → ¬ IsNewHead s above image cell → KnowsBelow s above image (line_of s cell) found → KnowsBelow s above image (line_of s cell + 1) found
+  pub knows_skip : (found : ScanState) → ¬ IsNewHead s above image cell → KnowsBelow s above image (line_of s cell) found → KnowsBelow s above image (line_of s cell + 1) found
   knows_skip found no_head knows = record {
     complete = λ other lt new. knows.complete other (before other lt new) new;
     held = λ other lt new. knows.held other (before other lt new) new;
     source = λ n r is. let from = knows.source n r is in let lt = from.1 in (from.0, omega arith, from.2, from.3, from.4);
-    second = second_more found.second (λ other lt is. before other lt is.head) knows.second;
+    duplicate = duplicate_more found.duplicate (λ other lt is. before other lt is.head) knows.duplicate;
   }
     where
       before : (other : Cell) → line_of s other < line_of s cell + 1 → IsNewHead s above image other → line_of s other < line_of s cell
       before other lt new = ⊎_elim (λ lower. lower) (λ same. absurd (no_head (subst (IsNewHead s above image) same new))) (before_or_here other lt new)
 
-  module _ (r : RedoRecord) (old new : Found) (head : IsNewHead s above image cell) (whole : IsComplete s image cell) (same : record_of (word_in_image s image cell) ≡ r)
+  module _ (r : RedoRecord) (old new : ScanState) (head : IsNewHead s above image cell) (whole : IsComplete s image cell) (same : record_of (word_in_image s image cell) ≡ r)
       (knows : KnowsBelow s above image (line_of s cell) old) where
     number_is : r.number ≡ number_of (tag_of s image cell)
     number_is = head_number s image cell r is_cell same
@@ -80,7 +80,7 @@ module _ (s : Sizes) (above : ℕ) (image : List ℕ) (cell : Cell) (is_cell : I
     complete_more other lt is = ⊎_elim (λ lower. knows.complete other lower is) (λ here. subst (IsComplete s image) (sym here) whole) (before_or_here other lt is)
 
     -- the first of its number
-    module _ (none : get nat_cmp old.records r.number ≡ None) (updates : Updates nat_cmp old.records new.records r.number (Some r)) (second : new.second ≡ old.second) where
+    module _ (none : get nat_cmp old.records r.number ≡ None) (updates : Updates nat_cmp old.records new.records r.number (Some r)) (duplicate : new.duplicate ≡ old.duplicate) where
       held_first : (other : Cell) → line_of s other < line_of s cell + 1 → IsNewHead s above image other → IsSome (get nat_cmp new.records (number_of (tag_of s image other)))
       held_first other lt is = ⊎_elim
           (λ (key : number_of (tag_of s image other) ≡ r.number). ap (λ k. is_some (get nat_cmp new.records k)) key ∙ ap is_some updates.1)
@@ -103,8 +103,8 @@ module _ (s : Sizes) (above : ℕ) (image : List ℕ) (cell : Cell) (is_cell : I
           (from.0, omega arith, from.2, from.3, from.4))
           (cases_eq n r.number)
 
-      no_second : (other : Cell) → line_of s other < line_of s cell + 1 → IsDuplicateHead s above image other → line_of s other < line_of s cell
-      no_second other lt is = ⊎_elim (λ lower. lower)
+      no_duplicate : (other : Cell) → line_of s other < line_of s cell + 1 → IsDuplicateHead s above image other → line_of s other < line_of s cell
+      no_duplicate other lt is = ⊎_elim (λ lower. lower)
           (λ (here : other ≡ cell).
           let lines : line_of s other ≡ line_of s cell = ap (line_of s) here in
           let lower = is.lower in
@@ -117,14 +117,14 @@ module _ (s : Sizes) (above : ℕ) (image : List ℕ) (cell : Cell) (is_cell : I
         complete = complete_more;
         held = held_first;
         source = source_first;
-        second = subst (λ (o : Option ℕ). MatchOption o ((other : Cell) → line_of s other < line_of s cell + 1 → ¬ IsDuplicateHead s above image other) (IsLeastLine s (IsDuplicateHead s above image))) (sym second)
-            (second_more old.second no_second knows.second);
+        duplicate = subst (λ (o : Option ℕ). MatchOption o ((other : Cell) → line_of s other < line_of s cell + 1 → ¬ IsDuplicateHead s above image other) (IsLeastLine s (IsDuplicateHead s above image))) (sym duplicate)
+            (duplicate_more old.duplicate no_duplicate knows.duplicate);
       }
 
     -- a number that has a head at a lower line
-    module _ (first : RedoRecord) (there : get nat_cmp old.records r.number ≡ Some first) (records : new.records ≡ old.records) (second : new.second ≡ option_or old.second (Some (line_of s cell))) where
-      here_second : IsDuplicateHead s above image cell
-      here_second =
+    module _ (first : RedoRecord) (there : get nat_cmp old.records r.number ≡ Some first) (records : new.records ≡ old.records) (duplicate : new.duplicate ≡ option_or old.duplicate (Some (line_of s cell))) where
+      here_duplicate : IsDuplicateHead s above image cell
+      here_duplicate =
           let from = knows.source r.number first there in
           record { head = head; other = from.0; other_head = from.2; lower = from.1; same_number = from.4 ∙ number_is }
 
@@ -134,14 +134,14 @@ module _ (s : Sizes) (above : ℕ) (image : List ℕ) (cell : Cell) (is_cell : I
           (λ here. ap (λ (c : Cell). is_some (get nat_cmp old.records (number_of (tag_of s image c)))) here ∙ (ap (λ k. is_some (get nat_cmp old.records k)) (sym number_is) ∙ ap is_some there))
           (before_or_here other lt is)
 
-      second_again : (o p : Option ℕ) → p ≡ option_or o (Some (line_of s cell))
+      duplicate_again : (o p : Option ℕ) → p ≡ option_or o (Some (line_of s cell))
           → MatchOption o ((other : Cell) → line_of s other < line_of s cell → ¬ IsDuplicateHead s above image other) (IsLeastLine s (IsDuplicateHead s above image))
           → MatchOption p ((other : Cell) → line_of s other < line_of s cell + 1 → ¬ IsDuplicateHead s above image other) (IsLeastLine s (IsDuplicateHead s above image))
-      second_again o p is was = subst (λ (q : Option ℕ). MatchOption q ((other : Cell) → line_of s other < line_of s cell + 1 → ¬ IsDuplicateHead s above image other) (IsLeastLine s (IsDuplicateHead s above image))) (sym is) (by o was)
+      duplicate_again o p is was = subst (λ (q : Option ℕ). MatchOption q ((other : Cell) → line_of s other < line_of s cell + 1 → ¬ IsDuplicateHead s above image other) (IsLeastLine s (IsDuplicateHead s above image))) (sym is) (by o was)
         where
           by : (o : Option ℕ) → MatchOption o ((other : Cell) → line_of s other < line_of s cell → ¬ IsDuplicateHead s above image other) (IsLeastLine s (IsDuplicateHead s above image))
               → MatchOption (option_or o (Some (line_of s cell))) ((other : Cell) → line_of s other < line_of s cell + 1 → ¬ IsDuplicateHead s above image other) (IsLeastLine s (IsDuplicateHead s above image))
-          by None none = (cell, here_second, refl, none)
+          by None none = (cell, here_duplicate, refl, none)
           by (Some l) least = least
 
       knows_again : KnowsBelow s above image (line_of s cell + 1) new
@@ -149,7 +149,7 @@ module _ (s : Sizes) (above : ℕ) (image : List ℕ) (cell : Cell) (is_cell : I
         complete = complete_more;
         held = held_again;
         source = λ n q is. let from = knows.source n q (ap (λ m. get nat_cmp m n) (sym records) ∙ is) in let lt = from.1 in (from.0, omega arith, from.2, from.3, from.4);
-        second = second_again old.second new.second second knows.second;
+        duplicate = duplicate_again old.duplicate new.duplicate duplicate knows.duplicate;
       }
 
     -- a head whose record was taken in
@@ -157,20 +157,20 @@ module _ (s : Sizes) (above : ℕ) (image : List ℕ) (cell : Cell) (is_cell : I
     knows_more = by (get nat_cmp old.records r.number) refl
       where
         by : (o : Option RedoRecord) → get nat_cmp old.records r.number ≡ o
-            → MatchOption o (Updates nat_cmp old.records new.records r.number (Some r) × (new.second ≡ old.second)) (λ first. (new.records ≡ old.records) × (new.second ≡ option_or old.second (Some (line_of s cell))))
+            → MatchOption o (Updates nat_cmp old.records new.records r.number (Some r) × (new.duplicate ≡ old.duplicate)) (λ first. (new.records ≡ old.records) × (new.duplicate ≡ option_or old.duplicate (Some (line_of s cell))))
             → KnowsBelow s above image (line_of s cell + 1) new
         by None none takes = knows_first none takes.0 takes.1
         by (Some first) there takes = knows_again first there takes.0 takes.1
 
 -- nothing was looked at
-pub knows_nothing : (s : Sizes) (above : ℕ) (image : List ℕ) (line : ℕ) (found : Found) → line ≤ 2 → found.records.entries ≡ [] → found.second ≡ None → KnowsBelow s above image line found
+pub knows_nothing : (s : Sizes) (above : ℕ) (image : List ℕ) (line : ℕ) (found : ScanState) → line ≤ 2 → found.records.entries ≡ [] → found.duplicate ≡ None → KnowsBelow s above image line found
 knows_nothing s above image line found low empty none = record {
   complete = λ cell lt new. absurd (omega arith);
   held = λ cell lt new. absurd (omega arith);
   source = λ n r is. absurd (true≢false (sym (ap is_some is) ∙ ap (λ (es : List (ℕ × RedoRecord)). is_some (lookup (is_at (nat_cmp n)) es)) empty));
-  second = subst (λ (o : Option ℕ). MatchOption o ((cell : Cell) → line_of s cell < line → ¬ IsDuplicateHead s above image cell) (IsLeastLine s (IsDuplicateHead s above image))) (sym none) (λ cell lt is. omega arith);
+  duplicate = subst (λ (o : Option ℕ). MatchOption o ((cell : Cell) → line_of s cell < line → ¬ IsDuplicateHead s above image cell) (IsLeastLine s (IsDuplicateHead s above image))) (sym none) (λ cell lt is. omega arith);
 }
 
 -- a head without its record, behind cells that are known, is the first
-pub torn_first : (s : Sizes) (above : ℕ) (image : List ℕ) (cell : Cell) (found : Found) → IsTorn s above image cell → KnowsBelow s above image (line_of s cell) found → IsLeastLine s (IsTorn s above image) (line_of s cell)
+pub torn_first : (s : Sizes) (above : ℕ) (image : List ℕ) (cell : Cell) (found : ScanState) → IsTorn s above image cell → KnowsBelow s above image (line_of s cell) found → IsLeastLine s (IsTorn s above image) (line_of s cell)
 torn_first s above image cell found torn knows = (cell, torn, refl, λ before lt is. is.incomplete (knows.complete before lt is.head))

@@ -9,7 +9,7 @@ use Rattle.log_ring.specs.Ring.{RingState}
 use Rattle.log_ring.specs.declared.ring_fault.RingFault.{RingFault}
 use Rattle.log_ring.specs.declared.ring_fault.RingFault.TheVariants.{Full, Device}
 
--- At Ok exactly these calls were made; at Device a front of them, whose last one failed; at Full none.
+-- At Ok exactly these calls were made; at Device a prefix of them, whose last one failed; at Full none.
 abbrev pub AppendCalls : Result (Unit {0}) RingFault → List Call → Sight → Sight → Type 0
 AppendCalls (Ok done) calls s t = CallsMade calls true s t
 AppendCalls (Err Device) calls s t = CallsMade calls false s t

@@ -1,5 +1,5 @@
 -- What contracts see of a ring.
-use Rattle.std.specs.Prelude.{ℕ, ◌+◌, ◌%◌, ◌<◌, max, nat_lt, List, [], ◌∷◌, ◌++◌, length}
+use Rattle.std.specs.Prelude.{ℕ, ◌<◌, max, nat_lt, List, [], ◌∷◌, ◌++◌, length}
 use Rattle.std.specs.List.{filter}
 use Rattle.dude_base.specs.declared.limits.TheConstants.{MARK}
 use Rattle.dude_base.specs.declared.sizes.Sizes.{Sizes}
@@ -9,8 +9,10 @@ use Rattle.redo_record.specs.Tags.{IsHeadOver}
 use Rattle.dude_base.specs.Image.{Cell, cell_at, cell_start}
 use Rattle.redo_record.specs.Record.{cells_for}
 use Rattle.redo_record.specs.Fits.{Logged, FitsRing, settled_mark}
+use Rattle.redo_record.specs.RingLaws.{slot_after}
+use Rattle.redo_record.specs.AppendLaw.{logged_as}
 
--- A ring: the sizes of its image, its number among the rings, its records, the oldest first, the place where the next
+-- A ring: the sizes of its image, its number among the rings, its records, the oldest first, the slot in which the next
 -- one's head will stand, and the greatest number released.
 pub record RingState : Type 0 where
   pub sizes : Sizes
@@ -27,16 +29,12 @@ next_head v = cell_at v.ring v.next
 abbrev pub FitsMedium : RingState → State → Type 0
 FitsMedium v p = FitsRing v.sizes v.ring v.logged v.released p
 
--- the ring with a record of this number and so many cells behind its others
-abbrev pub with_entry : ℕ → ℕ → RingState → RingState
-with_entry number cells v = record v {
-  logged = v.logged ++ record { number = number; first = v.next; cells = cells } ∷ [];
-  next = (v.next + cells) % v.sizes.cells;
-}
-
 -- the ring with this record behind its others
 abbrev pub with_record : RedoRecord → RingState → RingState
-with_record r v = with_entry r.number (cells_for (length r.writes)) v
+with_record r v = record v {
+  logged = v.logged ++ logged_as (next_head v) r ∷ [];
+  next = slot_after v.sizes v.next (cells_for (length r.writes));
+}
 
 -- the ring with no record numbered up to n
 abbrev pub released_to : ℕ → RingState → RingState
@@ -45,4 +43,4 @@ released_to n v = record v { logged = filter (λ l. nat_lt n l.number) v.logged;
 -- The mark is settled, and a crash leaves no head over it in this ring.
 pub record HasNoNewHead (s : Sizes) (ring : ℕ) (p : State) : Type 0 where
   pub mark : IsSettledWord (p.word MARK)
-  pub none : (place tag : ℕ) → place < s.cells → MayHold (p.word (cell_start s (cell_at ring place))) tag → IsHeadOver (settled_mark p) tag → ⊥
+  pub none : (slot tag : ℕ) → slot < s.cells → MayHold (p.word (cell_start s (cell_at ring slot))) tag → IsHeadOver (settled_mark p) tag → ⊥

@@ -1,29 +1,21 @@
 -- What a scan of the rings of an image gives.
-use Rattle.std.specs.Prelude.{◌≡◌, ℕ, ◌<◌, true, false, List, All, AllPairs, Result, Ok, Err}
+use Rattle.std.specs.Prelude.{ℕ, ◌<◌, true, false, List, All, AllPairs, Result, Ok, Err}
 use Rattle.std.specs.List.{Contains}
 use Rattle.dude_base.specs.declared.sizes.Sizes.{Sizes}
 use Rattle.dude_base.specs.Records.{RedoRecord}
 use Rattle.pmem_trait.specs.Sights.{Sight}
 use Rattle.pmem_trait.specs.Reads.{OnlyReads}
-use Rattle.dude_base.specs.Image.{Cell}
-use Rattle.redo_record.specs.Record.{record_of}
-use Rattle.redo_record.specs.Images.{word_in_image, IsNewHead}
 use Rattle.redo_record.specs.Damage.{IsUndamaged}
+use Rattle.redo_record.specs.Recovery.{HasRecord}
 use Rattle.log_ring.specs.declared.scan_fault.ScanFault.{ScanFault}
 use Rattle.log_ring.specs.declared.scan_fault.ScanFault.TheVariants.{Damaged, Device, NoMemory}
-
--- The record is that of a head with a number over this one.
-pub record IsOfHead (s : Sizes) (above : ℕ) (image : List ℕ) (r : RedoRecord) : Type 0 where
-  pub head : Cell
-  pub new : IsNewHead s above image head
-  pub same : record_of (word_in_image s image head) ≡ r
 
 -- The log is undamaged, and these are the records of all its heads with numbers over this one, in rising order.
 pub record AreScanned (s : Sizes) (above : ℕ) (image : List ℕ) (found : List RedoRecord) : Type 0 where
   pub undamaged : IsUndamaged s above image
   pub rising : AllPairs (λ r t. r.number < t.number) found
-  pub logged : All (IsOfHead s above image) found
-  pub every : (r : RedoRecord) → IsOfHead s above image r → Contains found r
+  pub logged : All (HasRecord s above image) found
+  pub every : (r : RedoRecord) → HasRecord s above image r → Contains found r
 
 -- Reads alone were made. The last one failed at Device, and none otherwise.
 abbrev pub ReadsMade : {X : Type 0} → Result X ScanFault → Sight → Sight → Type 0

@@ -13,7 +13,7 @@ use Rattle.redo_record.specs.Record.{record_of}
 use Rattle.redo_record.specs.Encoding.{word_in_slice, IsRecordSlice}
 use Rattle.redo_record.specs.Images.{tag_of, word_in_image, IsComplete, IsNewHead}
 use Rattle.redo_record.specs.Damage.{IsDuplicateHead, IsLeastLine}
-use Rattle.log_ring.specs.declared.found.Found.{Found}
+use Rattle.log_ring.specs.declared.scan_state.ScanState.{ScanState}
 
 -- The slice of cells is just that of a record of home words, and gives it.
 pub record HoldsHome (s : Sizes) (words : List ℕ) : Type 0 where
@@ -34,19 +34,19 @@ abbrev pub IsSeen : Sizes → ℕ → List ℕ → Cell → Option RedoRecord �
 IsSeen s above image cell None = ¬ IsNewHead s above image cell
 IsSeen s above image cell (Some r) = IsNewHead s above image cell × IsRecordAt s image cell (Some r)
 
--- a record whose head stands at this line: it is the first of its number, or the line is one of a second head
-abbrev pub TakesRecord : ℕ → RedoRecord → Found → Found → Type 0
+-- a record whose head stands at this line: it is the first of its number, or the line is one of a duplicate head
+abbrev pub TakesRecord : ℕ → RedoRecord → ScanState → ScanState → Type 0
 TakesRecord line r old new = MatchOption (get nat_cmp old.records r.number)
-    (Updates nat_cmp old.records new.records r.number (Some r) × (new.second ≡ old.second))
-    (λ first. (new.records ≡ old.records) × (new.second ≡ option_or old.second (Some line)))
+    (Updates nat_cmp old.records new.records r.number (Some r) × (new.duplicate ≡ old.duplicate))
+    (λ first. (new.records ≡ old.records) × (new.duplicate ≡ option_or old.duplicate (Some line)))
 
 -- What the cells at lower lines than this one have: each head has its complete record, of each number the record of the
--- first head is kept, and the first line of a second head of a number.
-pub record KnowsBelow (s : Sizes) (above : ℕ) (image : List ℕ) (line : ℕ) (found : Found) : Type 0 where
+-- first head is kept, and the first line of a duplicate head of a number.
+pub record KnowsBelow (s : Sizes) (above : ℕ) (image : List ℕ) (line : ℕ) (found : ScanState) : Type 0 where
   pub complete : (cell : Cell) → line_of s cell < line → IsNewHead s above image cell → IsComplete s image cell
   pub held : (cell : Cell) → line_of s cell < line → IsNewHead s above image cell → IsSome (get nat_cmp found.records (number_of (tag_of s image cell)))
   pub source : (n : ℕ) (r : RedoRecord) → get nat_cmp found.records n ≡ Some r
       → (cell : Cell) × (line_of s cell < line) × IsNewHead s above image cell × (record_of (word_in_image s image cell) ≡ r) × (number_of (tag_of s image cell) ≡ n)
-  pub second : MatchOption found.second
+  pub duplicate : MatchOption found.duplicate
       ((cell : Cell) → line_of s cell < line → ¬ IsDuplicateHead s above image cell)
       (λ l. IsLeastLine s (IsDuplicateHead s above image) l)

@@ -1,14 +1,14 @@
 //! The log rings of an image: records are appended, and released once they are home.
 #![tactic(auto)]
 
-mod calls;
+mod append;
 mod cells;
-mod entry;
-mod found;
+mod logged;
 mod reads;
 mod ring;
 mod ring_fault;
 mod scan_fault;
+mod scan_state;
 mod scanning;
 
 pub use ring::Ring;
@@ -16,5 +16,3 @@ pub use ring_fault::RingFault;
 pub use scan_fault::ScanFault;
 pub use scanning::scan;
 
-#[cfg(test)]
-mod tests;

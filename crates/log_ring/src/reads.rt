@@ -7,15 +7,15 @@ ghost use Rattle.pmem_trait.specs.Reads.{OnlyReads, ContentHas};
 ghost use Rattle.redo_record.specs.Images.{word_in_image};
 ghost use Rattle.log_ring.specs.Scanning.{IsRecordAt, IsHomeRecord};
 
-use crate::cells::front_after;
+use crate::cells::start_after;
 use dude_base::limits::{LINE, MAX_WRITES, PAGE};
 use dude_base::place::Place;
 use dude_base::redo::Redo;
 use pmem_trait::{Failed, Medium};
-use redo_record::decode;
+use redo_record::{RECORD_CELLS, cells_for, decode};
 
-/// Words of the most cells that a record takes.
-const RECORD: u64 = LINE * (MAX_WRITES / 3);
+/// How many words the cells of a record have at most.
+const RECORD_WORDS: u64 = LINE * RECORD_CELLS;
 
 // The words of some cells, one after another.
 #[tactic(auto, using(pmem_trait::proofs::ReadRuns::reading))]
@@ -25,18 +25,18 @@ fn read_cells<M: Medium>(
     ring: u64,
     head: u64,
     cells: u64,
-    words: &mut [u64; RECORD as usize],
+    words: &mut [u64; RECORD_WORDS as usize],
 ) -> Result<(), Failed>
     requires ring { ring < place.now.rings }
     requires head { head < place.now.cells }
-    requires few { cells ≤ 8 }
+    requires few { cells ≤ RECORD_CELLS }
     requires room { image_words place.now ≤ (M.sight m.old).len }
     ensures len { (M.sight m.new).len ≡ (M.sight m.old).len }
     ensures reads { OnlyReads (is_ok result) (M.sight m.old) (M.sight m.new) }
     ensures words { OnOk result (ContentHas (λ content. (k j : ℕ) → k < cells → j < LINE → slice_index words.new (LINE * k + j) ≡ word_in_image place.now content (cell_at ring head) k j) (M.sight m.old)) }
 {
     for i in 0..LINE * cells {
-        words[i as usize] = m.read(front_after(place, ring, head, i / LINE) + i % LINE)?;
+        words[i as usize] = m.read(start_after(place, ring, head, i / LINE) + i % LINE)?;
     }
     Ok(())
 }
@@ -66,7 +66,7 @@ fn home_record(place: &Place, cells: &[u64]) -> Option<Redo>
     }
 }
 
-/// The record whose head stands at this place of a ring, where it is complete.
+/// The record whose head stands in this slot of a ring, where it is complete.
 #[tactic(auto, using(pmem_trait::proofs::ReadRuns::reading))]
 pub fn read_record<M: Medium>(
     m: &mut M,
@@ -85,8 +85,8 @@ pub fn read_record<M: Medium>(
     if count > MAX_WRITES {
         return Ok(None);
     }
-    let cells = count.div_ceil(3).max(1);
-    let mut words = [0; RECORD as usize];
+    let cells = cells_for(count);
+    let mut words = [0; RECORD_WORDS as usize];
     read_cells(m, place, ring, head, cells, &mut words)?;
     Ok(home_record(place, &words[..(LINE * cells) as usize]))
 }

@@ -5,19 +5,21 @@ ghost use Rattle.pmem_trait.specs.Words.{State};
 ghost use Rattle.pmem_trait.specs.Sights.{state_now, Risen, AtEveryMoment};
 ghost use Rattle.redo_record.specs.Tags.{IsNumber};
 ghost use Rattle.redo_record.specs.Calls.{append_calls};
+ghost use Rattle.redo_record.specs.Record.{cells_for};
 ghost use Rattle.redo_record.specs.Fits.{settled_mark, cells_used};
 ghost use Rattle.redo_record.specs.AppendLaw.{HeadsHold, Appended};
-ghost use Rattle.log_ring.specs.Ring.{FitsMedium, HasNoNewHead, next_head, with_entry, with_record, released_to};
+ghost use Rattle.log_ring.specs.Ring.{FitsMedium, HasNoNewHead, next_head, with_record, released_to};
 ghost use Rattle.log_ring.specs.Appends.{AppendCalls, IsOverfull, full_for};
 ghost use Rattle.log_ring.specs.declared.ring_fault.RingFault.TheVariants.{Device};
 
-use crate::calls::{append_record, cells_in_record};
-use crate::cells::place_after;
-use crate::entry::Entry;
+use crate::append::append_record;
+use crate::cells::slot_after;
+use crate::logged::Logged;
 use crate::ring_fault::RingFault;
 use dude_base::place::Place;
 use dude_base::redo::Redo;
 use pmem_trait::Medium;
+use redo_record::cells_of;
 use std::alloc::{AllocError, Global};
 use std::marker::Model;
 
@@ -26,7 +28,7 @@ use std::marker::Model;
 pub struct Ring {
     place: Place,
     ring: u64,
-    records: Vec<Entry>,
+    records: Vec<Logged>,
     next: u64,
     released: u64,
 }
@@ -59,7 +61,7 @@ impl Ring {
         })
     }
 
-    // How many cells the records take: from the oldest one's head to the next place.
+    // How many cells the records take: from the oldest one's head to the next slot.
     fn used(&self) -> u64
         ensures used { result ≡ cells_used self.now.logged }
         ensures few { result ≤ self.now.sizes.cells }
@@ -70,20 +72,20 @@ impl Ring {
         }
     }
 
-    // Adds a record whose cells begin at the next place.
-    fn note(&mut self, number: u64, cells: u64)
-        requires some { 1 ≤ cells }
-        requires room { cells_used self.old.logged + cells ≤ self.old.sizes.cells }
-        requires newest { All (λ l. l.number < number) self.old.logged }
-        ensures { self.new ≡ with_entry number cells self.old }
+    // Takes up a record whose cells begin in the next slot.
+    fn note(&mut self, r: &Redo)
+        requires room { cells_used self.old.logged + cells_for (length r.now.writes) ≤ self.old.sizes.cells }
+        requires newest { All (λ l. l.number < r.now.number) self.old.logged }
+        ensures { self.new ≡ with_record r.now self.old }
     {
         let first = self.next;
-        self.records.push_reserved(Entry {
-            number,
+        let cells = cells_of(r);
+        self.records.push_reserved(Logged {
+            number: r.number(),
             first,
             cells,
         });
-        self.next = place_after(&self.place, first, cells);
+        self.next = slot_after(&self.place, first, cells);
     }
 
     // Appends a record where there is room.
@@ -95,15 +97,16 @@ impl Ring {
         ensures calls { AppendCalls result (append_calls self.old.sizes (next_head self.old) r.now) (M.sight m.old) (M.sight m.new) }
         ensures full { IsErrOf result (full_for self.old r.now) ↔ IsOverfull self.old r.now }
         ensures fault { IfErr result (λ fault. (fault ≡ full_for self.old r.now) ⊎ (fault ≡ Device)) }
+        ensures untouched { IsOverfull self.old r.now → m.new ≡ m.old }
         ensures ring { self.new ≡ (if is_ok result then with_record r.now self.old else self.old) }
     {
         let used = self.used();
-        let need = cells_in_record(r);
+        let need = cells_of(r);
         if used + need > self.place.sizes().cells {
             return Err(RingFault::Full { used, need });
         }
         append_record(m, &self.place, self.ring, self.next, r)?;
-        self.note(r.number(), need);
+        self.note(r);
         Ok(())
     }
 
@@ -120,6 +123,7 @@ impl Ring {
         ensures full { IsErrOf result (full_for self.old r.now) ↔ IsOverfull self.old r.now }
         ensures fault { IfErr result (λ fault. (fault ≡ full_for self.old r.now) ⊎ (fault ≡ Device)) }
         ensures cause { IsErrOf result Device → Risen (M.sight m.old).faults (M.sight m.new).faults }
+        ensures untouched { IsOverfull self.old r.now → m.new ≡ m.old }
         ensures ring { self.new ≡ (if is_ok result then with_record r.now self.old else self.old) }
         // Where the ring fits the medium, each head of this ring over the mark has its complete record at each moment,
         // and is that of one of the ring's records or that of r.
@@ -129,6 +133,7 @@ impl Ring {
         ensures appended { OnOk result (IsTrue (M.sight m.old).is_visible → FitsMedium self.old (state_now (M.sight m.old))
             → Appended self.old.sizes self.old.logged self.old.released (next_head self.old) r.now (state_now (M.sight m.old)) (state_now (M.sight m.new))) }
     {
+        // Read for the proof alone: what the ring keeps of its sizes, and that a record's writes are few and distinct.
         let _kept = &self.place;
         let _count = r.len();
         self.lay(m, r)
@@ -145,7 +150,7 @@ impl Ring {
     }
 }
 
-// How many cells lie from one place of a ring up to another; the whole ring where they are the same.
+// How many cells lie from one slot of a ring up to another; the whole ring where they are the same.
 fn distance(place: &Place, from: u64, to: u64) -> u64
     requires from { from < place.now.cells }
     requires to { to < place.now.cells }

@@ -10,9 +10,9 @@ ghost use Rattle.log_ring.specs.declared.scan_fault.ScanFault.TheVariants.{Damag
 ghost use Rattle.log_ring.specs.Scan.{ReadsMade, AreScanned};
 ghost use Rattle.log_ring.specs.Scanning.{IsSeen, KnowsBelow};
 
-use crate::found::Found;
 use crate::reads::read_record;
 use crate::scan_fault::ScanFault;
+use crate::scan_state::ScanState;
 use dude_base::limits::LINE;
 use dude_base::place::Place;
 use dude_base::redo::Redo;
@@ -37,7 +37,7 @@ pub fn scan<M: Medium>(
     ensures records { IfOk result (λ found. ContentHas (λ content. AreScanned place.now above content found.items) (M.sight m.old)) }
     ensures damaged { (line : ℕ) → IsErrOf result (Damaged line) → ContentHas (λ content. IsDamagedAt place.now above content line) (M.sight m.old) }
 {
-    let mut found = Found::new(alloc);
+    let mut found = ScanState::new(alloc);
     for ring in 0..place.sizes().rings {
         scan_ring(m, place, ring, above, &mut found)?;
     }
@@ -50,7 +50,7 @@ fn scan_ring<M: Medium>(
     place: &Place,
     ring: u64,
     above: u64,
-    found: &mut Found,
+    found: &mut ScanState,
 ) -> Result<(), ScanFault>
     requires ring { ring < place.now.rings }
     requires room { image_words place.now ≤ (M.sight m.old).len }
@@ -86,13 +86,13 @@ fn scan_cell<M: Medium>(
     ensures seen { IfOk result (λ found. ContentHas (λ content. IsSeen place.now above content (cell_at ring cell) found) (M.sight m.old)) }
     ensures torn { (line : ℕ) → IsErrOf result (Damaged line) → (line ≡ line_of place.now (cell_at ring cell)) × ContentHas (λ content. IsTorn place.now above content (cell_at ring cell)) (M.sight m.old) }
 {
-    let front = place.cell(ring, cell);
-    let tag = m.read(front)?;
+    let start = place.cell(ring, cell);
+    let tag = m.read(start)?;
     if tag / KIND != 1 || tag % KIND <= above {
         return Ok(None);
     }
     let Some(redo) = read_record(m, place, ring, cell)? else {
-        return Err(ScanFault::Damaged { line: front / LINE });
+        return Err(ScanFault::Damaged { line: start / LINE });
     };
     Ok(Some(redo))
 }

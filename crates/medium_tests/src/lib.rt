@@ -3,3 +3,9 @@
 
 #[cfg(test)]
 mod mem_pmem;
+#[cfg(test)]
+mod record_cells;
+#[cfg(test)]
+mod rings;
+#[cfg(test)]
+mod scans;

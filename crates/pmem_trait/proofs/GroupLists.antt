@@ -73,7 +73,7 @@ flushes_next ls i d line below is made g =
     made_next (flush_lines ls) i (Flush line) (omega (arith, length-flush_lines ls)) (flush_lines_at ls i d _ below ∙ ap Flush is) made g
 
 -- A loop whose rounds put the lists of writes f a, f (a + 1), and so on.
-flat_more : (f : ℕ → List (ℕ × ℕ)) (a n : ℕ) → flat_map f (range_with_len a (suc n)) ≡ flat_map f (range_with_len a n) ++ f (a + n)
+pub flat_more : (f : ℕ → List (ℕ × ℕ)) (a n : ℕ) → flat_map f (range_with_len a (suc n)) ≡ flat_map f (range_with_len a n) ++ f (a + n)
 flat_more f a zero = append-nil (f a) ∙ ap f (omega arith)
 flat_more f a (suc n) =
     ap (λ (l : List (ℕ × ℕ)). f a ++ l) (flat_more f (a + 1) n ∙ ap (λ (m : ℕ). flat_map f (range_with_len (a + 1) n) ++ f m) (omega arith))

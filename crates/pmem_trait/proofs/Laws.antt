@@ -99,6 +99,11 @@ after_each_flush {line = line} h rest = more h (rest (every_image_flush line h))
 pub after_each_fence : {len : ℕ} {P : List ℕ → List ℕ → Type 0} {p : State} {cs : List Call} → EveryImage len P p → (EveryImage len P (after Fence p) → AfterEachCall (EveryImage len P) (after Fence p) cs) → AfterEachCall (EveryImage len P) p (Fence ∷ cs)
 after_each_fence h rest = more h (rest (every_image_fence h))
 
+-- a property of states that asks less
+pub after_each_weaker : {P Q : State → Type 0} {p : State} {cs : List Call} → ((q : State) → P q → Q q) → AfterEachCall P p cs → AfterEachCall Q p cs
+after_each_weaker {p = p} less (end h) = end (less p h)
+after_each_weaker {p = p} less (more h rest) = more (less p h) (after_each_weaker less rest)
+
 -- the property after the whole list
 pub after_each_last : {P : State → Type 0} {p : State} {cs : List Call} → AfterEachCall P p cs → P (after_all cs p)
 after_each_last (end h) = h

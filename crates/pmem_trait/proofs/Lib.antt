@@ -6,3 +6,4 @@ pub mod Images
 pub mod Laws
 pub mod Runs
 pub mod ReadRuns
+pub mod GroupStates

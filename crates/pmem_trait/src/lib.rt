@@ -8,6 +8,7 @@
 
 mod call;
 mod failed;
+mod fault_count;
 mod group;
 mod made;
 mod medium;
@@ -15,6 +16,7 @@ mod medium_laws;
 
 pub use call::Call;
 pub use failed::Failed;
+pub use fault_count::FaultCount;
 pub use group::{flush_all, put_all, settle_group};
 pub use made::Made;
 pub use medium::Medium;

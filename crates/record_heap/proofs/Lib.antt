@@ -1,5 +1,5 @@
 pub mod Arrays
 pub mod Calls
-pub mod Drains
+pub mod Frames
 pub mod Places
 pub mod Pools

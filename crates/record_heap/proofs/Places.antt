@@ -1,7 +1,7 @@
 -- The records of a pool: they lie apart, and a list that has each of them once has no other place.
-use Rattle.std.proofs.Common.{◌≡◌, ◌≢◌, ℕ, ◌+◌, ◌-◌, ◌*◌, ◌/◌, ◌%◌, ◌<◌, ◌≤◌, inl, inr, List, [], ◌∷◌, length, All, Contains, eqb, false, sym, ap, ◌∙◌, subst, arith}
+use Rattle.std.proofs.Common.{◌≡◌, ◌≢◌, ℕ, ◌+◌, ◌-◌, ◌*◌, ◌/◌, ◌%◌, ◌<◌, ◌≤◌, ◌⊎◌, inl, inr, List, [], ◌∷◌, length, All, Contains, eqb, false, sym, ap, ◌∙◌, subst, arith}
 use Rattle.std.proofs.Math.Nat.{mul-le-mul_left, mul-mod_right, mul-div_cancel_left, div-add-mod}
-use Rattle.std.proofs.lemmas.Bool.{eqb-false, ne_eqb, cases_eq, cases_order}
+use Rattle.std.proofs.lemmas.Bool.{eqb-false, ne_eqb, cases_eq, cases_lt, cases_order}
 use Rattle.std.proofs.lemmas.Map.Keys.{IsDistinct-head, IsDistinct-from_apart, IsDistinct-IsPermutation}
 use Rattle.std.proofs.lemmas.List.Elements.{Contains-get_or, recursion_from_All, All-from_get_or}
 use Rattle.std.proofs.lemmas.List.Sorted.{All-permutation, Contains-permutation, length_permutation}
@@ -14,11 +14,11 @@ use Rattle.record_heap.specs.Pool.{records_of, IsRecord, AreApart}
 -- two records have no word in common
 pub records_apart : {pool : Pool} {x y : ℕ} → IsRecord pool x → IsRecord pool y → x ≢ y → AreApart x pool.size y pool.size
 records_apart {pool} {x} {y} rx ry differ =
-    elim (cases_order rx.number ry.number) [
+    elim (cases_order rx.index ry.index) [
       | inl same ↦ absurd (differ (rx.is ∙ ap (λ k. pool.first + pool.size * k) same ∙ sym ry.is))
       | inr order ↦ elim order [
-        | inl before ↦ inl (let step : pool.size * (rx.number + 1) ≤ pool.size * ry.number = mul-le-mul_left pool.size (omega arith) in omega (arith, rx.is, ry.is, step))
-        | inr behind ↦ inr (let step : pool.size * (ry.number + 1) ≤ pool.size * rx.number = mul-le-mul_left pool.size (omega arith) in omega (arith, rx.is, ry.is, step))
+        | inl before ↦ inl (let step : pool.size * (rx.index + 1) ≤ pool.size * ry.index = mul-le-mul_left pool.size (omega arith) in omega (arith, rx.is, ry.is, step))
+        | inr behind ↦ inr (let step : pool.size * (ry.index + 1) ≤ pool.size * rx.index = mul-le-mul_left pool.size (omega arith) in omega (arith, rx.is, ry.is, step))
       ]
     ]
 
@@ -28,13 +28,13 @@ length_records pool = length-map-range_with_len (λ k. pool.first + pool.size * 
 all_records : (pool : Pool) → All (IsRecord pool) (records_of pool)
 all_records pool = All-from_get_or (IsRecord pool) (records_of pool) 0 (λ i lt.
     let below : i < pool.count = omega (arith, length_records pool) in
-    record { number = i; below = below; is = get_or-map-range_with_len (λ k. pool.first + pool.size * k) 0 pool.count i i 0 below (omega arith) })
+    record { index = i; below = below; is = get_or-map-range_with_len (λ k. pool.first + pool.size * k) 0 pool.count i i 0 below (omega arith) })
 
 record_among : {pool : Pool} {at : ℕ} → IsRecord pool at → Contains (records_of pool) at
 record_among {pool} {at} r =
     subst (λ x. Contains (records_of pool) x)
-    (get_or-map-range_with_len (λ k. pool.first + pool.size * k) 0 pool.count r.number r.number 0 r.below (omega arith) ∙ sym r.is)
-    (Contains-get_or (records_of pool) r.number 0 (omega (arith, length_records pool, r.below)))
+    (get_or-map-range_with_len (λ k. pool.first + pool.size * k) 0 pool.count r.index r.index 0 r.below (omega arith) ∙ sym r.is)
+    (Contains-get_or (records_of pool) r.index 0 (omega (arith, length_records pool, r.below)))
 
 distinct_records : (pool : Pool) → 0 < pool.size → IsDistinct eqb (records_of pool)
 distinct_records pool wide = IsDistinct-from_apart eqb (records_of pool) (λ i j d lt below.
@@ -78,10 +78,24 @@ others_differ x xs h = differ_by_recursion x xs (IsDistinct-head eqb x xs h)
 
 -- what `has` tests: it is the place of a record
 pub record_from : (pool : Pool) (at offset : ℕ) → offset + pool.first ≡ at → offset % pool.size ≡ 0 → offset / pool.size < pool.count → IsRecord pool at
-record_from pool at offset is even few = record { number = offset / pool.size; below = few; is = omega (arith, is, even, div-add-mod offset pool.size) }
+record_from pool at offset is even few = record { index = offset / pool.size; below = few; is = omega (arith, is, even, div-add-mod offset pool.size) }
 
 -- what `has` tests: each record passes
 pub record_passes : {pool : Pool} {at : ℕ} → 0 < pool.size → IsRecord pool at → (pool.first ≤ at) × ((at - pool.first) % pool.size ≡ 0) × ((at - pool.first) / pool.size < pool.count)
 record_passes {pool} {at} wide r =
-    let offset : at - pool.first ≡ pool.size * r.number = omega (arith, r.is) in
-    (omega (arith, r.is), ap (λ k. k % pool.size) offset ∙ mul-mod_right pool.size r.number, subst (λ k. k < pool.count) (sym (ap (λ k. k / pool.size) offset ∙ mul-div_cancel_left r.number wide)) r.below)
+    let offset : at - pool.first ≡ pool.size * r.index = omega (arith, r.is) in
+    (omega (arith, r.is), ap (λ k. k % pool.size) offset ∙ mul-mod_right pool.size r.index, subst (λ k. k < pool.count) (sym (ap (λ k. k / pool.size) offset ∙ mul-div_cancel_left r.index wide)) r.below)
+
+-- a word is a record's first word, or it isn't
+pub record_or_not : (pool : Pool) → 0 < pool.size → (at : ℕ) → IsRecord pool at ⊎ (IsRecord pool at → ⊥)
+record_or_not pool wide at =
+    elim (cases_lt at pool.first) [
+      | inl before ↦ inr (λ r. omega (arith, before, r.is))
+      | inr from ↦ elim (cases_eq ((at - pool.first) % pool.size) 0) [
+        | inl even ↦ elim (cases_lt ((at - pool.first) / pool.size) pool.count) [
+          | inl few ↦ inl (record_from pool at (at - pool.first) (omega arith) even few)
+          | inr many ↦ inr (λ r. omega (arith, (record_passes wide r).2, many))
+        ]
+        | inr odd ↦ inr (λ r. odd (record_passes wide r).1)
+      ]
+    ]

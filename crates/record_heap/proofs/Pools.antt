@@ -45,7 +45,7 @@ pub count_fits : {pool : Pool} {n : ℕ} → FitsPool pool n → pool.count ≤ 
 count_fits {pool} {n} fits =
     elim (cases_lt 0 pool.count) [
       | inl some ↦
-          let last : IsRecord pool (pool.first + pool.size * (pool.count - 1)) = record { number = pool.count - 1; below = omega arith; is = refl } in
+          let last : IsRecord pool (pool.first + pool.size * (pool.count - 1)) = record { index = pool.count - 1; below = omega arith; is = refl } in
           let wide : 1 * (pool.count - 1) ≤ pool.size * (pool.count - 1) = mul-le-mul_right (pool.count - 1) (omega (arith, fits.size)) in
           omega (arith, fits.inside _ last, wide, fits.size)
       | inr none ↦ omega arith
@@ -54,7 +54,7 @@ count_fits {pool} {n} fits =
 -- the first free record is taken
 pub takes_first : {pool : Pool} {n : ℕ} {a b : List ℕ} {first live next more : ℕ} → FitsPool pool n → n < 2 ^ 64 → length a ≡ n → IsRecord pool first → IsHeader pool a first live → next ≡ slice_index a (first + 1) → more ≡ min (live + 1) (2 ^ 64 - 1) →
     b ≡ slice_set (slice_set a pool.base next) (pool.base + 1) more → (free taken : List ℕ) → IsPool pool a free taken → Takes pool free taken (Some first) a b
-takes_first {pool} fits small size there header read rises set [] taken lawful = absurd (omega (arith, fits.front _ there, header.first, lawful.links))
+takes_first {pool} fits small size there header read rises set [] taken lawful = absurd (omega (arith, fits.not_at_zero _ there, header.first, lawful.links))
 takes_first {pool} {n} {a} {b} {first} {live} {next} {more} fits small size there header read rises set (at ∷ free) taken lawful =
     let same : first ≡ at = header.first ∙ lawful.links.0 in
     let changes : ChangesOnly ((pool.base + 1) ∷ pool.base ∷ []) a b = subst (λ x. ChangesOnly ((pool.base + 1) ∷ pool.base ∷ []) a x) (sym set) (changes_more (pool.base + 1) _ (changes_more pool.base next changes_none)) in
@@ -116,12 +116,12 @@ gives_back {pool} {n} {a} {b} {at} {first} {live} {less} fits size there header 
 pub fits_behind : (pool : Pool) (n : ℕ) → pool.base + 2 ≤ pool.first → 2 ≤ pool.size → pool.first + pool.size * pool.count ≤ n → FitsPool pool n
 fits_behind pool n behind wide whole =
     let ends : (at : ℕ) → IsRecord pool at → at + pool.size ≤ pool.first + pool.size * pool.count = λ at r.
-    let step : pool.size * (r.number + 1) ≤ pool.size * pool.count = mul-le-mul_left pool.size (omega (arith, r.below)) in
+    let step : pool.size * (r.index + 1) ≤ pool.size * pool.count = mul-le-mul_left pool.size (omega (arith, r.below)) in
     omega (arith, r.is, step) in
     record {
       header = omega (arith, behind, whole);
       size = wide;
-      front = λ at r. omega (arith, r.is, behind);
+      not_at_zero = λ at r. omega (arith, r.is, behind);
       inside = λ at r. omega (arith, ends at r, whole);
       apart = λ at r. inl (omega (arith, r.is, behind));
     }

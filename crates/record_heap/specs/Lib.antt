@@ -1,4 +1,3 @@
-pub mod Callers
 pub mod Changes
 pub mod Links
 pub mod Pool

@@ -6,15 +6,15 @@ use Rattle.record_heap.specs.declared.pool.Pool.{Pool}
 use Rattle.record_heap.specs.Changes.{ChangesOnly}
 use Rattle.record_heap.specs.Links.{Linked}
 
--- the places of the records, one every `size` words from `first` on
+-- the records, by their first words: one every `size` words from `first` on
 abbrev pub records_of : Pool → List ℕ
 records_of pool = map (λ k. pool.first + pool.size * k) (range_with_len 0 pool.count)
 
--- a record stands at this place
+-- a record begins at this word
 pub record IsRecord (pool : Pool) (at : ℕ) : Type 0 where
-  pub number : ℕ
-  pub below : number < pool.count
-  pub is : at ≡ pool.first + pool.size * number
+  pub index : ℕ
+  pub below : index < pool.count
+  pub is : at ≡ pool.first + pool.size * index
 
 -- m words from p on and n words from q on have none in common
 abbrev pub AreApart : ℕ → ℕ → ℕ → ℕ → Type 0
@@ -25,14 +25,14 @@ AreApart p m q n = (p + m ≤ q) ⊎ (q + n ≤ p)
 pub record FitsPool (pool : Pool) (n : ℕ) : Type 0 where
   pub header : pool.base + 2 ≤ n
   pub size : 2 ≤ pool.size
-  pub front : (at : ℕ) → IsRecord pool at → 0 < at
+  pub not_at_zero : (at : ℕ) → IsRecord pool at → 0 < at
   pub inside : (at : ℕ) → IsRecord pool at → at + pool.size ≤ n
   pub apart : (at : ℕ) → IsRecord pool at → AreApart pool.base 2 at pool.size
 
 -- the words of the header in this array
-pub record IsHeader (pool : Pool) (array : List ℕ) (link number : ℕ) : Type 0 where
+pub record IsHeader (pool : Pool) (array : List ℕ) (link count : ℕ) : Type 0 where
   pub first : link ≡ slice_index array pool.base
-  pub live : number ≡ slice_index array (pool.base + 1)
+  pub live : count ≡ slice_index array (pool.base + 1)
 
 -- In the pool of this array these records are free, in the order of the free list, and these are taken:
 -- word 0 of the header links the free ones, word 1 counts the taken ones, and the two lists together
@@ -41,6 +41,12 @@ pub record IsPool (pool : Pool) (array : List ℕ) (free taken : List ℕ) : Typ
   pub links : Linked array pool.base free
   pub live : slice_index array (pool.base + 1) ≡ length taken
   pub once : IsPermutation (records_of pool) (free ++ taken)
+
+-- The first record of the free list in any array: the one that word 0 of the header links, or None where
+-- that word is no record's.
+abbrev pub IsFirstFree : Pool → List ℕ → Option ℕ → Type 0
+IsFirstFree pool array None = ¬ IsRecord pool (slice_index array pool.base)
+IsFirstFree pool array (Some at) = IsRecord pool at × (slice_index array pool.base ≡ at)
 
 -- `take` of a pool with these free and taken records: it answers the first free record, which is a taken
 -- one afterwards, or None where none is free. It changes no word but the header's two.

@@ -1,8 +1,8 @@
-ghost use Rattle.std.specs.Prelude.{◌≡◌, ◌+◌, ◌<◌, ◌↔◌, ℕ, List, length, is_some, if◌then◌else◌, IsTrue, IfOk, IfSome, OnOk, Contains, slice_set};
+ghost use Rattle.std.specs.Prelude.{◌≡◌, Some, ◌+◌, ◌<◌, ◌↔◌, ℕ, List, length, is_some, if◌then◌else◌, IsTrue, IfOk, IfErr, IfSome, OnOk, Contains, slice_set};
 ghost use Rattle.word_space.specs.Sights.{IsBelow, shown};
 ghost use Rattle.word_space.specs.Steps.{GoesOn, Looked, RanOn, stop_of};
-ghost use Rattle.record_heap.specs.Changes.{Wrote};
-ghost use Rattle.record_heap.specs.Pool.{FitsPool, Gives, IsHeader, IsPool, IsRecord, Takes};
+ghost use Rattle.record_heap.specs.Changes.{MadeAtMost, Wrote};
+ghost use Rattle.record_heap.specs.Pool.{FitsPool, Gives, IsFirstFree, IsHeader, IsPool, IsRecord, Takes};
 
 use word_space::stop::Stop;
 use word_space::words::Words;
@@ -49,8 +49,12 @@ impl Pool {
         requires fits { FitsPool self.now (W.sight w.old).count }
         ensures ran { RanOn (stop_of result) (W.sight w.old) (W.sight w.new) }
         ensures turns { GoesOn W.turns_into w.old w.new }
+        ensures last { IfErr result (λ stop. (W.sight w.new).stopped ≡ Some stop) }
+        ensures most { MadeAtMost 3 2 (W.sight w.old) (W.sight w.new) }
         ensures wrote { IfOk result (λ r. Wrote (if is_some r then 2 else 0) (W.sight w.old) (W.sight w.new)) }
         ensures record { IfOk result (λ r. IfSome r (IsRecord self.now)) }
+        ensures first { IfOk result (λ r. (array : List ℕ) → IsBelow (W.sight w.new) array →
+            IsFirstFree self.now (shown (W.sight w.old) array) r) }
         ensures takes { IfOk result (λ r. (array : List ℕ) → IsBelow (W.sight w.new) array → (free taken : List ℕ) →
             IsPool self.now (shown (W.sight w.old) array) free taken →
             Takes self.now free taken r (shown (W.sight w.old) array) (shown (W.sight w.new) array)) }
@@ -75,6 +79,8 @@ impl Pool {
         requires record { IsRecord self.now at }
         ensures ran { RanOn (stop_of result) (W.sight w.old) (W.sight w.new) }
         ensures turns { GoesOn W.turns_into w.old w.new }
+        ensures last { IfErr result (λ stop. (W.sight w.new).stopped ≡ Some stop) }
+        ensures most { MadeAtMost 2 3 (W.sight w.old) (W.sight w.new) }
         ensures wrote { OnOk result (Wrote 3 (W.sight w.old) (W.sight w.new)) }
         ensures gives { OnOk result ((array : List ℕ) → IsBelow (W.sight w.new) array → (free taken : List ℕ) →
             IsPool self.now (shown (W.sight w.old) array) free taken → ¬ Contains free at →
@@ -93,7 +99,9 @@ impl Pool {
         requires fits { FitsPool self.now (W.sight w.old).count }
         ensures looked { Looked (stop_of result) (W.sight w.old) (W.sight w.new) }
         ensures turns { GoesOn W.turns_into w.old w.new }
-        ensures number { IfOk result (λ n. (array : List ℕ) → IsBelow (W.sight w.new) array → (free taken : List ℕ) →
+        ensures last { IfErr result (λ stop. (W.sight w.new).stopped ≡ Some stop) }
+        ensures most { MadeAtMost 1 0 (W.sight w.old) (W.sight w.new) }
+        ensures count { IfOk result (λ n. (array : List ℕ) → IsBelow (W.sight w.new) array → (free taken : List ℕ) →
             IsPool self.now (shown (W.sight w.old) array) free taken → n ≡ length taken) }
     {
         w.read(self.base + 1)
@@ -104,6 +112,8 @@ impl Pool {
         requires fits { FitsPool self.now (W.sight w.old).count }
         ensures looked { Looked (stop_of result) (W.sight w.old) (W.sight w.new) }
         ensures turns { GoesOn W.turns_into w.old w.new }
+        ensures last { IfErr result (λ stop. (W.sight w.new).stopped ≡ Some stop) }
+        ensures most { MadeAtMost 2 0 (W.sight w.old) (W.sight w.new) }
         ensures words { IfOk result (λ h. (array : List ℕ) → IsBelow (W.sight w.new) array →
             IsHeader self.now (shown (W.sight w.old) array) h.first h.live) }
     {
@@ -117,6 +127,8 @@ impl Pool {
         requires fits { FitsPool self.now (W.sight w.old).count }
         ensures ran { RanOn (stop_of result) (W.sight w.old) (W.sight w.new) }
         ensures turns { GoesOn W.turns_into w.old w.new }
+        ensures last { IfErr result (λ stop. (W.sight w.new).stopped ≡ Some stop) }
+        ensures most { MadeAtMost 0 2 (W.sight w.old) (W.sight w.new) }
         ensures wrote { OnOk result (Wrote 2 (W.sight w.old) (W.sight w.new)) }
         ensures shown { OnOk result ((array : List ℕ) → shown (W.sight w.new) array ≡
             slice_set (slice_set (shown (W.sight w.old) array) self.now.base header.first) (self.now.base + 1) header.live) }

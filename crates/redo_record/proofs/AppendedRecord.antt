@@ -1,30 +1,29 @@
 -- The law of append: the group of the body, then that of the tag.
-use Rattle.std.proofs.Common.{◌≡◌, ◌≢◌, ◌⊎◌, inl, inr, ⊎_elim, ℕ, zero, suc, ◌+◌, ◌*◌, ◌/◌, ◌%◌, ◌<◌, ◌≤◌, List, [], ◌∷◌, ◌++◌, length, slice_index, refl, sym, ap, ◌∙◌, subst, arith, append-nil, All}
+use Rattle.std.proofs.Common.{◌≡◌, ◌≢◌, ◌⊎◌, inl, inr, ⊎_elim, ℕ, zero, suc, ◌+◌, ◌*◌, ◌/◌, ◌%◌, ◌<◌, ◌≤◌, List, [], ◌∷◌, ◌++◌, length, get_or, slice_index, refl, sym, ap, ◌∙◌, subst, arith, All}
 use Rattle.std.proofs.lemmas.Bool.{cases_eq}
-use Rattle.std.proofs.lemmas.List.Elements.{All-cons, All-nil}
+use Rattle.std.proofs.lemmas.List.Elements.{All-cons, All-nil, All-append}
 use Rattle.dude_base.specs.declared.sizes.Sizes.{Sizes}
 use Rattle.dude_base.specs.declared.write.Write.{Write}
-use Rattle.dude_base.specs.Image.{image_words, Cell, cell_start}
+use Rattle.dude_base.specs.Image.{Cell, cell_at, cell_start}
 use Rattle.dude_base.specs.Records.{RedoRecord}
-use Rattle.pmem_trait.specs.declared.call.Call.{Call}
-use Rattle.pmem_trait.specs.Words.{Word, State, IsIn, EveryImage, AfterEachCall, settled_at, newest, value_of, after_all}
-use Rattle.pmem_trait.specs.Groups.{group_calls, values_put, OldOrNew}
-use Rattle.pmem_trait.proofs.GroupLaw.{group_law, group_told, mix_may, kept_word, unwritten_may, left_word}
-use Rattle.pmem_trait.proofs.GroupWords.{group_flushed}
-use Rattle.pmem_trait.proofs.Laws.{after_each_half, after_each_then, after_all_then}
+use Rattle.pmem_trait.specs.Words.{Word, State, IsIn, AfterEachCall, settled_at, newest, value_of, after_all}
+use Rattle.pmem_trait.specs.Groups.{group_calls, values_put}
+use Rattle.pmem_trait.proofs.GroupLaw.{group_told, left_word}
+use Rattle.pmem_trait.proofs.GroupWords.{group_flushed, group_may}
+use Rattle.pmem_trait.proofs.GroupStates.{OnTheWay, group_way}
+use Rattle.pmem_trait.proofs.Laws.{after_each_last, after_each_then, after_each_weaker, after_all_then}
 use Rattle.redo_record.specs.Tags.{number_of, head_tag, continuation_tag, IsHeadOver}
-use Rattle.redo_record.specs.Cells.{IsCell, line_of, word_place}
-use Rattle.redo_record.specs.Record.{cells_for, record_of, HoldComplete}
+use Rattle.redo_record.specs.Cells.{line_of, word_place}
+use Rattle.redo_record.specs.Record.{cells_for, HoldComplete}
 use Rattle.redo_record.specs.Encoding.{encoded}
-use Rattle.redo_record.specs.Images.{mark_of, tag_of, word_in_image, IsComplete, IsNewHead}
-use Rattle.redo_record.specs.Fits.{Logged, HasHead, FitsRing, IsIntact, settled_mark, settled_word}
+use Rattle.redo_record.specs.Fits.{Logged, FitsRing, IsIntact, settled_mark, settled_word}
 use Rattle.redo_record.specs.Calls.{body_writes, lines_from, tag_write, append_calls}
-use Rattle.redo_record.specs.AppendLaw.{CanAppend, IsElsewhere, HeadsHold, Appended, logged_as, LawOfAppend}
-use Rattle.redo_record.proofs.HeldRecords.{AreSame, complete_same, record_same, count_same, tag_same}
-use Rattle.redo_record.proofs.EncodedCells.{cells_of_record, encoded_holds, encoded_record, encoded_writes, encoded_continuation}
-use Rattle.redo_record.proofs.CellPlaces.{among, first_cell, head_line, line_in, places_same, word_line, word_inside}
-use Rattle.redo_record.proofs.RecordWrites.{body_elsewhere, body_word, body_head, body_tag, tag_elsewhere, tag_there}
-use Rattle.redo_record.proofs.RingHeads.{is_still, cell_is, head_last, heads_hold, stays, same_mark, fits_after}
+use Rattle.redo_record.specs.AppendLaw.{CanAppend, IsElsewhere, Appending, Appended, logged_as, LawOfAppend}
+use Rattle.redo_record.proofs.HeldRecords.{AreSame, complete_same, count_same, tag_same}
+use Rattle.redo_record.proofs.EncodedCells.{cells_of_record, encoded_holds, encoded_writes, encoded_continuation}
+use Rattle.redo_record.proofs.CellPlaces.{among, first_cell, head_line, line_in, places_same, word_line}
+use Rattle.redo_record.proofs.RecordWrites.{body_elsewhere, body_word, body_tag, tag_elsewhere, tag_there}
+use Rattle.redo_record.proofs.RingHeads.{is_settled, intact_by, head_before, head_last, header_elsewhere, cells_elsewhere}
 
 module _ (s : Sizes) (logged : List Logged) (released : ℕ) (head : Cell) (r : RedoRecord) where
   few_cells : {mark : ℕ} → CanAppend s mark logged head r → cells_for (length r.writes) ≤ s.cells
@@ -40,17 +39,17 @@ module _ (s : Sizes) (logged : List Logged) (released : ℕ) (head : Cell) (r : 
     home = subst (λ (ws : List Write). All (λ w. w.at < s.pages * 64) ws) (sym (encoded_writes r)) can.home;
   }
 
-  -- the body's word at a tag's place is no head
-  body_no_head : {mark above : ℕ} → CanAppend s mark logged head r → (place tag : ℕ) → place < s.cells
-      → IsIn tag (values_put (body_writes s head r) (cell_start s (record { ring = head.ring; slot = place }))) → IsHeadOver above tag → ⊥
-  body_no_head can place tag below is over = ⊎_elim
-      (λ (found : (k : ℕ) × (k < cells_for (length r.writes)) × (place ≡ (head.slot + k) % s.cells)). at found.0 found.1 found.2)
-      (λ (none : (k : ℕ) → k < cells_for (length r.writes) → place ≡ (head.slot + k) % s.cells → ⊥).
-      subst (IsIn tag) (body_elsewhere s head can.cell r (few_cells can) (cell_start s (record { ring = head.ring; slot = place })) (λ k j lt small same. none k lt (omega arith))) is)
-      (among s.cells head.slot place (cells_for (length r.writes)))
+  -- the body puts no head into a cell's first word
+  body_no_head : {mark above : ℕ} → CanAppend s mark logged head r → (slot tag : ℕ)
+      → IsIn tag (values_put (body_writes s head r) (cell_start s (cell_at head.ring slot))) → IsHeadOver above tag → ⊥
+  body_no_head can slot tag is over = ⊎_elim
+      (λ (found : (k : ℕ) × (k < cells_for (length r.writes)) × (slot ≡ (head.slot + k) % s.cells)). at found.0 found.1 found.2)
+      (λ (none : (k : ℕ) → k < cells_for (length r.writes) → slot ≡ (head.slot + k) % s.cells → ⊥).
+      subst (IsIn tag) (body_elsewhere s head can.cell r (cell_start s (cell_at head.ring slot)) (λ k j lt small same. none k lt (omega arith))) is)
+      (among s.cells head.slot slot (cells_for (length r.writes)))
     where
-      front_is : (k : ℕ) → place ≡ (head.slot + k) % s.cells → cell_start s (record { ring = head.ring; slot = place }) ≡ word_place s head k 0
-      front_is k same = ap (λ x. 16 + (head.ring * s.cells + x) * 8) same ∙ omega arith
+      start_is : (k : ℕ) → slot ≡ (head.slot + k) % s.cells → cell_start s (cell_at head.ring slot) ≡ word_place s head k 0
+      start_is k same = ap (λ x. 16 + (head.ring * s.cells + x) * 8) same ∙ omega arith
 
       no_head : (k : ℕ) → 1 ≤ k → IsIn tag (slice_index (encoded r k) 0 ∷ []) → ⊥
       no_head k low (inl t) =
@@ -60,18 +59,18 @@ module _ (s : Sizes) (logged : List Logged) (released : ℕ) (head : Cell) (r : 
           omega arith
       no_head k low (inr none) = none
 
-      at : (k : ℕ) → k < cells_for (length r.writes) → place ≡ (head.slot + k) % s.cells → ⊥
-      at zero lt same = subst (IsIn tag) (ap (values_put (body_writes s head r)) (front_is 0 same) ∙ body_tag s head can.cell r (few_cells can)) is
+      at : (k : ℕ) → k < cells_for (length r.writes) → slot ≡ (head.slot + k) % s.cells → ⊥
+      at zero lt same = subst (IsIn tag) (ap (values_put (body_writes s head r)) (start_is 0 same ∙ (first_cell s head can.cell 0 ∙ omega arith)) ∙ body_tag s head can.cell r (few_cells can)) is
       at (suc k) lt same = no_head (suc k) (omega arith)
-          (subst (IsIn tag) (ap (values_put (body_writes s head r)) (front_is (suc k) same) ∙ body_word s head can.cell r (few_cells can) (suc k) 0 lt (omega arith) (omega arith)) is)
+          (subst (IsIn tag) (ap (values_put (body_writes s head r)) (start_is (suc k) same) ∙ body_word s head can.cell r (few_cells can) (suc k) 0 lt (omega arith) (inl (omega arith))) is)
 
   -- a tag that the second group writes is that of the head
-  tag_is_own : (place tag : ℕ) → IsIn tag (values_put (tag_write s head r) (cell_start s (record { ring = head.ring; slot = place }))) → (place ≡ head.slot) × (tag ≡ head_tag r.number)
-  tag_is_own place tag is = ⊎_elim
-      (λ (same : cell_start s (record { ring = head.ring; slot = place }) ≡ cell_start s head).
+  tag_is_own : (slot tag : ℕ) → IsIn tag (values_put (tag_write s head r) (cell_start s (cell_at head.ring slot))) → (slot ≡ head.slot) × (tag ≡ head_tag r.number)
+  tag_is_own slot tag is = ⊎_elim
+      (λ (same : cell_start s (cell_at head.ring slot) ≡ cell_start s head).
       (omega arith, single (subst (IsIn tag) (tag_there s head r _ same) is)))
-      (λ (ne : cell_start s (record { ring = head.ring; slot = place }) ≢ cell_start s head). absurd (subst (IsIn tag) (tag_elsewhere s head r _ ne) is))
-      (cases_eq (cell_start s (record { ring = head.ring; slot = place })) (cell_start s head))
+      (λ (ne : cell_start s (cell_at head.ring slot) ≢ cell_start s head). absurd (subst (IsIn tag) (tag_elsewhere s head r _ ne) is))
+      (cases_eq (cell_start s (cell_at head.ring slot)) (cell_start s head))
     where
       single : IsIn tag (head_tag r.number ∷ []) → tag ≡ head_tag r.number
       single (inl e) = e
@@ -107,89 +106,58 @@ module _ (s : Sizes) (logged : List Logged) (released : ℕ) (head : Cell) (r : 
     with_tag = after_all (group_calls tag (line_of s head ∷ [])) with_body
 
     body_outside : (i : ℕ) → IsElsewhere s head r i → values_put body i ≡ []
-    body_outside = body_elsewhere s head can.cell r (few_cells can)
-
-    -- The body's group: each head is an old one.
-    hold_body : {len : ℕ} → image_words s ≤ len → (image : List ℕ) → OldOrNew len p body image → HeadsHold s logged head r p p.told image
-    hold_body {len} long image mix =
-        record {
-          complete = λ other ring new. (heads other ring new).0;
-          known = λ other ring new. (heads other ring new).1;
-          others = λ i below other. mix_may mix i (subst (λ (n : ℕ). i < n) mix.size below) (body_outside i other);
-          same_told = refl;
-        }
-      where
-        heads : (other : Cell) → other.ring ≡ head.ring → IsNewHead s (mark_of image) image other
-            → IsComplete s image other × (HasHead (number_of (tag_of s image other)) other.slot logged ⊎ ((other ≡ head) × (record_of (word_in_image s image other) ≡ r)))
-        heads = heads_hold s head r logged released p can fits body body_outside len long image mix
-            (λ other ring is_cell is over. absurd (body_no_head can other.slot (tag_of s image other) is_cell.slot_is
-            (subst (λ (x : ℕ). IsIn (tag_of s image other) (values_put body (cell_start s (record { ring = x; slot = other.slot })))) ring is) over))
-
-    fits_body : FitsRing s head.ring logged released with_body
-    fits_body = subst (λ (ls : List Logged). FitsRing s head.ring ls released with_body) (append-nil logged)
-        (fits_after s head r logged released p can fits body body_outside lines []
-        (λ place t below is over. absurd (body_no_head can place t below is over))
-        (All-nil (λ (l : Logged). settled_mark with_body < l.number → IsIntact s head.ring with_body l)))
-
-    can_tag : CanAppend s (settled_mark with_body) logged head r
-    can_tag = subst (λ (m : ℕ). CanAppend s m logged head r) (sym (same_mark s head r logged released p can fits body body_outside lines)) can
+    body_outside = body_elsewhere s head can.cell r
 
     -- the words of the body are settled
     settled_body : (k j : ℕ) → k < cells_for (length r.writes) → j < 8 → (1 ≤ k) ⊎ (1 ≤ j) → with_body.word (word_place s head k j) ≡ settled_at (slice_index (encoded r k) j)
     settled_body k j lt small other =
         group_flushed body lines p (word_place s head k j)
         (subst (λ (l : ℕ). IsIn l lines) (sym (word_line s head can.cell k j small)) (line_in s head (cells_for (length r.writes)) k lt))
-        ∙ ap (λ (vs : List ℕ). settled_at (newest (value_of (p.word (word_place s head k j))) vs)) (written_word k j lt small other)
+        ∙ ap (λ (vs : List ℕ). settled_at (newest (value_of (p.word (word_place s head k j))) vs)) (body_word s head can.cell r (few_cells can) k j lt small other)
+
+    -- the ring's records stay intact where the settled words elsewhere stay
+    stay_intact : (q : State) → ((i x : ℕ) → IsElsewhere s head r i → p.word i ≡ settled_at x → q.word i ≡ settled_at x) → All (λ l. settled_mark p < l.number → IsIntact s head.ring q l) logged
+    stay_intact q stays k d lt over =
+        let intact = fits.records k d lt over in
+        intact_by intact (λ i j below small. stays _ _ (cells_elsewhere s head (cell_at head.ring (get_or logged k d).first) r (get_or logged k d).cells refl (can.free k d lt over) i j below small) (intact.settled_words i j below small))
+
+    way_body : (q : State) → OnTheWay p body q → Appending s logged head r p q
+    way_body q way = record {
+      told = way.told;
+      others = λ i x other may. ⊎_elim (λ old. old) (λ (new : IsIn x (values_put body i)). absurd (subst (IsIn x) (body_outside i other) new)) (way.value i x may);
+      settled_others = stays;
+      records = stay_intact q stays;
+      heads = λ slot t below may over. ⊎_elim (λ old. inl (fits.heads slot t below old over)) (λ new. absurd (body_no_head can slot t new over)) (way.value (cell_start s (cell_at head.ring slot)) t may);
+    }
       where
-        written_word : (k j : ℕ) → k < cells_for (length r.writes) → j < 8 → (1 ≤ k) ⊎ (1 ≤ j) → values_put body (word_place s head k j) ≡ slice_index (encoded r k) j ∷ []
-        written_word zero zero lt small (inl a) = absurd (omega arith)
-        written_word zero zero lt small (inr a) = absurd (omega arith)
-        written_word zero (suc j) lt small other = body_head s head can.cell r (few_cells can) j small
-        written_word (suc k) j lt small other = body_word s head can.cell r (few_cells can) (suc k) j lt small (omega arith)
+        stays : (i x : ℕ) → IsElsewhere s head r i → p.word i ≡ settled_at x → q.word i ≡ settled_at x
+        stays i x other is = way.stays i x (body_outside i other) is
 
-    -- The tag's group: where an image has the head of r, it has the whole record.
-    hold_tag : {len : ℕ} → image_words s ≤ len → (image : List ℕ) → OldOrNew len with_body tag image → HeadsHold s logged head r p with_body.told image
-    hold_tag {len} long image mix =
-        record {
-          complete = λ other ring new. (heads other ring new).0;
-          known = λ other ring new. (heads other ring new).1;
-          others = λ i below other.
-              unwritten_may body lines p i (slice_index image i) (body_outside i other) (mix_may mix i (subst (λ (n : ℕ). i < n) mix.size below) (tag_outside can i other));
-          same_told = group_told body lines p;
-        }
+    way_tag : (q : State) → OnTheWay with_body tag q → Appending s logged head r p q
+    way_tag q way = record {
+      told = way.told ∙ group_told body lines p;
+      others = λ i x other may. ⊎_elim (λ old. old) (λ (new : IsIn x (values_put body i)). absurd (subst (IsIn x) (body_outside i other) new)) (group_may body lines p i x
+          (⊎_elim (λ old. old) (λ (new : IsIn x (values_put tag i)). absurd (subst (IsIn x) (tag_outside can i other) new)) (way.value i x may)));
+      settled_others = stays;
+      records = stay_intact q stays;
+      heads = λ slot t below may over. ⊎_elim
+          (λ old. ⊎_elim (λ first. inl (fits.heads slot t below first over)) (λ new. absurd (body_no_head can slot t new over)) (group_may body lines p (cell_start s (cell_at head.ring slot)) t old))
+          (λ new. let own = tag_is_own slot t new in inr (own.0, own.1, kept)) (way.value (cell_start s (cell_at head.ring slot)) t may);
+    }
       where
-        own : tag_of s image head ≡ head_tag r.number → AreSame (cells_of_record r) (word_in_image s image head) (cells_for (length r.writes))
-        own is = record { word = word }
-          where
-            at_first : slice_index image (word_place s head 0 0) ≡ head_tag r.number
-            at_first = ap (slice_index image) (first_cell s head can.cell 0 ∙ omega arith) ∙ is
+        stays : (i x : ℕ) → IsElsewhere s head r i → p.word i ≡ settled_at x → q.word i ≡ settled_at x
+        stays i x other is = way.stays i x (tag_outside can i other) (left_word body lines p i x (body_outside i other) is)
 
-            kept : (k j : ℕ) → k < cells_for (length r.writes) → j < 8 → (1 ≤ k) ⊎ (1 ≤ j) → slice_index image (word_place s head k j) ≡ slice_index (encoded r k) j
-            kept k j lt small other =
-                let inside = word_inside s head can.cell k j small in
-                kept_word mix (word_place s head k j) (slice_index (encoded r k) j) (omega arith) (tag_apart can k j lt small other) (settled_body k j lt small other)
+        kept : (k j : ℕ) → k < cells_for (length r.writes) → j < 8 → (1 ≤ k) ⊎ (1 ≤ j) → q.word (word_place s head k j) ≡ settled_at (slice_index (encoded r k) j)
+        kept k j lt small other = way.stays (word_place s head k j) (slice_index (encoded r k) j) (tag_apart can k j lt small other) (settled_body k j lt small other)
 
-            word : (k j : ℕ) → k < cells_for (length r.writes) → j < 8 → word_in_image s image head k j ≡ cells_of_record r k j
-            word zero zero lt small = at_first
-            word zero (suc j) lt small = kept 0 (suc j) lt small (inr (omega arith))
-            word (suc k) j lt small = kept (suc k) j lt small (inl (omega arith))
+    along_append : AfterEachCall (Appending s logged head r p) p (append_calls s head r)
+    unfolding append_calls
+    along_append = after_each_then (after_each_weaker way_body (group_way body lines)) (after_each_weaker way_tag (group_way tag (line_of s head ∷ [])))
 
-        own_head : tag_of s image head ≡ head_tag r.number → IsComplete s image head × (record_of (word_in_image s image head) ≡ r)
-        own_head is = (complete_same (own is) (encoded_complete can), record_same (own is) ∙ encoded_record r can.encodable)
-
-        fresh : (other : Cell) → other.ring ≡ head.ring → IsCell s other → IsIn (tag_of s image other) (values_put tag (cell_start s other))
-            → (other ≡ head) × IsComplete s image other × (record_of (word_in_image s image other) ≡ r)
-        fresh other ring is_cell is =
-            let mine = tag_is_own other.slot (tag_of s image other)
-            (subst (λ (x : ℕ). IsIn (tag_of s image other) (values_put tag (cell_start s (record { ring = x; slot = other.slot })))) ring is) in
-            let same : other ≡ head = cell_is other head ring mine.0 in
-            let both = own_head (ap (tag_of s image) (sym same) ∙ mine.1) in
-            (same, subst (IsComplete s image) (sym same) both.0, ap (λ (c : Cell). record_of (word_in_image s image c)) same ∙ both.1)
-
-        heads : (other : Cell) → other.ring ≡ head.ring → IsNewHead s (mark_of image) image other
-            → IsComplete s image other × (HasHead (number_of (tag_of s image other)) other.slot logged ⊎ ((other ≡ head) × (record_of (word_in_image s image other) ≡ r)))
-        heads = heads_hold s head r logged released with_body can_tag fits_body tag (tag_outside can) len long image mix
-            (λ other ring is_cell is over. fresh other ring is_cell is)
+    append_ends : after_all (append_calls s head r) p ≡ with_tag
+    unfolding append_calls
+    append_ends = after_all_then (group_calls body lines) (group_calls tag (line_of s head ∷ [])) p
 
     -- a word of the body stays as it is under the tag's group
     untouched : (k j : ℕ) → k < cells_for (length r.writes) → j < 8 → (1 ≤ k) ⊎ (1 ≤ j) → with_tag.word (word_place s head k j) ≡ settled_at (slice_index (encoded r k) j)
@@ -205,53 +173,56 @@ module _ (s : Sizes) (logged : List Logged) (released : ℕ) (head : Cell) (r : 
     settled_tag zero (suc j) lt small = untouched 0 (suc j) lt small (inr (omega arith))
     settled_tag (suc k) j lt small = untouched (suc k) j lt small (inl (omega arith))
 
-    new_stands : IsIntact s head.ring with_tag (logged_as head r)
-    new_stands =
+    new_intact : IsIntact s head.ring with_tag (logged_as head r)
+    new_intact =
         let same : AreSame (cells_of_record r) (settled_word s with_tag head) (cells_for (length r.writes)) = record {
           word = λ k j lt small. ap (λ (w : Word). w.settled) (settled_tag k j lt small);
         } in
         let high = can.encodable.number_is.high in
         record {
-          settled_words = λ k j lt small. is_still (settled_tag k j lt small);
+          settled_words = λ k j lt small. is_settled (settled_tag k j lt small);
           complete = complete_same same (encoded_complete can);
           same_number = ap number_of (tag_same same) ∙ omega arith;
           same_cells = ap cells_for (count_same same);
         }
 
+    at_end : Appending s logged head r p with_tag
+    at_end = subst (Appending s logged head r p) append_ends (after_each_last along_append)
+
+    mark_stays : with_tag.word 8 ≡ settled_at (settled_mark p)
+    mark_stays = at_end.settled_others 8 (settled_mark p) (header_elsewhere s head r 8 (omega arith)) fits.mark
+
+    same_mark : settled_mark with_tag ≡ settled_mark p
+    same_mark = ap (λ (w : Word). w.settled) mark_stays
+
     fits_tag : FitsRing s head.ring (logged ++ logged_as head r ∷ []) released with_tag
-    fits_tag =
-        let high = can.encodable.number_is.high in
-        fits_after s head r logged released with_body can_tag fits_body tag (tag_outside can) (line_of s head ∷ []) (logged_as head r ∷ [])
-        (λ place t below is over.
-        let mine = tag_is_own place t is in
-        let number : r.number ≡ number_of t = omega (arith, mine.1) in
-        head_last logged (logged_as head r) (number_of t) place number (sym mine.0))
-        (All-cons (λ (l : Logged). settled_mark with_tag < l.number → IsIntact s head.ring with_tag l) (logged_as head r) [] (λ over. new_stands)
-        (All-nil (λ (l : Logged). settled_mark with_tag < l.number → IsIntact s head.ring with_tag l)))
+    fits_tag = record {
+      mark = is_settled mark_stays;
+      reproduced = subst (λ (m : ℕ). released ≤ m) (sym same_mark) fits.reproduced;
+      heads = λ slot t below may over. ⊎_elim
+          (λ has. head_before (number_of t) slot logged (logged_as head r ∷ []) has)
+          (λ own. let high = can.encodable.number_is.high in
+          let number : r.number ≡ number_of t = omega (arith, own.1) in
+          head_last logged (logged_as head r) (number_of t) slot number (sym own.0))
+          (at_end.heads slot t below may (subst (λ (m : ℕ). IsHeadOver m t) same_mark over));
+      records = All-append (λ (l : Logged). settled_mark with_tag < l.number → IsIntact s head.ring with_tag l) logged (logged_as head r ∷ [])
+          (λ k d lt over. at_end.records k d lt (subst (λ (m : ℕ). m < (get_or logged k d).number) same_mark over))
+          (All-cons (λ (l : Logged). settled_mark with_tag < l.number → IsIntact s head.ring with_tag l) (logged_as head r) [] (λ over. new_intact)
+          (All-nil (λ (l : Logged). settled_mark with_tag < l.number → IsIntact s head.ring with_tag l)));
+    }
 
     appended : Appended s logged released head r p with_tag
     appended = record {
       settled = settled_tag;
-      others = λ i x other may. unwritten_may body lines p i x (body_outside i other) (unwritten_may tag (line_of s head ∷ []) with_body i x (tag_outside can i other) may);
-      settled_others = λ i x other is. stays s head r logged released with_body can_tag fits_body tag (tag_outside can) (line_of s head ∷ []) i x other
-          (stays s head r logged released p can fits body body_outside lines i x other is);
-      told = group_told tag (line_of s head ∷ []) with_body ∙ group_told body lines p;
+      others = at_end.others;
+      settled_others = at_end.settled_others;
+      told = at_end.told;
       fits = fits_tag;
     }
 
-    after_each_append : {len : ℕ} → image_words s ≤ len → AfterEachCall (EveryImage len (HeadsHold s logged head r p)) p (append_calls s head r)
-    unfolding append_calls
-    after_each_append long = after_each_then (group_law body (hold_body long) lines) (group_law tag (hold_tag long) (line_of s head ∷ []))
-
-    append_ends : after_all (append_calls s head r) p ≡ with_tag
-    unfolding append_calls
-    append_ends = after_all_then (group_calls body lines) (group_calls tag (line_of s head ∷ [])) p
-
 -- The law of append.
 pub append_law : LawOfAppend
-append_law s logged released head r p len long fits can =
-    let along = after_each_append s logged released head r p fits can long in (
-      along,
-      λ front last rest q is half. after_each_half front last rest (subst (λ (cs : List Call). AfterEachCall (EveryImage len (HeadsHold s logged head r p)) p cs) is along) half,
-      subst (Appended s logged released head r p) (sym (append_ends s logged released head r p fits can)) (appended s logged released head r p fits can),
-    )
+append_law s logged released head r p fits can = (
+  along_append s logged released head r p fits can,
+  subst (Appended s logged released head r p) (sym (append_ends s logged released head r p fits can)) (appended s logged released head r p fits can),
+)

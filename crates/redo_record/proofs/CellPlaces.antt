@@ -1,8 +1,8 @@
 -- Where the words of cells stand: cells of a ring are apart, and inside the image.
-use Rattle.std.proofs.Common.{◌≡◌, ◌≢◌, ◌⊎◌, inl, inr, ⊎_elim, ℕ, zero, suc, ◌+◌, ◌-◌, ◌*◌, ◌/◌, ◌%◌, ◌<◌, ◌≤◌, map, ap, ◌∙◌, subst, arith}
+use Rattle.std.proofs.Common.{◌≡◌, ◌≢◌, ◌⊎◌, inl, inr, ⊎_elim, ℕ, zero, suc, ◌+◌, ◌-◌, ◌*◌, ◌/◌, ◌%◌, ◌<◌, ◌≤◌, map, sym, ap, ◌∙◌, subst, arith}
 use Rattle.std.specs.List.{range_with_len}
 use Rattle.std.proofs.Math.Nat.{mod-add-mod, mod-eq_of_lt, mod-eq-sub-mod, mod-lt, mul-le-mul_right}
-use Rattle.std.proofs.lemmas.Bool.{cases_lt, cases_eq}
+use Rattle.std.proofs.lemmas.Bool.{cases_lt, cases_eq, cases_order}
 use Rattle.dude_base.specs.declared.sizes.Sizes.{Sizes}
 use Rattle.dude_base.specs.Image.{image_words, Cell, cell_start}
 use Rattle.pmem_trait.specs.Words.{IsIn}
@@ -51,6 +51,18 @@ among c p x (suc n) = ⊎_elim
 -- words at the same place are the same word of the same cell
 pub words_same : (base x y j m : ℕ) → j < 8 → m < 8 → 16 + (base + x) * 8 + j ≡ 16 + (base + y) * 8 + m → (x ≡ y) × (j ≡ m)
 words_same base x y j m a b same = (omega arith, omega arith)
+
+-- cells with the same number in the image are of the same ring
+pub rings_same : (c a b x y : ℕ) → x < c → y < c → a * c + x ≡ b * c + y → a ≡ b
+rings_same c a b x y below small same = by (cases_order a b)
+  where
+    lower : (a b x y : ℕ) → x < c → a < b → a * c + x ≡ b * c + y → ⊥
+    lower a b x y below lt same = let rings : (a + 1) * c ≤ b * c = mul-le-mul_right c (omega arith) in omega arith
+
+    by : (a ≡ b) ⊎ ((a < b) ⊎ (b < a)) → a ≡ b
+    by (inl is) = is
+    by (inr (inl lt)) = absurd (lower a b x y below lt same)
+    by (inr (inr gt)) = absurd (lower b a y x small gt (sym same))
 
 module _ (s : Sizes) (head : Cell) (is_cell : IsCell s head) where
   cell_below : (k : ℕ) → (head.slot + k) % s.cells < s.cells

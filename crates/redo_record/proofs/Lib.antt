@@ -1,9 +1,12 @@
-pub mod CellPlaces
 pub mod AppendedRecord
+pub mod AppendingImages
+pub mod CellPlaces
+pub mod EncodedCells
+pub mod HeldRecords
+pub mod ReadCells
+pub mod Recovered
 pub mod RecordWrites
 pub mod RingHeads
 pub mod RingRoom
+pub mod SettledRecords
 pub mod SingleReplay
-pub mod HeldRecords
-pub mod ReadCells
-pub mod EncodedCells

@@ -1,16 +1,22 @@
 -- The replay of an image is the only one.
-use Rattle.std.proofs.Common.{◌≡◌, ◌⊎◌, inl, inr, ℕ, ◌+◌, ◌-◌, ◌<◌, List, map, refl, sym, ap, ◌∙◌, subst, arith}
-use Rattle.std.specs.List.{range_with_len}
+use Rattle.std.proofs.Common.{◌≡◌, ◌≢◌, ◌⊎◌, inl, inr, ℕ, ◌+◌, ◌<◌, List, [], ◌∷◌, slice_index, refl, sym, ap, ◌∙◌, subst, arith, All}
 use Rattle.std.proofs.lemmas.Bool.{cases_order}
+use Rattle.std.proofs.lemmas.List.Elements.{All-head, All-tail}
 use Rattle.dude_base.specs.declared.sizes.Sizes.{Sizes}
-use Rattle.dude_base.specs.declared.write.Write.{Write}
 use Rattle.dude_base.specs.Image.{Cell}
+use Rattle.dude_base.specs.Records.{RedoRecord}
+use Rattle.redo_record.specs.Tags.{number_of}
 use Rattle.redo_record.specs.Cells.{line_of}
-use Rattle.redo_record.specs.Record.{writes_of}
-use Rattle.redo_record.specs.Images.{sizes_of, mark_of, home_of, word_in_image}
+use Rattle.redo_record.specs.Record.{record_of}
+use Rattle.redo_record.specs.Images.{sizes_of, mark_of, home_of, tag_of, word_in_image, IsNewHead}
 use Rattle.redo_record.specs.Damage.{IsTorn, IsDuplicateHead, IsLeastLine, IsUndamaged, IsDamagedAt}
-use Rattle.redo_record.specs.Recovery.{Recovers, HasRecord, overwritten_by_all, IsDamaged, Unformatted, Damaged, Recovered, LawOfReplay}
-use Rattle.redo_record.proofs.HeldRecords.{map_same}
+use Rattle.redo_record.specs.Recovery.{Recovers, HasRecord, AreConsecutive, overwritten_by_all, IsDamaged, Unformatted, Damaged, Recovered, LawOfReplay}
+use Rattle.redo_record.proofs.CellPlaces.{first_cell}
+
+-- the number of a head is that of its record
+pub head_number : {s : Sizes} {above : ℕ} {image : List ℕ} {r : RedoRecord} (has : HasRecord s above image r) → number_of (tag_of s image has.head) ≡ r.number
+head_number {s} {above} {image} has =
+    ap (λ i. number_of (slice_index image i)) (omega (arith, first_cell s has.head has.new.cell 0)) ∙ ap (λ (r : RedoRecord). r.number) has.same
 
 -- there is one least line
 least_same : (s : Sizes) (Is : Cell → Type 0) (k l : ℕ) → IsLeastLine s Is k → IsLeastLine s Is l → k ≡ l
@@ -47,35 +53,41 @@ recovers_not version image number array line recovers (inl a) = let over = a.0 i
 recovers_not version image number array line recovers (inr a) = undamaged_not (sizes_of image) (mark_of image) image line recovers.undamaged a.1
 
 -- one number has one record
-writes_same_of : (image : List ℕ) (k : ℕ) (ws vs : List Write) → IsUndamaged (sizes_of image) (mark_of image) image → HasRecord image k ws → HasRecord image k vs → ws ≡ vs
-writes_same_of image k ws vs fine a b =
-    let same : a.head ≡ b.head = fine.single a.head b.head a.new b.new (a.number ∙ sym b.number) in
-    sym a.same_writes ∙ (ap (λ (c : Cell). writes_of (word_in_image (sizes_of image) image c)) same ∙ b.same_writes)
+record_is : {s : Sizes} {above : ℕ} {image : List ℕ} {a b : RedoRecord} → IsUndamaged s above image → HasRecord s above image a → HasRecord s above image b → a.number ≡ b.number → a ≡ b
+record_is {s} {above} {image} {a} {b} fine one other same =
+    let head : one.head ≡ other.head = fine.single one.head other.head one.new other.new (head_number one ∙ (same ∙ sym (head_number other))) in
+    sym one.same ∙ (ap (λ (c : Cell). record_of (word_in_image s image c)) head ∙ other.same)
+
+module _ (s : Sizes) (above : ℕ) (image : List ℕ) (fine : IsUndamaged s above image) where
+  -- none of these records begins behind the last number of the others
+  abbrev IsLast : ℕ → Type 0
+  IsLast n = (head : Cell) → IsNewHead s above image head → number_of (tag_of s image head) ≢ n + 1
+
+  no_next : (n : ℕ) {r : RedoRecord} → IsLast n → HasRecord s above image r → r.number ≡ n + 1 → ⊥
+  no_next n last has is = last has.head has.new (head_number has ∙ is)
+
+  -- lists of records that lead from one number as far as there are records
+  lists_same : (from n m : ℕ) (rs ts : List RedoRecord) → IsLast n → IsLast m → All (HasRecord s above image) rs → All (HasRecord s above image) ts
+      → AreConsecutive from rs n → AreConsecutive from ts m → (n ≡ m) × (rs ≡ ts)
+  lists_same from n m [] [] last_n last_m all_a all_b a b = (sym a ∙ b, refl)
+  lists_same from n m [] (y ∷ ys) last_n last_m all_a all_b a b = absurd (no_next n last_n (All-head (HasRecord s above image) y ys all_b) (b.0 ∙ ap (λ k. k + 1) a))
+  lists_same from n m (x ∷ xs) [] last_n last_m all_a all_b a b = absurd (no_next m last_m (All-head (HasRecord s above image) x xs all_a) (a.0 ∙ ap (λ k. k + 1) b))
+  lists_same from n m (x ∷ xs) (y ∷ ys) last_n last_m all_a all_b a b =
+      let same : x ≡ y = record_is fine (All-head (HasRecord s above image) x xs all_a) (All-head (HasRecord s above image) y ys all_b) (a.0 ∙ sym b.0) in
+      let rest = lists_same x.number n m xs ys last_n last_m (All-tail (HasRecord s above image) x xs all_a) (All-tail (HasRecord s above image) y ys all_b) a.1
+      (subst (λ (r : RedoRecord). AreConsecutive r.number ys m) (sym same) b.1) in
+      let tails = rest.1 in
+      (rest.0, cc)
 
 module _ (version : ℕ) (image : List ℕ) (n m : ℕ) (a b : List ℕ) (one : Recovers version image n a) (other : Recovers version image m b) where
-  no_greater : {x y : ℕ} {c d : List ℕ} → Recovers version image x c → Recovers version image y d → x < y → ⊥
-  no_greater {x} {y} first second lt =
-      let from = first.from in
-      let next = second.logged (x + 1) (omega arith) (omega arith) in
-      first.greatest next.head next.new next.number
+  both_same : (n ≡ m) × (one.records ≡ other.records)
+  both_same = lists_same (sizes_of image) (mark_of image) image one.undamaged (mark_of image) n m one.records other.records one.greatest other.greatest one.logged other.logged one.consecutive other.consecutive
 
   numbers_same : n ≡ m
-  numbers_same = by (cases_order n m)
-    where
-      by : (n ≡ m) ⊎ ((n < m) ⊎ (m < n)) → n ≡ m
-      by (inl same) = same
-      by (inr (inl lt)) = absurd (no_greater one other lt)
-      by (inr (inr gt)) = absurd (no_greater other one gt)
-
-  logs_same : map one.writes (range_with_len (mark_of image + 1) (n - mark_of image)) ≡ map other.writes (range_with_len (mark_of image + 1) (m - mark_of image))
-  logs_same =
-      let same = numbers_same in
-      map_same one.writes other.writes (mark_of image + 1) (n - mark_of image)
-      (λ i low high. writes_same_of image i (one.writes i) (other.writes i) one.undamaged (one.logged i (omega arith) (omega arith)) (other.logged i (omega arith) (omega arith)))
-      ∙ ap (λ x. map other.writes (range_with_len (mark_of image + 1) (x - mark_of image))) same
+  numbers_same = both_same.0
 
   arrays_same : a ≡ b
-  arrays_same = one.result ∙ (ap (λ (l : List (List Write)). overwritten_by_all l (home_of (sizes_of image) image)) logs_same ∙ sym other.result)
+  arrays_same = one.result ∙ (ap (λ (l : List RedoRecord). overwritten_by_all l (home_of (sizes_of image) image)) both_same.1 ∙ sym other.result)
 
   recovered_same : Recovered n a ≡ Recovered m b
   recovered_same = ap (λ (x : ℕ). Recovered x a) numbers_same ∙ ap (λ (l : List ℕ). Recovered m l) arrays_same

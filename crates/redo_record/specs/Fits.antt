@@ -4,11 +4,11 @@ use Rattle.dude_base.specs.declared.limits.TheConstants.{LINE, MARK}
 use Rattle.dude_base.specs.declared.sizes.Sizes.{Sizes}
 use Rattle.pmem_trait.specs.Words.{State, MayHold, IsSettledWord}
 use Rattle.redo_record.specs.Tags.{number_of, IsHeadOver}
-use Rattle.dude_base.specs.Image.{Cell, cell_start}
+use Rattle.dude_base.specs.Image.{Cell, cell_at, cell_start}
 use Rattle.redo_record.specs.Cells.{word_place}
 use Rattle.redo_record.specs.Record.{cells_for, count_of, HoldComplete}
 
--- A record in a ring: its number, the place of its head in the ring, and how many cells it takes.
+-- A record in a ring: its number, the slot of its head, and how many cells it takes.
 pub record Logged : Type 0 where
   pub number : ℕ
   pub first : ℕ
@@ -16,12 +16,12 @@ pub record Logged : Type 0 where
 
 -- the cell of its head
 abbrev pub head_of : ℕ → Logged → Cell
-head_of ring l = record { ring = ring; slot = l.first }
+head_of ring l = cell_at ring l.first
 
--- one of these records has this number and its head at this place
+-- one of these records has this number and its head in this slot
 abbrev pub HasHead : ℕ → ℕ → List Logged → Type 0
-HasHead number place [] = ⊥
-HasHead number place (l ∷ ls) = ((l.number ≡ number) × (l.first ≡ place)) ⊎ HasHead number place ls
+HasHead number slot [] = ⊥
+HasHead number slot (l ∷ ls) = ((l.number ≡ number) × (l.first ≡ slot)) ⊎ HasHead number slot ls
 
 -- the mark, as it is settled
 abbrev pub settled_mark : State → ℕ
@@ -31,7 +31,7 @@ settled_mark p = (p.word MARK).settled
 abbrev pub settled_word : Sizes → State → Cell → ℕ → ℕ → ℕ
 settled_word s p head k j = (p.word (word_place s head k j)).settled
 
--- The record stands complete in its cells, which are settled.
+-- The record is complete in its cells, which are settled.
 pub record IsIntact (s : Sizes) (ring : ℕ) (p : State) (l : Logged) : Type 0 where
   pub settled_words : (k j : ℕ) → k < l.cells → j < LINE → IsSettledWord (p.word (word_place s (head_of ring l) k j))
   pub complete : HoldComplete s (settled_word s p (head_of ring l))
@@ -39,25 +39,25 @@ pub record IsIntact (s : Sizes) (ring : ℕ) (p : State) (l : Logged) : Type 0 w
   pub same_cells : cells_for (count_of (settled_word s p (head_of ring l))) ≡ l.cells
 
 -- The ring, with these records and this greatest number released, fits the medium: each head over the mark that a crash
--- may leave in this ring is that of one of its records; its records over the mark stand complete; the mark is settled at
--- the number released or more.
+-- may leave in this ring is that of one of its records; its records over the mark are intact; the mark is settled at the
+-- number released or more.
 pub record FitsRing (s : Sizes) (ring : ℕ) (logged : List Logged) (released : ℕ) (p : State) : Type 0 where
   pub mark : IsSettledWord (p.word MARK)
   pub reproduced : released ≤ settled_mark p
-  pub heads : (place tag : ℕ) → place < s.cells → MayHold (p.word (cell_start s (record { ring = ring; slot = place }))) tag
-      → IsHeadOver (settled_mark p) tag → HasHead (number_of tag) place logged
+  pub heads : (slot tag : ℕ) → slot < s.cells → MayHold (p.word (cell_start s (cell_at ring slot))) tag
+      → IsHeadOver (settled_mark p) tag → HasHead (number_of tag) slot logged
   pub records : All (λ l. settled_mark p < l.number → IsIntact s ring p l) logged
 
--- None of the n cells from this place on is one of a record over the mark.
+-- None of the n cells from this slot on is one of a record over the mark.
 abbrev pub AreFree : Sizes → ℕ → ℕ → ℕ → List Logged → Type 0
-AreFree s mark place n logged =
-    All (λ l. mark < l.number → (i k : ℕ) → i < l.cells → k < n → (l.first + i) % s.cells ≡ (place + k) % s.cells → ⊥) logged
+AreFree s mark slot n logged =
+    All (λ l. mark < l.number → (i k : ℕ) → i < l.cells → k < n → (l.first + i) % s.cells ≡ (slot + k) % s.cells → ⊥) logged
 
 -- how many cells the records take together
 abbrev pub cells_used : List Logged → ℕ
 cells_used logged = sum_by (λ l. l.cells) logged
 
--- The records' cells follow one another round the ring, from this place on.
+-- The records' cells follow one another round the ring, from this slot on.
 abbrev pub FollowFrom : Sizes → ℕ → List Logged → Type 0
-FollowFrom s place [] = Unit {0}
-FollowFrom s place (l ∷ ls) = (l.first ≡ place) × FollowFrom s ((place + l.cells) % s.cells) ls
+FollowFrom s slot [] = Unit {0}
+FollowFrom s slot (l ∷ ls) = (l.first ≡ slot) × FollowFrom s ((slot + l.cells) % s.cells) ls

@@ -8,5 +8,7 @@ pub mod Fits
 pub mod Images
 pub mod Record
 pub mod Recovery
+pub mod Rest
 pub mod RingLaws
+pub mod SettledRecords
 pub mod Tags

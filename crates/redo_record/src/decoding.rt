@@ -7,6 +7,7 @@ ghost use Rattle.redo_record.specs.Encoding.{word_in_slice, encoded_cells, IsEnc
 ghost use Rattle.redo_record.specs.Decoding.{HasHeadFor, Continues};
 
 use crate::bad_record::BadRecord;
+use crate::encoding::cells_for;
 use crate::tag::{CONTINUATION_KIND, HEAD_KIND, KIND};
 use dude_base::limits::{LINE, MAX_NUMBER, MAX_WRITES};
 use dude_base::redo::Redo;
@@ -49,7 +50,7 @@ fn check_head(cells: &[u64]) -> Result<u64, BadRecord>
     if tag <= HEAD_KIND || tag > HEAD_KIND + MAX_NUMBER || count > MAX_WRITES {
         return Err(BadRecord);
     }
-    if cells.len() as u64 != LINE * count.div_ceil(3).max(1) {
+    if cells.len() as u64 != LINE * cells_for(count) {
         return Err(BadRecord);
     }
     Ok(count)
@@ -61,7 +62,7 @@ fn check_continuations(cells: &[u64], count: u64) -> Result<(), BadRecord>
     ensures bad { OnErr result (¬ IsRecordSlice cells.now) }
 {
     let tag = CONTINUATION_KIND + cells[0] % KIND;
-    for k in 1..count.div_ceil(3).max(1) {
+    for k in 1..cells_for(count) {
         if cells[(LINE * k) as usize] != tag || cells[(LINE * k + 1) as usize] != k {
             return Err(BadRecord);
         }

@@ -1,18 +1,35 @@
-ghost use Rattle.std.specs.Prelude.{◌≡◌, ◌==◌, ◌<◌, length, if◌then◌else◌};
+ghost use Rattle.std.specs.Prelude.{◌≡◌, ◌==◌, ◌<◌, ◌≤◌, length, if◌then◌else◌};
 ghost use Rattle.redo_record.specs.Tags.{IsNumber, head_tag, continuation_tag};
 ghost use Rattle.redo_record.specs.Record.{cells_for};
 ghost use Rattle.redo_record.specs.Encoding.{encoded, write_or_zeros};
 
 use crate::tag::{CONTINUATION_KIND, HEAD_KIND};
-use dude_base::limits::LINE;
+use dude_base::limits::{LINE, MAX_WRITES};
 use dude_base::redo::Redo;
 use dude_base::write::Write;
 
+/// How many writes a cell holds.
+pub const CELL_WRITES: u64 = 3;
+
+/// How many cells a record takes at most.
+pub const RECORD_CELLS: u64 = MAX_WRITES / CELL_WRITES;
+
+/// How many cells so many writes take: one at least.
+pub fn cells_for(count: u64) -> u64
+    ensures cells { result ≡ cells_for count }
+    ensures some { 1 ≤ result }
+    ensures few { count ≤ MAX_WRITES → result ≤ RECORD_CELLS }
+{
+    count.div_ceil(CELL_WRITES).max(1)
+}
+
 /// How many cells a record takes.
 pub fn cells_of(r: &Redo) -> u64
-    ensures { result ≡ cells_for (length r.now.writes) }
+    ensures cells { result ≡ cells_for (length r.now.writes) }
+    ensures some { 1 ≤ result }
+    ensures few { result ≤ RECORD_CELLS }
 {
-    r.len().div_ceil(3).max(1)
+    cells_for(r.len())
 }
 
 /// Gives the words of one cell of a record. Cell 0 is its head.
@@ -50,7 +67,7 @@ fn tag_of_cell(number: u64, cell: u64) -> u64
     }
 }
 
-// The k-th write of a record, or zeros where it has none.
+// Write `k` of a record, or zeros where it has none.
 fn write_or_none(r: &Redo, k: u64) -> Write
     ensures { result ≡ write_or_zeros r.now.writes k }
 {

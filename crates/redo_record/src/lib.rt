@@ -7,14 +7,13 @@ mod decoding;
 mod encoding;
 mod laws;
 mod tag;
-#[cfg(test)]
-mod tests;
 
 pub use bad_record::BadRecord;
 pub use decoding::decode;
-pub use encoding::{cells_of, encode};
+pub use encoding::{CELL_WRITES, RECORD_CELLS, cells_for, cells_of, encode};
 pub use laws::{
-    law_of_append, law_of_decoding, law_of_encoding, law_of_following, law_of_release,
-    law_of_replay, law_of_rest, law_of_room,
+    law_of_append, law_of_appending, law_of_decoding, law_of_encoding, law_of_following,
+    law_of_images_at_rest, law_of_recovery, law_of_release, law_of_replay, law_of_rest,
+    law_of_room, law_of_settled_records,
 };
 pub use tag::{CONTINUATION_KIND, HEAD_KIND, KIND};

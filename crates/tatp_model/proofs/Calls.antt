@@ -11,7 +11,7 @@ use Rattle.tatp_model.specs.declared.call_row.CallRow.{CallRow}
 use Rattle.tatp_model.specs.Ranges.{IsStartTime}
 use Rattle.tatp_model.specs.Database.{call_key, IsCallRow}
 use Rattle.tatp_model.specs.Transaction.{forwards, is_call, with_call}
-use Rattle.tatp_model.proofs.Rows.{filter-front, filter-back}
+use Rattle.tatp_model.proofs.Rows.{filter-split}
 use Rattle.tatp_model.proofs.Rising.{pairs_from_rising, length-le_from_keys}
 
 -- the least key of a facility's call rows
@@ -21,6 +21,13 @@ first_key s_id sf_type = 3 * (4 * s_id + sf_type - 1)
 -- a start time is 0, 8 or 16, so its eighth is below 3
 eighth : (n : ℕ) → IsStartTime n → n / 8 < 3
 eighth n is = ⊎_elim (λ e. rw e (omega arith)) (λ later. ⊎_elim (λ e. rw e (omega arith)) (λ e. rw e (omega arith)) later) is
+
+-- a row that a request names has the key of its names
+pub call_key-is_call : (s_id sf_type start_time : ℕ) (r : CallRow) → is_call s_id sf_type start_time r ≡ true → call_key r ≡ 3 * (4 * s_id + sf_type - 1) + start_time / 8
+call_key-is_call s_id sf_type start_time r named =
+    let starts = and_parts ((r.s_id == s_id) && (r.sf_type == sf_type)) (r.start_time == start_time) named in
+    let names = and_parts (r.s_id == s_id) (r.sf_type == sf_type) starts.0 in
+    rw (eqb-true _ _ names.0, eqb-true _ _ names.1, eqb-true _ _ starts.1) refl
 
 -- a row that forwards a facility's calls belongs to it
 pub same_facility : (s_id sf_type start_time end_time : ℕ) (r : CallRow) → forwards s_id sf_type start_time end_time r ≡ true → (r.s_id ≡ s_id) × (r.sf_type ≡ sf_type)
@@ -77,8 +84,8 @@ key_names r s row row' same =
     and_from ((r.s_id == s.s_id) && (r.sf_type == s.sf_type)) (r.start_time == s.start_time) (and_from (r.s_id == s.s_id) (r.sf_type == s.sf_type) (eq-eqb _ _ names.0) (eq-eqb _ _ names.1)) (eq-eqb _ _ starts)
 
 -- a row whose key isn't there goes before the first greater key
-pub with_call-place : (row : CallRow) (rows : List CallRow) (at : ℕ) → IsCallRow row → All IsCallRow rows → IsStrictlyIncreasing (map call_key rows) → list_any (is_call row.s_id row.sf_type row.start_time) rows ≡ false → ((k : ℕ) (d : CallRow) → k < at → call_key (get_or rows k d) < call_key row) → ((d : CallRow) → at < length rows → call_key row ≤ call_key (get_or rows at d)) → with_call row rows ≡ take at rows ++ row ∷ drop at rows
-with_call-place row rows at in_range rows_in_range rise absent before here =
+pub with_call-at : (row : CallRow) (rows : List CallRow) (at : ℕ) → IsCallRow row → All IsCallRow rows → IsStrictlyIncreasing (map call_key rows) → list_any (is_call row.s_id row.sf_type row.start_time) rows ≡ false → ((k : ℕ) (d : CallRow) → k < at → call_key (get_or rows k d) < call_key row) → ((d : CallRow) → at < length rows → call_key row ≤ call_key (get_or rows at d)) → with_call row rows ≡ take at rows ++ row ∷ drop at rows
+with_call-at row rows at in_range rows_in_range rise absent before here =
     let key = call_key row in
     let pairs = pairs_from_rising call_key rows rise in
     let above : (k : ℕ) (d : CallRow) → at ≤ k → k < length rows → key < call_key (get_or rows k d) =
@@ -89,8 +96,8 @@ with_call-place row rows at in_range rows_in_range rise absent before here =
     let other : call_key (get_or rows k d) ≢ key =
     λ same. both_ways _ absent (list_any_at (is_call row.s_id row.sf_type row.start_time) rows k d within (key_names (get_or rows k d) row (rows_in_range k d within) in_range same)) in
     omega (arith, at_least, other) in
-    let front : filter (λ r. nat_lt (call_key r) key) rows ≡ take at rows =
-    filter-front (λ r. nat_lt (call_key r) key) rows at (λ k d h l. lt-ltb _ _ (before k d h)) (λ k d h l. le-ltb _ _ (here_or_above key (call_key (get_or rows k d)) (above k d h l))) in
-    let back : filter (λ r. nat_lt key (call_key r)) rows ≡ drop at rows =
-    filter-back (λ r. nat_lt key (call_key r)) rows at (λ k d h l. le-ltb _ _ (here_or_above (call_key (get_or rows k d)) key (before k d h))) (λ k d h l. lt-ltb _ _ (above k d h l)) in
-    ap₂ (λ (xs ys : List CallRow). xs ++ row ∷ ys) front back
+    let below : filter (λ r. nat_lt (call_key r) key) rows ≡ take at rows =
+    filter-split true (λ r. nat_lt (call_key r) key) rows at (λ k d h l. lt-ltb _ _ (before k d h)) (λ k d h l. le-ltb _ _ (here_or_above key (call_key (get_or rows k d)) (above k d h l))) in
+    let over : filter (λ r. nat_lt key (call_key r)) rows ≡ drop at rows =
+    filter-split false (λ r. nat_lt key (call_key r)) rows at (λ k d h l. le-ltb _ _ (here_or_above (call_key (get_or rows k d)) key (before k d h))) (λ k d h l. lt-ltb _ _ (above k d h l)) in
+    ap₂ (λ (xs ys : List CallRow). xs ++ row ∷ ys) below over

@@ -73,7 +73,7 @@ IsInOrder-subscribers db p f same_id same_number in_range order =
       access_in_range = order.access_in_range;
       facilities_in_range = order.facilities_in_range;
       calls_in_range = order.calls_in_range;
-      numbers_differ = AllPairs-map (λ r s. r.sub_nbr ≢ s.sub_nbr) g db.subscribers (λ i j d h l e. order.numbers_differ i j d h l (sym (number (get_or db.subscribers i d)) ∙ e ∙ number (get_or db.subscribers j d)));
+      phones_differ = AllPairs-map (λ r s. r.sub_nbr ≢ s.sub_nbr) g db.subscribers (λ i j d h l e. order.phones_differ i j d h l (sym (number (get_or db.subscribers i d)) ∙ e ∙ number (get_or db.subscribers j d)));
       access_belongs = All-weaker (λ a. Any (λ r. r.s_id ≡ a.s_id) db.subscribers) (λ a. Any (λ r. r.s_id ≡ a.s_id) (map g db.subscribers)) (λ a there. Any-map (λ r. r.s_id ≡ a.s_id) (λ r. r.s_id ≡ a.s_id) g db.subscribers (λ r e. id r ∙ e) there) db.access order.access_belongs;
       facilities_belong = All-weaker (λ a. Any (λ r. r.s_id ≡ a.s_id) db.subscribers) (λ a. Any (λ r. r.s_id ≡ a.s_id) (map g db.subscribers)) (λ a there. Any-map (λ r. r.s_id ≡ a.s_id) (λ r. r.s_id ≡ a.s_id) g db.subscribers (λ r e. id r ∙ e) there) db.facilities order.facilities_belong;
       calls_belong = order.calls_belong;
@@ -95,7 +95,7 @@ IsInOrder-facilities db p f same_id same_type in_range order =
       access_in_range = order.access_in_range;
       facilities_in_range = All-map IsFacRow g db.facilities (All-weaker IsFacRow (λ r. IsFacRow (g r)) (λ r h. choice IsFacRow p f r h (in_range r h)) db.facilities order.facilities_in_range);
       calls_in_range = order.calls_in_range;
-      numbers_differ = order.numbers_differ;
+      phones_differ = order.phones_differ;
       access_belongs = order.access_belongs;
       facilities_belong = All-map (λ a. Any (λ r. r.s_id ≡ a.s_id) db.subscribers) g db.facilities (All-weaker (λ a. Any (λ r. r.s_id ≡ a.s_id) db.subscribers) (λ a. Any (λ r. r.s_id ≡ (g a).s_id) db.subscribers) (λ a there. (there.0, there.1, there.2, there.3, there.4 ∙ sym (id a))) db.facilities order.facilities_belong);
       calls_belong = All-weaker (λ c. Any (λ r. (r.s_id ≡ c.s_id) × (r.sf_type ≡ c.sf_type)) db.facilities) (λ c. Any (λ r. (r.s_id ≡ c.s_id) × (r.sf_type ≡ c.sf_type)) (map g db.facilities)) (λ c there. Any-map (λ r. (r.s_id ≡ c.s_id) × (r.sf_type ≡ c.sf_type)) (λ r. (r.s_id ≡ c.s_id) × (r.sf_type ≡ c.sf_type)) g db.facilities (λ r e. (id r ∙ e.0, type r ∙ e.1)) there) db.calls order.calls_belong;
@@ -112,7 +112,7 @@ IsInOrder-calls db calls rise in_range belong order = record {
   access_in_range = order.access_in_range;
   facilities_in_range = order.facilities_in_range;
   calls_in_range = in_range;
-  numbers_differ = order.numbers_differ;
+  phones_differ = order.phones_differ;
   access_belongs = order.access_belongs;
   facilities_belong = order.facilities_belong;
   calls_belong = belong;
@@ -224,7 +224,7 @@ KeepsOrder-after_request limit db Sync range kept = kept
 pub KeepsOrder-step : (limit : ℕ) (db after : Database) (request : Request) → IsInRange request → IsInOrder db → length db.calls ≤ limit → after ≡ after_request limit db request → KeepsOrder limit after
 KeepsOrder-step limit db after request range order room is = subst (KeepsOrder limit) (sym is) (KeepsOrder-after_request limit db request range (record { order = order; room = room }))
 
--- what follows from either outcome of a call
-pub from_either : {T E : Type 0} (r : Result T E) (P Q G : Type 0) → OnOk r P → OnErr r Q → (P → G) → (Q → G) → G
-from_either (Ok x) P Q G ok err f g = f ok
-from_either (Err e) P Q G ok err f g = g err
+-- the tables that a step leaves that may fail, and then changes nothing
+pub KeepsOrder-either : {T E : Type 0} (r : Result T E) (limit : ℕ) (db after : Database) (request : Request) → IsInRange request → IsInOrder db → length db.calls ≤ limit → OnOk r (after ≡ after_request limit db request) → OnErr r (after ≡ db) → KeepsOrder limit after
+KeepsOrder-either (Ok x) limit db after request range order room is same = KeepsOrder-step limit db after request range order room is
+KeepsOrder-either (Err e) limit db after request range order room is same = subst (KeepsOrder limit) (sym same) (record { order = order; room = room })

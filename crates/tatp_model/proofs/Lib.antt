@@ -2,10 +2,9 @@ pub mod Calls
 pub mod Facilities
 pub mod InOrder
 pub mod Numbered
-pub mod NumbersLemmas
+pub mod PhonesLemmas
 pub mod PopulationInOrder
 pub mod PrintedOrder
-pub mod Retained
 pub mod Rising
 pub mod Rows
 pub mod Run

@@ -116,7 +116,7 @@ call_in_range s f k low high low' high' small = record {
   numberx = omega arith;
 }
 
--- the key of a call row is its facility's first, with its place among the three
+-- the key of a call row is its facility's first, with its index among the three
 call_key-call_at : (s f k : ℕ) → call_key (call_at s f k) ≡ 3 * (4 * s + f - 1) + k
 call_key-call_at s f k = omega arith
 
@@ -156,7 +156,7 @@ IsInOrder-population S small = record {
   access_in_range = All-flat_map IsAccessRow access_of 1 S (λ s low high. All-range IsAccessRow (access_at s) 1 (1 + s % 4) (λ a low' high'. access_in_range s a low (omega arith) low' (omega arith)));
   facilities_in_range = All-flat_map IsFacRow facilities_of 1 S (λ s low high. All-range IsFacRow (facility_at s) 1 (1 + (s + 1) % 4) (λ f low' high'. facility_in_range s f low (omega arith) low' (omega arith)));
   calls_in_range = All-flat_map IsCallRow calls_of 1 S (λ s low high. All-calls IsCallRow s (λ f k low' high' few. call_in_range s f k low (omega arith) low' (omega arith) few));
-  numbers_differ = AllPairs-range (λ r t. r.sub_nbr ≢ t.sub_nbr) subscriber_at 1 S (λ i j _ less same. absurd (omega (arith, less, same)));
+  phones_differ = AllPairs-range (λ r t. r.sub_nbr ≢ t.sub_nbr) subscriber_at 1 S (λ i j _ less same. absurd (omega (arith, less, same)));
   access_belongs = All-flat_map (λ a. Any (λ r. r.s_id ≡ a.s_id) (population S).subscribers) access_of 1 S (λ s low high. All-range (λ a. Any (λ r. r.s_id ≡ a.s_id) (population S).subscribers) (access_at s) 1 (1 + s % 4) (λ a _ _. Any-range (λ r. r.s_id ≡ s) subscriber_at 1 S s low high refl));
   facilities_belong = All-flat_map (λ f. Any (λ r. r.s_id ≡ f.s_id) (population S).subscribers) facilities_of 1 S (λ s low high. All-range (λ f. Any (λ r. r.s_id ≡ f.s_id) (population S).subscribers) (facility_at s) 1 (1 + (s + 1) % 4) (λ f _ _. Any-range (λ r. r.s_id ≡ s) subscriber_at 1 S s low high refl));
   calls_belong =

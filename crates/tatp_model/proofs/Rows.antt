@@ -1,8 +1,12 @@
 -- Lists of rows, of which at most one passes a test.
-use Rattle.std.proofs.Common.{◌≡◌, ℕ, zero, suc, ◌<◌, ◌≤◌, Bool, true, false, List, [], ◌∷◌, length, get_or, take, drop, set, refl, ap, sym, ◌∙◌, arith, Some, None, ◌≢◌, ⊎_elim, subst}
-use Rattle.std.proofs.lemmas.Bool.{cases_Bool, cases_lt, lt-ltb, eq-eqb, ne_eqb}
+use Rattle.std.proofs.Common.{◌≡◌, ℕ, zero, suc, ◌<◌, ◌≤◌, Bool, true, false, cond, List, [], ◌∷◌, length, get_or, take, drop, set, refl, ap, sym, ◌∙◌, arith, Some, None, ◌≢◌, ⊎_elim, subst}
+use Rattle.std.proofs.lemmas.Bool.{cases_Bool, cases_lt, lt-ltb, le-ltb, eq-eqb, ne_eqb, or_parts}
+use Rattle.std.proofs.Math.Bool.{or-false}
 use Rattle.std.proofs.lemmas.List.Quantifiers.{position-Some}
-use Rattle.std.proofs.lemmas.List.Folds.{list_any_at}
+use Rattle.std.specs.Prelude.{slice_get, is_some, ◌&&◌, remove}
+use Rattle.std.proofs.lemmas.List.Folds.{find_at, list_any_none}
+use Rattle.std.proofs.lemmas.List.Sums.{position_or_len_is}
+use Rattle.std.proofs.lemmas.Option.{slice_get_past, slice_get-get_or}
 use Rattle.std.specs.List.{list_any, filter, position, position_or_len, AllPairs, All, find}
 use Rattle.std.proofs.Common.{not, eqb}
 use Rattle.std.proofs.lemmas.List.Elements.{All-head, All-tail}
@@ -29,25 +33,35 @@ update_where-at p f (r ∷ rows) (suc i) d within here before after =
     let passed : p r ≡ false = before 0 r (omega arith) in
     rw passed (ap (λ rest. r ∷ rest) (update_where-at p f rows i d (omega arith) here (λ j e h. before (suc j) e (omega arith)) (λ j e h k. after (suc j) e (omega arith) (omega arith))))
 
--- no place was found, so no row passes
+-- no index was found, so no row passes
 none_from_len : {R : Type 0} (p : R → Bool) (rows : List R) → length rows ≤ position_or_len p rows → list_any p rows ≡ false
 none_from_len p [] past = refl
 none_from_len p (r ∷ rows) past =
     ⊎_elim (λ e. absurd (omega (arith, rw e at past))) (λ e. rw e (none_from_len p rows (omega (arith, rw e at past)))) (cases_Bool (p r))
 
+-- an index was found, so some row passes
+any_within : {R : Type 0} (p : R → Bool) (rows : List R) → position_or_len p rows < length rows → list_any p rows ≡ true
+any_within p [] within = absurd (omega arith)
+any_within p (r ∷ rows) within =
+    ⊎_elim (λ e. rw e refl) (λ e. rw e (any_within p rows (omega (arith, rw e at within)))) (cases_Bool (p r))
+
+-- a row passes exactly where an index was found
+pub list_any-position : {R : Type 0} (p : R → Bool) (rows : List R) → list_any p rows ≡ is_some (position p rows)
+list_any-position p rows =
+    ⊎_elim (λ h. let within = lt-ltb (position_or_len p rows) (length rows) h in rw within (any_within p rows h))
+    (λ h. let past = le-ltb (position_or_len p rows) (length rows) h in rw past (none_from_len p rows h)) (cases_lt (position_or_len p rows) (length rows))
+
 pub list_any-position_None : {R : Type 0} (p : R → Bool) (rows : List R) → position p rows ≡ None → list_any p rows ≡ false
-list_any-position_None p rows e =
-    ⊎_elim (λ h. let within = lt-ltb (position_or_len p rows) (length rows) h in let found = rw within at e in cc) (λ h. none_from_len p rows h) (cases_lt (position_or_len p rows) (length rows))
+list_any-position_None p rows none = list_any-position p rows ∙ ap is_some none
 
 pub position_Some-any : {R : Type 0} (p : R → Bool) (rows : List R) (i : ℕ) → position p rows ≡ Some i → list_any p rows ≡ true
-position_Some-any p [] i e = cc
-position_Some-any p (r ∷ rows) i e = let at = position-Some p (r ∷ rows) i r e in list_any_at p (r ∷ rows) i r at.0 at.1
+position_Some-any p rows i some = list_any-position p rows ∙ ap is_some some
 
 -- at most one row passes: rows that pass have one key, and no two have
 pub record AtMostOne {R : Type 0} (p : R → Bool) (rows : List R) : Type 0 where
   pub apart : AllPairs (λ r s. p r ≡ true → p s ≡ true → ⊥) rows
 
--- where one row alone passes, a write at its place rewrites it
+-- where one row alone passes, a write at its index rewrites it
 pub update_where-position : {R : Type 0} (p : R → Bool) (f : R → R) (rows : List R) (i : ℕ) (d : R) → AtMostOne p rows → position p rows ≡ Some i → update_where p f rows ≡ set rows i (f (get_or rows i d))
 update_where-position p f rows i d one e =
     let at = position-Some p rows i d e in
@@ -79,33 +93,67 @@ All-find P p [] r all e = cc
 All-find P p (s ∷ rows) r all e =
     ⊎_elim (λ h. let is : s ≡ r = (let found = rw h at e in cc) in subst P is (All-head P s rows all)) (λ h. let later = rw h at e in All-find P p rows r (All-tail P s rows all) later) (cases_Bool (p s))
 
--- a filter that each row passes keeps all, and one that none passes keeps none
-filter-all : {R : Type 0} (p : R → Bool) (rows : List R) → ((k : ℕ) (d : R) → k < length rows → p (get_or rows k d) ≡ true) → filter p rows ≡ rows
-filter-all p [] all = refl
-filter-all p (r ∷ rows) all =
-    let here : p r ≡ true = all 0 r (omega arith) in
-    rw here (ap (λ rest. r ∷ rest) (filter-all p rows (λ k d h. all (suc k) d (omega arith))))
+-- a filter keeps all rows where each passes, and none where none does
+pub filter-uniform : {R : Type 0} (b : Bool) (p : R → Bool) (rows : List R) → ((k : ℕ) (d : R) → k < length rows → p (get_or rows k d) ≡ b) → filter p rows ≡ cond b rows []
+filter-uniform true p [] same = refl
+filter-uniform false p [] same = refl
+filter-uniform true p (r ∷ rows) same =
+    rw (same 0 r (omega arith)) (ap (λ rest. r ∷ rest) (filter-uniform true p rows (λ k d h. same (suc k) d (omega arith))))
+filter-uniform false p (r ∷ rows) same = rw (same 0 r (omega arith)) (filter-uniform false p rows (λ k d h. same (suc k) d (omega arith)))
 
-filter-none : {R : Type 0} (p : R → Bool) (rows : List R) → ((k : ℕ) (d : R) → k < length rows → p (get_or rows k d) ≡ false) → filter p rows ≡ []
-filter-none p [] none = refl
-filter-none p (r ∷ rows) none =
-    let here : p r ≡ false = none 0 r (omega arith) in
-    rw here (filter-none p rows (λ k d h. none (suc k) d (omega arith)))
+-- rows that answer `b` to the test before index i, and otherwise from there on
+pub filter-split : {R : Type 0} (b : Bool) (p : R → Bool) (rows : List R) (i : ℕ) → ((k : ℕ) (d : R) → k < i → k < length rows → p (get_or rows k d) ≡ b) → ((k : ℕ) (d : R) → i ≤ k → k < length rows → p (get_or rows k d) ≡ not b) → filter p rows ≡ cond b (take i rows) (drop i rows)
+filter-split true p rows zero before after = filter-uniform false p rows (λ k d h. after k d (omega arith) h)
+filter-split false p rows zero before after = filter-uniform true p rows (λ k d h. after k d (omega arith) h)
+filter-split true p [] (suc i) before after = refl
+filter-split false p [] (suc i) before after = refl
+filter-split true p (r ∷ rows) (suc i) before after =
+    rw (before 0 r (omega arith) (omega arith)) (ap (λ rest. r ∷ rest) (filter-split true p rows i (λ k d h l. before (suc k) d (omega arith) (omega arith)) (λ k d h l. after (suc k) d (omega arith) (omega arith))))
+filter-split false p (r ∷ rows) (suc i) before after =
+    rw (before 0 r (omega arith) (omega arith)) (filter-split false p rows i (λ k d h l. before (suc k) d (omega arith) (omega arith)) (λ k d h l. after (suc k) d (omega arith) (omega arith)))
 
--- rows that pass before place i, and fail from there on
-pub filter-front : {R : Type 0} (p : R → Bool) (rows : List R) (i : ℕ) → ((k : ℕ) (d : R) → k < i → k < length rows → p (get_or rows k d) ≡ true) → ((k : ℕ) (d : R) → i ≤ k → k < length rows → p (get_or rows k d) ≡ false) → filter p rows ≡ take i rows
-filter-front p [] zero before after = refl
-filter-front p [] (suc i) before after = refl
-filter-front p (r ∷ rows) zero before after = filter-none p (r ∷ rows) (λ k d h. after k d (omega arith) h)
-filter-front p (r ∷ rows) (suc i) before after =
-    let here : p r ≡ true = before 0 r (omega arith) (omega arith) in
-    rw here (ap (λ rest. r ∷ rest) (filter-front p rows i (λ k d h l. before (suc k) d (omega arith) (omega arith)) (λ k d h l. after (suc k) d (omega arith) (omega arith))))
+-- the row found is the one at the index found
+pub find-position_None : {R : Type 0} (p : R → Bool) (rows : List R) → position p rows ≡ None → find p rows ≡ None
+find-position_None p rows none =
+    ⊎_elim (λ h. let within = lt-ltb (position_or_len p rows) (length rows) h in let found = rw within at none in cc) (λ h. find_at p rows ∙ slice_get_past rows (position_or_len p rows) h) (cases_lt (position_or_len p rows) (length rows))
 
--- rows that fail before place i, and pass from there on
-pub filter-back : {R : Type 0} (p : R → Bool) (rows : List R) (i : ℕ) → ((k : ℕ) (d : R) → k < i → k < length rows → p (get_or rows k d) ≡ false) → ((k : ℕ) (d : R) → i ≤ k → k < length rows → p (get_or rows k d) ≡ true) → filter p rows ≡ drop i rows
-filter-back p [] zero before after = refl
-filter-back p [] (suc i) before after = refl
-filter-back p (r ∷ rows) zero before after = filter-all p (r ∷ rows) (λ k d h. after k d (omega arith) h)
-filter-back p (r ∷ rows) (suc i) before after =
-    let here : p r ≡ false = before 0 r (omega arith) (omega arith) in
-    rw here (filter-back p rows i (λ k d h l. before (suc k) d (omega arith) (omega arith)) (λ k d h l. after (suc k) d (omega arith) (omega arith)))
+pub find-position_Some : {R : Type 0} (p : R → Bool) (rows : List R) (i : ℕ) (d : R) → position p rows ≡ Some i → find p rows ≡ Some (get_or rows i d)
+find-position_Some p rows i d some =
+    let at = position-Some p rows i d some in
+    let is : position_or_len p rows ≡ i = position_or_len_is p rows i d (omega (arith, at.0)) (λ k h. (position-Some p rows i d some).2 k h) (λ h. at.1) in
+    find_at p rows ∙ ap (slice_get rows) is ∙ slice_get-get_or rows i d at.0
+
+-- where one row alone passes, the others are those without it
+filter-except : {R : Type 0} (p : R → Bool) (rows : List R) (i : ℕ) (d : R) → i < length rows → p (get_or rows i d) ≡ true → ((j : ℕ) (e : R) → j < i → p (get_or rows j e) ≡ false) → ((j : ℕ) (e : R) → i < j → j < length rows → p (get_or rows j e) ≡ false) → filter (λ r. not (p r)) rows ≡ remove rows i
+filter-except p [] i d within here before after = absurd (omega arith)
+filter-except p (r ∷ rows) zero d within here before after =
+    rw here (filter-uniform true (λ x. not (p x)) rows (λ j e h. ap not (after (suc j) e (omega arith) (omega arith))))
+filter-except p (r ∷ rows) (suc i) d within here before after =
+    rw (before 0 r (omega arith)) (ap (λ rest. r ∷ rest) (filter-except p rows i d (omega arith) here (λ j e h. before (suc j) e (omega arith)) (λ j e h k. after (suc j) e (omega arith) (omega arith))))
+
+pub filter-not_position : {R : Type 0} (p : R → Bool) (rows : List R) (i : ℕ) (d : R) → AtMostOne p rows → position p rows ≡ Some i → filter (λ r. not (p r)) rows ≡ remove rows i
+filter-not_position p rows i d one some =
+    let at = position-Some p rows i d some in
+    filter-except p rows i d at.0 at.1 (λ j e h. (position-Some p rows i e some).2 j h) (λ j e h k. not_true (p (get_or rows j e)) (one.apart i j e h k (position-Some p rows i e some).1))
+
+-- where one row alone passes, a further test is asked of it alone
+any-and_none : {R : Type 0} (p q : R → Bool) (rows : List R) → list_any p rows ≡ false → list_any (λ r. p r && q r) rows ≡ false
+any-and_none p q [] none = refl
+any-and_none p q (r ∷ rows) none =
+    let parts = or_parts (p r) (list_any p rows) none in rw parts.0 (any-and_none p q rows parts.1)
+
+any-and : {R : Type 0} (p q : R → Bool) (rows : List R) (i : ℕ) (d : R) → i < length rows → p (get_or rows i d) ≡ true → ((j : ℕ) (e : R) → j < i → p (get_or rows j e) ≡ false) → ((j : ℕ) (e : R) → i < j → j < length rows → p (get_or rows j e) ≡ false) → list_any (λ r. p r && q r) rows ≡ q (get_or rows i d)
+any-and p q [] i d within here before after = absurd (omega arith)
+any-and p q (r ∷ rows) zero d within here before after =
+    let none : list_any p rows ≡ false = list_any_none p rows (λ j e h. after (suc j) e (omega arith) (omega arith)) in
+    rw (here, any-and_none p q rows none) (or-false (q r))
+any-and p q (r ∷ rows) (suc i) d within here before after =
+    rw (before 0 r (omega arith)) (any-and p q rows i d (omega arith) here (λ j e h. before (suc j) e (omega arith)) (λ j e h k. after (suc j) e (omega arith) (omega arith)))
+
+pub any-and_position : {R : Type 0} (p q : R → Bool) (rows : List R) (i : ℕ) (d : R) → AtMostOne p rows → position p rows ≡ Some i → list_any (λ r. p r && q r) rows ≡ q (get_or rows i d)
+any-and_position p q rows i d one some =
+    let at = position-Some p rows i d some in
+    any-and p q rows i d at.0 at.1 (λ j e h. (position-Some p rows i e some).2 j h) (λ j e h k. not_true (p (get_or rows j e)) (one.apart i j e h k (position-Some p rows i e some).1))
+
+pub any-and_position_None : {R : Type 0} (p q : R → Bool) (rows : List R) → position p rows ≡ None → list_any (λ r. p r && q r) rows ≡ false
+any-and_position_None p q rows none = any-and_none p q rows (list_any-position_None p rows none)

@@ -4,7 +4,7 @@ use Rattle.std.specs.Prelude.{if◌then◌else◌}
 use Rattle.std.specs.List.{All, AllPairs, filter, enumerate_from}
 use Rattle.std.proofs.lemmas.Bool.{cases_Bool, cases_lt, both_ways}
 use Rattle.std.proofs.lemmas.List.{map-append}
-use Rattle.std.proofs.lemmas.List.Elements.{filter-append, All-nil, All-push, All-head, All-tail, All-filter, All-weaker}
+use Rattle.std.proofs.lemmas.List.Elements.{filter-append, All-nil, All-push, All-filter, All-weaker}
 use Rattle.std.proofs.lemmas.List.Sorted.{IsPermutation-refl}
 use Rattle.std.proofs.lemmas.List.Quantifiers.{all_pairs_push}
 use Rattle.tatp_model.specs.declared.done.Done.{Done}
@@ -12,14 +12,15 @@ use Rattle.tatp_model.specs.declared.request.Request.{Request}
 use Rattle.tatp_model.specs.declared.reply.Reply.TheVariants.{Durable}
 use Rattle.tatp_model.specs.Database.{Database}
 use Rattle.tatp_model.specs.Transaction.{reply_to}
-use Rattle.tatp_model.specs.OneThread.{is_sync, is_changed, Precedes, RepliesAlong, PlacedRequest, placed_request_of, placed_requests_from, HoldsAll, IsPrefixOf, RepliesOfOneThread}
+use Rattle.tatp_model.specs.OneThread.{is_sync, is_changed, Precedes, RepliesAlong, IndexedRequest, indexed_request_of, indexed_requests_from, HoldsAll, IsPrefixOf, RepliesOfOneThread}
+use Rattle.tatp_model.proofs.Rows.{filter-uniform}
 use Rattle.tatp_model.proofs.Run.{after_order, RepliesAlong-push}
 
 -- `done` answers the requests of one file up to number `last`, in turn
-pub record Sequential (first last limit : ℕ) (db : Database) (front : List Request) (done : List Done) : Type 0 where
+pub record Sequential (first last limit : ℕ) (db : Database) (prefix : List Request) (done : List Done) : Type 0 where
   pub begun : first ≤ last
-  pub held : HoldsAll (front ∷ []) done
-  pub in_file : All (λ d. (d.file ≡ 0) × (d.index < length front)) done
+  pub held : HoldsAll (prefix ∷ []) done
+  pub in_file : All (λ d. (d.file ≡ 0) × (d.index < length prefix)) done
   pub asked : All (λ d. is_sync d.request ≡ false) done
   pub distinct : AllPairs (λ d e. d.number ≡ e.number → ⊥) (filter (λ d. d.wrote) done)
   pub over : All (λ d. first < d.number) (filter (λ d. d.wrote) done)
@@ -44,22 +45,13 @@ Sequential-start first limit db = record {
   one_thread = tt;
 }
 
--- nothing is left out where each passes
-filter_all : (p : Done → Bool) (done : List Done) → All (λ d. p d ≡ true) done → filter p done ≡ done
-filter_all p [] all = refl
-filter_all p (d ∷ done) all = rw (All-head (λ e. p e ≡ true) d done all) (ap (λ rest. d ∷ rest) (filter_all p done (All-tail (λ e. p e ≡ true) d done all)))
-
-filter_none : (p : Done → Bool) (done : List Done) → All (λ d. p d ≡ false) done → filter p done ≡ []
-filter_none p [] none = refl
-filter_none p (d ∷ done) none = rw (All-head (λ e. p e ≡ false) d done none) (filter_none p done (All-tail (λ e. p e ≡ false) d done none))
-
 -- the replies of such a run are one thread's
-pub RepliesOfOneThread-from_sequential : (first last limit : ℕ) (db : Database) (front requests : List Request) (done : List Done) → Sequential first last limit db front done → IsPrefixOf front requests → RepliesOfOneThread first limit db (requests ∷ []) done
-RepliesOfOneThread-from_sequential first last limit db front requests done run is_front =
-    let asked : filter (λ d. not (is_sync d.request)) done ≡ done = filter_all (λ d. not (is_sync d.request)) done (λ k d h. ap not (run.asked k d h)) in
-    let no_syncs : filter (λ d. is_sync d.request) done ≡ [] = filter_none (λ d. is_sync d.request) done run.asked in
+pub RepliesOfOneThread-from_sequential : (first last limit : ℕ) (db : Database) (prefix requests : List Request) (done : List Done) → Sequential first last limit db prefix done → IsPrefixOf prefix requests → RepliesOfOneThread first limit db (requests ∷ []) done
+RepliesOfOneThread-from_sequential first last limit db prefix requests done run is_prefix =
+    let asked : filter (λ d. not (is_sync d.request)) done ≡ done = filter-uniform true (λ d. not (is_sync d.request)) done (λ k d h. ap not (run.asked k d h)) in
+    let no_syncs : filter (λ d. is_sync d.request) done ≡ [] = filter-uniform false (λ d. is_sync d.request) done run.asked in
     record {
-      held = (front ∷ [], (is_front, tt), run.held);
+      held = (prefix ∷ [], (is_prefix, tt), run.held);
       distinct = run.distinct;
       over = run.over;
       from = rw asked run.from;
@@ -71,9 +63,9 @@ RepliesOfOneThread-from_sequential first last limit db front requests done run i
     }
 
 -- `d` answers the next request of the file, at the database after the others: a request that writes draws the next number
-pub record IsNext (last place limit : ℕ) (db : Database) (d : Done) : Type 0 where
+pub record IsNext (last at limit : ℕ) (db : Database) (d : Done) : Type 0 where
   pub file : d.file ≡ 0
-  pub index : d.index ≡ place
+  pub index : d.index ≡ at
   pub asked : is_sync d.request ≡ false
   pub reply : d.reply ≡ reply_to limit db d.request
   pub wrote : d.wrote ≡ is_changed d.reply
@@ -82,14 +74,14 @@ pub record IsNext (last place limit : ℕ) (db : Database) (d : Done) : Type 0 w
 enumerate_from-push : (n : ℕ) (xs : List Request) (y : Request) → enumerate_from n (xs ++ y ∷ []) ≡ enumerate_from n xs ++ (n + length xs, y) ∷ []
 enumerate_from-push n [] y = let here : n ≡ n + 0 = omega arith in ap (λ m. (m, y) ∷ []) here
 enumerate_from-push n (x ∷ xs) y =
-    let place : n + 1 + length xs ≡ n + length (x ∷ xs) = omega arith in
-    ap (λ rest. (n, x) ∷ rest) (enumerate_from-push (n + 1) xs y ∙ ap (λ m. enumerate_from (n + 1) xs ++ (m, y) ∷ []) place)
+    let at : n + 1 + length xs ≡ n + length (x ∷ xs) = omega arith in
+    ap (λ rest. (n, x) ∷ rest) (enumerate_from-push (n + 1) xs y ∙ ap (λ m. enumerate_from (n + 1) xs ++ (m, y) ∷ []) at)
 
--- the placed requests of a file with one request more
-placed_requests_from-push : (front : List Request) (q : Request) → placed_requests_from 0 ((front ++ q ∷ []) ∷ []) ≡ placed_requests_from 0 (front ∷ []) ++ record { file = 0; index = length front; request = q } ∷ []
-placed_requests_from-push front q =
-    let placed = λ (r : ℕ × Request). let s : PlacedRequest = record { file = 0; index = r.0; request = r.1 } in s in
-    rw (append-nil, append-nil, enumerate_from-push 0 front q) (map-append placed (enumerate_from 0 front) ((0 + length front, q) ∷ []) ∙ ap (λ (m : ℕ). map placed (enumerate_from 0 front) ++ placed (m, q) ∷ []) (zero-add (length front)))
+-- the indexed requests of a file with one request more
+indexed_requests_from-push : (prefix : List Request) (q : Request) → indexed_requests_from 0 ((prefix ++ q ∷ []) ∷ []) ≡ indexed_requests_from 0 (prefix ∷ []) ++ record { file = 0; index = length prefix; request = q } ∷ []
+indexed_requests_from-push prefix q =
+    let indexed = λ (r : ℕ × Request). let s : IndexedRequest = record { file = 0; index = r.0; request = r.1 } in s in
+    rw (append-nil, append-nil, enumerate_from-push 0 prefix q) (map-append indexed (enumerate_from 0 prefix) ((0 + length prefix, q) ∷ []) ∙ ap (λ (m : ℕ). map indexed (enumerate_from 0 prefix) ++ indexed (m, q) ∷ []) (zero-add (length prefix)))
 
 -- a number that is written after another is greater, and a number that isn't written is at least it
 next_number : (last : ℕ) (d : Done) → d.number ≡ (if d.wrote then last + 1 else last) → (last ≤ d.number) × (d.wrote ≡ true → last < d.number) × (d.number ≤ last + 1)
@@ -109,20 +101,20 @@ filter-push : (p : Done → Bool) (done : List Done) (d : Done) (b : Bool) → p
 filter-push p done d b e = rw (filter-append p done (d ∷ []), e) refl
 
 -- one request more
-pub Sequential-push : (first last limit : ℕ) (db : Database) (front : List Request) (done : List Done) (d : Done) → Sequential first last limit db front done → IsNext last (length front) limit (after_order limit db done) d → Sequential first d.number limit db (front ++ d.request ∷ []) (done ++ d ∷ [])
-Sequential-push first last limit db front done d run next =
+pub Sequential-push : (first last limit : ℕ) (db : Database) (prefix : List Request) (done : List Done) (d : Done) → Sequential first last limit db prefix done → IsNext last (length prefix) limit (after_order limit db done) d → Sequential first d.number limit db (prefix ++ d.request ∷ []) (done ++ d ∷ [])
+Sequential-push first last limit db prefix done d run next =
     let number = next_number last d next.number in
     let wrote = λ (e : Done). e.wrote in
     let written_before : All (λ e. e.number ≤ last) (filter wrote done) = All-filter wrote (λ e. e.number ≤ last) done run.within in
-    let longer : length (front ++ d.request ∷ []) ≡ length front + 1 = length-append front (d.request ∷ []) in
+    let longer : length (prefix ++ d.request ∷ []) ≡ length prefix + 1 = length-append prefix (d.request ∷ []) in
     record {
       begun = omega (arith, run.begun, number.0);
       held =
-          map-append placed_request_of done (d ∷ []) ∙ ap₂ (λ (xs : List PlacedRequest) (y : PlacedRequest). xs ++ y ∷ []) run.held (λ i. record { file = next.file i; index = next.index i; request = d.request })
-          ∙ sym (placed_requests_from-push front d.request);
+          map-append indexed_request_of done (d ∷ []) ∙ ap₂ (λ (xs : List IndexedRequest) (y : IndexedRequest). xs ++ y ∷ []) run.held (λ i. record { file = next.file i; index = next.index i; request = d.request })
+          ∙ sym (indexed_requests_from-push prefix d.request);
       in_file =
-          All-push (λ e. (e.file ≡ 0) × (e.index < length (front ++ d.request ∷ []))) done d
-          (All-weaker (λ e. (e.file ≡ 0) × (e.index < length front)) (λ e. (e.file ≡ 0) × (e.index < length (front ++ d.request ∷ []))) (λ e h. (h.0, omega (arith, h.1, longer))) done run.in_file)
+          All-push (λ e. (e.file ≡ 0) × (e.index < length (prefix ++ d.request ∷ []))) done d
+          (All-weaker (λ e. (e.file ≡ 0) × (e.index < length prefix)) (λ e. (e.file ≡ 0) × (e.index < length (prefix ++ d.request ∷ []))) (λ e h. (h.0, omega (arith, h.1, longer))) done run.in_file)
           (next.file, omega (arith, next.index, longer));
       asked = All-push (λ e. is_sync e.request ≡ false) done d run.asked next.asked;
       distinct =

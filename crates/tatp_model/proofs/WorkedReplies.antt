@@ -4,7 +4,7 @@ use Rattle.tatp_model.specs.declared.request.Request.TheVariants.{GetSubscriber,
 use Rattle.tatp_model.specs.declared.reply.Reply.TheVariants.{Subscriber, Destinations, Access, Changed, Missing, NoFacility, Duplicate, FullTable, Durable}
 use Rattle.tatp_model.specs.declared.sub_row.SubRow.{SubRow}
 use Rattle.tatp_model.specs.declared.call_row.CallRow.{CallRow}
-use Rattle.tatp_model.specs.Numbers.{numbers_of}
+use Rattle.tatp_model.specs.Phones.{phones_of}
 use Rattle.tatp_model.specs.Database.{Database}
 use Rattle.tatp_model.specs.Transaction.{reply_to, after_request}
 use Rattle.tatp_model.specs.Population.{population, population_calls}
@@ -29,10 +29,10 @@ reads_what_was_written : reply_to 96 (after_request 96 (population 8) (UpdateLoc
 unfolding first_subscriber
 reads_what_was_written = refl
 
-misses_an_unknown_number : reply_to 96 (population 8) (UpdateLocation 9 7) ≡ Missing
-misses_an_unknown_number = refl
+misses_an_unknown_phone : reply_to 96 (population 8) (UpdateLocation 9 7) ≡ Missing
+misses_an_unknown_phone = refl
 
-reads_destinations : reply_to 96 (population 8) (GetDestination 1 1 8 1) ≡ Destinations (numbers_of (110 ∷ 111 ∷ []))
+reads_destinations : reply_to 96 (population 8) (GetDestination 1 1 8 1) ≡ Destinations (phones_of (110 ∷ 111 ∷ []))
 reads_destinations = refl
 
 bounds_the_end_strictly : reply_to 96 (population 8) (GetDestination 1 1 0 2) ≡ Missing
@@ -103,7 +103,7 @@ populates_calls : (population 1).calls ≡ calls_of_one
 unfolding calls_of_one
 populates_calls = refl
 
--- a full table says so before the row goes to its place
+-- a full table says so before it looks where the row belongs
 inserts_before_the_last : reply_to 5 (population 1) (InsertCall 1 3 16 24 777) ≡ FullTable
 inserts_before_the_last = refl
 

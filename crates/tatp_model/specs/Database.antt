@@ -78,7 +78,7 @@ pub record IsInOrder (db : Database) : Type 0 where
   pub access_in_range : All IsAccessRow db.access
   pub facilities_in_range : All IsFacRow db.facilities
   pub calls_in_range : All IsCallRow db.calls
-  pub numbers_differ : AllPairs (λ r s. r.sub_nbr ≢ s.sub_nbr) db.subscribers
+  pub phones_differ : AllPairs (λ r s. r.sub_nbr ≢ s.sub_nbr) db.subscribers
   pub access_belongs : All (λ a. Any (λ r. r.s_id ≡ a.s_id) db.subscribers) db.access
   pub facilities_belong : All (λ f. Any (λ r. r.s_id ≡ f.s_id) db.subscribers) db.facilities
   pub calls_belong : All (λ c. Any (λ f. (f.s_id ≡ c.s_id) × (f.sf_type ≡ c.sf_type)) db.facilities) db.calls

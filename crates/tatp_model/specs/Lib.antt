@@ -1,4 +1,4 @@
-pub mod Numbers
+pub mod Phones
 pub mod Ranges
 pub mod Database
 pub mod Request

@@ -34,7 +34,7 @@ pub record IsPrintedOrder (done order : List Done) : Type 0 where
   pub same : IsPermutation (filter (λ d. not (is_sync d.request)) done) order
   pub sorted : AllPairs Precedes order
 
--- one thread that starts with db and executes the requests in this order gives these replies, and a request wrote
+-- one thread that starts with db and performs the requests in this order gives these replies, and a request wrote
 -- exactly where its reply is `Changed`
 abbrev pub RepliesAlong : ℕ → Database → List Done → Type 0
 RepliesAlong limit db [] = ⊤
@@ -50,33 +50,33 @@ abbrev pub after_number : ℕ → Database → List Done → ℕ → Database
 after_number limit db order n =
     after_requests limit db (map (λ d. d.request) (filter (λ d. d.wrote && nat_le d.number n) order))
 
--- a request with its place in the files
-pub record PlacedRequest : Type 0 where
+-- a request with its file and its index there
+pub record IndexedRequest : Type 0 where
   pub file : ℕ
   pub index : ℕ
   pub request : Request
 
-abbrev pub placed_request_of : Done → PlacedRequest
-placed_request_of d = record { file = d.file; index = d.index; request = d.request }
+abbrev pub indexed_request_of : Done → IndexedRequest
+indexed_request_of d = record { file = d.file; index = d.index; request = d.request }
 
--- the requests of the files from number `file` on, in order of file and index
-abbrev pub placed_requests_from : ℕ → List (List Request) → List PlacedRequest
-placed_requests_from file [] = []
-placed_requests_from file (requests ∷ files) =
-    map (λ r. record { file = file; index = r.0; request = r.1 }) (enumerate_from 0 requests) ++ placed_requests_from (file + 1) files
+-- the requests of the files from index `file` on, in order of file and index
+abbrev pub indexed_requests_from : ℕ → List (List Request) → List IndexedRequest
+indexed_requests_from file [] = []
+indexed_requests_from file (requests ∷ files) =
+    map (λ r. record { file = file; index = r.0; request = r.1 }) (enumerate_from 0 requests) ++ indexed_requests_from (file + 1) files
 
 -- `done` holds each request of the files once, in order of file and index
 abbrev pub HoldsAll : List (List Request) → List Done → Type 0
-HoldsAll files done = map placed_request_of done ≡ placed_requests_from 0 files
+HoldsAll files done = map indexed_request_of done ≡ indexed_requests_from 0 files
 
 abbrev pub IsPrefixOf : List Request → List Request → Type 0
-IsPrefixOf front requests = (rest : List Request) × (requests ≡ front ++ rest)
+IsPrefixOf prefix requests = (rest : List Request) × (requests ≡ prefix ++ rest)
 
 -- `done` holds a prefix of each file's requests
 abbrev pub HoldsPrefixes : List (List Request) → List Done → Type 0
-HoldsPrefixes files done = (fronts : List (List Request)) × AllZip IsPrefixOf fronts files × HoldsAll fronts done
+HoldsPrefixes files done = (prefixes : List (List Request)) × AllZip IsPrefixOf prefixes files × HoldsAll prefixes done
 
--- the replies of a run over the files are those of one thread that starts with db after number `first` and executes
+-- the replies of a run over the files are those of one thread that starts with db after number `first` and performs
 -- the requests in their printed order
 pub record RepliesOfOneThread (first limit : ℕ) (db : Database) (files : List (List Request)) (done : List Done) : Type 0 where
   -- each request of the files' prefixes stands in `done` once

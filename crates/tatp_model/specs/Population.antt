@@ -7,7 +7,7 @@ use Rattle.tatp_model.specs.declared.fac_row.FacRow.{FacRow}
 use Rattle.tatp_model.specs.declared.call_row.CallRow.{CallRow}
 use Rattle.tatp_model.specs.Database.{Database}
 
--- k letters; letter j, from 0, is the one at place (x + j) mod 26 of A to Z, whose codes begin at 65
+-- k letters; letter j, from 0, is the one at index (x + j) mod 26 of A to Z, whose codes begin at 65
 abbrev pub letters : ℕ → ℕ → List ℕ
 letters x k = map (λ j. 65 + (x + j) % 26) (range_with_len 0 k)
 

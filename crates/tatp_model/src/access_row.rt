@@ -12,7 +12,7 @@ pub struct AccessData {
 }
 
 /// An access row. Its key is `s_id` with `ai_type`.
-#[derive(Clone, Copy, Debug, PartialEq, Eq)]
+#[derive(Clone, Copy)]
 pub struct AccessRow {
     /// The subscriber that it belongs to.
     pub s_id: u64,

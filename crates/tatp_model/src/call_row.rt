@@ -1,7 +1,7 @@
 //! Rows of the call forwarding table.
 
 /// A call forwarding. Its key is `s_id`, `sf_type` and `start_time`.
-#[derive(Clone, Copy, Debug, PartialEq, Eq)]
+#[derive(Clone, Copy)]
 pub struct CallRow {
     /// The subscriber whose facility it belongs to.
     pub s_id: u64,

@@ -1,10 +1,10 @@
-//! What a run tells of a request that it carried out.
+//! What a run tells of a request that it served.
 
 use crate::reply::Reply;
 use crate::request::Request;
 
 /// A request of a run, with its reply.
-#[derive(Clone, Copy, Debug, PartialEq, Eq)]
+#[derive(Clone, Copy)]
 pub struct Done {
     /// Which file of the run it stands in, from 0.
     pub file: u64,

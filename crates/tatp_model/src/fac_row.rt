@@ -1,7 +1,7 @@
 //! Rows of the facility table.
 
 /// A special facility. Its key is `s_id` with `sf_type`.
-#[derive(Clone, Copy, Debug, PartialEq, Eq)]
+#[derive(Clone, Copy)]
 pub struct FacRow {
     /// The subscriber that it belongs to.
     pub s_id: u64,

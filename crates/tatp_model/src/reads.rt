@@ -41,9 +41,9 @@ pub(crate) fn get_destination(
     if !lookups::has_active_facility(&t.facilities, s_id, sf_type) {
         return Reply::Missing;
     }
-    let numbers = lookups::destinations(&t.calls, s_id, sf_type, start_time, end_time);
-    if numbers.is_empty() {
+    let phones = lookups::destinations(&t.calls, s_id, sf_type, start_time, end_time);
+    if phones.is_empty() {
         return Reply::Missing;
     }
-    Reply::Destinations(numbers)
+    Reply::Destinations(phones)
 }

@@ -1,7 +1,7 @@
 //! The replies.
 
 use crate::access_row::AccessData;
-use crate::numbers::Numbers;
+use crate::phones::Phones;
 use crate::sub_row::SubRow;
 
 /// What a request is answered.
@@ -9,8 +9,8 @@ use crate::sub_row::SubRow;
 pub enum Reply {
     /// The row that `GET_SUBSCRIBER_DATA` asked for.
     Subscriber(SubRow),
-    /// The numbers of `GET_NEW_DESTINATION`, by rising start time.
-    Destinations(Numbers),
+    /// The phone numbers of `GET_NEW_DESTINATION`, by rising start time.
+    Destinations(Phones),
     /// The data that `GET_ACCESS_DATA` asked for.
     Access(AccessData),
     /// The tables were written.

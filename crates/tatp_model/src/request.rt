@@ -1,13 +1,13 @@
 //! The requests: TATP's seven transactions, and this project's own `SYNC`.
 
 /// A request. Its ranges are `IsInRange` of `specs/Request.antt`.
-#[derive(Clone, Copy, Debug, PartialEq, Eq)]
+#[derive(Clone, Copy, PartialEq, Eq)]
 pub enum Request {
     /// `GET_SUBSCRIBER_DATA`: the row of a subscriber.
     GetSubscriber {
         s_id: u64,
     },
-    /// `GET_NEW_DESTINATION`: the numbers that calls from `start_time` to
+    /// `GET_NEW_DESTINATION`: the phone numbers that calls from `start_time` to
     /// `end_time` are forwarded to.
     GetDestination {
         s_id: u64,
@@ -28,7 +28,7 @@ pub enum Request {
         sf_type: u64,
         data_a: u64,
     },
-    /// `UPDATE_LOCATION`: sets the `vlr` of the subscriber with the number.
+    /// `UPDATE_LOCATION`: sets the `vlr` of the subscriber with the phone number.
     UpdateLocation {
         sub_nbr: u64,
         vlr: u64,

@@ -11,7 +11,7 @@ use crate::tables::Tables;
 use crate::{reads, writes};
 use std::alloc::{AllocError, Global};
 
-/// Carries out one request on the tables, where at most `limit` call rows may
+/// Performs one request on the tables, where at most `limit` call rows may
 /// stand: the measure for every other way of running a request. A row that is
 /// added takes memory of the tables' own allocator.
 pub fn step(_alloc: Global, t: &mut Tables, limit: u64, q: &Request) -> Result<Reply, AllocError>
@@ -56,6 +56,3 @@ pub fn step(_alloc: Global, t: &mut Tables, limit: u64, q: &Request) -> Result<R
         Request::Sync => Ok(Reply::Durable),
     }
 }
-
-#[cfg(test)]
-mod tests;

@@ -7,7 +7,7 @@ use crate::sub_row::SubRow;
 
 /// The four tables, each a list of rows in rising order of key. Contracts
 /// see them by `database_of`, of `specs/Database.antt`.
-#[derive(Debug, Drop)]
+#[derive(Drop)]
 pub struct Tables {
     pub subscribers: Vec<SubRow>,
     pub access: Vec<AccessRow>,

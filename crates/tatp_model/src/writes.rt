@@ -1,10 +1,10 @@
 //! The four requests that may write.
 
-ghost use Rattle.std.specs.Prelude.{◌≡◌, ℕ, IfOk, OnOk, OnErr, filter, not};
+ghost use Rattle.std.specs.Prelude.{◌≡◌, ℕ, IfOk, OnOk, OnErr};
 ghost use Rattle.tatp_model.specs.Database.{database_of, IsInOrder, IsCallRow};
 ghost use Rattle.tatp_model.specs.Request.{IsInRange};
 ghost use Rattle.tatp_model.specs.Transaction as outcomes;
-ghost use Rattle.tatp_model.specs.Transaction.{reply_to, after_request, is_call};
+ghost use Rattle.tatp_model.specs.Transaction.{reply_to, after_request};
 
 use crate::call_row::CallRow;
 use crate::lookups;
@@ -20,7 +20,7 @@ pub(crate) fn update_location(t: &mut Tables, sub_nbr: u64, vlr: u64) -> Reply
     ensures after { (limit : ℕ) → database_of t.new ≡ after_request limit (database_of t.old)
         (Request.UpdateLocation sub_nbr vlr) }
 {
-    match lookups::place_of_number(&t.subscribers, sub_nbr) {
+    match lookups::index_of_phone(&t.subscribers, sub_nbr) {
         Some(at) => {
             t.subscribers[at].vlr = vlr;
             Reply::Changed
@@ -43,10 +43,10 @@ pub(crate) fn update_subscriber(
     ensures after { (limit : ℕ) → database_of t.new ≡ after_request limit (database_of t.old)
         (Request.UpdateSubscriber s_id bit_1 sf_type data_a) }
 {
-    let Some(subscriber) = lookups::place_of_subscriber(&t.subscribers, s_id) else {
+    let Some(subscriber) = lookups::index_of_subscriber(&t.subscribers, s_id) else {
         return Reply::Missing;
     };
-    let Some(facility) = lookups::place_of_facility(&t.facilities, s_id, sf_type) else {
+    let Some(facility) = lookups::index_of_facility(&t.facilities, s_id, sf_type) else {
         return Reply::Missing;
     };
     t.subscribers[subscriber].bits[0] = bit_1 as u8;
@@ -71,7 +71,7 @@ pub(crate) fn insert_call(
         (Request.InsertCall sub_nbr sf_type start_time end_time numberx)) }
     ensures unchanged { OnErr result (database_of t.new ≡ database_of t.old) }
 {
-    let Some(subscriber) = lookups::numbered(&t.subscribers, sub_nbr) else {
+    let Some(subscriber) = lookups::by_phone(&t.subscribers, sub_nbr) else {
         return Ok(Reply::Missing);
     };
     let row = CallRow {
@@ -101,18 +101,19 @@ fn insert_row(t: &mut Tables, limit: u64, row: CallRow) -> Result<Reply, AllocEr
     if limit <= t.calls.len() as u64 {
         return Ok(Reply::FullTable);
     }
-    let at = lookups::place_of_key(&t.calls, row.key());
+    let at = lookups::index_of_key(&t.calls, row.key());
     t.calls.insert(at, row)?;
     Ok(Reply::Changed)
 }
 
 pub(crate) fn delete_call(t: &mut Tables, sub_nbr: u64, sf_type: u64, start_time: u64) -> Reply
+    requires { IsInOrder (database_of t.old) }
     ensures reply { (limit : ℕ) → result ≡ reply_to limit (database_of t.old)
         (Request.DeleteCall sub_nbr sf_type start_time) }
     ensures after { (limit : ℕ) → database_of t.new ≡ after_request limit (database_of t.old)
         (Request.DeleteCall sub_nbr sf_type start_time) }
 {
-    let Some(subscriber) = lookups::numbered(&t.subscribers, sub_nbr) else {
+    let Some(subscriber) = lookups::by_phone(&t.subscribers, sub_nbr) else {
         return Reply::Missing;
     };
     delete_row(t, subscriber.s_id, sf_type, start_time)
@@ -120,19 +121,15 @@ pub(crate) fn delete_call(t: &mut Tables, sub_nbr: u64, sf_type: u64, start_time
 
 /// Removes a call row, whose subscriber is there.
 fn delete_row(t: &mut Tables, s_id: u64, sf_type: u64, start_time: u64) -> Reply
+    requires { IsInOrder (database_of t.old) }
     ensures reply { result ≡ (outcomes.delete_call (database_of t.old) s_id sf_type start_time).reply }
     ensures after { database_of t.new ≡ (outcomes.delete_call (database_of t.old) s_id sf_type start_time).after }
 {
-    if !lookups::has_call(&t.calls, s_id, sf_type, start_time) {
-        return Reply::Missing;
+    match lookups::index_of_call(&t.calls, s_id, sf_type, start_time) {
+        Some(at) => {
+            t.calls.remove(at);
+            Reply::Changed
+        }
+        None => Reply::Missing,
     }
-    drop_call(&mut t.calls, s_id, sf_type, start_time);
-    Reply::Changed
-}
-
-/// Keeps all rows but the one with this key.
-fn drop_call(rows: &mut Vec<CallRow>, s_id: u64, sf_type: u64, start_time: u64)
-    ensures { rows.new.items ≡ filter (λ r. not (is_call s_id sf_type start_time r)) rows.old.items }
-{
-    rows.retain(|r| !(r.s_id == s_id && r.sf_type == sf_type && r.start_time == start_time));
 }

@@ -16,8 +16,8 @@ flat_sight f = record { count = length f.words.items; reads = f.reads; writes = 
 abbrev pub fresh : List ℕ → WordsSight
 fresh words = record { count = length words; reads = []; writes = []; stopped = None }
 
-pub flat_fits : (f : Flat) → IsWellFormed (flat_sight f)
-flat_fits f = record { count = f.sound.fits; writes = f.sound.list; inside = f.sound.inside }
+pub flat_well_formed : (f : Flat) → IsWellFormed (flat_sight f)
+flat_well_formed f = record { count = f.sound.in_range; writes = f.sound.list; inside = f.sound.inside }
 
 -- every list of reads that it makes agrees with its array
 pub flat_below : (f : Flat) → IsBelow (flat_sight f) (words_of f)

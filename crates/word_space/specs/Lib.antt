@@ -1,8 +1,5 @@
-pub mod Callers
 pub mod Flats
 pub mod Sights
 pub mod Sound
 pub mod Steps
 pub mod StopTexts
-pub mod Stoppings
-pub mod Stops

@@ -13,7 +13,7 @@ pub record IsWideOrNoMemory (stopped : Option Stop) : Type 0 where
   pub not_busy : (page seen : ℕ) → stopped ≢ Some (Busy page seen)
 
 pub record IsSound (words : List ℕ) (reads : List (ℕ × ℕ)) (writes : List Write) (stopped : Option Stop) : Type 0 where
-  pub fits : length words < 2 ^ 64
+  pub in_range : length words < 2 ^ 64
   pub list : IsWriteList writes
   pub inside : All (λ w. w.at < length words) writes
   pub agrees : Agrees reads words

@@ -93,15 +93,18 @@ impl Flat {
 }
 
 impl Words for Flat {
-    ghost use Rattle.std.specs.Prelude.{◌≡◌};
+    ghost use Rattle.std.specs.Prelude.{◌≡◌, ◌<◌, IfErr, OnOk, List, ℕ, slice_set};
     ghost use Rattle.std.proofs.Common.{refl, ◌∙◌};
-    ghost use Rattle.word_space.specs.Flats.{words_of, flat_sight, flat_fits};
+    ghost use Rattle.word_space.specs.declared.stop.Stop.{Stop};
+    ghost use Rattle.word_space.specs.Flats.{words_of, flat_sight, flat_well_formed};
+    ghost use Rattle.word_space.specs.Sights.{shown};
+    ghost use Rattle.word_space.specs.Steps.{WritesWord, GoesOn};
 
     ghost sight = { flat_sight };
 
     ghost turns_into = { λ x y. words_of y ≡ words_of x };
 
-    ghost fits = { flat_fits };
+    ghost well_formed = { flat_well_formed };
 
     ghost begins = { λ x. refl };
 
@@ -125,7 +128,15 @@ impl Words for Flat {
         }
     }
 
-    fn write(&mut self, at: u64, value: u64) -> Result<(), Stop> {
+    // It takes no memory: the only Stop is that of a 25th different word.
+    fn write(&mut self, at: u64, value: u64) -> Result<(), Stop>
+        requires inside { at < (flat_sight self.old).count }
+        ensures writes { WritesWord at value result (flat_sight self.old) (flat_sight self.new) }
+        ensures shown { OnOk result ((array : List ℕ) → shown (flat_sight self.new) array
+            ≡ slice_set (shown (flat_sight self.old) array) at value) }
+        ensures turns { GoesOn (λ x y. words_of y ≡ words_of x) self.old self.new }
+        ensures no_memory { IfErr result (λ stop. stop ≡ Stop.Wide) }
+    {
         match self.writes.put(Write { at, value }) {
             Ok(()) => Ok(()),
             Err(Wide) => {

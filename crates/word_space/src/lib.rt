@@ -1,13 +1,8 @@
 //! Reads and writes over an array of words, with the exact lists of both.
 #![tactic(auto)]
 
-#[cfg(test)]
-mod callers;
 pub mod flat;
 pub mod read_set;
 pub mod stop;
-pub mod stopping;
-#[cfg(test)]
-mod tests;
 pub mod words;
 pub mod write_set;

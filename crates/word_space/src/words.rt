@@ -39,7 +39,7 @@ pub trait Words {
             ≡ slice_set (shown (sight self.old) array) at value) }
         ensures turns { GoesOn turns_into self.old self.new };
 
-    ghost fits: { (x : Self) → IsWellFormed (sight x) };
+    ghost well_formed: { (x : Self) → IsWellFormed (sight x) };
 
     ghost begins: { (x : Self) → turns_into x x };
 

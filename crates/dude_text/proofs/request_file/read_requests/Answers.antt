@@ -1,23 +1,17 @@
-use Rattle.std.specs.Prelude.{◌==◌, not}
 use Rattle.std.proofs.Common.{◌≡◌, ◌+◌, ◌∷◌, [], ◌++◌, refl, sym, length, rules, tests, arith}
 use Rattle.std.proofs.lemmas.List.Elements.{All-push}
 use Rattle.std.proofs.lemmas.List.{length_push}
-use Rattle.std.proofs.lemmas.Iterator.Consumers.{YieldsList-from_filter, YieldsList-at, YieldsList-turn, YieldsList-end}
-use Rattle.std.proofs.lemmas.Iterator.Splits.{YieldsList-from_slice_split}
+use Rattle.std.proofs.lemmas.Iterator.Consumers.{YieldsList-turn, YieldsList-end}
 use Rattle.dude_text.specs.RequestFile.{lines_of, IsServable}
-use Rattle.dude_text.proofs.Lines.{requests_of-bad_line, requests_of-long, requests_of-read, list_all-take_line, filter_map-take_line}
+use Rattle.dude_text.proofs.Lines.{lines_yielded, requests_of-bad_line, requests_of-long, requests_of-read, list_all-take_line, filter_map-take_line}
 use Rattle.dude_text.proofs.Served.{request_of-served}
 use Rattle.dude_text.proofs.request_file.read_requests.Goals as goal
 
 pub returns-then-len-eq-MAX_RECORDS-clause-refused : goal.returns-then-len-eq-MAX_RECORDS-clause-refused
 returns-then-len-eq-MAX_RECORDS-clause-refused c =
     let at = YieldsList-turn
-    (YieldsList-at c.into_iter-line-iterator.ensures.into_iter_gives
-    (YieldsList-from_filter _ (λ line. not (length line == 0))
-    (YieldsList-at c.filter-lines.ensures.source
-    (YieldsList-from_slice_split _ (λ b. b == 10) c.args.bytes.now c.split.ensures.rest c.split.ensures.done c.split.ensures.closure (λ x b q k. search (rules, tests))))
-    c.filter-lines.ensures.closure
-    (λ x b q k. search (rules, tests))))
+    (lines_yielded _ _ c.args.bytes.now c.into_iter-line-iterator.ensures.into_iter_gives c.filter-lines.ensures.source c.split.ensures.rest c.split.ensures.done
+    c.split.ensures.closure (λ x b q k. search (rules, tests)) c.filter-lines.ensures.closure (λ x b q k. search (rules, tests)))
     c.loop-line.yielded _ c.loop-line.yielded_by _ _ c.in-Some.line c.in-Some.is c.next.ensures.steps in
     let none = requests_of-long c.args.bytes.now (length c.loop-line.yielded) at.0 (omega arith) in
     (refl, refl, none)
@@ -25,12 +19,8 @@ returns-then-len-eq-MAX_RECORDS-clause-refused c =
 pub returns-in_default-clause-refused : goal.returns-in_default-clause-refused
 returns-in_default-clause-refused c =
     let at = YieldsList-turn
-    (YieldsList-at c.into_iter-line-iterator.ensures.into_iter_gives
-    (YieldsList-from_filter _ (λ line. not (length line == 0))
-    (YieldsList-at c.filter-lines.ensures.source
-    (YieldsList-from_slice_split _ (λ b. b == 10) c.args.bytes.now c.split.ensures.rest c.split.ensures.done c.split.ensures.closure (λ x b q k. search (rules, tests))))
-    c.filter-lines.ensures.closure
-    (λ x b q k. search (rules, tests))))
+    (lines_yielded _ _ c.args.bytes.now c.into_iter-line-iterator.ensures.into_iter_gives c.filter-lines.ensures.source c.split.ensures.rest c.split.ensures.done
+    c.split.ensures.closure (λ x b q k. search (rules, tests)) c.filter-lines.ensures.closure (λ x b q k. search (rules, tests)))
     c.loop-line.yielded _ c.loop-line.yielded_by _ _ c.in-Some.line c.in-Some.is c.next.ensures.steps in
     let none = requests_of-bad_line c.args.bytes.now (length c.loop-line.yielded) c.in-Some.line.now at (sym c.in_default.ensures) in
     (refl, refl, none)
@@ -38,12 +28,8 @@ returns-in_default-clause-refused c =
 pub loop-line-preserved : goal.loop-line-preserved
 loop-line-preserved c =
     let at = YieldsList-turn
-    (YieldsList-at c.into_iter-line-iterator.ensures.into_iter_gives
-    (YieldsList-from_filter _ (λ line. not (length line == 0))
-    (YieldsList-at c.filter-lines.ensures.source
-    (YieldsList-from_slice_split _ (λ b. b == 10) c.args.bytes.now c.split.ensures.rest c.split.ensures.done c.split.ensures.closure (λ x b q k. search (rules, tests))))
-    c.filter-lines.ensures.closure
-    (λ x b q k. search (rules, tests))))
+    (lines_yielded _ _ c.args.bytes.now c.into_iter-line-iterator.ensures.into_iter_gives c.filter-lines.ensures.source c.split.ensures.rest c.split.ensures.done
+    c.split.ensures.closure (λ x b q k. search (rules, tests)) c.filter-lines.ensures.closure (λ x b q k. search (rules, tests)))
     c.loop-line.yielded _ c.loop-line.yielded_by _ _ c.in-Some.line c.in-Some.is c.next.ensures.steps in
     let lines = lines_of c.args.bytes.now in
     let i = length c.loop-line.yielded in
@@ -62,11 +48,7 @@ loop-line-preserved c =
 pub returns-clause-read : goal.returns-clause-read
 returns-clause-read c =
     let all = YieldsList-end
-    (YieldsList-at c.into_iter-line-iterator.ensures.into_iter_gives
-    (YieldsList-from_filter _ (λ line. not (length line == 0))
-    (YieldsList-at c.filter-lines.ensures.source
-    (YieldsList-from_slice_split _ (λ b. b == 10) c.args.bytes.now c.split.ensures.rest c.split.ensures.done c.split.ensures.closure (λ x b q k. search (rules, tests))))
-    c.filter-lines.ensures.closure
-    (λ x b q k. search (rules, tests))))
+    (lines_yielded _ _ c.args.bytes.now c.into_iter-line-iterator.ensures.into_iter_gives c.filter-lines.ensures.source c.split.ensures.rest c.split.ensures.done
+    c.split.ensures.closure (λ x b q k. search (rules, tests)) c.filter-lines.ensures.closure (λ x b q k. search (rules, tests)))
     c.loop-line.yielded _ c.loop-line.yielded_by _ _ c.in-None.is c.next.ensures.steps in
     requests_of-read c.args.bytes.now (length c.loop-line.yielded) c.loop-line.requests.items c.if-bytes-gt-MAX_BYTES.false all.1 (omega arith) c.loop-line.invariant.records c.loop-line.invariant.read

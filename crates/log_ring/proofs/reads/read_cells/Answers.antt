@@ -11,7 +11,7 @@ loop-i-preserved g c = record {
   reads = reads_then c.loop-i.invariant.reads (read_alone c.in_ok-words.ensures.one_call);
   words = λ told content is.
       word_more (λ i. word_in_image c.args.place.now content (cell_at c.args.ring c.args.head) (i / 8) (i % 8)) c.loop-i.words c.loop-i.i _ (omega arith) (c.loop-i.invariant.words told content is)
-      (ap (λ x. slice_index content (x + c.loop-i.i % 8)) (sym c.front_after.ensures.front) ∙ read_content _ c.loop-i.invariant.reads (omega arith) c.in_ok-words.ensures.value told content is);
+      (ap (λ x. slice_index content (x + c.loop-i.i % 8)) (sym c.start_after.ensures.start) ∙ read_content _ c.loop-i.invariant.reads (omega arith) c.in_ok-words.ensures.value told content is);
 }
 
 pub returns-clause-words : goal.returns-clause-words

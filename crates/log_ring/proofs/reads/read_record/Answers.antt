@@ -16,5 +16,5 @@ pub returns-clause-record : goal.returns-clause-record
 returns-clause-record g c = λ told content is.
     let count = word_of_head c.args.place.now content (cell_at c.args.ring c.args.head) c.cell.result 1 c.in_ok-count.count (record { ring_is = c.requires.ring; slot_is = c.requires.head }) c.cell.ensures.place
     (read_content (c.cell.result + 1) (reads_here (g.M.Medium.sight c.args.m.now)) (omega arith) c.in_ok-count.ensures.value told content is) in
-    let words = content_before {P = λ l. (k j : ℕ) → k < c.max-cells.result → j < 8 → slice_index c.read_cells.new.words (8 * k + j) ≡ word_in_image c.args.place.now l (cell_at c.args.ring c.args.head) k j} {ok = true} (read_alone {ok = true} c.in_ok-count.ensures.one_call) c.in_ok-read_cells.ensures.words told content is in
-    record_is c.args.place.now content c.read_cells.new.words (cell_at c.args.ring c.args.head) c.in_ok-count.count c.max-cells.result (omega arith) (omega arith) c.read_cells.array_long count words c.home_record.result c.home_record.ensures
+    let words = content_before {P = λ l. (k j : ℕ) → k < c.cells_for-cells.result → j < 8 → slice_index c.read_cells.new.words (8 * k + j) ≡ word_in_image c.args.place.now l (cell_at c.args.ring c.args.head) k j} {ok = true} (read_alone {ok = true} c.in_ok-count.ensures.one_call) c.in_ok-read_cells.ensures.words told content is in
+    record_is c.args.place.now content c.read_cells.new.words (cell_at c.args.ring c.args.head) c.in_ok-count.count c.cells_for-cells.result (omega arith) (omega arith) c.read_cells.array_long count words c.home_record.result c.home_record.ensures

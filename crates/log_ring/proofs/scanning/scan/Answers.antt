@@ -9,14 +9,14 @@ use Rattle.log_ring.specs.Scan.{AreScanned}
 use Rattle.log_ring.specs.Scanning.{KnowsBelow}
 use Rattle.log_ring.proofs.ScanReads.{made_well, made_again, read_cause}
 use Rattle.log_ring.proofs.ScanSteps.{knows_nothing}
-use Rattle.log_ring.proofs.ScanEnd.{damaged_second, scanned}
+use Rattle.log_ring.proofs.ScanEnd.{damaged_duplicate, scanned}
 use Rattle.log_ring.proofs.scanning.scan.Goals as goal
 
 pub loop-ring-init : goal.loop-ring-init
 loop-ring-init g c = record {
   len = refl;
   reads = reads_here _;
-  knows = λ told content holds. knows_nothing c.args.place.now c.args.above content _ c.new-found.result (omega arith) c.new-found.ensures.records c.new-found.ensures.second;
+  knows = λ told content holds. knows_nothing c.args.place.now c.args.above content _ c.new-found.result (omega arith) c.new-found.ensures.records c.new-found.ensures.duplicate;
 }
 
 pub returns-in_err-scan_ring-clause-reads : goal.returns-in_err-scan_ring-clause-reads
@@ -52,7 +52,7 @@ returns-clause-cause g c = read_cause c.into_records.result _ _ (made_well c.int
 pub returns-clause-records : goal.returns-clause-records
 returns-clause-records g c =
     let rings : c.sizes-ring-end.result.rings ≡ c.args.place.now.rings = ap (λ s. s.rings) c.sizes-ring-end.ensures.sizes in
-    IfOk-weaker c.into_records.result (λ found. (found.items ≡ values c.loop-ring.found.records) × (c.loop-ring.found.second ≡ None))
+    IfOk-weaker c.into_records.result (λ found. (found.items ≡ values c.loop-ring.found.records) × (c.loop-ring.found.duplicate ≡ None))
     (λ found. ContentHas (λ content. AreScanned c.args.place.now c.args.above content found.items) (g.M.Medium.sight c.args.m.now))
     (λ found both told content holds.
     let known = subst (λ n. KnowsBelow c.args.place.now c.args.above content (2 + n * c.args.place.now.cells) c.loop-ring.found) (omega arith) (c.loop-ring.invariant.knows told content holds) in
@@ -63,4 +63,4 @@ pub returns-clause-damaged : goal.returns-clause-damaged
 returns-clause-damaged g c line is = λ told content holds.
     let rings : c.sizes-ring-end.result.rings ≡ c.args.place.now.rings = ap (λ s. s.rings) c.sizes-ring-end.ensures.sizes in
     let known = subst (λ n. KnowsBelow c.args.place.now c.args.above content (2 + n * c.args.place.now.cells) c.loop-ring.found) (omega arith) (c.loop-ring.invariant.knows told content holds) in
-    damaged_second c.args.place.now c.args.above content c.loop-ring.found known line (c.into_records.ensures.damaged line is)
+    damaged_duplicate c.args.place.now c.args.above content c.loop-ring.found known line (c.into_records.ensures.damaged line is)

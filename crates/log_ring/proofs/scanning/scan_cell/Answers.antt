@@ -15,12 +15,12 @@ returns-in_err-redo-clause-reads g c = made_at_device c.from_residual-in_err-red
 
 pub returns-in_default-clause-torn : goal.returns-in_default-clause-torn
 returns-in_default-clause-torn g c line is =
-    let at : line ≡ c.cell-front.result / 8 = search rules in
+    let at : line ≡ c.cell-start.result / 8 = search rules in
     let on : line ≡ line_of c.args.place.now (cell_at c.args.ring c.args.cell) = omega (arith, at) in (
       on,
       λ told content holds. record {
-        head = new_head c.args.place.now c.args.above content (cell_at c.args.ring c.args.cell) c.cell-front.result c.in_ok-tag.tag (record { ring_is = c.requires.ring; slot_is = c.requires.cell }) c.cell-front.ensures.place
-            (read_content c.cell-front.result (reads_here (g.M.Medium.sight c.args.m.now)) (omega arith) c.in_ok-tag.ensures.value told content holds) (omega arith) (omega arith);
+        head = new_head c.args.place.now c.args.above content (cell_at c.args.ring c.args.cell) c.cell-start.result c.in_ok-tag.tag (record { ring_is = c.requires.ring; slot_is = c.requires.cell }) c.cell-start.ensures.place
+            (read_content c.cell-start.result (reads_here (g.M.Medium.sight c.args.m.now)) (omega arith) c.in_ok-tag.ensures.value told content holds) (omega arith) (omega arith);
         incomplete =
             let found = content_before {P = λ l. IsRecordAt c.args.place.now l (cell_at c.args.ring c.args.cell) c.in_ok-redo.field-0} {ok = true} (read_alone {ok = true} c.in_ok-tag.ensures.one_call) c.in_ok-redo.ensures.record told content holds in
             subst (IsRecordAt c.args.place.now content (cell_at c.args.ring c.args.cell)) c.in_default.is found;

@@ -17,7 +17,7 @@ returns-in-Some-clause-after c limit =
     let rows = c.args.t.now.subscribers.items in
     let names = has_phone c.args.sub_nbr in
     let found : position names rows ≡ Some c.in-Some.at = cc in
-    let one = AtMostOne-from_keys names (λ r. r.sub_nbr) c.args.sub_nbr rows (λ r e. eqb-true _ _ e) c.requires.numbers_differ in
+    let one = AtMostOne-from_keys names (λ r. r.sub_nbr) c.args.sub_nbr rows (λ r e. eqb-true _ _ e) c.requires.phones_differ in
     rw (position_Some-any names rows c.in-Some.at found)
     (let written : _ = set-position names (λ (r : SubRow). record r { vlr = c.args.vlr }) rows c.in-Some.at c.index_mut.result.now one found c.index_mut.ensures.value in
     ap (λ after. record (database_of c.args.t.now) { subscribers = after }) written)

@@ -14,7 +14,7 @@ wants g c =
     record {
       sizes = subst (λ (v : RingState). IsAccepted v.sizes) c.self.view_is kept.accepted;
       cell = subst (λ (v : RingState). IsCell v.sizes (next_head v)) c.self.view_is (record { ring_is = kept.ring; slot_is = kept.next });
-      laid = subst (λ (v : RingState). AreLaid v.sizes.cells v.next v.logged) c.self.view_is kept.laid;
+      laid = subst (λ (v : RingState). AreLaid v.sizes v.next v.logged) c.self.view_is kept.laid;
       encodable = record { number_is = c.requires.number; writes_are = c.len-count.ensures.writes };
       home = c.requires.home;
     }

@@ -1,4 +1,0 @@
-use Rattle.dude_io.proofs.image.Image.note.Goals as goal
-
-pub returns-clause-noted : goal.returns-clause-noted
-returns-clause-noted c = (c.of.result, c.push_reserved.ensures.items, rw (← c.deref.ensures.value) c.of.ensures)

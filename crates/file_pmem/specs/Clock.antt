@@ -1,0 +1,17 @@
+-- What clauses see of a medium that tells no content.
+use Rattle.std.specs.Prelude.{ℕ, false, []}
+use Rattle.pmem_trait.specs.Words.{settled_at}
+use Rattle.pmem_trait.specs.Sights.{Sight}
+use Rattle.file_pmem.specs.declared.clock.Clock.{Clock}
+
+-- its length, its moment and its faults, and nothing else
+abbrev pub silent_medium : ℕ → Clock → Sight
+silent_medium len clock = record {
+  len = len;
+  now = clock.now;
+  faults = clock.faults.count;
+  is_visible = false;
+  state = λ _. record { word = λ _. settled_at 0; told = [] };
+  lists_calls = false;
+  made = [];
+}

@@ -1,0 +1,4 @@
+pub mod Clock
+pub mod FilePmem
+pub mod Line
+pub mod WriteCache

@@ -1,0 +1,189 @@
+use crate::clock::Clock;
+use crate::edge_fault::EdgeFault;
+use crate::image_file;
+use crate::write_cache::WriteCache;
+use pmem_trait::{Failed, Medium};
+use std::rt::Files as FileSystem;
+
+/// A medium in a file, of words with their lowest byte first. The words stand in memory, and a fence writes the lines
+/// that were noted, as they stood then, and syncs the file. Once 4,096 lines are noted, the next flush does so too. What
+/// the file holds is not known to a caller, and after `open` the medium takes no memory.
+///
+/// After a fence that failed the lines are still noted, and the next one writes them all again. The same holds after a
+/// flush that failed, which noted nothing itself. After a failed put the word is as it was.
+#[derive(Drop)]
+pub struct FilePmem<R: FileSystem> {
+    rt: R,
+    file: R::File,
+    cache: WriteCache,
+    clock: Clock,
+}
+
+impl<R: FileSystem + AllocGlobal + Eprint + Drop> FilePmem<R> {
+    ghost use Rattle.std.specs.Prelude.{◌≡◌, IfOk, []};
+    ghost use Rattle.file_pmem.specs.FilePmem.{pmem_room, noted_lines};
+
+    /// Opens the image of this path. Where there is no file, one of 33,554,432 zero bytes is made, whole or not at
+    /// all. Bytes behind the last whole word stay as they are.
+    ///
+    /// After an `Err` a file that was there is as it was. Where there was none, the new one may be there, whole; or a
+    /// part of it under its own name with `.new` and a number behind, where that couldn't be removed.
+    pub fn open(rt: R, name: &str) -> Result<FilePmem<R>, EdgeFault>
+        ensures now { IfOk result (λ medium. (⟦<FilePmem<R> as Medium>⟧.sight medium).now ≡ 0) }
+        ensures faults { IfOk result (λ medium. (⟦<FilePmem<R> as Medium>⟧.sight medium).faults ≡ 0) }
+        ensures room { IfOk result (λ medium. pmem_room medium ≡ 4096) }
+        ensures noted { IfOk result (λ medium. noted_lines medium ≡ []) }
+    {
+        let mut file = image_file::open(&rt, name)?;
+        let words = image_file::read_words(rt.alloc(), &mut file)?;
+        let cache = WriteCache::new(rt.alloc(), words)?;
+        Ok(FilePmem {
+            rt,
+            file,
+            cache,
+            clock: Clock::new(),
+        })
+    }
+}
+
+impl<R: FileSystem> FilePmem<R> {
+    ghost use Rattle.std.specs.Prelude.{◌≡◌, ◌<◌, ◌==◌, OnOk, OnErr, IsOk, [], is_ok, vec_len, if◌then◌else◌};
+    ghost use Rattle.pmem_trait.specs.Faults.{faults_after};
+    ghost use Rattle.file_pmem.specs.FilePmem.{pmem_room, cached_words, noted_lines};
+
+    /// Writes the noted lines, syncs the file, and drops the notes. At an `Err` they stay: a later call writes them
+    /// all once more, since a sync that failed may have lost what was written before it.
+    fn settle(&mut self) -> Result<(), Failed>
+        ensures noted { noted_lines self.new ≡ (if is_ok result then [] else noted_lines self.old) }
+        ensures words { cached_words self.new ≡ cached_words self.old }
+        ensures len { vec_len self.new.cache.words ≡ vec_len self.old.cache.words }
+        ensures room { OnOk result (pmem_room self.new ≡ 4096) }
+        ensures now { self.new.clock.now ≡ self.old.clock.now }
+        ensures faults { self.new.clock.faults.count ≡ faults_after (is_ok result) self.old.clock.faults.count }
+    {
+        match image_file::write_lines(&mut self.file, self.cache.noted()) {
+            Ok(()) => {
+                self.cache.drop_notes();
+                Ok(())
+            }
+            Err(_) => {
+                self.clock.fault();
+                Err(Failed)
+            }
+        }
+    }
+
+    /// Sees to it that there is room for a note: where none is left, the lines noted before are written.
+    fn make_room(&mut self) -> Result<(), Failed>
+        ensures succeeds { 0 < pmem_room self.old → IsOk result }
+        ensures room { OnOk result (pmem_room self.new ≡ (if pmem_room self.old == 0 then 4096 else pmem_room self.old)) }
+        ensures made { OnOk result (noted_lines self.new ≡ (if pmem_room self.old == 0 then [] else noted_lines self.old)) }
+        ensures kept { OnErr result (noted_lines self.new ≡ noted_lines self.old) }
+        ensures words { cached_words self.new ≡ cached_words self.old }
+        ensures len { vec_len self.new.cache.words ≡ vec_len self.old.cache.words }
+        ensures now { self.new.clock.now ≡ self.old.clock.now }
+        ensures faults { self.new.clock.faults.count ≡ faults_after (is_ok result) self.old.clock.faults.count }
+    {
+        if self.cache.is_full() {
+            self.settle()
+        } else {
+            Ok(())
+        }
+    }
+}
+
+impl<R: FileSystem + Eprint> Medium for FilePmem<R> {
+    ghost use Rattle.std.specs.Prelude.{◌≡◌, ◌+◌, ◌-◌, ◌*◌, ◌^◌, ◌<◌, ◌≤◌, ◌==◌, nat_lt, is_ok, IfOk, IsTrue, OnOk, MatchResult, [], slice_index, slice_set, if◌then◌else◌};
+    ghost use Rattle.pmem_trait.specs.declared.call.Call.TheVariants.{Read, Put, Flush, Fence, Tell};
+    ghost use Rattle.pmem_trait.specs.Words.{value_of};
+    ghost use Rattle.pmem_trait.specs.Sights.{state_now, OneCall};
+    ghost use Rattle.pmem_trait.specs.Faults.{faults_after};
+    ghost use Rattle.file_pmem.specs.FilePmem.{pmem_sight, pmem_room, cached_words, noted_lines};
+    ghost use Rattle.file_pmem.specs.Line.{NotesLine};
+    ghost use Rattle.std.proofs.Common.{rules};
+
+    ghost sight = { pmem_sight };
+
+    fn len(&self) -> u64 {
+        self.cache.len()
+    }
+
+    fn now(&self) -> u64 {
+        self.clock.now
+    }
+
+    fn read(&mut self, at: u64) -> Result<u64, Failed>
+        requires { at < (pmem_sight self.old).len }
+        ensures one_call { OneCall (Read at) (is_ok result) (pmem_sight self.old) (pmem_sight self.new) }
+        ensures value { IfOk result (λ v. IsTrue (pmem_sight self.old).is_visible → v ≡ value_of ((state_now (pmem_sight self.old)).word at)) }
+        ensures faults { (pmem_sight self.new).faults ≡ faults_after (is_ok result) (pmem_sight self.old).faults }
+        ensures word { IfOk result (λ v. v ≡ slice_index (cached_words self.old) at) }
+        ensures words { cached_words self.new ≡ cached_words self.old }
+        ensures noted { noted_lines self.new ≡ noted_lines self.old }
+    {
+        self.clock.tick()?;
+        Ok(self.cache.word(at))
+    }
+
+    fn put(&mut self, at: u64, value: u64) -> Result<(), Failed>
+        requires { at < (pmem_sight self.old).len }
+        ensures one_call { OneCall (Put at value) (is_ok result) (pmem_sight self.old) (pmem_sight self.new) }
+        ensures faults { (pmem_sight self.new).faults ≡ faults_after (is_ok result) (pmem_sight self.old).faults }
+        ensures words { cached_words self.new ≡ (if is_ok result then slice_set (cached_words self.old) at value else cached_words self.old) }
+        ensures noted { noted_lines self.new ≡ noted_lines self.old }
+    {
+        self.clock.tick()?;
+        self.cache.set(at, value);
+        Ok(())
+    }
+
+    fn flush(&mut self, line: u64) -> Result<(), Failed>
+        requires { 8 * line + 8 ≤ (pmem_sight self.old).len }
+        ensures one_call { OneCall (Flush line) (is_ok result) (pmem_sight self.old) (pmem_sight self.new) }
+        ensures faults { (pmem_sight self.new).faults ≡ faults_after (is_ok result) (pmem_sight self.old).faults }
+        ensures words { cached_words self.new ≡ cached_words self.old }
+
+        // With no room left the lines noted before are written first.
+        ensures noted { MatchResult result
+            (λ _. NotesLine (cached_words self.old) line (if pmem_room self.old == 0 then [] else noted_lines self.old) (noted_lines self.new))
+            (λ _. noted_lines self.new ≡ noted_lines self.old) }
+
+        // Where there is room for the note, it fails only since no moment is left.
+        ensures fails { 0 < pmem_room self.old → is_ok result ≡ nat_lt (pmem_sight self.old).now (2 ^ 64 - 1) }
+        ensures room { OnOk result (pmem_room self.new ≡ (if pmem_room self.old == 0 then 4096 else pmem_room self.old) - 1) }
+    {
+        self.clock.tick()?;
+        self.make_room()?;
+        self.cache.note(line);
+        Ok(())
+    }
+
+    fn fence(&mut self) -> Result<(), Failed>
+        ensures one_call { OneCall Fence (is_ok result) (pmem_sight self.old) (pmem_sight self.new) }
+        ensures faults { (pmem_sight self.new).faults ≡ faults_after (is_ok result) (pmem_sight self.old).faults }
+        ensures words { cached_words self.new ≡ cached_words self.old }
+        ensures noted { noted_lines self.new ≡ (if is_ok result then [] else noted_lines self.old) }
+        ensures room { OnOk result (pmem_room self.new ≡ 4096) }
+    {
+        self.clock.tick()?;
+        self.settle()
+    }
+
+    fn tell(&mut self, number: u64) -> Result<(), Failed>
+        ensures one_call { OneCall (Tell number) (is_ok result) (pmem_sight self.old) (pmem_sight self.new) }
+        ensures faults { (pmem_sight self.new).faults ≡ faults_after (is_ok result) (pmem_sight self.old).faults }
+        ensures words { cached_words self.new ≡ cached_words self.old }
+        ensures noted { noted_lines self.new ≡ noted_lines self.old }
+    {
+        self.clock.tick()?;
+        match eprintln!(self.rt; "durable {number}") {
+            Ok(()) => Ok(()),
+            Err(_) => {
+                self.clock.fault();
+                Err(Failed)
+            }
+        }
+    }
+
+    ghost fits = { λ medium. (Prim.search rules, Prim.search rules) };
+}
