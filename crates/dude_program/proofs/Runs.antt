@@ -292,7 +292,7 @@ serves_logged S T index number at vlr request ok old new s t same changes next n
     old_home = home_words S old.db.subscribers
 
     there : AtRest S old.last old_home (state_now s) → at < length old_home
-    there r = omega (arith, r.count, rows_fit S)
+    there r = omega (arith, r.image.count, rows_fit S)
 
 -- A list of requests without `SYNC` that is sorted is its own printed order.
 own_order : (done : List Done) → All (λ d. is_sync d.request ≡ false) done → AllPairs Precedes done → IsPrintedOrder done done
