@@ -17,7 +17,7 @@ use Rattle.pmem_trait.proofs.Images.{may_still}
 use Rattle.pmem_trait.proofs.Laws.{after_each_last, after_each_leaves, after_each_then, after_all_then}
 use Rattle.redo_record.specs.Tags.{kind_of, number_of, head_tag, IsHeadOver}
 use Rattle.dude_base.specs.Image.{Cell, cell_at, cell_start}
-use Rattle.redo_record.specs.Cells.{word_place}
+use Rattle.redo_record.specs.Cells.{word_at}
 use Rattle.redo_record.specs.Record.{HoldComplete, record_of}
 use Rattle.redo_record.specs.Encoding.{IsEncodable, encoded}
 use Rattle.redo_record.specs.Images.{mark_of, tag_of, word_in_image, IsComplete, IsNewHead}
@@ -144,9 +144,9 @@ logged_shows {S} {n} {home} {next} {p} {image} place at value low high inside sm
       writes_are = record { few = omega arith; distinct = λ i j d before lt _. omega arith };
     }
 
-    word : (j : ℕ) → j < 8 → slice_index image (word_place s head 0 j) ≡ slice_index (encoded r 0) j
+    word : (j : ℕ) → j < 8 → slice_index image (word_at s head 0 j) ≡ slice_index (encoded r 0) j
     word j lt =
-        let place_is : word_place s head 0 j ≡ 16 + place * 8 + j = omega arith in
+        let place_is : word_at s head 0 j ≡ 16 + place * 8 + j = omega arith in
         ap (slice_index image) place_is ∙ may_still _ _ _ (logs.word j lt) (may (16 + place * 8 + j) (omega arith) (omega arith))
 
     same : AreSame (cells_of_record r) (word_in_image s image head) 1
@@ -156,7 +156,7 @@ logged_shows {S} {n} {home} {next} {p} {image} place at value low high inside sm
     }
 
     tag_is : tag_of s image head ≡ head_tag (n + 1)
-    tag_is = let e : cell_start s head ≡ word_place s head 0 0 = omega arith in ap (slice_index image) e ∙ word 0 (omega arith)
+    tag_is = let e : cell_start s head ≡ word_at s head 0 0 = omega arith in ap (slice_index image) e ∙ word 0 (omega arith)
 
     new : IsNewHead s n image head
     new = record { cell = record { ring_is = omega arith; slot_is = inside }; new = record { kind = omega (arith, tag_is); over = omega (arith, tag_is) } }
@@ -384,7 +384,7 @@ stands_appended {S} {n} {home} {p} {q} place at value small rests done = (
     other k x out is = done.settled_others k x (elsewhere S place (n + 1) at value k out) is
 
     word : (j : ℕ) → j < 8 → q.word (16 + place * 8 + j) ≡ settled_at (slice_index (encoded r 0) j)
-    word j lt = let e : word_place s head 0 j ≡ 16 + place * 8 + j = omega arith in
+    word j lt = let e : word_at s head 0 j ≡ 16 + place * 8 + j = omega arith in
         subst (λ (i : ℕ). q.word i ≡ settled_at (slice_index (encoded r 0) j)) e (done.settled 0 j (omega arith) lt)
 
     cell : (k : ℕ) → 16 ≤ k → k < 144 → ((k - 16) / 8 ≡ place) ⊎ ((k - 16) / 8 ≢ place) → IsSettledWord (q.word k)

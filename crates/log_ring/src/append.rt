@@ -88,10 +88,7 @@ pub fn append_record<M: Medium>(
     let cells = cells_of(r);
     let pairs = pairs_of(place, ring, head, r);
     let lines = lines_of(place, ring, head, cells);
-    settle_group(
-        m,
-        &pairs[1..(LINE * cells) as usize],
-        &lines[..cells as usize],
-    )?;
+    let words = (LINE * cells) as usize;
+    settle_group(m, &pairs[1..words], &lines[..cells as usize])?;
     settle_group(m, &pairs[..1], &lines[..1])
 }

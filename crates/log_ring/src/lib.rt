@@ -15,4 +15,3 @@ pub use ring::Ring;
 pub use ring_fault::RingFault;
 pub use scan_fault::ScanFault;
 pub use scanning::scan;
-

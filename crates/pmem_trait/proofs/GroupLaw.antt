@@ -1,77 +1,24 @@
 -- One law for every group of writes: what each mix of the old words and the written ones has, every image has.
-use Rattle.std.proofs.Common.{◌≡◌, ◌⊎◌, inl, inr, ⊎_elim, ℕ, ◌/◌, ◌<◌, ◌==◌, Bool, true, false, if◌then◌else◌, List, [], ◌∷◌, ◌++◌, slice_index, refl, sym, ap, ◌∙◌, subst, eqb-true, eq-eqb}
-use Rattle.pmem_trait.specs.declared.call.Call.TheVariants.{Put, Flush, Fence}
-use Rattle.pmem_trait.specs.Words.{IsIn, Word, State, newest, value_of, with_later, settle, after, after_all, MayHold, EveryImage, settled_at, AfterEachCall, AfterEachCall.end, AfterEachCall.more}
+use Rattle.std.proofs.Common.{◌≡◌, ◌⊎◌, inl, inr, ⊎_elim, ℕ, ◌/◌, ◌<◌, List, [], ◌∷◌, slice_index, refl, sym, ap, ◌∙◌, subst}
+use Rattle.pmem_trait.specs.declared.call.Call.TheVariants.{Put, Flush}
+use Rattle.pmem_trait.specs.Words.{IsIn, Word, State, newest, value_of, settle, after, after_all, MayHold, EveryImage, settled_at, AfterEachCall}
 use Rattle.pmem_trait.specs.Groups.{put_pairs, flush_lines, group_calls, values_put, final, OldOrNew, MixOf}
 use Rattle.pmem_trait.specs.MediumLaws.{LawOfSettling}
-use Rattle.pmem_trait.proofs.Images.{may_still, note_less, fence_less}
-use Rattle.pmem_trait.proofs.GroupWords.{with_all, puts_word, noted_stays, group_is, group_flushed, group_may, with_all_may}
+use Rattle.pmem_trait.proofs.Images.{may_still}
+use Rattle.pmem_trait.proofs.GroupStates.{group_way}
+use Rattle.pmem_trait.proofs.Laws.{after_each_weaker}
+use Rattle.pmem_trait.proofs.GroupWords.{with_all, puts_word, noted_stays, group_is, group_flushed, group_may}
 
--- q has no number told and no value beside those of p and the written ones
-record Within (p : State) (all : List (ℕ × ℕ)) (q : State) : Type 0 where
-  told : q.told ≡ p.told
-  value : (k x : ℕ) → MayHold (q.word k) x → MayHold (p.word k) x ⊎ IsIn x (values_put all k)
-
-within_leaves : {len : ℕ} {P : List ℕ → List ℕ → Type 0} {p q : State} {all : List (ℕ × ℕ)} → ((image : List ℕ) → OldOrNew len p all image → P p.told image) → Within p all q → EveryImage len P q
-within_leaves {P = P} holds within = record {
-  each = λ image is.
-      subst (λ (told : List ℕ). P told image) (sym within.told)
-      (holds image (record { size = is.size; each = λ k below. within.value k (slice_index image k) (is.each k below) }));
-}
-
--- one value more
-later_less : (v x : ℕ) (w : Word) → MayHold (with_later v w) x → MayHold w x ⊎ (x ≡ v)
-later_less v x w may = by (with_all_may (v ∷ []) w x may)
-  where
-    by : MayHold w x ⊎ IsIn x (v ∷ []) → MayHold w x ⊎ (x ≡ v)
-    by (inl old) = inl old
-    by (inr (inl new)) = inr new
-    by (inr (inr none)) = absurd none
-
--- a write is among those of its word
-written_first : (at v : ℕ) (ws : List (ℕ × ℕ)) → IsIn v (values_put ((at, v) ∷ ws) at)
-written_first at v ws = subst (λ (b : Bool). IsIn v (if b then v ∷ values_put ws at else values_put ws at)) (sym (eq-eqb at at refl)) (inl refl)
-
-written_rest : (w : ℕ × ℕ) (ws : List (ℕ × ℕ)) (k x : ℕ) → IsIn x (values_put ws k) → IsIn x (values_put (w ∷ ws) k)
-written_rest w ws k x is = by (k == w.0)
-  where
-    by : (b : Bool) → IsIn x (if b then w.1 ∷ values_put ws k else values_put ws k)
-    by true = inr is
-    by false = is
-
-abbrev Among : List (ℕ × ℕ) → List (ℕ × ℕ) → Type 0
-Among ws all = (k x : ℕ) → IsIn x (values_put ws k) → IsIn x (values_put all k)
-
-put_within : {p q : State} {all : List (ℕ × ℕ)} (at v : ℕ) → IsIn v (values_put all at) → Within p all q → Within p all (after (Put at v) q)
-put_within {p} {q} {all} at v among within = record { told = within.told; value = λ k x may. by k x (k == at) refl may }
-  where
-    by : (k x : ℕ) (b : Bool) → (k == at) ≡ b → MayHold (if b then with_later v (q.word k) else q.word k) x → MayHold (p.word k) x ⊎ IsIn x (values_put all k)
-    by k x true is may = ⊎_elim
-        (λ old. within.value k x old)
-        (λ new. inr (subst (λ (j : ℕ). IsIn x (values_put all j)) (sym (eqb-true k at is)) (subst (λ (y : ℕ). IsIn y (values_put all at)) (sym new) among)))
-        (later_less v x (q.word k) may)
-    by k x false is may = within.value k x may
-
-flush_within : {p q : State} {all : List (ℕ × ℕ)} (line : ℕ) → Within p all q → Within p all (after (Flush line) q)
-flush_within {q = q} line within = record { told = within.told; value = λ k x may. within.value k x (note_less (k / 8 == line) x (q.word k) may) }
-
-fence_within : {p q : State} {all : List (ℕ × ℕ)} → Within p all q → Within p all (after Fence q)
-fence_within {q = q} within = record { told = within.told; value = λ k x may. within.value k x (fence_less x (q.word k) may) }
-
-module _ {len : ℕ} {P : List ℕ → List ℕ → Type 0} {p : State} (all : List (ℕ × ℕ)) (holds : (image : List ℕ) → OldOrNew len p all image → P p.told image) where
-  flushes_law : (q : State) (ls : List ℕ) → Within p all q → AfterEachCall (EveryImage len P) q (flush_lines ls ++ Fence ∷ [])
-  flushes_law q [] within = more (within_leaves holds within) (end (within_leaves holds (fence_within within)))
-  flushes_law q (l ∷ ls) within = more (within_leaves holds within) (flushes_law (after (Flush l) q) ls (flush_within l within))
-
-  puts_law : (q : State) (ws : List (ℕ × ℕ)) (ls : List ℕ) → Among ws all → Within p all q → AfterEachCall (EveryImage len P) q (put_pairs ws ++ (flush_lines ls ++ Fence ∷ []))
-  puts_law q [] ls among within = flushes_law q ls within
-  puts_law q (w ∷ ws) ls among within = more (within_leaves holds within)
-      (puts_law (after (Put w.0 w.1) q) ws ls (λ k x is. among k x (written_rest w ws k x is)) (put_within w.0 w.1 (among w.0 w.1 (written_first w.0 w.1 ws)) within))
-
-  -- Where every mix of the old words and these writes has P, every image has P at each moment of the group.
-  pub group_law : (ls : List ℕ) → AfterEachCall (EveryImage len P) p (group_calls all ls)
-  unfolding group_calls
-  group_law ls = puts_law p all ls (λ k x is. is) (record { told = refl; value = λ k x may. inl may })
+-- Where every mix of the old words and these writes has P, every image has P at each moment of the group.
+pub group_law : {len : ℕ} {P : List ℕ → List ℕ → Type 0} {p : State} (all : List (ℕ × ℕ)) → ((image : List ℕ) → OldOrNew len p all image → P p.told image) → (ls : List ℕ)
+    → AfterEachCall (EveryImage len P) p (group_calls all ls)
+group_law {len} {P} {p} all holds ls = after_each_weaker
+    (λ q way. record {
+      each = λ image is.
+          subst (λ (told : List ℕ). P told image) (sym way.told)
+          (holds image (record { size = is.size; each = λ k below. way.value k (slice_index image k) (is.each k below) }));
+    })
+    (group_way all ls)
 
 -- what a mix may have of a word that isn't written: what the word may have been
 pub mix_may : {len : ℕ} {p : State} {ws : List (ℕ × ℕ)} {image : List ℕ} → OldOrNew len p ws image → (k : ℕ) → k < len → values_put ws k ≡ [] → MayHold (p.word k) (slice_index image k)

@@ -1,5 +1,5 @@
 -- Every state on the way of a group of writes: what a word may have there, and which words stay settled.
-use Rattle.std.proofs.Common.{◌≡◌, ◌⊎◌, inl, inr, ⊎_elim, ℕ, ◌/◌, ◌==◌, Bool, true, false, if◌then◌else◌, List, [], ◌∷◌, ◌++◌, refl, sym, ap, ◌∙◌, subst, eqb-true, eq-eqb}
+use Rattle.std.proofs.Common.{◌≡◌, ◌⊎◌, inl, inr, ⊎_elim, ℕ, ◌/◌, ◌==◌, Bool, true, false, if◌then◌else◌, List, [], ◌∷◌, ◌++◌, refl, sym, ap, subst, eqb-true, eq-eqb}
 use Rattle.pmem_trait.specs.Words.{IsIn, Word, State, with_later, with_note, settle, after, MayHold, settled_at, AfterEachCall, AfterEachCall.end, AfterEachCall.more}
 use Rattle.pmem_trait.specs.declared.call.Call.TheVariants.{Put, Flush, Fence}
 use Rattle.pmem_trait.specs.Groups.{put_pairs, flush_lines, group_calls, values_put}

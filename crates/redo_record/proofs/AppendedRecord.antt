@@ -13,7 +13,7 @@ use Rattle.pmem_trait.proofs.GroupWords.{group_flushed, group_may}
 use Rattle.pmem_trait.proofs.GroupStates.{OnTheWay, group_way}
 use Rattle.pmem_trait.proofs.Laws.{after_each_last, after_each_then, after_each_weaker, after_all_then}
 use Rattle.redo_record.specs.Tags.{number_of, head_tag, continuation_tag, IsHeadOver}
-use Rattle.redo_record.specs.Cells.{line_of, word_place}
+use Rattle.redo_record.specs.Cells.{line_of, word_at}
 use Rattle.redo_record.specs.Record.{cells_for, HoldComplete}
 use Rattle.redo_record.specs.Encoding.{encoded}
 use Rattle.redo_record.specs.Fits.{Logged, FitsRing, IsIntact, settled_mark, settled_word}
@@ -48,7 +48,7 @@ module _ (s : Sizes) (logged : List Logged) (released : ℕ) (head : Cell) (r : 
       subst (IsIn tag) (body_elsewhere s head can.cell r (cell_start s (cell_at head.ring slot)) (λ k j lt small same. none k lt (omega arith))) is)
       (among s.cells head.slot slot (cells_for (length r.writes)))
     where
-      start_is : (k : ℕ) → slot ≡ (head.slot + k) % s.cells → cell_start s (cell_at head.ring slot) ≡ word_place s head k 0
+      start_is : (k : ℕ) → slot ≡ (head.slot + k) % s.cells → cell_start s (cell_at head.ring slot) ≡ word_at s head k 0
       start_is k same = ap (λ x. 16 + (head.ring * s.cells + x) * 8) same ∙ omega arith
 
       no_head : (k : ℕ) → 1 ≤ k → IsIn tag (slice_index (encoded r k) 0 ∷ []) → ⊥
@@ -81,10 +81,10 @@ module _ (s : Sizes) (logged : List Logged) (released : ℕ) (head : Cell) (r : 
   tag_outside can i other = tag_elsewhere s head r i (λ is. other 0 0 (omega arith) (omega arith) (is ∙ (omega arith ∙ sym (first_cell s head can.cell 0))))
 
   -- nor at the other words of the record
-  tag_apart : {mark : ℕ} → CanAppend s mark logged head r → (k j : ℕ) → k < cells_for (length r.writes) → j < 8 → (1 ≤ k) ⊎ (1 ≤ j) → values_put (tag_write s head r) (word_place s head k j) ≡ []
-  tag_apart can k j lt small other = tag_elsewhere s head r (word_place s head k j) (λ is. ne other (is ∙ (omega arith ∙ sym (first_cell s head can.cell 0))))
+  tag_apart : {mark : ℕ} → CanAppend s mark logged head r → (k j : ℕ) → k < cells_for (length r.writes) → j < 8 → (1 ≤ k) ⊎ (1 ≤ j) → values_put (tag_write s head r) (word_at s head k j) ≡ []
+  tag_apart can k j lt small other = tag_elsewhere s head r (word_at s head k j) (λ is. ne other (is ∙ (omega arith ∙ sym (first_cell s head can.cell 0))))
     where
-      ne : (1 ≤ k) ⊎ (1 ≤ j) → word_place s head k j ≡ word_place s head 0 0 → ⊥
+      ne : (1 ≤ k) ⊎ (1 ≤ j) → word_at s head k j ≡ word_at s head 0 0 → ⊥
       ne (inl a) same = let it = places_same s head can.cell (cells_for (length r.writes)) (few_cells can) k 0 j 0 lt (omega arith) small (omega arith) same in let first = it.0 in omega arith
       ne (inr a) same = let it = places_same s head can.cell (cells_for (length r.writes)) (few_cells can) k 0 j 0 lt (omega arith) small (omega arith) same in let second = it.1 in omega arith
 
@@ -109,11 +109,11 @@ module _ (s : Sizes) (logged : List Logged) (released : ℕ) (head : Cell) (r : 
     body_outside = body_elsewhere s head can.cell r
 
     -- the words of the body are settled
-    settled_body : (k j : ℕ) → k < cells_for (length r.writes) → j < 8 → (1 ≤ k) ⊎ (1 ≤ j) → with_body.word (word_place s head k j) ≡ settled_at (slice_index (encoded r k) j)
+    settled_body : (k j : ℕ) → k < cells_for (length r.writes) → j < 8 → (1 ≤ k) ⊎ (1 ≤ j) → with_body.word (word_at s head k j) ≡ settled_at (slice_index (encoded r k) j)
     settled_body k j lt small other =
-        group_flushed body lines p (word_place s head k j)
+        group_flushed body lines p (word_at s head k j)
         (subst (λ (l : ℕ). IsIn l lines) (sym (word_line s head can.cell k j small)) (line_in s head (cells_for (length r.writes)) k lt))
-        ∙ ap (λ (vs : List ℕ). settled_at (newest (value_of (p.word (word_place s head k j))) vs)) (body_word s head can.cell r (few_cells can) k j lt small other)
+        ∙ ap (λ (vs : List ℕ). settled_at (newest (value_of (p.word (word_at s head k j))) vs)) (body_word s head can.cell r (few_cells can) k j lt small other)
 
     -- the ring's records stay intact where the settled words elsewhere stay
     stay_intact : (q : State) → ((i x : ℕ) → IsElsewhere s head r i → p.word i ≡ settled_at x → q.word i ≡ settled_at x) → All (λ l. settled_mark p < l.number → IsIntact s head.ring q l) logged
@@ -148,8 +148,8 @@ module _ (s : Sizes) (logged : List Logged) (released : ℕ) (head : Cell) (r : 
         stays : (i x : ℕ) → IsElsewhere s head r i → p.word i ≡ settled_at x → q.word i ≡ settled_at x
         stays i x other is = way.stays i x (tag_outside can i other) (left_word body lines p i x (body_outside i other) is)
 
-        kept : (k j : ℕ) → k < cells_for (length r.writes) → j < 8 → (1 ≤ k) ⊎ (1 ≤ j) → q.word (word_place s head k j) ≡ settled_at (slice_index (encoded r k) j)
-        kept k j lt small other = way.stays (word_place s head k j) (slice_index (encoded r k) j) (tag_apart can k j lt small other) (settled_body k j lt small other)
+        kept : (k j : ℕ) → k < cells_for (length r.writes) → j < 8 → (1 ≤ k) ⊎ (1 ≤ j) → q.word (word_at s head k j) ≡ settled_at (slice_index (encoded r k) j)
+        kept k j lt small other = way.stays (word_at s head k j) (slice_index (encoded r k) j) (tag_apart can k j lt small other) (settled_body k j lt small other)
 
     along_append : AfterEachCall (Appending s logged head r p) p (append_calls s head r)
     unfolding append_calls
@@ -160,16 +160,16 @@ module _ (s : Sizes) (logged : List Logged) (released : ℕ) (head : Cell) (r : 
     append_ends = after_all_then (group_calls body lines) (group_calls tag (line_of s head ∷ [])) p
 
     -- a word of the body stays as it is under the tag's group
-    untouched : (k j : ℕ) → k < cells_for (length r.writes) → j < 8 → (1 ≤ k) ⊎ (1 ≤ j) → with_tag.word (word_place s head k j) ≡ settled_at (slice_index (encoded r k) j)
+    untouched : (k j : ℕ) → k < cells_for (length r.writes) → j < 8 → (1 ≤ k) ⊎ (1 ≤ j) → with_tag.word (word_at s head k j) ≡ settled_at (slice_index (encoded r k) j)
     untouched k j lt small other =
-        left_word tag (line_of s head ∷ []) with_body (word_place s head k j) (slice_index (encoded r k) j) (tag_apart can k j lt small other) (settled_body k j lt small other)
+        left_word tag (line_of s head ∷ []) with_body (word_at s head k j) (slice_index (encoded r k) j) (tag_apart can k j lt small other) (settled_body k j lt small other)
 
     -- the whole record is settled
-    settled_tag : (k j : ℕ) → k < cells_for (length r.writes) → j < 8 → with_tag.word (word_place s head k j) ≡ settled_at (slice_index (encoded r k) j)
+    settled_tag : (k j : ℕ) → k < cells_for (length r.writes) → j < 8 → with_tag.word (word_at s head k j) ≡ settled_at (slice_index (encoded r k) j)
     settled_tag zero zero lt small =
-        let at : word_place s head 0 0 ≡ cell_start s head = first_cell s head can.cell 0 ∙ omega arith in
-        group_flushed tag (line_of s head ∷ []) with_body (word_place s head 0 0) (inl (ap (λ i. i / 8) at ∙ head_line s head can.cell))
-        ∙ ap (λ (vs : List ℕ). settled_at (newest (value_of (with_body.word (word_place s head 0 0))) vs)) (tag_there s head r (word_place s head 0 0) at)
+        let at : word_at s head 0 0 ≡ cell_start s head = first_cell s head can.cell 0 ∙ omega arith in
+        group_flushed tag (line_of s head ∷ []) with_body (word_at s head 0 0) (inl (ap (λ i. i / 8) at ∙ head_line s head can.cell))
+        ∙ ap (λ (vs : List ℕ). settled_at (newest (value_of (with_body.word (word_at s head 0 0))) vs)) (tag_there s head r (word_at s head 0 0) at)
     settled_tag zero (suc j) lt small = untouched 0 (suc j) lt small (inr (omega arith))
     settled_tag (suc k) j lt small = untouched (suc k) j lt small (inl (omega arith))
 

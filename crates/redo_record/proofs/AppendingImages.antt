@@ -9,7 +9,7 @@ use Rattle.pmem_trait.specs.Words.{Word, State, MayHold, IsSettledWord, IsImage,
 use Rattle.pmem_trait.proofs.Images.{may_still}
 use Rattle.pmem_trait.proofs.Laws.{after_each_weaker}
 use Rattle.redo_record.specs.Tags.{number_of, head_tag, IsHeadOver}
-use Rattle.redo_record.specs.Cells.{IsCell, word_place}
+use Rattle.redo_record.specs.Cells.{IsCell, word_at}
 use Rattle.redo_record.specs.Record.{cells_for, count_of, record_of, HoldComplete}
 use Rattle.redo_record.specs.Encoding.{IsEncodable}
 use Rattle.redo_record.specs.Images.{mark_of, tag_of, word_in_image, IsComplete, IsNewHead}
@@ -31,7 +31,7 @@ intact_complete s ring l q len image is_cell long intact is =
       word = λ k j lt small.
           let below : k < l.cells = subst (λ (n : ℕ). k < n) intact.same_cells lt in
           let inside = word_inside s (head_of ring l) is_cell k j small in
-          may_still _ _ _ (intact.settled_words k j below small) (is.each (word_place s (head_of ring l) k j) (omega arith));
+          may_still _ _ _ (intact.settled_words k j below small) (is.each (word_at s (head_of ring l) k j) (omega arith));
     } in
     complete_same same intact.complete
 
@@ -53,8 +53,8 @@ module _ (s : Sizes) (logged : List Logged) (head : Cell) (r : RedoRecord) (p q 
       where
         word : (k j : ℕ) → k < cells_for (length r.writes) → j < 8 → word_in_image s image head k j ≡ cells_of_record r k j
         word zero zero lt small = ap (slice_index image) (first_cell s head is_cell 0 ∙ omega arith) ∙ tag
-        word zero (suc j) lt small = let inside = word_inside s head is_cell 0 (suc j) small in kept (word_place s head 0 (suc j)) _ (omega arith) (body 0 (suc j) lt small (inr (omega arith)))
-        word (suc k) j lt small = let inside = word_inside s head is_cell (suc k) j small in kept (word_place s head (suc k) j) _ (omega arith) (body (suc k) j lt small (inl (omega arith)))
+        word zero (suc j) lt small = let inside = word_inside s head is_cell 0 (suc j) small in kept (word_at s head 0 (suc j)) _ (omega arith) (body 0 (suc j) lt small (inr (omega arith)))
+        word (suc k) j lt small = let inside = word_inside s head is_cell (suc k) j small in kept (word_at s head (suc k) j) _ (omega arith) (body (suc k) j lt small (inl (omega arith)))
 
         same : AreSame (cells_of_record r) (word_in_image s image head) (cells_for (length r.writes))
         same = record { word = word }
@@ -105,7 +105,7 @@ module _ (s : Sizes) (logged : List Logged) (head : Cell) (r : RedoRecord) (p q 
       (λ slot tag below may. way.others (cell_start s (cell_at ring slot)) tag (start slot below) may)
       (λ slot j x below small is. way.settled_others (cell_start s (cell_at ring slot) + j) x (ring_elsewhere s head r ring is_cell ne slot j below small) is)
     where
-      start : (slot : ℕ) → slot < s.cells → (k j : ℕ) → k < cells_for (length r.writes) → j < 8 → cell_start s (cell_at ring slot) ≡ word_place s head k j → ⊥
+      start : (slot : ℕ) → slot < s.cells → (k j : ℕ) → k < cells_for (length r.writes) → j < 8 → cell_start s (cell_at ring slot) ≡ word_at s head k j → ⊥
       start slot below k j lt small same = ring_elsewhere s head r ring is_cell ne slot 0 below (omega arith) k j lt small (omega arith)
 
 pub appending_law : LawOfAppending

@@ -6,7 +6,7 @@ use Rattle.std.proofs.lemmas.Bool.{cases_lt, cases_eq, cases_order}
 use Rattle.dude_base.specs.declared.sizes.Sizes.{Sizes}
 use Rattle.dude_base.specs.Image.{image_words, Cell, cell_start}
 use Rattle.pmem_trait.specs.Words.{IsIn}
-use Rattle.redo_record.specs.Cells.{IsCell, cell_after, line_of, word_place}
+use Rattle.redo_record.specs.Cells.{IsCell, cell_after, line_of, word_at}
 use Rattle.redo_record.specs.Calls.{lines_from}
 
 -- k places on, in a ring of c places
@@ -69,27 +69,27 @@ module _ (s : Sizes) (head : Cell) (is_cell : IsCell s head) where
   cell_below k = let lt = is_cell.slot_is in mod-lt (head.slot + k) (omega arith)
 
   -- the head's own cell is the first
-  pub first_cell : (j : ℕ) → word_place s head 0 j ≡ cell_start s head + j
+  pub first_cell : (j : ℕ) → word_at s head 0 j ≡ cell_start s head + j
   first_cell j =
       let lt = is_cell.slot_is in
       let is : (head.slot + 0) % s.cells ≡ head.slot = ap (λ x. x % s.cells) (omega arith) ∙ mod-eq_of_lt lt in
       ap (λ x. 16 + (head.ring * s.cells + x) * 8 + j) is
 
   -- a word of a cell lies in its line
-  pub word_line : (k j : ℕ) → j < 8 → word_place s head k j / 8 ≡ line_of s (cell_after s head k)
+  pub word_line : (k j : ℕ) → j < 8 → word_at s head k j / 8 ≡ line_of s (cell_after s head k)
   word_line k j small = omega arith
 
   pub head_line : cell_start s head / 8 ≡ line_of s head
   head_line = omega arith
 
   -- two words of the record's cells
-  pub places_same : (n : ℕ) → n ≤ s.cells → (k i j m : ℕ) → k < n → i < n → j < 8 → m < 8 → word_place s head k j ≡ word_place s head i m → (k ≡ i) × (j ≡ m)
+  pub places_same : (n : ℕ) → n ≤ s.cells → (k i j m : ℕ) → k < n → i < n → j < 8 → m < 8 → word_at s head k j ≡ word_at s head i m → (k ≡ i) × (j ≡ m)
   places_same n few k i j m a b small tiny same =
       let apart = words_same (head.ring * s.cells) ((head.slot + k) % s.cells) ((head.slot + i) % s.cells) j m small tiny same in
       (steps_same s.cells head.slot k i is_cell.slot_is (omega arith) (omega arith) apart.0, apart.1)
 
   -- inside the image
-  pub word_inside : (k j : ℕ) → j < 8 → word_place s head k j < image_words s
+  pub word_inside : (k j : ℕ) → j < 8 → word_at s head k j < image_words s
   word_inside k j small =
       let below = cell_below k in
       let ring = is_cell.ring_is in

@@ -8,7 +8,7 @@ use Rattle.pmem_trait.specs.Groups.{values_put}
 use Rattle.pmem_trait.proofs.GroupLists.{written-append, words_outside, words_inside}
 use Rattle.redo_record.specs.Tags.{head_tag}
 use Rattle.dude_base.specs.Image.{Cell, cell_start}
-use Rattle.redo_record.specs.Cells.{IsCell, cell_after, word_place}
+use Rattle.redo_record.specs.Cells.{IsCell, cell_after, word_at}
 use Rattle.redo_record.specs.Record.{cells_for}
 use Rattle.redo_record.specs.Encoding.{encoded}
 use Rattle.redo_record.specs.Calls.{cell_writes, record_writes, body_writes, tag_write}
@@ -61,25 +61,25 @@ module _ (s : Sizes) (head : Cell) (is_cell : IsCell s head) (r : RedoRecord) wh
 
   module _ (few : cells_for (length r.writes) ≤ s.cells) where
     -- each word of the record's cells is written once
-    record_word : (k j : ℕ) → k < cells_for (length r.writes) → j < 8 → values_put (record_writes s head r) (word_place s head k j) ≡ slice_index (encoded r k) j ∷ []
+    record_word : (k j : ℕ) → k < cells_for (length r.writes) → j < 8 → values_put (record_writes s head r) (word_at s head k j) ≡ slice_index (encoded r k) j ∷ []
     record_word k j a small =
-        flat_one (cell_writes s head r) (word_place s head k j) 0 (cells_for (length r.writes)) k (omega arith) (omega arith)
-        (λ m low below ne. words_outside (cell_start s (cell_after s head m)) (encoded r m) (word_place s head k j)
+        flat_one (cell_writes s head r) (word_at s head k j) 0 (cells_for (length r.writes)) k (omega arith) (omega arith)
+        (λ m low below ne. words_outside (cell_start s (cell_after s head m)) (encoded r m) (word_at s head k j)
         (λ i lt same. ne (sym (places_same s head is_cell (cells_for (length r.writes)) few k m j i a (omega arith) small lt same).0)))
-        ∙ words_inside (cell_start s (cell_after s head k)) (encoded r k) j (word_place s head k j) refl small
+        ∙ words_inside (cell_start s (cell_after s head k)) (encoded r k) j (word_at s head k j) refl small
 
     -- so it is by the body, but for the tag
-    pub body_word : (k j : ℕ) → k < cells_for (length r.writes) → j < 8 → (1 ≤ k) ⊎ (1 ≤ j) → values_put (body_writes s head r) (word_place s head k j) ≡ slice_index (encoded r k) j ∷ []
-    body_word k j a small other = body_skip (word_place s head k j) (λ is. apart other (is ∙ (omega arith ∙ sym (first_cell s head is_cell 0)))) ∙ record_word k j a small
+    pub body_word : (k j : ℕ) → k < cells_for (length r.writes) → j < 8 → (1 ≤ k) ⊎ (1 ≤ j) → values_put (body_writes s head r) (word_at s head k j) ≡ slice_index (encoded r k) j ∷ []
+    body_word k j a small other = body_skip (word_at s head k j) (λ is. apart other (is ∙ (omega arith ∙ sym (first_cell s head is_cell 0)))) ∙ record_word k j a small
       where
-        apart : (1 ≤ k) ⊎ (1 ≤ j) → word_place s head k j ≡ word_place s head 0 0 → ⊥
+        apart : (1 ≤ k) ⊎ (1 ≤ j) → word_at s head k j ≡ word_at s head 0 0 → ⊥
         apart (inl low) same = let it = places_same s head is_cell (cells_for (length r.writes)) few k 0 j 0 a (omega arith) small (omega arith) same in let first = it.0 in omega arith
         apart (inr low) same = let it = places_same s head is_cell (cells_for (length r.writes)) few k 0 j 0 a (omega arith) small (omega arith) same in let second = it.1 in omega arith
 
     -- which isn't in the body
     pub body_tag : values_put (body_writes s head r) (cell_start s head) ≡ []
     body_tag =
-        let at : word_place s head 0 0 ≡ cell_start s head = first_cell s head is_cell 0 ∙ omega arith in
+        let at : word_at s head 0 0 ≡ cell_start s head = first_cell s head is_cell 0 ∙ omega arith in
         let whole : values_put (record_writes s head r) (cell_start s head) ≡ head_tag r.number ∷ [] =
         ap (values_put (record_writes s head r)) (sym at) ∙ record_word 0 0 (omega arith) (omega arith) in
         let first : values_put (record_writes s head r) (cell_start s head) ≡ head_tag r.number ∷ values_put (body_writes s head r) (cell_start s head) =

@@ -6,7 +6,7 @@ use Rattle.dude_base.specs.Image.{Cell, cell_at, cell_start}
 use Rattle.dude_base.specs.Records.{RedoRecord}
 use Rattle.pmem_trait.specs.Words.{Word, State, IsSettledWord, settled_at}
 use Rattle.redo_record.specs.Tags.{number_of}
-use Rattle.redo_record.specs.Cells.{IsCell, word_place}
+use Rattle.redo_record.specs.Cells.{IsCell, word_at}
 use Rattle.redo_record.specs.Record.{cells_for, count_of}
 use Rattle.redo_record.specs.Fits.{Logged, head_of, HasHead, settled_word, IsIntact}
 use Rattle.redo_record.specs.AppendLaw.{IsElsewhere}
@@ -19,7 +19,7 @@ is_settled is = is ∙ ap settled_at (sym (ap (λ (w : Word). w.settled) is))
 
 -- a record is intact where its cells are settled as they were
 pub intact_by : {s : Sizes} {ring : ℕ} {p q : State} {l : Logged} → IsIntact s ring p l
-    → ((k j : ℕ) → k < l.cells → j < 8 → q.word (word_place s (head_of ring l) k j) ≡ settled_at (settled_word s p (head_of ring l) k j)) → IsIntact s ring q l
+    → ((k j : ℕ) → k < l.cells → j < 8 → q.word (word_at s (head_of ring l) k j) ≡ settled_at (settled_word s p (head_of ring l) k j)) → IsIntact s ring q l
 intact_by {s} {ring} {p} {q} {l} intact stay =
     let same : AreSame (settled_word s p (head_of ring l)) (settled_word s q (head_of ring l)) (cells_for (count_of (settled_word s p (head_of ring l)))) = record {
       word = λ k j lt small. ap (λ (w : Word). w.settled) (stay k j (subst (λ (n : ℕ). k < n) intact.same_cells lt) small);
@@ -60,9 +60,9 @@ header_elsewhere s head r i low k j lt small is = omega arith
 -- so are those of other cells of the ring
 pub cells_elsewhere : (s : Sizes) (head other : Cell) (r : RedoRecord) (n : ℕ) → other.ring ≡ head.ring
     → ((i k : ℕ) → i < n → k < cells_for (length r.writes) → (other.slot + i) % s.cells ≡ (head.slot + k) % s.cells → ⊥)
-    → (i j : ℕ) → i < n → j < 8 → IsElsewhere s head r (word_place s other i j)
+    → (i j : ℕ) → i < n → j < 8 → IsElsewhere s head r (word_at s other i j)
 cells_elsewhere s head other r n ring apart i j lt small k m below tiny same =
-    let here : word_place s (cell_at head.ring other.slot) i j ≡ word_place s head k m = ap (λ (x : ℕ). word_place s (cell_at x other.slot) i j) (sym ring) ∙ same in
+    let here : word_at s (cell_at head.ring other.slot) i j ≡ word_at s head k m = ap (λ (x : ℕ). word_at s (cell_at x other.slot) i j) (sym ring) ∙ same in
     apart i k lt below (words_same (head.ring * s.cells) ((other.slot + i) % s.cells) ((head.slot + k) % s.cells) j m small tiny here).0
 
 -- and those of another ring

@@ -8,7 +8,7 @@ use Rattle.dude_base.specs.Image.{image_words, Cell}
 use Rattle.dude_base.specs.Records.{RedoRecord}
 use Rattle.pmem_trait.specs.Words.{Word, State, IsImage, settled_at}
 use Rattle.pmem_trait.proofs.Images.{may_still}
-use Rattle.redo_record.specs.Cells.{IsCell, word_place}
+use Rattle.redo_record.specs.Cells.{IsCell, word_at}
 use Rattle.redo_record.specs.Record.{cells_for, count_of, write_of, record_of}
 use Rattle.redo_record.specs.Images.{word_in_image, IsComplete}
 use Rattle.redo_record.specs.Fits.{IsIntact, settled_word}
@@ -29,7 +29,7 @@ module _ {s : Sizes} {head : Cell} {r : RedoRecord} {p : State} (held : HoldSett
   held_below k lt = subst (λ (n : ℕ). k < cells_for n) held_count lt
 
   -- cells settled at the same words hold it too
-  pub held_by : {q : State} → ((k j : ℕ) → k < cells_for (length r.writes) → j < 8 → q.word (word_place s head k j) ≡ settled_at (settled_word s p head k j)) → HoldSettled s head r q
+  pub held_by : {q : State} → ((k j : ℕ) → k < cells_for (length r.writes) → j < 8 → q.word (word_at s head k j) ≡ settled_at (settled_word s p head k j)) → HoldSettled s head r q
   held_by {q} stay =
       let same : AreSame (settled_word s p head) (settled_word s q head) (cells_for (count_of (settled_word s p head))) = record {
         word = λ k j lt small. ap (λ (w : Word). w.settled) (stay k j (held_below k lt) small);
@@ -53,7 +53,7 @@ module _ {s : Sizes} {head : Cell} {r : RedoRecord} {p : State} (held : HoldSett
       let same : AreSame (settled_word s p head) (word_in_image s image head) (cells_for (count_of (settled_word s p head))) = record {
         word = λ k j lt small.
             let inside = word_inside s head is_cell k j small in
-            may_still _ _ _ (held.settled_words k j (held_below k lt) small) (is.each (word_place s head k j) (omega arith));
+            may_still _ _ _ (held.settled_words k j (held_below k lt) small) (is.each (word_at s head k j) (omega arith));
       } in
       (complete_same same held.complete, record_same same ∙ held.same)
 
@@ -69,7 +69,7 @@ settled_records_law = record {
         same = record_same same ∙ encoded_record r can.encodable;
       };
   beside = λ s logged head other r t p q is_cell is_other apart way held.
-      held_by held (λ k j lt small. way.settled_others (word_place s other k j) _ (elsewhere s head other r t is_cell is_other apart k j lt small) (held.settled_words k j lt small));
+      held_by held (λ k j lt small. way.settled_others (word_at s other k j) _ (elsewhere s head other r t is_cell is_other apart k j lt small) (held.settled_words k j lt small));
   rest = λ s head r p q is_cell stay held.
       held_by held (λ k j lt small. stay ((head.slot + k) % s.cells) j _ (mod-lt (head.slot + k) (let some = is_cell.slot_is in omega arith)) small (held.settled_words k j lt small));
   intact = λ s head r p held. held_intact held;
@@ -77,7 +77,7 @@ settled_records_law = record {
 }
   where
     elsewhere : (s : Sizes) (head other : Cell) (r t : RedoRecord) → IsCell s head → IsCell s other → AreApart s head r other t
-        → (k j : ℕ) → k < cells_for (length t.writes) → j < 8 → IsElsewhere s head r (word_place s other k j)
+        → (k j : ℕ) → k < cells_for (length t.writes) → j < 8 → IsElsewhere s head r (word_at s other k j)
     elsewhere s head other r t is_cell is_other apart k j lt small = ⊎_elim
         (λ (ring : other.ring ≡ head.ring). cells_elsewhere s head other r (cells_for (length t.writes)) ring (apart ring) k j lt small)
         (λ (ne : other.ring ≢ head.ring). ring_elsewhere s head r other.ring is_cell ne ((other.slot + k) % s.cells) j (mod-lt (other.slot + k) (let some = is_other.slot_is in omega arith)) small)

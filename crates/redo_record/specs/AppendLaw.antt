@@ -7,7 +7,7 @@ use Rattle.dude_base.specs.Image.{image_words, Cell, cell_at, cell_start}
 use Rattle.dude_base.specs.Records.{RedoRecord}
 use Rattle.pmem_trait.specs.Words.{State, MayHold, IsSettledWord, EveryImage, AfterEachCall, settled_at, after_all}
 use Rattle.redo_record.specs.Tags.{number_of, head_tag, IsHeadOver}
-use Rattle.redo_record.specs.Cells.{IsCell, word_place}
+use Rattle.redo_record.specs.Cells.{IsCell, word_at}
 use Rattle.redo_record.specs.Record.{cells_for, record_of}
 use Rattle.redo_record.specs.Encoding.{IsEncodable, encoded}
 use Rattle.redo_record.specs.Images.{mark_of, tag_of, word_in_image, IsComplete, IsNewHead}
@@ -28,12 +28,12 @@ logged_as head r = record { number = r.number; first = head.slot; cells = cells_
 
 -- this word is none of the record's cells, which begin at this one
 abbrev pub IsElsewhere : Sizes → Cell → RedoRecord → ℕ → Type 0
-IsElsewhere s head r i = (k j : ℕ) → k < cells_for (length r.writes) → j < LINE → i ≡ word_place s head k j → ⊥
+IsElsewhere s head r i = (k j : ℕ) → k < cells_for (length r.writes) → j < LINE → i ≡ word_at s head k j → ⊥
 
 -- every word of the record's cells but the head's tag is settled
 abbrev pub IsBodySettled : Sizes → Cell → RedoRecord → State → Type 0
 IsBodySettled s head r q =
-    (k j : ℕ) → k < cells_for (length r.writes) → j < LINE → (1 ≤ k) ⊎ (1 ≤ j) → q.word (word_place s head k j) ≡ settled_at (slice_index (encoded r k) j)
+    (k j : ℕ) → k < cells_for (length r.writes) → j < LINE → (1 ≤ k) ⊎ (1 ≤ j) → q.word (word_at s head k j) ≡ settled_at (slice_index (encoded r k) j)
 
 -- From a state p to a state q on the way of an append of r. Nothing more was told. A word elsewhere has no value that it
 -- might not have had before, and stands as it was where it was settled. The ring's records over the mark are intact. Each
@@ -50,7 +50,7 @@ pub record Appending (s : Sizes) (logged : List Logged) (head : Cell) (r : RedoR
 -- The whole record is settled in its cells. Each word elsewhere has no value that it might not have had before, and stands
 -- as it was where it was settled. Nothing more was told, and the ring fits with the record added.
 pub record Appended (s : Sizes) (logged : List Logged) (released : ℕ) (head : Cell) (r : RedoRecord) (p q : State) : Type 0 where
-  pub settled : (k j : ℕ) → k < cells_for (length r.writes) → j < LINE → q.word (word_place s head k j) ≡ settled_at (slice_index (encoded r k) j)
+  pub settled : (k j : ℕ) → k < cells_for (length r.writes) → j < LINE → q.word (word_at s head k j) ≡ settled_at (slice_index (encoded r k) j)
   pub others : (i x : ℕ) → IsElsewhere s head r i → MayHold (q.word i) x → MayHold (p.word i) x
   pub settled_others : (i x : ℕ) → IsElsewhere s head r i → p.word i ≡ settled_at x → q.word i ≡ settled_at x
   pub told : q.told ≡ p.told

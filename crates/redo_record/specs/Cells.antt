@@ -17,5 +17,5 @@ abbrev pub line_of : Sizes → Cell → ℕ
 line_of s cell = 2 + cell.ring * s.cells + cell.slot
 
 -- where word j of the k-th cell from this one on stands
-abbrev pub word_place : Sizes → Cell → ℕ → ℕ → ℕ
-word_place s head k j = cell_start s (cell_after s head k) + j
+abbrev pub word_at : Sizes → Cell → ℕ → ℕ → ℕ
+word_at s head k j = cell_start s (cell_after s head k) + j

@@ -5,7 +5,7 @@ use Rattle.dude_base.specs.declared.sizes.Sizes.{Sizes}
 use Rattle.pmem_trait.specs.Words.{State, MayHold, IsSettledWord}
 use Rattle.redo_record.specs.Tags.{number_of, IsHeadOver}
 use Rattle.dude_base.specs.Image.{Cell, cell_at, cell_start}
-use Rattle.redo_record.specs.Cells.{word_place}
+use Rattle.redo_record.specs.Cells.{word_at}
 use Rattle.redo_record.specs.Record.{cells_for, count_of, HoldComplete}
 
 -- A record in a ring: its number, the slot of its head, and how many cells it takes.
@@ -29,11 +29,11 @@ settled_mark p = (p.word MARK).settled
 
 -- word j of the k-th cell from this one on, as it is settled
 abbrev pub settled_word : Sizes → State → Cell → ℕ → ℕ → ℕ
-settled_word s p head k j = (p.word (word_place s head k j)).settled
+settled_word s p head k j = (p.word (word_at s head k j)).settled
 
 -- The record is complete in its cells, which are settled.
 pub record IsIntact (s : Sizes) (ring : ℕ) (p : State) (l : Logged) : Type 0 where
-  pub settled_words : (k j : ℕ) → k < l.cells → j < LINE → IsSettledWord (p.word (word_place s (head_of ring l) k j))
+  pub settled_words : (k j : ℕ) → k < l.cells → j < LINE → IsSettledWord (p.word (word_at s (head_of ring l) k j))
   pub complete : HoldComplete s (settled_word s p (head_of ring l))
   pub same_number : number_of (settled_word s p (head_of ring l) 0 0) ≡ l.number
   pub same_cells : cells_for (count_of (settled_word s p (head_of ring l))) ≡ l.cells

@@ -4,7 +4,7 @@ use Rattle.dude_base.specs.declared.limits.TheConstants.{MARK}
 use Rattle.dude_base.specs.declared.sizes.Sizes.{Sizes}
 use Rattle.dude_base.specs.Image.{home_word, image_words, Cell, cell_start}
 use Rattle.redo_record.specs.Tags.{IsHeadOver}
-use Rattle.redo_record.specs.Cells.{IsCell, word_place}
+use Rattle.redo_record.specs.Cells.{IsCell, word_at}
 use Rattle.redo_record.specs.Record.{HoldComplete}
 
 -- the sizes that an image names
@@ -31,7 +31,7 @@ tag_of s image cell = slice_index image (cell_start s cell)
 
 -- word j of the k-th cell from this one on
 abbrev pub word_in_image : Sizes → List ℕ → Cell → ℕ → ℕ → ℕ
-word_in_image s image head k j = slice_index image (word_place s head k j)
+word_in_image s image head k j = slice_index image (word_at s head k j)
 
 -- The head at this cell has a complete record.
 abbrev pub IsComplete : Sizes → List ℕ → Cell → Type 0

@@ -5,7 +5,7 @@ use Rattle.dude_base.specs.declared.sizes.Sizes.{Sizes}
 use Rattle.dude_base.specs.Image.{image_words, Cell, cell_at, cell_start}
 use Rattle.dude_base.specs.Records.{RedoRecord}
 use Rattle.pmem_trait.specs.Words.{State, IsImage, IsSettledWord, settled_at}
-use Rattle.redo_record.specs.Cells.{IsCell, word_place}
+use Rattle.redo_record.specs.Cells.{IsCell, word_at}
 use Rattle.redo_record.specs.Record.{cells_for, record_of, HoldComplete}
 use Rattle.redo_record.specs.Images.{word_in_image, IsComplete}
 use Rattle.redo_record.specs.Fits.{Logged, IsIntact, settled_mark, settled_word}
@@ -13,7 +13,7 @@ use Rattle.redo_record.specs.AppendLaw.{CanAppend, Appending, Appended, logged_a
 
 -- The cells from this one on hold this record, of writes of home words, and each word of them is settled.
 pub record HoldSettled (s : Sizes) (head : Cell) (r : RedoRecord) (p : State) : Type 0 where
-  pub settled_words : (k j : ℕ) → k < cells_for (length r.writes) → j < LINE → IsSettledWord (p.word (word_place s head k j))
+  pub settled_words : (k j : ℕ) → k < cells_for (length r.writes) → j < LINE → IsSettledWord (p.word (word_at s head k j))
   pub complete : HoldComplete s (settled_word s p head)
   pub same : record_of (settled_word s p head) ≡ r
 

@@ -5,4 +5,4 @@ use Rattle.medium_tests.proofs.rings.reproduce.Goals as goal
 
 pub returns-clause-newest : goal.returns-clause-newest
 returns-clause-newest g c =
-    rw c.release.ensures.ring (All-filter (λ (l : Logged). nat_lt c.args.number l.number) (λ (l : Logged). l.number < 17) c.args.ring.now.logged c.requires.newest)
+    rw c.release.ensures.ring (All-filter (λ (l : Logged). nat_lt c.args.number l.number) (λ (l : Logged). l.number < c.args.next) c.args.ring.now.logged c.requires.newest)

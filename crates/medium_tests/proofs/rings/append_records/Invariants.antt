@@ -1,6 +1,6 @@
 -- all the ring's numbers are below the next one
 use Rattle.std.proofs.Common.{◌≡◌, ◌<◌, All}
-use Rattle.medium_tests.proofs.rings.fill.Given as goal
+use Rattle.medium_tests.proofs.rings.append_records.Given as goal
 
 abbrev pub invariant-loop-number : goal.invariant-loop-number
 invariant-loop-number g l = record {
