@@ -28,7 +28,7 @@ use Rattle.dude_program.specs.Ending.{Ends}
 use Rattle.dude_program.proofs.Runs.{going_none, serves_front}
 use Rattle.dude_program.proofs.Openings.{opening_lawful}
 use Rattle.dude_program.proofs.Outcomes.{calls_none}
-use Rattle.dude_program.proofs.Told.{told_none}
+use Rattle.dude_program.proofs.FirstTold.{told_none}
 
 -- a file is of one kind: it isn't there, it is bad, or it holds requests
 missing_not_bad : (files : FilesSight) (name : List ℕ) → files.text name ≡ None → IsBadFile files name → ⊥

@@ -28,7 +28,8 @@ use Rattle.dude_program.specs.Outcome.{HasRunFault, DidFresh, DidAll, ServesFres
 use Rattle.dude_program.specs.declared.fault.Fault.{Fault}
 use Rattle.dude_program.specs.declared.fault.Fault.TheVariants.{Device}
 use Rattle.dude_program.proofs.Runs.{OthersStay, recovers_to, going_none, serves_front, still_tells}
-use Rattle.dude_program.proofs.Told.{calls_told, last_image, told_none, told_some}
+use Rattle.pmem_trait.proofs.Told.{calls_told, last_image}
+use Rattle.dude_program.proofs.FirstTold.{told_none, told_some}
 
 -- a request with a number over 0 doesn't count up to 0
 skip_written : (limit : ℕ) (db : Database) (d : Done) (done : List Done) → (d.wrote && nat_le d.number 0) ≡ false → after_number limit db done 0 ≡ db → after_number limit db (d ∷ done) 0 ≡ db

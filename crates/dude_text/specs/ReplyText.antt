@@ -5,7 +5,7 @@ use Rattle.tatp_model.specs.declared.sub_row.SubRow.{SubRow}
 use Rattle.tatp_model.specs.declared.access_row.AccessData.{AccessData}
 use Rattle.tatp_model.specs.declared.reply.Reply.{Reply}
 use Rattle.tatp_model.specs.declared.reply.Reply.TheVariants.{Subscriber, Destinations, Access, Changed, Missing, NoFacility, Duplicate, FullTable, Durable}
-use Rattle.tatp_model.specs.Phones.{list_of}
+use Rattle.tatp_model.specs.Numbers.{list_of}
 
 -- a phone number, with zeros before it where it has fewer than fifteen digits
 abbrev pub phone_text : ℕ → List ℕ

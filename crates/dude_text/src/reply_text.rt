@@ -4,11 +4,11 @@
 ghost use Rattle.std.specs.Prelude.{◌≡◌, ◌++◌, ◌∷◌, map, decimal, OnOk};
 ghost use Rattle.std.specs.List.{flat_map, join_with_byte};
 ghost use Rattle.dude_text.specs.ReplyText.{phone_text, row_fields, access_fields, reply_text};
-ghost use Rattle.tatp_model.specs.Phones.{list_of};
+ghost use Rattle.tatp_model.specs.Numbers.{list_of};
 
 use itoa::Buffer;
 use std::alloc::AllocError;
-use tatp_model::{AccessData, Phones, Reply, SubRow};
+use tatp_model::{AccessData, Numbers, Reply, SubRow};
 
 /// How many digits a phone number prints with at least.
 const PHONE_DIGITS: usize = 15;
@@ -86,7 +86,7 @@ fn push_phones(phones: &[u64], line: &mut Vec<u8>) -> Result<(), AllocError>
 }
 
 // The list that the items hold.
-fn list_of(phones: &Phones) -> &[u64]
+fn list_of(phones: &Numbers) -> &[u64]
     ensures { result.now ≡ list_of phones.now }
 {
     let items = phones.items.as_slice();
@@ -96,7 +96,7 @@ fn list_of(phones: &Phones) -> &[u64]
     }
 }
 
-// Phones, each behind a comma.
+// Numbers, each behind a comma.
 fn push_more(numbers: &[u8], line: &mut Vec<u8>) -> Result<(), AllocError>
     ensures { OnOk result (line.new.items ≡ line.old.items ++ flat_map (λ n. 44 ∷ decimal n) numbers.now) }
 {

@@ -7,3 +7,4 @@ pub mod Laws
 pub mod Runs
 pub mod ReadRuns
 pub mod GroupStates
+pub mod Told

@@ -2,7 +2,7 @@ pub mod Calls
 pub mod Facilities
 pub mod InOrder
 pub mod Numbered
-pub mod PhonesLemmas
+pub mod NumbersLemmas
 pub mod PopulationInOrder
 pub mod PrintedOrder
 pub mod Retained

@@ -4,7 +4,7 @@ use Rattle.tatp_model.specs.declared.request.Request.TheVariants.{GetSubscriber,
 use Rattle.tatp_model.specs.declared.reply.Reply.TheVariants.{Subscriber, Destinations, Access, Changed, Missing, NoFacility, Duplicate, FullTable, Durable}
 use Rattle.tatp_model.specs.declared.sub_row.SubRow.{SubRow}
 use Rattle.tatp_model.specs.declared.call_row.CallRow.{CallRow}
-use Rattle.tatp_model.specs.Phones.{phones_of}
+use Rattle.tatp_model.specs.Numbers.{numbers_of}
 use Rattle.tatp_model.specs.Database.{Database}
 use Rattle.tatp_model.specs.Transaction.{reply_to, after_request}
 use Rattle.tatp_model.specs.Population.{population, population_calls}
@@ -32,7 +32,7 @@ reads_what_was_written = refl
 misses_an_unknown_phone : reply_to 96 (population 8) (UpdateLocation 9 7) ≡ Missing
 misses_an_unknown_phone = refl
 
-reads_destinations : reply_to 96 (population 8) (GetDestination 1 1 8 1) ≡ Destinations (phones_of (110 ∷ 111 ∷ []))
+reads_destinations : reply_to 96 (population 8) (GetDestination 1 1 8 1) ≡ Destinations (numbers_of (110 ∷ 111 ∷ []))
 reads_destinations = refl
 
 bounds_the_end_strictly : reply_to 96 (population 8) (GetDestination 1 1 0 2) ≡ Missing

@@ -1,4 +1,4 @@
-pub mod Phones
+pub mod Numbers
 pub mod Ranges
 pub mod Database
 pub mod Request

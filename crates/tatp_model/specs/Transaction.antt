@@ -10,7 +10,7 @@ use Rattle.tatp_model.specs.declared.request.Request.{Request}
 use Rattle.tatp_model.specs.declared.request.Request.TheVariants.{GetSubscriber, GetDestination, GetAccess, UpdateSubscriber, UpdateLocation, InsertCall, DeleteCall, Sync}
 use Rattle.tatp_model.specs.declared.reply.Reply.{Reply}
 use Rattle.tatp_model.specs.declared.reply.Reply.TheVariants.{Subscriber, Destinations, Access, Changed, Missing, NoFacility, Duplicate, FullTable, Durable}
-use Rattle.tatp_model.specs.Phones.{phones_of}
+use Rattle.tatp_model.specs.Numbers.{numbers_of}
 use Rattle.tatp_model.specs.Database.{Database, call_key}
 
 -- the tests by which requests name rows
@@ -81,7 +81,7 @@ outcome_of limit db (GetSubscriber s_id) =
 outcome_of limit db (GetDestination s_id sf_type start_time end_time) =
     let fits = forwards s_id sf_type start_time end_time in
     answers db (if list_any (is_active_facility s_id sf_type) db.facilities && list_any fits db.calls
-    then Destinations (phones_of (map (λ r. r.numberx) (filter fits db.calls))) else Missing)
+    then Destinations (numbers_of (map (λ r. r.numberx) (filter fits db.calls))) else Missing)
 outcome_of limit db (GetAccess s_id ai_type) =
     answers db (option_map_or (λ r. Access r.info) (find (is_access s_id ai_type) db.access) Missing)
 outcome_of limit db (UpdateSubscriber s_id bit_1 sf_type data_a) =

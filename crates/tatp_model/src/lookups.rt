@@ -5,13 +5,13 @@ ghost use Rattle.std.specs.Prelude.{ℕ, ◌<◌, ◌≤◌, length, slice_index
 ghost use Rattle.std.specs.List.{list_any};
 ghost use Rattle.std.specs.List.Sorted.{IsStrictlyIncreasing};
 ghost use Rattle.tatp_model.specs.Database.{call_key, IsCallRow};
-ghost use Rattle.tatp_model.specs.Phones.{phones_of};
+ghost use Rattle.tatp_model.specs.Numbers.{numbers_of};
 ghost use Rattle.tatp_model.specs.Transaction.{is_subscriber, has_phone, is_access, is_facility, is_active_facility, is_call, forwards};
 
 use crate::access_row::AccessRow;
 use crate::call_row::CallRow;
 use crate::fac_row::FacRow;
-use crate::phones::Phones;
+use crate::numbers::Numbers;
 use crate::sub_row::SubRow;
 
 /// The index of the subscriber with this id.
@@ -106,13 +106,13 @@ pub(crate) fn destinations(
     sf_type: u64,
     start_time: u64,
     end_time: u64,
-) -> Phones
+) -> Numbers
     requires in_range { All IsCallRow rows.now }
     requires rise { IsStrictlyIncreasing (map call_key rows.now) }
-    ensures { result ≡ phones_of (map (λ r. r.numberx)
+    ensures { result ≡ numbers_of (map (λ r. r.numberx)
         (filter (forwards s_id sf_type start_time end_time) rows.now)) }
 {
-    let mut phones = Phones::new();
+    let mut phones = Numbers::new();
     for row in rows {
         if row.forwards(s_id, sf_type, start_time, end_time) {
             phones.push(row.numberx);

@@ -1,7 +1,7 @@
 //! The replies.
 
 use crate::access_row::AccessData;
-use crate::phones::Phones;
+use crate::numbers::Numbers;
 use crate::sub_row::SubRow;
 
 /// What a request is answered.
@@ -10,7 +10,7 @@ pub enum Reply {
     /// The row that `GET_SUBSCRIBER_DATA` asked for.
     Subscriber(SubRow),
     /// The phone numbers of `GET_NEW_DESTINATION`, by rising start time.
-    Destinations(Phones),
+    Destinations(Numbers),
     /// The data that `GET_ACCESS_DATA` asked for.
     Access(AccessData),
     /// The tables were written.

@@ -3,7 +3,7 @@
 use crate::population::FIRST_ROW;
 use dude_text::{write_done, write_last};
 use std::test::Fail;
-use tatp_model::{AccessData, Done, Phones, Reply, Request, SubRow};
+use tatp_model::{AccessData, Done, Numbers, Reply, Request, SubRow};
 
 /// A number and a reply, and the line that they print.
 const REPLIES: [(u64, Reply, &[u8]); 10] = [
@@ -24,7 +24,7 @@ const REPLIES: [(u64, Reply, &[u8]); 10] = [
     (0, Reply::Missing, b"0 NONE\n"),
     (
         0,
-        Reply::Destinations(Phones {
+        Reply::Destinations(Numbers {
             count: 2,
             items: [110, 111, 0],
         }),
@@ -85,7 +85,7 @@ fn the_last_line_has_the_number(rt: HostRuntime) -> Result<(), Fail> {
 
 #[test]
 fn a_long_phone_number_prints_whole(rt: HostRuntime) -> Result<(), Fail> {
-    let long = Phones {
+    let long = Numbers {
         count: 3,
         items: [999_999_999_999_999, 1_000_000_000_000_000, u64::MAX],
     };

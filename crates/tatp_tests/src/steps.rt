@@ -4,7 +4,7 @@ use crate::in_range::is_in_range;
 use crate::population::{FIRST_ROW, one_subscriber};
 use std::test::Fail;
 use tatp_model::step::step;
-use tatp_model::{AccessData, Phones, Reply, Request, SubRow};
+use tatp_model::{AccessData, Numbers, Reply, Request, SubRow};
 
 /// How many call rows may stand, a request, and its reply.
 type Case = (u64, Request, Reply);
@@ -50,7 +50,7 @@ fn delete_call(sub_nbr: u64, sf_type: u64, start_time: u64) -> Request {
 }
 
 fn destinations(count: u64, items: [u64; 3]) -> Reply {
-    Reply::Destinations(Phones { count, items })
+    Reply::Destinations(Numbers { count, items })
 }
 
 const ACCESS: AccessData = AccessData {

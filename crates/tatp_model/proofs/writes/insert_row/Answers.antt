@@ -12,8 +12,8 @@ pub returns-clause-after : goal.returns-clause-after
 returns-clause-after c =
     let row = c.args.row in
     let rows = c.args.t.now.calls.items in
-    let there : list_any (is_facility row.s_id row.sf_type) c.args.t.now.facilities.items ≡ true = cc in
-    let absent : list_any (is_call row.s_id row.sf_type row.start_time) rows ≡ false = cc in
+    let there : list_any (is_facility row.s_id row.sf_type) c.args.t.now.facilities.items ≡ true = sym (rw c.deref.ensures.value at c.if-not-has_facility.ensures) in
+    let absent : list_any (is_call row.s_id row.sf_type row.start_time) rows ≡ false = sym (rw c.deref-2.ensures.value at c.if-has_call.ensures) in
     let room : nat_le c.args.limit (length rows) ≡ false = lt-leb c.args.limit (length rows) (omega (arith, c.if-limit-len.false, c.len.ensures, c.deref-3.ensures.len, ap length c.deref-3.ensures.value)) in
     let before = rw (c.deref-3.ensures.value, c.key.ensures) at c.index_of_key-at.ensures.before in
     let here = rw (c.deref-3.ensures.value, c.key.ensures) at c.index_of_key-at.ensures.at in

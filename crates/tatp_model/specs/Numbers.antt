@@ -1,11 +1,11 @@
 -- A list of at most three phone numbers, and the three items that hold it.
 use Rattle.std.specs.Prelude.{ℕ, List, [], ◌∷◌, ◌++◌, length, take}
-use Rattle.tatp_model.specs.declared.phones.Phones.{Phones}
+use Rattle.tatp_model.specs.declared.numbers.Numbers.{Numbers}
 
 -- the value that holds this list: the items past it are 0
-abbrev pub phones_of : List ℕ → Phones
-phones_of xs = record { count = length xs; items = take 3 (xs ++ 0 ∷ 0 ∷ 0 ∷ []) }
+abbrev pub numbers_of : List ℕ → Numbers
+numbers_of xs = record { count = length xs; items = take 3 (xs ++ 0 ∷ 0 ∷ 0 ∷ []) }
 
 -- the list that a value holds
-abbrev pub list_of : Phones → List ℕ
+abbrev pub list_of : Numbers → List ℕ
 list_of n = take n.count n.items

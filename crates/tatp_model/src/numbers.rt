@@ -2,23 +2,23 @@
 
 /// A list of at most three phone numbers: the first `count` of `items`. The
 /// items past `count` are 0 in each reply, so that equal lists are equal
-/// values. Contracts name the value of a list by `phones_of`, and the list
-/// of a value by `list_of`, of `specs/Phones.antt`.
+/// values. Contracts name the value of a list by `numbers_of`, and the list
+/// of a value by `list_of`, of `specs/Numbers.antt`.
 #[derive(Clone, Copy, Debug, PartialEq, Eq)]
-pub struct Phones {
+pub struct Numbers {
     pub count: u64,
     pub items: [u64; 3],
 }
 
-impl Phones {
+impl Numbers {
     ghost use Rattle.std.specs.Prelude.{◌≡◌, ℕ, ◌+◌, ◌<◌, ◌≤◌, ◌==◌, List, [], ◌∷◌, ◌++◌};
-    ghost use Rattle.tatp_model.specs.Phones.{phones_of, list_of};
+    ghost use Rattle.tatp_model.specs.Numbers.{numbers_of, list_of};
 
     /// The empty list.
     pub fn new() -> Self
-        ensures { result ≡ phones_of [] }
+        ensures { result ≡ numbers_of [] }
     {
-        Phones {
+        Numbers {
             count: 0,
             items: [0; 3],
         }
@@ -43,18 +43,18 @@ impl Phones {
     pub fn push(&mut self, phone: u64)
         requires { self.old.count < 3 }
         ensures counted { self.new.count ≡ self.old.count + 1 }
-        ensures appended { (xs : List ℕ) → self.old ≡ phones_of xs → self.new ≡ phones_of (xs ++ phone ∷ []) }
+        ensures appended { (xs : List ℕ) → self.old ≡ numbers_of xs → self.new ≡ numbers_of (xs ++ phone ∷ []) }
     {
         self.items[self.count as usize] = phone;
         self.count += 1;
     }
 }
 
-impl Default for Phones {
+impl Default for Numbers {
     ghost use Rattle.std.specs.Prelude.{◌≡◌, []};
-    ghost use Rattle.tatp_model.specs.Phones.{phones_of};
+    ghost use Rattle.tatp_model.specs.Numbers.{numbers_of};
 
-    ghost is_default = { λ x. x ≡ phones_of [] };
+    ghost is_default = { λ x. x ≡ numbers_of [] };
 
     /// The empty list.
     fn default() -> Self {

@@ -1,13 +1,11 @@
--- Numbers told stay told, and each state has an image that a crash may leave.
-use Rattle.std.proofs.Common.{◌≡◌, ◌⊎◌, ℕ, ◌≤◌, Bool, true, false, IsTrue, List, [], ◌∷◌, ◌++◌, length, drop, map, refl, sym, ◌∙◌, ap, inl, inr, append_assoc, append-nil, arith}
+-- Numbers told stay told; and each state has an image that a crash may leave.
+use Rattle.std.proofs.Common.{◌≡◌, ◌⊎◌, ℕ, ◌≤◌, Bool, true, false, IsTrue, List, [], ◌∷◌, ◌++◌, length, map, refl, sym, ◌∙◌, ap, inl, inr, append_assoc, append-nil, arith}
 use Rattle.std.specs.List.{range_with_len}
 use Rattle.std.proofs.lemmas.List.FromFn.{get_or-map-range_with_len, length-map-range_with_len}
-use Rattle.std.proofs.Math.Seq.{drop-append_seam, drop-length}
 use Rattle.pmem_trait.specs.declared.call.Call.{Call}
 use Rattle.pmem_trait.specs.declared.call.Call.TheVariants.{Read, Put, Flush, Fence, Tell}
-use Rattle.pmem_trait.specs.Words.{State, after, told_after, HalfDone, IsImage, EveryImage}
+use Rattle.pmem_trait.specs.Words.{State, after, told_after, HalfDone, IsImage}
 use Rattle.pmem_trait.specs.Sights.{Sight, state_now, CallEffect, OneCall, CallsMade, CallsMade.none, CallsMade.stop, CallsMade.step, AtEveryMoment}
-use Rattle.dude_program.specs.Headline.{WasToldFirst}
 
 -- the second list of numbers begins with the first
 pub record ToldMore (old new : List ℕ) : Type 0 where
@@ -61,11 +59,3 @@ pub last_image : {P : List ℕ → List ℕ → Type 0} {s t : Sight} → AtEver
 last_image {P} {s} {t} keeps visible =
     let image = map (λ k. ((state_now t).word k).settled) (range_with_len 0 s.len) in
     (image, (keeps.each visible t.now keeps.later.now (omega arith)).each image (settled_image s.len (state_now t)))
-
--- nothing was told
-pub told_none : (first : ℕ) (s t : Sight) → (state_now t).told ≡ (state_now s).told → WasToldFirst first s t
-told_none first s t same = inl (ap (drop (length (state_now s).told)) same ∙ drop-length (state_now s).told)
-
--- a number was told, and then others
-pub told_some : (first : ℕ) (more : List ℕ) (s t : Sight) → (state_now t).told ≡ (state_now s).told ++ first ∷ more → WasToldFirst first s t
-told_some first more s t is = inr (more, ap (drop (length (state_now s).told)) is ∙ drop-append_seam (state_now s).told (first ∷ more))
