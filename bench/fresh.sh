@@ -3,7 +3,7 @@
 # second that the file system gives beside them, and the peak memory. Outside the gate. Needs the built program.
 set -eu
 top=$(cd "$(dirname "$0")/.." && pwd)
-program=$top/crates/dude_program/out/dude_program
+program=$top/crates/dude/out/dude
 [ -x "$program" ] || { echo "build it first: ./dude --version" >&2; exit 1; }
 folder=$(mktemp -d "${1:-.}/bench.XXXXXX")
 trap 'rm -rf "$folder"' EXIT
