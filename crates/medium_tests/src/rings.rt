@@ -58,12 +58,7 @@ pub fn append_records<M: Medium>(
 }
 
 /// Settles the mark at a number, and releases the records up to it. The others are below `next`.
-pub fn reproduce<M: Medium>(
-    ring: &mut Ring,
-    m: &mut M,
-    number: u64,
-    next: u64,
-) -> Result<(), Fail>
+pub fn reproduce<M: Medium>(ring: &mut Ring, m: &mut M, number: u64, next: u64) -> Result<(), Fail>
     requires room { image_words ring.old.sizes ≤ (M.sight m.old).len }
     requires newest { All (λ l. l.number < next) ring.old.logged }
     ensures newest { All (λ l. l.number < next) ring.new.logged }

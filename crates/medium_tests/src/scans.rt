@@ -98,7 +98,10 @@ fn a_scan_gives_the_records_in_order(rt: HostRuntime) -> Result<(), Fail> {
     let cases: [(u64, &[(u64, u64)]); 2] = [(1, &[(2, 0), (4, 1), (5, 4)]), (4, &[(5, 4)])];
     for (above, wanted) in cases {
         let records = records_over(alloc, &image, above)?;
-        let found: Vec<(u64, u64)> = records.iter().map(|redo| (redo.number(), redo.len())).collect(alloc)?;
+        let found: Vec<(u64, u64)> = records
+            .iter()
+            .map(|redo| (redo.number(), redo.len()))
+            .collect(alloc)?;
         assert_eq!(rt; found.as_slice(), wanted);
     }
     Ok(())
@@ -148,6 +151,8 @@ fn at_each_moment_a_scan_agrees_with_the_slow_replay(rt: HostRuntime) -> Result<
         }
     }
     let last = recover(alloc, &medium.crash(alloc, &[])?, VERSION)?;
-    assert!(rt; matches!(&last, Replay::Recovered { number: 4, home } if home.get(5) == Some(&109)));
+    assert!(rt;
+        matches!(&last, Replay::Recovered { number: 4, home } if home.get(5) == Some(&109))
+    );
     Ok(())
 }

@@ -13,12 +13,7 @@ fn words_of(alloc: Global, texts: &[&str]) -> Result<Vec<RcStr>, AllocError> {
     Ok(words)
 }
 
-fn asks(
-    alloc: Global,
-    texts: &[&str],
-    subscribers: u64,
-    file: &str,
-) -> Result<bool, AllocError> {
+fn asks(alloc: Global, texts: &[&str], subscribers: u64, file: &str) -> Result<bool, AllocError> {
     let words = words_of(alloc, texts)?;
     Ok(command_of(&words) == Some(Command::Fresh { subscribers, file }))
 }
