@@ -1,12 +1,12 @@
 -- The opening of a new image is lawful.
-use Rattle.std.proofs.Common.{◌≡◌, ℕ, ◌+◌, ◌*◌, ◌%◌, ◌<◌, ◌≤◌, List, [], ◌∷◌, length, get_or, refl, subst, arith}
+use Rattle.std.proofs.Common.{ℕ, ◌+◌, ◌*◌, ◌%◌, ◌≤◌, List, length, get_or, subst, arith}
 use Rattle.std.specs.Prelude.{sum_by, map}
-use Rattle.std.specs.List.{range_with_len, flat_map}
+use Rattle.std.specs.List.{range_with_len}
 use Rattle.std.proofs.lemmas.List.Concat.{length-flat_map}
 use Rattle.std.proofs.lemmas.List.FromFn.{length-map-range_with_len, length-range_with_len}
 use Rattle.std.proofs.lemmas.List.Sums.{sum_by-le}
 use Rattle.tatp_model.specs.declared.call_row.CallRow.{CallRow}
-use Rattle.tatp_model.specs.Population.{population, calls_of, call_at}
+use Rattle.tatp_model.specs.Population.{calls_of, call_at}
 use Rattle.tatp_model.proofs.PopulationInOrder.{IsInOrder-population}
 use Rattle.fresh_image.proofs.Shown.{fresh_sizes_are}
 use Rattle.dude_program.specs.Opening.{IsOpening, fresh_opening}

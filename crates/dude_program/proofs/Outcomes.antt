@@ -5,7 +5,7 @@ use Rattle.std.specs.List.{All, filter}
 use Rattle.std.proofs.lemmas.Bool.{lt-leb}
 use Rattle.std.proofs.lemmas.List.Elements.{All-nil, All-head, All-tail}
 use Rattle.std.proofs.Math.Seq.{drop-append_seam, drop-length}
-use Rattle.pmem_trait.specs.Words.{State, IsIn, EveryImage, AtLeast}
+use Rattle.pmem_trait.specs.Words.{State, IsIn, AtLeast}
 use Rattle.pmem_trait.specs.Sights.{Sight, state_now, AtEveryMoment, SomeCalls}
 use Rattle.pmem_trait.proofs.Laws.{every_moment_here, every_moment_then, every_moment_weaker}
 use Rattle.pmem_trait.proofs.Runs.{ran_here, ran_then, made_later, made_cause}
@@ -20,11 +20,11 @@ use Rattle.fresh_image.specs.Recovered.{RecoversTo}
 use Rattle.fresh_image.specs.Rows.{home_words}
 use Rattle.fresh_image.specs.FormatCalls.{RecoversOnceTold, AtRestFormatted}
 use Rattle.fresh_image.proofs.UpdateLaw.{rest_images}
-use Rattle.dude_program.specs.Opening.{fresh_opening, last_of}
+use Rattle.dude_program.specs.Opening.{fresh_opening}
 use Rattle.dude_program.specs.Headline.{RecoversSince, WasToldFirst, End}
 use Rattle.dude_program.specs.Serving.{Stage, RunAtRest, ServesAll, opening_stage}
 use Rattle.dude_program.specs.Causes.{RanUnlessDevice}
-use Rattle.dude_program.specs.Outcome.{HasRunFault, DidFresh, DidAll, ServesFresh, FormatsAndServes, device_fault}
+use Rattle.dude_program.specs.Outcome.{HasRunFault, DidFresh, ServesFresh, FormatsAndServes, device_fault}
 use Rattle.dude_program.specs.declared.fault.Fault.{Fault}
 use Rattle.dude_program.specs.declared.fault.Fault.TheVariants.{Device}
 use Rattle.dude_program.proofs.Runs.{OthersStay, recovers_to, going_none, serves_front, still_tells}

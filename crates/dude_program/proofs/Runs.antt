@@ -29,7 +29,7 @@ use Rattle.dude_base.specs.declared.limits.TheConstants.{MAX_NUMBER}
 use Rattle.fresh_image.proofs.UpdateLaw.{rest_images}
 use Rattle.fresh_image.proofs.RowWords.{rows_fit}
 use Rattle.fresh_image.proofs.Lists.{IsIn-drop_push}
-use Rattle.fresh_image.specs.Rows.{home_words, StandsFor}
+use Rattle.fresh_image.specs.Rows.{home_words}
 use Rattle.fresh_image.specs.Calls.{RecoversToEither, AtRestFor, AtRestTold}
 use Rattle.fresh_image.specs.Recovered.{RecoversHome, RecoversTo}
 use Rattle.dude_program.specs.Opening.{last_of, fresh_opening}

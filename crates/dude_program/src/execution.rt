@@ -19,9 +19,9 @@ pub struct Execution {
 }
 
 impl Execution {
-    ghost use Rattle.std.specs.Prelude.{ℕ, ◌+◌, ◌-◌, ◌*◌, ◌<◌, ◌≤◌, vec_len, is_ok, false, IfOk, OnOk, slice_set, length, List};
+    ghost use Rattle.std.specs.Prelude.{ℕ, ◌+◌, ◌-◌, ◌*◌, ◌<◌, ◌≤◌, vec_len, is_ok, true, false, IfOk, OnOk, slice_set, length, List};
     ghost use Rattle.fresh_image.specs.Rows.{home_words};
-    ghost use Rattle.pmem_trait.specs.Sights.{SomeCalls};
+    ghost use Rattle.pmem_trait.specs.Sights.{Sight};
     ghost use Rattle.tatp_model.specs.declared.reply.Reply.TheVariants.{Changed, Missing};
     ghost use Rattle.tatp_model.specs.declared.request.Request.TheVariants.{GetSubscriber, UpdateLocation};
     ghost use Rattle.tatp_model.specs.Transaction.{reply_to};
@@ -98,20 +98,18 @@ impl Execution {
         });
     }
 
-    /// Serves `GET_SUBSCRIBER_DATA`. The medium isn't touched.
-    fn serve_read<M: Medium>(&mut self, m: &mut M, index: u64, s_id: u64) -> Result<(), Failed>
+    /// Serves `GET_SUBSCRIBER_DATA`, without the medium.
+    fn serve_read(&mut self, index: u64, s_id: u64)
         requires room { vec_len self.old.done < room_of self.old }
         requires number { self.old.last ≤ MAX_NUMBER }
-        requires medium { fresh_length (subscribers_of self.old) ≤ (M.sight m.old).len }
         requires ring { HasRingAtRest self.old }
-        ensures serves { Serves (subscribers_of self.old) index (GetSubscriber s_id) (is_ok result) (stage_of self.old) (stage_of self.new) (M.sight m.old) (M.sight m.new) }
+        ensures serves { (s : Sight) → fresh_length (subscribers_of self.old) ≤ s.len
+            → Serves (subscribers_of self.old) index (GetSubscriber s_id) true (stage_of self.old) (stage_of self.new) s s }
         ensures notes { NotesOne self.old self.new }
-        ensures ring { OnOk result (HasRingAtRest self.new) }
-        ensures len { (M.sight m.new).len ≡ (M.sight m.old).len }
+        ensures ring { HasRingAtRest self.new }
     {
         let reply = self.locations.subscriber(s_id);
         self.note(index, Request::GetSubscriber { s_id }, reply);
-        Ok(())
     }
 
     /// Serves `UPDATE_LOCATION`.
@@ -156,7 +154,10 @@ impl Execution {
         ensures len { (M.sight m.new).len ≡ (M.sight m.old).len }
     {
         match request {
-            Request::GetSubscriber { s_id } => self.serve_read(m, index, *s_id),
+            Request::GetSubscriber { s_id } => {
+                self.serve_read(index, *s_id);
+                Ok(())
+            }
             Request::UpdateLocation { sub_nbr, vlr } => self.serve_update(m, index, *sub_nbr, *vlr),
             _ => unreachable!(),
         }
