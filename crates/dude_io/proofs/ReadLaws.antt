@@ -15,13 +15,14 @@ files_stay-then {s} {t} {u} a b = record {
   text = λ told. b.text (rw a.is_visible told) ∙ a.text told;
 }
 
--- what was read so far, from s to t: a front of the file's text, where it is told
+-- what was read so far, from s to t, with no fault: a prefix of the file's text, where that is visible
 pub record ReadSoFar (name bytes : List ℕ) (s t : FilesSight) : Type 0 where
   pub stays : FilesStay s t
-  pub front : IsTrue s.is_visible → (text : List ℕ) → s.text name ≡ Some text → (rest : List ℕ) × (text ≡ bytes ++ rest)
+  pub calm : t.faults ≡ s.faults
+  pub prefix : IsTrue s.is_visible → (text : List ℕ) → s.text name ≡ Some text → (rest : List ℕ) × (text ≡ bytes ++ rest)
 
 pub read_none : {name : List ℕ} {s : FilesSight} → ReadSoFar name [] s s
-read_none {name} {s} = record { stays = files_stay; front = λ told text is. (text, refl) }
+read_none {name} {s} = record { stays = files_stay; calm = refl; prefix = λ told text is. (text, refl) }
 
 -- of the text that a file is known to have, what is said of the text that it has
 some_and : (o : Option (List ℕ)) (x : List ℕ) (P : List ℕ → Type 0) → o ≡ Some x → IsSomeAnd o P → P x
@@ -32,23 +33,24 @@ and_some : (o : Option (List ℕ)) (P Q : List ℕ → Type 0) → IsSomeAnd o P
 and_some None P Q h f = h
 and_some (Some x) P Q h f = f x refl h
 
--- a front as long as the text is the text
-front_is_all : {bytes text : List ℕ} (rest : List ℕ) → text ≡ bytes ++ rest → length text ≤ length bytes → bytes ≡ text
-front_is_all {bytes} [] e short = sym (e ∙ append-nil bytes)
-front_is_all {bytes} {text} (x ∷ rest) e short = absurd (let long : length text ≡ length bytes + length (x ∷ rest) = ap length e ∙ length-append bytes (x ∷ rest) in omega arith)
+-- a prefix as long as the text is the text
+prefix_is_all : {bytes text : List ℕ} (rest : List ℕ) → text ≡ bytes ++ rest → length text ≤ length bytes → bytes ≡ text
+prefix_is_all {bytes} [] e short = sym (e ∙ append-nil bytes)
+prefix_is_all {bytes} {text} (x ∷ rest) e short = absurd (let long : length text ≡ length bytes + length (x ∷ rest) = ap length e ∙ length-append bytes (x ∷ rest) in omega arith)
 
 module _ {name bytes : List ℕ} {at n : ℕ} {old new : List ℕ} {s t u : FilesSight} where
-  -- the file is there, a front of its text was read, and the next piece is given
+  -- the file is there, a prefix of its text was read, and the next piece is given
   given : at ≡ length bytes → ReadSoFar name bytes s t → Gave name at n old new t u → IsTrue s.is_visible
       → IsSomeAnd (s.text name) (λ text. GivesBytes text (length bytes) n old new)
   given here sofar gave told = rw (← here, ← sofar.stays.text told) (gave.told (rw sofar.stays.is_visible told))
 
-  -- the piece lengthens the front
+  -- the piece lengthens the prefix
   pub read_more : at ≡ length bytes → ReadSoFar name bytes s t → Gave name at n old new t u → ReadSoFar name (bytes ++ take n new) s u
   read_more here sofar gave = record {
     stays = files_stay-then sofar.stays gave.stays;
-    front = λ told text is.
-        let had = sofar.front told text is in
+    calm = gave.calm ∙ sofar.calm;
+    prefix = λ told text is.
+        let had = sofar.prefix told text is in
         let gives = some_and (s.text name) text (λ text. GivesBytes text (length bytes) n old new) is (given here sofar gave told) in
         let piece : take n new ≡ take n had.0 = gives.bytes ∙ ap (λ z. take n (drop (length bytes) z)) had.1 ∙ ap (take n) (drop-append_seam bytes had.0) in
         (drop n had.0, had.1 ∙ ap (λ z. bytes ++ z) (sym (take-append-drop n had.0)) ∙ sym (append_assoc bytes (take n had.0) (drop n had.0)) ∙ ap (λ z. (bytes ++ z) ++ drop n had.0) (sym piece));
@@ -59,4 +61,4 @@ module _ {name bytes : List ℕ} {at n : ℕ} {old new : List ℕ} {s t u : File
       → IsSomeAnd (s.text name) (λ text. bytes ≡ text)
   read_end here sofar gave empty told =
       and_some (s.text name) (λ text. GivesBytes text (length bytes) n old new) (λ text. bytes ≡ text) (given here sofar gave told) (λ text is gives.
-      let had = sofar.front told text is in front_is_all had.0 had.1 (gives.end empty))
+      let had = sofar.prefix told text is in prefix_is_all had.0 had.1 (gives.end empty))

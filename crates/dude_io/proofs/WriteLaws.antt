@@ -14,6 +14,6 @@ took-then {xs} {ys} {s} {t} {u} a b = record {
   taken = λ told. b.taken (rw a.is_visible told) ∙ ap (λ z. z ++ ys) (a.taken told) ∙ append_assoc s.taken xs ys;
 }
 
--- the front of a list grows by the piece that was taken of its rest
+-- the prefix that was taken grows by the piece that was taken of the rest
 pub took_more : (n m : ℕ) (all : List ℕ) {s t u : SinkSight} → Took (take n all) s t → Took (take m (drop n all)) t u → Took (take (n + m) all) s u
 took_more n m all a b = rw (take-add n m all) (took-then a b)

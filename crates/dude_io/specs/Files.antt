@@ -23,9 +23,10 @@ pub record GivesBytes (text : List ℕ) (at n : ℕ) (old new : List ℕ) : Type
   pub behind : drop n new ≡ drop n old
   pub end : n ≡ 0 → length text ≤ at
 
--- a read that was answered: the file is there, and the buffer has its bytes
+-- a read that was answered: the file is there, the buffer has its bytes, and no fault was counted
 pub record Gave (name : List ℕ) (at n : ℕ) (old new : List ℕ) (s t : FilesSight) : Type 0 where
   pub stays : FilesStay s t
+  pub calm : t.faults ≡ s.faults
   pub most : n ≤ length old
   pub told : IsTrue s.is_visible → IsSomeAnd (s.text name) (λ text. GivesBytes text at n old new)
 

@@ -15,18 +15,19 @@ pub record Took (bytes : List ℕ) (s t : SinkSight) : Type 0 where
   pub is_visible : t.is_visible ≡ s.is_visible
   pub taken : IsTrue s.is_visible → t.taken ≡ s.taken ++ bytes
 
--- a write that was answered: it took a front of the piece that isn't empty
+-- a write that was answered: it took the first bytes of the piece, at least one, and no fault was counted
 pub record TookSome (piece : List ℕ) (n : ℕ) (s t : SinkSight) : Type 0 where
   pub some : 1 ≤ n
   pub most : n ≤ length piece
   pub took : Took (take n piece) s t
+  pub calm : t.faults ≡ s.faults
 
 -- one write: it is answered, or it took nothing, and then the count of faults rose
 abbrev pub WritesSink : List ℕ → Result ℕ Failed → SinkSight → SinkSight → Type 0
 WritesSink piece (Ok n) s t = TookSome piece n s t
 WritesSink piece (Err e) s t = Took [] s t × Risen s.faults t.faults
 
--- a list of which a front was taken, but not the whole, before the count of faults rose
+-- a list of which the first bytes were taken, but not all, before the count of faults rose
 pub record TookPart (bytes : List ℕ) (s t : SinkSight) : Type 0 where
   pub n : ℕ
   pub less : n < length bytes

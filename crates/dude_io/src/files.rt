@@ -8,7 +8,7 @@ pub trait Files {
     /// What is known of the files: the count of their faults, and their texts where these are told.
     ghost sight: { Self → FilesSight };
 
-    /// Reads bytes of the file from place `at` on into the front of `into`, and answers how many.
+    /// Reads bytes of the file from byte `at` on to the start of `into`, and answers how many.
     /// An answer of 0 is the file's end. A file that isn't there is a fault. After an `Err` the texts are as they were,
     /// and `into` may hold anything.
     fn read(&mut self, name: &str, at: u64, into: &mut [u8]) -> Result<u64, Failed>

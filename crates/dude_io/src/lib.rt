@@ -20,8 +20,6 @@ mod reading;
 mod real_files;
 mod real_sink;
 mod sink;
-#[cfg(test)]
-mod tests;
 mod writing;
 
 pub use file_fault::FileFault;

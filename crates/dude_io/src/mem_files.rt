@@ -74,7 +74,7 @@ fn text_in<'a>(files: &'a [MemFile], name: &str) -> Option<&'a [u8]>
         .map(|file| file.bytes.as_slice())
 }
 
-/// Copies what is asked for into the front of `into`, at most `chunk` bytes.
+/// Copies what is asked for to the start of `into`, at most `chunk` bytes.
 fn give(text: &[u8], at: u64, into: &mut [u8], chunk: u64) -> u64
     requires room { 0 < length into.old }
     requires some { 1 ≤ chunk }

@@ -1,4 +1,4 @@
-ghost use Rattle.std.specs.Prelude.{IfOk, IfErr, IsTrue, IsSomeAnd};
+ghost use Rattle.std.specs.Prelude.{◌≡◌, OnOk, IfOk, IfErr, IsTrue, IsSomeAnd};
 ghost use Rattle.dude_io.specs.Files.{FilesStay};
 ghost use Rattle.dude_io.specs.FileText.{IsBounded, IsReadFault, HoldsText};
 
@@ -23,6 +23,7 @@ pub fn read_file<F: Files>(
     // Where the texts are told, a file that isn't there has no text, and is too long exactly over the limit.
     ensures text { IfOk result (λ found. IsTrue (F.sight files.old).is_visible →
         IsSomeAnd ((F.sight files.old).text name.now) (HoldsText limit found)) }
+    ensures calm { OnOk result ((F.sight files.new).faults ≡ (F.sight files.old).faults) }
     ensures cause { IfErr result (IsReadFault (F.sight files.old).faults (F.sight files.new).faults) }
 {
     let mut bytes = Vec::new(alloc);

@@ -8,7 +8,7 @@ pub trait Sink {
     /// What is known of the sink: the count of its faults, and the bytes taken where these are told.
     ghost sight: { Self → SinkSight };
 
-    /// Takes a front of the piece, at least one byte, and answers how many. At an `Err` it took nothing.
+    /// Takes the first bytes of the piece, at least one, and answers how many. At an `Err` it took nothing.
     fn write(&mut self, piece: &[u8]) -> Result<u64, Failed>
         requires { 0 < length piece.now }
         ensures { WritesSink piece.now result (sight self.old) (sight self.new) };

@@ -1,6 +1,7 @@
 -- How a command ended, case by case.
 use Rattle.std.proofs.Common.{◌≡◌, ℕ, ◌<◌, ◌≤◌, IsTrue, List, [], ◌∷◌, ◌++◌, length, take, false, refl, sym, ◌∙◌, ap, subst, arith, inl, inr, ◌⊎◌, Option, Some, None}
 use Rattle.std.specs.List.{All}
+use Rattle.std.proofs.lemmas.List.{length-append}
 use Rattle.std.proofs.lemmas.List.Elements.{All-nil}
 use Rattle.std.proofs.Math.Seq.{drop-length, take-append_seam}
 use Rattle.pmem_trait.specs.Sights.{Sight, state_now, Risen}
@@ -16,13 +17,13 @@ use Rattle.fresh_image.specs.Fresh.{fresh_length}
 use Rattle.dude_program.specs.declared.fault.Fault.{Fault}
 use Rattle.dude_program.specs.declared.fault.Fault.TheVariants.{Usage, File, Text, Small, TooFew, Unformatted, Damaged, NotDb, ManyFiles, Frames, FewSubscribers, Numbers, Device, Output, Memory}
 use Rattle.dude_program.specs.Command.{Meaning, Meaning.FreshRun}
-use Rattle.dude_program.specs.World.{World, world_of}
+use Rattle.dude_program.specs.World.{World, SinkStays, world_of}
 use Rattle.dude_program.specs.Opening.{Opening, OfFile, fresh_opening}
 use Rattle.dude_program.specs.Headline.{Replies, Crash, Sync, AllDone, TookAll, TookPrefix, Printed, Headline, RecoversSince}
 use Rattle.dude_program.specs.Requests.{IsGoodFile, IsBadFile, HasFileFault}
 use Rattle.dude_program.specs.Outcome.{DidAll, ServesFresh}
 use Rattle.dude_program.specs.Printing.{StopsIn, PrintsOutcome}
-use Rattle.dude_program.specs.Causes.{words_needed, MissesFile, HasBadFile, IsGood, HasCause, StoppedReading, StoppedAtFiles, Untouched, RanUnlessDevice, Causes}
+use Rattle.dude_program.specs.Causes.{words_needed, MissesFile, HasBadFile, IsGood, IsRefused, HasCause, StoppedReading, StoppedAtFiles, Untouched, RanUnlessDevice, Causes}
 use Rattle.dude_program.specs.Ending.{Ends}
 use Rattle.dude_program.proofs.Runs.{going_none, serves_front}
 use Rattle.dude_program.proofs.Openings.{opening_lawful}
@@ -57,8 +58,9 @@ causes_of : {own : Meaning} {old new : World} {done : List Done} {fault : Option
     → (old.medium.len < words_needed own → (fault ≡ Some (Small old.medium.len (words_needed own))) ⊎ StoppedAtFiles fault)
     → (IsGood own old → (Risen old.medium.faults new.medium.faults → ⊥) → (Risen old.files.faults new.files.faults → ⊥) → (Risen old.sink.faults new.sink.faults → ⊥)
     → (fault ≡ None) ⊎ (fault ≡ Some Memory))
-    → Untouched fault old.medium new.medium done → RanUnlessDevice fault old.medium new.medium → FilesStay old.files new.files → Causes (Some own) old new done fault
-causes_of {own} {old} {new} {done} {fault} cause other missing bad small good untouched ran files = record {
+    → Untouched fault old.medium new.medium done → (IsRefused own old → (new.medium ≡ old.medium) × (done ≡ [])) → RanUnlessDevice fault old.medium new.medium
+    → FilesStay old.files new.files → SinkStays old.sink new.sink → Causes (Some own) old new done fault
+causes_of {own} {old} {new} {done} {fault} cause other missing bad small good untouched spared ran files sink = record {
   cause = cause;
   usage = (λ is. absurd (other is), λ none. absurd (let no : ⊥ = cc in no));
   refused_words = λ none. absurd (let no : ⊥ = cc in no);
@@ -68,9 +70,18 @@ causes_of {own} {old} {new} {done} {fault} cause other missing bad small good un
       (small (back_to_own (λ (m : Meaning). old.medium.len < words_needed m) is short));
   complete = λ it is accepted a b c. good (back_to_own (λ (m : Meaning). IsGood m old) is accepted) a b c;
   untouched = untouched;
+  spared = λ it is refused. spared (back_to_own (λ (m : Meaning). IsRefused m old) is refused);
   ran = ran;
   files = files;
+  sink = sink;
 }
+
+-- a sink that wasn't called, or that took some bytes
+sink_same : {k : SinkSight} → SinkStays k k
+sink_same = record { faults = omega arith; is_visible = refl }
+
+sink_took : {bytes : List ℕ} {k l : SinkSight} → Took bytes k l → SinkStays k l
+sink_took took = record { faults = took.faults; is_visible = took.is_visible }
 
 -- a run without `SYNC` has nothing to show for them
 sync_none : (done : List Done) (s t : Sight) → All (λ d. is_sync d.request ≡ false) done → Sync done s t
@@ -106,8 +117,10 @@ ends_usage s f k = record {
   too_small = λ own is short. absurd (let no : ⊥ = cc in no);
   complete = λ own is good a b c. absurd (let no : ⊥ = cc in no);
   untouched = (refl, refl);
+  spared = λ own is refused. absurd (let no : ⊥ = cc in no);
   ran = calls_none s (λ e. let no : ⊥ = cc in no);
   files = files_stay;
+  sink = sink_same;
 }
 
 -- The file was refused.
@@ -116,17 +129,17 @@ pub ends_refused : (S : ℕ) (file : List ℕ) {s : Sight} {f g : FilesSight} {k
 ends_refused S file {s} (File n) files h = record {
   headline = headline_none S file (File n) refl;
   causes = causes_of (FreshRun S file, refl, h.0, h.1) (λ e. let no : ⊥ = cc in no) (λ visible misses. tt) (λ visible bad. tt) (λ short. inr tt)
-      (λ good a b c. absurd (b h.1)) (refl, refl) (calls_none s (λ e. let no : ⊥ = cc in no)) files;
+      (λ good a b c. absurd (b h.1)) (refl, refl) (λ refused. (refl, refl)) (calls_none s (λ e. let no : ⊥ = cc in no)) files sink_same;
 }
 ends_refused S file {s} {f} (Text n r c) files h = record {
   headline = headline_none S file (Text n r c) refl;
   causes = causes_of (FreshRun S file, refl, h) (λ e. let no : ⊥ = cc in no) (λ visible misses. absurd (missing_not_bad f file misses (h.3 visible))) (λ visible bad. tt) (λ short. inr tt)
-      (λ good x y z. absurd (good_not_bad f file good.1 (h.3 good.0))) (refl, refl) (calls_none s (λ e. let no : ⊥ = cc in no)) files;
+      (λ good x y z. absurd (good_not_bad f file good.1 (h.3 good.0))) (refl, refl) (λ refused. (refl, refl)) (calls_none s (λ e. let no : ⊥ = cc in no)) files sink_same;
 }
 ends_refused S file {s} Memory files h = record {
   headline = headline_none S file Memory (inl refl);
   causes = causes_of tt (λ e. let no : ⊥ = cc in no) (λ visible misses. tt) (λ visible bad. tt) (λ short. inr tt)
-      (λ good a b c. inr refl) tt (calls_none s (λ e. let no : ⊥ = cc in no)) files;
+      (λ good a b c. inr refl) tt (λ refused. (refl, refl)) (calls_none s (λ e. let no : ⊥ = cc in no)) files sink_same;
 }
 ends_refused S file Usage files h = absurd h
 ends_refused S file (Small a b) files h = absurd h
@@ -201,6 +214,14 @@ module _ {S : ℕ} {file : List ℕ} {requests : List Request} {done : List Done
   not_bad : (fault : Option Fault) → IsTrue f.is_visible → IsBadFile f file → StoppedAtFiles fault
   not_bad fault visible bad = absurd (good_not_bad f file (is_good f file requests it.read visible) bad)
 
+  file_accepted : IsTrue f.is_visible → (f.text file ≡ None) ⊎ IsBadFile f file → ⊥
+  file_accepted visible (inl misses) = good_not_missing f file (is_good f file requests it.read visible) misses
+  file_accepted visible (inr bad) = good_not_bad f file (is_good f file requests it.read visible) bad
+
+  not_refused : (k : SinkSight) → fresh_length S ≤ s.len → IsRefused (FreshRun S file) (world_of s f k) → ⊥
+  not_refused k long (inl h) = file_accepted h.0 h.1
+  not_refused k long (inr short) = omega (arith, long, short)
+
 -- A fault ended the run before its output.
 ends_faulted : {S : ℕ} {file : List ℕ} {requests : List Request} {done : List Done} {last : ℕ} {s t : Sight} {f g : FilesSight} {k : SinkSight} (earlier : Fault)
     → Served S file requests done last (Some earlier) s t f g → Ends (FreshRun S file) (world_of s f k) (world_of t g k) done (Some earlier)
@@ -208,19 +229,21 @@ ends_faulted {S} {file} {s = s} (Small has needs) it =
     let c = it.served.cause in record {
       headline = headline_of it (Some (Small has needs)) refl;
       causes = causes_of (FreshRun S file, refl, c.2, c.3, c.4) (λ e. let no : ⊥ = cc in no) (not_missing it (Some (Small has needs))) (not_bad it (Some (Small has needs))) (λ short. inl (small_is c.2 c.3))
-          (λ good a b d. absurd (omega (arith, good.2, c.2, c.3, c.4))) (c.1, c.0) it.served.ran it.files;
+          (λ good a b d. absurd (omega (arith, good.2, c.2, c.3, c.4))) (c.1, c.0) (λ refused. (c.1, c.0)) it.served.ran it.files sink_same;
     }
   where
     small_is : {a b n m : ℕ} → a ≡ b → n ≡ m → ◌≡◌ {A = Option Fault} (Some (Small a n)) (Some (Small b m))
     small_is p q = cc
 ends_faulted Memory it = record {
   headline = headline_of it (Some Memory) (inl refl);
-  causes = causes_of tt (λ e. let no : ⊥ = cc in no) (λ visible misses. tt) (λ visible bad. tt) (λ short. inr tt) (λ good a b c. inr refl) tt it.served.ran it.files;
+  causes = causes_of tt (λ e. let no : ⊥ = cc in no) (λ visible misses. tt) (λ visible bad. tt) (λ short. inr tt) (λ good a b c. inr refl) tt
+      (λ refused. (it.served.cause.1, it.served.cause.0)) it.served.ran it.files sink_same;
 }
-ends_faulted Device it =
+ends_faulted {k = k} Device it =
     let c = it.served.cause in record {
       headline = headline_of it (Some Device) refl;
-      causes = causes_of c.1 (λ e. let no : ⊥ = cc in no) (not_missing it (Some Device)) (not_bad it (Some Device)) (λ short. absurd (omega (arith, c.0))) (λ good a b d. absurd (a c.1)) tt it.served.ran it.files;
+      causes = causes_of c.1 (λ e. let no : ⊥ = cc in no) (not_missing it (Some Device)) (not_bad it (Some Device)) (λ short. absurd (omega (arith, c.0))) (λ good a b d. absurd (a c.1)) tt
+          (λ refused. absurd (not_refused it k c.0 refused)) it.served.ran it.files sink_same;
     }
 ends_faulted Usage it = absurd it.served.cause
 ends_faulted (File n) it = absurd it.served.cause
@@ -240,7 +263,8 @@ ends_whole : {S : ℕ} {file : List ℕ} {requests : List Request} {done : List 
     → Served S file requests done last None s t f g → Took (output_of done last) k l → Ends (FreshRun S file) (world_of s f k) (world_of t g l) done None
 ends_whole {k = k} {l = l} it took = record {
   headline = headline_of it None (all_done it k l {Taken = TookAll k l} (it.served.whole refl) took.taken);
-  causes = causes_of tt (λ e. let no : ⊥ = cc in no) (not_missing it None) (not_bad it None) (λ short. absurd (omega (arith, it.served.cause))) (λ good a b c. inl refl) tt it.served.ran it.files;
+  causes = causes_of tt (λ e. let no : ⊥ = cc in no) (not_missing it None) (not_bad it None) (λ short. absurd (omega (arith, it.served.cause))) (λ good a b c. inl refl) tt
+      (λ refused. absurd (not_refused it k it.served.cause refused)) it.served.ran it.files (sink_took took);
 }
 
 -- the calls before a fault that isn't the medium's
@@ -251,6 +275,7 @@ calls_well ran other = (ran.0, ran.1, (λ failed. absurd (let e = ran.2.0 failed
 took_prefix : {text : List ℕ} {k l : SinkSight} {fault : Fault} → StopsIn text k l fault → TookPrefix k l text
 took_prefix {text} {k} stops visible = (
   length stops.front,
+  omega (arith, stops.some, ap length stops.split, length-append stops.front stops.rest),
   stops.took.taken visible ∙ ap (λ (x : List ℕ). k.taken ++ x) (sym (ap (take (length stops.front)) stops.split ∙ take-append_seam stops.front stops.rest)),
 )
 
@@ -270,14 +295,14 @@ ends_unprinted {S} {file} {requests} {done} {last} {s} {t} {f} {g} {k} {l} fault
     at_output risen = record {
       headline = headline_of it (Some Output) all;
       causes = causes_of risen (λ e. let no : ⊥ = cc in no) (not_missing it (Some Output)) (not_bad it (Some Output)) (λ short. absurd (omega (arith, it.served.cause))) (λ good a b c. absurd (c risen)) tt
-          (calls_well it.served.ran (λ e. let no : ⊥ = cc in no)) it.files;
+          (λ refused. absurd (not_refused it k it.served.cause refused)) (calls_well it.served.ran (λ e. let no : ⊥ = cc in no)) it.files (sink_took stops.took);
     }
 
     at_memory : P Memory
     at_memory = record {
       headline = headline_of it (Some Memory) (inr all);
       causes = causes_of tt (λ e. let no : ⊥ = cc in no) (λ visible misses. tt) (λ visible bad. tt) (λ short. inr tt) (λ good a b c. inr refl) tt
-          (calls_well it.served.ran (λ e. let no : ⊥ = cc in no)) it.files;
+          (λ refused. absurd (not_refused it k it.served.cause refused)) (calls_well it.served.ran (λ e. let no : ⊥ = cc in no)) it.files (sink_took stops.took);
     }
 
     by_fault : (fault ≡ Output) ⊎ (fault ≡ Memory) → P fault

@@ -1,7 +1,7 @@
 -- Printing in pieces: what was taken and what is held back are the lines so far.
 use Rattle.std.proofs.Common.{◌≡◌, ℕ, add-one, ◌+◌, ◌<◌, ◌≤◌, List, [], ◌∷◌, ◌++◌, length, get_or, take, drop, refl, sym, ◌∙◌, ap, arith, append_assoc, append-nil, inl, inr, Result, Ok, Err}
 use Rattle.std.specs.Prelude.{IfErr}
-use Rattle.std.proofs.lemmas.List.{take-append-drop, flat_map_more, take_more, take_all}
+use Rattle.std.proofs.lemmas.List.{take-append-drop, flat_map_more, take_more, take_all, length-drop, length-append}
 use Rattle.std.proofs.lemmas.Grind.{flat_map-append}
 use Rattle.std.proofs.Math.Seq.{drop-cons}
 use Rattle.std.specs.List.{flat_map}
@@ -20,14 +20,11 @@ part_stops text part = record {
   front = take part.n text;
   rest = drop part.n text;
   split = sym (take-append-drop part.n text);
+  some = omega (arith, part.less, length-drop part.n text);
   took = part.took;
   cause = λ _. part.cause;
   only = inl refl;
 }
-
--- there was no memory before a text
-pub nothing_stops : (text : List ℕ) (s : SinkSight) → StopsIn text s s Memory
-nothing_stops text s = record { front = []; rest = text; split = refl; took = took_none; cause = λ e. absurd (let no : ⊥ = cc in no); only = inr refl }
 
 -- what stops in a text behind a front that was taken stops in the whole
 pub later_stops : {fault : Fault} {text : List ℕ} (all more front : List ℕ) {s t u : SinkSight} → all ≡ front ++ (text ++ more) → Took front s t → StopsIn text t u fault → StopsIn all s u fault
@@ -35,6 +32,7 @@ later_stops {fault} {text} all more front {s} {t} {u} whole took h = record {
   front = front ++ h.front;
   rest = h.rest ++ more;
   split = whole ∙ (ap (λ (x : List ℕ). front ++ (x ++ more)) h.split ∙ regroup front h.front h.rest more);
+  some = omega (arith, h.some, length-append h.rest more);
   took = took-then took h.took;
   cause = λ e. risen_later s.faults t.faults u.faults u.faults took.faults (h.cause e) (omega arith);
   only = h.only;

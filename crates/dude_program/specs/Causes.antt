@@ -8,7 +8,7 @@ use Rattle.dude_program.specs.declared.fault.Fault.{Fault}
 use Rattle.dude_program.specs.declared.fault.Fault.TheVariants.{Usage, File, Text, Small, Device, Output, Memory}
 use Rattle.dude_program.specs.Command.{Meaning, Meaning.FreshRun}
 use Rattle.dude_program.specs.Requests.{IsGoodFile, IsBadFile}
-use Rattle.dude_program.specs.World.{World, IsSameWorld}
+use Rattle.dude_program.specs.World.{World, IsSameWorld, SinkStays}
 
 -- how many words the image of the command needs
 abbrev pub words_needed : Meaning → ℕ
@@ -76,6 +76,16 @@ RefusesSmall meaning old fault =
     (own : Meaning) → meaning ≡ Some own → old.medium.len < words_needed own
     → (fault ≡ Some (Small old.medium.len (words_needed own))) ⊎ StoppedAtFiles fault
 
+-- What refuses a command whose words mean something: a file that isn't there or is bad, or a medium that is too short.
+abbrev pub IsRefused : Meaning → World → Type 0
+IsRefused own old =
+    (IsTrue old.files.is_visible × (MissesFile own old.files ⊎ HasBadFile own old.files)) ⊎ (old.medium.len < words_needed own)
+
+-- A refused command leaves the medium as it is, and does nothing, also where it is answered that there was no memory.
+abbrev pub SparesMedium : Option Meaning → World → World → List Done → Type 0
+SparesMedium meaning old new done =
+    (own : Meaning) → meaning ≡ Some own → IsRefused own old → (new.medium ≡ old.medium) × (done ≡ [])
+
 -- Completeness: where nothing refuses the command and no count of faults rose, it ends well, or there was no memory.
 abbrev pub SucceedsIfGood : Option Meaning → World → World → Option Fault → Type 0
 SucceedsIfGood meaning old new fault =
@@ -105,5 +115,7 @@ pub record Causes (meaning : Option Meaning) (old new : World) (done : List Done
   pub too_small : RefusesSmall meaning old fault
   pub complete : SucceedsIfGood meaning old new fault
   pub untouched : Untouched fault old.medium new.medium done
+  pub spared : SparesMedium meaning old new done
   pub ran : RanUnlessDevice fault old.medium new.medium
   pub files : FilesStay old.files new.files
+  pub sink : SinkStays old.sink new.sink

@@ -5,7 +5,7 @@
 --
 -- It is said over an opening: the number, the sizes and the tables that the command starts from (`Opening`). A command
 -- joins by its cases there.
-use Rattle.std.specs.Prelude.{◌≡◌, ◌⊎◌, ℕ, ◌≤◌, Bool, Option, Some, None, IsTrue, List, [], ◌∷◌, ◌++◌, drop, take, length, All, AllPairs}
+use Rattle.std.specs.Prelude.{◌≡◌, ◌⊎◌, ℕ, ◌<◌, ◌≤◌, Bool, Option, Some, None, IsTrue, List, [], ◌∷◌, ◌++◌, drop, take, length, All, AllPairs}
 use Rattle.pmem_trait.specs.Words.{EveryImage, AtLeast}
 use Rattle.pmem_trait.specs.Sights.{Sight, AtEveryMoment, state_now}
 use Rattle.pmem_trait.specs.Reads.{OnlyReads}
@@ -92,9 +92,9 @@ pub record AllDone (meaning : Meaning) (old new : World) (done : List Done) (Tak
 abbrev pub TookAll : SinkSight → SinkSight → List ℕ → Type 0
 TookAll s t text = IsTrue s.is_visible → t.taken ≡ s.taken ++ text
 
--- or a prefix of it
+-- or a prefix of it, and not the whole
 abbrev pub TookPrefix : SinkSight → SinkSight → List ℕ → Type 0
-TookPrefix s t text = IsTrue s.is_visible → (n : ℕ) × (t.taken ≡ s.taken ++ take n text)
+TookPrefix s t text = IsTrue s.is_visible → (n : ℕ) × (n < length text) × (t.taken ≡ s.taken ++ take n text)
 
 -- Bytes: where the command ended well, all is done and printed; where the output failed, all is done and a prefix was
 -- printed; where there was no memory, either so or nothing was printed; else nothing was printed.

@@ -1,5 +1,5 @@
 -- Output that is handed to a sink in pieces.
-use Rattle.std.specs.Prelude.{◌≡◌, ◌⊎◌, ℕ, Option, Some, None, List, ◌++◌}
+use Rattle.std.specs.Prelude.{◌≡◌, ◌⊎◌, ℕ, ◌≤◌, Option, Some, None, List, ◌++◌, length}
 use Rattle.tatp_model.specs.declared.done.Done.{Done}
 use Rattle.dude_text.specs.Output.{output_of}
 use Rattle.pmem_trait.specs.Sights.{Risen}
@@ -13,11 +13,12 @@ pub record Collects (more old new : List ℕ) (s t : SinkSight) : Type 0 where
   pub split : old ++ more ≡ front ++ new
   pub took : Took front s t
 
--- The text wasn't taken whole, but a front of it: the sink failed, or there was no memory.
+-- The text wasn't taken whole, but a prefix of it: the sink failed, or there was no memory.
 pub record StopsIn (text : List ℕ) (s t : SinkSight) (fault : Fault) : Type 0 where
   pub front : List ℕ
   pub rest : List ℕ
   pub split : text ≡ front ++ rest
+  pub some : 1 ≤ length rest
   pub took : Took front s t
   pub cause : fault ≡ Output → Risen s.faults t.faults
   pub only : (fault ≡ Output) ⊎ (fault ≡ Memory)

@@ -1,6 +1,4 @@
-ghost use Rattle.std.specs.Prelude.{◌≡◌, ℕ, ◌≤◌, length, is_ok, IsTrue, List};
-ghost use Rattle.pmem_trait.specs.Words.{IsSettled};
-ghost use Rattle.pmem_trait.specs.Sights.{state_now};
+ghost use Rattle.std.specs.Prelude.{◌≡◌, ℕ, ◌≤◌, length, is_ok, List};
 ghost use Rattle.dude_text.specs.RequestFile.{AreServable};
 ghost use Rattle.fresh_image.specs.Fresh.{fresh_length};
 ghost use Rattle.dude_program.specs.Outcome.{ServesFresh, FormatsAndServes, device_fault};
@@ -27,7 +25,6 @@ fn format_and_serve<M: Medium>(
     requires servable { AreServable requests.now }
     requires medium { fresh_length (subscribers_of run.old) ≤ (M.sight m.old).len }
     requires ring { HasRingAtRest run.old }
-    requires settled { IsTrue (M.sight m.old).is_visible → IsSettled (state_now (M.sight m.old)) }
     ensures { (file : List ℕ) → FormatsAndServes (subscribers_of run.old) file requests.now (is_ok result) (stage_of run.new).done (stage_of run.new).last (M.sight m.old) (M.sight m.new) }
 {
     format_image(m, &run.sizes)?;
@@ -45,7 +42,6 @@ pub fn serve_fresh<M: Medium>(
     requires limited { subscribers ≤ 10000 }
     requires few { length requests.now ≤ 100000 }
     requires servable { AreServable requests.now }
-    requires settled { IsTrue (M.sight m.old).is_visible → IsSettled (state_now (M.sight m.old)) }
     ensures { (file : List ℕ) → ServesFresh subscribers file requests.now result.done.items result.last result.fault (M.sight m.old) (M.sight m.new) }
 {
     let sizes = ImageSizes::new(subscribers);

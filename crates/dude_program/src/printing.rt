@@ -3,8 +3,8 @@ ghost use Rattle.dude_text.specs.Output.{output_line, last_line, output_of};
 ghost use Rattle.dude_io.specs.Sink.{Took};
 ghost use Rattle.dude_program.specs.Printing.{Collects, StopsIn};
 
-use dude_io::{Sink, write_all};
 use crate::fault::Fault;
+use dude_io::{Sink, write_all};
 use dude_text::{write_done, write_last};
 use std::alloc::Global;
 use tatp_model::Done;

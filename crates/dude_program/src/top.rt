@@ -43,7 +43,6 @@ fn carry_out_fresh<M: Medium, F: Files, K: Sink>(
 ) -> Outcome
     requires some { 1 ≤ subscribers }
     requires limited { subscribers ≤ 10000 }
-    requires settled { IsTrue (M.sight m.old).is_visible → IsSettled (state_now (M.sight m.old)) }
     ensures { Ends (FreshRun subscribers file.now) (world_of (M.sight m.old) (F.sight files.old) (K.sight out.old))
         (world_of (M.sight m.new) (F.sight files.new) (K.sight out.new)) result.done.items result.fault }
 {
@@ -68,7 +67,7 @@ fn carry_out<M: Medium, F: Files, K: Sink>(
     files: &mut F,
     out: &mut K,
 ) -> Outcome
-    requires settled { IsTrue (M.sight m.old).is_visible → IsSettled (state_now (M.sight m.old)) }
+    requires settled { IsTrue (M.sight m.old).is_visible → IsSettled (M.sight m.old).len (state_now (M.sight m.old)) }
     ensures headline { (own : Meaning) → meaning_of (map rc_str_bytes words.now) ≡ Some own
         → Headline own (world_of (M.sight m.old) (F.sight files.old) (K.sight out.old))
         (world_of (M.sight m.new) (F.sight files.new) (K.sight out.new)) result.done.items result.fault }
@@ -94,7 +93,7 @@ pub fn dude<M: Medium + Send, F: Files, K: Sink>(
     files: &mut F,
     out: &mut K,
 ) -> Ended<M>
-    requires settled { IsTrue (M.sight medium).is_visible → IsSettled (state_now (M.sight medium)) }
+    requires settled { IsTrue (M.sight medium).is_visible → IsSettled (M.sight medium).len (state_now (M.sight medium)) }
     ensures status { result.status ≡ status_of result.fault }
     // What the command did, where the words mean one.
     ensures headline { (own : Meaning) → meaning_of (map rc_str_bytes words.now) ≡ Some own

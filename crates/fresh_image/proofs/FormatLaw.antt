@@ -6,9 +6,10 @@ use Rattle.std.specs.Prelude.{slice_index}
 use Rattle.std.specs.List.{range_with_len, enumerate_from}
 use Rattle.dude_base.specs.Image.{header_words}
 use Rattle.pmem_trait.specs.declared.call.Call.TheVariants.{Tell}
-use Rattle.pmem_trait.specs.Words.{newest, State, IsIn, IsSettled, settled_at, after, after_all, EveryImage, AfterEachCall, end, more}
+use Rattle.pmem_trait.specs.Words.{newest, value_of, State, IsIn, settled_at, after, after_all, EveryImage, AfterEachCall, end, more}
 use Rattle.pmem_trait.specs.Groups.{group_calls, values_put, final}
-use Rattle.pmem_trait.proofs.GroupLaw.{group_law, group_word, group_told}
+use Rattle.pmem_trait.proofs.GroupLaw.{group_law, group_told}
+use Rattle.pmem_trait.proofs.GroupWords.{group_flushed}
 use Rattle.pmem_trait.proofs.GroupLists.{words_outside, words_inside}
 use Rattle.pmem_trait.proofs.Laws.{after_each_then, after_all_then}
 use Rattle.dude_base.specs.declared.limits.TheConstants.{MAGIC}
@@ -50,11 +51,11 @@ unfolding clear_cells
 home_value home k = zeros_behind 128 home k
 
 -- a word of the cells or of the home words, after the contents were written
-content_word : (S : ℕ) (home : List ℕ) (p : State) (j x : ℕ) → length home ≡ fresh_home_length S → j < 128 + length home → p.word (16 + j) ≡ settled_at x
+content_word : (S : ℕ) (home : List ℕ) (p : State) (j : ℕ) → length home ≡ fresh_home_length S → j < 128 + length home
     → (after_all (group_calls (content_writes home) (content_lines S)) p).word (16 + j) ≡ settled_at (slice_index (clear_cells ++ home) j)
-content_word S home p j x count below is =
-    group_word (content_writes home) (content_lines S) p (16 + j) x is (inr (IsIn-range 1 (fresh_length S / 8 - 1) ((16 + j) / 8) (omega arith) (omega (arith, count))))
-    ∙ ap (λ (l : List ℕ). settled_at (newest x l)) written_is
+content_word S home p j count below =
+    group_flushed (content_writes home) (content_lines S) p (16 + j) (IsIn-range 1 (fresh_length S / 8 - 1) ((16 + j) / 8) (omega arith) (omega (arith, count)))
+    ∙ ap (λ (l : List ℕ). settled_at (newest (value_of (p.word (16 + j))) l)) written_is
   where
     written_is : values_put (content_writes home) (16 + j) ≡ slice_index (clear_cells ++ home) j ∷ []
     written_is = rw (ne_eqb (16 + j) 8 (λ e. omega arith)) (words_inside 16 (clear_cells ++ home) j (16 + j) refl (omega (arith, length-append clear_cells home, length-clear_cells)))
@@ -112,15 +113,15 @@ told3 S home p = group_told (header_writes S) (0 ∷ []) (after_contents S home 
 formatted_told : (S : ℕ) (home : List ℕ) (p : State) → (after_magic (after_header S (after_contents S home (after_clear p)))).told ≡ p.told
 formatted_told S home p = group_told (magic_write MAGIC) (0 ∷ []) (after_header S (after_contents S home (after_clear p))) ∙ told3 S home p
 
--- After the groups of the format the medium rests at 0.
-formatted_rests : (S : ℕ) (home : List ℕ) (p : State) → length home ≡ fresh_home_length S → IsSettled p
+-- After the groups of the format the medium rests at 0, whatever it was before.
+formatted_rests : (S : ℕ) (home : List ℕ) (p : State) → length home ≡ fresh_home_length S
     → AtRest S 0 home (after_magic (after_header S (after_contents S home (after_clear p))))
-formatted_rests S home p count settled = record {
+formatted_rests S home p count = record {
   image = record {
     header = header;
     mark = last 8 0 (inr (omega arith)) (left 1 8 p2 (header_writes S) (0 ∷ []) (within_header S) 8 _ (inr (omega arith)) mark2);
     count = count;
-    words = λ k below. past (144 + k) _ (omega arith) (subst (λ (i : ℕ). p2.word i ≡ settled_at (slice_index (clear_cells ++ home) (128 + k))) (omega arith) (content_word S home p1 (128 + k) _ count (omega arith) (at_first (16 + (128 + k)) (omega arith)).1)
+    words = λ k below. past (144 + k) _ (omega arith) (subst (λ (i : ℕ). p2.word i ≡ settled_at (slice_index (clear_cells ++ home) (128 + k))) (omega arith) (content_word S home p1 (128 + k) count (omega arith))
         ∙ ap settled_at (home_value home k));
   };
   ring = empty_ring S 0 (last 8 0 (inr (omega arith)) (left 1 8 p2 (header_writes S) (0 ∷ []) (within_header S) 8 _ (inr (omega arith)) mark2)) far;
@@ -136,10 +137,6 @@ formatted_rests S home p count settled = record {
     p3 : State
     p3 = after_header S p2
 
-    -- a word behind the first is settled after the first group
-    at_first : (k : ℕ) → 1 ≤ k → (x : ℕ) × (p1.word k ≡ settled_at x)
-    at_first k from = let s = settled k in (s.0, left 0 1 p (magic_write 0) (0 ∷ []) (omega arith, omega arith, tt) k s.0 (inr from) s.1)
-
     last : (k x : ℕ) → (k < 0) ⊎ (1 ≤ k) → p3.word k ≡ settled_at x → (after_magic p3).word k ≡ settled_at x
     last k x out is = left 0 1 p3 (magic_write MAGIC) (0 ∷ []) (omega arith, omega arith, tt) k x out is
 
@@ -148,28 +145,20 @@ formatted_rests S home p count settled = record {
 
     mark2 : p2.word 8 ≡ settled_at 0
     mark2 =
-        let s = at_first 8 (omega arith) in
         let w : values_put (content_writes home) 8 ≡ 0 ∷ [] = ap (λ (l : List ℕ). 0 ∷ l) (words_outside 16 (clear_cells ++ home) 8 (λ j lt e. omega arith)) in
-        group_word (content_writes home) (content_lines S) p1 8 s.0 s.1 (inr (IsIn-range 1 (fresh_length S / 8 - 1) 1 (omega arith) (omega arith)))
-        ∙ ap (λ (l : List ℕ). settled_at (newest s.0 l)) w
+        group_flushed (content_writes home) (content_lines S) p1 8 (IsIn-range 1 (fresh_length S / 8 - 1) 1 (omega arith) (omega arith))
+        ∙ ap (λ (l : List ℕ). settled_at (newest (value_of (p1.word 8)) l)) w
 
     far : (k : ℕ) → 16 ≤ k → k < 144 → (after_magic p3).word k ≡ settled_at 0
     far k from below = past k 0 (omega arith) (subst (λ (i : ℕ). p2.word i ≡ settled_at 0) (omega arith)
-        (content_word S home p1 (k - 16) _ count (omega arith) (at_first (16 + (k - 16)) (omega arith)).1 ∙ ap settled_at (cell_value home (k - 16) (omega arith))))
+        (content_word S home p1 (k - 16) count (omega arith) ∙ ap settled_at (cell_value home (k - 16) (omega arith))))
 
-    at_second : (k : ℕ) → 1 ≤ k → k < 8 → (x : ℕ) × (p2.word k ≡ settled_at x)
-    at_second k from below = let s = at_first k from in (s.0, left 8 (fresh_length S) p1 (content_writes home) (content_lines S) (within_contents S home count) k s.0 (inl below) s.1)
-
-    by_header : (k : ℕ) → (from : 1 ≤ k) → (below : k < 8) → (after_magic p3).word k ≡ settled_at (final (header_writes S) k (at_second k from below).0)
-    by_header k from below = let s = at_second k from below in
-        last k _ (inr from) (group_word (header_writes S) (0 ∷ []) p2 k s.0 s.1 (inr (inl (omega arith))))
+    by_header : (k : ℕ) → 1 ≤ k → k < 8 → (after_magic p3).word k ≡ settled_at (final (header_writes S) k (value_of (p2.word k)))
+    by_header k from below = last k _ (inr from) (group_flushed (header_writes S) (0 ∷ []) p2 k (inl (omega arith)))
 
     header : (k : ℕ) → k < 8 → (after_magic p3).word k ≡ settled_at (slice_index (header_words 0 (fresh_sizes S)) k)
     header zero below =
-        let s = settled 0 in
-        group_word (magic_write MAGIC) (0 ∷ []) p3 0 0 (left 1 8 p2 (header_writes S) (0 ∷ []) (within_header S) 0 0 (inl (omega arith))
-        (left 8 (fresh_length S) p1 (content_writes home) (content_lines S) (within_contents S home count) 0 0 (inl (omega arith))
-        (group_word (magic_write 0) (0 ∷ []) p 0 s.0 s.1 (inr (inl refl))))) (inr (inl refl))
+        group_flushed (magic_write MAGIC) (0 ∷ []) p3 0 (inl refl)
     header (suc zero) below = by_header 1 (omega arith) (omega arith)
     header (suc (suc zero)) below = by_header 2 (omega arith) (omega arith)
     header (suc (suc (suc zero))) below = by_header 3 (omega arith) (omega arith)
@@ -180,10 +169,10 @@ formatted_rests S home p count settled = record {
     header (suc (suc (suc (suc (suc (suc (suc (suc k)))))))) below = absurd (omega arith)
 
 -- After the format the medium rests at 0, and 0 was told.
-pub format_rests : (S : ℕ) (home : List ℕ) (p : State) → length home ≡ fresh_home_length S → IsSettled p
+pub format_rests : (S : ℕ) (home : List ℕ) (p : State) → length home ≡ fresh_home_length S
     → AtRest S 0 home (after_all (format_calls S home) p) × ((after_all (format_calls S home) p).told ≡ p.told ++ 0 ∷ [])
 unfolding format_calls
-format_rests S home p count settled =
+format_rests S home p count =
     let Q : State → Type 0 = λ q. AtRest S 0 home q × (q.told ≡ p.told ++ 0 ∷ []) in
     subst Q (sym whole) (
       stands_told 0 r,
@@ -194,7 +183,7 @@ format_rests S home p count settled =
     p4 = after_magic (after_header S (after_contents S home (after_clear p)))
 
     r : AtRest S 0 home p4
-    r = formatted_rests S home p count settled
+    r = formatted_rests S home p count
 
     whole : after_all (group_calls (magic_write 0) (0 ∷ []) ++ (group_calls (content_writes home) (content_lines S)
         ++ (group_calls (header_writes S) (0 ∷ []) ++ (group_calls (magic_write MAGIC) (0 ∷ []) ++ Tell 0 ∷ [])))) p ≡ after (Tell 0) p4
@@ -202,12 +191,12 @@ format_rests S home p count settled =
         ∙ (after_all_then (group_calls (header_writes S) (0 ∷ [])) _ (after_contents S home (after_clear p))
         ∙ after_all_then (group_calls (magic_write MAGIC) (0 ∷ [])) (Tell 0 ∷ []) (after_header S (after_contents S home (after_clear p)))))
 
--- From a settled medium each image at each moment of the format has this: nothing was told yet, or the image recovers
+-- Each image at each moment of the format has this: nothing was told yet, or the image recovers
 -- to 0 and these home words.
 pub format_images : {S len : ℕ} {home : List ℕ} {p : State} → 1 ≤ S → S ≤ 10000 → fresh_length S ≤ len → length home ≡ fresh_home_length S
-    → IsSettled p → AfterEachCall (EveryImage len (RecoversOnceTold S p.told home)) p (format_calls S home)
+    → AfterEachCall (EveryImage len (RecoversOnceTold S p.told home)) p (format_calls S home)
 unfolding format_calls
-format_images {S} {len} {home} {p} low high long count settled =
+format_images {S} {len} {home} {p} low high long count =
     after_each_then (group_law (magic_write 0) (λ image mix. inl refl) (0 ∷ []))
     (after_each_then (group_law (content_writes home) (λ image mix. inl (told1 p)) (content_lines S))
     (after_each_then (group_law (header_writes S) (λ image mix. inl (told2 S home p)) (0 ∷ []))
@@ -216,6 +205,6 @@ format_images {S} {len} {home} {p} low high long count settled =
     (end (record {
       each = λ image is. inr (
         ap (λ (told : List ℕ). told ++ 0 ∷ []) (formatted_told S home p),
-        rest_images low high long (omega arith) (formatted_rests S home p count settled) image (record { size = is.size; each = is.each }),
+        rest_images low high long (omega arith) (formatted_rests S home p count) image (record { size = is.size; each = is.each }),
       );
     }))))))

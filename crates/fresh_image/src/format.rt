@@ -1,6 +1,5 @@
 ghost use Rattle.std.specs.Prelude.{◌≡◌, ℕ, ◌+◌, ◌-◌, ◌≤◌, ◌/◌, length, is_ok, OnOk, IsTrue, ◌++◌, ◌∷◌, []};
 ghost use Rattle.std.specs.List.{enumerate_from};
-ghost use Rattle.pmem_trait.specs.Words.{IsSettled};
 ghost use Rattle.pmem_trait.specs.Sights.{state_now, CallsMade, AtEveryMoment};
 ghost use Rattle.pmem_trait.specs.Groups.{put_pairs, flush_lines, group_calls};
 ghost use Rattle.tatp_model.specs.Population.{population};
@@ -96,8 +95,7 @@ fn put_magic<M: Medium>(m: &mut M) -> Result<(), Failed>
 /// The magic number is cleared first and put last, so that from the first fence on a crash leaves nothing that looks
 /// formatted, until the magic number is put again. After an `Err` the medium holds some of a new image.
 pub fn format_image<M: Medium>(m: &mut M, sizes: &ImageSizes) -> Result<(), Failed>
-    requires room { fresh_length sizes.now.subscribers ≤ (M.sight m.old).len }
-    requires settled { IsTrue (M.sight m.old).is_visible → IsSettled (state_now (M.sight m.old)) }
+    requires { fresh_length sizes.now.subscribers ≤ (M.sight m.old).len }
     ensures len { (M.sight m.new).len ≡ (M.sight m.old).len }
     ensures made { CallsMade (format_calls sizes.now.subscribers (home_words sizes.now.subscribers (population sizes.now.subscribers).subscribers)) (is_ok result) (M.sight m.old) (M.sight m.new) }
     // From the moment that 0 is told on, each image recovers to 0 and the population.

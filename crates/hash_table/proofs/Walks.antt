@@ -1,6 +1,6 @@
 -- Walks along the links of any array: what is known at each step, and what is found.
 use Rattle.std.proofs.Common.{◌≡◌, ◌≢◌, ℕ, ◌+◌, ◌-◌, ◌%◌, ◌<◌, ◌≤◌, inl, inr, zero, suc, List, [], ◌∷◌, ◌++◌, length, All, Option, Some, None, slice_index, refl, sym, ap, ◌∙◌, subst, arith, length-append}
-use Rattle.std.proofs.lemmas.List.{append-nil, length_push}
+use Rattle.std.proofs.lemmas.List.{length_push}
 use Rattle.std.proofs.lemmas.List.Elements.{All-append, All-cons, All-push, All-nil, All-tail, All-contains}
 use Rattle.record_heap.specs.Links.{Linked}
 use Rattle.record_heap.specs.declared.pool.Pool.{Pool}
@@ -10,7 +10,7 @@ use Rattle.hash_table.specs.declared.table.ChainPosition.{ChainPosition}
 use Rattle.hash_table.specs.declared.table.Table.{Table}
 use Rattle.hash_table.specs.Seek.{SeeksFirst}
 use Rattle.hash_table.specs.Table.{link_after, lookup}
-use Rattle.hash_table.specs.Walk.{FindsFirst, IsChain, IsChainOf, IsPath}
+use Rattle.hash_table.specs.Walk.{FindsFirst, IsChain, IsPath}
 use Rattle.hash_table.proofs.Chains.{first_among}
 use Rattle.hash_table.proofs.Maps.{lookup_absent, lookup_amid}
 
@@ -49,13 +49,15 @@ chain_from pool wide array zero link = ([], record { path = tt; records = All-ni
 chain_from pool wide array (suc most) link =
     elim (record_or_not pool wide (slice_index array link)) [
       | inl there ↦
-          let others = chain_from pool wide array most (slice_index array link + 1) in
-          (slice_index array link ∷ others.0, record {
-            path = (refl, others.1.path);
-            records = All-cons (IsRecord pool) (slice_index array link) others.0 there others.1.records;
-            few = omega (arith, others.1.few);
-            ends = λ less. others.1.ends (omega (arith, less));
-          })
+          let others = chain_from pool wide array most (slice_index array link + 1) in (
+            slice_index array link ∷ others.0,
+            record {
+              path = (refl, others.1.path);
+              records = All-cons (IsRecord pool) (slice_index array link) others.0 there others.1.records;
+              few = omega (arith, others.1.few);
+              ends = λ less. others.1.ends (omega (arith, less));
+            },
+          )
       | inr none ↦ ([], record { path = tt; records = All-nil (IsRecord pool); few = omega arith; ends = λ less. none })
     ]
 

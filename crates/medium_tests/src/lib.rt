@@ -2,6 +2,12 @@
 #![tactic(auto)]
 
 #[cfg(test)]
+mod faulty_host;
+#[cfg(test)]
+mod file_pmem;
+#[cfg(test)]
+mod files_and_sinks;
+#[cfg(test)]
 mod mem_pmem;
 #[cfg(test)]
 mod record_cells;

@@ -1,11 +1,11 @@
 -- From what the history notes of a call to what the trait says of it.
-use Rattle.std.proofs.Common.{true≢false, Some, ◌≡◌, get_or, ◌⊎◌, inl, inr, ⊎_elim, ℕ, zero, suc, ◌/◌, ◌==◌, eqb-true, get_or-set_same, get_or-set_other, ◌+◌, ◌-◌, ◌^◌, ◌<◌, ◌≤◌, min, Bool, true, false, not, ◌&&◌, ◌||◌, if◌then◌else◌, nat_lt, nat_le, IsTrue, List, [], ◌∷◌, ◌++◌, length, take, drop, set, slice_index, refl, sym, ap, ◌∙◌, arith, take_all, ltb-true, ltb-false, leb-true, le-leb}
+use Rattle.std.proofs.Common.{true≢false, Some, ◌≡◌, get_or, ◌⊎◌, inl, inr, ⊎_elim, ℕ, zero, suc, ◌/◌, ◌==◌, eqb-true, get_or-set_same, get_or-set_other, ◌+◌, ◌-◌, ◌^◌, ◌<◌, ◌≤◌, min, Bool, true, false, not, ◌&&◌, ◌||◌, if◌then◌else◌, nat_lt, nat_le, IsTrue, List, [], ◌∷◌, ◌++◌, length, take, drop, set, slice_index, refl, sym, ap, subst, ◌∙◌, arith, take_all, ltb-true, ltb-false, leb-true, le-leb}
 use Rattle.std.proofs.lemmas.List.{take-append-le, take_more}
 use Rattle.std.proofs.lemmas.Bool.{eqb-false}
 use Rattle.pmem_trait.specs.declared.call.Call.{Call}
 use Rattle.pmem_trait.specs.declared.call.Call.TheVariants.{Put, Flush, Fence, Tell}
 use Rattle.pmem_trait.specs.declared.made.Made.{Made}
-use Rattle.pmem_trait.specs.Words.{IsSettled, HalfDone, last_told, Word, State, newest, value_of, with_later, with_note, word_after, after}
+use Rattle.pmem_trait.specs.Words.{IsSettled, IsSettledWord, HalfDone, last_told, Word, State, newest, value_of, with_later, with_note, word_after, after}
 use Rattle.pmem_trait.specs.Faults.{faults_after}
 use Rattle.pmem_trait.specs.Sights.{Sight, state_now, CallEffect, OneCall}
 use Rattle.pmem_fake.specs.declared.call_history.CallHistory.{CallHistory}
@@ -211,5 +211,5 @@ told_last late m n p done is = by (was_effective late m) done
     by false none = absurd (true≢false (sym none))
 
 -- a medium is settled when it is made
-pub opening_settled : {words : List ℕ} {s : Sight} → IsUntouched words s → IsSettled (state_now s)
-opening_settled {words} {s} opening k = (slice_index words k, ap (λ (p : State). p.word k) opening.state)
+pub opening_settled : {words : List ℕ} {s : Sight} → IsUntouched words s → IsSettled s.len (state_now s)
+opening_settled {words} {s} opening k below = subst (λ (p : State). IsSettledWord (p.word k)) (sym opening.state) refl

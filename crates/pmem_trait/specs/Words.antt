@@ -110,9 +110,9 @@ settled_at x = record { settled = x; later = []; noted = 0 }
 abbrev pub IsSettledWord : Word → Type 0
 IsSettledWord w = w ≡ settled_at w.settled
 
--- no word has a later value
-abbrev pub IsSettled : State → Type 0
-IsSettled p = (k : ℕ) → (x : ℕ) × (p.word k ≡ settled_at x)
+-- each of the first len words is settled
+abbrev pub IsSettled : ℕ → State → Type 0
+IsSettled len p = (k : ℕ) → k < len → IsSettledWord (p.word k)
 
 -- P holds here and after each call of a list, none of which fails
 pub data AfterEachCall (P : State → Type 0) : State → List Call → Type 0 where

@@ -142,7 +142,7 @@ fn no_call_fails_where_none_is_to(rt: HostRuntime) -> Result<(), Fail> {
 
 /// A medium for the image, of which one call fails, before it has its effect or after.
 fn failing_medium(alloc: Global, call: u64, late: bool) -> Result<MemPmem, AllocError>
-    ensures settled { IfOk result (λ medium. IsTrue (sight medium).is_visible → IsSettled (state_now (sight medium))) }
+    ensures settled { IfOk result (λ medium. IsTrue (sight medium).is_visible → IsSettled (sight medium).len (state_now (sight medium))) }
 {
     if late {
         late_medium(alloc, IMAGE_WORDS, &[call])

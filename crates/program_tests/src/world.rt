@@ -20,7 +20,7 @@ pub const UPDATE_THEN_READ: &[u8] = b"UPDATE_LOCATION,000000000000001,7\nGET_SUB
 
 /// A medium of zero words, of which the calls counted in `fail` fail.
 pub fn medium(alloc: Global, words: usize, fail: &[u64]) -> Result<MemPmem, AllocError>
-    ensures settled { IfOk result (λ medium. IsTrue (sight medium).is_visible → IsSettled (state_now (sight medium))) }
+    ensures settled { IfOk result (λ medium. IsTrue (sight medium).is_visible → IsSettled (sight medium).len (state_now (sight medium))) }
 {
     let words = vec![in alloc; 0; words]?;
     let medium = MemPmem::new(alloc, words, 4000, fail.to_vec(alloc)?)?;
@@ -29,7 +29,7 @@ pub fn medium(alloc: Global, words: usize, fail: &[u64]) -> Result<MemPmem, Allo
 
 /// The same, but the calls counted in `fail` have their effect first.
 pub fn late_medium(alloc: Global, words: usize, fail: &[u64]) -> Result<MemPmem, AllocError>
-    ensures settled { IfOk result (λ medium. IsTrue (sight medium).is_visible → IsSettled (state_now (sight medium))) }
+    ensures settled { IfOk result (λ medium. IsTrue (sight medium).is_visible → IsSettled (sight medium).len (state_now (sight medium))) }
 {
     let words = vec![in alloc; 0; words]?;
     let medium = MemPmem::late(alloc, words, 4000, fail.to_vec(alloc)?)?;
@@ -59,7 +59,7 @@ pub fn carried_out(
     files: &mut MemFiles,
     out: &mut MemSink,
 ) -> Result<Ended<MemPmem>, AllocError>
-    requires settled { IsTrue (sight medium).is_visible → IsSettled (state_now (sight medium)) }
+    requires settled { IsTrue (sight medium).is_visible → IsSettled (sight medium).len (state_now (sight medium)) }
 {
     let mut owned = Vec::new(alloc);
     for word in words {

@@ -1,6 +1,6 @@
 //! Opening arrays, and slow programs that say what a pool and a table in an array hold.
 
-ghost use Rattle.std.specs.Prelude.{◌≡◌, IfOk, length};
+ghost use Rattle.std.specs.Prelude.{◌≡◌, ◌<◌, IfOk, length};
 
 use crate::stopping::Stopping;
 use hash_table::table::Table;
@@ -118,6 +118,27 @@ pub fn records_of(
     Ok((counted && once).then_some(Records { free, taken }))
 }
 
+// The keys of a chain, or `None` where one of them is not of this bucket.
+fn keys_of_chain(
+    alloc: Global,
+    words: &[u64],
+    chain: &[u64],
+    buckets: u64,
+    bucket: u64,
+) -> Result<Option<Vec<u64>>, AllocError>
+    requires { 0 < buckets }
+{
+    let mut keys: Vec<u64> = Vec::new(alloc);
+    for record in chain {
+        let key = word_at(words, *record);
+        if key % buckets != bucket {
+            return Ok(None);
+        }
+        keys.push(key)?;
+    }
+    Ok(Some(keys))
+}
+
 /// The keys of all chains, ascending, or `None` where the table is not lawful: the chains have to have the
 /// taken records of a lawful pool, and each key has to be there once and in its bucket.
 pub fn keys_of(
@@ -135,16 +156,14 @@ pub fn keys_of(
         let Some(chain) = linked(alloc, words, link, table.pool.count)? else {
             return Ok(None);
         };
-        for record in &chain {
-            let key = word_at(words, *record);
-            if keys.contains(&key) || key % table.buckets != bucket {
-                return Ok(None);
-            }
-            keys.push(key)?;
-        }
+        let Some(own) = keys_of_chain(alloc, words, &chain, table.buckets, bucket)? else {
+            return Ok(None);
+        };
         chained.extend_from_slice(&chain)?;
+        keys.extend_from_slice(&own)?;
     }
-    keys.sort()?;
     chained.sort()?;
-    Ok((chained == records.taken).then_some(keys))
+    keys.sort()?;
+    let once = keys.windows(2).all(|pair| pair[0] != pair[1]);
+    Ok((once && chained == records.taken).then_some(keys))
 }

@@ -22,13 +22,6 @@ first_key s_id sf_type = 3 * (4 * s_id + sf_type - 1)
 eighth : (n : ℕ) → IsStartTime n → n / 8 < 3
 eighth n is = ⊎_elim (λ e. rw e (omega arith)) (λ later. ⊎_elim (λ e. rw e (omega arith)) (λ e. rw e (omega arith)) later) is
 
--- a row that a request names has the key of its names
-pub call_key-is_call : (s_id sf_type start_time : ℕ) (r : CallRow) → is_call s_id sf_type start_time r ≡ true → call_key r ≡ 3 * (4 * s_id + sf_type - 1) + start_time / 8
-call_key-is_call s_id sf_type start_time r named =
-    let starts = and_parts ((r.s_id == s_id) && (r.sf_type == sf_type)) (r.start_time == start_time) named in
-    let names = and_parts (r.s_id == s_id) (r.sf_type == sf_type) starts.0 in
-    rw (eqb-true _ _ names.0, eqb-true _ _ names.1, eqb-true _ _ starts.1) refl
-
 -- a row that forwards a facility's calls belongs to it
 pub same_facility : (s_id sf_type start_time end_time : ℕ) (r : CallRow) → forwards s_id sf_type start_time end_time r ≡ true → (r.s_id ≡ s_id) × (r.sf_type ≡ sf_type)
 same_facility s_id sf_type start_time end_time r fits =

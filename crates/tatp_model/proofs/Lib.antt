@@ -5,6 +5,7 @@ pub mod Numbered
 pub mod PhonesLemmas
 pub mod PopulationInOrder
 pub mod PrintedOrder
+pub mod Retained
 pub mod Rising
 pub mod Rows
 pub mod Run

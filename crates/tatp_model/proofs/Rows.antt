@@ -1,10 +1,9 @@
 -- Lists of rows, of which at most one passes a test.
 use Rattle.std.proofs.Common.{◌≡◌, ℕ, zero, suc, ◌<◌, ◌≤◌, Bool, true, false, cond, List, [], ◌∷◌, length, get_or, take, drop, set, refl, ap, sym, ◌∙◌, arith, Some, None, ◌≢◌, ⊎_elim, subst}
-use Rattle.std.proofs.lemmas.Bool.{cases_Bool, cases_lt, lt-ltb, le-ltb, eq-eqb, ne_eqb, or_parts}
-use Rattle.std.proofs.Math.Bool.{or-false}
+use Rattle.std.proofs.lemmas.Bool.{cases_Bool, cases_lt, lt-ltb, le-ltb, eq-eqb, ne_eqb}
 use Rattle.std.proofs.lemmas.List.Quantifiers.{position-Some}
-use Rattle.std.specs.Prelude.{slice_get, is_some, ◌&&◌, remove}
-use Rattle.std.proofs.lemmas.List.Folds.{find_at, list_any_none}
+use Rattle.std.specs.Prelude.{slice_get, is_some}
+use Rattle.std.proofs.lemmas.List.Folds.{find_at}
 use Rattle.std.proofs.lemmas.List.Sums.{position_or_len_is}
 use Rattle.std.proofs.lemmas.Option.{slice_get_past, slice_get-get_or}
 use Rattle.std.specs.List.{list_any, filter, position, position_or_len, AllPairs, All, find}
@@ -122,38 +121,3 @@ find-position_Some p rows i d some =
     let at = position-Some p rows i d some in
     let is : position_or_len p rows ≡ i = position_or_len_is p rows i d (omega (arith, at.0)) (λ k h. (position-Some p rows i d some).2 k h) (λ h. at.1) in
     find_at p rows ∙ ap (slice_get rows) is ∙ slice_get-get_or rows i d at.0
-
--- where one row alone passes, the others are those without it
-filter-except : {R : Type 0} (p : R → Bool) (rows : List R) (i : ℕ) (d : R) → i < length rows → p (get_or rows i d) ≡ true → ((j : ℕ) (e : R) → j < i → p (get_or rows j e) ≡ false) → ((j : ℕ) (e : R) → i < j → j < length rows → p (get_or rows j e) ≡ false) → filter (λ r. not (p r)) rows ≡ remove rows i
-filter-except p [] i d within here before after = absurd (omega arith)
-filter-except p (r ∷ rows) zero d within here before after =
-    rw here (filter-uniform true (λ x. not (p x)) rows (λ j e h. ap not (after (suc j) e (omega arith) (omega arith))))
-filter-except p (r ∷ rows) (suc i) d within here before after =
-    rw (before 0 r (omega arith)) (ap (λ rest. r ∷ rest) (filter-except p rows i d (omega arith) here (λ j e h. before (suc j) e (omega arith)) (λ j e h k. after (suc j) e (omega arith) (omega arith))))
-
-pub filter-not_position : {R : Type 0} (p : R → Bool) (rows : List R) (i : ℕ) (d : R) → AtMostOne p rows → position p rows ≡ Some i → filter (λ r. not (p r)) rows ≡ remove rows i
-filter-not_position p rows i d one some =
-    let at = position-Some p rows i d some in
-    filter-except p rows i d at.0 at.1 (λ j e h. (position-Some p rows i e some).2 j h) (λ j e h k. not_true (p (get_or rows j e)) (one.apart i j e h k (position-Some p rows i e some).1))
-
--- where one row alone passes, a further test is asked of it alone
-any-and_none : {R : Type 0} (p q : R → Bool) (rows : List R) → list_any p rows ≡ false → list_any (λ r. p r && q r) rows ≡ false
-any-and_none p q [] none = refl
-any-and_none p q (r ∷ rows) none =
-    let parts = or_parts (p r) (list_any p rows) none in rw parts.0 (any-and_none p q rows parts.1)
-
-any-and : {R : Type 0} (p q : R → Bool) (rows : List R) (i : ℕ) (d : R) → i < length rows → p (get_or rows i d) ≡ true → ((j : ℕ) (e : R) → j < i → p (get_or rows j e) ≡ false) → ((j : ℕ) (e : R) → i < j → j < length rows → p (get_or rows j e) ≡ false) → list_any (λ r. p r && q r) rows ≡ q (get_or rows i d)
-any-and p q [] i d within here before after = absurd (omega arith)
-any-and p q (r ∷ rows) zero d within here before after =
-    let none : list_any p rows ≡ false = list_any_none p rows (λ j e h. after (suc j) e (omega arith) (omega arith)) in
-    rw (here, any-and_none p q rows none) (or-false (q r))
-any-and p q (r ∷ rows) (suc i) d within here before after =
-    rw (before 0 r (omega arith)) (any-and p q rows i d (omega arith) here (λ j e h. before (suc j) e (omega arith)) (λ j e h k. after (suc j) e (omega arith) (omega arith)))
-
-pub any-and_position : {R : Type 0} (p q : R → Bool) (rows : List R) (i : ℕ) (d : R) → AtMostOne p rows → position p rows ≡ Some i → list_any (λ r. p r && q r) rows ≡ q (get_or rows i d)
-any-and_position p q rows i d one some =
-    let at = position-Some p rows i d some in
-    any-and p q rows i d at.0 at.1 (λ j e h. (position-Some p rows i e some).2 j h) (λ j e h k. not_true (p (get_or rows j e)) (one.apart i j e h k (position-Some p rows i e some).1))
-
-pub any-and_position_None : {R : Type 0} (p q : R → Bool) (rows : List R) → position p rows ≡ None → list_any (λ r. p r && q r) rows ≡ false
-any-and_position_None p q rows none = any-and_none p q rows (list_any-position_None p rows none)

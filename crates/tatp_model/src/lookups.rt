@@ -4,7 +4,7 @@ ghost use Rattle.std.specs.Prelude.{◌≡◌, find, position};
 ghost use Rattle.std.specs.Prelude.{ℕ, ◌<◌, ◌≤◌, length, slice_index_or, All, map, filter};
 ghost use Rattle.std.specs.List.{list_any};
 ghost use Rattle.std.specs.List.Sorted.{IsStrictlyIncreasing};
-ghost use Rattle.tatp_model.specs.Database.{facility_key, call_key, IsCallRow};
+ghost use Rattle.tatp_model.specs.Database.{call_key, IsCallRow};
 ghost use Rattle.tatp_model.specs.Phones.{phones_of};
 ghost use Rattle.tatp_model.specs.Transaction.{is_subscriber, has_phone, is_access, is_facility, is_active_facility, is_call, forwards};
 
@@ -34,18 +34,6 @@ pub(crate) fn index_of_facility(rows: &[FacRow], s_id: u64, sf_type: u64) -> Opt
 {
     rows.iter()
         .position(|r| r.s_id == s_id && r.sf_type == sf_type)
-}
-
-/// The index of the call row with this key.
-pub(crate) fn index_of_call(
-    rows: &[CallRow],
-    s_id: u64,
-    sf_type: u64,
-    start_time: u64,
-) -> Option<usize>
-    ensures { result ≡ position (is_call s_id sf_type start_time) rows.now }
-{
-    rows.iter().position(|r| r.s_id == s_id && r.sf_type == sf_type && r.start_time == start_time)
 }
 
 /// The subscriber with this id.
@@ -84,22 +72,18 @@ pub(crate) fn has_facility(rows: &[FacRow], s_id: u64, sf_type: u64) -> bool
 pub(crate) fn has_call(rows: &[CallRow], s_id: u64, sf_type: u64, start_time: u64) -> bool
     ensures { result ≡ list_any (is_call s_id sf_type start_time) rows.now }
 {
-    index_of_call(rows, s_id, sf_type, start_time).is_some()
+    rows.iter().any(|r| r.s_id == s_id && r.sf_type == sf_type && r.start_time == start_time)
 }
 
 /// Whether the facility with this key is there, and active.
 pub(crate) fn has_active_facility(rows: &[FacRow], s_id: u64, sf_type: u64) -> bool
-    requires { IsStrictlyIncreasing (map facility_key rows.now) }
     ensures { result ≡ list_any (is_active_facility s_id sf_type) rows.now }
 {
-    match index_of_facility(rows, s_id, sf_type) {
-        Some(index) => rows[index].is_active == 1,
-        None => false,
-    }
+    rows.iter().any(|r| r.s_id == s_id && r.sf_type == sf_type && r.is_active == 1)
 }
 
 /// The index at which a call row with this key belongs: that of the first row
-/// with a key that isn't less.
+/// with a key that isn't less, or the end.
 pub(crate) fn index_of_key(rows: &[CallRow], key: u64) -> usize
     requires { All IsCallRow rows.now }
     ensures within { result ≤ length rows.now }

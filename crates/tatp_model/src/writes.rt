@@ -1,10 +1,10 @@
 //! The four requests that may write.
 
-ghost use Rattle.std.specs.Prelude.{◌≡◌, ℕ, IfOk, OnOk, OnErr};
+ghost use Rattle.std.specs.Prelude.{◌≡◌, ℕ, IfOk, OnOk, OnErr, filter, not};
 ghost use Rattle.tatp_model.specs.Database.{database_of, IsInOrder, IsCallRow};
 ghost use Rattle.tatp_model.specs.Request.{IsInRange};
 ghost use Rattle.tatp_model.specs.Transaction as outcomes;
-ghost use Rattle.tatp_model.specs.Transaction.{reply_to, after_request};
+ghost use Rattle.tatp_model.specs.Transaction.{reply_to, after_request, is_call};
 
 use crate::call_row::CallRow;
 use crate::lookups;
@@ -107,7 +107,6 @@ fn insert_row(t: &mut Tables, limit: u64, row: CallRow) -> Result<Reply, AllocEr
 }
 
 pub(crate) fn delete_call(t: &mut Tables, sub_nbr: u64, sf_type: u64, start_time: u64) -> Reply
-    requires { IsInOrder (database_of t.old) }
     ensures reply { (limit : ℕ) → result ≡ reply_to limit (database_of t.old)
         (Request.DeleteCall sub_nbr sf_type start_time) }
     ensures after { (limit : ℕ) → database_of t.new ≡ after_request limit (database_of t.old)
@@ -121,15 +120,19 @@ pub(crate) fn delete_call(t: &mut Tables, sub_nbr: u64, sf_type: u64, start_time
 
 /// Removes a call row, whose subscriber is there.
 fn delete_row(t: &mut Tables, s_id: u64, sf_type: u64, start_time: u64) -> Reply
-    requires { IsInOrder (database_of t.old) }
     ensures reply { result ≡ (outcomes.delete_call (database_of t.old) s_id sf_type start_time).reply }
     ensures after { database_of t.new ≡ (outcomes.delete_call (database_of t.old) s_id sf_type start_time).after }
 {
-    match lookups::index_of_call(&t.calls, s_id, sf_type, start_time) {
-        Some(at) => {
-            t.calls.remove(at);
-            Reply::Changed
-        }
-        None => Reply::Missing,
+    if !lookups::has_call(&t.calls, s_id, sf_type, start_time) {
+        return Reply::Missing;
     }
+    drop_call(&mut t.calls, s_id, sf_type, start_time);
+    Reply::Changed
+}
+
+/// Keeps all rows but the one with this key.
+fn drop_call(rows: &mut Vec<CallRow>, s_id: u64, sf_type: u64, start_time: u64)
+    ensures { rows.new.items ≡ filter (λ r. not (is_call s_id sf_type start_time r)) rows.old.items }
+{
+    rows.retain(|r| !(r.s_id == s_id && r.sf_type == sf_type && r.start_time == start_time));
 }

@@ -1,7 +1,7 @@
 ghost use Rattle.std.specs.Prelude.{◌≡◌};
 
 use crate::callers::take_all;
-use crate::reference::{is_untouched, opening, records_of, POOL, STOPS};
+use crate::reference::{POOL, STOPS, is_untouched, opening, records_of};
 use crate::stopping::Stopping;
 use std::test::Fail;
 use word_space::flat::Flat;
@@ -91,7 +91,11 @@ fn all_records_are_taken(rt: HostRuntime) -> Result<(), Fail> {
 fn a_stop_at_a_read_is_handed_on_and_nothing_is_written(rt: HostRuntime) -> Result<(), Fail> {
     let alloc = rt.alloc();
     for stop in STOPS {
-        for (case, reads) in [(Case::Take(None), 3), (Case::Give(8), 2), (Case::Live(0), 1)] {
+        for (case, reads) in [
+            (Case::Take(None), 3),
+            (Case::Give(8), 2),
+            (Case::Live(0), 1),
+        ] {
             for calls in 0..reads {
                 let mut words = Stopping::new(Flat::new(opening(alloc)?), calls, stop);
                 assert_eq!(rt; holds(&mut words, case), Err(stop));

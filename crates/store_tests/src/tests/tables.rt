@@ -1,7 +1,7 @@
 ghost use Rattle.std.specs.Prelude.{◌≡◌};
 
 use crate::callers::insert_all;
-use crate::reference::{is_untouched, keys_of, opening, two_rows, STOPS, TABLE};
+use crate::reference::{STOPS, TABLE, is_untouched, keys_of, opening, two_rows};
 use crate::stopping::Stopping;
 use hash_table::put::Put;
 use std::test::Fail;

@@ -6,6 +6,7 @@ abbrev pub invariant-pieces : goal.invariant-pieces
 invariant-pieces g l = record {
   within : l.done ≤ length l.bytes;
   took : Took (take l.done l.bytes) (g.K.Sink.sight l.initial.sink) (g.K.Sink.sight l.sink);
+  calm : (g.K.Sink.sight l.sink).faults ≡ (g.K.Sink.sight l.initial.sink).faults;
   same : l.done ≡ 0 → l.sink ≡ l.initial.sink;
 }
 

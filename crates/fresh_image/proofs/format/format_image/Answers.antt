@@ -14,8 +14,8 @@ pub returns-clause-images : goal.returns-clause-images
 returns-clause-images g c =
     let sizes = c.args.sizes.now in
     let rows = (population sizes.subscribers).subscribers in
-    made_keep _ c.make_format.ensures.made (λ visible. format_images sizes.some sizes.limited c.requires.room
-    (length-home_words sizes.subscribers rows (length-population sizes.subscribers)) (c.requires.settled visible))
+    made_keep _ c.make_format.ensures.made (λ visible. format_images sizes.some sizes.limited c.requires
+    (length-home_words sizes.subscribers rows (length-population sizes.subscribers)))
 
 pub returns-clause-rests : goal.returns-clause-rests
 returns-clause-rests g c =
@@ -24,4 +24,4 @@ returns-clause-rests g c =
     let old = state_now (g.M.Medium.sight c.args.m.now) in
     let P : State → Type 0 = AtRestFormatted sizes.subscribers old in
     on_ok c.make_format.result (λ ok visible. subst P (sym (made_here (rw ok at c.make_format.ensures.made) visible))
-    (format_rests sizes.subscribers (home_words sizes.subscribers rows) old (length-home_words sizes.subscribers rows (length-population sizes.subscribers)) (c.requires.settled visible)))
+    (format_rests sizes.subscribers (home_words sizes.subscribers rows) old (length-home_words sizes.subscribers rows (length-population sizes.subscribers))))

@@ -1,4 +1,4 @@
-use Rattle.std.proofs.Common.{None, slice_index, below_more, ◌∙◌, ap}
+use Rattle.std.proofs.Common.{None, arith, slice_index, below_more, ◌∙◌, ap}
 use Rattle.word_space.proofs.Runs.{looked_then, below_looked, shown_looked}
 use Rattle.store_tests.proofs.callers.first_at.Goals as goal
 
@@ -12,3 +12,12 @@ loop-i-preserved g c =
       absent = λ array below. below_more _ _ (before.absent array (below_looked {stop = None} step.reads.looked below))
           (λ same. c.if-branch-key.false (step.value array below ∙ ap (λ words. slice_index words c.loop-i.i) (shown_looked before.looked array) ∙ same));
     }
+
+pub read-requires : goal.read-requires
+read-requires g c = record { inside = omega (arith, c.requires.inside, c.loop-i.invariant.looked.ran.count) }
+
+pub returns-then-branch-key-clause-looked : goal.returns-then-branch-key-clause-looked
+returns-then-branch-key-clause-looked g c = looked_then {stop = None} c.loop-i.invariant.looked c.in_ok-read.ensures.reads.looked
+
+pub returns-clause-looked : goal.returns-clause-looked
+returns-clause-looked g c = c.loop-i.invariant.looked

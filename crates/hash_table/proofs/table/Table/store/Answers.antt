@@ -1,4 +1,4 @@
-use Rattle.std.proofs.Common.{None, arith, ◌+◌, ◌%◌, IfSome, is_some, if◌then◌else◌, sym, subst, ap, ◌∙◌, slice_index}
+use Rattle.std.proofs.Common.{None, arith, IfSome, is_some, if◌then◌else◌, sym, subst, ap, ◌∙◌, slice_index}
 use Rattle.word_space.specs.Sights.{shown}
 use Rattle.word_space.proofs.Runs.{below_back, below_looked, shown_looked}
 use Rattle.record_heap.specs.Changes.{Wrote}

@@ -1,6 +1,6 @@
 use Rattle.std.proofs.Common.{arith, ap, ◌∙◌, ◌+◌, slice_set}
 use Rattle.word_space.proofs.Runs.{below_back, below_looked, shown_looked}
-use Rattle.record_heap.proofs.Calls.{length_shown, most_more, most_read, most_then, most_write, wrote_none, wrote_one, wrote_then}
+use Rattle.record_heap.proofs.Calls.{length_shown, most_more, most_then, most_write, wrote_none, wrote_one, wrote_then}
 use Rattle.record_heap.proofs.Pools.{gives_back}
 use Rattle.record_heap.proofs.pool.Pool.give.Goals as goal
 

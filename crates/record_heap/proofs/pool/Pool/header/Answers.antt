@@ -1,4 +1,4 @@
-use Rattle.record_heap.proofs.Calls.{most_more, most_read, most_then, most_write}
+use Rattle.record_heap.proofs.Calls.{most_more, most_read, most_then}
 use Rattle.std.proofs.Common.{arith}
 use Rattle.record_heap.proofs.pool.Pool.header.Goals as goal
 

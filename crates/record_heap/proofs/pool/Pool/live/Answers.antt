@@ -1,5 +1,4 @@
-use Rattle.record_heap.proofs.Calls.{most_more, most_read, most_then, most_write}
-use Rattle.std.proofs.Common.{arith}
+use Rattle.record_heap.proofs.Calls.{most_read}
 use Rattle.record_heap.proofs.pool.Pool.live.Goals as goal
 
 pub returns-clause-most : goal.returns-clause-most

@@ -1,5 +1,5 @@
 use Rattle.std.proofs.Common.{arith}
-use Rattle.record_heap.proofs.Calls.{most_more, most_read, most_then, most_write, wrote_one, wrote_then}
+use Rattle.record_heap.proofs.Calls.{most_more, most_then, most_write, wrote_one, wrote_then}
 use Rattle.record_heap.proofs.pool.Pool.put_header.Goals as goal
 
 pub returns-clause-wrote : goal.returns-clause-wrote

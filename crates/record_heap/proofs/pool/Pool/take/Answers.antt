@@ -3,7 +3,7 @@ use Rattle.std.proofs.lemmas.Bool.{false≢true}
 use Rattle.word_space.specs.Sights.{shown}
 use Rattle.word_space.proofs.Runs.{below_back, below_looked, shown_looked, looked_then}
 use Rattle.record_heap.specs.Pool.{Takes}
-use Rattle.record_heap.proofs.Calls.{length_shown, most_more, most_read, most_then, most_write}
+use Rattle.record_heap.proofs.Calls.{length_shown, most_more, most_read, most_then}
 use Rattle.record_heap.proofs.Pools.{takes_none, takes_first}
 use Rattle.record_heap.proofs.pool.Pool.take.Goals as goal
 
