@@ -10,8 +10,8 @@ ghost use Rattle.fresh_image.specs.Rows.{home_words};
 ghost use Rattle.fresh_image.specs.FormatCalls.{clear_cells, content_writes, content_lines, header_writes, magic_write, format_calls, RecoversOnceTold, AtRestFormatted};
 
 use crate::population::initial_word;
-use crate::sizes::ImageSizes;
-use dude_base::limits::MAGIC;
+use crate::sizes::{CELLS, ImageSizes};
+use dude_base::limits::{HEADER, LINE, MAGIC, MARK};
 use pmem_trait::{Failed, Medium, settle_group};
 
 /// The words behind the header: zeros for the cells, then the home words.
@@ -20,8 +20,8 @@ fn put_words<M: Medium>(m: &mut M, sizes: &ImageSizes) -> Result<(), Failed>
     ensures len { (M.sight m.new).len ≡ (M.sight m.old).len }
     ensures made { CallsMade (put_pairs (enumerate_from 16 (clear_cells ++ home_words sizes.now.subscribers (population sizes.now.subscribers).subscribers))) (is_ok result) (M.sight m.old) (M.sight m.new) }
 {
-    for place in 16..sizes.words() {
-        m.put(place, initial_word(sizes, place))?;
+    for word in HEADER..sizes.words() {
+        m.put(word, initial_word(sizes, word))?;
     }
     Ok(())
 }
@@ -32,7 +32,7 @@ fn flush_contents<M: Medium>(m: &mut M, sizes: &ImageSizes) -> Result<(), Failed
     ensures len { (M.sight m.new).len ≡ (M.sight m.old).len }
     ensures made { CallsMade (flush_lines (content_lines sizes.now.subscribers)) (is_ok result) (M.sight m.old) (M.sight m.new) }
 {
-    for line in 1..sizes.words() / 8 {
+    for line in 1..sizes.words() / LINE {
         m.flush(line)?;
     }
     Ok(())
@@ -44,7 +44,7 @@ fn put_contents<M: Medium>(m: &mut M, sizes: &ImageSizes) -> Result<(), Failed>
     ensures len { (M.sight m.new).len ≡ (M.sight m.old).len }
     ensures made { CallsMade (group_calls (content_writes (home_words sizes.now.subscribers (population sizes.now.subscribers).subscribers)) (content_lines sizes.now.subscribers)) (is_ok result) (M.sight m.old) (M.sight m.new) }
 {
-    m.put(8, 0)?;
+    m.put(MARK, 0)?;
     put_words(m, sizes)?;
     flush_contents(m, sizes)?;
     m.fence()
@@ -60,7 +60,7 @@ fn put_header<M: Medium>(m: &mut M, sizes: &ImageSizes) -> Result<(), Failed>
         (2, sizes.subscribers),
         (3, 12 * sizes.subscribers),
         (4, 1),
-        (5, 16),
+        (5, CELLS),
         (6, sizes.pages),
         (7, 0),
     ];

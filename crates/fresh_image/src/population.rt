@@ -4,7 +4,8 @@ ghost use Rattle.tatp_model.specs.Population.{population, subscriber_at};
 ghost use Rattle.fresh_image.specs.Rows.{from_digits, row_words, home_words};
 ghost use Rattle.fresh_image.specs.FormatCalls.{clear_cells};
 
-use crate::sizes::ImageSizes;
+use crate::sizes::{HOME_START, ImageSizes};
+use dude_base::limits::HEADER;
 
 /// The number whose digits in a base are `(start + i) % base`, for `count` numbers `i` from `from` on.
 fn number_of_digits(base: u64, start: u64, from: u64, count: u64) -> u64
@@ -50,12 +51,12 @@ fn home_word(sizes: &ImageSizes, place: u64) -> u64
 
 /// The word at a place behind the header of a new image: zeros in the cells, then the home words.
 pub fn initial_word(sizes: &ImageSizes, place: u64) -> u64
-    requires { 16 ≤ place }
-    ensures { result ≡ slice_index (clear_cells ++ home_words sizes.now.subscribers (population sizes.now.subscribers).subscribers) (place - 16) }
+    requires { HEADER ≤ place }
+    ensures { result ≡ slice_index (clear_cells ++ home_words sizes.now.subscribers (population sizes.now.subscribers).subscribers) (place - HEADER) }
 {
-    if place < 144 {
+    if place < HOME_START {
         0
     } else {
-        home_word(sizes, place - 144)
+        home_word(sizes, place - HOME_START)
     }
 }

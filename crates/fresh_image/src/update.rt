@@ -8,7 +8,8 @@ ghost use Rattle.fresh_image.specs.Fresh.{AtRest, fresh_sizes, fresh_length, fre
 ghost use Rattle.fresh_image.specs.Rings.{RingAtRest};
 ghost use Rattle.fresh_image.specs.Calls.{update_record, reproduce_calls, update_calls, RecoversToEither, AtRestFor, AtRestTold};
 
-use crate::sizes::ImageSizes;
+use crate::sizes::{HOME_START, ImageSizes};
+use dude_base::limits::{LINE, MARK};
 use dude_base::redo::Redo;
 use dude_base::write::Write;
 use log_ring::Ring;
@@ -63,9 +64,9 @@ fn reproduce<M: Medium>(
     ensures len { (M.sight m.new).len ≡ (M.sight m.old).len }
     ensures made { CallsMade (reproduce_calls number at value) (is_ok result) (M.sight m.old) (M.sight m.new) }
 {
-    let place = 144 + at;
-    settle_group(m, &[(place, value)], &[place / 8])?;
-    settle_group(m, &[(8, number)], &[1])
+    let word = HOME_START + at;
+    settle_group(m, &[(word, value)], &[word / LINE])?;
+    settle_group(m, &[(MARK, number)], &[MARK / LINE])
 }
 
 // The calls of an update.

@@ -92,12 +92,12 @@ module _ (s : Sizes) (head : Cell) (r : RedoRecord) (is_cell : IsCell s head) (p
       behind (suc n) (p ∷ ps) some = ap (λ k. take k ps) (omega arith)
 
   pub pairs_tag : take 1 pairs ≡ tag_write s head r
-  pairs_tag = front (8 * cells_for (length r.writes)) pairs (omega arith) ∙ ap (λ (l : List (ℕ × ℕ)). take 1 l) (all ∙ record_writes_first s head is_cell r)
+  pairs_tag = first (8 * cells_for (length r.writes)) pairs (omega arith) ∙ ap (λ (l : List (ℕ × ℕ)). take 1 l) (all ∙ record_writes_first s head is_cell r)
     where
-      front : (n : ℕ) (ps : List (ℕ × ℕ)) → 1 ≤ n → take 1 ps ≡ take 1 (take n ps)
-      front zero ps some = absurd (omega arith)
-      front (suc n) [] some = refl
-      front (suc n) (p ∷ ps) some = refl
+      first : (n : ℕ) (ps : List (ℕ × ℕ)) → 1 ≤ n → take 1 ps ≡ take 1 (take n ps)
+      first zero ps some = absurd (omega arith)
+      first (suc n) [] some = refl
+      first (suc n) (p ∷ ps) some = refl
 
 pub lines_tag : (s : Sizes) (head : Cell) (n : ℕ) (lines : List ℕ) → IsCell s head → 1 ≤ n → take n lines ≡ lines_from s head n → take 1 lines ≡ line_of s head ∷ []
 lines_tag s head zero lines is_cell some all = absurd (omega arith)

@@ -22,13 +22,13 @@ word_more f words i v inside before is j below = ⊎_elim
     (cases_eq j i)
 
 -- word j of a head
-pub word_of_head : (s : Sizes) (content : List ℕ) (head : Cell) (front j v : ℕ) → IsCell s head → front ≡ cell_start s head → slice_index content (front + j) ≡ v → word_in_image s content head 0 j ≡ v
-word_of_head s content head front j v is_cell at is = ap (slice_index content) (first_cell s head is_cell j ∙ ap (λ x. x + j) (sym at)) ∙ is
+pub word_of_head : (s : Sizes) (content : List ℕ) (head : Cell) (start j v : ℕ) → IsCell s head → start ≡ cell_start s head → slice_index content (start + j) ≡ v → word_in_image s content head 0 j ≡ v
+word_of_head s content head start j v is_cell at is = ap (slice_index content) (first_cell s head is_cell j ∙ ap (λ x. x + j) (sym at)) ∙ is
 
 -- the head of a number over this one, by its tag
-pub new_head : (s : Sizes) (above : ℕ) (content : List ℕ) (head : Cell) (front tag : ℕ) → IsCell s head → front ≡ cell_start s head → slice_index content front ≡ tag
+pub new_head : (s : Sizes) (above : ℕ) (content : List ℕ) (head : Cell) (start tag : ℕ) → IsCell s head → start ≡ cell_start s head → slice_index content start ≡ tag
     → tag / 2 ^ 62 ≡ 1 → above < tag % 2 ^ 62 → IsNewHead s above content head
-new_head s above content head front tag is_cell at is kind over =
+new_head s above content head start tag is_cell at is kind over =
     let tag_is : tag_of s content head ≡ tag = ap (slice_index content) (sym at) ∙ is in
     record { cell = is_cell; new = subst (IsHeadOver above) (sym tag_is) (record { kind = kind; over = over }) }
 

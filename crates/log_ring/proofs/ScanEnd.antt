@@ -40,7 +40,7 @@ module _ (s : Sizes) (above : ℕ) (image : List ℕ) (found : ScanState) (knows
   -- every cell was looked at
   below : (cell : Cell) → IsCell s cell → line_of s cell < 2 + s.rings * s.cells
   below cell is_cell =
-      let place = is_cell.slot_is in
+      let slot = is_cell.slot_is in
       let ring = is_cell.ring_is in
       let rings : (cell.ring + 1) * s.cells ≤ s.rings * s.cells = mul-le-mul_right s.cells (omega arith) in
       omega arith
@@ -73,7 +73,7 @@ module _ (s : Sizes) (above : ℕ) (image : List ℕ) (found : ScanState) (knows
         by head other a b same (inr (inl lt)) = absurd (no_duplicate other (record { head = b; other = head; other_head = a; lower = lt; same_number = same }))
         by head other a b same (inr (inr gt)) = absurd (no_duplicate head (record { head = a; other = other; other_head = b; lower = gt; same_number = sym same }))
 
-    -- the record at each place, and its head
+    -- the record at each index, and its head
     entry : (i : ℕ) (d : ℕ × RedoRecord) → i < length found.records.entries → get nat_cmp found.records (get_or found.records.entries i d).0 ≡ Some (get_or found.records.entries i d).1
     entry i d lt = btree_map_get_place nat_cmp_total found.records i _ _ ordered (slice_get-get_or found.records.entries i d lt)
 

@@ -22,7 +22,7 @@ use Rattle.log_ring.specs.Scanning.{TakesRecord, KnowsBelow}
 -- a cell of a lower ring stands at a lower line
 lower_ring : (s : Sizes) (a b : Cell) → IsCell s a → a.ring < b.ring → line_of s a < line_of s b
 lower_ring s a b is_cell lt =
-    let place = is_cell.slot_is in
+    let slot = is_cell.slot_is in
     let rings : (a.ring + 1) * s.cells ≤ b.ring * s.cells = mul-le-mul_right s.cells (omega arith) in
     omega arith
 

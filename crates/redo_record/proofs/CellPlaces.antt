@@ -9,7 +9,7 @@ use Rattle.pmem_trait.specs.Words.{IsIn}
 use Rattle.redo_record.specs.Cells.{IsCell, cell_after, line_of, word_at}
 use Rattle.redo_record.specs.Calls.{lines_from}
 
--- k places on, in a ring of c places
+-- k slots on, in a ring of c cells
 pub wrapped : (c p k : ℕ) → p < c → k ≤ c → ((p + k < c) × ((p + k) % c ≡ p + k)) ⊎ ((c ≤ p + k) × ((p + k) % c + c ≡ p + k))
 wrapped c p k below few = ⊎_elim
     (λ (lt : p + k < c). inl (lt, mod-eq_of_lt lt))
@@ -19,7 +19,7 @@ wrapped c p k below few = ⊎_elim
     inr (over, omega arith))
     (cases_lt (p + k) c)
 
--- different steps lead to different places
+-- different steps lead to different slots
 pub steps_same : (c p i k : ℕ) → p < c → i < c → k < c → (p + i) % c ≡ (p + k) % c → i ≡ k
 steps_same c p i k below a b same = by (wrapped c p i below (omega arith)) (wrapped c p k below (omega arith))
   where
@@ -30,11 +30,11 @@ steps_same c p i k below a b same = by (wrapped c p i below (omega arith)) (wrap
     by (inr u) (inl v) = let first = u.1 in let second = v.1 in omega arith
     by (inr u) (inr v) = let first = u.1 in let second = v.1 in omega arith
 
--- some places on, and then some more
+-- some slots on, and then some more
 pub steps_more : (c p i k : ℕ) → ((p + i) % c + k) % c ≡ (p + (i + k)) % c
 steps_more c p i k = mod-add-mod (p + i) c k ∙ ap (λ x. x % c) (omega arith)
 
--- a place is one of the n from p on, or none of them
+-- a slot is one of the n from p on, or none of them
 pub among : (c p x n : ℕ) → ((k : ℕ) × (k < n) × (x ≡ (p + k) % c)) ⊎ ((k : ℕ) → k < n → x ≡ (p + k) % c → ⊥)
 among c p x zero = inr (λ k lt is. omega arith)
 among c p x (suc n) = ⊎_elim
@@ -48,7 +48,7 @@ among c p x (suc n) = ⊎_elim
     (cases_eq x ((p + n) % c)))
     (among c p x n)
 
--- words at the same place are the same word of the same cell
+-- words with one number are the same word of the same cell
 pub words_same : (base x y j m : ℕ) → j < 8 → m < 8 → 16 + (base + x) * 8 + j ≡ 16 + (base + y) * 8 + m → (x ≡ y) × (j ≡ m)
 words_same base x y j m a b same = (omega arith, omega arith)
 

@@ -24,18 +24,18 @@ slice_continues words count k head slice low high =
     (omega arith, next.same_index)
 
 module _ (cells : ℕ → ℕ → ℕ) where
-  -- one write more, of a new place
+  -- one write more, of a new word
   pub read_more : (i : ℕ) (ws : List Write) (w : Write) → ws ≡ map (write_of cells) (range_with_len 0 i) → HasDistinctPlaces ws → w ≡ write_of cells i → written ws w.at ≡ None
       → (put_write ws w ≡ map (write_of cells) (range_with_len 0 (i + 1))) × HasDistinctPlaces (put_write ws w)
-  read_more i ws w front distinct is new =
+  read_more i ws w before distinct is new =
       let absent = absent_written ws w.at new in
       let put : put_write ws w ≡ ws ++ w ∷ [] = put_absent ws w absent in
       let whole : ws ++ w ∷ [] ≡ map (write_of cells) (range_with_len 0 (i + 1)) =
-      ap (λ (l : List Write). l ++ w ∷ []) front ∙ (ap (λ (v : Write). map (write_of cells) (range_with_len 0 i) ++ v ∷ []) is
+      ap (λ (l : List Write). l ++ w ∷ []) before ∙ (ap (λ (v : Write). map (write_of cells) (range_with_len 0 i) ++ v ∷ []) is
       ∙ sym (map-range_with_len_more (write_of cells) 0 i i (omega arith))) in
       (put ∙ whole, subst HasDistinctPlaces (sym put) (all_pairs_push (λ v u. v.at ≢ u.at) ws w distinct absent))
 
-  -- a place that was read before isn't distinct
+  -- a word that was read before isn't distinct
   pub read_twice : (count i : ℕ) (w : Write) → HasDistinctPlaces (map (write_of cells) (range_with_len 0 count)) → i < count → w ≡ write_of cells i
       → is_some (written (map (write_of cells) (range_with_len 0 i)) w.at) ≡ true → ⊥
   read_twice count i w distinct lt is there =
@@ -48,9 +48,9 @@ module _ (cells : ℕ → ℕ → ℕ) where
       other : All (λ v. v.at ≢ w.at) (map (write_of cells) (range_with_len 0 i))
       other j d below same =
           let before : j < i = omega (arith, length-map-range_with_len (write_of cells) 0 i) in
-          let front : get_or (map (write_of cells) (range_with_len 0 i)) j d ≡ write_of cells j = get_or-map-range_with_len (write_of cells) 0 i j j d before (omega arith) in
+          let prefix : get_or (map (write_of cells) (range_with_len 0 i)) j d ≡ write_of cells j = get_or-map-range_with_len (write_of cells) 0 i j j d before (omega arith) in
           distinct j i d before (omega (arith, length-map-range_with_len (write_of cells) 0 count))
-          (ap (λ (v : Write). v.at) (at_all j d (omega arith) ∙ sym front) ∙ (same ∙ ap (λ (v : Write). v.at) (is ∙ sym (at_all i d lt))))
+          (ap (λ (v : Write). v.at) (at_all j d (omega arith) ∙ sym prefix) ∙ (same ∙ ap (λ (v : Write). v.at) (is ∙ sym (at_all i d lt))))
 
 -- the slice is that of a record, whose writes these are
 pub slice_is_record : (words : List ℕ) (count : ℕ) → HasHeadFor words count → Continues words (cells_for count)

@@ -14,7 +14,7 @@ use Rattle.redo_record.specs.Images.{mark_of, tag_of, word_in_image, IsComplete,
 use Rattle.redo_record.specs.Fits.{Logged, HasHead, IsIntact, FitsRing, AreFree, settled_mark}
 use Rattle.redo_record.specs.Calls.{append_calls}
 
--- The record may be laid into the cells from this one on: they are free, and its places are home words.
+-- The record may be laid into the cells from this one on: they are free, and its writes are of home words.
 pub record CanAppend (s : Sizes) (mark : ℕ) (logged : List Logged) (head : Cell) (r : RedoRecord) : Type 0 where
   pub sizes : IsAccepted s
   pub cell : IsCell s head

@@ -17,7 +17,7 @@ pub record IsEncodable (r : RedoRecord) : Type 0 where
 abbrev pub write_or_zeros : List Write → ℕ → Write
 write_or_zeros ws i = slice_index_or ws i (record { at = 0; value = 0 })
 
--- three writes from write i on, each its place and its value
+-- three writes from write i on, each its word and its value
 abbrev pub three_writes : List Write → ℕ → List ℕ
 three_writes ws i =
     (write_or_zeros ws i).at ∷ (write_or_zeros ws i).value

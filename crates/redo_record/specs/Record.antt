@@ -2,7 +2,7 @@
 -- head being cell 0.
 --
 --     cell                      word 0           word 1                      words 2 to 7
---     head                      head tag         count of writes, 0 to 24    writes 0 to 2, each a place and a value
+--     head                      head tag         count of writes, 0 to 24    writes 0 to 2, each a word and a value
 --     continuation k, from 1    continuation tag k                           writes 3 k to 3 k + 2
 use Rattle.std.specs.Prelude.{◌≡◌, ℕ, ◌+◌, ◌*◌, ◌/◌, ◌%◌, ◌<◌, ◌≤◌, max, List, map, All}
 use Rattle.std.specs.List.{range_with_len}
@@ -38,7 +38,7 @@ pub record IsContinuation (number index : ℕ) (words : ℕ → ℕ) : Type 0 wh
   pub same_index : words 1 ≡ index
 
 -- The cells hold a record: a head with a number and a count, each continuation that the count needs, and writes of
--- distinct places.
+-- distinct words.
 pub record HoldRecord (cells : ℕ → ℕ → ℕ) : Type 0 where
   pub head : kind_of (cells 0 0) ≡ 1
   pub number : IsNumber (number_of (cells 0 0))

@@ -17,8 +17,8 @@ use dude_base::write_list::WriteList;
 /// Reads a record from its cells, 8 words each.
 ///
 /// The first cell has to be the head of a number from 1 to `MAX_NUMBER` with at most `MAX_WRITES` writes of distinct
-/// places, and the others just the continuations that these writes need. Whether the places are home words isn't looked
-/// at, and pairs that hold no write aren't read.
+/// words, and the others just the continuations that these writes need. Whether these are home words isn't looked at,
+/// and pairs that hold no write aren't read.
 pub fn decode(cells: &[u64]) -> Result<Redo, BadRecord>
     ensures ok { IfOk result (λ r. IsRecordSlice cells.now × (r ≡ record_of (word_in_slice cells.now))) }
     ensures bad { OnErr result (¬ IsRecordSlice cells.now) }
@@ -70,7 +70,7 @@ fn check_continuations(cells: &[u64], count: u64) -> Result<(), BadRecord>
     Ok(())
 }
 
-// The writes, where their places differ.
+// The writes, where their words differ.
 fn read_writes(cells: &[u64], count: u64) -> Result<WriteList, BadRecord>
     requires { HasHeadFor cells.now count }
     ensures ok { IfOk result (λ ws. (ws ≡ map (write_of (word_in_slice cells.now)) (range_with_len 0 count)) × HasDistinctPlaces ws) }

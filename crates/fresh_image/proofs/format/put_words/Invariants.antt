@@ -7,8 +7,8 @@ use Rattle.fresh_image.specs.Rows.{home_words}
 use Rattle.fresh_image.specs.FormatCalls.{clear_cells}
 use Rattle.fresh_image.proofs.format.put_words.Given as goal
 
-abbrev pub invariant-loop-place : goal.invariant-loop-place
-invariant-loop-place g l = record {
+abbrev pub invariant-loop-word : goal.invariant-loop-word
+invariant-loop-word g l = record {
   len : (g.M.Medium.sight l.m).len ≡ (g.M.Medium.sight l.initial.m).len;
-  made : CallsMade (take (l.place - 16) (put_pairs (enumerate_from 16 (clear_cells ++ home_words l.sizes.subscribers (population l.sizes.subscribers).subscribers)))) true (g.M.Medium.sight l.initial.m) (g.M.Medium.sight l.m);
+  made : CallsMade (take (l.word - 16) (put_pairs (enumerate_from 16 (clear_cells ++ home_words l.sizes.subscribers (population l.sizes.subscribers).subscribers)))) true (g.M.Medium.sight l.initial.m) (g.M.Medium.sight l.m);
 }
