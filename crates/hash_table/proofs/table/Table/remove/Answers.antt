@@ -1,4 +1,5 @@
 use Rattle.std.proofs.Common.{◌<◌, None, IfSome, arith, subst, sym}
+use Rattle.std.proofs.lemmas.Result.{IfOk-from_err}
 use Rattle.record_heap.specs.Pool.{IsRecord}
 use Rattle.hash_table.specs.Table.{FitsTable}
 use Rattle.hash_table.specs.declared.table.ChainPosition.{ChainPosition}
@@ -43,3 +44,21 @@ unlink-requires g c = record {
   «record» = subst (λ o. IfSome o (λ (p : ChainPosition). IsRecord c.args.self.now.pool p.record)) c.in-Some.is c.in_ok-position.ensures.record;
   link = omega (arith, subst (λ o. IfSome o (λ (p : ChainPosition). p.link < (g.W.Words.sight c.args.w.now).count)) c.in-Some.is c.in_ok-position.ensures.link, c.in_ok-position.ensures.looked.ran.count);
 }
+
+pub returns-in_err-position-clause-wrote : goal.returns-in_err-position-clause-wrote
+returns-in_err-position-clause-wrote g c = IfOk-from_err _ _ c.from_residual.ensures.0
+
+pub returns-in_err-position-clause-finds : goal.returns-in_err-position-clause-finds
+returns-in_err-position-clause-finds g c = IfOk-from_err _ _ c.from_residual.ensures.0
+
+pub returns-in_err-position-clause-removes : goal.returns-in_err-position-clause-removes
+returns-in_err-position-clause-removes g c = IfOk-from_err _ _ c.from_residual.ensures.0
+
+pub returns-in_err-unlink-clause-wrote : goal.returns-in_err-unlink-clause-wrote
+returns-in_err-unlink-clause-wrote g c = IfOk-from_err _ _ c.from_residual-in_err-unlink.ensures.0
+
+pub returns-in_err-unlink-clause-finds : goal.returns-in_err-unlink-clause-finds
+returns-in_err-unlink-clause-finds g c = IfOk-from_err _ _ c.from_residual-in_err-unlink.ensures.0
+
+pub returns-in_err-unlink-clause-removes : goal.returns-in_err-unlink-clause-removes
+returns-in_err-unlink-clause-removes g c = IfOk-from_err _ _ c.from_residual-in_err-unlink.ensures.0

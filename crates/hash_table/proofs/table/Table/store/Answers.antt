@@ -1,4 +1,5 @@
 use Rattle.std.proofs.Common.{None, arith, IfSome, is_some, if◌then◌else◌, sym, subst, ap, ◌∙◌, slice_index}
+use Rattle.std.proofs.lemmas.Result.{IfOk-from_err}
 use Rattle.word_space.specs.Sights.{shown}
 use Rattle.word_space.proofs.Runs.{below_back, below_looked, shown_looked}
 use Rattle.record_heap.specs.Changes.{Wrote}
@@ -67,3 +68,39 @@ take-requires g c = record { fits = subst (FitsPool c.args.self.now.pool) (sym c
 
 pub push_front-requires-clause-fits : goal.push_front-requires-clause-fits
 push_front-requires-clause-fits g c = subst (FitsTable c.args.self.now) (sym (c.in_ok-at.ensures.ran.count ∙ c.in_ok-head.ensures.reads.looked.ran.count)) c.requires.fits
+
+pub returns-in_err-head-clause-wrote : goal.returns-in_err-head-clause-wrote
+returns-in_err-head-clause-wrote g c = IfOk-from_err _ _ c.from_residual.ensures.0
+
+pub returns-in_err-head-clause-puts : goal.returns-in_err-head-clause-puts
+returns-in_err-head-clause-puts g c = IfOk-from_err _ _ c.from_residual.ensures.0
+
+pub returns-in_err-head-clause-record : goal.returns-in_err-head-clause-record
+returns-in_err-head-clause-record g c = IfOk-from_err _ _ c.from_residual.ensures.0
+
+pub returns-in_err-head-clause-inserts : goal.returns-in_err-head-clause-inserts
+returns-in_err-head-clause-inserts g c = IfOk-from_err _ _ c.from_residual.ensures.0
+
+pub returns-in_err-at-clause-wrote : goal.returns-in_err-at-clause-wrote
+returns-in_err-at-clause-wrote g c = IfOk-from_err _ _ c.from_residual-in_err-at.ensures.0
+
+pub returns-in_err-at-clause-puts : goal.returns-in_err-at-clause-puts
+returns-in_err-at-clause-puts g c = IfOk-from_err _ _ c.from_residual-in_err-at.ensures.0
+
+pub returns-in_err-at-clause-record : goal.returns-in_err-at-clause-record
+returns-in_err-at-clause-record g c = IfOk-from_err _ _ c.from_residual-in_err-at.ensures.0
+
+pub returns-in_err-at-clause-inserts : goal.returns-in_err-at-clause-inserts
+returns-in_err-at-clause-inserts g c = IfOk-from_err _ _ c.from_residual-in_err-at.ensures.0
+
+pub returns-in_err-push_front-clause-wrote : goal.returns-in_err-push_front-clause-wrote
+returns-in_err-push_front-clause-wrote g c = IfOk-from_err _ _ c.from_residual-in_err-push_front.ensures.0
+
+pub returns-in_err-push_front-clause-puts : goal.returns-in_err-push_front-clause-puts
+returns-in_err-push_front-clause-puts g c = IfOk-from_err _ _ c.from_residual-in_err-push_front.ensures.0
+
+pub returns-in_err-push_front-clause-record : goal.returns-in_err-push_front-clause-record
+returns-in_err-push_front-clause-record g c = IfOk-from_err _ _ c.from_residual-in_err-push_front.ensures.0
+
+pub returns-in_err-push_front-clause-inserts : goal.returns-in_err-push_front-clause-inserts
+returns-in_err-push_front-clause-inserts g c = IfOk-from_err _ _ c.from_residual-in_err-push_front.ensures.0

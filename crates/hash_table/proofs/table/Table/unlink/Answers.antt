@@ -1,4 +1,5 @@
 use Rattle.std.proofs.Common.{None, arith, sym, subst}
+use Rattle.std.proofs.lemmas.Result.{IfOk-from_err}
 use Rattle.word_space.specs.Sights.{shown}
 use Rattle.word_space.proofs.Runs.{below_back, below_looked, shown_looked}
 use Rattle.record_heap.specs.Pool.{FitsPool, Gives, IsPool}
@@ -52,3 +53,21 @@ give-requires-clause-fits g c = subst (FitsPool c.args.self.now.pool) (sym c.in_
 
 pub write-requires : goal.write-requires
 write-requires g c = record { inside = omega (arith, c.requires.link, c.in_ok-next.ensures.reads.looked.ran.count, c.in_ok-give.ensures.ran.count) }
+
+pub returns-in_err-next-clause-wrote : goal.returns-in_err-next-clause-wrote
+returns-in_err-next-clause-wrote g c = IfOk-from_err _ _ c.from_residual.ensures.0
+
+pub returns-in_err-next-clause-drops : goal.returns-in_err-next-clause-drops
+returns-in_err-next-clause-drops g c = IfOk-from_err _ _ c.from_residual.ensures.0
+
+pub returns-in_err-give-clause-wrote : goal.returns-in_err-give-clause-wrote
+returns-in_err-give-clause-wrote g c = IfOk-from_err _ _ c.from_residual-in_err-give.ensures.0
+
+pub returns-in_err-give-clause-drops : goal.returns-in_err-give-clause-drops
+returns-in_err-give-clause-drops g c = IfOk-from_err _ _ c.from_residual-in_err-give.ensures.0
+
+pub returns-in_err-write-clause-wrote : goal.returns-in_err-write-clause-wrote
+returns-in_err-write-clause-wrote g c = IfOk-from_err _ _ c.from_residual-in_err-write.ensures.0
+
+pub returns-in_err-write-clause-drops : goal.returns-in_err-write-clause-drops
+returns-in_err-write-clause-drops g c = IfOk-from_err _ _ c.from_residual-in_err-write.ensures.0
