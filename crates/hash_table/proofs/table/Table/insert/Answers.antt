@@ -1,5 +1,5 @@
 use Rattle.std.proofs.Common.{None, subst, sym}
-use Rattle.std.proofs.lemmas.Result.{IfOk-weaker}
+use Rattle.std.proofs.lemmas.Result.{IfOk-from_err, IfOk-weaker}
 use Rattle.word_space.specs.Sights.{shown}
 use Rattle.word_space.proofs.Runs.{below_back, shown_looked}
 use Rattle.record_heap.proofs.Calls.{most_then}
@@ -37,3 +37,15 @@ returns-in-None-clause-inserts g c = IfOk-weaker c.store.result _ _ (λ put inse
 
 pub store-requires : goal.store-requires
 store-requires g c = record { fits = subst (FitsTable c.args.self.now) (sym c.in_ok-position.ensures.looked.ran.count) c.requires.fits }
+
+pub returns-in_err-position-clause-wrote : goal.returns-in_err-position-clause-wrote
+returns-in_err-position-clause-wrote g c = IfOk-from_err _ _ c.from_residual.ensures.0
+
+pub returns-in_err-position-clause-puts : goal.returns-in_err-position-clause-puts
+returns-in_err-position-clause-puts g c = IfOk-from_err _ _ c.from_residual.ensures.0
+
+pub returns-in_err-position-clause-record : goal.returns-in_err-position-clause-record
+returns-in_err-position-clause-record g c = IfOk-from_err _ _ c.from_residual.ensures.0
+
+pub returns-in_err-position-clause-inserts : goal.returns-in_err-position-clause-inserts
+returns-in_err-position-clause-inserts g c = IfOk-from_err _ _ c.from_residual.ensures.0

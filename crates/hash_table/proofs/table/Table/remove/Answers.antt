@@ -1,9 +1,10 @@
 use Rattle.std.proofs.Common.{◌<◌, None, IfSome, arith, subst, sym}
+use Rattle.std.proofs.lemmas.Result.{IfOk-from_err}
 use Rattle.record_heap.specs.Pool.{IsRecord}
 use Rattle.hash_table.specs.Table.{FitsTable}
 use Rattle.hash_table.specs.declared.table.ChainPosition.{ChainPosition}
-use Rattle.word_space.proofs.Runs.{below_back, shown_looked}
-use Rattle.record_heap.proofs.Calls.{most_more, most_then}
+use Rattle.word_space.proofs.Runs.{below_back, shown_looked, ran_then}
+use Rattle.record_heap.proofs.Calls.{most_more, most_then, wrote_none, wrote_then}
 use Rattle.hash_table.proofs.Insertions.{found_first}
 use Rattle.hash_table.proofs.Removals.{drops_there}
 use Rattle.hash_table.proofs.Walks.{finds_none, finds_some}
@@ -43,3 +44,51 @@ unlink-requires g c = record {
   «record» = subst (λ o. IfSome o (λ (p : ChainPosition). IsRecord c.args.self.now.pool p.record)) c.in-Some.is c.in_ok-position.ensures.record;
   link = omega (arith, subst (λ o. IfSome o (λ (p : ChainPosition). p.link < (g.W.Words.sight c.args.w.now).count)) c.in-Some.is c.in_ok-position.ensures.link, c.in_ok-position.ensures.looked.ran.count);
 }
+
+pub returns-in_err-position-clause-wrote : goal.returns-in_err-position-clause-wrote
+returns-in_err-position-clause-wrote g c = IfOk-from_err _ _ c.from_residual.ensures.0
+
+pub returns-in_err-position-clause-finds : goal.returns-in_err-position-clause-finds
+returns-in_err-position-clause-finds g c = IfOk-from_err _ _ c.from_residual.ensures.0
+
+pub returns-in_err-position-clause-removes : goal.returns-in_err-position-clause-removes
+returns-in_err-position-clause-removes g c = IfOk-from_err _ _ c.from_residual.ensures.0
+
+pub returns-in_err-unlink-clause-wrote : goal.returns-in_err-unlink-clause-wrote
+returns-in_err-unlink-clause-wrote g c = IfOk-from_err _ _ c.from_residual-in_err-unlink.ensures.0
+
+pub returns-in_err-unlink-clause-finds : goal.returns-in_err-unlink-clause-finds
+returns-in_err-unlink-clause-finds g c = IfOk-from_err _ _ c.from_residual-in_err-unlink.ensures.0
+
+pub returns-in_err-unlink-clause-removes : goal.returns-in_err-unlink-clause-removes
+returns-in_err-unlink-clause-removes g c = IfOk-from_err _ _ c.from_residual-in_err-unlink.ensures.0
+
+pub returns-in_err-position-clause-turns : goal.returns-in_err-position-clause-turns
+returns-in_err-position-clause-turns g c = λ x led. c.in_err-position.ensures.turns x led
+
+pub returns-in_default-clause-turns : goal.returns-in_default-clause-turns
+returns-in_default-clause-turns g c = λ x led. c.in_ok-position.ensures.turns x led
+
+pub returns-in_err-unlink-clause-turns : goal.returns-in_err-unlink-clause-turns
+returns-in_err-unlink-clause-turns g c = λ x led. c.in_err-unlink.ensures.turns x (c.in_ok-position.ensures.turns x led)
+
+pub returns-clause-turns : goal.returns-clause-turns
+returns-clause-turns g c = λ x led. c.in_ok-unlink.ensures.turns x (c.in_ok-position.ensures.turns x led)
+
+pub returns-in_default-clause-ran : goal.returns-in_default-clause-ran
+returns-in_default-clause-ran g c = c.in_ok-position.ensures.looked.ran
+
+pub returns-clause-ran : goal.returns-clause-ran
+returns-clause-ran g c = ran_then {stop = None} c.in_ok-position.ensures.looked.ran c.in_ok-unlink.ensures.ran
+
+pub returns-in_default-clause-wrote : goal.returns-in_default-clause-wrote
+returns-in_default-clause-wrote g c = wrote_none c.in_ok-position.ensures.looked
+
+pub returns-clause-wrote : goal.returns-clause-wrote
+returns-clause-wrote g c = wrote_then (wrote_none c.in_ok-position.ensures.looked) c.in_ok-unlink.ensures.wrote
+
+pub returns-in_err-position-clause-most : goal.returns-in_err-position-clause-most
+returns-in_err-position-clause-most g c = most_more _ 4 c.in_err-position.ensures.most (omega arith) (omega arith)
+
+pub returns-in_default-clause-most : goal.returns-in_default-clause-most
+returns-in_default-clause-most g c = most_more _ 4 c.in_ok-position.ensures.most (omega arith) (omega arith)

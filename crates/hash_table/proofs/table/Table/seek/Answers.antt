@@ -1,5 +1,6 @@
 use Rattle.std.proofs.Common.{None, Ok, arith, sym, ap, ◌∙◌, slice_index}
 use Rattle.std.proofs.lemmas.Bool.{false≢true}
+use Rattle.std.proofs.lemmas.Result.{IfOk-from_err}
 use Rattle.word_space.proofs.Runs.{looked_here, looked_then, below_looked, shown_looked}
 use Rattle.record_heap.proofs.Calls.{most_more, most_none, most_read, most_then}
 use Rattle.hash_table.specs.declared.table.ChainPosition.{ChainPosition}
@@ -93,3 +94,21 @@ returns-then-branch-key-clause-looked g c = looked_then {stop = None} c.loop.inv
 
 pub returns-clause-most : goal.returns-clause-most
 returns-clause-most g c = most_more _ 0 c.loop.invariant.most (omega arith) (omega arith)
+
+pub returns-in_err-record-clause-record : goal.returns-in_err-record-clause-record
+returns-in_err-record-clause-record g c = IfOk-from_err _ _ c.from_residual.ensures.0
+
+pub returns-in_err-record-clause-link : goal.returns-in_err-record-clause-link
+returns-in_err-record-clause-link g c = IfOk-from_err _ _ c.from_residual.ensures.0
+
+pub returns-in_err-record-clause-seeks : goal.returns-in_err-record-clause-seeks
+returns-in_err-record-clause-seeks g c = IfOk-from_err _ _ c.from_residual.ensures.0
+
+pub returns-in_err-read-clause-record : goal.returns-in_err-read-clause-record
+returns-in_err-read-clause-record g c = IfOk-from_err _ _ c.from_residual-in_err-read.ensures.0
+
+pub returns-in_err-read-clause-link : goal.returns-in_err-read-clause-link
+returns-in_err-read-clause-link g c = IfOk-from_err _ _ c.from_residual-in_err-read.ensures.0
+
+pub returns-in_err-read-clause-seeks : goal.returns-in_err-read-clause-seeks
+returns-in_err-read-clause-seeks g c = IfOk-from_err _ _ c.from_residual-in_err-read.ensures.0

@@ -1,6 +1,7 @@
 use Rattle.std.proofs.Common.{None, arith, sym, subst}
+use Rattle.std.proofs.lemmas.Result.{IfOk-from_err}
 use Rattle.word_space.specs.Sights.{shown}
-use Rattle.word_space.proofs.Runs.{below_back, below_looked, shown_looked}
+use Rattle.word_space.proofs.Runs.{below_back, below_looked, shown_looked, ran_then}
 use Rattle.record_heap.specs.Pool.{FitsPool, Gives, IsPool}
 use Rattle.record_heap.proofs.Calls.{length_shown, most_more, most_read, most_then, most_write, wrote_none, wrote_one, wrote_then}
 use Rattle.hash_table.specs.Table.{records_in}
@@ -52,3 +53,39 @@ give-requires-clause-fits g c = subst (FitsPool c.args.self.now.pool) (sym c.in_
 
 pub write-requires : goal.write-requires
 write-requires g c = record { inside = omega (arith, c.requires.link, c.in_ok-next.ensures.reads.looked.ran.count, c.in_ok-give.ensures.ran.count) }
+
+pub returns-in_err-next-clause-wrote : goal.returns-in_err-next-clause-wrote
+returns-in_err-next-clause-wrote g c = IfOk-from_err _ _ c.from_residual.ensures.0
+
+pub returns-in_err-next-clause-drops : goal.returns-in_err-next-clause-drops
+returns-in_err-next-clause-drops g c = IfOk-from_err _ _ c.from_residual.ensures.0
+
+pub returns-in_err-give-clause-wrote : goal.returns-in_err-give-clause-wrote
+returns-in_err-give-clause-wrote g c = IfOk-from_err _ _ c.from_residual-in_err-give.ensures.0
+
+pub returns-in_err-give-clause-drops : goal.returns-in_err-give-clause-drops
+returns-in_err-give-clause-drops g c = IfOk-from_err _ _ c.from_residual-in_err-give.ensures.0
+
+pub returns-in_err-write-clause-wrote : goal.returns-in_err-write-clause-wrote
+returns-in_err-write-clause-wrote g c = IfOk-from_err _ _ c.from_residual-in_err-write.ensures.0
+
+pub returns-in_err-write-clause-drops : goal.returns-in_err-write-clause-drops
+returns-in_err-write-clause-drops g c = IfOk-from_err _ _ c.from_residual-in_err-write.ensures.0
+
+pub returns-in_err-next-clause-turns : goal.returns-in_err-next-clause-turns
+returns-in_err-next-clause-turns g c = λ x led. c.in_err-next.ensures.turns x led
+
+pub returns-in_err-give-clause-turns : goal.returns-in_err-give-clause-turns
+returns-in_err-give-clause-turns g c = λ x led. c.in_err-give.ensures.turns x (c.in_ok-next.ensures.turns x led)
+
+pub returns-in_err-write-clause-turns : goal.returns-in_err-write-clause-turns
+returns-in_err-write-clause-turns g c = λ x led. c.in_err-write.ensures.turns x (c.in_ok-give.ensures.turns x (c.in_ok-next.ensures.turns x led))
+
+pub returns-clause-turns : goal.returns-clause-turns
+returns-clause-turns g c = λ x led. c.in_ok-write.ensures.turns x (c.in_ok-give.ensures.turns x (c.in_ok-next.ensures.turns x led))
+
+pub returns-clause-ran : goal.returns-clause-ran
+returns-clause-ran g c = ran_then {stop = None} (ran_then {stop = None} c.in_ok-next.ensures.reads.looked.ran c.in_ok-give.ensures.ran) c.in_ok-write.ensures.writes.ran
+
+pub give-requires-clause-record : goal.give-requires-clause-record
+give-requires-clause-record g c = c.requires.record
