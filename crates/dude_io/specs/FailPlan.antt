@@ -9,8 +9,8 @@ abbrev pub next_call : FailPlan → ℕ
 next_call plan = up_to_last (plan.made + 1)
 
 -- the next call is one of those that are to fail
-abbrev pub is_to_fail : FailPlan → Bool
-is_to_fail plan = list_any (λ number. number == next_call plan) plan.fail.items
+abbrev pub is_next_to_fail : FailPlan → Bool
+is_next_to_fail plan = list_any (λ number. number == next_call plan) plan.fail.items
 
 -- one call was counted, and the plan stays
 pub record CountsCall (old new : FailPlan) : Type 0 where

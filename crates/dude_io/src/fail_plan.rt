@@ -16,7 +16,7 @@ pub struct FailPlan {
 impl FailPlan {
     ghost use Rattle.std.specs.Prelude.{◌≡◌, ◌+◌, ◌≤◌, if◌then◌else◌};
     ghost use Rattle.pmem_trait.specs.Faults.{up_to_last};
-    ghost use Rattle.dude_io.specs.FailPlan.{is_to_fail, next_call};
+    ghost use Rattle.dude_io.specs.FailPlan.{is_next_to_fail, next_call};
 
     pub(crate) fn new(fail: Vec<u64>, chunk: u64) -> Self
         requires { 1 ≤ chunk }
@@ -35,7 +35,7 @@ impl FailPlan {
 
     /// Counts a call, and says whether the plan fails it; then a fault is counted too.
     pub(crate) fn fails_next(&mut self) -> bool
-        ensures fails { result ≡ is_to_fail self.old }
+        ensures fails { result ≡ is_next_to_fail self.old }
         ensures made { self.new.made ≡ next_call self.old }
         ensures faults { self.new.faults.count ≡ (if result then up_to_last (self.old.faults.count + 1) else self.old.faults.count) }
         ensures fail { self.new.fail ≡ self.old.fail }

@@ -4,9 +4,9 @@
 #[cfg(test)]
 mod faulty_host;
 #[cfg(test)]
-mod file_pmem;
-#[cfg(test)]
 mod files_and_sinks;
+#[cfg(test)]
+mod medium_in_file;
 #[cfg(test)]
 mod mem_pmem;
 #[cfg(test)]

@@ -13,7 +13,7 @@ use Rattle.redo_record.specs.Record.{cells_for, count_of, write_of, record_of}
 use Rattle.redo_record.specs.Images.{word_in_image, IsComplete}
 use Rattle.redo_record.specs.Fits.{IsIntact, settled_word}
 use Rattle.redo_record.specs.AppendLaw.{IsElsewhere, logged_as}
-use Rattle.redo_record.specs.SettledRecords.{HoldSettled, AreApart, LawOfSettledRecords}
+use Rattle.redo_record.specs.SettledRecords.{HoldSettled, AreInOtherCells, LawOfSettledRecords}
 use Rattle.redo_record.proofs.HeldRecords.{AreSame, complete_same, record_same}
 use Rattle.redo_record.proofs.EncodedCells.{cells_of_record, encoded_record}
 use Rattle.redo_record.proofs.CellPlaces.{word_inside}
@@ -76,7 +76,7 @@ settled_records_law = record {
   images = λ s head r p len image is_cell long held is. held_images held len image is_cell long is;
 }
   where
-    elsewhere : (s : Sizes) (head other : Cell) (r t : RedoRecord) → IsCell s head → IsCell s other → AreApart s head r other t
+    elsewhere : (s : Sizes) (head other : Cell) (r t : RedoRecord) → IsCell s head → IsCell s other → AreInOtherCells s head r other t
         → (k j : ℕ) → k < cells_for (length t.writes) → j < 8 → IsElsewhere s head r (word_at s other k j)
     elsewhere s head other r t is_cell is_other apart k j lt small = ⊎_elim
         (λ (ring : other.ring ≡ head.ring). cells_elsewhere s head other r (cells_for (length t.writes)) ring (apart ring) k j lt small)

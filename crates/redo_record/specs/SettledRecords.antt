@@ -18,8 +18,8 @@ pub record HoldSettled (s : Sizes) (head : Cell) (r : RedoRecord) (p : State) : 
   pub same : record_of (settled_word s p head) ≡ r
 
 -- no cell of the one record is one of the other
-abbrev pub AreApart : Sizes → Cell → RedoRecord → Cell → RedoRecord → Type 0
-AreApart s head r other t =
+abbrev pub AreInOtherCells : Sizes → Cell → RedoRecord → Cell → RedoRecord → Type 0
+AreInOtherCells s head r other t =
     other.ring ≡ head.ring → (i k : ℕ) → i < cells_for (length t.writes) → k < cells_for (length r.writes) → (other.slot + i) % s.cells ≡ (head.slot + k) % s.cells → ⊥
 
 -- The cells hold the record after its append, on the way of the append of another one, and wherever their settled words
@@ -28,7 +28,7 @@ pub record LawOfSettledRecords : Type 0 where
   pub appended : (s : Sizes) (logged : List Logged) (released : ℕ) (head : Cell) (r : RedoRecord) (p q : State)
       → CanAppend s (settled_mark p) logged head r → Appended s logged released head r p q → HoldSettled s head r q
   pub beside : (s : Sizes) (logged : List Logged) (head other : Cell) (r t : RedoRecord) (p q : State)
-      → IsCell s head → IsCell s other → AreApart s head r other t → Appending s logged head r p q → HoldSettled s other t p → HoldSettled s other t q
+      → IsCell s head → IsCell s other → AreInOtherCells s head r other t → Appending s logged head r p q → HoldSettled s other t p → HoldSettled s other t q
   pub rest : (s : Sizes) (head : Cell) (r : RedoRecord) (p q : State) → IsCell s head
       → ((slot j x : ℕ) → slot < s.cells → j < LINE → p.word (cell_start s (cell_at head.ring slot) + j) ≡ settled_at x → q.word (cell_start s (cell_at head.ring slot) + j) ≡ settled_at x)
       → HoldSettled s head r p → HoldSettled s head r q
