@@ -56,22 +56,23 @@ elsewhere : (S place number at value i : ℕ) → (i < 16) ⊎ (144 ≤ i) → I
 elsewhere S place number at value i (inl low) k j few below e = omega arith
 elsewhere S place number at value i (inr high) k j few below e = omega arith
 
+-- the record of an update can be held by cells
+update_encodable : (number at value : ℕ) → 1 ≤ number → number ≤ MAX_NUMBER → IsEncodable (update_record number at value)
+update_encodable number at value low high = record {
+  number_is = record { low = low; high = high };
+  writes_are = record { few = omega arith; distinct = λ i j d before lt _. omega arith };
+}
+
 -- the record of an update may be appended to a ring that has none
 can_append : {S n : ℕ} {home : List ℕ} {p : State} (place at value : ℕ) → 1 ≤ S → S ≤ 10000 → place < 16 → n + 1 ≤ MAX_NUMBER → at < length home → AtRest S n home p
     → CanAppend (fresh_sizes S) (settled_mark p) [] (cell_at 0 place) (update_record (n + 1) at value)
 can_append {S} {n} {home} {p} place at value low high inside small below rests = record {
   sizes = fresh_sizes_are S low high;
   cell = record { ring_is = omega arith; slot_is = inside };
-  encodable = encodable;
+  encodable = update_encodable (n + 1) at value (omega arith) small;
   home = λ k d lt. let z : k ≡ 0 = omega arith in rw z (omega (arith, rests.image.count));
   free = λ k d lt. absurd (omega arith);
 }
-  where
-    encodable : IsEncodable (update_record (n + 1) at value)
-    encodable = record {
-      number_is = record { low = omega arith; high = small };
-      writes_are = record { few = omega arith; distinct = λ i j d before lt _. omega arith };
-    }
 
 -- the record that an update logs
 abbrev logged_update : ℕ → ℕ → ℕ → ℕ → Logged
@@ -139,10 +140,7 @@ logged_shows {S} {n} {home} {next} {p} {image} place at value low high inside sm
     r = update_record (n + 1) at value
 
     encodable : IsEncodable r
-    encodable = record {
-      number_is = record { low = omega arith; high = small };
-      writes_are = record { few = omega arith; distinct = λ i j d before lt _. omega arith };
-    }
+    encodable = update_encodable (n + 1) at value (omega arith) small
 
     word : (j : ℕ) → j < 8 → slice_index image (word_at s head 0 j) ≡ slice_index (encoded r 0) j
     word j lt =
