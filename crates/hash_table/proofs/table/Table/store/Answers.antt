@@ -143,7 +143,7 @@ pub push_front-requires-clause-record : goal.push_front-requires-clause-record
 push_front-requires-clause-record g c = subst (λ o. IfSome o (IsRecord c.args.self.now.pool)) c.in-Some.is c.in_ok-at.ensures.record
 
 pub returns-in_default-clause-wrote : goal.returns-in_default-clause-wrote
-returns-in_default-clause-wrote g c = 
+returns-in_default-clause-wrote g c =
     let took : Wrote 0 (g.W.Words.sight c.read.new.self) (g.W.Words.sight c.take.new.w) =
     subst (λ o. Wrote (if is_some o then 2 else 0) (g.W.Words.sight c.read.new.self) (g.W.Words.sight c.take.new.w)) c.in_default.is c.in_ok-at.ensures.wrote in
     wrote_then (wrote_none c.in_ok-head.ensures.reads.looked) took
