@@ -1,5 +1,5 @@
 -- What clauses see of a medium in a file.
-use Rattle.std.specs.Prelude.{◌≡◌, ℕ, vec_len, List}
+use Rattle.std.specs.Prelude.{ℕ, vec_len, List}
 use Rattle.pmem_trait.specs.Sights.{Sight}
 use Rattle.file_pmem.specs.declared.file_pmem.FilePmem.{FilePmem}
 use Rattle.file_pmem.specs.declared.line.Line.{Line}
