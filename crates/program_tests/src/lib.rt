@@ -8,6 +8,8 @@ mod crashes;
 #[cfg(test)]
 mod faults;
 #[cfg(test)]
+mod locations;
+#[cfg(test)]
 mod refusals;
 #[cfg(test)]
 mod replies;
