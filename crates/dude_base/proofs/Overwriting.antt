@@ -6,6 +6,7 @@ use Rattle.std.proofs.lemmas.Option.{slice_get_within, get_or_from_slice_get}
 use Rattle.std.proofs.lemmas.Grind.{common_steps}
 use Rattle.dude_base.specs.declared.write.Write.{Write}
 use Rattle.dude_base.proofs.WriteLists.{None-from_is_some, written_absent}
+use Rattle.dude_base.specs.Records.{RedoRecord, overwritten_by_all}
 use Rattle.dude_base.specs.Writes.{written, put_write, overwritten, HasDistinctPlaces}
 
 pub length-overwritten : (ws : List Write) (array : List ℕ) → length (overwritten ws array) ≡ length array
@@ -96,3 +97,7 @@ overwritten-more ws array k w distinct there =
     λ same. distinct i k d small lt (sym (ap (λ (v : Write). v.at) (get_or-take k ws i d small)) ∙ same ∙ sym (ap (λ (v : Write). v.at) (get_or_default ws k d w lt ∙ is))) in
     let prefix : take (k + 1) ws ≡ take k ws ++ w ∷ [] = take_more ws k w lt ∙ ap (λ v. take k ws ++ v ∷ []) is in
     ap (λ vs. overwritten vs array) prefix ∙ overwritten-new w (take k ws) array (written_absent (take k ws) w.at apart)
+
+pub length-overwritten_by_all : (rs : List RedoRecord) (array : List ℕ) → length (overwritten_by_all rs array) ≡ length array
+length-overwritten_by_all [] array = refl
+length-overwritten_by_all (r ∷ rs) array = length-overwritten_by_all rs (overwritten r.writes array) ∙ length-overwritten r.writes array

@@ -28,7 +28,7 @@ use Rattle.fresh_image.specs.Fresh.{AtRest, fresh_length, fresh_sizes}
 use Rattle.dude_base.specs.declared.limits.TheConstants.{MAX_NUMBER}
 use Rattle.fresh_image.proofs.UpdateLaw.{rest_images}
 use Rattle.fresh_image.proofs.RowWords.{rows_fit}
-use Rattle.fresh_image.proofs.Lists.{IsIn-drop_push}
+use Rattle.pmem_trait.proofs.Told.{IsIn-drop_push}
 use Rattle.fresh_image.specs.Rows.{home_words}
 use Rattle.fresh_image.specs.Calls.{RecoversToEither, AtRestFor, AtRestTold}
 use Rattle.fresh_image.specs.Recovered.{RecoversHome, RecoversTo}

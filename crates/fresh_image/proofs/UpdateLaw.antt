@@ -14,8 +14,9 @@ use Rattle.pmem_trait.specs.Words.{newest, Word, State, IsIn, MayHold, IsImage, 
 use Rattle.pmem_trait.specs.Groups.{group_calls, OldOrNew, final}
 use Rattle.pmem_trait.proofs.GroupLaw.{group_law, group_word, group_told, mix_may}
 use Rattle.pmem_trait.proofs.Images.{may_still}
+use Rattle.pmem_trait.proofs.Told.{IsIn-drop_push}
 use Rattle.pmem_trait.proofs.Laws.{after_each_last, after_each_leaves, after_each_then, after_all_then}
-use Rattle.redo_record.specs.Tags.{kind_of, number_of, head_tag, IsHeadOver}
+use Rattle.redo_record.specs.Tags.{head_tag, IsHeadOver}
 use Rattle.dude_base.specs.Image.{Cell, cell_at, cell_start}
 use Rattle.redo_record.specs.Cells.{word_at}
 use Rattle.redo_record.specs.Record.{HoldComplete, record_of}
@@ -30,23 +31,13 @@ use Rattle.redo_record.proofs.AppendingImages.{append_images}
 use Rattle.redo_record.specs.Rest.{HasHome}
 use Rattle.redo_record.proofs.EncodedCells.{cells_of_record, encoded_holds, encoded_record, encoded_writes}
 use Rattle.redo_record.proofs.HeldRecords.{AreSame, complete_same, record_same}
-use Rattle.redo_record.proofs.RingHeads.{is_settled, cell_is}
+use Rattle.redo_record.proofs.RingHeads.{is_settled, cell_is, over_or_not}
 use Rattle.redo_record.proofs.RingRoom.{release_law, rest_law}
 use Rattle.fresh_image.specs.Fresh.{RestsWith, AtRest, fresh_sizes, fresh_home_start, fresh_length}
 use Rattle.fresh_image.specs.Calls.{update_record, home_write, mark_write, reproduce_calls, update_calls, RecoversToEither}
 use Rattle.fresh_image.proofs.Groups.{Within, written-outside, written-same, kept, either, left}
-use Rattle.fresh_image.proofs.Lists.{set-set_same, IsIn-drop_push}
+use Rattle.fresh_image.proofs.Lists.{set-set_same}
 use Rattle.fresh_image.proofs.Shown.{fresh_sizes_are, recovers_rest, recovers_next}
-
--- a tag is that of a head over a number, or isn't
-over_or_not : (above tag : ℕ) → IsHeadOver above tag ⊎ (IsHeadOver above tag → ⊥)
-over_or_not above tag = by (cases_eq (kind_of tag) 1) (cases_order above (number_of tag))
-  where
-    by : (kind_of tag ≡ 1) ⊎ (kind_of tag ≢ 1) → (above ≡ number_of tag) ⊎ ((above < number_of tag) ⊎ (number_of tag < above)) → IsHeadOver above tag ⊎ (IsHeadOver above tag → ⊥)
-    by (inl kind) (inr (inl below)) = inl (record { kind = kind; over = below })
-    by (inl kind) (inl same) = inr (λ h. let o = h.over in omega arith)
-    by (inl kind) (inr (inr past)) = inr (λ h. let o = h.over in omega arith)
-    by (inr other) order = inr (λ h. other h.kind)
 
 settled_is : (w : Word) (x : ℕ) → w ≡ settled_at x → w.settled ≡ x
 settled_is w x is = ap (λ (w : Word). w.settled) is

@@ -7,7 +7,8 @@ use Rattle.record_heap.proofs.Pools.{fits_behind}
 use Rattle.hash_table.specs.declared.table.Table.{Table}
 use Rattle.hash_table.specs.Table.{FitsTable}
 
-record_ends : {pool : Pool} {at : ℕ} → IsRecord pool at → (pool.first ≤ at) × (at + pool.size ≤ pool.first + pool.size * pool.count)
+-- a record lies within the run of all records
+pub record_ends : {pool : Pool} {at : ℕ} → IsRecord pool at → (pool.first ≤ at) × (at + pool.size ≤ pool.first + pool.size * pool.count)
 record_ends {pool} r =
     let step : pool.size * (r.index + 1) ≤ pool.size * pool.count = mul-le-mul_left pool.size (omega (arith, r.below)) in
     (omega (arith, r.is), omega (arith, r.is, step))

@@ -16,21 +16,25 @@ use Rattle.hash_table.proofs.Maps.{lookup_absent, lookup_amid}
 
 -- ---- paths
 
-link_after-append : (link : ℕ) (xs ys : List ℕ) → link_after link (xs ++ ys) ≡ link_after (link_after link xs) ys
+pub link_after-append : (link : ℕ) (xs ys : List ℕ) → link_after link (xs ++ ys) ≡ link_after (link_after link xs) ys
 link_after-append link [] ys = refl
 link_after-append link (x ∷ xs) ys = link_after-append (x + 1) xs ys
 
-path_append : (array : List ℕ) (link : ℕ) (xs ys : List ℕ) → IsPath array link xs → IsPath array (link_after link xs) ys → IsPath array link (xs ++ ys)
+pub path_append : (array : List ℕ) (link : ℕ) (xs ys : List ℕ) → IsPath array link xs → IsPath array (link_after link xs) ys → IsPath array link (xs ++ ys)
 path_append array link [] ys p q = q
 path_append array link (x ∷ xs) ys p q = (p.0, path_append array (x + 1) xs ys p.1 q)
 
-path_linked : (array : List ℕ) (link : ℕ) (xs : List ℕ) → Linked array link xs → IsPath array link xs
+pub path_linked : (array : List ℕ) (link : ℕ) (xs : List ℕ) → Linked array link xs → IsPath array link xs
 path_linked array link [] linked = tt
 path_linked array link (x ∷ xs) linked = (linked.0, path_linked array (x + 1) xs linked.1)
 
-end_linked : (array : List ℕ) (link : ℕ) (xs : List ℕ) → Linked array link xs → slice_index array (link_after link xs) ≡ 0
+pub end_linked : (array : List ℕ) (link : ℕ) (xs : List ℕ) → Linked array link xs → slice_index array (link_after link xs) ≡ 0
 end_linked array link [] linked = linked
 end_linked array link (x ∷ xs) linked = end_linked array (x + 1) xs linked.1
+
+pub linked_path : (array : List ℕ) (link : ℕ) (xs : List ℕ) → IsPath array link xs → slice_index array (link_after link xs) ≡ 0 → Linked array link xs
+linked_path array link [] path end = end
+linked_path array link (x ∷ xs) path end = (path.0, linked_path array (x + 1) xs path.1 end)
 
 -- ---- chains
 
@@ -105,7 +109,7 @@ passes_none {pool} {array} {start} {key} = record { before = []; passed = refl; 
 pub passes_from : {pool : Pool} {array : List ℕ} {start other key number link : ℕ} → start ≡ other → Passes pool array start key number link → Passes pool array other key number link
 passes_from {pool} {array} {key = key} {number = number} {link = link} same p = subst (λ s. Passes pool array s key number link) same p
 
-link_after-push : (start : ℕ) (xs : List ℕ) (x : ℕ) → link_after start (xs ++ x ∷ []) ≡ x + 1
+pub link_after-push : (start : ℕ) (xs : List ℕ) (x : ℕ) → link_after start (xs ++ x ∷ []) ≡ x + 1
 link_after-push start xs x = link_after-append start xs (x ∷ [])
 
 -- the word that the walk reads

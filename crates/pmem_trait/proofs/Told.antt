@@ -1,10 +1,11 @@
 -- Numbers told stay told; and each state has an image that a crash may leave.
-use Rattle.std.proofs.Common.{◌≡◌, ℕ, Bool, true, false, IsTrue, List, [], ◌∷◌, ◌++◌, map, refl, sym, ◌∙◌, ap, inl, inr, append_assoc, append-nil, arith}
+use Rattle.std.proofs.Common.{◌≡◌, ◌⊎◌, ℕ, zero, suc, drop, subst, Bool, true, false, IsTrue, List, [], ◌∷◌, ◌++◌, map, refl, sym, ◌∙◌, ap, inl, inr, append_assoc, append-nil, arith}
 use Rattle.std.specs.List.{range_with_len}
+use Rattle.std.proofs.Math.Seq.{drop-nil}
 use Rattle.std.proofs.lemmas.List.FromFn.{get_or-map-range_with_len, length-map-range_with_len}
 use Rattle.pmem_trait.specs.declared.call.Call.{Call}
 use Rattle.pmem_trait.specs.declared.call.Call.TheVariants.{Read, Put, Flush, Fence, Tell}
-use Rattle.pmem_trait.specs.Words.{State, told_after, IsImage}
+use Rattle.pmem_trait.specs.Words.{State, IsIn, told_after, IsImage}
 use Rattle.pmem_trait.specs.Sights.{Sight, state_now, CallEffect, OneCall, CallsMade, CallsMade.none, CallsMade.stop, CallsMade.step, AtEveryMoment}
 
 -- the second list of numbers begins with the first
@@ -59,3 +60,16 @@ pub last_image : {P : List ℕ → List ℕ → Type 0} {s t : Sight} → AtEver
 last_image {P} {s} {t} keeps visible =
     let image = map (λ k. ((state_now t).word k).settled) (range_with_len 0 s.len) in
     (image, (keeps.each visible t.now keeps.later.now (omega arith)).each image (settled_image s.len (state_now t)))
+
+-- a value of a list with one number more
+pub IsIn-push : (x y : ℕ) (xs : List ℕ) → IsIn x (xs ++ y ∷ []) → IsIn x xs ⊎ (x ≡ y)
+IsIn-push x y [] (inl e) = inr e
+IsIn-push x y [] (inr h) = absurd h
+IsIn-push x y (z ∷ zs) (inl e) = inl (inl e)
+IsIn-push x y (z ∷ zs) (inr h) = elim (IsIn-push x y zs h) [ inl g ↦ inl (inr g) | inr e ↦ inr e ]
+
+-- and of what is left of it
+pub IsIn-drop_push : (k x y : ℕ) (xs : List ℕ) → IsIn x (drop k (xs ++ y ∷ [])) → IsIn x (drop k xs) ⊎ (x ≡ y)
+IsIn-drop_push zero x y xs h = IsIn-push x y xs h
+IsIn-drop_push (suc k) x y [] h = let P : List ℕ → Type 0 = λ l. IsIn x l in absurd (subst P (drop-nil k) h)
+IsIn-drop_push (suc k) x y (z ∷ zs) h = IsIn-drop_push k x y zs h

@@ -19,7 +19,7 @@ abbrev pub first_key : ℕ → ℕ → ℕ
 first_key s_id sf_type = 3 * (4 * s_id + sf_type - 1)
 
 -- a start time is 0, 8 or 16, so its eighth is below 3
-eighth : (n : ℕ) → IsStartTime n → n / 8 < 3
+pub eighth : (n : ℕ) → IsStartTime n → n / 8 < 3
 eighth n is = ⊎_elim (λ e. rw e (omega arith)) (λ later. ⊎_elim (λ e. rw e (omega arith)) (λ e. rw e (omega arith)) later) is
 
 -- a row that forwards a facility's calls belongs to it
@@ -61,15 +61,15 @@ thirds : (m n q w : ℕ) → q < 3 → w < 3 → 3 * m + q ≡ 3 * n + w → (m 
 thirds m n q w small small' same = (omega arith, omega arith)
 
 -- four times a number, with one of 1 to 4, tells both
-fourths : (a b f g : ℕ) → 1 ≤ f → f ≤ 4 → 1 ≤ g → g ≤ 4 → 1 ≤ a → 1 ≤ b → 4 * a + f - 1 ≡ 4 * b + g - 1 → (a ≡ b) × (f ≡ g)
+pub fourths : (a b f g : ℕ) → 1 ≤ f → f ≤ 4 → 1 ≤ g → g ≤ 4 → 1 ≤ a → 1 ≤ b → 4 * a + f - 1 ≡ 4 * b + g - 1 → (a ≡ b) × (f ≡ g)
 fourths a b f g low high low' high' first first' same = (omega arith, omega arith)
 
 -- a start time is eight times its eighth
-from_eighth : (n : ℕ) → IsStartTime n → n ≡ 8 * (n / 8)
+pub from_eighth : (n : ℕ) → IsStartTime n → n ≡ 8 * (n / 8)
 from_eighth n is = ⊎_elim (λ e. rw e refl) (λ later. ⊎_elim (λ e. rw e refl) (λ e. rw e refl) later) is
 
 -- two call rows in range with one key are named by one request
-key_names : (r s : CallRow) → IsCallRow r → IsCallRow s → call_key r ≡ call_key s → is_call s.s_id s.sf_type s.start_time r ≡ true
+pub key_names : (r s : CallRow) → IsCallRow r → IsCallRow s → call_key r ≡ call_key s → is_call s.s_id s.sf_type s.start_time r ≡ true
 key_names r s row row' same =
     let parts = thirds (4 * r.s_id + r.sf_type - 1) (4 * s.s_id + s.sf_type - 1) (r.start_time / 8) (s.start_time / 8) (eighth r.start_time row.start_time) (eighth s.start_time row'.start_time) same in
     let names = fourths r.s_id s.s_id r.sf_type s.sf_type row.sf_type.0 row.sf_type.1 row'.sf_type.0 row'.sf_type.1 row.s_id.0 row'.s_id.0 parts.0 in
