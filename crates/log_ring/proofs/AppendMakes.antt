@@ -38,7 +38,7 @@ pub record Wants (v : RingState) (r : RedoRecord) : Type 0 where
   pub encodable : IsEncodable r
   pub home : All (λ w. w.at < v.sizes.pages * PAGE) r.writes
 
-can_append : (v : RingState) (r : RedoRecord) (mark : ℕ) → Wants v r → (IsOverfull v r → ⊥) → CanAppend v.sizes mark v.logged (next_head v) r
+pub can_append : (v : RingState) (r : RedoRecord) (mark : ℕ) → Wants v r → (IsOverfull v r → ⊥) → CanAppend v.sizes mark v.logged (next_head v) r
 can_append v r mark wants room =
     let few : cells_used v.logged + cells_for (length r.writes) ≤ v.sizes.cells = grind (arith, room) in
     record {

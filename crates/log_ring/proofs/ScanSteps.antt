@@ -41,7 +41,7 @@ head_number s image head r is_cell same =
     ap (λ (r : RedoRecord). r.number) (sym same) ∙ ap (λ i. number_of (slice_index image i)) (first_cell s head is_cell 0 ∙ omega arith)
 
 -- other keys
-other_key : (k q : ℕ) → q ≢ k → is_at (nat_cmp k) q ≡ false
+pub other_key : (k q : ℕ) → q ≢ k → is_at (nat_cmp k) q ≡ false
 other_key k q other = grind (arith, other)
 
 module _ (s : Sizes) (above : ℕ) (image : List ℕ) (cell : Cell) (is_cell : IsCell s cell) where

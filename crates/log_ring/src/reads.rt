@@ -1,10 +1,11 @@
 //! The reads that fetch one record from its ring.
 
-ghost use Rattle.std.specs.Prelude.{◌≡◌, ℕ, ◌+◌, ◌*◌, ◌<◌, ◌≤◌, Decides, All, is_ok, slice_index, IfOk, OnOk};
+ghost use Rattle.std.specs.Prelude.{◌≡◌, ℕ, ◌+◌, ◌*◌, ◌<◌, ◌≤◌, Decides, All, is_ok, slice_index, IfOk, IfSome, OnOk};
 ghost use Rattle.dude_base.specs.declared.limits.TheConstants.{LINE, PAGE};
 ghost use Rattle.dude_base.specs.Image.{image_words, cell_at};
 ghost use Rattle.pmem_trait.specs.Reads.{OnlyReads, ContentHas};
 ghost use Rattle.redo_record.specs.Images.{word_in_image};
+ghost use Rattle.log_ring.specs.Scan.{IsReplayable, record_reads};
 ghost use Rattle.log_ring.specs.Scanning.{IsRecordAt, IsHomeRecord};
 
 use crate::cells::start_after;
@@ -33,6 +34,7 @@ fn read_cells<M: Medium>(
     requires room { image_words place.now ≤ (M.sight m.old).len }
     ensures len { (M.sight m.new).len ≡ (M.sight m.old).len }
     ensures reads { OnlyReads (is_ok result) (M.sight m.old) (M.sight m.new) }
+    ensures few { (M.sight m.new).now ≤ (M.sight m.old).now + 64 }
     ensures words { OnOk result (ContentHas (λ content. (k j : ℕ) → k < cells → j < LINE → slice_index words.new (LINE * k + j) ≡ word_in_image place.now content (cell_at ring head) k j) (M.sight m.old)) }
 {
     for i in 0..LINE * cells {
@@ -79,6 +81,8 @@ pub fn read_record<M: Medium>(
     requires room { image_words place.now ≤ (M.sight m.old).len }
     ensures len { (M.sight m.new).len ≡ (M.sight m.old).len }
     ensures reads { OnlyReads (is_ok result) (M.sight m.old) (M.sight m.new) }
+    ensures few { (M.sight m.new).now ≤ (M.sight m.old).now + record_reads }
+    ensures replayable { IfOk result (λ found. IfSome found (IsReplayable place.now)) }
     ensures record { IfOk result (λ found. ContentHas (λ content. IsRecordAt place.now content (cell_at ring head) found) (M.sight m.old)) }
 {
     let count = m.read(place.cell(ring, head) + 1)?;

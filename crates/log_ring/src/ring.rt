@@ -1,4 +1,4 @@
-ghost use Rattle.std.specs.Prelude.{◌≡◌, ◌⊎◌, ◌↔◌, ◌+◌, ◌<◌, ◌≤◌, ◌*◌, [], All, length, is_ok, if◌then◌else◌, IfOk, IfErr, OnOk, OnErr, IsErrOf, IsTrue};
+ghost use Rattle.std.specs.Prelude.{◌≡◌, ◌⊎◌, ◌↔◌, ℕ, ◌+◌, ◌<◌, ◌≤◌, ◌*◌, [], All, length, is_ok, if◌then◌else◌, IfOk, IfErr, OnOk, OnErr, IsErrOf, IsTrue};
 ghost use Rattle.dude_base.specs.declared.limits.TheConstants.{PAGE};
 ghost use Rattle.dude_base.specs.Image.{image_words};
 ghost use Rattle.pmem_trait.specs.Words.{State};
@@ -7,7 +7,7 @@ ghost use Rattle.redo_record.specs.Tags.{IsNumber};
 ghost use Rattle.redo_record.specs.Calls.{append_calls};
 ghost use Rattle.redo_record.specs.Record.{cells_for};
 ghost use Rattle.redo_record.specs.Fits.{settled_mark, cells_used};
-ghost use Rattle.redo_record.specs.AppendLaw.{HeadsHold, Appended};
+ghost use Rattle.redo_record.specs.AppendLaw.{CanAppend, HeadsHold, Appended};
 ghost use Rattle.log_ring.specs.Ring.{FitsMedium, HasNoNewHead, next_head, with_record, released_to};
 ghost use Rattle.log_ring.specs.Appends.{AppendCalls, IsOverfull, full_for};
 ghost use Rattle.log_ring.specs.declared.ring_fault.RingFault.TheVariants.{Device};
@@ -125,6 +125,8 @@ impl Ring {
         ensures cause { IsErrOf result Device → Risen (M.sight m.old).faults (M.sight m.new).faults }
         ensures untouched { IsOverfull self.old r.now → m.new ≡ m.old }
         ensures ring { self.new ≡ (if is_ok result then with_record r.now self.old else self.old) }
+        // Where there is room, the next cells are free, and the record may be appended to them whatever the mark is.
+        ensures can { (mark : ℕ) → (IsOverfull self.old r.now → ⊥) → CanAppend self.old.sizes mark self.old.logged (next_head self.old) r.now }
         // Where the ring fits the medium, each head of this ring over the mark has its complete record at each moment,
         // and is that of one of the ring's records or that of r.
         ensures heads { (IsTrue (M.sight m.old).is_visible → FitsMedium self.old (state_now (M.sight m.old)))

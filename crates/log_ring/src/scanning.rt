@@ -1,13 +1,13 @@
 //! A scan of the rings of an image.
 
-ghost use Rattle.std.specs.Prelude.{◌≡◌, ℕ, ◌+◌, ◌*◌, ◌<◌, ◌≤◌, IfOk, OnOk, IsErrOf};
+ghost use Rattle.std.specs.Prelude.{◌≡◌, ℕ, ◌+◌, ◌*◌, ◌<◌, ◌≤◌, All, IfOk, IfSome, OnOk, IsErrOf};
 ghost use Rattle.dude_base.specs.Image.{image_words, cell_at};
 ghost use Rattle.pmem_trait.specs.Sights.{Risen};
 ghost use Rattle.pmem_trait.specs.Reads.{ContentHas};
 ghost use Rattle.redo_record.specs.Cells.{line_of};
 ghost use Rattle.redo_record.specs.Damage.{IsTorn, IsLeastLine, IsDamagedAt};
 ghost use Rattle.log_ring.specs.declared.scan_fault.ScanFault.TheVariants.{Damaged, Device};
-ghost use Rattle.log_ring.specs.Scan.{ReadsMade, AreScanned};
+ghost use Rattle.log_ring.specs.Scan.{ReadsMade, AreScanned, IsReplayable, HasReplayable, cell_reads, ring_reads, scan_reads};
 ghost use Rattle.log_ring.specs.Scanning.{IsSeen, KnowsBelow};
 
 use crate::reads::read_record;
@@ -23,7 +23,8 @@ use std::alloc::Global;
 /// Reads the complete records of all rings with numbers over `above`, in the order of their numbers.
 ///
 /// The medium is only read. A head with a number over `above` that has no complete record is damage; where each has its
-/// record, so is a head whose number a head at a lower line has. The first line of such a head is answered.
+/// record, so is a head whose number a head at a lower line has. The first line of such a head is answered. Also on a
+/// medium whose content contracts don't see, the records can be replayed.
 pub fn scan<M: Medium>(
     alloc: Global,
     m: &mut M,
@@ -33,7 +34,9 @@ pub fn scan<M: Medium>(
     requires room { image_words place.now ≤ (M.sight m.old).len }
     ensures len { (M.sight m.new).len ≡ (M.sight m.old).len }
     ensures reads { ReadsMade result (M.sight m.old) (M.sight m.new) }
+    ensures few { (M.sight m.new).now ≤ (M.sight m.old).now + scan_reads }
     ensures cause { IsErrOf result Device → Risen (M.sight m.old).faults (M.sight m.new).faults }
+    ensures replayable { IfOk result (λ found. All (IsReplayable place.now) found.items) }
     ensures records { IfOk result (λ found. ContentHas (λ content. AreScanned place.now above content found.items) (M.sight m.old)) }
     ensures damaged { (line : ℕ) → IsErrOf result (Damaged line) → ContentHas (λ content. IsDamagedAt place.now above content line) (M.sight m.old) }
 {
@@ -56,6 +59,8 @@ fn scan_ring<M: Medium>(
     requires room { image_words place.now ≤ (M.sight m.old).len }
     ensures len { (M.sight m.new).len ≡ (M.sight m.old).len }
     ensures reads { ReadsMade result (M.sight m.old) (M.sight m.new) }
+    ensures few { (M.sight m.new).now ≤ (M.sight m.old).now + ring_reads }
+    ensures replayable { OnOk result (HasReplayable place.now found.old → HasReplayable place.now found.new) }
     ensures knows { OnOk result (ContentHas (λ content. KnowsBelow place.now above content (2 + ring * place.now.cells) found.old
         → KnowsBelow place.now above content (2 + (ring + 1) * place.now.cells) found.new) (M.sight m.old)) }
     ensures torn { (line : ℕ) → IsErrOf result (Damaged line) → ContentHas (λ content. KnowsBelow place.now above content (2 + ring * place.now.cells) found.old
@@ -83,6 +88,8 @@ fn scan_cell<M: Medium>(
     requires room { image_words place.now ≤ (M.sight m.old).len }
     ensures len { (M.sight m.new).len ≡ (M.sight m.old).len }
     ensures reads { ReadsMade result (M.sight m.old) (M.sight m.new) }
+    ensures few { (M.sight m.new).now ≤ (M.sight m.old).now + cell_reads }
+    ensures replayable { IfOk result (λ found. IfSome found (IsReplayable place.now)) }
     ensures seen { IfOk result (λ found. ContentHas (λ content. IsSeen place.now above content (cell_at ring cell) found) (M.sight m.old)) }
     ensures torn { (line : ℕ) → IsErrOf result (Damaged line) → (line ≡ line_of place.now (cell_at ring cell)) × ContentHas (λ content. IsTorn place.now above content (cell_at ring cell)) (M.sight m.old) }
 {

@@ -10,3 +10,8 @@ pub mod RingHeads
 pub mod RingRoom
 pub mod SettledRecords
 pub mod SingleReplay
+pub mod WaitingRecords
+pub mod HeldLog
+pub mod Persisting
+pub mod HomeWrites
+pub mod Reproducing

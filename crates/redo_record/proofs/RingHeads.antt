@@ -1,17 +1,28 @@
 -- Heads of the records of a ring, and which words are none of a new record's.
-use Rattle.std.proofs.Common.{◌≡◌, ◌≢◌, inl, inr, ℕ, suc, ◌+◌, ◌*◌, ◌%◌, ◌<◌, List, [], ◌∷◌, ◌++◌, length, sym, ap, ◌∙◌, subst, arith, All}
+use Rattle.std.proofs.Common.{◌≡◌, ◌≢◌, ◌⊎◌, inl, inr, ℕ, suc, ◌+◌, ◌*◌, ◌%◌, ◌<◌, List, [], ◌∷◌, ◌++◌, length, sym, ap, ◌∙◌, subst, arith, All}
 use Rattle.std.proofs.Math.Nat.{mod-lt}
+use Rattle.std.proofs.lemmas.Bool.{cases_eq, cases_order}
 use Rattle.dude_base.specs.declared.sizes.Sizes.{Sizes}
 use Rattle.dude_base.specs.Image.{Cell, cell_at, cell_start}
 use Rattle.dude_base.specs.Records.{RedoRecord}
 use Rattle.pmem_trait.specs.Words.{Word, State, IsSettledWord, settled_at}
-use Rattle.redo_record.specs.Tags.{number_of}
+use Rattle.redo_record.specs.Tags.{kind_of, number_of, IsHeadOver}
 use Rattle.redo_record.specs.Cells.{IsCell, word_at}
 use Rattle.redo_record.specs.Record.{cells_for, count_of}
 use Rattle.redo_record.specs.Fits.{Logged, head_of, HasHead, settled_word, IsIntact}
 use Rattle.redo_record.specs.AppendLaw.{IsElsewhere}
 use Rattle.redo_record.proofs.HeldRecords.{AreSame, complete_same, count_same, tag_same}
 use Rattle.redo_record.proofs.CellPlaces.{words_same, rings_same}
+
+-- a tag is that of a head over a number, or isn't
+pub over_or_not : (above tag : ℕ) → IsHeadOver above tag ⊎ (IsHeadOver above tag → ⊥)
+over_or_not above tag = by (cases_eq (kind_of tag) 1) (cases_order above (number_of tag))
+  where
+    by : (kind_of tag ≡ 1) ⊎ (kind_of tag ≢ 1) → (above ≡ number_of tag) ⊎ ((above < number_of tag) ⊎ (number_of tag < above)) → IsHeadOver above tag ⊎ (IsHeadOver above tag → ⊥)
+    by (inl kind) (inr (inl below)) = inl (record { kind = kind; over = below })
+    by (inl kind) (inl same) = inr (λ h. let o = h.over in omega arith)
+    by (inl kind) (inr (inr past)) = inr (λ h. let o = h.over in omega arith)
+    by (inr other) order = inr (λ h. other h.kind)
 
 -- a word is settled where it is settled at some value
 pub is_settled : {w : Word} {x : ℕ} → w ≡ settled_at x → IsSettledWord w

@@ -60,7 +60,7 @@ head_of_rest number slot bound [] rest old over has = has
 head_of_rest number slot bound (l ∷ ls) rest old over (inl is) = absurd (let small = All-head (λ (l : Logged). l.number ≤ bound) l ls old in let same = is.0 in omega arith)
 head_of_rest number slot bound (l ∷ ls) rest old over (inr has) = head_of_rest number slot bound ls rest (All-tail (λ (l : Logged). l.number ≤ bound) l ls old) over has
 
-all_rest : (P : Logged → Type 0) (gone rest : List Logged) → All P (gone ++ rest) → All P rest
+pub all_rest : {X : Type 0} (P : X → Type 0) (gone rest : List X) → All P (gone ++ rest) → All P rest
 all_rest P [] rest all = all
 all_rest P (l ∷ ls) rest all = all_rest P ls rest (All-tail P l (ls ++ rest) all)
 

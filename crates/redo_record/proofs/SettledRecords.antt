@@ -22,7 +22,7 @@ use Rattle.redo_record.proofs.AppendedRecord.{encoded_complete}
 
 module _ {s : Sizes} {head : Cell} {r : RedoRecord} {p : State} (held : HoldSettled s head r p) where
   -- the count that the head has is that of the record's writes
-  held_count : count_of (settled_word s p head) ≡ length r.writes
+  pub held_count : count_of (settled_word s p head) ≡ length r.writes
   held_count = sym (length-map-range_with_len (write_of (settled_word s p head)) 0 (count_of (settled_word s p head))) ∙ ap (λ (t : RedoRecord). length t.writes) held.same
 
   pub held_below : (k : ℕ) → k < cells_for (count_of (settled_word s p head)) → k < cells_for (length r.writes)

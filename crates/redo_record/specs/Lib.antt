@@ -1,4 +1,6 @@
 pub mod AppendLaw
+pub mod BackCalls
+pub mod BackLaws
 pub mod Calls
 pub mod Cells
 pub mod Damage
@@ -6,9 +8,11 @@ pub mod Decoding
 pub mod Encoding
 pub mod Fits
 pub mod Images
+pub mod LogState
 pub mod Record
 pub mod Recovery
 pub mod Rest
 pub mod RingLaws
 pub mod SettledRecords
 pub mod Tags
+pub mod Waiting

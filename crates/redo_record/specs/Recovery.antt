@@ -5,7 +5,7 @@ use Rattle.dude_base.specs.declared.sizes.Sizes.{Sizes}
 use Rattle.dude_base.specs.Sizes.{IsAccepted}
 use Rattle.dude_base.specs.Image.{header_words, image_words, Cell}
 use Rattle.dude_base.specs.Records.{RedoRecord}
-use Rattle.dude_base.specs.Writes.{overwritten}
+pub use Rattle.dude_base.specs.Records.{overwritten_by_all}
 use Rattle.redo_record.specs.Tags.{number_of}
 use Rattle.redo_record.specs.Record.{record_of}
 use Rattle.redo_record.specs.Images.{sizes_of, mark_of, home_of, tag_of, word_in_image, IsNewHead}
@@ -31,11 +31,6 @@ pub record HasRecord (s : Sizes) (above : ℕ) (image : List ℕ) (r : RedoRecor
 abbrev pub AreConsecutive : ℕ → List RedoRecord → ℕ → Type 0
 AreConsecutive from [] to = from ≡ to
 AreConsecutive from (r ∷ rs) to = (r.number ≡ from + 1) × AreConsecutive r.number rs to
-
--- an array overwritten by the writes of records, one record after another
-abbrev pub overwritten_by_all : List RedoRecord → List ℕ → List ℕ
-overwritten_by_all [] array = array
-overwritten_by_all (r ∷ rs) array = overwritten_by_all rs (overwritten r.writes array)
 
 -- The image recovers to this number and this array. Records over the mark lead from it to the number, and none begins
 -- behind that; the array is the home, overwritten by the writes of these records in their order.

@@ -2,12 +2,18 @@
 //! on the way may leave.
 #![tactic(auto)]
 
+mod back_laws;
 mod bad_record;
 mod decoding;
 mod encoding;
 mod laws;
 mod tag;
 
+pub use back_laws::{
+    law_of_announce, law_of_empty_log, law_of_held_log, law_of_persist, law_of_persisting,
+    law_of_read_page, law_of_released_rings, law_of_reproduce, law_of_reproduced,
+    law_of_reproducing, law_of_waiting,
+};
 pub use bad_record::BadRecord;
 pub use decoding::decode;
 pub use encoding::{CELL_WRITES, RECORD_CELLS, cells_for, cells_of, encode};

@@ -3,7 +3,23 @@ use Rattle.pmem_trait.proofs.ReadRuns.{reads_here, read_alone, read_content, con
 use Rattle.redo_record.specs.Images.{word_in_image}
 use Rattle.dude_base.specs.Image.{cell_at}
 use Rattle.log_ring.proofs.RecordReads.{word_of_head, record_is}
+use Rattle.log_ring.proofs.Replayable.{one_moment, home_replayable}
 use Rattle.log_ring.proofs.reads.read_record.Goals as goal
+
+pub returns-in_err-count-clause-few : goal.returns-in_err-count-clause-few
+returns-in_err-count-clause-few g c = let one = one_moment c.in_err-count.ensures.one_call in omega arith
+
+pub returns-then-count-gt-MAX_WRITES-clause-few : goal.returns-then-count-gt-MAX_WRITES-clause-few
+returns-then-count-gt-MAX_WRITES-clause-few g c = let one = one_moment c.in_ok-count.ensures.one_call in omega arith
+
+pub returns-in_err-read_cells-clause-few : goal.returns-in_err-read_cells-clause-few
+returns-in_err-read_cells-clause-few g c = let one = one_moment c.in_ok-count.ensures.one_call in omega arith
+
+pub returns-clause-few : goal.returns-clause-few
+returns-clause-few g c = let one = one_moment c.in_ok-count.ensures.one_call in omega arith
+
+pub returns-clause-replayable : goal.returns-clause-replayable
+returns-clause-replayable g c = home_replayable c.args.place.now _ c.home_record.result c.home_record.ensures
 
 pub returns-then-count-gt-MAX_WRITES-clause-record : goal.returns-then-count-gt-MAX_WRITES-clause-record
 returns-then-count-gt-MAX_WRITES-clause-record g c = λ told content is held.

@@ -1,6 +1,7 @@
 -- what is known of the rings gone over so far
-use Rattle.std.proofs.Common.{◌≡◌, ◌+◌, ◌*◌, true}
+use Rattle.std.proofs.Common.{◌≡◌, ◌+◌, ◌*◌, ◌≤◌, true}
 use Rattle.pmem_trait.specs.Reads.{OnlyReads, ContentHas}
+use Rattle.log_ring.specs.Scan.{HasReplayable, ring_reads}
 use Rattle.log_ring.specs.Scanning.{KnowsBelow}
 use Rattle.log_ring.proofs.scanning.scan.Given as goal
 
@@ -8,5 +9,7 @@ abbrev pub invariant-loop-ring : goal.invariant-loop-ring
 invariant-loop-ring g l = record {
   len : (g.M.Medium.sight l.m).len ≡ (g.M.Medium.sight l.fn.m).len;
   reads : OnlyReads true (g.M.Medium.sight l.fn.m) (g.M.Medium.sight l.m);
+  few : (g.M.Medium.sight l.m).now ≤ (g.M.Medium.sight l.fn.m).now + ring_reads * l.ring;
+  replayable : HasReplayable l.place l.found;
   knows : ContentHas (λ content. KnowsBelow l.place l.above content (2 + l.ring * l.place.cells) l.found) (g.M.Medium.sight l.fn.m);
 }

@@ -5,6 +5,7 @@ use Rattle.dude_base.specs.Image.{cell_at}
 use Rattle.log_ring.specs.Scanning.{IsRecordAt}
 use Rattle.log_ring.proofs.RecordReads.{new_head}
 use Rattle.log_ring.proofs.ScanReads.{made_at_device}
+use Rattle.log_ring.proofs.Replayable.{one_moment}
 use Rattle.log_ring.proofs.scanning.scan_cell.Goals as goal
 
 pub returns-in_err-tag-clause-reads : goal.returns-in_err-tag-clause-reads
@@ -12,6 +13,15 @@ returns-in_err-tag-clause-reads g c = made_at_device c.from_residual.result (sea
 
 pub returns-in_err-redo-clause-reads : goal.returns-in_err-redo-clause-reads
 returns-in_err-redo-clause-reads g c = made_at_device c.from_residual-in_err-redo.result (search rules) (reads_then (read_alone c.in_ok-tag.ensures.one_call) c.in_err-redo.ensures.reads)
+
+pub returns-in_err-tag-clause-few : goal.returns-in_err-tag-clause-few
+returns-in_err-tag-clause-few g c = let one = one_moment c.in_err-tag.ensures.one_call in omega arith
+
+pub returns-in_err-redo-clause-few : goal.returns-in_err-redo-clause-few
+returns-in_err-redo-clause-few g c = let one = one_moment c.in_ok-tag.ensures.one_call in omega arith
+
+pub returns-clause-few : goal.returns-clause-few
+returns-clause-few g c = let one = one_moment c.in_ok-tag.ensures.one_call in omega arith
 
 pub returns-in_default-clause-torn : goal.returns-in_default-clause-torn
 returns-in_default-clause-torn g c line is =

@@ -1,11 +1,14 @@
-use Rattle.std.proofs.Common.{◌≡◌, ◌+◌, ◌/◌, true, Err, refl, sym, ap, ◌∙◌, subst, arith, rules}
+use Rattle.std.proofs.Common.{◌≡◌, ◌+◌, ◌/◌, true, Err, Option, IfSome, refl, sym, ap, ◌∙◌, subst, arith, rules}
 use Rattle.pmem_trait.proofs.ReadRuns.{reads_here, reads_then, content_before}
 use Rattle.dude_base.specs.Image.{Cell, cell_at}
+use Rattle.dude_base.specs.Records.{RedoRecord}
 use Rattle.redo_record.specs.Cells.{IsCell, line_of}
 use Rattle.redo_record.specs.Damage.{IsTorn, IsLeastLine}
 use Rattle.log_ring.specs.declared.scan_fault.ScanFault.TheVariants.{Damaged}
 use Rattle.log_ring.specs.Scanning.{IsSeen, TakesRecord, KnowsBelow}
 use Rattle.log_ring.proofs.ScanReads.{made_well, made_again}
+use Rattle.log_ring.specs.Scan.{IsReplayable, HasReplayable}
+use Rattle.log_ring.proofs.Replayable.{take_replayable}
 use Rattle.log_ring.proofs.ScanSteps.{knows_skip, knows_more, torn_first}
 use Rattle.log_ring.proofs.scanning.scan_ring.Goals.{in-Some+in_ok-take, in_default}
 use Rattle.log_ring.proofs.scanning.scan_ring.Goals as goal
@@ -14,6 +17,8 @@ pub loop-cell-init : goal.loop-cell-init
 loop-cell-init g c = record {
   len = refl;
   reads = reads_here _;
+  few = omega arith;
+  replayable = λ before. before;
   knows = λ told content is before. subst (λ n. KnowsBelow c.args.place.now c.args.above content n c.args.found.now) (omega arith) before;
 }
 
@@ -37,6 +42,15 @@ pub loop-cell-preserved : goal.loop-cell-preserved
 loop-cell-preserved g c = record {
   len = c.in_ok-redo.ensures.len ∙ c.loop-cell.invariant.len;
   reads = reads_then c.loop-cell.invariant.reads c.in_ok-redo.ensures.reads;
+  few = omega arith;
+  replayable = λ before.
+      let known : HasReplayable c.args.place.now c.loop-cell.found = c.loop-cell.invariant.replayable before in
+      elim c.match-branch-2.branch [
+        | in-Some+in_ok-take w ↦
+            subst (HasReplayable c.args.place.now) (sym w.found-is)
+            (take_replayable c.args.place.now _ w.in-Some.redo c.loop-cell.found w.take.new.self (subst (λ (o : Option RedoRecord). IfSome o (IsReplayable c.args.place.now)) w.in-Some.is c.in_ok-redo.ensures.replayable) w.in_ok-take.ensures known)
+        | in_default w ↦ subst (HasReplayable c.args.place.now) (sym w.found-is) known
+      ];
   knows = λ told content holds before.
       let cell : Cell = cell_at c.args.ring c.loop-cell.cell in
       let cells : c.sizes-cell-end.result.cells ≡ c.args.place.now.cells = ap (λ s. s.cells) c.sizes-cell-end.ensures.sizes in

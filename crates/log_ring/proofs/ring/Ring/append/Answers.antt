@@ -3,7 +3,7 @@ use Rattle.dude_base.specs.Sizes.{IsAccepted}
 use Rattle.redo_record.specs.Cells.{IsCell}
 use Rattle.log_ring.specs.Laid.{AreLaid}
 use Rattle.log_ring.specs.Ring.{RingState, next_head}
-use Rattle.log_ring.proofs.AppendMakes.{Wants, device_cause, heads_kept, ends_appended}
+use Rattle.log_ring.proofs.AppendMakes.{Wants, can_append, device_cause, heads_kept, ends_appended}
 use Rattle.log_ring.proofs.ring.Ring.append.Given.{Over}
 use Rattle.log_ring.proofs.ring.Ring.append.Goals as goal
 
@@ -29,3 +29,6 @@ returns-clause-heads g c =
 pub returns-clause-appended : goal.returns-clause-appended
 returns-clause-appended g c =
     ends_appended c.args.self.now c.args.r.now c.lay.result (g.M.Medium.sight c.args.m.now) (g.M.Medium.sight c.lay.new.m) (wants g c) c.requires.room c.lay.ensures.calls c.lay.ensures.full
+
+pub returns-clause-can : goal.returns-clause-can
+returns-clause-can g c = λ mark room. can_append c.args.self.now c.args.r.now mark (wants g c) room
