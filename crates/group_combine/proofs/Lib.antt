@@ -1,0 +1,3 @@
+pub mod KeptRows
+pub mod LastWrites
+pub mod Effects
