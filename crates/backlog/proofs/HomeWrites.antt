@@ -1,0 +1,62 @@
+-- The writes that stand for records are of home words, and so lie in the image.
+use Rattle.std.proofs.Common.{◌≡◌, ℕ, ◌+◌, ◌*◌, ◌/◌, ◌%◌, ◌==◌, ◌<◌, ◌≤◌, Bool, true, false, List, [], ◌∷◌, Some, All, map, get_or, subst, inl, inr, arith, if◌then◌else◌, ne_eqb}
+use Rattle.std.proofs.lemmas.Bool.{cases_eq}
+use Rattle.std.proofs.lemmas.List.Elements.{All-map, All-weaker, All-cons, All-head, All-tail, All-contains}
+use Rattle.dude_base.specs.declared.sizes.Sizes.{Sizes}
+use Rattle.dude_base.specs.declared.write.Write.{Write}
+use Rattle.dude_base.specs.Image.{home_word, image_words}
+use Rattle.dude_base.specs.Records.{RedoRecord}
+use Rattle.dude_base.specs.Writes.{written}
+use Rattle.pmem_trait.specs.Groups.{PlacesFit, LinesFit}
+use Rattle.redo_record.specs.BackCalls.{home_writes, once_before, without_repeats, lines_touched}
+use Rattle.redo_record.specs.Waiting.{Waits}
+use Rattle.group_combine.specs.Group.{IsWrittenBy}
+use Rattle.backlog.specs.Lane.{LaneState}
+use Rattle.backlog.specs.Lanes.{AreLanes, no_lane, waiting_in, waiting_of}
+use Rattle.backlog.proofs.WaitingLanes.{waits_in}
+
+-- what holds of each word that is written
+written_has : (P : ℕ → Type 0) (ws : List Write) (i v : ℕ) → All (λ w. P w.at) ws → written ws i ≡ Some v → P i
+written_has P [] i v all is = absurd (cc)
+written_has P (w ∷ ws) i v all is = elim (cases_eq w.at i) [
+  | inl same ↦ subst P same (All-head (λ (w : Write). P w.at) w ws all)
+  | inr other ↦ written_has P ws i v (All-tail (λ (w : Write). P w.at) w ws all) (rw (ne_eqb w.at i other) at is)
+]
+
+-- a waiting record is one of home words
+pub home_waits : (s : Sizes) (lanes : List LaneState) (r : RedoRecord) → AreLanes s lanes → Waits (waiting_of lanes) r → All (λ w. w.at < s.pages * 64) r.writes
+home_waits s lanes r are waits =
+    let at = waits_in 0 lanes (waiting_in waits.ring r) waits.is_one in
+    All-contains (λ (q : RedoRecord). All (λ w. w.at < s.pages * 64) q.writes) (get_or lanes at.lane no_lane).waiting r (are.each at.lane no_lane at.within).home (at.among no_lane)
+
+-- writes that waiting records make are of home words
+pub inside_home : (s : Sizes) (lanes : List LaneState) (rs : List RedoRecord) (ws : List Write) → AreLanes s lanes → All (Waits (waiting_of lanes)) rs → All (IsWrittenBy rs) ws → All (λ w. w.at < s.pages * 64) ws
+inside_home s lanes rs ws are wait each = All-weaker (IsWrittenBy rs) (λ (w : Write). w.at < s.pages * 64) (λ w by.
+    let home = home_waits s lanes by.writer are (All-contains (Waits (waiting_of lanes)) rs by.writer wait by.among) in
+    written_has (λ i. i < s.pages * 64) by.writer.writes w.at w.value home by.writes) ws each
+
+pub places_fit : (s : Sizes) (ws : List Write) (len : ℕ) → image_words s ≤ len → All (λ w. w.at < s.pages * 64) ws → PlacesFit len (home_writes s ws)
+places_fit s ws len long inside = All-map (λ (w : ℕ × ℕ). w.0 < len) (λ (w : Write). (home_word s w.at, w.value)) ws
+    (All-weaker (λ (w : Write). w.at < s.pages * 64) (λ (w : Write). home_word s w.at < len) (λ w lt. omega arith) ws inside)
+
+all_once : (P : ℕ → Type 0) (x : ℕ) (xs : List ℕ) → P x → All P xs → All P (once_before x xs)
+all_once P x [] here all = All-cons P x [] here all
+all_once P x (y ∷ ys) here all = by (x == y)
+  where
+    by : (b : Bool) → All P (if b then y ∷ ys else x ∷ y ∷ ys)
+    by true = all
+    by false = All-cons P x (y ∷ ys) here all
+
+all_without_repeats : (P : ℕ → Type 0) (xs : List ℕ) → All P xs → All P (without_repeats xs)
+all_without_repeats P [] all = all
+all_without_repeats P (x ∷ xs) all = all_once P x (without_repeats xs) (All-head P x xs all) (all_without_repeats P xs (All-tail P x xs all))
+
+line_inside : (n q cells pages len : ℕ) → n ≡ 8 * q + n % 8 → n < (16 + cells * 8) + pages * 64 → (16 + cells * 8) + pages * 64 ≤ len → 8 * q + 8 ≤ len
+line_inside n q cells pages len is below long = omega arith
+
+pub lines_fit : (s : Sizes) (ws : List Write) (len : ℕ) → image_words s ≤ len → All (λ w. w.at < s.pages * 64) ws → LinesFit len (lines_touched (home_writes s ws))
+lines_fit s ws len long inside =
+    all_without_repeats (λ l. 8 * l + 8 ≤ len) (map (λ (w : ℕ × ℕ). w.0 / 8) (home_writes s ws))
+    (All-map (λ l. 8 * l + 8 ≤ len) (λ (w : ℕ × ℕ). w.0 / 8) (home_writes s ws)
+    (All-map (λ (w : ℕ × ℕ). 8 * (w.0 / 8) + 8 ≤ len) (λ (w : Write). (home_word s w.at, w.value)) ws
+    (All-weaker (λ (w : Write). w.at < s.pages * 64) (λ (w : Write). 8 * (home_word s w.at / 8) + 8 ≤ len) (λ w lt. omega arith) ws inside)))

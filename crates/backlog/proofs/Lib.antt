@@ -1,0 +1,10 @@
+pub mod AddedRecords
+pub mod EmptyLanes
+pub mod HomeWrites
+pub mod LaneRecords
+pub mod MappedLanes
+pub mod Merging
+pub mod PutLinesLemmas
+pub mod ReleasedRecords
+pub mod TakenCells
+pub mod WaitingLanes

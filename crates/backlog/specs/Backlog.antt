@@ -1,0 +1,56 @@
+-- What contracts see of a backlog, and the log and its home that it stands for.
+use Rattle.std.specs.Prelude.{ℕ, ◌<◌, ◌≤◌, Bool, List, All, map, slice_set}
+use Rattle.dude_base.specs.declared.limits.TheConstants.{MAX_NUMBER, VERSION}
+use Rattle.dude_base.specs.declared.sizes.Sizes.{Sizes}
+use Rattle.dude_base.specs.declared.write.Write.{Write}
+use Rattle.dude_base.specs.Sizes.{IsAccepted}
+use Rattle.dude_base.specs.Records.{RedoRecord}
+use Rattle.pmem_trait.specs.Sights.{Sight, CallsMade}
+use Rattle.redo_record.specs.Waiting.{Lead}
+use Rattle.redo_record.specs.LogState.{LogState}
+use Rattle.redo_record.specs.BackCalls.{reproduce_calls}
+use Rattle.backlog.specs.Lane.{LaneState, with_redo, released_lane}
+use Rattle.backlog.specs.Lanes.{AreLanes, AreLed, lane_at, rings_of, waiting_of}
+use Rattle.backlog.specs.HomeGroup.{StandFor}
+
+-- A backlog: the sizes of the image, the lanes of its rings, the number up to which it was announced that all is durable,
+-- and the one up to which the home has all writes.
+pub record BacklogState : Type 0 where
+  pub sizes : Sizes
+  pub lanes : List LaneState
+  pub durable : ℕ
+  pub reproduced : ℕ
+
+-- Sizes are accepted, and there is a lane for each ring. Waiting records are over the reproduced number, and lead from it
+-- to the durable one.
+pub record IsLawful (v : BacklogState) : Type 0 where
+  pub accepted : IsAccepted v.sizes
+  pub lanes : AreLanes v.sizes v.lanes
+  pub over : All (λ u. All (λ r. v.reproduced < r.number) u.waiting) v.lanes
+  pub led : AreLed v.lanes v.reproduced v.durable
+  pub small : v.durable ≤ MAX_NUMBER
+
+-- the log, with this home
+abbrev pub log_of : BacklogState → List ℕ → LogState
+log_of v home = record { version = VERSION; sizes = v.sizes; reproduced = v.reproduced; home = home; rings = rings_of v.lanes; waiting = waiting_of v.lanes }
+
+-- the backlog with this record behind those of its ring
+abbrev pub with_record_in : ℕ → RedoRecord → BacklogState → BacklogState
+with_record_in ring r v = record v { lanes = slice_set v.lanes ring (with_redo r (lane_at v.lanes ring)) }
+
+-- the backlog, where all up to this number is announced
+abbrev pub announced_to : ℕ → BacklogState → BacklogState
+announced_to number v = record v { durable = number }
+
+-- the backlog without its records up to this number, which the home now has
+abbrev pub without_records_to : ℕ → BacklogState → BacklogState
+without_records_to number v = record v { lanes = map (released_lane number) v.lanes; reproduced = number }
+
+-- The records up to this number are reproduced: the writes that stand for them are put, and then the mark; or, where ok is
+-- false, a prefix of these calls was made, whose last one failed.
+pub record Reproduces (v : BacklogState) (to : ℕ) (ok : Bool) (s t : Sight) : Type 0 where
+  pub records : List RedoRecord
+  pub writes : List Write
+  pub lead : Lead (waiting_of v.lanes) v.reproduced records to
+  pub stand : StandFor v.sizes records writes
+  pub made : CallsMade (reproduce_calls v.sizes writes to) ok s t

@@ -1,0 +1,9 @@
+pub mod Backlog
+pub mod Fronts
+pub mod HomeGroup
+pub mod KeptBacklog
+pub mod KeptHomeGroup
+pub mod KeptLane
+pub mod Lane
+pub mod Lanes
+pub mod PutLines

@@ -1,0 +1,13 @@
+//! The records of the log that wait for the home to have their writes: a lane for each ring, what they lead to, and what
+//! reproducing them puts.
+#![tactic(auto)]
+
+mod backlog;
+mod fronts;
+mod home_group;
+mod home_puts;
+mod lane;
+mod merge;
+
+pub use backlog::Backlog;
+pub use lane::Lane;
