@@ -1,0 +1,10 @@
+pub mod AnsweredCalls
+pub mod Announced
+pub mod Ends
+pub mod KeptLogs
+pub mod PageReads
+pub mod Persisted
+pub mod ReadPages
+pub mod Reproduction
+pub mod RestingHome
+pub mod Successes

@@ -1,0 +1,75 @@
+-- What the calls of a back make and leave, by their answers.
+use Rattle.std.specs.Prelude.{◌≡◌, ◌≢◌, ◌⊎◌, ◌==◌, ℕ, ◌+◌, ◌*◌, ◌≤◌, true, false, if◌then◌else◌, List, [], length, min, IfOk, Result, Ok, Err}
+use Rattle.dude_base.specs.declared.write.Write.{Write}
+use Rattle.dude_base.specs.Records.{RedoRecord}
+use Rattle.pmem_trait.specs.declared.call.Call.{Call}
+use Rattle.pmem_trait.specs.Sights.{Sight, CallsMade}
+use Rattle.redo_record.specs.Calls.{append_calls}
+use Rattle.redo_record.specs.Waiting.{Lead}
+use Rattle.log_ring.specs.Ring.{next_head}
+use Rattle.backlog.specs.Lanes.{lane_at}
+use Rattle.redo_record.specs.BackCalls.{announce_calls, reproduce_calls}
+use Rattle.backlog.specs.Backlog.{announced_to, with_record_in, without_records_to}
+use Rattle.backlog.specs.HomeGroup.{StandFor}
+use Rattle.back_store.specs.Back.{BackState, IsEnd, waiting_now}
+use Rattle.back_store.specs.declared.back_fault.BackFault.{BackFault}
+use Rattle.back_store.specs.declared.back_fault.BackFault.TheVariants.{RingFull, Device, Dead}
+
+-- At Ok exactly these calls were made; at Device a prefix of them, whose last one failed; else none.
+abbrev pub CallsAnswered : {X : Type 0} → Result X BackFault → List Call → Sight → Sight → Type 0
+CallsAnswered (Ok x) calls s t = CallsMade calls true s t
+CallsAnswered (Err Device) calls s t = CallsMade calls false s t
+CallsAnswered (Err Dead) calls s t = t ≡ s
+CallsAnswered (Err (RingFull used need)) calls s t = t ≡ s
+
+-- the calls that persist a record in its ring
+abbrev pub persist_calls : BackState → ℕ → RedoRecord → List Call
+persist_calls v ring r = append_calls v.log.sizes (next_head (lane_at v.log.lanes ring).ring) r
+
+-- the back after a call: as the call leaves it at Ok; dead at Device, and else as it was; as it was at each other fault
+abbrev pub answered : {X : Type 0} → Result X BackFault → (X → BackState) → BackState → BackState
+answered (Ok x) ok v = ok x
+answered (Err Device) ok v = record v { dead = true }
+answered (Err Dead) ok v = v
+answered (Err (RingFull used need)) ok v = v
+
+-- the back with this record behind those of its ring
+abbrev pub with_record : ℕ → RedoRecord → BackState → BackState
+with_record ring r v = record v { log = with_record_in ring r v.log }
+
+-- the back where all up to this number is announced
+abbrev pub announced : BackState → ℕ → BackState
+announced v number = record v { log = announced_to number v.log }
+
+-- the back without its records up to this number, which the home now has; as it was where the home had them
+abbrev pub reproduced : BackState → ℕ → BackState
+reproduced v number = if number == v.log.reproduced then v else record v { log = without_records_to number v.log }
+
+-- the number up to which the next at most so many durable records lead
+abbrev pub stop_after : BackState → ℕ → ℕ
+stop_after v most = min v.log.durable (v.log.reproduced + most)
+
+-- The number announced, and answered, is the one to which waiting records lead.
+pub record Announces (v : BackState) (result : Result ℕ BackFault) (s t : Sight) : Type 0 where
+  pub end : ℕ
+  pub is_end : IsEnd v end
+  pub answer : IfOk result (λ number. number ≡ end)
+  pub made : CallsAnswered result (announce_calls end) s t
+
+-- The records up to a number are reproduced by these calls: the words that they write are put, then the mark. There are at
+-- most two calls for each word, and four.
+pub record ReproducedBy (v : BackState) (number : ℕ) (calls : List Call) : Type 0 where
+  pub records : List RedoRecord
+  pub writes : List Write
+  pub some : number ≢ v.log.reproduced
+  pub lead : Lead (waiting_now v) v.log.reproduced records number
+  pub stand : StandFor v.log.sizes records writes
+  pub calls_are : calls ≡ reproduce_calls v.log.sizes writes number
+  pub few : length calls ≤ 2 * length writes + 4
+
+-- The number is answered. Where there is nothing to do no call is made.
+pub record Reproduces (v : BackState) (number : ℕ) (result : Result ℕ BackFault) (s t : Sight) : Type 0 where
+  pub calls : List Call
+  pub by : ((number ≡ v.log.reproduced) × (calls ≡ [])) ⊎ ReproducedBy v number calls
+  pub answer : IfOk result (λ reached. reached ≡ number)
+  pub made : CallsAnswered result calls s t

@@ -1,0 +1,5 @@
+pub mod Answers
+pub mod Back
+pub mod Faults
+pub mod Images
+pub mod BackView
