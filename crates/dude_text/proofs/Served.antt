@@ -7,10 +7,10 @@ use Rattle.std.proofs.lemmas.Bool.Decides.{nat_tests}
 use Rattle.std.proofs.lemmas.Grind.{common_steps}
 use Rattle.tatp_model.specs.declared.request.Request.{Request}
 use Rattle.tatp_model.specs.declared.request.Request.TheVariants.{GetSubscriber, UpdateLocation}
-use Rattle.dude_text.specs.Number.{number_in, phone_in}
+use Rattle.number_text.specs.Number.{number_in, phone_in}
 use Rattle.dude_text.specs.Record.{fields_of, get_subscriber_of, update_location_of, request_of_fields, request_of}
 use Rattle.dude_text.specs.RequestFile.{IsServable}
-use Rattle.dude_text.proofs.Digits.{digits_value-lt_power}
+use Rattle.number_text.proofs.Digits.{digits_value-lt_power}
 
 number_in-Some : (most least greatest : ℕ) (text : List ℕ) (n : ℕ) → number_in most least greatest text ≡ Some n → (least ≤ n) × (n ≤ greatest)
 number_in-Some most least greatest text n some = grind (arith, common_steps, nat_tests)

@@ -1,5 +1,4 @@
-pub mod Number
+pub use Rattle.number_text.specs.Number
+pub use Rattle.reply_text.specs.Output
 pub mod Record
 pub mod RequestFile
-pub mod ReplyText
-pub mod Output

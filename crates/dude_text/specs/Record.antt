@@ -5,7 +5,7 @@ use Rattle.std.specs.List.{slice_split}
 use Rattle.std.specs.Str.{bytes_eq}
 use Rattle.tatp_model.specs.declared.request.Request.{Request}
 use Rattle.tatp_model.specs.declared.request.Request.TheVariants.{GetSubscriber, UpdateLocation}
-use Rattle.dude_text.specs.Number.{number_in, phone_in}
+use Rattle.number_text.specs.Number.{number_in, phone_in}
 
 -- the fields of a record, which commas separate
 abbrev pub fields_of : List ℕ → List (List ℕ)

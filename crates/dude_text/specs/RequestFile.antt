@@ -4,8 +4,8 @@ use Rattle.std.specs.List.{slice_split, list_all, filter_map}
 use Rattle.tatp_model.specs.declared.request.Request.{Request}
 use Rattle.tatp_model.specs.declared.request.Request.TheVariants.{GetSubscriber, UpdateLocation}
 use Rattle.tatp_model.specs.Ranges.{IsId, IsPhone, IsLocation}
-use Rattle.dude_text.specs.declared.text_fault.TextFault.{TextFault}
-use Rattle.dude_text.specs.declared.text_fault.TextFault.TheVariants.{Bad, NoMemory}
+use Rattle.request_text.specs.declared.text_fault.TextFault.{TextFault}
+use Rattle.request_text.specs.declared.text_fault.TextFault.TheVariants.{Bad, NoMemory}
 use Rattle.dude_text.specs.Record.{request_of}
 
 -- the lines of a file: what stands between LFs, where it isn't empty

@@ -1,14 +1,11 @@
-//! The texts of the first stage: request files, replies and the output of a run. Nothing here needs a medium.
+//! The texts of the first stage: request files of two requests. Numbers, replies and the output of a run are those of
+//! the crates below. Nothing here needs a medium.
 #![tactic(auto)]
 
-mod number;
-mod output;
 mod record;
-mod reply_text;
 mod request_file;
-mod text_fault;
 
-pub use number::number_in;
-pub use output::{write_done, write_last};
-pub use request_file::{MAX_BYTES, read_requests};
-pub use text_fault::TextFault;
+pub use number_text::number_in;
+pub use reply_text::{write_done, write_last};
+pub use request_file::read_requests;
+pub use request_text::{MAX_BYTES, TextFault};

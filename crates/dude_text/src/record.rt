@@ -3,7 +3,7 @@
 ghost use Rattle.std.specs.Prelude.{◌≡◌, ◌==◌, ◌∷◌, [], MatchOption, position};
 ghost use Rattle.dude_text.specs.Record.{fields_of, get_subscriber_of, update_location_of, request_of};
 
-use crate::number::{number_in, phone_in};
+use number_text::{number_in, phone_in};
 use tatp_model::Request;
 
 /// The most digits that a number in a record may have.

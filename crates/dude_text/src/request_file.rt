@@ -4,15 +4,9 @@ ghost use Rattle.std.specs.Prelude.{◌≡◌, Some, IfOk, IfErr};
 ghost use Rattle.dude_text.specs.RequestFile.{requests_of, AreServable, IsTextFault};
 
 use crate::record::request_of;
-use crate::text_fault::TextFault;
+use request_text::{MAX_BYTES, MAX_RECORDS, TextFault};
 use std::alloc::Global;
 use tatp_model::Request;
-
-/// The most bytes that a request file may have.
-pub const MAX_BYTES: usize = 16_777_216;
-
-/// The most records that a request file may have.
-const MAX_RECORDS: usize = 100_000;
 
 /// What a bad file is answered with.
 const BAD: TextFault = TextFault::Bad { row: 0, field: 0 };
@@ -31,7 +25,7 @@ pub fn read_requests(alloc: Global, bytes: &[u8]) -> Result<Vec<Request>, TextFa
         .split(|byte| *byte == b'\n')
         .filter(|line| !line.is_empty());
     for line in lines {
-        if requests.len() == MAX_RECORDS {
+        if requests.len() as u64 == MAX_RECORDS {
             return Err(BAD);
         }
         let Some(request) = request_of(line) else {
