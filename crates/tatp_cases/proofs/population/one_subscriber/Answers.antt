@@ -3,7 +3,7 @@ use Rattle.std.proofs.Common.{◌≡◌, ◌∙◌, sym, subst, ap, [], ◌∷�
 use Rattle.tatp_model.specs.Database.{IsInOrder}
 use Rattle.tatp_model.specs.Population.{population}
 use Rattle.tatp_model.proofs.PopulationInOrder.{IsInOrder-population}
-use Rattle.tatp_tests.proofs.population.one_subscriber.Goals as goal
+use Rattle.tatp_cases.proofs.population.one_subscriber.Goals as goal
 
 pub returns-clause-in_order : goal.returns-clause-in_order
 returns-clause-in_order c =

@@ -1,9 +1,9 @@
 //! What a run prints.
 
-use crate::population::FIRST_ROW;
-use dude_text::{write_done, write_last};
 use std::test::Fail;
+use tatp_cases::FIRST_ROW;
 use tatp_model::{AccessData, Done, Numbers, Reply, Request, SubRow};
+use tatp_text::{write_done, write_last};
 
 /// A number and a reply, and the line that they print.
 const REPLIES: [(u64, Reply, &[u8]); 10] = [
