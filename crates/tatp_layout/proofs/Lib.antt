@@ -1,0 +1,10 @@
+pub mod Added
+pub mod Decoded
+pub mod DigitLists
+pub mod Dropped
+pub mod Found
+pub mod Places
+pub mod Rewritten
+pub mod Stays
+pub mod Stored
+pub mod Tables

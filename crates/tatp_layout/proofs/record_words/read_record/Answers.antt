@@ -1,0 +1,66 @@
+use Rattle.std.proofs.Common.{◌≡◌, None, Ok, ◌+◌, ◌≤◌, ◌<◌, ℕ, List, slice_set, length, length-set, slice_index, ap, sym, ◌∙◌, arith, get_or-set_other, get_or-set_same, inl, inr}
+use Rattle.std.proofs.lemmas.Bool.{cases_eq}
+use Rattle.std.proofs.lemmas.List.{length-replicate}
+use Rattle.std.specs.Prelude.{replicate}
+use Rattle.word_space.proofs.Runs.{looked_then, below_looked, shown_looked}
+use Rattle.record_heap.proofs.Calls.{most_more, most_read, most_then}
+use Rattle.word_space.specs.Sights.{shown}
+use Rattle.tatp_layout.proofs.record_words.read_record.Goals as goal
+
+-- one more field was read
+fields_more : (words array : List ℕ) (at k value : ℕ) → k < length words → value ≡ slice_index array (at + k)
+    → ((j : ℕ) → 2 ≤ j → j < k → slice_index words j ≡ slice_index array (at + j))
+    → (j : ℕ) → 2 ≤ j → j < k + 1 → slice_index (slice_set words k value) j ≡ slice_index array (at + j)
+fields_more words array at k value inside is before j from under =
+    elim (cases_eq j k) [
+      | inl same ↦ ap (λ i. slice_index (slice_set words k value) i) same ∙ get_or-set_same words k value 0 inside ∙ is ∙ ap (λ i. slice_index array (at + i)) (sym same)
+      | inr other ↦ get_or-set_other words k j value 0 other ∙ before j from (omega arith)
+    ]
+
+pub returns-in_err-words-clause-most : goal.returns-in_err-words-clause-most
+returns-in_err-words-clause-most g c = most_more _ 0 (most_read c.in_err-words.ensures.reads) (omega arith) (omega arith)
+
+pub loop-k-init : goal.loop-k-init
+loop-k-init g c =
+    let read = c.in_ok-words.ensures in
+    let none : List ℕ = replicate g.row.N 0 in
+    let many : length none ≡ g.row.N = length-replicate {A = ℕ} g.row.N 0 in
+    record {
+      looked = read.reads.looked;
+      turns = read.turns;
+      most = most_read {result = Ok c.in_ok-words.field-0} read.reads;
+      long = length-set none 0 c.in_ok-words.field-0 ∙ many;
+      key = λ array below. get_or-set_same none 0 c.in_ok-words.field-0 0 (omega (arith, many, c.requires.wide)) ∙ read.value array below;
+      fields = λ array below j from under. absurd (omega arith);
+    }
+
+pub read-requires-in-loop-k : goal.read-requires-in-loop-k
+read-requires-in-loop-k g c = record { inside = omega (arith, c.loop-k.invariant.looked.ran.count) }
+
+pub returns-in_err-words-2-clause-most : goal.returns-in_err-words-2-clause-most
+returns-in_err-words-2-clause-most g c = most_more _ 0 (most_then c.loop-k.invariant.most (most_read c.in_err-words-2.ensures.reads)) (omega arith) (omega arith)
+
+pub loop-k-preserved : goal.loop-k-preserved
+loop-k-preserved g c =
+    let before = c.loop-k.invariant in
+    let k = c.loop-k.k in
+    let value = c.in_ok-words-2.field-0 in
+    let read = c.in_ok-words-2.ensures in
+    record {
+      looked = looked_then {stop = None} before.looked read.reads.looked;
+      turns = λ x led. read.turns x (before.turns x led);
+      most = most_more _ 0 (most_then before.most (most_read {result = Ok value} read.reads)) (omega arith) (omega arith);
+      long = length-set c.loop-k.words k value ∙ before.long;
+      key = λ array below. get_or-set_other c.loop-k.words k 0 value 0 (omega arith) ∙ before.key array (below_looked {stop = None} read.reads.looked below);
+      fields = λ array below.
+          fields_more c.loop-k.words (shown (g.W.Words.sight c.args.w.now) array) c.args.at k value (omega (arith, before.long))
+          (read.value array below ∙ ap (λ seen. slice_index seen (c.args.at + k)) (shown_looked {stop = None} before.looked array))
+          (before.fields array (below_looked {stop = None} read.reads.looked below));
+    }
+
+pub returns-clause-words : goal.returns-clause-words
+returns-clause-words g c = λ array below. record {
+  long = c.loop-k.invariant.long;
+  key = c.loop-k.invariant.key array below;
+  fields = λ k from under. c.loop-k.invariant.fields array below k from (omega arith);
+}

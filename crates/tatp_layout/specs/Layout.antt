@@ -1,0 +1,64 @@
+-- Where the five tables stand in the home: one after another, from word 0 on.
+--
+--     8 words                    the pool's header: the first free record, or 0; how many are taken; 6 words not read
+--     the buckets' links         in whole lines; words behind the last link not read
+--     the records                in whole lines
+use Rattle.std.specs.Prelude.{ℕ, ◌+◌, ◌*◌}
+use Rattle.dude_base.specs.declared.limits.TheConstants.{LINE, MAX_ROWS, SUBSCRIBER_WORDS, ROW_WORDS}
+use Rattle.dude_base.specs.declared.sizes.Sizes.{Sizes}
+use Rattle.dude_base.specs.Home.{TableShape, in_whole_lines, table_words}
+use Rattle.hash_table.specs.declared.table.Table.{Table}
+
+-- a table of this shape whose header stands at this word
+abbrev pub table_at : ℕ → TableShape → Table
+table_at base shape = record {
+  buckets = shape.buckets;
+  at = base + LINE;
+  pool = record { base = base; first = base + LINE + in_whole_lines shape.buckets; size = shape.size; count = shape.records };
+}
+
+-- the shapes: as many buckets as records
+abbrev pub shape_of : ℕ → ℕ → TableShape
+shape_of records size = record { buckets = records; records = records; size = size }
+
+abbrev pub subscriber_shape : Sizes → TableShape
+subscriber_shape s = shape_of s.subscribers SUBSCRIBER_WORDS
+
+abbrev pub number_shape : Sizes → TableShape
+number_shape s = shape_of s.subscribers ROW_WORDS
+
+-- of the access table and of the facility table
+abbrev pub kind_shape : Sizes → TableShape
+kind_shape s = shape_of (MAX_ROWS * s.subscribers) ROW_WORDS
+
+abbrev pub call_shape : Sizes → TableShape
+call_shape s = shape_of s.calls ROW_WORDS
+
+-- where each table begins
+abbrev pub number_base : Sizes → ℕ
+number_base s = table_words (subscriber_shape s)
+
+abbrev pub access_base : Sizes → ℕ
+access_base s = number_base s + table_words (number_shape s)
+
+abbrev pub facility_base : Sizes → ℕ
+facility_base s = access_base s + table_words (kind_shape s)
+
+abbrev pub call_base : Sizes → ℕ
+call_base s = facility_base s + table_words (kind_shape s)
+
+-- the tables
+abbrev pub subscriber_table : Sizes → Table
+subscriber_table s = table_at 0 (subscriber_shape s)
+
+abbrev pub number_table : Sizes → Table
+number_table s = table_at (number_base s) (number_shape s)
+
+abbrev pub access_table : Sizes → Table
+access_table s = table_at (access_base s) (kind_shape s)
+
+abbrev pub facility_table : Sizes → Table
+facility_table s = table_at (facility_base s) (kind_shape s)
+
+abbrev pub call_table : Sizes → Table
+call_table s = table_at (call_base s) (call_shape s)

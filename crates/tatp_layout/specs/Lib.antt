@@ -1,0 +1,7 @@
+pub mod Decoding
+pub mod Digits
+pub mod Inside
+pub mod Layout
+pub mod RecordWords
+pub mod Records
+pub mod StandsFor

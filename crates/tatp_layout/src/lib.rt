@@ -1,0 +1,17 @@
+//! The home of the five tables: where they stand, for which rows an array of its words stands, and the rows in their records.
+#![tactic(auto)]
+
+pub mod access_record;
+pub mod call_record;
+mod digits;
+pub mod facility_record;
+pub mod keys;
+pub mod layout;
+mod record_words;
+pub mod subscriber_record;
+
+pub use access_record::{access_of, get_access};
+pub use call_record::{call_of, get_call, put_call};
+pub use facility_record::{facility_of, get_fac, put_data_a};
+pub use layout::Layout;
+pub use subscriber_record::{get_sub, put_bit1, put_vlr, subscriber_of};
