@@ -1,0 +1,4 @@
+pub mod Causes
+pub mod Filled
+pub mod Filling
+pub mod Populated

@@ -1,0 +1,8 @@
+/// Why there is no new home.
+#[derive(Clone, Copy, Debug, PartialEq, Eq)]
+pub enum PopFault {
+    /// The population has more call forwardings than the layout has room for.
+    TooFew { rows: u64, calls: u64 },
+    /// Want of memory.
+    NoMemory,
+}
