@@ -1,0 +1,9 @@
+pub mod ByKey
+pub mod Compared
+pub mod Ends
+pub mod Judged
+pub mod Lawful
+pub mod Mapped
+pub mod Marking
+pub mod OneWord
+pub mod Steps

@@ -1,0 +1,188 @@
+-- The first wrong word of a table is one, and there is none where nothing is wrong.
+use Rattle.std.proofs.Common.{◌≡◌, ◌≢◌, ◌⊎◌, inl, inr, ℕ, zero, suc, ◌+◌, ◌<◌, List, [], ◌∷◌, ◌++◌, length, All, AllPairs, Contains, slice_index, get_or, refl, sym, ap, ap₂, ◌∙◌, subst, arith, append_assoc}
+use Rattle.std.proofs.lemmas.Bool.{cases_order}
+use Rattle.std.proofs.lemmas.List.{append-nil, drop_all}
+use Rattle.std.proofs.lemmas.List.Elements.{All-contains, Contains-append_right, Contains-get_or}
+use Rattle.record_heap.specs.Pool.{IsRecord}
+use Rattle.hash_table.specs.declared.table.Table.{Table}
+use Rattle.hash_table.specs.Table.{link_after, records_in}
+use Rattle.hash_table.specs.Walk.{IsPath}
+use Rattle.table_check.specs.Faults.{FitsNew, IsWrongNext, IsInChains, IsWrongFree, IsInFreeList, IsUnmet, IsFirstWrong}
+use Rattle.table_check.specs.Marks.{IsNew}
+use Rattle.table_check.specs.Walk.{IsSound, HasMetChains, HasMetFree, HasFreeList, HasMetLists, HasMetAll, IsWhole}
+use Rattle.table_check.proofs.Compared.{pairs_across, path_in_linked, path_in_path, linked_one, GoesOn, next_of, front_same, goes_further, goes_longer}
+
+first_contained : (x : ℕ) (xs : List ℕ) → Contains (x ∷ xs) x
+first_contained x xs = (0, omega arith, refl)
+
+module _ (content : ℕ → ℕ → Type 0) (table : Table) (array : List ℕ) (none : ¬ IsRecord table.pool 0) where
+  -- ---- chains
+
+  -- a record that comes next in another walk is right
+  fits_new : {bucket at : ℕ} (met : List ℕ) → IsSound content table array bucket at → All (λ x. slice_index array x ≢ slice_index array at) met → (offset : ℕ) → offset < table.pool.size → FitsNew content table array bucket met at offset
+  fits_new met sound new zero below = (sound.fits zero below, new)
+  fits_new met sound new (suc k) below = sound.fits (suc k) below
+
+  -- where another walk goes on, nothing is wrong
+  pub not_wrong : (cs : List (List ℕ)) (p met : List ℕ) → AllPairs (λ x y. slice_index array x ≢ slice_index array y) met → GoesOn content table array none cs p met → (word : ℕ)
+      → ¬ IsWrongNext content table array (length cs) (records_in cs ++ p) (link_after (table.at + length cs) p) word
+  not_wrong cs p met differ on word = by on.next
+    where
+      by : (next_of content table array none cs p ≡ 0) ⊎ ((rest : List ℕ) × (on.behind ≡ next_of content table array none cs p ∷ rest) × IsSound content table array (length cs) (next_of content table array none cs p))
+          → ¬ IsWrongNext content table array (length cs) (records_in cs ++ p) (link_after (table.at + length cs) p) word
+      by (inl end) (inl wrong) = wrong.0.leads end
+      by (inl end) (inr wrong) = none (subst (IsRecord table.pool) end wrong.new.place)
+      by (inr more) wrong =
+          let at = next_of content table array none cs p in
+          let all : AllPairs (λ x y. slice_index array x ≢ slice_index array y) ((records_in cs ++ p) ++ at ∷ more.0) =
+          subst (AllPairs (λ x y. slice_index array x ≢ slice_index array y)) (on.all ∙ ap (λ l. (records_in cs ++ p) ++ l) more.1) differ in
+          let apart : (x : ℕ) → Contains (records_in cs ++ p) x → slice_index array x ≢ slice_index array at =
+          λ x c. pairs_across (λ x y. slice_index array x ≢ slice_index array y) (records_in cs ++ p) (at ∷ more.0) x at all c (first_contained at more.0) in
+          let new : All (λ x. slice_index array x ≢ slice_index array at) (records_in cs ++ p) = λ k d below. apart (get_or (records_in cs ++ p) k d) (Contains-get_or (records_in cs ++ p) k d below) in
+          let unmet : ¬ Contains (records_in cs ++ p) at = λ c. apart at c refl in
+          elim wrong [
+            | inl link ↦ link.0.astray (record { place = more.2.place; unmet = unmet })
+            | inr bad ↦ bad.wrong (fits_new (records_in cs ++ p) more.2 new bad.offset bad.inside)
+          ]
+
+  -- what is wrong next is one word
+  one_next : (bucket link v w : ℕ) (met : List ℕ) → IsWrongNext content table array bucket met link v → IsWrongNext content table array bucket met link w → v ≡ w
+  one_next bucket link v w met (inl a) (inl b) = a.1 ∙ sym b.1
+  one_next bucket link v w met (inl a) (inr b) = absurd (a.0.astray b.new)
+  one_next bucket link v w met (inr a) (inl b) = absurd (b.0.astray a.new)
+  one_next bucket link v w met (inr a) (inr b) = elim (cases_order a.offset b.offset) [
+    | inl same ↦ a.word_is ∙ ap (λ o. slice_index array link + o) same ∙ sym b.word_is
+    | inr order ↦ elim order [
+      | inl before ↦ absurd (a.wrong (b.before a.offset before))
+      | inr behind ↦ absurd (b.wrong (a.before b.offset behind))
+    ]
+  ]
+
+  -- the way on from two walks that met other records
+  one_in_chains : (v w : ℕ) → IsInChains content table array v → IsInChains content table array w → v ≡ w
+  one_in_chains v w a b = elim (cases_order (length a.chains) (length b.chains)) [
+    | inl same ↦
+        let chains : a.chains ≡ b.chains = sym (front_same content table array none a.chains a.part b.chains b.part a.met b.met (omega (arith, same)) ∙ ap (λ l. a.chains ++ l) (drop_all (length a.chains) b.chains (omega (arith, same))) ∙ append-nil a.chains) in
+        elim (path_in_path array (table.at + length a.chains) a.part b.part a.met.path (subst (λ n. IsPath array (table.at + n) b.part) (sym same) b.met.path)) [
+          | inl part ↦ one_next (length b.chains) (link_after (table.at + length b.chains) b.part) v w (records_in b.chains ++ b.part)
+              (subst (λ p. IsWrongNext content table array (length b.chains) (records_in b.chains ++ p) (link_after (table.at + length b.chains) p) v) part
+              (subst (λ cs. IsWrongNext content table array (length cs) (records_in cs ++ a.part) (link_after (table.at + length cs) a.part) v) chains a.next)) b.next
+          | inr other ↦ elim other [
+            | inl longer ↦ absurd (not_wrong a.chains a.part _ b.met.keys_differ (goes_longer content table array none a.chains a.part b.chains b.part a.met b.met chains longer.0 longer.1) v a.next)
+            | inr shorter ↦ absurd (not_wrong b.chains b.part _ a.met.keys_differ (goes_longer content table array none b.chains b.part a.chains a.part b.met a.met (sym chains) shorter.0
+                (shorter.1 ∙ ap (λ n. b.part ++ slice_index array (link_after (table.at + n) b.part) ∷ shorter.0) same)) w b.next)
+          ]
+        ]
+    | inr order ↦ elim order [
+      | inl fewer ↦ absurd (not_wrong a.chains a.part _ b.met.keys_differ (goes_further content table array none a.chains a.part b.chains b.part a.met b.met fewer) v a.next)
+      | inr more ↦ absurd (not_wrong b.chains b.part _ a.met.keys_differ (goes_further content table array none b.chains b.part a.chains a.part b.met a.met more) w b.next)
+    ]
+  ]
+
+  -- where all chains were followed, nothing is wrong in them
+  pub right_chains : (chains : List (List ℕ)) → HasMetChains content table array chains → (v : ℕ) → ¬ IsInChains content table array v
+  right_chains chains whole v a =
+      not_wrong a.chains a.part _ whole.met.keys_differ (goes_further content table array none a.chains a.part chains [] a.met whole.met (omega (arith, a.bucket, whole.all))) v a.next
+
+  -- the chains are one list
+  pub one_chains : (cs ds : List (List ℕ)) → HasMetChains content table array cs → HasMetChains content table array ds → cs ≡ ds
+  one_chains cs ds first second =
+      let same : length cs ≡ length ds = first.all ∙ sym second.all in
+      sym (front_same content table array none cs [] ds [] first.met second.met (omega (arith, same)) ∙ ap (λ l. cs ++ l) (drop_all (length cs) ds (omega (arith, same))) ∙ append-nil cs)
+
+  -- ---- the free list
+
+  free_some : (xs : List ℕ) → All (IsRecord table.pool) xs → All (λ x. x ≢ 0) xs
+  free_some xs places = λ k d below same. none (subst (IsRecord table.pool) same (places k d below))
+
+  -- a free record that comes next in another walk is new
+  free_new : (taken xs : List ℕ) (x : ℕ) (rest : List ℕ) (ys : List ℕ) → HasMetFree table array taken ys → ys ≡ xs ++ x ∷ rest → IsNew table.pool (taken ++ xs) x
+  free_new taken xs x rest ys met is =
+      let all : AllPairs (λ a b. a ≢ b) ((taken ++ xs) ++ x ∷ rest) = subst (AllPairs (λ a b. a ≢ b)) (ap (λ l. taken ++ l) is ∙ sym (append_assoc taken xs (x ∷ rest))) met.differ in
+      record {
+        place = All-contains (IsRecord table.pool) (xs ++ x ∷ rest) x (subst (All (IsRecord table.pool)) is met.places) (Contains-append_right xs (x ∷ rest) x (first_contained x rest));
+        unmet = λ c. pairs_across (λ a b. a ≢ b) (taken ++ xs) (x ∷ rest) x x all c (first_contained x rest) refl;
+      }
+
+  -- a wrong link of the free list is one
+  one_free : (taken : List ℕ) (v w : ℕ) → IsWrongFree table array taken v → IsWrongFree table array taken w → v ≡ w
+  one_free taken v w a b =
+      let next_a : link_after table.pool.base a.free ≡ v = sym a.word_is in
+      let next_b : link_after table.pool.base b.free ≡ w = sym b.word_is in
+      elim (path_in_path array table.pool.base a.free b.free a.met.path b.met.path) [
+        | inl same ↦ a.word_is ∙ ap (link_after table.pool.base) same ∙ next_b
+        | inr other ↦ elim other [
+          | inl longer ↦ absurd (a.link.astray (free_new taken a.free _ longer.0 b.free b.met (longer.1 ∙ ap (λ l. a.free ++ slice_index array l ∷ longer.0) next_a)))
+          | inr shorter ↦ absurd (b.link.astray (free_new taken b.free _ shorter.0 a.free a.met (shorter.1 ∙ ap (λ l. b.free ++ slice_index array l ∷ shorter.0) next_b)))
+        ]
+      ]
+
+  -- where the free list was followed, none of its links is wrong
+  right_free : (taken free : List ℕ) → HasFreeList table array taken free → (v : ℕ) → ¬ IsWrongFree table array taken v
+  right_free taken free list v a =
+      let next : link_after table.pool.base a.free ≡ v = sym a.word_is in
+      elim (path_in_linked array table.pool.base a.free free (free_some a.free a.met.places) a.met.path list.ended) [
+        | inl whole ↦ a.link.leads (ap (slice_index array) a.word_is ∙ whole.1)
+        | inr front ↦ a.link.astray (free_new taken a.free _ front.0 free list.met (front.1 ∙ ap (λ l. a.free ++ slice_index array l ∷ front.0) next))
+      ]
+
+  one_list : (taken xs ys : List ℕ) → HasFreeList table array taken xs → HasFreeList table array taken ys → xs ≡ ys
+  one_list taken xs ys first second = linked_one array table.pool.base xs ys (free_some xs first.met.places) (free_some ys second.met.places) first.ended second.ended
+
+  -- ---- the whole table
+
+  -- each list of a table is one
+  pub one_lists : (cs ds : List (List ℕ)) (xs ys : List ℕ) → HasMetLists content table array cs xs → HasMetLists content table array ds ys → (cs ≡ ds) × (xs ≡ ys)
+  one_lists cs ds xs ys a b =
+      let same = one_chains cs ds a.met b.met in
+      (same, one_list (records_in ds) xs ys (subst (λ l. HasFreeList table array (records_in l) xs) same a.met_free) b.met_free)
+
+  same_free : (cs ds : List (List ℕ)) (w : ℕ) → HasMetChains content table array cs → HasMetChains content table array ds → IsWrongFree table array (records_in cs) w → IsWrongFree table array (records_in ds) w
+  same_free cs ds w a b wrong = subst (λ l. IsWrongFree table array (records_in l) w) (one_chains cs ds a b) wrong
+
+  right_lists : (cs : List (List ℕ)) (xs : List ℕ) → HasMetLists content table array cs xs → (v : ℕ) → ¬ IsInFreeList content table array v
+  right_lists cs xs lists v wrong = right_free (records_in cs) xs lists.met_free v (same_free wrong.chains cs v wrong.met lists.met wrong.wrong)
+
+  same_met : (cs ds : List (List ℕ)) (xs ys : List ℕ) → HasMetLists content table array cs xs → HasMetLists content table array ds ys → records_in cs ++ xs ≡ records_in ds ++ ys
+  same_met cs ds xs ys a b = let same = one_lists cs ds xs ys a b in ap₂ (λ l m. records_in l ++ m) same.0 same.1
+
+  right_all : (cs : List (List ℕ)) (xs : List ℕ) → HasMetAll content table array cs xs → (v : ℕ) → ¬ IsUnmet content table array v
+  right_all cs xs all v wrong = wrong.new.unmet (subst (λ l. Contains l v) (same_met cs wrong.chains xs wrong.free all.met wrong.met) (all.every v wrong.new.place))
+
+  one_unmet : (v w : ℕ) → IsUnmet content table array v → IsUnmet content table array w → v ≡ w
+  one_unmet v w a b =
+      let same = same_met a.chains b.chains a.free b.free a.met b.met in
+      elim (cases_order v w) [
+        | inl is ↦ is
+        | inr order ↦ elim order [
+          | inl less ↦ absurd (a.new.unmet (subst (λ l. Contains l v) (sym same) (b.lower v a.new.place less)))
+          | inr more ↦ absurd (b.new.unmet (subst (λ l. Contains l w) same (a.lower w b.new.place more)))
+        ]
+      ]
+
+  -- the first wrong word is one
+  pub one_wrong : (v w : ℕ) → IsFirstWrong content table array v → IsFirstWrong content table array w → v ≡ w
+  one_wrong v w (inl a) (inl b) = one_in_chains v w a b
+  one_wrong v w (inl a) (inr (inl b)) = absurd (right_chains b.chains b.met v a)
+  one_wrong v w (inl a) (inr (inr (inl b))) = absurd (right_chains b.chains b.met.met v a)
+  one_wrong v w (inl a) (inr (inr (inr b))) = absurd (right_chains b.chains b.met.met.met v a)
+  one_wrong v w (inr (inl a)) (inl b) = absurd (right_chains a.chains a.met w b)
+  one_wrong v w (inr (inl a)) (inr (inl b)) = one_free (records_in b.chains) v w (same_free a.chains b.chains v a.met b.met a.wrong) b.wrong
+  one_wrong v w (inr (inl a)) (inr (inr (inl b))) = absurd (right_lists b.chains b.free b.met v a)
+  one_wrong v w (inr (inl a)) (inr (inr (inr b))) = absurd (right_lists b.chains b.free b.met.met v a)
+  one_wrong v w (inr (inr (inl a))) (inl b) = absurd (right_chains a.chains a.met.met w b)
+  one_wrong v w (inr (inr (inl a))) (inr (inl b)) = absurd (right_lists a.chains a.free a.met w b)
+  one_wrong v w (inr (inr (inl a))) (inr (inr (inl b))) = one_unmet v w a b
+  one_wrong v w (inr (inr (inl a))) (inr (inr (inr b))) = absurd (right_all b.chains b.free b.met v a)
+  one_wrong v w (inr (inr (inr a))) (inl b) = absurd (right_chains a.chains a.met.met.met w b)
+  one_wrong v w (inr (inr (inr a))) (inr (inl b)) = absurd (right_lists a.chains a.free a.met.met w b)
+  one_wrong v w (inr (inr (inr a))) (inr (inr (inl b))) = absurd (right_all a.chains a.free a.met w b)
+  one_wrong v w (inr (inr (inr a))) (inr (inr (inr b))) = a.word_is ∙ sym b.word_is
+
+  -- where nothing is wrong there is none
+  pub none_wrong : (cs : List (List ℕ)) (xs : List ℕ) → IsWhole content table array cs xs → (w : ℕ) → ¬ IsFirstWrong content table array w
+  none_wrong cs xs whole w (inl b) = right_chains cs whole.met.met.met w b
+  none_wrong cs xs whole w (inr (inl b)) = right_lists cs xs whole.met.met w b
+  none_wrong cs xs whole w (inr (inr (inl b))) = right_all cs xs whole.met w b
+  none_wrong cs xs whole w (inr (inr (inr b))) =
+      b.differs (ap (slice_index array) b.word_is ∙ whole.count ∙ ap (λ l. length (records_in l)) (one_lists cs b.chains xs b.free whole.met.met b.met.met).0)

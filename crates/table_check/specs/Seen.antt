@@ -1,0 +1,62 @@
+-- What is known on the way through a table.
+use Rattle.std.specs.Prelude.{◌≡◌, ◌≢◌, ℕ, ◌+◌, ◌<◌, ◌≤◌, Option, MatchOption, List, [], ◌∷◌, ◌++◌, length, All, AllPairs, slice_index}
+use Rattle.hash_table.specs.declared.table.Table.{Table}
+use Rattle.hash_table.specs.Table.{link_after, records_in}
+use Rattle.table_check.specs.declared.marks.Marks.{Marks}
+use Rattle.table_check.specs.declared.seen.Seen.{Seen}
+use Rattle.table_check.specs.declared.taken.Taken.{Taken}
+use Rattle.table_check.specs.Marks.{AreMarked}
+use Rattle.table_check.specs.Taken.{AreTaken}
+use Rattle.table_check.specs.Walk.{HasMet, HasMetFree, HasFreeList, IsSound}
+
+-- the records met in chains are marked and taken
+pub record KnowsMet (table : Table) (array met : List ℕ) (seen : Seen) : Type 0 where
+  pub marked : AreMarked table.pool met seen.marks.marks.items
+  pub taken : AreTaken array met seen.taken
+
+-- in the chain of this bucket the word `link` comes next
+pub record KnowsPart (content : ℕ → ℕ → Type 0) (table : Table) (array : List ℕ) (bucket link : ℕ) (seen : Seen) : Type 0 where
+  pub chains : List (List ℕ)
+  pub part : List ℕ
+  pub bucket_is : length chains ≡ bucket
+  pub link_is : link ≡ link_after (table.at + bucket) part
+  pub met : HasMet content table array chains part
+  pub knows : KnowsMet table array (records_in chains ++ part) seen
+
+-- the chains of so many buckets were followed
+pub record KnowsChains (content : ℕ → ℕ → Type 0) (table : Table) (array : List ℕ) (buckets : ℕ) (seen : Seen) : Type 0 where
+  pub chains : List (List ℕ)
+  pub buckets_are : length chains ≡ buckets
+  pub met : HasMet content table array chains []
+  pub knows : KnowsMet table array (records_in chains ++ []) seen
+
+-- of the free list, behind these taken records, the word `link` comes next
+pub record KnowsFree (table : Table) (array taken : List ℕ) (link : ℕ) (marks : Marks) : Type 0 where
+  pub free : List ℕ
+  pub met : HasMetFree table array taken free
+  pub link_is : link ≡ link_after table.pool.base free
+  pub marked : AreMarked table.pool (taken ++ free) marks.marks.items
+
+-- the free list was followed to its end
+pub record KnowsFreeList (table : Table) (array taken : List ℕ) (marks : Marks) : Type 0 where
+  pub free : List ℕ
+  pub met : HasFreeList table array taken free
+  pub marked : AreMarked table.pool (taken ++ free) marks.marks.items
+
+-- the marks are those of these records, which differ from one another
+pub record AreApartMarked (table : Table) (taken : List ℕ) (marks : Marks) : Type 0 where
+  pub marked : AreMarked table.pool taken marks.marks.items
+  pub differ : AllPairs (λ x y. x ≢ y) taken
+
+-- a record of the bucket's chain was taken in: it is sound, and its key is a new one
+pub record TakesSound (content : ℕ → ℕ → Type 0) (table : Table) (array : List ℕ) (bucket at : ℕ) (met : List ℕ) (taken : Taken) : Type 0 where
+  pub sound : IsSound content table array bucket at
+  pub new_key : All (λ x. slice_index array x ≢ slice_index array at) met
+  pub taken_in : AreTaken array (met ++ at ∷ []) taken
+
+-- the first offset behind the link at which the record's word isn't one that it may hold
+abbrev pub IsFirstWrongBehind : (ℕ → ℕ → Type 0) → Table → List ℕ → ℕ → Option ℕ → Type 0
+IsFirstWrongBehind content table array at found = MatchOption found
+    ((offset : ℕ) → 2 ≤ offset → offset < table.pool.size → content offset (slice_index array (at + offset)))
+    (λ wrong. (2 ≤ wrong) × (wrong < table.pool.size) × ¬ content wrong (slice_index array (at + wrong))
+    × ((offset : ℕ) → 2 ≤ offset → offset < wrong → content offset (slice_index array (at + offset))))

@@ -1,0 +1,9 @@
+//! The check of one table in an array of words: its chains, its free list and what its records hold.
+#![tactic(auto)]
+
+pub mod check_fault;
+pub mod content;
+mod marks;
+mod seen;
+pub mod taken;
+pub mod walk;

@@ -1,0 +1,130 @@
+ghost use Rattle.std.specs.Prelude.{◌≡◌, ℕ, ◌+◌, ◌*◌, ◌<◌, ◌≤◌, List, IfOk, IfErr, OnOk, length};
+ghost use Rattle.record_heap.specs.Pool.{IsRecord};
+ghost use Rattle.hash_table.specs.Table.{FitsTable};
+ghost use Rattle.table_check.specs.Faults.{IsCause, IsFirstWrong, IsInChains, IsWrongFree, IsWrongRecord};
+ghost use Rattle.table_check.specs.Marks.{IsNew};
+ghost use Rattle.table_check.specs.Seen.{AreApartMarked, IsFirstWrongBehind, KnowsChains, KnowsFreeList, TakesSound};
+ghost use Rattle.table_check.specs.Taken.{AreTaken};
+ghost use Rattle.table_check.specs.Whole.{KeepsWhole};
+
+use crate::check_fault::CheckFault;
+use crate::content::Content;
+use crate::marks::Marks;
+use crate::seen::Seen;
+use crate::taken::Taken;
+use hash_table::table::Table;
+use std::alloc::Global;
+
+/// Follows the chains of all buckets and the free list of a table; gives the records in its chains.
+///
+/// It refuses the array where something is wrong in the table, and names the first such word.
+pub fn check_table<C: Content>(
+    alloc: Global,
+    table: &Table,
+    content: &C,
+    a: &[u64],
+) -> Result<Taken, CheckFault>
+    requires fits { FitsTable table.now (length a.now) }
+    ensures whole { IfOk result (KeepsWhole (C.MayHold content.now) table.now a.now) }
+    ensures fault { IfErr result (IsCause (IsFirstWrong (C.MayHold content.now) table.now a.now)) }
+{
+    let mut seen = Seen {
+        marks: Marks::new(alloc, &table.pool)?,
+        taken: Taken::new(alloc),
+    };
+    for bucket in 0..table.buckets {
+        follow_chain(table, content, a, bucket, &mut seen)?;
+    }
+    follow_free(table, a, &mut seen.marks)?;
+    if let Some(word) = seen.marks.first_unmet(&table.pool) {
+        return Err(CheckFault::NotDb { word });
+    }
+    let count = table.pool.base + 1;
+    if a[count as usize] != seen.taken.records().len() as u64 {
+        return Err(CheckFault::NotDb { word: count });
+    }
+    Ok(seen.taken)
+}
+
+// Follows the chain of a bucket to its end.
+fn follow_chain<C: Content>(
+    table: &Table,
+    content: &C,
+    a: &[u64],
+    bucket: u64,
+    seen: &mut Seen,
+) -> Result<(), CheckFault>
+    requires fits { FitsTable table.now (length a.now) }
+    requires bucket { bucket < table.now.buckets }
+    requires knows { KnowsChains (C.MayHold content.now) table.now a.now bucket seen.old }
+    ensures knows { OnOk result (KnowsChains (C.MayHold content.now) table.now a.now (bucket + 1) seen.new) }
+    ensures fault { IfErr result (IsCause (IsInChains (C.MayHold content.now) table.now a.now)) }
+{
+    let mut link = table.at + bucket;
+    while a[link as usize] != 0 {
+        let at = a[link as usize];
+        if !seen.marks.meet(&table.pool, at) {
+            return Err(CheckFault::NotDb { word: link });
+        }
+        check_record(table, content, a, bucket, at, &mut seen.taken)?;
+        link = at + 1;
+    }
+    Ok(())
+}
+
+// Takes in a new record of the bucket's chain, whose words hold what they have to.
+fn check_record<C: Content>(
+    table: &Table,
+    content: &C,
+    a: &[u64],
+    bucket: u64,
+    at: u64,
+    taken: &mut Taken,
+) -> Result<(), CheckFault>
+    requires fits { FitsTable table.now (length a.now) }
+    requires place { IsRecord table.now.pool at }
+    ensures sound { (met : List ℕ) → AreTaken a.now met taken.old → OnOk result (TakesSound (C.MayHold content.now) table.now a.now bucket at met taken.new) }
+    ensures fault { (met : List ℕ) → AreTaken a.now met taken.old → IsNew table.now.pool met at → IfErr result (IsCause (IsWrongRecord (C.MayHold content.now) table.now a.now bucket met at)) }
+{
+    let key = a[at as usize];
+    if !content.allows(0, key) || key % table.buckets != bucket || !taken.take(at, key)? {
+        return Err(CheckFault::NotDb { word: at });
+    }
+    match wrong_word(table, content, a, at) {
+        Some(offset) => Err(CheckFault::NotDb { word: at + offset }),
+        None => Ok(()),
+    }
+}
+
+// The offset of the first word behind the record's link that it may not hold.
+fn wrong_word<C: Content>(table: &Table, content: &C, a: &[u64], at: u64) -> Option<u64>
+    requires fits { FitsTable table.now (length a.now) }
+    requires place { IsRecord table.now.pool at }
+    ensures { IsFirstWrongBehind (C.MayHold content.now) table.now a.now at result }
+{
+    for offset in 2..table.pool.size {
+        if !content.allows(offset, a[(at + offset) as usize]) {
+            return Some(offset);
+        }
+    }
+    None
+}
+
+// Follows the free list to its end.
+fn follow_free(table: &Table, a: &[u64], marks: &mut Marks) -> Result<(), CheckFault>
+    requires fits { FitsTable table.now (length a.now) }
+    requires count { length marks.old.marks.items ≡ table.now.pool.count }
+    ensures count { length marks.new.marks.items ≡ table.now.pool.count }
+    ensures list { (taken : List ℕ) → AreApartMarked table.now taken marks.old → OnOk result (KnowsFreeList table.now a.now taken marks.new) }
+    ensures fault { (taken : List ℕ) → AreApartMarked table.now taken marks.old → IfErr result (IsCause (IsWrongFree table.now a.now taken)) }
+{
+    let mut link = table.pool.base;
+    while a[link as usize] != 0 {
+        let at = a[link as usize];
+        if !marks.meet(&table.pool, at) {
+            return Err(CheckFault::NotDb { word: link });
+        }
+        link = at + 1;
+    }
+    Ok(())
+}

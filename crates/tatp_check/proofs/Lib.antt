@@ -1,0 +1,9 @@
+pub mod Firsts
+pub mod Found
+pub mod Lawful
+pub mod OneDatabase
+pub mod OneWord
+pub mod Referring
+pub mod Slices
+pub mod StandsFor
+pub mod TableRows

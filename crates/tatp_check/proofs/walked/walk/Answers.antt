@@ -1,0 +1,30 @@
+use Rattle.std.proofs.Common.{◌≡◌, Err, IfErr, rules, sym, subst}
+use Rattle.table_check.specs.Faults.{IsCause}
+use Rattle.row_content.specs.declared.table_kind.TableKind.TheVariants.{Numbers, Access, Facilities, Calls}
+use Rattle.tatp_check.specs.Order.{IsInTables}
+use Rattle.tatp_check.proofs.Firsts.{first_in, before_numbers, before_access, before_facilities, before_calls}
+use Rattle.tatp_check.proofs.walked.walk.Goals as goal
+
+pub returns-in_err-numbers-clause-fault : goal.returns-in_err-numbers-clause-fault
+returns-in_err-numbers-clause-fault c =
+    let was : c.from_residual-in_err-numbers.result ≡ Err c.in_err-numbers.field-0.0 = search rules in
+    subst (λ r. IfErr r (IsCause (IsInTables c.args.lay.now c.args.a.now))) (sym was)
+    (first_in _ _ Numbers (before_numbers _ _ _ c.in_ok-subscribers.ensures.whole) c.in_err-numbers.field-0.0 c.in_err-numbers.ensures.fault)
+
+pub returns-in_err-access-clause-fault : goal.returns-in_err-access-clause-fault
+returns-in_err-access-clause-fault c =
+    let was : c.from_residual-in_err-access.result ≡ Err c.in_err-access.field-0.0 = search rules in
+    subst (λ r. IfErr r (IsCause (IsInTables c.args.lay.now c.args.a.now))) (sym was)
+    (first_in _ _ Access (before_access _ _ _ c.in_ok-subscribers.ensures.whole _ c.in_ok-numbers.ensures.whole) c.in_err-access.field-0.0 c.in_err-access.ensures.fault)
+
+pub returns-in_err-facilities-clause-fault : goal.returns-in_err-facilities-clause-fault
+returns-in_err-facilities-clause-fault c =
+    let was : c.from_residual-in_err-facilities.result ≡ Err c.in_err-facilities.field-0.0 = search rules in
+    subst (λ r. IfErr r (IsCause (IsInTables c.args.lay.now c.args.a.now))) (sym was)
+    (first_in _ _ Facilities (before_facilities _ _ _ c.in_ok-subscribers.ensures.whole _ c.in_ok-numbers.ensures.whole _ c.in_ok-access.ensures.whole) c.in_err-facilities.field-0.0 c.in_err-facilities.ensures.fault)
+
+pub returns-in_err-calls-clause-fault : goal.returns-in_err-calls-clause-fault
+returns-in_err-calls-clause-fault c =
+    let was : c.from_residual-in_err-calls.result ≡ Err c.in_err-calls.field-0.0 = search rules in
+    subst (λ r. IfErr r (IsCause (IsInTables c.args.lay.now c.args.a.now))) (sym was)
+    (first_in _ _ Calls (before_calls _ _ _ c.in_ok-subscribers.ensures.whole _ c.in_ok-numbers.ensures.whole _ c.in_ok-access.ensures.whole _ c.in_ok-facilities.ensures.whole) c.in_err-calls.field-0.0 c.in_err-calls.ensures.fault)

@@ -1,0 +1,4 @@
+pub mod References
+pub mod Order
+pub mod Walked
+pub mod Laws

@@ -1,0 +1,33 @@
+-- The first word, in the order of checking, at which an array of home words is wrong: table by table, and then the references.
+use Rattle.std.specs.Prelude.{ℕ, ◌<◌, ◌⊎◌, List}
+use Rattle.dude_base.specs.declared.sizes.Sizes.{Sizes}
+use Rattle.tatp_layout.specs.StandsFor.{IsLawful}
+use Rattle.table_check.specs.Faults.{IsFirstWrong}
+use Rattle.table_check.specs.Whole.{HasWhole}
+use Rattle.row_content.specs.declared.table_kind.TableKind.{TableKind}
+use Rattle.row_content.specs.Content.{content_of, table_of}
+use Rattle.tatp_check.specs.References.{kind_rank, IsFirstUnbound}
+
+-- nothing is wrong in the table of this kind, whose chains have these records
+abbrev pub IsWholeKind : Sizes → List ℕ → TableKind → List ℕ → Type 0
+IsWholeKind s array kind records = HasWhole (content_of kind) (table_of kind s) array records
+
+-- the first wrong word in the first table where something is wrong
+pub record IsInTables (s : Sizes) (array : List ℕ) (word : ℕ) : Type 0 where
+  pub kind : TableKind
+  pub before : (other : TableKind) → kind_rank other < kind_rank kind → (records : List ℕ) × IsWholeKind s array other records
+  pub wrong : IsFirstWrong (content_of kind) (table_of kind s) array word
+
+-- where nothing is wrong in the tables, the first reference that is wrong
+pub record IsInReferences (s : Sizes) (array : List ℕ) (word : ℕ) : Type 0 where
+  pub records : TableKind → List ℕ
+  pub whole : (kind : TableKind) → IsWholeKind s array kind (records kind)
+  pub wrong : IsFirstUnbound array records word
+
+abbrev pub IsFirstWord : Sizes → List ℕ → ℕ → Type 0
+IsFirstWord s array word = IsInTables s array word ⊎ IsInReferences s array word
+
+-- the array stands for no tables, and this is the word
+pub record IsNotDb (s : Sizes) (array : List ℕ) (word : ℕ) : Type 0 where
+  pub unlawful : ¬ IsLawful s array
+  pub first : IsFirstWord s array word

@@ -1,0 +1,25 @@
+ghost use Rattle.std.specs.Prelude.{◌≡◌, ◌*◌, IfErr, OnOk, length};
+ghost use Rattle.dude_base.specs.declared.limits.TheConstants.{PAGE};
+ghost use Rattle.tatp_layout.specs.StandsFor.{IsLawful};
+ghost use Rattle.table_check.specs.Faults.{IsCause};
+ghost use Rattle.tatp_check.specs.Order.{IsNotDb};
+
+use crate::references::first_unbound;
+use crate::walked::walk;
+use std::alloc::Global;
+use table_check::check_fault::CheckFault;
+use tatp_layout::Layout;
+
+/// Accepts exactly the arrays of home words that stand for tables. The word that it names otherwise is the first one, in the
+/// order of checking, at which something is wrong.
+pub fn check(alloc: Global, lay: &Layout, a: &[u64]) -> Result<(), CheckFault>
+    requires size { length a.now ≡ lay.now.pages * PAGE }
+    ensures ok { OnOk result (IsLawful lay.now a.now) }
+    ensures fault { IfErr result (IsCause (IsNotDb lay.now a.now)) }
+{
+    let walked = walk(alloc, lay, a)?;
+    match first_unbound(lay, a, &walked) {
+        Some(word) => Err(CheckFault::NotDb { word }),
+        None => Ok(()),
+    }
+}
