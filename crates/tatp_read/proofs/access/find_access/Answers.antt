@@ -1,0 +1,43 @@
+use Rattle.std.proofs.Common.{◌∙◌, None, arith, ap, subst, sym}
+use Rattle.std.proofs.lemmas.Result.{IfOk-from_err}
+use Rattle.hash_table.specs.declared.table.Table.{Table}
+use Rattle.hash_table.specs.Table.{FitsTable}
+use Rattle.word_space.proofs.Runs.{below_looked, shown_looked, looked_then}
+use Rattle.record_heap.proofs.Calls.{most_more, most_then}
+use Rattle.tatp_read.proofs.Lookups.{access_absent, access_there}
+use Rattle.tatp_read.proofs.access.find_access.Goals as goal
+
+pub find-requires : goal.find-requires
+find-requires g c = record { fits = subst (FitsTable c.access.result) (sym c.requires.size) c.access.ensures.fits }
+
+pub get_access-requires-clause-size : goal.get_access-requires-clause-size
+get_access-requires-clause-size g c = c.in_ok-at.ensures.looked.ran.count ∙ c.requires.size
+
+pub returns-in_err-at-clause-row : goal.returns-in_err-at-clause-row
+returns-in_err-at-clause-row g c = IfOk-from_err _ _ c.from_residual.ensures.0
+
+pub returns-in_err-get_access-clause-row : goal.returns-in_err-get_access-clause-row
+returns-in_err-get_access-clause-row g c = IfOk-from_err _ _ c.from_residual-in_err-get_access.ensures.0
+
+pub returns-in_err-at-clause-most : goal.returns-in_err-at-clause-most
+returns-in_err-at-clause-most g c = most_more _ 0 c.in_err-at.ensures.most (omega (arith, ap (λ (t : Table). t.pool.count) c.access.ensures.table)) (omega arith)
+
+pub returns-in_default-clause-most : goal.returns-in_default-clause-most
+returns-in_default-clause-most g c = most_more _ 0 c.in_ok-at.ensures.most (omega (arith, ap (λ (t : Table). t.pool.count) c.access.ensures.table)) (omega arith)
+
+pub returns-clause-looked : goal.returns-clause-looked
+returns-clause-looked g c = looked_then {stop = None} c.in_ok-at.ensures.looked c.in_ok-get_access.ensures.looked
+
+pub returns-in_default-clause-row : goal.returns-in_default-clause-row
+returns-in_default-clause-row g c = λ array below db stands. access_absent c.kind_key.result stands (c.in_ok-at.ensures.found array below) c.args.s_id c.args.ai_type c.requires.id c.requires.kind c.kind_key.ensures c.access.ensures.table c.in_default.is
+
+pub returns-in_err-get_access-clause-most : goal.returns-in_err-get_access-clause-most
+returns-in_err-get_access-clause-most g c = most_more _ 0 (most_then c.in_ok-at.ensures.most c.in_err-get_access.ensures.most) (omega (arith, ap (λ (t : Table). t.pool.count) c.access.ensures.table)) (omega arith)
+
+pub returns-clause-most : goal.returns-clause-most
+returns-clause-most g c = most_more _ 0 (most_then c.in_ok-at.ensures.most c.in_ok-get_access.ensures.most) (omega (arith, ap (λ (t : Table). t.pool.count) c.access.ensures.table)) (omega arith)
+
+pub returns-clause-row : goal.returns-clause-row
+returns-clause-row g c = λ array below db stands.
+    let below_find = below_looked {stop = None} c.in_ok-get_access.ensures.looked below in
+    access_there c.kind_key.result stands (c.in_ok-at.ensures.found array below_find) c.args.s_id c.args.ai_type c.requires.id c.requires.kind c.kind_key.ensures c.access.ensures.table c.in-Some.is (shown_looked {stop = None} c.in_ok-at.ensures.looked array) (c.in_ok-get_access.ensures.row array below)

@@ -1,0 +1,15 @@
+-- The kinds of requests that only read.
+use Rattle.tatp_model.specs.declared.request.Request.{Request}
+use Rattle.tatp_model.specs.declared.request.Request.TheVariants.{GetSubscriber, GetDestination, GetAccess}
+
+abbrev pub IsGetSubscriber : Request → Type 0
+IsGetSubscriber (GetSubscriber s_id) = Unit {0}
+IsGetSubscriber _ = ⊥
+
+abbrev pub IsGetDestination : Request → Type 0
+IsGetDestination (GetDestination s_id sf_type start_time end_time) = Unit {0}
+IsGetDestination _ = ⊥
+
+abbrev pub IsGetAccess : Request → Type 0
+IsGetAccess (GetAccess s_id ai_type) = Unit {0}
+IsGetAccess _ = ⊥
