@@ -1,0 +1,13 @@
+//! The four requests that may write, over the words of a home.
+#![tactic(auto)]
+
+mod delete;
+mod insert;
+mod location;
+mod phone;
+mod subscriber;
+
+pub use delete::write_delete;
+pub use insert::write_insert;
+pub use location::write_location;
+pub use subscriber::write_subscriber;
