@@ -1,0 +1,4 @@
+pub mod Accepted
+pub mod OneRecovery
+pub mod PlainContent
+pub mod Reading

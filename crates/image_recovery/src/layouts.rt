@@ -1,0 +1,17 @@
+ghost use Rattle.std.specs.Prelude.{◌≡◌};
+ghost use Rattle.dude_base.specs.Sizes.{IsAccepted};
+
+use dude_base::sizes::Sizes;
+use tatp_layout::Layout;
+
+/// The layout of a home of accepted sizes.
+#[tactic(auto, using(crate::proofs::Accepted::never_out))]
+pub fn layout_of(sizes: &Sizes) -> Layout
+    requires { IsAccepted sizes.now }
+    ensures { result ≡ sizes.now }
+{
+    match Layout::of(sizes) {
+        Ok(lay) => lay,
+        Err(_) => unreachable!(),
+    }
+}

@@ -1,0 +1,5 @@
+pub mod Applied
+pub mod Headers
+pub mod Homes
+pub mod Reading
+pub mod ReplayedContent

@@ -1,0 +1,7 @@
+//! Tests of the recovery of images.
+#![tactic(auto)]
+
+#[cfg(test)]
+mod images;
+#[cfg(test)]
+mod recovered;
