@@ -1,0 +1,48 @@
+-- The kept state, the layer of the turn and of boxes.
+use Rattle.std.specs.Prelude.{◌≡◌, ℕ, ◌+◌, ◌*◌, ◌<◌, ◌≤◌, Bool, true, List, length, map, Option, Some, slice_index}
+use mathlib.Core.Option.{some}
+use lib.ListN.{get_elem?}
+use Rattle.core_events.specs.Setups.{Setup, box_of}
+use Rattle.core_events.specs.Keyed.{find}
+use Rattle.core_events.specs.Views.{Boxes, View}
+use Rattle.core_events.specs.Words.{State}
+use Rattle.core_events.specs.Conditions.{IsPersistedUpTo}
+
+-- whose view it is, and whether it has the turn
+pub record Holder : Type 0 where
+  pub thread : Option ℕ
+  pub has_it : Bool
+
+abbrev pub holder_of : View → Holder
+holder_of v = record { thread = v.part.thread; has_it = v.turn.has_it }
+
+-- The turn word is t + 1 exactly where the view of thread t has the turn
+pub record TurnHeld (turn : ℕ) (holders : List Holder) : Type 0 where
+  pub holds : (j : ℕ) (h : Holder) → get_elem? holders j ≡ some h → h.has_it ≡ true → (t : ℕ) × (h.thread ≡ Some t) × (turn ≡ t + 1)
+  pub held : 0 < turn → (j : ℕ) × (h : Holder) × (get_elem? holders j ≡ some h) × (h.has_it ≡ true)
+
+-- The reproduced word is at most the durable one, up to which all numbers are persisted. Where a medium is beside, it says more
+pub record DurableOrdered (z : Setup) (c : State) : Type 0 where
+  pub from : z.first ≤ c.reproduced
+  pub ordered : c.reproduced ≤ c.durable
+  pub persisted : IsPersistedUpTo z c.persisted c.durable
+
+-- A box that a live view saw empty has the word 0; a view that drew a number saw its next box empty; the view with the turn keeps the
+-- numbers that boxes have
+pub record BoxesSeen (z : Setup) (boxes : List ℕ) (thread : Option ℕ) (number : ℕ) (box : Boxes) (has_it : Bool) (full : List (ℕ × ℕ)) : Type 0 where
+  pub place : box.next < z.boxes
+  pub empty : box.is_empty ≡ true → (t : ℕ) × (thread ≡ Some t) × (slice_index boxes (box_of z t box.next) ≡ 0)
+  pub drawn : 0 < number → box.is_empty ≡ true
+  pub full_with : has_it ≡ true → (k n : ℕ) → find full k ≡ Some n → (slice_index boxes k ≡ n) × (0 < n)
+
+-- what a view knows of the turn
+pub record KnowsTurn (z : Setup) (boxes : List ℕ) (durable : ℕ) (v : View) : Type 0 where
+  pub seen : BoxesSeen z boxes v.part.thread v.tx.hand.number v.box v.turn.has_it v.turn.full
+  pub raised : v.turn.durable ≤ durable
+
+pub record TurnKept (z : Setup) (c : State) : Type 0 where
+  pub turn : TurnHeld c.turn (map holder_of c.views)
+  pub durable : DurableOrdered z c
+  pub sized : length c.boxes ≡ z.threads * z.boxes
+  pub some_box : 0 < z.boxes
+  pub each : (j : ℕ) (v : View) → get_elem? c.views j ≡ some v → KnowsTurn z c.boxes c.durable v
