@@ -1,0 +1,4 @@
+pub mod Distances
+pub mod Elements
+pub mod Pagers
+pub mod Seen

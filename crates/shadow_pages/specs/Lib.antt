@@ -1,0 +1,2 @@
+pub mod PageMap
+pub mod Pager
