@@ -1,10 +1,11 @@
 //! `GET_SUBSCRIBER_DATA`.
 
-ghost use Rattle.std.specs.Prelude.{◌≡◌, ℕ, ◌+◌, ◌*◌, List, [], Some, find, IfOk, IfErr};
+ghost use Rattle.std.specs.Prelude.{◌≡◌, ◌≢◌, ℕ, ◌+◌, ◌*◌, List, [], Some, find, IfOk, IfErr};
 ghost use Rattle.dude_base.specs.declared.limits.TheConstants.{PAGE};
 ghost use Rattle.word_space.specs.Sights.{IsBelow, shown};
 ghost use Rattle.word_space.specs.Steps.{GoesOn, Looked, stop_of};
 ghost use Rattle.record_heap.specs.Changes.{MadeAtMost};
+ghost use Rattle.tatp_model.specs.declared.reply.Reply.TheVariants.{Changed};
 ghost use Rattle.tatp_model.specs.Database.{Database};
 ghost use Rattle.tatp_model.specs.Request.{IsInRange};
 ghost use Rattle.tatp_model.specs.Transaction.{is_subscriber, reply_to};
@@ -27,6 +28,7 @@ pub fn read_subscriber<W: Words>(lay: &Layout, w: &mut W, q: &Request) -> Result
     ensures turns { GoesOn W.turns_into w.old w.new }
     ensures last { IfErr result (λ stop. (W.sight w.new).stopped ≡ Some stop) }
     ensures most { MadeAtMost (2 * lay.now.subscribers + 7) 0 (W.sight w.old) (W.sight w.new) }
+    ensures unchanged { IfOk result (λ r. r ≢ Changed) }
     // For every lawful array that agrees with the reads made, the reply is that of one thread.
     ensures reply { IfOk result (λ r. (array : List ℕ) → IsBelow (W.sight w.new) array → (db : Database) →
         StandsFor lay.now array db → r ≡ reply_to lay.now.calls db q.now) }
