@@ -1,0 +1,6 @@
+//! A request over the words of a home, whatever its kind.
+#![tactic(auto)]
+
+mod request;
+
+pub use request::run_request;
