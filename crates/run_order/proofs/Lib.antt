@@ -1,0 +1,11 @@
+pub mod Along
+pub mod Apart
+pub mod Elements
+pub mod FileOrder
+pub mod Law
+pub mod Pairs
+pub mod Performed
+pub mod Precedence
+pub mod Printing
+pub mod Rounds
+pub mod WorkedRun
