@@ -4,6 +4,8 @@
 #[cfg(test)]
 mod dump;
 #[cfg(test)]
+mod load;
+#[cfg(test)]
 mod output;
 #[cfg(test)]
 mod request_files;

@@ -1,0 +1,7 @@
+//! The summary of a load.
+#![tactic(auto)]
+
+mod counts;
+mod summary;
+
+pub use summary::write_summary;
