@@ -1,0 +1,11 @@
+pub mod Plain
+pub mod Rows
+pub mod NumberWords
+pub mod Readings
+pub mod FormatWords
+pub mod DriveWords
+pub mod FreshWords
+pub mod RunWalk
+pub mod RunWords
+pub mod Limits
+pub mod Names

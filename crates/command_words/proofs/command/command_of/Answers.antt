@@ -1,0 +1,91 @@
+use Rattle.std.proofs.Common.{◌∙◌, codes, drop, map, refl, sym}
+use Rattle.std.specs.Rc.{rc_str_bytes}
+use Rattle.command_words.specs.Command.{RecoverImage, DumpTables, alone, drive_of, format_of, fresh_of, run_of}
+use Rattle.command_words.proofs.Limits.{alone-lawful, drive-lawful, format-lawful, fresh-lawful, limits-if-ok, limits-in, run-lawful}
+use Rattle.command_words.proofs.Names.{first-named, first-other}
+use Rattle.command_words.proofs.Readings.{means-if-ok}
+use Rattle.command_words.proofs.command.command_of.Goals as goal
+
+pub returns-in-fresh-clause-meaning : goal.returns-in-fresh-clause-meaning
+returns-in-fresh-clause-meaning c =
+    let item = c.in-Some.ensures.item in
+    means-if-ok c.fresh_of.result _ _
+    (first-named rc_str_bytes c.args.words.now c.in-Some.name.now (codes "fresh") fresh_of (λ words. refl) item.3.0 item.1 (sym c.as_str.ensures.value ∙ c.in-fresh.is))
+    c.fresh_of.ensures
+
+pub returns-in-format-clause-meaning : goal.returns-in-format-clause-meaning
+returns-in-format-clause-meaning c =
+    let item = c.in-Some.ensures.item in
+    means-if-ok c.format_of.result _ _
+    (first-named rc_str_bytes c.args.words.now c.in-Some.name.now (codes "format") format_of (λ words. refl) item.3.0 item.1 (sym c.as_str.ensures.value ∙ c.in-format.is))
+    c.format_of.ensures
+
+pub returns-in-run-clause-meaning : goal.returns-in-run-clause-meaning
+returns-in-run-clause-meaning c =
+    let item = c.in-Some.ensures.item in
+    means-if-ok c.run_of.result _ _
+    (first-named rc_str_bytes c.args.words.now c.in-Some.name.now (codes "run") run_of (λ words. refl) item.3.0 item.1 (sym c.as_str.ensures.value ∙ c.in-run.is))
+    c.run_of.ensures
+
+pub returns-in-drive-clause-meaning : goal.returns-in-drive-clause-meaning
+returns-in-drive-clause-meaning c =
+    let item = c.in-Some.ensures.item in
+    means-if-ok c.drive_of.result _ _
+    (first-named rc_str_bytes c.args.words.now c.in-Some.name.now (codes "drive") drive_of (λ words. refl) item.3.0 item.1 (sym c.as_str.ensures.value ∙ c.in-drive.is))
+    c.drive_of.ensures
+
+pub returns-in-recover-clause-meaning : goal.returns-in-recover-clause-meaning
+returns-in-recover-clause-meaning c =
+    let item = c.in-Some.ensures.item in
+    c.alone.ensures
+    ∙ first-named rc_str_bytes c.args.words.now c.in-Some.name.now (codes "recover") (alone RecoverImage) (λ words. refl) item.3.0 item.1 (sym c.as_str.ensures.value ∙ c.in-recover.is)
+
+pub returns-in-dump-clause-meaning : goal.returns-in-dump-clause-meaning
+returns-in-dump-clause-meaning c =
+    let item = c.in-Some.ensures.item in
+    c.alone-in-dump.ensures
+    ∙ first-named rc_str_bytes c.args.words.now c.in-Some.name.now (codes "dump") (alone DumpTables) (λ words. refl) item.3.0 item.1 (sym c.as_str.ensures.value ∙ c.in-dump.is)
+
+pub returns-in-fresh-clause-limits : goal.returns-in-fresh-clause-limits
+returns-in-fresh-clause-limits c =
+    let words = drop 1 (map rc_str_bytes c.args.words.now) in
+    limits-if-ok c.fresh_of.result (fresh_of words) (fresh-lawful words) c.fresh_of.ensures
+
+pub returns-in-format-clause-limits : goal.returns-in-format-clause-limits
+returns-in-format-clause-limits c =
+    let words = drop 1 (map rc_str_bytes c.args.words.now) in
+    limits-if-ok c.format_of.result (format_of words) (format-lawful words) c.format_of.ensures
+
+pub returns-in-run-clause-limits : goal.returns-in-run-clause-limits
+returns-in-run-clause-limits c =
+    let words = drop 1 (map rc_str_bytes c.args.words.now) in
+    limits-if-ok c.run_of.result (run_of words) (run-lawful words) c.run_of.ensures
+
+pub returns-in-recover-clause-limits : goal.returns-in-recover-clause-limits
+returns-in-recover-clause-limits c =
+    let words = drop 1 (map rc_str_bytes c.args.words.now) in
+    limits-in c.alone.result (alone RecoverImage words) (alone-lawful RecoverImage words tt) c.alone.ensures
+
+pub returns-in-dump-clause-limits : goal.returns-in-dump-clause-limits
+returns-in-dump-clause-limits c =
+    let words = drop 1 (map rc_str_bytes c.args.words.now) in
+    limits-in c.alone-in-dump.result (alone DumpTables words) (alone-lawful DumpTables words tt) c.alone-in-dump.ensures
+
+pub returns-in-drive-clause-limits : goal.returns-in-drive-clause-limits
+returns-in-drive-clause-limits c =
+    let words = drop 1 (map rc_str_bytes c.args.words.now) in
+    limits-if-ok c.drive_of.result (drive_of words) (drive-lawful words) c.drive_of.ensures
+
+pub returns-in_default-as_str-clause-meaning : goal.returns-in_default-as_str-clause-meaning
+returns-in_default-as_str-clause-meaning c =
+    let item = c.in-Some.ensures.item in
+    let text = c.as_str.ensures.value in
+    let arm = c.in_default-as_str in
+    sym (first-other rc_str_bytes c.args.words.now c.in-Some.name.now item.3.0 item.1 (record {
+      fresh = λ e. arm.not-fresh (text ∙ e);
+      format = λ e. arm.not-format (text ∙ e);
+      run = λ e. arm.not-run (text ∙ e);
+      recover = λ e. arm.not-recover (text ∙ e);
+      dump = λ e. arm.not-dump (text ∙ e);
+      drive = λ e. arm.not-drive (text ∙ e);
+    }))

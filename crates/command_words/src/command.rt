@@ -1,0 +1,78 @@
+//! What the command words mean.
+
+ghost use Rattle.std.specs.Prelude.{◌≡◌, drop, map, IfOk, IfSome};
+ghost use Rattle.std.specs.Option.{option_map};
+ghost use Rattle.std.specs.Rc.{rc_str_bytes};
+ghost use Rattle.command_words.specs.Command.{meaning_of, meaning_of_command, alone, IsInLimits};
+
+use crate::drive::drive_of;
+use crate::format::format_of;
+use crate::fresh::fresh_of;
+use crate::run::run_of;
+use std::alloc::{AllocError, Global};
+use std::rc::RcStr;
+
+/// What the program is to do.
+#[derive(Clone, Copy, Debug, PartialEq, Eq)]
+pub enum Command<'a> {
+    /// Format the medium for so many subscribers, from 1 to 10,000, and run
+    /// the requests of the file.
+    Fresh {
+        subscribers: u64,
+        file: &'a str,
+    },
+    /// Format the medium for so many subscribers, call forwardings, rings and
+    /// cells of a ring.
+    Format {
+        subscribers: u64,
+        calls: u64,
+        rings: u64,
+        cells: u64,
+    },
+    /// Run the requests of the files, of which there is at least one, over so
+    /// many frames and locks.
+    Run {
+        frames: Option<u64>,
+        locks: Option<u64>,
+        files: &'a [RcStr],
+    },
+    /// Recover the image.
+    Recover,
+    /// Print the tables of the image.
+    Dump,
+    /// Run a load that is made from a seed: so many requests of each file.
+    Drive {
+        seed: u64,
+        count: u64,
+        files: u64,
+    },
+}
+
+/// The command that the words mean; none where they are refused.
+pub fn command_of(alloc: Global, words: &[RcStr]) -> Result<Option<Command<'_>>, AllocError>
+    ensures meaning { IfOk result (λ command. option_map meaning_of_command command ≡ meaning_of (map rc_str_bytes words.now)) }
+    ensures limits { IfOk result (λ command. IfSome command IsInLimits) }
+{
+    let Some(name) = words.first() else {
+        return Ok(None);
+    };
+    match name.as_str() {
+        "fresh" => fresh_of(alloc, words),
+        "format" => format_of(alloc, words),
+        "run" => run_of(alloc, words),
+        "recover" => Ok(alone(words, Command::Recover)),
+        "dump" => Ok(alone(words, Command::Dump)),
+        "drive" => drive_of(alloc, words),
+        _ => Ok(None),
+    }
+}
+
+// A command with no word behind its name.
+fn alone<'a>(words: &[RcStr], command: Command<'a>) -> Option<Command<'a>>
+    ensures { option_map meaning_of_command result ≡ alone (meaning_of_command command.entry) (drop 1 (map rc_str_bytes words.now)) }
+{
+    match words {
+        [_, _, ..] => None,
+        _ => Some(command),
+    }
+}

@@ -1,0 +1,62 @@
+//! `drive SEED COUNT FILES`.
+
+ghost use Rattle.std.specs.Prelude.{◌≡◌, true, drop, map, IfOk};
+ghost use Rattle.std.specs.Option.{option_map};
+ghost use Rattle.std.specs.Rc.{rc_str_bytes};
+ghost use Rattle.clap.specs.Words.{app_of, found_of, rows_of};
+ghost use Rattle.command_words.specs.Command.{drive_of, meaning_of_command};
+ghost use Rattle.command_words.specs.Clap.{drive_app, drive_in, has_drive_form};
+
+use crate::command::Command;
+use crate::form::is_number;
+use crate::matches::{matches_in, number, number_at};
+use clap::ArgMatches;
+use dude_base::limits::MAX_RINGS;
+use std::alloc::{AllocError, Global};
+use std::rc::RcStr;
+
+/// The most requests of each file of a load.
+const MAX_COUNT: u64 = 99_999;
+
+/// The command that the words behind the name mean.
+pub fn drive_of(alloc: Global, words: &[RcStr]) -> Result<Option<Command<'_>>, AllocError>
+    ensures { IfOk result (λ command. option_map meaning_of_command command ≡ drive_of (drop 1 (map rc_str_bytes words.now))) }
+{
+    match words {
+        [_, seed, count, files] if is_number(seed) && is_number(count) && is_number(files) => {
+            read_drive(alloc, words)
+        }
+        _ => Ok(None),
+    }
+}
+
+// The same, by `clap`, of words that have the form.
+fn read_drive(alloc: Global, words: &[RcStr]) -> Result<Option<Command<'_>>, AllocError>
+    requires { has_drive_form (map rc_str_bytes words.now) ≡ true }
+    ensures { IfOk result (λ command. option_map meaning_of_command command ≡ drive_of (drop 1 (map rc_str_bytes words.now))) }
+{
+    match matches_in(drive_command(alloc)?, words)? {
+        Some(matches) => Ok(drive_in(&matches)),
+        None => Ok(None),
+    }
+}
+
+// The command that the matches say.
+fn drive_in<'a>(matches: &ArgMatches<'_>) -> Option<Command<'a>>
+    ensures { option_map meaning_of_command result ≡ drive_in (rows_of (found_of matches.now)) }
+{
+    let seed = number_at(matches, "seed")?;
+    let count = number_at(matches, "count")?;
+    let files = number_at(matches, "files")?;
+    Some(Command::Drive { seed, count, files })
+}
+
+// A load has at most a file for each ring.
+fn drive_command<'a>(alloc: Global) -> Result<clap::Command<'a>, AllocError>
+    ensures { IfOk result (λ command. app_of command ≡ drive_app) }
+{
+    clap::Command::new(alloc, "drive")
+        .arg(number(alloc, "seed", 0, u64::MAX))?
+        .arg(number(alloc, "count", 0, MAX_COUNT))?
+        .arg(number(alloc, "files", 1, MAX_RINGS))
+}

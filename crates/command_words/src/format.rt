@@ -1,0 +1,65 @@
+//! `format S C N CELLS`.
+
+ghost use Rattle.std.specs.Prelude.{◌≡◌, true, drop, map, IfOk};
+ghost use Rattle.std.specs.Option.{option_map};
+ghost use Rattle.std.specs.Rc.{rc_str_bytes};
+ghost use Rattle.clap.specs.Words.{app_of, found_of, rows_of};
+ghost use Rattle.command_words.specs.Command.{format_of, meaning_of_command};
+ghost use Rattle.command_words.specs.Clap.{format_app, format_in, has_format_form};
+
+use crate::command::Command;
+use crate::form::is_number;
+use crate::matches::{matches_in, number, number_at};
+use clap::ArgMatches;
+use dude_base::limits::{MAX_CALLS, MAX_CELLS, MAX_RINGS, MAX_SUBSCRIBERS, MIN_CELLS};
+use std::alloc::{AllocError, Global};
+use std::rc::RcStr;
+
+/// The command that the words behind the name mean.
+pub fn format_of(alloc: Global, words: &[RcStr]) -> Result<Option<Command<'_>>, AllocError>
+    ensures { IfOk result (λ command. option_map meaning_of_command command ≡ format_of (drop 1 (map rc_str_bytes words.now))) }
+{
+    match words {
+        [_, subscribers, calls, rings, cells]
+            if is_number(subscribers) && is_number(calls) && is_number(rings) && is_number(cells) =>
+            { read_format(alloc, words) }
+        _ => Ok(None),
+    }
+}
+
+// The same, by `clap`, of words that have the form.
+fn read_format(alloc: Global, words: &[RcStr]) -> Result<Option<Command<'_>>, AllocError>
+    requires { has_format_form (map rc_str_bytes words.now) ≡ true }
+    ensures { IfOk result (λ command. option_map meaning_of_command command ≡ format_of (drop 1 (map rc_str_bytes words.now))) }
+{
+    match matches_in(format_command(alloc)?, words)? {
+        Some(matches) => Ok(format_in(&matches)),
+        None => Ok(None),
+    }
+}
+
+// The command that the matches say.
+fn format_in<'a>(matches: &ArgMatches<'_>) -> Option<Command<'a>>
+    ensures { option_map meaning_of_command result ≡ format_in (rows_of (found_of matches.now)) }
+{
+    let subscribers = number_at(matches, "subscribers")?;
+    let calls = number_at(matches, "calls")?;
+    let rings = number_at(matches, "rings")?;
+    let cells = number_at(matches, "cells")?;
+    Some(Command::Format {
+        subscribers,
+        calls,
+        rings,
+        cells,
+    })
+}
+
+fn format_command<'a>(alloc: Global) -> Result<clap::Command<'a>, AllocError>
+    ensures { IfOk result (λ command. app_of command ≡ format_app) }
+{
+    clap::Command::new(alloc, "format")
+        .arg(number(alloc, "subscribers", 1, MAX_SUBSCRIBERS))?
+        .arg(number(alloc, "calls", 1, MAX_CALLS))?
+        .arg(number(alloc, "rings", 1, MAX_RINGS))?
+        .arg(number(alloc, "cells", MIN_CELLS, MAX_CELLS))
+}
