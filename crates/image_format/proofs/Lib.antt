@@ -1,0 +1,4 @@
+pub mod FormatLaw
+pub mod Loops
+pub mod NewImages
+pub mod Writes

@@ -1,0 +1,65 @@
+use Rattle.std.proofs.Common.{◌≡◌, ◌≤◌, ℕ, Bool, true, false, List, Err, sym, ap, arith, rules, subst}
+use Rattle.dude_base.specs.declared.sizes.Sizes.{Sizes}
+use Rattle.dude_base.specs.Image.{image_words}
+use Rattle.pmem_trait.specs.Words.{State, IsSettled}
+use Rattle.pmem_trait.specs.Sights.{Sight, state_now, CallsMade}
+use Rattle.pmem_trait.proofs.Runs.{made_here, made_cause}
+use Rattle.pmem_trait.proofs.Laws.{made_keep}
+use Rattle.tatp_model.specs.Population.{population, population_calls}
+use Rattle.tatp_layout.specs.StandsFor.{StandsFor}
+use Rattle.image_format.specs.declared.format_fault.FormatFault.TheVariants.{Device}
+use Rattle.image_format.specs.FormatCalls.{format_calls}
+use Rattle.image_format.specs.NewImages.{IsNewImage}
+use Rattle.image_format.proofs.NewImages.{new_images, new_image, new_settled}
+use Rattle.image_format.proofs.formatting.make_image.Goals as goal
+
+-- place, layout and slice are those of the sizes and the home
+made_same : {p s : Sizes} {xs ys : List ℕ} {ok : Bool} {a b : Sight} → p ≡ s → xs ≡ ys → CallsMade (format_calls p xs) ok a b → CallsMade (format_calls s ys) ok a b
+made_same {p} {s} {xs} {ys} {ok} {a} {b} place home made =
+    subst (λ (s : Sizes). CallsMade (format_calls s ys) ok a b) place (subst (λ (xs : List ℕ). CallsMade (format_calls p xs) ok a b) home made)
+
+stands_same : {l s : Sizes} {xs : List ℕ} → l ≡ s → StandsFor l xs (population l.subscribers) → StandsFor s xs (population s.subscribers)
+stands_same {xs = xs} layout stands = subst (λ (s : Sizes). StandsFor s xs (population s.subscribers)) layout stands
+
+room_same : {l s : Sizes} → l ≡ s → population_calls l.subscribers ≤ l.calls → population_calls s.subscribers ≤ s.calls
+room_same layout room = subst (λ (s : Sizes). population_calls s.subscribers ≤ s.calls) layout room
+
+pub returns-in_err-write_image-clause-cause : goal.returns-in_err-write_image-clause-cause
+returns-in_err-write_image-clause-cause g c =
+    let is : c.from_residual-in_err-write_image.result ≡ Err Device = search rules in
+    let words = ap image_words c.of-place.ensures in
+    let layout = c.in_ok-lay.ensures.ok in
+    rw is (
+      record { accepted = layout.1; room = omega arith; calls = room_same layout.0 c.in_ok-home.ensures.room },
+      made_cause c.in_err-write_image.ensures.made,
+    )
+
+pub returns-in_err-write_image-clause-images : goal.returns-in_err-write_image-clause-images
+returns-in_err-write_image-clause-images g c =
+    let words = ap image_words c.of-place.ensures in
+    let layout = c.in_ok-lay.ensures.ok in
+    made_keep _ {ok = false} (made_same c.of-place.ensures c.deref.ensures.value c.in_err-write_image.ensures.made)
+    (λ visible. new_images (stands_same layout.0 c.in_ok-home.ensures.stands) _ _ layout.1 (omega arith))
+
+pub returns-clause-images : goal.returns-clause-images
+returns-clause-images g c =
+    let words = ap image_words c.of-place.ensures in
+    let layout = c.in_ok-lay.ensures.ok in
+    made_keep _ {ok = true} (made_same c.of-place.ensures c.deref.ensures.value c.in_ok-write_image.ensures.made)
+    (λ visible. new_images (stands_same layout.0 c.in_ok-home.ensures.stands) _ _ layout.1 (omega arith))
+
+pub returns-clause-rests : goal.returns-clause-rests
+returns-clause-rests g c =
+    let old = state_now (g.M.Medium.sight c.args.m.now) in
+    let P : State → Type 0 = λ q. IsNewImage c.args.sizes.now c.in_ok-home.home.items old q in
+    let made = made_same c.of-place.ensures c.deref.ensures.value c.in_ok-write_image.ensures.made in
+    let layout = c.in_ok-lay.ensures.ok in
+    λ visible. subst P (sym (made_here made visible)) (new_image (stands_same layout.0 c.in_ok-home.ensures.stands) old)
+
+pub returns-clause-settled : goal.returns-clause-settled
+returns-clause-settled g c =
+    let old = g.M.Medium.sight c.args.m.now in
+    let P : State → Type 0 = λ q. IsSettled old.len q in
+    let made = made_same c.of-place.ensures c.deref.ensures.value c.in_ok-write_image.ensures.made in
+    let layout = c.in_ok-lay.ensures.ok in
+    λ visible. subst P (sym (made_here made visible)) (new_settled (stands_same layout.0 c.in_ok-home.ensures.stands) (state_now old) old.len (c.requires.settled visible))
