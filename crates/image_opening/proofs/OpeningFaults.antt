@@ -1,0 +1,33 @@
+-- The faults of an opening, and the reads made by then.
+use Rattle.std.proofs.Common.{◌≡◌, inl, inr, true, false, Result, Err, IfErr, sym, subst}
+use Rattle.pmem_trait.specs.Sights.{Sight}
+use Rattle.pmem_trait.specs.Reads.{OnlyReads}
+use Rattle.pmem_trait.proofs.ReadRuns.{reads_then}
+use Rattle.image_recovery.specs.declared.open_fault.OpenFault.{OpenFault}
+use Rattle.image_recovery.specs.declared.open_fault.OpenFault.TheVariants.{Unformatted, Damaged, NotDb, Device, NoMemory}
+use Rattle.image_recovery.specs.Faults.{ReadsMade}
+use Rattle.image_opening.specs.Answers.{StopsBy, StopsOnTheWay}
+
+-- a read failed
+pub made_at_device : {X : Type 0} (r : Result X OpenFault) {s t : Sight} → r ≡ Err Device → OnlyReads false s t → ReadsMade r s t
+made_at_device r {s} {t} is reads = subst (λ (r : Result _ OpenFault). ReadsMade r s t) (sym is) reads
+
+-- there is no memory
+pub made_without_memory : {X : Type 0} (r : Result X OpenFault) {s t : Sight} → r ≡ Err NoMemory → OnlyReads true s t → ReadsMade r s t
+made_without_memory r {s} {t} is reads = subst (λ (r : Result _ OpenFault). ReadsMade r s t) (sym is) reads
+
+-- the same fault with another type of answer, behind some reads
+pub stops_again : {X Y : Type 0} (r : Result X OpenFault) (q : Result Y OpenFault) (fault : OpenFault) (s t u : Sight) → r ≡ Err fault → q ≡ Err fault → OnlyReads true s t → ReadsMade q t u → IfErr r (λ fault. StopsBy fault s u)
+stops_again {X} {Y} r q fault s t u r_is q_is before made =
+    subst (λ (r : Result X OpenFault). IfErr r (λ fault. StopsBy fault s u)) (sym r_is) (by fault (subst (λ (q : Result Y OpenFault). ReadsMade q t u) q_is made))
+  where
+    by : (fault : OpenFault) → ReadsMade {X = Y} (Err fault) t u → StopsBy fault s u
+    by Unformatted made = reads_then before made
+    by (Damaged line) made = reads_then before made
+    by (NotDb word) made = reads_then before made
+    by Device made = inl (reads_then before made)
+    by NoMemory made = reads_then before made
+
+-- a call that opens the image failed
+pub stops_on_the_way : {X : Type 0} (r : Result X OpenFault) {s t : Sight} → r ≡ Err Device → StopsOnTheWay s t → IfErr r (λ fault. StopsBy fault s t)
+stops_on_the_way {X} r {s} {t} is way = subst (λ (r : Result X OpenFault). IfErr r (λ fault. StopsBy fault s t)) (sym is) (inr way)

@@ -1,0 +1,45 @@
+use Rattle.std.proofs.Common.{◌≡◌, Err, ap, ◌∙◌, rules}
+use Rattle.dude_base.specs.declared.sizes.Sizes.{Sizes}
+use Rattle.pmem_trait.proofs.ReadRuns.{reads_then, content_before}
+use Rattle.image_opening.specs.OpeningCalls.{stale_lines}
+use Rattle.image_opening.proofs.OpeningFaults.{stops_again, stops_on_the_way}
+use Rattle.image_opening.proofs.opening.open_image.Goals as goal
+
+pub returns-in_err-lay-clause-damaged : goal.returns-in_err-lay-clause-damaged
+returns-in_err-lay-clause-damaged g c = λ line is. c.recover.ensures.damaged line (c.in_err-lay.was ∙ ap Err (search (rules, is)))
+
+pub returns-in_err-stale-clause-stopped : goal.returns-in_err-stale-clause-stopped
+returns-in_err-stale-clause-stopped g c =
+    stops_again c.from_residual-in_err-stale.result c.stale_lines.result c.in_err-stale.field-0.0 _ _ _ (search rules) c.in_err-stale.was c.in_ok-lay.ensures.reads c.stale_lines.ensures.reads
+
+-- the image was recovered, the stale heads were found, and the calls were made
+pub returns-in_err-settle_image-clause-stopped : goal.returns-in_err-settle_image-clause-stopped
+returns-in_err-settle_image-clause-stopped g c =
+    let same = c.of-place.ensures ∙ c.sizes.ensures.sizes in
+    stops_on_the_way c.from_residual-in_err-settle_image.result (search rules) (record {
+      sizes = c.in_ok-lay.lay;
+      number = c.in_ok-lay.recovered.number;
+      words = c.in_ok-lay.recovered.words.items;
+      is = c.in_ok-lay.ensures.lawful;
+      recovered = c.in_ok-lay.ensures.recovered;
+      opens = record {
+        read = g.M.Medium.sight c.stale_lines.new.m;
+        reads = reads_then c.in_ok-lay.ensures.reads c.in_ok-stale.ensures.reads;
+        stale = c.in_ok-stale.stale.items;
+        heads = content_before {P = λ content. c.in_ok-stale.stale.items ≡ stale_lines c.in_ok-lay.lay c.in_ok-lay.recovered.number content} c.in_ok-lay.ensures.reads
+            (λ told content is. c.in_ok-stale.ensures.lines told content is ∙ ap (λ (s : Sizes). stale_lines s c.in_ok-lay.recovered.number content) same);
+        made = rw (← same, ← c.deref.ensures.value, ← c.deref-2.ensures.value) c.in_err-settle_image.ensures.made;
+      };
+    })
+
+pub returns-clause-made : goal.returns-clause-made
+returns-clause-made g c =
+    let same = c.of-place.ensures ∙ c.sizes.ensures.sizes in
+    record {
+      read = g.M.Medium.sight c.stale_lines.new.m;
+      reads = reads_then c.in_ok-lay.ensures.reads c.in_ok-stale.ensures.reads;
+      stale = c.in_ok-stale.stale.items;
+      heads = content_before {P = λ content. c.in_ok-stale.stale.items ≡ stale_lines c.in_ok-lay.lay c.in_ok-lay.recovered.number content} c.in_ok-lay.ensures.reads
+          (λ told content is. c.in_ok-stale.ensures.lines told content is ∙ ap (λ (s : Sizes). stale_lines s c.in_ok-lay.recovered.number content) same);
+      made = rw (← same, ← c.deref.ensures.value, ← c.deref-2.ensures.value) c.in_ok-settle_image.ensures.made;
+    }

@@ -1,0 +1,33 @@
+use Rattle.std.proofs.Common.{◌≡◌, ℕ, ◌+◌, ◌*◌, ◌≤◌, slice_index, refl, sym, ap, ◌∙◌, rules, arith}
+use Rattle.std.specs.List.{filter, range_with_len}
+use Rattle.pmem_trait.proofs.ReadRuns.{reads_then, read_alone, read_content}
+use Rattle.image_opening.specs.OpeningCalls.{is_head_over, stale_lines}
+use Rattle.image_opening.proofs.OpeningRuns.{lines_next, fit_next}
+use Rattle.image_opening.proofs.OpeningFaults.{made_at_device}
+use Rattle.image_opening.proofs.stale_heads.stale_lines.Goals as goal
+
+pub returns-in_err-tag-clause-reads : goal.returns-in_err-tag-clause-reads
+returns-in_err-tag-clause-reads g c = made_at_device c.from_residual-in_err-tag.result (search rules) (reads_then c.loop-cell.invariant.reads (read_alone c.in_err-tag.ensures.one_call))
+
+pub loop-cell-preserved : goal.loop-cell-preserved
+loop-cell-preserved g c =
+    let at : (2 + c.loop-cell.cell) * 8 ≡ 8 * (2 + c.loop-cell.cell) = omega arith in
+    let inside : (2 + c.loop-cell.cell) * 8 + 8 ≤ (g.M.Medium.sight c.args.m.now).len = omega (arith, c.loop-cell-test.true, c.requires.room, c.loop-cell.invariant.count) in
+    record {
+      len = omega arith;
+      reads = reads_then c.loop-cell.invariant.reads (read_alone c.in_ok-tag.ensures.one_call);
+      count = c.loop-cell.invariant.count;
+      few = omega (arith, c.add_stale.ensures.len, c.loop-cell.invariant.few);
+      capacity = c.add_stale.ensures.capacity ∙ c.loop-cell.invariant.capacity;
+      fit = fit_next _ (2 + c.loop-cell.cell) (is_head_over c.args.number c.in_ok-tag.tag) c.loop-cell.lines.items c.add_stale.new.lines.items c.loop-cell.invariant.fit (omega arith) c.add_stale.ensures.items;
+      lines = λ told content is.
+          lines_next c.args.number c.in_ok-tag.tag c.loop-cell.cell (2 + c.loop-cell.cell) content c.loop-cell.lines.items c.add_stale.new.lines.items
+          (ap (slice_index content) (sym at) ∙ read_content ((2 + c.loop-cell.cell) * 8) c.loop-cell.invariant.reads (omega (arith, c.loop-cell.invariant.len)) c.in_ok-tag.ensures.value told content is)
+          refl (c.loop-cell.invariant.lines told content is) c.add_stale.ensures.items;
+    }
+
+pub returns-clause-lines : goal.returns-clause-lines
+unfolding stale_lines
+returns-clause-lines g c = λ told content is.
+    let end : c.loop-cell.cell ≡ c.args.place.now.rings * c.args.place.now.cells = omega (arith, c.loop-cell-test.false, c.loop-cell.invariant.count) in
+    c.loop-cell.invariant.lines told content is ∙ ap (λ (n : ℕ). filter (λ line. is_head_over c.args.number (slice_index content (8 * line))) (range_with_len 2 n)) end

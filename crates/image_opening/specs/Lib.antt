@@ -1,0 +1,4 @@
+pub mod Answers
+pub mod Opened
+pub mod OpeningCalls
+pub mod OpeningLaw

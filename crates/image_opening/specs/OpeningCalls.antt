@@ -1,0 +1,40 @@
+-- The calls on the medium that open an image, behind the reads that recovered it.
+use Rattle.std.specs.Prelude.{ℕ, ◌*◌, ◌/◌, ◌==◌, nat_lt, ◌&&◌, Bool, List, [], ◌∷◌, ◌++◌, map, slice_index}
+use Rattle.std.specs.List.{range_with_len, enumerate_from, filter}
+use Rattle.dude_base.specs.declared.limits.TheConstants.{HEADER, LINE, MARK, PAGE}
+use Rattle.dude_base.specs.declared.sizes.Sizes.{Sizes}
+use Rattle.dude_base.specs.Image.{home_word}
+use Rattle.pmem_trait.specs.declared.call.Call.{Call}
+use Rattle.pmem_trait.specs.Groups.{group_calls}
+use Rattle.redo_record.specs.Tags.{kind_of, number_of}
+use Rattle.redo_record.specs.BackCalls.{mark_writes}
+
+-- every home word is put, in order, also one that has its value already
+abbrev pub home_puts : Sizes → List ℕ → List (ℕ × ℕ)
+home_puts s words = enumerate_from (home_word s 0) words
+
+-- the lines of the home
+abbrev pub home_lines : Sizes → List ℕ
+home_lines s = range_with_len (home_word s 0 / LINE) (s.pages * (PAGE / LINE))
+
+-- the tag is that of a head with a number over this one
+abbrev pub is_head_over : ℕ → ℕ → Bool
+is_head_over above tag = (kind_of tag == 1) && nat_lt above (number_of tag)
+
+-- the lines of the cells of an image that are heads with numbers over this one, in rising order
+unfoldable pub stale_lines : Sizes → ℕ → List ℕ → List ℕ
+stale_lines s number image = filter (λ line. is_head_over number (slice_index image (LINE * line))) (range_with_len (HEADER / LINE) (s.rings * s.cells))
+
+-- 0 is put in the first word of each of these lines
+abbrev pub clear_puts : List ℕ → List (ℕ × ℕ)
+clear_puts lines = map (λ line. (LINE * line, 0)) lines
+
+-- the first words of these lines are cleared, in one group; where there are none, no call is made
+abbrev pub clear_calls : List ℕ → List Call
+clear_calls [] = []
+clear_calls (line ∷ lines) = group_calls (clear_puts (line ∷ lines)) (line ∷ lines)
+
+-- the home words are made durable, then the mark, and then the heads over the number are cleared
+unfoldable pub opening_calls : Sizes → ℕ → List ℕ → List ℕ → List Call
+opening_calls s number words stale =
+    group_calls (home_puts s words) (home_lines s) ++ (group_calls (mark_writes number) (MARK / LINE ∷ []) ++ clear_calls stale)

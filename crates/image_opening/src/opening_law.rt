@@ -1,0 +1,6 @@
+ghost use Rattle.image_opening.specs.OpeningLaw.{LawOfOpening};
+
+/// At each moment of the calls that open an image every image recovers to what was recovered.
+pub fn law_of_opening()
+    ensures { LawOfOpening }
+{}
