@@ -1,0 +1,10 @@
+pub mod Announcing
+pub mod ArraysOfRuns
+pub mod GoingOn
+pub mod HeldArrays
+pub mod LedLogs
+pub mod NoTells
+pub mod OpenedLogs
+pub mod Persisting
+pub mod Reproducing
+pub mod ToldNumbers

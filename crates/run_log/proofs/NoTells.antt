@@ -1,0 +1,67 @@
+-- Calls that tell nothing.
+use Rattle.std.proofs.Common.{◌≡◌, ◌⊎◌, ℕ, Bool, true, false, IsTrue, List, [], ◌∷◌, ◌++◌, All, refl, ap, ◌∙◌, inl, inr, ⊎_elim, arith}
+use Rattle.std.proofs.lemmas.List.Elements.{All-append, All-cons, All-head, All-nil, All-tail}
+use Rattle.dude_base.specs.declared.sizes.Sizes.{Sizes}
+use Rattle.dude_base.specs.declared.write.Write.{Write}
+use Rattle.dude_base.specs.Image.{Cell}
+use Rattle.dude_base.specs.Records.{RedoRecord}
+use Rattle.pmem_trait.specs.declared.call.Call.{Call}
+use Rattle.pmem_trait.specs.declared.call.Call.TheVariants.{Put, Flush, Fence}
+use Rattle.pmem_trait.specs.Words.{State, told_after}
+use Rattle.pmem_trait.specs.Sights.{Sight, state_now, CallEffect, OneCall, CallsMade, CallsMade.none, CallsMade.stop, CallsMade.step}
+use Rattle.pmem_trait.specs.Groups.{flush_lines, group_calls, put_pairs}
+use Rattle.redo_record.specs.Calls.{append_calls}
+use Rattle.redo_record.specs.BackCalls.{announce_calls, reproduce_calls}
+
+-- the call tells nothing
+abbrev pub TellsNothing : Call → Type 0
+TellsNothing c = (told : List ℕ) → told_after c told ≡ told
+
+effect_told : (c : Call) (ok : Bool) (p q : State) → CallEffect c ok p q → (q.told ≡ p.told) ⊎ (q.told ≡ told_after c p.told)
+effect_told c true p q does = inr (ap (λ (x : State). x.told) does)
+effect_told c false p q half = half.told
+
+-- a call has told what it tells, or nothing
+pub one_told : {c : Call} {ok : Bool} {s t : Sight} → OneCall c ok s t → IsTrue s.is_visible → ((state_now t).told ≡ (state_now s).told) ⊎ ((state_now t).told ≡ told_after c (state_now s).told)
+one_told {c} {ok} {s} {t} call visible = elim call.time [
+  | inl next ↦ effect_told c ok (state_now s) (state_now t) (call.does visible next)
+  | inr full ↦ inl (ap (λ (m : ℕ). (t.state m).told) full.1 ∙ ap (λ (x : State). x.told) (call.later.past visible s.now (omega arith)))
+]
+
+one_same : {c : Call} {ok : Bool} {s t : Sight} → TellsNothing c → OneCall c ok s t → IsTrue s.is_visible → (state_now t).told ≡ (state_now s).told
+one_same {s = s} nothing call visible = ⊎_elim (λ same. same) (λ more. more ∙ nothing (state_now s).told) (one_told call visible)
+
+pub told_same : {cs : List Call} {ok : Bool} {s t : Sight} → CallsMade cs ok s t → All TellsNothing cs → IsTrue s.is_visible → (state_now t).told ≡ (state_now s).told
+told_same none all visible = refl
+told_same (stop {c = c} {cs = cs} call) all visible = one_same (All-head TellsNothing c cs all) call visible
+told_same (step {c = c} {cs = cs} call rest) all visible = told_same rest (All-tail TellsNothing c cs all) (call.later.is_visible ∙ visible) ∙ one_same (All-head TellsNothing c cs all) call visible
+
+puts_tell_nothing : (ws : List (ℕ × ℕ)) → All TellsNothing (put_pairs ws)
+puts_tell_nothing [] = All-nil TellsNothing
+puts_tell_nothing (w ∷ ws) = All-cons TellsNothing (Put w.0 w.1) (put_pairs ws) (λ told. refl) (puts_tell_nothing ws)
+
+flushes_tell_nothing : (ls : List ℕ) → All TellsNothing (flush_lines ls)
+flushes_tell_nothing [] = All-nil TellsNothing
+flushes_tell_nothing (l ∷ ls) = All-cons TellsNothing (Flush l) (flush_lines ls) (λ told. refl) (flushes_tell_nothing ls)
+
+group_tells_nothing : (ws : List (ℕ × ℕ)) (ls : List ℕ) → All TellsNothing (group_calls ws ls)
+unfolding group_calls
+group_tells_nothing ws ls =
+    All-append TellsNothing (put_pairs ws) (flush_lines ls ++ Fence ∷ []) (puts_tell_nothing ws)
+    (All-append TellsNothing (flush_lines ls) (Fence ∷ []) (flushes_tell_nothing ls) (All-cons TellsNothing Fence [] (λ told. refl) (All-nil TellsNothing)))
+
+pub append_tells_nothing : (s : Sizes) (head : Cell) (r : RedoRecord) → All TellsNothing (append_calls s head r)
+unfolding append_calls
+append_tells_nothing s head r = All-append TellsNothing _ _ (group_tells_nothing _ _) (group_tells_nothing _ _)
+
+pub reproduce_tells_nothing : (s : Sizes) (ws : List Write) (number : ℕ) → All TellsNothing (reproduce_calls s ws number)
+unfolding reproduce_calls
+reproduce_tells_nothing s ws number = All-append TellsNothing _ _ (group_tells_nothing _ _) (group_tells_nothing _ _)
+
+-- a tell that failed
+pub half_tell : {number : ℕ} {s t : Sight} → CallsMade (announce_calls number) false s t → IsTrue s.is_visible → ((state_now t).told ≡ (state_now s).told) ⊎ ((state_now t).told ≡ (state_now s).told ++ number ∷ [])
+half_tell (stop call) visible = one_told call visible
+half_tell (step call rest) visible = absurd (not_none rest)
+  where
+    not_none : {s t : Sight} → CallsMade [] false s t → ⊥
+    not_none made = elim made [ ]
