@@ -1,0 +1,6 @@
+pub mod Arrays
+pub mod Numbering
+pub mod RunEnds
+pub mod Steps
+pub mod Tellings
+pub mod Turns

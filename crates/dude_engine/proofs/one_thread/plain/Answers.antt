@@ -1,0 +1,65 @@
+use Rattle.std.proofs.Common.{◌≡◌, ◌↔◌, ◌∙◌, ℕ, Bool, false, ap, sym, refl, subst, map}
+use Rattle.std.specs.List.{AllPairs}
+use Rattle.std.specs.Prelude.{IsPermutation}
+use Rattle.pmem_trait.specs.Sights.{Sight, Risen, state_now}
+use Rattle.tatp_model.specs.OneThread.{PrecedesInFiles}
+use Rattle.run_order.specs.Runs.{Collects}
+use Rattle.run_order.proofs.Apart.{rounds_apart}
+use Rattle.back_store.specs.BackView.{medium_of}
+use Rattle.word_space.specs.Flats.{words_of}
+use Rattle.run_log.specs.RunLog.{Tells, log_durable, log_medium}
+use Rattle.dude_engine.specs.declared.ran.RanEnd.{RanEnd}
+use Rattle.dude_engine.specs.declared.ran.RanEnd.TheVariants.{Device}
+use Rattle.dude_engine.specs.Opening.{Opening}
+use Rattle.dude_engine.specs.Plain.{IsLastTold, IsOpeningOf}
+use Rattle.dude_engine.specs.Running.{IsLeft, IsRunning, IsSettledRun, end_by, went_well}
+use Rattle.dude_engine.proofs.RunEnds.{Ended, begins, cause_by, device_by, ended_by, follow_of, from_of, on_whole, performs_in_rounds, recovers_of, replies_of, syncs_of, well_by, whole_of}
+use Rattle.dude_engine.proofs.one_thread.plain.Goals as goal
+
+pub returns : goal.returns
+returns g c =
+    let o = c.args.opened in
+    let files = map (λ f. f.items) c.args.files.now in
+    let run = c.run_all-served.new.self in
+    let served = c.run_all-served.result in
+    let performed = run.done.items in
+    let done = c.put_in_files.new.done.items in
+    let s : Sight = g.M.Medium.sight (medium_of o.back) in
+    let t : Sight = g.M.Medium.sight (log_medium run.log) in
+    let u : Sight = g.M.Medium.sight c.into_medium.result in
+    let still : u ≡ t = ap (λ m. g.M.Medium.sight m) c.into_medium.ensures in
+    let running : (opening : Opening) → IsOpeningOf o opening → IsRunning opening o.words.items o.lay c.new.result (words_of c.new-2.result) c.new-3.result.items s (g.M.Medium.sight (log_medium c.new.result)) =
+    λ opening is. begins o opening o.lay c.new.result (words_of c.new-2.result) c.new-3.result.items s (g.M.Medium.sight (log_medium c.new.result)) c.requires.opened is refl
+    c.new-2.ensures.words c.new-3.ensures.items (ap (λ m. g.M.Medium.sight m) c.new.ensures.medium) c.new.ensures.alive c.new.ensures.sizes c.new.ensures.numbers.0 c.new.ensures.numbers.1 o.back.room c.new.ensures.follows in
+    let left : (opening : Opening) → IsOpeningOf o opening → IsLeft served opening o.words.items run s t = λ opening is. c.run_all-served.ensures.left opening o.words.items s (running opening is) in
+    let at : (opening : Opening) → IsOpeningOf o opening → Ended (went_well served) opening o.words.items (log_durable run.log) performed s u =
+    λ opening is. subst (λ (v : Sight). Ended (went_well served) opening o.words.items (log_durable run.log) performed s v) (sym still) (ended_by opening o.words.items run s t served (left opening is)) in
+    let lawful : Opening = record { number = o.number; sizes = o.sizes; database = c.requires.opened.lawful.0 } in
+    let lawful_is : IsOpeningOf o lawful = record { number = refl; sizes = refl; stands = c.requires.opened.lawful.1 } in
+    let same : IsPermutation performed done = c.put_in_files.ensures.same in
+    let rounds = c.run_all-served.ensures.rounds in
+    let sorted : AllPairs PrecedesInFiles done = c.put_in_files.ensures.sorted (rounds_apart performed rounds) in
+    let collects : Collects files performed done = c.run_all-served.ensures.collects done same sorted in
+    let some = (at lawful lawful_is).answered in
+    record {
+      len = (at lawful lawful_is).len;
+      performs = λ opening is. performs_in_rounds opening files performed done same collects rounds (at opening is).answered;
+      replies = λ opening is. replies_of opening files performed done same collects rounds (at opening is).answered;
+      syncs_follow = follow_of lawful files performed done same collects rounds some;
+      syncs_from = from_of lawful files performed done same collects rounds some;
+      syncs_told = λ visible. syncs_of lawful files performed done same collects rounds some s u ((at lawful lawful_is).syncs visible);
+      moments = λ opening is. recovers_of opening files performed done same collects rounds (at opening is).answered (went_well served) o.words.items (log_durable run.log) s u (at opening is);
+      whole = λ whole opening is.
+          let ended = sym c.end_of.ensures ∙ whole in
+          let settled : IsSettledRun opening o.words.items (log_durable run.log) performed s t = on_whole served ended c.run_all-served.ensures.settled opening o.words.items s (running opening is) in
+          whole_of opening files performed done same collects rounds (at opening is).answered o.words.items c.durable-last.result s u (on_whole served ended c.run_all-served.ensures.all done same sorted)
+          (subst (λ (v : Sight). IsSettledRun opening o.words.items c.durable-last.result performed s v) (sym still)
+          (subst (λ (n : ℕ). IsSettledRun opening o.words.items n performed s t) (sym c.durable-last.ensures) settled));
+      last_told = λ visible opening is.
+          subst (λ (e : RanEnd). IsLastTold e opening c.durable-last.result s u) (sym c.end_of.ensures)
+          (subst (λ (n : ℕ). IsLastTold (end_by served) opening n s u) (sym c.durable-last.ensures)
+          (subst (λ (ok : Bool). Tells ok opening.number (log_durable run.log) (state_now s).told (state_now u).told) (well_by served) ((at opening is).tells visible)));
+      ran = (went_well served, (at lawful lawful_is).ran, subst (λ (e : RanEnd). (went_well served ≡ false) ↔ (e ≡ Device)) (sym c.end_of.ensures) (device_by served));
+      cause = λ device.
+          subst (λ (v : Sight). Risen s.faults v.faults) (sym still) (cause_by lawful o.words.items run s t served (left lawful lawful_is) (sym c.end_of.ensures ∙ device));
+    }

@@ -1,0 +1,46 @@
+use Rattle.std.proofs.Common.{◌≡◌, ◌∙◌, sym, subst, rules, map, List, Err}
+use Rattle.tatp_model.specs.declared.done.Done.{Done}
+use Rattle.word_space.specs.Flats.{words_of}
+use Rattle.run_log.specs.RunLog.{log_medium}
+use Rattle.run_order.proofs.Rounds.{Rounds, rounds_collect, rounds_start}
+use Rattle.dude_engine.specs.declared.run_fault.RunFault.TheVariants.{Device}
+use Rattle.dude_engine.specs.Running.{IsRunning}
+use Rattle.dude_engine.proofs.Steps.{failed_same, left_failed, running_settled, settled_run}
+use Rattle.dude_engine.proofs.run.Run.run_all.Goals as goal
+
+pub returns-in_err-reserve_exact-clause-collects : goal.returns-in_err-reserve_exact-clause-collects
+returns-in_err-reserve_exact-clause-collects g c done same sorted =
+    let files = map (λ f. f.items) c.args.files.now in
+    rounds_collect files 0 0 c.reserve_exact.new.self.items done
+    (subst (λ (performed : List Done). Rounds files 0 0 performed) (sym (c.reserve_exact.ensures.items ∙ c.requires.empty)) (rounds_start files)) same sorted
+
+pub returns-in_err-settle-clause-left : goal.returns-in_err-settle-clause-left
+returns-in_err-settle-clause-left g c opening words s run =
+    let self = c.args.self.now in
+    let served = c.serve_all.new.self in
+    let is : c.from_residual-in_err-settle.result ≡ Err Device = search rules in
+    let runs = c.in_ok-serve_all.ensures.left opening words s
+    (subst (λ (performed : List Done). IsRunning opening words self.lay self.log (words_of self.words) performed s (g.M.Medium.sight (log_medium self.log))) (sym c.reserve_exact.ensures.items) run) in
+    left_failed opening words c.from_residual-in_err-settle.result _ s _ is
+    (failed_same opening words served.lay served.log c.settle.new.self (words_of served.words) served.done.items s (g.M.Medium.sight (log_medium served.log)) (g.M.Medium.sight (log_medium c.settle.new.self))
+    c.in_err-settle.ensures.goes_on c.settle.ensures.moments runs)
+
+pub returns-clause-left : goal.returns-clause-left
+returns-clause-left g c opening words s run =
+    let self = c.args.self.now in
+    let served = c.serve_all.new.self in
+    let ok = c.in_ok-settle.ensures in
+    let runs = c.in_ok-serve_all.ensures.left opening words s
+    (subst (λ (performed : List Done). IsRunning opening words self.lay self.log (words_of self.words) performed s (g.M.Medium.sight (log_medium self.log))) (sym c.reserve_exact.ensures.items) run) in
+    running_settled opening words served.lay served.log c.settle.new.self (words_of served.words) served.done.items s (g.M.Medium.sight (log_medium served.log)) (g.M.Medium.sight (log_medium c.settle.new.self))
+    ok.numbers.1 ok.goes_on c.settle.ensures.moments runs ok.numbers.0 ok.follows
+
+pub returns-clause-settled : goal.returns-clause-settled
+returns-clause-settled g c opening words s run =
+    let self = c.args.self.now in
+    let served = c.serve_all.new.self in
+    let ok = c.in_ok-settle.ensures in
+    let runs = c.in_ok-serve_all.ensures.left opening words s
+    (subst (λ (performed : List Done). IsRunning opening words self.lay self.log (words_of self.words) performed s (g.M.Medium.sight (log_medium self.log))) (sym c.reserve_exact.ensures.items) run) in
+    settled_run opening words served.lay served.log c.settle.new.self (words_of served.words) served.done.items s (g.M.Medium.sight (log_medium served.log)) (g.M.Medium.sight (log_medium c.settle.new.self))
+    ok.numbers.1 ok.goes_on c.settle.ensures.moments runs ok.told

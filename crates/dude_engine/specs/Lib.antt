@@ -1,0 +1,5 @@
+pub mod Opening
+pub mod Endings
+pub mod Plain
+pub mod Requests
+pub mod Running

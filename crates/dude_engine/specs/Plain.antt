@@ -1,0 +1,56 @@
+-- What a run on one thread does.
+use Rattle.std.specs.Prelude.{◌≡◌, ◌↔◌, ℕ, Bool, true, false, IsTrue, List}
+use Rattle.pmem_trait.specs.Sights.{Sight, state_now, AtEveryMoment, SomeCalls}
+use Rattle.tatp_model.specs.declared.done.Done.{Done}
+use Rattle.tatp_model.specs.declared.request.Request.{Request}
+use Rattle.tatp_model.specs.OneThread.{HoldsAll, IsPrintedOrder}
+use Rattle.tatp_layout.specs.StandsFor.{StandsFor}
+use Rattle.pmem_trait.specs.declared.medium.Medium.{Ghosts}
+use Rattle.run_order.specs.Runs.{Performs, Collects}
+use Rattle.image_opening.specs.declared.opened.Opened.{Opened}
+use Rattle.image_opening.specs.Opened.{HoldsOpened}
+use Rattle.run_log.specs.RunLog.{Tells}
+use Rattle.dude_engine.specs.declared.ran.RanEnd.{RanEnd}
+use Rattle.dude_engine.specs.declared.ran.RanEnd.TheVariants.{Device}
+use Rattle.dude_engine.specs.Opening.{Opening, last_of, RecoversFrom}
+use Rattle.dude_engine.specs.Endings.{End}
+
+-- the run starts from this opening: that of the image, with a database for which its home stands
+pub record IsOpeningOf {M : Type 0} {ghosts : Ghosts M} (o : Opened M ghosts) (opening : Opening) : Type 0 where
+  pub number : opening.number ≡ o.number
+  pub sizes : opening.sizes ≡ o.sizes
+  pub stands : StandsFor o.sizes o.words.items opening.database
+
+-- Requests were performed one after another in rounds: request 0 of each file in the files' order, then request 1 of each,
+-- and so on; the k-th that wrote has the opening number plus k; each reply is one thread's. They are done.
+pub record PerformsInRounds (opening : Opening) (files : List (List Request)) (done : List Done) : Type 0 where
+  pub performed : List Done
+  pub performs : Performs opening.number opening.sizes.calls opening.database performed
+  pub collects : Collects files performed done
+
+-- At each moment every image recovers to the database after a prefix of the printed order, and to no number under the opening
+-- one or one told, and to none over those done. This holds of a medium that is as the opening of its image left it.
+abbrev pub RecoversOnTheRun : Opening → List ℕ → List Done → Sight → Sight → Type 0
+RecoversOnTheRun opening words done s t = (before : ℕ) → HoldsOpened before opening.sizes opening.number words s
+    → (order : List Done) × IsPrintedOrder done order × AtEveryMoment (RecoversFrom before opening order) s t
+
+-- At the end of a whole run all requests are done, the greatest number done or the opening one was told last, and every image
+-- recovers to it.
+pub record IsWhole (opening : Opening) (words : List ℕ) (files : List (List Request)) (done : List Done) (last : ℕ) (s t : Sight) : Type 0 where
+  pub all : HoldsAll files done
+  pub last_is : last ≡ last_of opening.number done
+  pub end : (before : ℕ) → HoldsOpened before opening.sizes opening.number words s → IsTrue s.is_visible → End opening done last s t
+
+-- no call on the medium failed
+abbrev pub ran_well : RanEnd → Bool
+ran_well Device = false
+ran_well _ = true
+
+-- This number is the last that was told in this call, or the opening number where none was. The call that failed may have told
+-- one more, which is no less.
+abbrev pub IsLastTold : RanEnd → Opening → ℕ → Sight → Sight → Type 0
+IsLastTold end opening last s t = Tells (ran_well end) opening.number last (state_now s).told (state_now t).told
+
+-- A call on the medium failed, the last one, exactly where the run says so.
+abbrev pub RanUnlessDevice : RanEnd → Sight → Sight → Type 0
+RanUnlessDevice end s t = (ok : Bool) × SomeCalls ok s t × ((ok ≡ false) ↔ (end ≡ Device))

@@ -1,0 +1,154 @@
+-- Where a run on one thread stands between two requests, and what a failed call leaves of it.
+use Rattle.std.specs.Prelude.{◌≡◌, ◌⊎◌, ℕ, ◌*◌, ◌≤◌, Bool, true, false, IsTrue, List, [], ◌∷◌, ◌++◌, length, map, fold, All, Result, Ok, Err, Some, slice_get}
+use Rattle.dude_base.specs.declared.limits.TheConstants.{PAGE}
+use Rattle.dude_base.specs.declared.sizes.Sizes.{Sizes}
+use Rattle.dude_base.specs.Writes.{overwritten}
+use Rattle.pmem_trait.specs.declared.medium.Medium.{Ghosts}
+use Rattle.pmem_trait.specs.Words.{AtLeast, EveryImage}
+use Rattle.pmem_trait.specs.Sights.{Sight, state_now, AtEveryMoment, Risen, SomeCalls}
+use Rattle.word_space.specs.Flats.{words_of, flat_sight, fresh}
+use Rattle.tatp_model.specs.declared.done.Done.{Done}
+use Rattle.tatp_model.specs.declared.request.Request.{Request}
+use Rattle.tatp_model.specs.declared.reply.Reply.TheVariants.{Changed}
+use Rattle.tatp_model.specs.Database.{Database}
+use Rattle.tatp_model.specs.OneThread.{is_sync, RepliesAlong, after_number, after_requests}
+use Rattle.tatp_layout.specs.StandsFor.{StandsFor}
+use Rattle.tatp_core.specs.Serves.{Serves}
+use Rattle.run_order.specs.Runs.{IsNumberedFrom}
+use Rattle.image_opening.specs.Opened.{HoldsOpened}
+use Rattle.run_log.specs.declared.run_log.RunLog.{RunLog}
+use Rattle.run_log.specs.Arrays.{RunArrays, array_at, last_number}
+use Rattle.run_log.specs.RunLog.{Follows, IsAlive, Tells, log_durable, log_last, log_sizes}
+use Rattle.dude_engine.specs.declared.ran.RanEnd.{RanEnd}
+use Rattle.dude_engine.specs.declared.ran.RanEnd.TheVariants.{Whole, Device as EndsOnDevice, NoMemory as EndsOnNoMemory}
+use Rattle.dude_engine.specs.declared.run.Run.{Run}
+use Rattle.dude_engine.specs.declared.run_fault.RunFault.{RunFault}
+use Rattle.dude_engine.specs.declared.run_fault.RunFault.TheVariants.{Device, NoMemory}
+use Rattle.dude_engine.specs.Opening.{Opening, RecoversAt}
+use Rattle.dude_engine.specs.Endings.{AreSyncsTold, WasToldLast}
+
+-- the number of the last request performed, or the opening one
+abbrev pub last_performed : ℕ → List Done → ℕ
+last_performed first performed = fold (λ last d. d.number) first performed
+
+-- the tables behind the requests performed
+abbrev pub tables_after : Opening → List Done → Database
+tables_after opening performed = after_requests opening.sizes.calls opening.database (map (λ d. d.request) performed)
+
+-- Each number is the last one or, where the request wrote, the next; and each reply is one thread's.
+pub record AreAnswered (opening : Opening) (performed : List Done) : Type 0 where
+  pub numbered : IsNumberedFrom opening.number performed
+  pub replies : RepliesAlong opening.sizes.calls opening.database performed
+
+-- The image recovers to a number from the opening one to the last, and to the database behind the requests performed that
+-- wrote with numbers up to it; and nothing greater was told behind the first `before` numbers.
+pub record RecoversSoFar (before : ℕ) (opening : Opening) (performed : List Done) (told image : List ℕ) : Type 0 where
+  pub number : ℕ
+  pub from : opening.number ≤ number
+  pub floor : AtLeast before told number
+  pub most : number ≤ last_performed opening.number performed
+  pub recovers : RecoversAt opening performed image number
+
+-- Arrays stand for the databases at the numbers from the opening one on, and the last one is this.
+pub record HasArrays (opening : Opening) (performed : List Done) (words : List ℕ) (a : RunArrays) : Type 0 where
+  pub first : a.first ≡ opening.number
+  pub last_is : last_number a ≡ last_performed opening.number performed
+  pub stand : (n : ℕ) → opening.number ≤ n → n ≤ last_number a
+      → StandsFor opening.sizes (array_at a n) (after_number opening.sizes.calls opening.database performed n)
+  pub last : array_at a (last_number a) ≡ words
+
+-- the log follows such arrays
+pub record FollowsRun {M : Type 0} {ghosts : Ghosts M} (before : ℕ) (opening : Opening) (performed : List Done) (words : List ℕ) (l : RunLog M ghosts) (s : Sight) : Type 0 where
+  pub arrays : RunArrays
+  pub has : HasArrays opening performed words arrays
+  pub follows : Follows before arrays l s
+
+-- the number of each `SYNC` is at most this one, which was told last in this call
+abbrev pub AreSyncsUpTo : ℕ → List Done → Sight → Sight → Type 0
+AreSyncsUpTo durable performed s t = All (λ d. IsTrue (is_sync d.request) → WasToldLast durable s t × (d.number ≤ durable)) performed
+
+-- Whatever the opening: the log is alive, and the words are at rest.
+pub record IsReady {M : Type 0} {ghosts : Ghosts M} (run : Run M ghosts) : Type 0 where
+  pub alive : IsAlive run.log
+  pub sizes : log_sizes run.log ≡ run.lay
+  pub clean : flat_sight run.words ≡ fresh (words_of run.words)
+  pub count : length (words_of run.words) ≡ run.lay.pages * PAGE
+
+-- The run began at this opening with these words in the home, when its medium was as s; its medium is now as t. The current
+-- words stand for the tables behind the requests performed, and the log is at the last number.
+pub record IsRunning {M : Type 0} {ghosts : Ghosts M} (opening : Opening) (words : List ℕ) (lay : Sizes) (l : RunLog M ghosts) (current : List ℕ) (performed : List Done) (s t : Sight) : Type 0 where
+  pub layout : opening.sizes ≡ lay
+  pub sizes : log_sizes l ≡ opening.sizes
+  pub answered : AreAnswered opening performed
+  pub last : log_last l ≡ last_performed opening.number performed
+  pub stands : StandsFor opening.sizes current (tables_after opening performed)
+  pub len : t.len ≡ s.len
+  pub ran : SomeCalls true s t
+  pub tells : IsTrue s.is_visible → Tells true opening.number (log_durable l) (state_now s).told (state_now t).told
+  pub syncs : IsTrue s.is_visible → AreSyncsUpTo (log_durable l) performed s t
+  pub follows : (before : ℕ) → HoldsOpened before opening.sizes opening.number words s → FollowsRun before opening performed current l t
+  pub moments : (before : ℕ) → HoldsOpened before opening.sizes opening.number words s → AtEveryMoment (RecoversSoFar before opening performed) s t
+
+abbrev pub Runs : {M : Type 0} {ghosts : Ghosts M} → Opening → List ℕ → Run M ghosts → Sight → Sight → Type 0
+Runs opening words run s t = IsRunning opening words run.lay run.log (words_of run.words) run.done.items s t
+
+-- The same where the last call on the medium failed.
+pub record HasFailed (opening : Opening) (words : List ℕ) (durable : ℕ) (performed : List Done) (s t : Sight) : Type 0 where
+  pub answered : AreAnswered opening performed
+  pub len : t.len ≡ s.len
+  pub ran : SomeCalls false s t
+  pub cause : Risen s.faults t.faults
+  pub tells : IsTrue s.is_visible → Tells false opening.number durable (state_now s).told (state_now t).told
+  pub syncs : IsTrue s.is_visible → AreSyncsTold performed s t
+  pub moments : (before : ℕ) → HoldsOpened before opening.sizes opening.number words s → AtEveryMoment (RecoversSoFar before opening performed) s t
+
+-- what is left of a run, by an answer
+abbrev pub IsLeft : {M : Type 0} {ghosts : Ghosts M} → Result (Unit {0}) RunFault → Opening → List ℕ → Run M ghosts → Sight → Sight → Type 0
+IsLeft (Ok done) opening words run s t = Runs opening words run s t
+IsLeft (Err NoMemory) opening words run s t = Runs opening words run s t
+IsLeft (Err Device) opening words run s t = HasFailed opening words (log_durable run.log) run.done.items s t
+
+-- The last number was told last in this call, and every image recovers to it.
+pub record IsSettledRun (opening : Opening) (words : List ℕ) (durable : ℕ) (performed : List Done) (s t : Sight) : Type 0 where
+  pub durable_is : durable ≡ last_performed opening.number performed
+  pub told : IsTrue s.is_visible → WasToldLast durable s t
+  pub images : (before : ℕ) → HoldsOpened before opening.sizes opening.number words s → IsTrue s.is_visible
+      → EveryImage t.len (λ told image. RecoversAt opening performed image durable) (state_now t)
+
+-- The words have pending writes, by which the request is served; its reply is `Changed`.
+pub record IsChanging {M : Type 0} {ghosts : Ghosts M} (request : Request) (run : Run M ghosts) : Type 0 where
+  pub alive : IsAlive run.log
+  pub sizes : log_sizes run.log ≡ run.lay
+  pub count : length (words_of run.words) ≡ run.lay.pages * PAGE
+  pub serves : (db : Database) → StandsFor run.lay (words_of run.words) db → Serves run.lay db request Changed (overwritten (flat_sight run.words).writes (words_of run.words))
+
+-- One request more is done, the one at this place.
+pub record Adds (file index : ℕ) (request : Request) (old new : List Done) : Type 0 where
+  pub entry : Done
+  pub added : new ≡ old ++ entry ∷ []
+  pub file_is : entry.file ≡ file
+  pub index_is : entry.index ≡ index
+  pub asked : entry.request ≡ request
+
+-- by an answer, one more is done; where there is a fault, perhaps
+abbrev pub AddsUnless : Result (Unit {0}) RunFault → ℕ → ℕ → Request → List Done → List Done → Type 0
+AddsUnless (Ok done) file index request old new = Adds file index request old new
+AddsUnless (Err fault) file index request old new = (new ≡ old) ⊎ Adds file index request old new
+
+-- The turn of a file: its request of this round is done, or it has none. Where there is a fault, perhaps it is done.
+abbrev pub AddsTurn : Result (Unit {0}) RunFault → ℕ → ℕ → List Request → List Done → List Done → Type 0
+AddsTurn (Ok done) file index requests old new =
+    ((request : Request) × (slice_get requests index ≡ Some request) × Adds file index request old new) ⊎ ((length requests ≤ index) × (new ≡ old))
+AddsTurn (Err fault) file index requests old new =
+    ((request : Request) × (slice_get requests index ≡ Some request) × Adds file index request old new) ⊎ (new ≡ old)
+
+-- how a run ended, and whether no call failed
+abbrev pub end_by : Result (Unit {0}) RunFault → RanEnd
+end_by (Ok done) = Whole
+end_by (Err Device) = EndsOnDevice
+end_by (Err NoMemory) = EndsOnNoMemory
+
+abbrev pub went_well : Result (Unit {0}) RunFault → Bool
+went_well (Ok done) = true
+went_well (Err NoMemory) = true
+went_well (Err Device) = false

@@ -1,0 +1,24 @@
+use tatp_model::Done;
+
+/// How a run of requests ended.
+#[derive(Clone, Copy, Debug, PartialEq, Eq)]
+pub enum RanEnd {
+    /// All requests are done, durable, told and reproduced.
+    Whole,
+    /// A call on the medium failed.
+    Device,
+    /// There was no memory.
+    NoMemory,
+}
+
+/// What became of a run.
+#[derive(Drop)]
+pub struct Ran<M> {
+    /// The requests done, in order of file and index. At `Device` the last one may be the request on which the medium
+    /// failed, since its record may be durable.
+    pub done: Vec<Done>,
+    pub medium: M,
+    pub end: RanEnd,
+    /// The last number told, or the opening number where none was.
+    pub last: u64,
+}

@@ -1,0 +1,252 @@
+ghost use Rattle.std.specs.Prelude.{◌≡◌, ℕ, ◌+◌, ◌*◌, ◌<◌, ◌≤◌, List, [], ◌∷◌, ◌++◌, map, length, All, AllPairs, IsPermutation, OnOk, OnErr, false, true, vec_len, vec_capacity};
+ghost use Rattle.dude_base.specs.declared.limits.TheConstants.{MAX_NUMBER};
+ghost use Rattle.pmem_trait.specs.Sights.{Sight};
+ghost use Rattle.tatp_model.specs.declared.done.Done.{Done};
+ghost use Rattle.tatp_model.specs.declared.reply.Reply.TheVariants.{Changed};
+ghost use Rattle.tatp_model.specs.declared.request.Request.TheVariants.{Sync};
+ghost use Rattle.tatp_model.specs.OneThread.{HoldsAll, PrecedesInFiles, is_changed, is_sync};
+ghost use Rattle.tatp_model.specs.Request.{IsInRange};
+ghost use Rattle.run_order.specs.Runs.{Collects, PrecedesInRounds};
+ghost use Rattle.run_log.specs.RunLog.{log_durable, log_last, log_medium};
+ghost use Rattle.dude_engine.specs.Opening.{Opening};
+ghost use Rattle.dude_engine.specs.Requests.{AreInRange, request_count};
+ghost use Rattle.dude_engine.specs.Running.{AddsTurn, AddsUnless, IsChanging, IsLeft, IsReady, IsSettledRun, Runs};
+
+use crate::run_fault::RunFault;
+use pmem_trait::Medium;
+use request_service::run_request;
+use run_log::RunLog;
+use tatp_layout::Layout;
+use tatp_model::{Done, Reply, Request};
+use word_space::flat::Flat;
+use word_space::stop::Stop;
+
+/// A run of request files on one thread: its log, its tables in memory, and what is done, in the order of performance.
+#[derive(Drop)]
+pub struct Run<M: Medium> {
+    pub log: RunLog<M>,
+    pub lay: Layout,
+    pub words: Flat,
+    pub done: Vec<Done>,
+}
+
+impl<M: Medium> Run<M> {
+    /// Performs the requests of all files in rounds, and announces and reproduces all at the end. Room for what is done is
+    /// taken at the start.
+    pub fn run_all(&mut self, files: &[Vec<Request>]) -> Result<(), RunFault>
+        requires ready { IsReady self.old }
+        requires empty { self.old.done.items ≡ [] }
+        requires rings { length files.now ≤ self.old.lay.rings }
+        requires in_range { AreInRange (map (λ f. f.items) files.now) }
+        requires numbers { log_last self.old.log + 65 * request_count (map (λ f. f.items) files.now) ≤ MAX_NUMBER }
+        ensures left { (opening : Opening) (words : List ℕ) (s : Sight) → Runs opening words self.old s (M.sight (log_medium self.old.log))
+            → IsLeft result opening words self.new s (M.sight (log_medium self.new.log)) }
+        ensures rounds { AllPairs PrecedesInRounds self.new.done.items }
+        ensures collects { (done : List Done) → IsPermutation self.new.done.items done → AllPairs PrecedesInFiles done → Collects (map (λ f. f.items) files.now) self.new.done.items done }
+        ensures all { OnOk result ((done : List Done) → IsPermutation self.new.done.items done → AllPairs PrecedesInFiles done → HoldsAll (map (λ f. f.items) files.now) done) }
+        ensures settled { OnOk result ((opening : Opening) (words : List ℕ) (s : Sight) → Runs opening words self.old s (M.sight (log_medium self.old.log))
+            → IsSettledRun opening words (log_durable self.new.log) self.new.done.items s (M.sight (log_medium self.new.log))) }
+    {
+        let count = count_requests(files);
+        self.done.reserve_exact(count)?;
+        self.serve_all(files)?;
+        self.log.settle()?;
+        Ok(())
+    }
+
+    /// Performs the requests of all files in rounds.
+    fn serve_all(&mut self, files: &[Vec<Request>]) -> Result<(), RunFault>
+        requires ready { IsReady self.old }
+        requires empty { self.old.done.items ≡ [] }
+        requires room { request_count (map (λ f. f.items) files.now) ≤ vec_capacity self.old.done }
+        requires rings { length files.now ≤ self.old.lay.rings }
+        requires in_range { AreInRange (map (λ f. f.items) files.now) }
+        requires numbers { log_last self.old.log + request_count (map (λ f. f.items) files.now) ≤ MAX_NUMBER }
+        ensures ready { OnOk result (IsReady self.new) }
+        ensures left { (opening : Opening) (words : List ℕ) (s : Sight) → Runs opening words self.old s (M.sight (log_medium self.old.log))
+            → IsLeft result opening words self.new s (M.sight (log_medium self.new.log)) }
+        ensures rounds { AllPairs PrecedesInRounds self.new.done.items }
+        ensures collects { (done : List Done) → IsPermutation self.new.done.items done → AllPairs PrecedesInFiles done → Collects (map (λ f. f.items) files.now) self.new.done.items done }
+        ensures all { OnOk result ((done : List Done) → IsPermutation self.new.done.items done → AllPairs PrecedesInFiles done → HoldsAll (map (λ f. f.items) files.now) done) }
+    {
+        let longest = longest_file(files);
+        for index in 0..longest {
+            for (file, requests) in files.iter().enumerate() {
+                self.serve_turn(file as u64, index as u64, requests)?;
+            }
+        }
+        Ok(())
+    }
+
+    // The turn of a file: its request of this round is served, where it has one.
+    fn serve_turn(&mut self, file: u64, index: u64, requests: &[Request]) -> Result<(), RunFault>
+        requires ready { IsReady self.old }
+        requires room { index < length requests.now → vec_len self.old.done < vec_capacity self.old.done }
+        requires number { index < length requests.now → log_last self.old.log < MAX_NUMBER }
+        requires ring { file < self.old.lay.rings }
+        requires in_range { All IsInRange requests.now }
+        ensures ready { OnOk result (IsReady self.new) }
+        ensures lay { self.new.lay ≡ self.old.lay }
+        ensures room { vec_capacity self.new.done ≡ vec_capacity self.old.done }
+        ensures number { OnOk result (log_last self.new.log + vec_len self.old.done ≤ log_last self.old.log + vec_len self.new.done) }
+        ensures adds { AddsTurn result file index requests.now self.old.done.items self.new.done.items }
+        ensures left { (opening : Opening) (words : List ℕ) (s : Sight) → Runs opening words self.old s (M.sight (log_medium self.old.log))
+            → IsLeft result opening words self.new s (M.sight (log_medium self.new.log)) }
+    {
+        match requests.get(index as usize) {
+            Some(request) => self.serve(file, index, request),
+            None => Ok(()),
+        }
+    }
+
+    /// Serves one request. Where the medium fails at its record, it is noted as done too, since the record may be durable.
+    fn serve(&mut self, file: u64, index: u64, request: &Request) -> Result<(), RunFault>
+        requires ready { IsReady self.old }
+        requires room { vec_len self.old.done < vec_capacity self.old.done }
+        requires number { log_last self.old.log < MAX_NUMBER }
+        requires ring { file < self.old.lay.rings }
+        requires in_range { IsInRange request.now }
+        ensures ready { OnOk result (IsReady self.new) }
+        ensures lay { self.new.lay ≡ self.old.lay }
+        ensures room { vec_capacity self.new.done ≡ vec_capacity self.old.done }
+        ensures number { OnOk result (log_last self.new.log ≤ log_last self.old.log + 1) }
+        ensures adds { AddsUnless result file index request.now self.old.done.items self.new.done.items }
+        ensures left { (opening : Opening) (words : List ℕ) (s : Sight) → Runs opening words self.old s (M.sight (log_medium self.old.log))
+            → IsLeft result opening words self.new s (M.sight (log_medium self.new.log)) }
+    {
+        match request {
+            Request::Sync => self.serve_sync(file, index),
+            _ => self.perform(file, index, request),
+        }
+    }
+
+    // Serves `SYNC`: all that is done is announced.
+    fn serve_sync(&mut self, file: u64, index: u64) -> Result<(), RunFault>
+        requires ready { IsReady self.old }
+        requires room { vec_len self.old.done < vec_capacity self.old.done }
+        ensures ready { OnOk result (IsReady self.new) }
+        ensures lay { self.new.lay ≡ self.old.lay }
+        ensures room { vec_capacity self.new.done ≡ vec_capacity self.old.done }
+        ensures number { OnOk result (log_last self.new.log ≡ log_last self.old.log) }
+        ensures adds { AddsUnless result file index Sync self.old.done.items self.new.done.items }
+        ensures left { (opening : Opening) (words : List ℕ) (s : Sight) → Runs opening words self.old s (M.sight (log_medium self.old.log))
+            → IsLeft result opening words self.new s (M.sight (log_medium self.new.log)) }
+    {
+        let number = self.log.announce()?;
+        self.note(file, index, number, Request::Sync, Reply::Durable);
+        Ok(())
+    }
+
+    // Performs a request on the tables, and logs what it changed.
+    fn perform(&mut self, file: u64, index: u64, request: &Request) -> Result<(), RunFault>
+        requires ready { IsReady self.old }
+        requires room { vec_len self.old.done < vec_capacity self.old.done }
+        requires number { log_last self.old.log < MAX_NUMBER }
+        requires ring { file < self.old.lay.rings }
+        requires in_range { IsInRange request.now }
+        requires no_sync { is_sync request.now ≡ false }
+        ensures ready { OnOk result (IsReady self.new) }
+        ensures lay { self.new.lay ≡ self.old.lay }
+        ensures room { vec_capacity self.new.done ≡ vec_capacity self.old.done }
+        ensures number { OnOk result (log_last self.new.log ≤ log_last self.old.log + 1) }
+        ensures adds { AddsUnless result file index request.now self.old.done.items self.new.done.items }
+        ensures left { (opening : Opening) (words : List ℕ) (s : Sight) → Runs opening words self.old s (M.sight (log_medium self.old.log))
+            → IsLeft result opening words self.new s (M.sight (log_medium self.new.log)) }
+    {
+        let reply = match run_request(&self.lay, &mut self.words, request) {
+            Ok(reply) => reply,
+            Err(Stop::NoMemory) => {
+                self.words.forget();
+                return Err(RunFault::NoMemory);
+            }
+            Err(_) => unreachable!(),
+        };
+        match reply {
+            Reply::Changed => self.log_change(file, index, request),
+            _ => {
+                self.words.forget();
+                let number = self.log.last();
+                self.note(file, index, number, *request, reply);
+                Ok(())
+            }
+        }
+    }
+
+    // Takes the pending writes as the record of the next number, notes the request, and logs the record.
+    fn log_change(&mut self, file: u64, index: u64, request: &Request) -> Result<(), RunFault>
+        requires change { IsChanging request.now self.old }
+        requires room { vec_len self.old.done < vec_capacity self.old.done }
+        requires number { log_last self.old.log < MAX_NUMBER }
+        requires ring { file < self.old.lay.rings }
+        requires no_sync { is_sync request.now ≡ false }
+        ensures ready { OnOk result (IsReady self.new) }
+        ensures lay { self.new.lay ≡ self.old.lay }
+        ensures room { vec_capacity self.new.done ≡ vec_capacity self.old.done }
+        ensures number { OnOk result (log_last self.new.log ≡ log_last self.old.log + 1) }
+        ensures adds { AddsUnless result file index request.now self.old.done.items self.new.done.items }
+        ensures left { (opening : Opening) (words : List ℕ) (s : Sight) → Runs opening words self.old s (M.sight (log_medium self.old.log))
+            → IsLeft result opening words self.new s (M.sight (log_medium self.new.log)) }
+    {
+        let number = self.log.last() + 1;
+        let redo = self.words.take(number);
+        self.done.push_reserved(Done {
+            file,
+            index,
+            number,
+            wrote: true,
+            request: *request,
+            reply: Reply::Changed,
+        });
+        self.log.append(file, &redo)?;
+        Ok(())
+    }
+
+    // Notes a request that wrote nothing.
+    fn note(&mut self, file: u64, index: u64, number: u64, request: Request, reply: Reply)
+        requires room { vec_len self.old.done < vec_capacity self.old.done }
+        ensures done { self.new.done.items ≡ self.old.done.items ++ (record { file = file; index = index; number = number; wrote = false; request = request; reply = reply }) ∷ [] }
+        ensures room { vec_capacity self.new.done ≡ vec_capacity self.old.done }
+        ensures log { self.new.log ≡ self.old.log }
+        ensures lay { self.new.lay ≡ self.old.lay }
+        ensures words { self.new.words ≡ self.old.words }
+    {
+        self.done.push_reserved(Done {
+            file,
+            index,
+            number,
+            wrote: false,
+            request,
+            reply,
+        });
+    }
+}
+
+// How many requests there are in all.
+fn count_requests(files: &[Vec<Request>]) -> usize
+    requires few { request_count (map (λ f. f.items) files.now) ≤ MAX_NUMBER }
+    ensures { result ≡ request_count (map (λ f. f.items) files.now) }
+{
+    let mut count = 0;
+    for requests in files {
+        count += requests.len();
+    }
+    count
+}
+
+// How many requests the longest file has.
+fn longest_file(files: &[Vec<Request>]) -> usize
+    ensures { All (λ requests. length requests ≤ result) (map (λ f. f.items) files.now) }
+{
+    let mut longest = 0;
+    for requests in files {
+        longest = greater(longest, requests.len());
+    }
+    longest
+}
+
+fn greater(a: usize, b: usize) -> usize
+    ensures first { a ≤ result }
+    ensures second { b ≤ result }
+{
+    if a < b { b } else { a }
+}
