@@ -1,0 +1,58 @@
+-- Why no image was begun, and what is left of the medium then.
+use Rattle.std.specs.Prelude.{◌≡◌, ◌<◌, ◌≤◌, ⊤, true, false}
+use Rattle.dude_base.specs.declared.limits.TheConstants.{VERSION}
+use Rattle.dude_base.specs.declared.sizes.Sizes.{Sizes}
+use Rattle.dude_base.specs.Image.{image_words}
+use Rattle.pmem_trait.specs.Sights.{Sight, Risen, SomeCalls}
+use Rattle.pmem_trait.specs.Reads.{ContentHas, OnlyReads}
+use Rattle.tatp_model.specs.Population.{population_calls}
+use Rattle.redo_record.specs.Recovery.{IsFormatted, IsDamaged}
+use Rattle.image_recovery.specs.Recovered.{IsNoDatabase}
+use Rattle.image_recovery.specs.declared.open_fault.OpenFault.{OpenFault}
+use Rattle.image_recovery.specs.declared.open_fault.OpenFault.TheVariants as opening
+use Rattle.image_format.specs.Causes.{FitsImage}
+use Rattle.image_format.specs.declared.format_fault.FormatFault.{FormatFault}
+use Rattle.image_format.specs.declared.format_fault.FormatFault.TheVariants as format
+use Rattle.dude_fault.specs.declared.fault.Fault.{Fault}
+use Rattle.dude_fault.specs.declared.fault.Fault.TheVariants.{Small, TooFew, Unformatted, Damaged, NotDb, Device, Memory}
+
+-- Why no image of these sizes was made: the first that fits, and the medium is as it was; or the image fits, and the last
+-- call failed, or there was no memory.
+abbrev pub HasFormatFault : Sizes → Sight → Sight → Fault → Type 0
+HasFormatFault sizes s t (Small has needs) = (t ≡ s) × (has ≡ s.len) × (needs ≡ image_words sizes) × (has < needs)
+HasFormatFault sizes s t (TooFew rows calls) =
+    (t ≡ s) × (image_words sizes ≤ s.len) × (rows ≡ population_calls sizes.subscribers) × (calls ≡ sizes.calls) × (calls < rows)
+HasFormatFault sizes s t Device = FitsImage sizes s.len × Risen s.faults t.faults × SomeCalls false s t
+HasFormatFault sizes s t Memory = FitsImage sizes s.len × SomeCalls true s t
+HasFormatFault sizes s t _ = ⊥
+
+-- Why the image isn't open: its content says why, and the medium was only read; or the last call failed, or there was no
+-- memory.
+abbrev pub HasOpenFault : Sight → Sight → Fault → Type 0
+HasOpenFault s t Unformatted = ContentHas (λ content. ¬ IsFormatted VERSION content) s × OnlyReads true s t
+HasOpenFault s t (Damaged line) = ContentHas (λ content. IsFormatted VERSION content × IsDamaged content line) s × OnlyReads true s t
+HasOpenFault s t (NotDb word) = ContentHas (IsNoDatabase word) s × OnlyReads true s t
+HasOpenFault s t Device = Risen s.faults t.faults × SomeCalls false s t
+HasOpenFault s t Memory = SomeCalls true s t
+HasOpenFault s t _ = ⊥
+
+-- what a fault of opening is for the command
+abbrev pub fault_of_opening : OpenFault → Fault
+fault_of_opening opening.Unformatted = Unformatted
+fault_of_opening (opening.Damaged line) = Damaged line
+fault_of_opening (opening.NotDb word) = NotDb word
+fault_of_opening opening.Device = Device
+fault_of_opening opening.NoMemory = Memory
+
+-- the sizes are accepted
+abbrev pub IsSized : FormatFault → Type 0
+IsSized (format.Size field) = ⊥
+IsSized _ = ⊤
+
+-- what a fault of making an image is for the command, where the sizes are accepted
+abbrev pub IsFaultOfFormat : FormatFault → Fault → Type 0
+IsFaultOfFormat (format.Size field) fault = ⊥
+IsFaultOfFormat (format.Small has needs) fault = fault ≡ Small has needs
+IsFaultOfFormat (format.TooFew rows calls) fault = fault ≡ TooFew rows calls
+IsFaultOfFormat format.Device fault = fault ≡ Device
+IsFaultOfFormat format.NoMemory fault = fault ≡ Memory

@@ -1,0 +1,64 @@
+ghost use Rattle.std.specs.Prelude.{◌≡◌, true, IfOk, IfErr, IsTrue};
+ghost use Rattle.dude_base.specs.Sizes.{IsAccepted};
+ghost use Rattle.pmem_trait.specs.Words.{IsSettled};
+ghost use Rattle.pmem_trait.specs.Sights.{state_now};
+ghost use Rattle.back_store.specs.BackView.{medium_of};
+ghost use Rattle.image_format.specs.Causes.{FitsImage};
+ghost use Rattle.image_opening.specs.Opened.{IsOpened};
+ghost use Rattle.dude_engine.specs.Plain.{IsOpeningOf};
+ghost use Rattle.command_openings.specs.Begun.{Begins, IsBeginning};
+ghost use Rattle.command_openings.specs.Faults.{HasFormatFault, IsFaultOfFormat, IsSized};
+ghost use Rattle.command_openings.specs.Openings.{new_opening};
+
+use dude_base::sizes::Sizes;
+use dude_fault::Fault;
+use image_format::{FormatFault, make_image};
+use image_opening::Opened;
+use pmem_trait::Medium;
+use std::alloc::Global;
+use tatp_layout::Layout;
+
+// What a fault of making an image is for the command. The sizes were accepted.
+fn fault_of(fault: FormatFault) -> Fault
+    requires sized { IsSized fault }
+    ensures { IsFaultOfFormat fault result }
+{
+    match fault {
+        FormatFault::Size { .. } => unreachable!(),
+        FormatFault::Small { has, needs } => Fault::Small { has, needs },
+        FormatFault::TooFew { rows, calls } => Fault::TooFew { rows, calls },
+        FormatFault::Device => Fault::Device,
+        FormatFault::NoMemory => Fault::Memory,
+    }
+}
+
+/// Makes a new image of these sizes on a medium, which tells its opening number, 0; and opens it.
+pub fn make_and_open<M: Medium>(
+    alloc: Global,
+    medium: M,
+    sizes: &Sizes,
+) -> Result<Opened<M>, (Fault, M)>
+    requires settled { IsTrue (M.sight medium).is_visible → IsSettled (M.sight medium).len (state_now (M.sight medium)) }
+    requires accepted { IsAccepted sizes.now }
+    ensures opened { IfOk result IsOpened }
+    ensures fits { IfOk result (λ o. FitsImage sizes.now (M.sight medium).len) }
+    // At `Ok` the image is begun at the new opening.
+    ensures opening { IfOk result (λ o. IsOpeningOf o (new_opening sizes.now)) }
+    ensures begins { IfOk result (λ o. Begins true (new_opening sizes.now) o.words.items (M.sight medium) (M.sight (medium_of o.back))) }
+    // Else a front of that is done.
+    ensures front { IfErr result (λ refused. IsBeginning true (new_opening sizes.now) (M.sight medium) (M.sight refused.1)) }
+    ensures fault { IfErr result (λ refused. HasFormatFault sizes.now (M.sight medium) (M.sight refused.1) refused.0) }
+{
+    let mut medium = medium;
+    let Ok(lay) = Layout::of(sizes) else {
+        unreachable!()
+    };
+    let words = match make_image(alloc, &mut medium, sizes) {
+        Ok(words) => words,
+        Err(fault) => return Err((fault_of(fault), medium)),
+    };
+    match Opened::new(alloc, medium, lay, words, 0) {
+        Ok(opened) => Ok(opened),
+        Err((_, medium)) => Err((Fault::Memory, medium)),
+    }
+}
