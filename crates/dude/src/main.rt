@@ -1,11 +1,11 @@
 //! The program `dude`: durable TATP transactions over a memory image in a file.
 //!
-//! `dude IMAGE fresh S FILE` makes a new image for S subscribers, carries out the requests of the file, prints each reply
-//! with its number, and announces on standard error the number up to which all is durable.
+//! `dude IMAGE COMMAND ..` makes or opens the image, carries out the command's requests, prints its output, and announces on
+//! standard error each number up to which all is durable.
 #![tactic(auto)]
 
 ghost use Rattle.std.specs.Prelude.{◌≡◌, ◌⊎◌, Some};
-ghost use Rattle.dude_program.specs.Fault.{status_of};
+ghost use Rattle.dude_fault.specs.Fault.{status_of};
 
 use dude_io::{EdgeFault, FilePmem, RealFiles, RealSink};
 use dude_program::{Fault, fault_text};
@@ -14,15 +14,35 @@ use std::rc::RcStr;
 use std::{env, io};
 
 /// What `--help` prints.
-const HELP: &str = "usage: dude IMAGE fresh S FILE
+const HELP: &str = "usage: dude IMAGE COMMAND
 
-Overwrites IMAGE, whatever it holds, with a new image for S subscribers (1 to
-10000). A file that isn't there is made, with 33554432 bytes.
-Then carries out the requests of FILE, prints each reply with its number, and
-tells on standard error the number up to which all is durable.
+IMAGE is a file. One that isn't there is made, with 33554432 bytes.
 
-status: 0 done, 2 usage, 3 a file couldn't be read, 4 FILE is no request file,
-5 the image is too short, 6 the image failed, 7 the output failed, 8 no memory
+fresh S FILE
+  Overwrites IMAGE, whatever it holds, with a new image for S subscribers (1 to
+  10000), then carries out the requests of FILE.
+format S C N CELLS
+  Overwrites IMAGE with a new image for S subscribers, with room for C call
+  forwardings (1 to 120000), and with N log rings (1 to 8) of so many CELLS
+  (16 to 4096). The new tables have up to 12 call forwardings a subscriber.
+run [--frames F] [--locks L] FILE..
+  Opens IMAGE, and carries out the requests of the files, at most one file for
+  each ring. F is from 32, or from IMAGE's pages where there are fewer, to its
+  pages, and L from 1 to 65536; nothing else depends on them yet.
+recover
+  Opens IMAGE, and prints its last number.
+dump
+  Opens IMAGE, and prints its tables and its last number.
+drive SEED COUNT FILES
+  Opens IMAGE, carries out COUNT random requests (0 to 99999) of each of so many
+  FILES (1 to 8), and prints how they were answered.
+
+fresh and run print each request's number and reply, and the last number. Each
+command tells on standard error the numbers up to which all is durable.
+
+status: 0 done, 2 usage, 3 a file couldn't be read, 4 a file is no request file,
+5 the image doesn't fit or can't be opened, 6 the image failed, 7 the output
+failed, 8 no memory, 9 the numbers may not be enough
 ";
 
 /// What `--version` prints.

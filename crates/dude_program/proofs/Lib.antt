@@ -1,8 +1,9 @@
+pub mod Refusals
+pub mod FilesRead
+pub mod Contents
+pub mod Crashes
 pub mod Endings
-pub mod FirstTold
-pub mod Openings
-pub mod Outcomes
-pub mod Prints
-pub mod RequestFiles
-pub mod Runs
-pub mod Words
+pub mod Stops
+pub mod Came
+pub mod EachCommand
+pub mod Works

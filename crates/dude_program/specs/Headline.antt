@@ -5,21 +5,23 @@
 --
 -- It is said over an opening: the number, the sizes and the tables that the command starts from (`Opening`). A command
 -- joins by its cases there.
-use Rattle.std.specs.Prelude.{◌≡◌, ◌⊎◌, ℕ, ◌<◌, ◌≤◌, Bool, Option, Some, None, IsTrue, List, [], ◌∷◌, ◌++◌, drop, take, length, All, AllPairs}
-use Rattle.pmem_trait.specs.Words.{EveryImage, AtLeast}
+use Rattle.std.specs.Prelude.{◌≡◌, ◌⊎◌, ℕ, ◌<◌, ◌≤◌, Bool, Option, Some, None, IsTrue, List, [], ◌∷◌, ◌++◌, drop, take, length, All}
+use Rattle.pmem_trait.specs.Words.{AtLeast}
 use Rattle.pmem_trait.specs.Sights.{Sight, AtEveryMoment, state_now}
 use Rattle.pmem_trait.specs.Reads.{OnlyReads}
 use Rattle.tatp_model.specs.declared.done.Done.{Done}
 use Rattle.tatp_model.specs.declared.request.Request.{Request}
-use Rattle.tatp_model.specs.OneThread.{is_sync, IsPrintedOrder, HoldsAll, RepliesOfOneThread, after_number}
+use Rattle.tatp_model.specs.OneThread.{is_sync, IsPrintedOrder, HoldsAll, RepliesOfOneThread}
 use Rattle.dude_io.specs.Files.{FilesSight}
 use Rattle.dude_io.specs.Sink.{SinkSight}
-use Rattle.fresh_image.specs.Recovered.{RecoversTo}
-use Rattle.dude_program.specs.declared.fault.Fault.{Fault}
-use Rattle.dude_program.specs.declared.fault.Fault.TheVariants.{Output, Memory}
-use Rattle.dude_program.specs.Command.{Meaning}
+use Rattle.run_order.specs.Runs.{SyncsFollow}
+use Rattle.dude_engine.specs.Opening.{Opening, IsOpening, RecoversAt}
+use Rattle.dude_engine.specs.Endings.{AreSyncsTold, End}
+use Rattle.dude_fault.specs.declared.fault.Fault.{Fault}
+use Rattle.dude_fault.specs.declared.fault.Fault.TheVariants.{Output, Memory}
+use Rattle.command_words.specs.Command.{Meaning}
 use Rattle.dude_program.specs.World.{World}
-use Rattle.dude_program.specs.Opening.{Opening, IsOpening, makes_image, Starts, RequestsAre, IsReachable, IsOutput}
+use Rattle.dude_program.specs.Opening.{makes_image, Starts, RequestsAre, IsReachable, output_for}
 
 -- Replies: of the command's requests these are done, each file's first ones in its order, each once; and the replies are
 -- those of one thread along the printed order. A `SYNC` has a number from the opening number on.
@@ -29,12 +31,9 @@ pub record Replies (meaning : Meaning) (files : FilesSight) (opening : Opening) 
   pub answered : RepliesOfOneThread opening.number opening.sizes.calls opening.database requests done
   pub syncs_from : All (λ d. IsTrue (is_sync d.request) → opening.number ≤ d.number) done
 
--- the image recovers to this number, and to the database after the requests of the order that wrote with numbers up to it
-abbrev pub RecoversAt : Opening → List Done → List ℕ → ℕ → Type 0
-RecoversAt opening order image n = RecoversTo image n opening.sizes (after_number opening.sizes.calls opening.database order n)
-
--- The command makes its image anew and told nothing yet; or the image recovers so to a number that it may come to, which
--- is at least the opening number and every number told in this call.
+-- The command makes its image anew and told nothing yet; or the image recovers, to a number that the command may come to,
+-- which is at least the opening number and every number told in this call, and to the database after the requests of the
+-- order that wrote with numbers up to it.
 abbrev pub RecoversSince : Meaning → ℕ → Opening → List Done → List ℕ → List ℕ → Type 0
 RecoversSince meaning before opening order told image =
     (IsTrue (makes_image meaning) × (drop before told ≡ []))
@@ -54,22 +53,10 @@ pub record Crash (meaning : Meaning) (opening : Opening) (done : List Done) (s t
   pub keeps : AtEveryMoment (RecoversSince meaning (length (state_now s).told) opening order) s t
   pub first_told : IsTrue s.is_visible → WasToldFirst opening.number s t
 
--- this number was told last, in this call
-abbrev pub WasToldLast : ℕ → Sight → Sight → Type 0
-WasToldLast last s t =
-    (earlier : List ℕ) × ((state_now t).told ≡ earlier ++ last ∷ []) × (length (state_now s).told ≤ length earlier)
-
 -- Sync: the number of a `SYNC` is at least that of each earlier request of its file, and at most the last number told
 pub record Sync (done : List Done) (s t : Sight) : Type 0 where
-  pub over_earlier : AllPairs (λ d e. d.file ≡ e.file → IsTrue (is_sync e.request) → d.number ≤ e.number) done
-  pub told : IsTrue s.is_visible → All (λ d. IsTrue (is_sync d.request) → (n : ℕ) × WasToldLast n s t × (d.number ≤ n)) done
-
--- End: this number was told last, and every image at exit recovers to it
-pub record End (opening : Opening) (done : List Done) (last : ℕ) (s t : Sight) : Type 0 where
-  pub told : WasToldLast last s t
-  pub order : List Done
-  pub printed : IsPrintedOrder done order
-  pub images : EveryImage t.len (λ told image. RecoversAt opening order image last) (state_now t)
+  pub over_earlier : SyncsFollow done
+  pub told : IsTrue s.is_visible → AreSyncsTold done s t
 
 -- All requests are done. The last number is at least the opening number and each number done; and of its output the sink
 -- took this much.
@@ -84,9 +71,7 @@ pub record AllDone (meaning : Meaning) (old new : World) (done : List Done) (Tak
   pub from : opening.number ≤ last
   pub reachable : IsReachable meaning opening done last
   pub end : IsTrue old.medium.is_visible → End opening done last old.medium new.medium
-  pub text : List ℕ
-  pub output : IsOutput meaning opening done last text
-  pub bytes : Taken text
+  pub bytes : Taken (output_for meaning opening done last)
 
 -- the sink took all of a text
 abbrev pub TookAll : SinkSight → SinkSight → List ℕ → Type 0

@@ -1,12 +1,6 @@
 pub mod Causes
-pub mod Command
 pub mod Ending
-pub mod Execution
-pub mod Fault
 pub mod Headline
 pub mod Opening
-pub mod Outcome
-pub mod Printing
-pub mod Requests
-pub mod Serving
+pub mod Work
 pub mod World

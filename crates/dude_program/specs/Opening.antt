@@ -1,61 +1,64 @@
 -- What a command starts from, and what it runs: the cases, a command each, below the headline.
-use Rattle.std.specs.Prelude.{◌≡◌, ℕ, ◌≤◌, max, Bool, true, Some, IsTrue, List, [], ◌∷◌, length, fold}
-use Rattle.dude_base.specs.declared.limits.TheConstants.{MAX_NUMBER}
+use Rattle.std.specs.Prelude.{◌≡◌, ℕ, ◌*◌, ◌≤◌, ⊤, Bool, true, false, List, [], ◌∷◌, map}
+use Rattle.std.specs.List.{AllZip, range_with_len}
 use Rattle.dude_base.specs.declared.sizes.Sizes.{Sizes}
-use Rattle.dude_base.specs.Sizes.{IsAccepted}
+use Rattle.dude_base.specs.Sizes.{sizes_for}
 use Rattle.pmem_trait.specs.Sights.{Sight}
 use Rattle.tatp_model.specs.declared.done.Done.{Done}
 use Rattle.tatp_model.specs.declared.request.Request.{Request}
-use Rattle.tatp_model.specs.Database.{Database, IsInOrder}
-use Rattle.tatp_model.specs.Population.{population}
-use Rattle.dude_text.specs.Output.{output_of}
-use Rattle.dude_text.specs.RequestFile.{requests_of}
+use Rattle.reply_text.specs.Output.{output_of, last_line}
+use Rattle.table_dump.specs.Dump.{dump_text}
+use Rattle.load_mix.specs.Load.{mixed}
+use Rattle.load_summary.specs.Summary.{summary_of}
 use Rattle.dude_io.specs.Files.{FilesSight}
-use Rattle.fresh_image.specs.Fresh.{fresh_sizes}
-use Rattle.dude_program.specs.Command.{Meaning, Meaning.FreshRun}
+use Rattle.command_words.specs.Command.{Meaning, Meaning.FreshRun, Meaning.FormatImage, Meaning.RunFiles, Meaning.RecoverImage, Meaning.DumpTables, Meaning.DriveLoad}
+use Rattle.command_files.specs.Files.{OfFile}
+use Rattle.dude_engine.specs.Opening.{Opening, last_of}
+use Rattle.command_openings.specs.Openings.{IsOpeningOn, new_opening}
 
--- The opening number, the sizes of the image, and its tables. At most `sizes.calls` call rows may stand.
-pub record Opening : Type 0 where
-  pub number : ℕ
-  pub sizes : Sizes
-  pub database : Database
-
--- what holds of each opening
-pub record IsOpening (opening : Opening) : Type 0 where
-  pub small : opening.number ≤ MAX_NUMBER
-  pub accepted : IsAccepted opening.sizes
-  pub in_order : IsInOrder opening.database
-  pub room : length opening.database.calls ≤ opening.sizes.calls
-
--- a new image starts with number 0 and the population
-abbrev pub fresh_opening : ℕ → Opening
-fresh_opening subscribers = record { number = 0; sizes = fresh_sizes subscribers; database = population subscribers }
+-- the sizes of the image that `fresh` makes
+abbrev pub fresh_sizes : ℕ → Sizes
+fresh_sizes subscribers = sizes_for subscribers (12 * subscribers) 1 16
 
 -- whether the command makes its image anew
 abbrev pub makes_image : Meaning → Bool
 makes_image (FreshRun subscribers file) = true
+makes_image (FormatImage subscribers calls rings cells) = true
+makes_image _ = false
 
--- The command starts from this opening. One that makes its image starts with the new image's.
+-- The command starts from this opening. One that makes its image starts with the new image's, each other one with what the
+-- content at entry recovers to.
 abbrev pub Starts : Meaning → Sight → Opening → Type 0
-Starts (FreshRun subscribers file) medium opening = opening ≡ fresh_opening subscribers
+Starts (FreshRun subscribers file) medium opening = opening ≡ new_opening (fresh_sizes subscribers)
+Starts (FormatImage subscribers calls rings cells) medium opening = opening ≡ new_opening (sizes_for subscribers calls rings cells)
+Starts _ medium opening = IsOpeningOn medium opening
 
--- these are the requests of some text, and of the file of this name where the files tell
-abbrev pub OfFile : FilesSight → List ℕ → List Request → Type 0
-OfFile files name requests =
-    (text : List ℕ) × (requests_of text ≡ Some requests) × (IsTrue files.is_visible → files.text name ≡ Some text)
+-- the load of so many files, one of each
+abbrev pub load_of : ℕ → ℕ → ℕ → ℕ → List (List Request)
+load_of subscribers seed count files = map (λ file. mixed seed file files subscribers count) (range_with_len 0 files)
 
--- the lists of requests that the command runs, one for each of its files
+-- the names of the command's files
+abbrev pub file_names : Meaning → List (List ℕ)
+file_names (FreshRun subscribers file) = file ∷ []
+file_names (RunFiles frames locks files) = files
+file_names _ = []
+
+-- The lists of requests that the command runs: those of its files, one for each; or those of its load.
 abbrev pub RequestsAre : Meaning → FilesSight → Opening → List (List Request) → Type 0
-RequestsAre (FreshRun subscribers file) files opening requests = (own : List Request) × OfFile files file own × (requests ≡ own ∷ [])
+RequestsAre (DriveLoad seed count number) files opening requests = requests ≡ load_of opening.sizes.subscribers seed count number
+RequestsAre meaning files opening requests = AllZip (OfFile files) (file_names meaning) requests
 
--- the greatest number of the requests done, or the opening number
-abbrev pub last_of : ℕ → List Done → ℕ
-last_of first done = fold (λ last d. max last d.number) first done
-
--- The command may come to this number. One that runs on one thread comes to none over those done.
+-- The command may come to this number. Where threads may run, numbers may follow those of what is done.
 abbrev pub IsReachable : Meaning → Opening → List Done → ℕ → Type 0
-IsReachable (FreshRun subscribers file) opening done n = n ≤ last_of opening.number done
+IsReachable (RunFiles frames locks files) opening done n = ⊤
+IsReachable (DriveLoad seed count number) opening done n = ⊤
+IsReachable _ opening done n = n ≤ last_of opening.number done
 
 -- the output of the command is this text
-abbrev pub IsOutput : Meaning → Opening → List Done → ℕ → List ℕ → Type 0
-IsOutput (FreshRun subscribers file) opening done last text = text ≡ output_of done last
+abbrev pub output_for : Meaning → Opening → List Done → ℕ → List ℕ
+output_for (FreshRun subscribers file) opening done last = output_of done last
+output_for (FormatImage subscribers calls rings cells) opening done last = last_line last
+output_for (RunFiles frames locks files) opening done last = output_of done last
+output_for RecoverImage opening done last = last_line last
+output_for DumpTables opening done last = dump_text opening.database last
+output_for (DriveLoad seed count number) opening done last = summary_of done

@@ -1,7 +1,8 @@
-ghost use Rattle.std.specs.Prelude.{◌≡◌};
-ghost use Rattle.dude_program.specs.Fault.{status_of};
+ghost use Rattle.std.specs.Prelude.{◌≡◌, [], Some};
+ghost use Rattle.dude_fault.specs.Fault.{status_of};
 
-use crate::fault::Fault;
+use dude_fault::Fault;
+use std::alloc::Global;
 use tatp_model::Done;
 
 /// How a command ended.
@@ -34,5 +35,15 @@ impl<M> Ended<M> {
             medium,
             done,
         }
+    }
+
+    /// Nothing is done, for this fault.
+    pub fn refused(alloc: Global, fault: Fault, medium: M) -> Ended<M>
+        ensures status { result.status ≡ status_of result.fault }
+        ensures fault { result.fault ≡ Some fault }
+        ensures medium { result.medium ≡ medium }
+        ensures done { result.done.items ≡ [] }
+    {
+        Ended::new(Some(fault), medium, Vec::new(alloc))
     }
 }

@@ -2,16 +2,16 @@
 #![tactic(auto)]
 
 #[cfg(test)]
-mod commands;
+mod dumps;
 #[cfg(test)]
-mod crashes;
+mod loads;
 #[cfg(test)]
-mod faults;
+mod refused_files;
 #[cfg(test)]
-mod locations;
+mod refused_images;
 #[cfg(test)]
-mod refusals;
+mod refused_words;
 #[cfg(test)]
 mod replies;
 #[cfg(test)]
-mod world;
+mod several_files;

@@ -1,7 +1,5 @@
-//! Tests of the tables' model and of the first stage's request files, by their public items alone.
+//! Tests of the tables' model, by its public items alone.
 #![tactic(auto)]
 
-#[cfg(test)]
-mod request_files;
 #[cfg(test)]
 mod steps;

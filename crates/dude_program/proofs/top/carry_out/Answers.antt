@@ -1,7 +1,16 @@
-use Rattle.dude_program.proofs.Endings.{ends_usage}
 use Rattle.dude_program.proofs.top.carry_out.Goals as goal
 
-pub returns-in-None-clause-causes : goal.returns-in-None-clause-causes
-returns-in-None-clause-causes g c =
-    rw (← c.in-None.ensures.meaning, c.refused.ensures.done, c.refused.ensures.fault)
-    (ends_usage (g.M.Medium.sight c.args.m.now) (g.F.Files.sight c.args.files.now) (g.K.Sink.sight c.args.out.now))
+pub returns-in-Format-clause-ends : goal.returns-in-Format-clause-ends
+returns-in-Format-clause-ends g c = rw c.in-Format.is (c.format.ensures.ends (g.F.Files.sight c.args.files.now))
+
+pub returns-in-Run-clause-ends : goal.returns-in-Run-clause-ends
+returns-in-Run-clause-ends g c = rw c.in-Run.is (c.run.ensures.ends c.in-Run.locks)
+
+pub returns-in-Recover-clause-ends : goal.returns-in-Recover-clause-ends
+returns-in-Recover-clause-ends g c = rw c.in-Recover.is (c.recover.ensures.ends (g.F.Files.sight c.args.files.now))
+
+pub returns-in-Dump-clause-ends : goal.returns-in-Dump-clause-ends
+returns-in-Dump-clause-ends g c = rw c.in-Dump.is (c.dump.ensures.ends (g.F.Files.sight c.args.files.now))
+
+pub returns-in-Drive-clause-ends : goal.returns-in-Drive-clause-ends
+returns-in-Drive-clause-ends g c = rw c.in-Drive.is (c.drive.ensures.ends (g.F.Files.sight c.args.files.now))

@@ -1,0 +1,206 @@
+-- What every image recovers to along a command, from its beginning and its run.
+use Rattle.std.proofs.Common.{◌≡◌, ℕ, ◌<◌, ◌≤◌, max, Bool, true, false, cond, not, ◌&&◌, IsTrue, List, [], ◌∷◌, ◌++◌, length, drop, map, refl, sym, ◌∙◌, ap, subst, arith, inl, inr, append_assoc}
+use Rattle.std.specs.Prelude.{nat_le}
+use Rattle.std.specs.List.{All, filter}
+use Rattle.std.proofs.lemmas.Bool.{lt-leb}
+use Rattle.std.proofs.lemmas.List.{length-append}
+use Rattle.std.proofs.lemmas.List.Elements.{All-nil, All-cons, All-head, All-tail, All-filter}
+use Rattle.std.proofs.lemmas.List.Sorted.{All-permutation, IsPermutation-refl}
+use Rattle.std.proofs.Math.Seq.{drop-append_seam, drop-length}
+use Rattle.pmem_trait.specs.Words.{EveryImage}
+use Rattle.pmem_trait.specs.Sights.{Sight, state_now, AtEveryMoment, SomeCalls}
+use Rattle.pmem_trait.proofs.Laws.{every_moment_then, every_moment_weaker}
+use Rattle.pmem_trait.proofs.Told.{calls_told}
+use Rattle.pmem_trait.proofs.Runs.{made_later}
+use Rattle.tatp_model.specs.declared.done.Done.{Done}
+use Rattle.tatp_model.specs.declared.request.Request.{Request}
+use Rattle.tatp_model.specs.Database.{Database}
+use Rattle.tatp_model.specs.OneThread.{IsPrintedOrder, RepliesOfOneThread, after_number, after_requests, is_sync}
+use Rattle.run_order.specs.Runs.{SyncsFollow}
+use Rattle.image_recovery.specs.Recovered.{RecoversTo}
+use Rattle.command_words.specs.Command.{Meaning, Meaning.FreshRun, Meaning.FormatImage, Meaning.RunFiles, Meaning.RecoverImage, Meaning.DumpTables, Meaning.DriveLoad}
+use Rattle.dude_engine.specs.Endings.{AreSyncsTold, End, WasToldLast}
+use Rattle.dude_engine.specs.Opening.{Opening, RecoversAt, RecoversFrom, last_of}
+use Rattle.dude_engine.specs.Plain.{RecoversOnTheRun}
+use Rattle.command_openings.specs.Begun.{Begins, IsBeginning, ShowsOpening, TellsAtMost}
+use Rattle.dude_program.specs.Opening.{IsReachable, makes_image}
+use Rattle.dude_program.specs.Headline.{Crash, RecoversSince, Sync, WasToldFirst}
+
+-- ---- numbers
+
+pub last_from : (first : ℕ) (done : List Done) → first ≤ last_of first done
+last_from first [] = omega arith
+last_from first (d ∷ done) = let up : max first d.number ≤ last_of (max first d.number) done = last_from (max first d.number) done in omega (arith, up)
+
+pub last_over : (first : ℕ) (done : List Done) → All (λ d. d.number ≤ last_of first done) done
+last_over first [] = All-nil (λ d. d.number ≤ last_of first [])
+last_over first (d ∷ done) =
+    let up : max first d.number ≤ last_of (max first d.number) done = last_from (max first d.number) done in
+    All-cons (λ e. e.number ≤ last_of first (d ∷ done)) d done (omega (arith, up)) (last_over (max first d.number) done)
+
+-- a command may come to each number up to the last one done
+pub reachable : (meaning : Meaning) (opening : Opening) (done : List Done) (n : ℕ) → n ≤ last_of opening.number done → IsReachable meaning opening done n
+reachable (FreshRun s file) opening done n upto = upto
+reachable (FormatImage s c r k) opening done n upto = upto
+reachable (RunFiles frames locks files) opening done n upto = tt
+reachable RecoverImage opening done n upto = upto
+reachable DumpTables opening done n upto = upto
+reachable (DriveLoad seed count files) opening done n upto = tt
+
+-- ---- the database at the opening number
+
+each_wrote : (P : Done → Type 0) (done : List Done) → All P (filter (λ d. d.wrote) done) → All (λ d. d.wrote ≡ true → P d) done
+each_wrote P [] over = All-nil (λ d. d.wrote ≡ true → P d)
+each_wrote P (d ∷ done) over = by (each_wrote P done) d.wrote refl over
+  where
+    by : (All P (filter (λ e. e.wrote) done) → All (λ e. e.wrote ≡ true → P e) done) → (b : Bool) → d.wrote ≡ b → All P (cond b (d ∷ filter (λ e. e.wrote) done) (filter (λ e. e.wrote) done)) → All (λ e. e.wrote ≡ true → P e) (d ∷ done)
+    by rest true is all = All-cons (λ e. e.wrote ≡ true → P e) d done (λ yes. All-head P d (filter (λ e. e.wrote) done) all)
+        (rest (All-tail P d (filter (λ e. e.wrote) done) all))
+    by rest false is all = All-cons (λ e. e.wrote ≡ true → P e) d done (λ yes. absurd (let no : ⊥ = cc in no)) (rest all)
+
+skip_request : (limit n : ℕ) (db : Database) (d : Done) (order : List Done) → (d.wrote && nat_le d.number n) ≡ false → after_number limit db order n ≡ db → after_number limit db (d ∷ order) n ≡ db
+skip_request limit n db d order uncounted h =
+    ap (λ (b : Bool). after_requests limit db (map (λ e. e.request) (cond b (d ∷ rest) rest))) uncounted ∙ h
+  where
+    rest : List Done
+    rest = filter (λ e. e.wrote && nat_le e.number n) order
+
+uncounted : (n : ℕ) (d : Done) → (d.wrote ≡ true → n < d.number) → (d.wrote && nat_le d.number n) ≡ false
+uncounted n d over = by d.wrote refl
+  where
+    by : (b : Bool) → d.wrote ≡ b → (d.wrote && nat_le d.number n) ≡ false
+    by true is = ap (λ (b : Bool). b && nat_le d.number n) is ∙ lt-leb d.number n (over is)
+    by false is = ap (λ (b : Bool). b && nat_le d.number n) is
+
+none_up_to : (limit n : ℕ) (db : Database) (order : List Done) → All (λ d. d.wrote ≡ true → n < d.number) order → after_number limit db order n ≡ db
+none_up_to limit n db [] over = refl
+none_up_to limit n db (d ∷ order) over =
+    skip_request limit n db d order (uncounted n d (All-head (λ e. e.wrote ≡ true → n < e.number) d order over))
+    (none_up_to limit n db order (All-tail (λ e. e.wrote ≡ true → n < e.number) d order over))
+
+pub none_at_opening : (limit n : ℕ) (db : Database) (done order : List Done) → IsPrintedOrder done order → All (λ d. n < d.number) (filter (λ d. d.wrote) done) → after_number limit db order n ≡ db
+none_at_opening limit n db done order printed over =
+    let P : Done → Type 0 = λ d. d.wrote ≡ true → n < d.number in
+    let kept : List Done = filter (λ d. not (is_sync d.request)) done in
+    none_up_to limit n db order (All-permutation P kept order printed.same (All-filter (λ d. not (is_sync d.request)) P done (each_wrote (λ d. n < d.number) done over)))
+
+-- ---- images
+
+shows_since : (meaning : Meaning) (before : ℕ) (opening : Opening) (order : List Done) (told image : List ℕ) → after_number opening.sizes.calls opening.database order opening.number ≡ opening.database
+    → ShowsOpening (makes_image meaning) before opening told image → RecoversSince meaning before opening order told image
+shows_since meaning before opening order told image same (inl none) = inl none
+shows_since meaning before opening order told image same (inr shown) =
+    inr (
+      opening.number,
+      omega arith,
+      shown.0,
+      reachable meaning opening order opening.number (last_from opening.number order),
+      subst (λ (db : Database). RecoversTo image opening.number opening.sizes db) (sym same) shown.1,
+    )
+
+from_since : (meaning : Meaning) (before : ℕ) (opening : Opening) (order : List Done) (told image : List ℕ) → RecoversFrom before opening order told image → RecoversSince meaning before opening order told image
+from_since meaning before opening order told image r = inr (r.0, r.1, r.2, reachable meaning opening order r.0 r.3, r.4)
+
+pub printed_none : IsPrintedOrder [] []
+printed_none = record { same = IsPermutation-refl []; sorted = λ i j d before below. absurd (omega (arith, below)) }
+
+-- the opening number was told first
+told_first : (opening : Opening) (s t : Sight) → TellsAtMost opening.number s t → WasToldFirst opening.number s t
+told_first opening s t (inl same) = inl (ap (drop (length (state_now s).told)) same ∙ drop-length (state_now s).told)
+told_first opening s t (inr is) = inr ([], ap (drop (length (state_now s).told)) is ∙ drop-append_seam (state_now s).told (opening.number ∷ []))
+
+-- where nothing is done
+pub crash_front : (meaning : Meaning) (opening : Opening) (s t : Sight) → IsBeginning (makes_image meaning) opening s t → Crash meaning opening [] s t
+crash_front meaning opening s t front = record {
+  order = [];
+  printed = printed_none;
+  keeps = every_moment_weaker (λ told image size shown. shows_since meaning (length (state_now s).told) opening [] told image refl shown) front.moments;
+  first_told = λ visible. told_first opening s t (front.told visible);
+}
+
+pub begins_front : (makes : Bool) (opening : Opening) (words : List ℕ) (s t : Sight) → Begins makes opening words s t → IsBeginning makes opening s t
+begins_front makes opening words s t begins = record { moments = begins.moments; told = λ visible. inr (begins.told visible) }
+
+-- where requests were run
+pub crash_run : (meaning : Meaning) (opening : Opening) (words : List ℕ) (requests : List (List Request)) (done : List Done) (s m t : Sight) (ok : Bool) → Begins (makes_image meaning) opening words s m
+    → RepliesOfOneThread opening.number opening.sizes.calls opening.database requests done → RecoversOnTheRun opening words done m t → SomeCalls ok m t → Crash meaning opening done s t
+crash_run meaning opening words requests done s m t ok begins replies moments calls =
+    let run = moments (length (state_now s).told) begins.holds in
+    let start = none_at_opening opening.sizes.calls opening.number opening.database done run.0 run.1 replies.over in
+    record {
+      order = run.0;
+      printed = run.1;
+      keeps = every_moment_then (every_moment_weaker (λ told image size shown. shows_since meaning (length (state_now s).told) opening run.0 told image start shown) begins.moments)
+          (every_moment_weaker (λ told image size shown. from_since meaning (length (state_now s).told) opening run.0 told image shown) run.2);
+      first_told = λ visible.
+          let more = calls_told calls.1 (subst (λ b. IsTrue b) (sym (made_later begins.ran.1).is_visible) visible) in
+          inr (
+            more.more,
+            ap (drop (length (state_now s).told)) (more.is ∙ (ap (λ (l : List ℕ). l ++ more.more) (begins.told visible) ∙ append_assoc (state_now s).told (opening.number ∷ []) more.more))
+                ∙ drop-append_seam (state_now s).told (opening.number ∷ more.more),
+          );
+    }
+
+-- it is said of each opening, since a visible medium has one
+pub crash_each : (meaning : Meaning) (opening other : Opening) (done : List Done) (s t : Sight) → (IsTrue s.is_visible → other ≡ opening) → Crash meaning opening done s t → Crash meaning other done s t
+crash_each meaning opening other done s t same crash =
+    let P : Opening → Type 0 = λ o. AtEveryMoment (RecoversSince meaning (length (state_now s).told) o crash.order) s t in
+    let Q : Opening → Type 0 = λ o. WasToldFirst o.number s t in
+    record {
+      order = crash.order;
+      printed = crash.printed;
+      keeps = record { later = crash.keeps.later; each = λ visible. (subst P (sym (same visible)) crash.keeps).each visible };
+      first_told = λ visible. subst Q (sym (same visible)) (crash.first_told visible);
+    }
+
+-- ---- what is told
+
+pub sync_none : (s t : Sight) → Sync [] s t
+sync_none s t = record {
+  over_earlier = λ i j d before below. absurd (omega (arith, below));
+  told = λ visible. All-nil (λ d. IsTrue (is_sync d.request) → (n : ℕ) × WasToldLast n s t × (d.number ≤ n));
+}
+
+told_later : (n : ℕ) (s m t : Sight) → length (state_now s).told ≤ length (state_now m).told → WasToldLast n m t → WasToldLast n s t
+told_later n s m t long told = (told.0, told.1, omega (arith, long, told.2))
+
+told_longer : (opening : Opening) (s m : Sight) → (state_now m).told ≡ (state_now s).told ++ opening.number ∷ [] → length (state_now s).told ≤ length (state_now m).told
+told_longer opening s m is = let long = ap length is ∙ length-append (state_now s).told (opening.number ∷ []) in omega (arith, long)
+
+pub sync_run : (makes : Bool) (opening : Opening) (words : List ℕ) (done : List Done) (s m t : Sight) → Begins makes opening words s m → SyncsFollow done
+    → (IsTrue m.is_visible → AreSyncsTold done m t) → Sync done s t
+sync_run makes opening words done s m t begins follow told = record {
+  over_earlier = follow;
+  told = λ visible k d below sync.
+      let one = told (subst (λ b. IsTrue b) (sym (made_later begins.ran.1).is_visible) visible) k d below sync in
+      (one.0, told_later one.0 s m t (told_longer opening s m (begins.told visible)) one.1, one.2);
+}
+
+pub end_run : (makes : Bool) (opening : Opening) (words : List ℕ) (done : List Done) (last : ℕ) (s m t : Sight) → Begins makes opening words s m → IsTrue s.is_visible → End opening done last m t → End opening done last s t
+end_run makes opening words done last s m t begins visible end = record {
+  told = told_later last s m t (told_longer opening s m (begins.told visible)) end.told;
+  order = end.order;
+  printed = end.printed;
+  images = end.images;
+}
+
+-- the opening number was told last, and every image recovers to it
+pub end_begun : (makes : Bool) (opening : Opening) (words : List ℕ) (s t : Sight) → Begins makes opening words s t → IsTrue s.is_visible → End opening [] opening.number s t
+end_begun makes opening words s t begins visible =
+    let told = begins.told visible in
+    let P : ℕ → Type 0 = λ len. EveryImage len (λ told image. RecoversAt opening [] image opening.number) (state_now t) in
+    record {
+      told = ((state_now s).told, told, omega arith);
+      order = [];
+      printed = printed_none;
+      images = subst P (sym begins.moments.later.len) (record {
+        each = λ image is. shown image ((begins.moments.each visible t.now begins.moments.later.now (omega arith)).each image is);
+      });
+    }
+  where
+    shown : (image : List ℕ) → ShowsOpening makes (length (state_now s).told) opening (state_now t).told image → RecoversAt opening [] image opening.number
+    shown image (inl none) =
+        let more : drop (length (state_now s).told) (state_now t).told ≡ opening.number ∷ [] = ap (drop (length (state_now s).told)) (begins.told visible) ∙ drop-append_seam (state_now s).told (opening.number ∷ []) in
+        let e = none.1 in
+        absurd (let no : ⊥ = cc in no)
+    shown image (inr is) = is.1

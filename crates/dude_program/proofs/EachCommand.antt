@@ -1,0 +1,187 @@
+-- How each command ends, from what its calls leave.
+use Rattle.std.proofs.Common.{◌≡◌, ◌⊎◌, ℕ, ◌+◌, ◌*◌, ◌≤◌, IsTrue, List, [], length, refl, sym, ◌∙◌, ap, subst, inl, inr, arith, Option, Some, None}
+use Rattle.std.specs.List.{AllZip}
+use Rattle.dude_base.specs.declared.limits.TheConstants.{MAX_NUMBER}
+use Rattle.dude_base.specs.declared.sizes.Sizes.{Sizes}
+use Rattle.dude_base.specs.Sizes.{sizes_for}
+use Rattle.pmem_trait.specs.declared.medium.Medium.{Ghosts}
+use Rattle.pmem_trait.specs.Sights.{Sight}
+use Rattle.tatp_model.specs.declared.done.Done.{Done}
+use Rattle.tatp_model.specs.declared.request.Request.{Request}
+use Rattle.dude_io.specs.Files.{FilesSight}
+use Rattle.dude_io.specs.Sink.{SinkSight}
+use Rattle.reply_text.specs.Output.{output_of, last_line}
+use Rattle.image_opening.specs.declared.opened.Opened.{Opened}
+use Rattle.image_opening.specs.Opened.{IsOpened}
+use Rattle.command_words.specs.Command.{Meaning, Meaning.FreshRun, Meaning.FormatImage, Meaning.RunFiles, Meaning.RecoverImage, Meaning.DumpTables, Meaning.DriveLoad}
+use Rattle.command_files.specs.Files.{OfFile}
+use Rattle.dude_engine.specs.Opening.{Opening}
+use Rattle.dude_engine.specs.Plain.{IsOpeningOf}
+use Rattle.dude_engine.specs.Requests.{request_count}
+use Rattle.dude_fault.specs.declared.fault.Fault.{Fault}
+use Rattle.dude_fault.specs.declared.fault.Fault.TheVariants.{Usage, File, Text, Small, TooFew, Unformatted, Damaged, NotDb, ManyFiles, Frames, FewSubscribers, Numbers, Device, Output, Memory}
+use Rattle.command_openings.specs.Openings.{new_opening}
+use Rattle.command_openings.proofs.OneOpening.{opening_with}
+use Rattle.dude_program.specs.Opening.{fresh_sizes, load_of}
+use Rattle.dude_program.specs.Causes.{RefusesOpening, WantsFrames}
+use Rattle.dude_program.specs.Work.{HasFewNumbers, PrintsText, RefusesLoad, RefusesRun}
+use Rattle.dude_program.proofs.Refusals.{one_requests, passes_if}
+use Rattle.dude_program.proofs.Endings.{CameBy}
+use Rattle.dude_program.proofs.Stops.{IsMaker, IsOpener}
+
+-- ---- which commands make an image, and which open one
+
+pub fresh_makes : (subscribers : ℕ) (file : List ℕ) (sizes : Sizes) (s : Sight) → sizes ≡ fresh_sizes subscribers → IsMaker (FreshRun subscribers file) sizes s
+fresh_makes subscribers file sizes s is = record {
+  makes = refl;
+  sized = ap Some (sym is);
+  starts = ap new_opening is;
+  only = λ opening starts. starts ∙ ap new_opening (sym is);
+}
+
+pub format_makes : (subscribers calls rings cells : ℕ) (sizes : Sizes) (s : Sight) → sizes ≡ sizes_for subscribers calls rings cells → IsMaker (FormatImage subscribers calls rings cells) sizes s
+format_makes subscribers calls rings cells sizes s is = record {
+  makes = refl;
+  sized = ap Some (sym is);
+  starts = ap new_opening is;
+  only = λ opening starts. starts ∙ ap new_opening (sym is);
+}
+
+pub run_opens : (frames locks : Option ℕ) (files : List (List ℕ)) (s : Sight) → IsOpener (RunFiles frames locks files) s
+run_opens frames locks files s = record { opens = refl; sized = refl; on = λ opening starts. starts; starts = λ opening on. on }
+
+pub recover_opens : (s : Sight) → IsOpener RecoverImage s
+recover_opens s = record { opens = refl; sized = refl; on = λ opening starts. starts; starts = λ opening on. on }
+
+pub dump_opens : (s : Sight) → IsOpener DumpTables s
+dump_opens s = record { opens = refl; sized = refl; on = λ opening starts. starts; starts = λ opening on. on }
+
+pub drive_opens : (seed count files : ℕ) (s : Sight) → IsOpener (DriveLoad seed count files) s
+drive_opens seed count files s = record { opens = refl; sized = refl; on = λ opening starts. starts; starts = λ opening on. on }
+
+-- the opening of an opened image
+abbrev pub opening_of : {M : Type 0} {ghosts : Ghosts M} (o : Opened M ghosts) → IsOpened o → Opening
+opening_of o opened = opening_with o.number o.sizes opened.lawful.0
+
+pub is_opening_of : {M : Type 0} {ghosts : Ghosts M} (o : Opened M ghosts) (opened : IsOpened o) → IsOpeningOf o (opening_of o opened)
+is_opening_of o opened = record { number = refl; sizes = refl; stands = opened.lawful.1 }
+
+-- ---- which images are refused
+
+pub recover_passes : (f : FilesSight) (opening : Opening) (why : Fault) → RefusesOpening RecoverImage f opening why → ⊥
+recover_passes f opening why refuses = passes_if RecoverImage f opening (omega arith) (λ w no. no) (λ w no. no) (λ n no. no.0) why refuses
+
+pub dump_passes : (f : FilesSight) (opening : Opening) (why : Fault) → RefusesOpening DumpTables f opening why → ⊥
+dump_passes f opening why refuses = passes_if DumpTables f opening (omega arith) (λ w no. no) (λ w no. no) (λ n no. no.0) why refuses
+
+module _ (frames locks : Option ℕ) (names : List (List ℕ)) (f : FilesSight) (requests : List (List Request)) (read : AllZip (OfFile f) names requests) (number : ℕ) (as_many : number ≡ length names) where
+  pub run_passes : (opening : Opening) → number ≤ opening.sizes.rings → ((wanted : ℕ) → ¬ WantsFrames (RunFiles frames locks names) wanted opening.sizes.pages)
+      → opening.number + 65 * request_count requests ≤ MAX_NUMBER → IsTrue f.is_visible → (why : Fault) → RefusesOpening (RunFiles frames locks names) f opening why → ⊥
+  run_passes opening rings none enough visible why refuses =
+      passes_if (RunFiles frames locks names) f opening (omega (arith, rings, as_many)) none (λ w no. no)
+      (λ count few. let same : count ≡ request_count requests = few.1.2 ∙ ap request_count (one_requests (RunFiles frames locks names) f opening few.1.0 requests visible few.1.1 read) in
+      let over = few.2 in omega (arith, same, over, enough)) why refuses
+
+  run_refuses : (opening : Opening) (why : Fault) → RefusesRun (RunFiles frames locks names) number opening.sizes opening.number requests why → RefusesOpening (RunFiles frames locks names) f opening why
+  run_refuses opening (ManyFiles a b) r = (r.0 ∙ as_many, r.1, r.2)
+  run_refuses opening (Frames a b) r = (omega (arith, as_many, r.0), r.1, r.2)
+  run_refuses opening (Numbers a b) r = (omega (arith, as_many, r.0), r.1, (λ w no. no), r.2, (tt, (requests, read, r.3), r.4))
+  run_refuses opening (FewSubscribers a b) r = absurd r
+  run_refuses opening Usage r = absurd r
+  run_refuses opening (File a) r = absurd r
+  run_refuses opening (Text a b c) r = absurd r
+  run_refuses opening (Small a b) r = absurd r
+  run_refuses opening (TooFew a b) r = absurd r
+  run_refuses opening Unformatted r = absurd r
+  run_refuses opening (Damaged a) r = absurd r
+  run_refuses opening (NotDb a) r = absurd r
+  run_refuses opening Device r = absurd r
+  run_refuses opening Output r = absurd r
+  run_refuses opening Memory r = absurd r
+
+  pub run_came : (opening : Opening) (last : ℕ) (s t : Sight) (why : Fault) → RefusesRun (RunFiles frames locks names) number opening.sizes opening.number requests why
+      → CameBy (RunFiles frames locks names) f opening [] last s t (Some why) × (◌≡◌ {A = Option Fault} (Some why) (Some Device) → ⊥)
+  run_came opening last s t (ManyFiles a b) r = ((refl, refl, run_refuses opening (ManyFiles a b) r), λ e. let no : ⊥ = cc in no)
+  run_came opening last s t (Frames a b) r = ((refl, refl, run_refuses opening (Frames a b) r), λ e. let no : ⊥ = cc in no)
+  run_came opening last s t (Numbers a b) r = ((refl, refl, run_refuses opening (Numbers a b) r), λ e. let no : ⊥ = cc in no)
+  run_came opening last s t (FewSubscribers a b) r = absurd r
+  run_came opening last s t Usage r = absurd r
+  run_came opening last s t (File a) r = absurd r
+  run_came opening last s t (Text a b c) r = absurd r
+  run_came opening last s t (Small a b) r = absurd r
+  run_came opening last s t (TooFew a b) r = absurd r
+  run_came opening last s t Unformatted r = absurd r
+  run_came opening last s t (Damaged a) r = absurd r
+  run_came opening last s t (NotDb a) r = absurd r
+  run_came opening last s t Device r = absurd r
+  run_came opening last s t Output r = absurd r
+  run_came opening last s t Memory r = absurd r
+
+module _ (seed count files : ℕ) (f : FilesSight) (opening : Opening) (requests : List (List Request)) (is : requests ≡ load_of opening.sizes.subscribers seed count files) where
+  pub drive_passes : files ≤ opening.sizes.rings → files ≤ opening.sizes.subscribers → opening.number + 65 * request_count requests ≤ MAX_NUMBER
+      → (why : Fault) → RefusesOpening (DriveLoad seed count files) f opening why → ⊥
+  drive_passes rings enough numbers why refuses =
+      passes_if (DriveLoad seed count files) f opening rings (λ w no. no) (λ w few. let low = few.1 in omega (arith, low, enough))
+      (λ n few. let same : n ≡ request_count requests = few.1.2 ∙ ap request_count (few.1.1 ∙ sym is) in let over = few.2 in omega (arith, same, over, numbers)) why refuses
+
+  drive_refuses : (why : Fault) → RefusesLoad files opening.sizes opening.number requests why → (why ≡ Memory) ⊎ RefusesOpening (DriveLoad seed count files) f opening why
+  drive_refuses (ManyFiles a b) r = inr r
+  drive_refuses (FewSubscribers a b) r = inr (r.0, r.1, (r.2, omega (arith, r.1, r.3)))
+  drive_refuses (Numbers a b) r = inr (r.0, (λ w no. no), (λ w few. let low = few.1 in let up = r.1 in omega (arith, low, up)), r.2, (tt, (requests, is, r.3), r.4))
+  drive_refuses Memory r = inl refl
+  drive_refuses (Frames a b) r = absurd r
+  drive_refuses Usage r = absurd r
+  drive_refuses (File a) r = absurd r
+  drive_refuses (Text a b c) r = absurd r
+  drive_refuses (Small a b) r = absurd r
+  drive_refuses (TooFew a b) r = absurd r
+  drive_refuses Unformatted r = absurd r
+  drive_refuses (Damaged a) r = absurd r
+  drive_refuses (NotDb a) r = absurd r
+  drive_refuses Device r = absurd r
+  drive_refuses Output r = absurd r
+
+  by_refusal : (last : ℕ) (s t : Sight) (why : Fault) → RefusesOpening (DriveLoad seed count files) f opening why
+      → CameBy (DriveLoad seed count files) f opening [] last s t (Some why) × (◌≡◌ {A = Option Fault} (Some why) (Some Device) → ⊥)
+  by_refusal last s t (ManyFiles a b) r = ((refl, refl, r), λ e. let no : ⊥ = cc in no)
+  by_refusal last s t (FewSubscribers a b) r = ((refl, refl, r), λ e. let no : ⊥ = cc in no)
+  by_refusal last s t (Numbers a b) r = ((refl, refl, r), λ e. let no : ⊥ = cc in no)
+  by_refusal last s t (Frames a b) r = ((refl, refl, r), λ e. let no : ⊥ = cc in no)
+  by_refusal last s t Memory r = absurd r
+  by_refusal last s t Usage r = absurd r
+  by_refusal last s t (File a) r = absurd r
+  by_refusal last s t (Text a b c) r = absurd r
+  by_refusal last s t (Small a b) r = absurd r
+  by_refusal last s t (TooFew a b) r = absurd r
+  by_refusal last s t Unformatted r = absurd r
+  by_refusal last s t (Damaged a) r = absurd r
+  by_refusal last s t (NotDb a) r = absurd r
+  by_refusal last s t Device r = absurd r
+  by_refusal last s t Output r = absurd r
+
+  pub drive_came : (last : ℕ) (s t : Sight) (why : Fault) → RefusesLoad files opening.sizes opening.number requests why
+      → CameBy (DriveLoad seed count files) f opening [] last s t (Some why) × (◌≡◌ {A = Option Fault} (Some why) (Some Device) → ⊥)
+  drive_came last s t why r = elim (drive_refuses why r) [
+    | inl e ↦ subst (λ (x : Fault). CameBy (DriveLoad seed count files) f opening [] last s t (Some x) × (◌≡◌ {A = Option Fault} (Some x) (Some Device) → ⊥)) (sym e) (tt, λ same. let no : ⊥ = cc in no)
+    | inr refuses ↦ by_refusal last s t why refuses
+  ]
+
+-- ---- what is printed
+
+pub idle_prints : {done : List Done} {last n : ℕ} {earlier : Option Fault} (fault : Option Fault) (k l : SinkSight) → done ≡ [] → last ≡ n → earlier ≡ None → PrintsText (output_of done last) earlier fault k l
+    → PrintsText (last_line n) None fault k l
+idle_prints {last = last} {n = n} {earlier = earlier} fault k l none is well printed =
+    let P : List Done → Type 0 = λ done. PrintsText (output_of done last) earlier fault k l in
+    let Q : ℕ → Type 0 = λ last. PrintsText (last_line last) earlier fault k l in
+    let R : Option Fault → Type 0 = λ earlier. PrintsText (last_line n) earlier fault k l in
+    subst R well (subst Q is (subst P none printed))
+
+-- ---- the checks of a run
+
+pub refuses_frames : (meaning : Meaning) (files : ℕ) (sizes : Sizes) (number : ℕ) (requests : List (List Request)) (fault : Fault) → files ≤ sizes.rings
+    → (wanted : ℕ) × (fault ≡ Frames wanted sizes.pages) × WantsFrames meaning wanted sizes.pages → RefusesRun meaning files sizes number requests fault
+refuses_frames meaning files sizes number requests fault rings r = subst (RefusesRun meaning files sizes number requests) (sym r.1) (rings, refl, r.2)
+
+pub refuses_numbers : (meaning : Meaning) (files : ℕ) (sizes : Sizes) (number : ℕ) (requests : List (List Request)) (fault : Fault) → files ≤ sizes.rings
+    → ((wanted : ℕ) → ¬ WantsFrames meaning wanted sizes.pages) → HasFewNumbers number requests fault → RefusesRun meaning files sizes number requests fault
+refuses_numbers meaning files sizes number requests fault rings none r = subst (RefusesRun meaning files sizes number requests) (sym r.0) (rings, none, refl, refl, r.1)

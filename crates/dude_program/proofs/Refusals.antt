@@ -1,0 +1,130 @@
+-- An opened image is refused for one reason.
+use Rattle.std.proofs.Common.{◌≡◌, ℕ, ◌<◌, ◌≤◌, List, [], ◌∷◌, Some, None, IsTrue, refl, sym, ap, ◌∙◌, subst, arith}
+use Rattle.std.specs.List.{AllZip}
+use Rattle.tatp_model.specs.declared.request.Request.{Request}
+use Rattle.dude_io.specs.Files.{FilesSight}
+use Rattle.command_words.specs.Command.{Meaning, Meaning.FreshRun, Meaning.FormatImage, Meaning.RunFiles, Meaning.RecoverImage, Meaning.DumpTables, Meaning.DriveLoad}
+use Rattle.command_files.specs.Files.{OfFile}
+use Rattle.dude_engine.specs.Opening.{Opening}
+use Rattle.dude_engine.specs.Requests.{request_count}
+use Rattle.dude_fault.specs.declared.fault.Fault.{Fault}
+use Rattle.dude_fault.specs.declared.fault.Fault.TheVariants.{Usage, File, Text, Small, TooFew, Unformatted, Damaged, NotDb, ManyFiles, Frames, FewSubscribers, Numbers, Device, Output, Memory}
+use Rattle.dude_program.specs.Opening.{RequestsAre}
+use Rattle.dude_program.specs.Causes.{RefusesOpening, WantsFrames, WantsNumbers, WantsSubscribers, files_run}
+
+-- where files tell, they hold one list of requests each
+one_of_file : (f : FilesSight) (name : List ℕ) (a b : List Request) → IsTrue f.is_visible → OfFile f name a → OfFile f name b → a ≡ b
+one_of_file f name a b visible one other =
+    let e = one.2 visible in let g = other.2 visible in let h = one.1 in let i = other.1 in cc
+
+-- no file has no requests
+one_of_none : (f : FilesSight) (a b : List (List Request)) → AllZip (OfFile f) [] a → AllZip (OfFile f) [] b → a ≡ b
+one_of_none f [] [] one other = refl
+one_of_none f [] (y ∷ b) one other = absurd other
+one_of_none f (x ∷ a) b one other = absurd one
+
+one_of_files : (f : FilesSight) (names : List (List ℕ)) (a b : List (List Request)) → IsTrue f.is_visible → AllZip (OfFile f) names a → AllZip (OfFile f) names b → a ≡ b
+one_of_files f [] a b visible one other = one_of_none f a b one other
+one_of_files f (name ∷ names) (x ∷ a) (y ∷ b) visible one other =
+    let head : x ≡ y = one_of_file f name x y visible one.0 other.0 in
+    let tail : a ≡ b = one_of_files f names a b visible one.1 other.1 in
+    cc
+one_of_files f (name ∷ names) [] b visible one other = absurd one
+one_of_files f (name ∷ names) (x ∷ a) [] visible one other = absurd other
+
+-- the command runs one list of lists of requests
+pub one_requests : (meaning : Meaning) (f : FilesSight) (opening : Opening) (a b : List (List Request)) → IsTrue f.is_visible → RequestsAre meaning f opening a → RequestsAre meaning f opening b → a ≡ b
+one_requests (FreshRun subscribers file) f opening a b visible one other = one_of_files f (file ∷ []) a b visible one other
+one_requests (FormatImage s c n k) f opening a b visible one other = one_of_none f a b one other
+one_requests (RunFiles frames locks files) f opening a b visible one other = one_of_files f files a b visible one other
+one_requests RecoverImage f opening a b visible one other = one_of_none f a b one other
+one_requests DumpTables f opening a b visible one other = one_of_none f a b one other
+one_requests (DriveLoad seed count files) f opening a b visible one other = one ∙ sym other
+
+-- the frames that are wanted are those that the words name
+one_frames : (meaning : Meaning) (v w pages : ℕ) → WantsFrames meaning v pages → WantsFrames meaning w pages → v ≡ w
+one_frames (RunFiles (Some frames) locks files) v w pages one other = one.0 ∙ sym other.0
+one_frames (RunFiles None locks files) v w pages one other = absurd one
+one_frames (FreshRun subscribers file) v w pages one other = absurd one
+one_frames (FormatImage s c n k) v w pages one other = absurd one
+one_frames RecoverImage v w pages one other = absurd one
+one_frames DumpTables v w pages one other = absurd one
+one_frames (DriveLoad seed count files) v w pages one other = absurd one
+
+one_load : (meaning : Meaning) (subscribers v w : ℕ) → WantsSubscribers meaning subscribers v → WantsSubscribers meaning subscribers w → v ≡ w
+one_load (DriveLoad seed count files) subscribers v w one other = one.0 ∙ sym other.0
+one_load (RunFiles frames locks files) subscribers v w one other = absurd one
+one_load (FreshRun s file) subscribers v w one other = absurd one
+one_load (FormatImage s c n k) subscribers v w one other = absurd one
+one_load RecoverImage subscribers v w one other = absurd one
+one_load DumpTables subscribers v w one other = absurd one
+
+-- no command wants both
+never_both : (meaning : Meaning) (v w pages subscribers : ℕ) → WantsFrames meaning v pages → WantsSubscribers meaning subscribers w → ⊥
+never_both (DriveLoad seed count files) v w pages subscribers one other = absurd one
+never_both (RunFiles frames locks files) v w pages subscribers one other = absurd other
+never_both (FreshRun s file) v w pages subscribers one other = absurd one
+never_both (FormatImage s c n k) v w pages subscribers one other = absurd one
+never_both RecoverImage v w pages subscribers one other = absurd one
+never_both DumpTables v w pages subscribers one other = absurd one
+
+-- Which refusal it is.
+data Which (meaning : Meaning) (f : FilesSight) (opening : Opening) (why : Fault) : Type 0 where
+  many : (why ≡ ManyFiles (files_run meaning) opening.sizes.rings) → (opening.sizes.rings < files_run meaning) → Which meaning f opening why
+  frames : (wanted : ℕ) → (why ≡ Frames wanted opening.sizes.pages) → (files_run meaning ≤ opening.sizes.rings) → WantsFrames meaning wanted opening.sizes.pages → Which meaning f opening why
+  few : (wanted : ℕ) → (why ≡ FewSubscribers opening.sizes.subscribers wanted) → (files_run meaning ≤ opening.sizes.rings) → WantsSubscribers meaning opening.sizes.subscribers wanted
+      → Which meaning f opening why
+  numbers : (count : ℕ) → (why ≡ Numbers opening.number count) → (files_run meaning ≤ opening.sizes.rings) → ((wanted : ℕ) → ¬ WantsFrames meaning wanted opening.sizes.pages)
+      → ((wanted : ℕ) → ¬ WantsSubscribers meaning opening.sizes.subscribers wanted) → WantsNumbers meaning f opening count → Which meaning f opening why
+
+which : (meaning : Meaning) (f : FilesSight) (opening : Opening) (why : Fault) → RefusesOpening meaning f opening why → Which meaning f opening why
+which meaning f opening (ManyFiles wanted rings) r = many (let e = r.0 in let h = r.1 in cc) (omega (arith, r.0, r.1, r.2))
+which meaning f opening (Frames wanted pages) r = frames wanted (ap (Frames wanted) r.1) r.0 (subst (WantsFrames meaning wanted) r.1 r.2)
+which meaning f opening (FewSubscribers subscribers wanted) r = few wanted (ap (λ (n : ℕ). FewSubscribers n wanted) r.1) r.0 (subst (λ (n : ℕ). WantsSubscribers meaning n wanted) r.1 r.2)
+which meaning f opening (Numbers number count) r = numbers count (ap (λ (n : ℕ). Numbers n count) r.3) r.0 r.1 r.2 r.4
+which meaning f opening Usage r = absurd r
+which meaning f opening (File a) r = absurd r
+which meaning f opening (Text a b c) r = absurd r
+which meaning f opening (Small a b) r = absurd r
+which meaning f opening (TooFew a b) r = absurd r
+which meaning f opening Unformatted r = absurd r
+which meaning f opening (Damaged a) r = absurd r
+which meaning f opening (NotDb a) r = absurd r
+which meaning f opening Device r = absurd r
+which meaning f opening Output r = absurd r
+which meaning f opening Memory r = absurd r
+
+-- an opened image isn't refused where nothing refuses it
+pub passes_if : (meaning : Meaning) (f : FilesSight) (opening : Opening) → files_run meaning ≤ opening.sizes.rings → ((wanted : ℕ) → ¬ WantsFrames meaning wanted opening.sizes.pages)
+    → ((wanted : ℕ) → ¬ WantsSubscribers meaning opening.sizes.subscribers wanted) → ((count : ℕ) → ¬ WantsNumbers meaning f opening count)
+    → (why : Fault) → RefusesOpening meaning f opening why → ⊥
+passes_if meaning f opening rings no_frames no_few no_numbers why refuses = by (which meaning f opening why refuses)
+  where
+    by : Which meaning f opening why → ⊥
+    by (many e x) = omega (arith, x, rings)
+    by (frames w e x wants) = no_frames w wants
+    by (few w e x wants) = no_few w wants
+    by (numbers count e x y z wants) = no_numbers count wants
+
+pub one_refusal : (meaning : Meaning) (f : FilesSight) (opening : Opening) (a b : Fault) → IsTrue f.is_visible → RefusesOpening meaning f opening a → RefusesOpening meaning f opening b → a ≡ b
+one_refusal meaning f opening a b visible one other = by (which meaning f opening a one) (which meaning f opening b other)
+  where
+    by : Which meaning f opening a → Which meaning f opening b → a ≡ b
+    by (many e x) (many g y) = e ∙ sym g
+    by (many e x) (frames v g y w) = absurd (omega (arith, x, y))
+    by (many e x) (few v g y w) = absurd (omega (arith, x, y))
+    by (many e x) (numbers v g y w z n) = absurd (omega (arith, x, y))
+    by (frames u e x w) (many g y) = absurd (omega (arith, x, y))
+    by (frames u e x w) (frames v g y z) = e ∙ (ap (λ (n : ℕ). Frames n opening.sizes.pages) (one_frames meaning u v opening.sizes.pages w z) ∙ sym g)
+    by (frames u e x w) (few v g y z) = absurd (never_both meaning u v opening.sizes.pages opening.sizes.subscribers w z)
+    by (frames u e x w) (numbers v g y none z n) = absurd (none u w)
+    by (few u e x w) (many g y) = absurd (omega (arith, x, y))
+    by (few u e x w) (frames v g y z) = absurd (never_both meaning v u opening.sizes.pages opening.sizes.subscribers z w)
+    by (few u e x w) (few v g y z) = e ∙ (ap (λ (n : ℕ). FewSubscribers opening.sizes.subscribers n) (one_load meaning opening.sizes.subscribers u v w z) ∙ sym g)
+    by (few u e x w) (numbers v g y z none n) = absurd (none u w)
+    by (numbers u e x w z m) (many g y) = absurd (omega (arith, x, y))
+    by (numbers u e x none z m) (frames v g y w) = absurd (none v w)
+    by (numbers u e x z none m) (few v g y w) = absurd (none v w)
+    by (numbers u e x w z m) (numbers v g y p q n) =
+        let same = one_requests meaning f opening m.1.0 n.1.0 visible m.1.1 n.1.1 in
+        e ∙ (ap (Numbers opening.number) (m.1.2 ∙ (ap request_count same ∙ sym n.1.2)) ∙ sym g)

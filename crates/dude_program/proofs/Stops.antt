@@ -1,0 +1,343 @@
+-- How a command ends that stops before its image is begun.
+use Rattle.std.proofs.Common.{◌≡◌, ◌⊎◌, Bool, true, false, IsTrue, List, [], length, map, refl, sym, ap, subst, inl, inr, Option, Some, None}
+use Rattle.std.specs.List.{All}
+use Rattle.std.proofs.Math.Seq.{drop-length}
+use Rattle.dude_base.specs.declared.sizes.Sizes.{Sizes}
+use Rattle.pmem_trait.specs.declared.call.Call.TheVariants.{Read}
+use Rattle.pmem_trait.specs.Words.{IsSettled}
+use Rattle.pmem_trait.specs.Sights.{Sight, state_now, SomeCalls}
+use Rattle.pmem_trait.specs.Reads.{ContentHas, OnlyReads}
+use Rattle.pmem_trait.proofs.Laws.{every_moment_here}
+use Rattle.pmem_trait.proofs.Runs.{ran_here}
+use Rattle.pmem_trait.proofs.ReadRuns.{reads_here}
+use Rattle.tatp_model.specs.declared.done.Done.{Done}
+use Rattle.dude_io.specs.Files.{FilesSight, FilesStay}
+use Rattle.dude_io.specs.Sink.{SinkSight}
+use Rattle.image_opening.specs.Answers.{StillRecovers}
+use Rattle.image_opening.proofs.SettledReads.{content_kept}
+use Rattle.command_words.specs.Command.{Meaning, Meaning.FreshRun, Meaning.FormatImage, Meaning.RunFiles, Meaning.RecoverImage, Meaning.DumpTables, Meaning.DriveLoad}
+use Rattle.command_files.specs.Files.{HasFileFault, MissesFile}
+use Rattle.command_files.specs.Files as read
+use Rattle.dude_engine.specs.Opening.{Opening}
+use Rattle.dude_fault.specs.declared.fault.Fault.{Fault}
+use Rattle.dude_fault.specs.declared.fault.Fault.TheVariants.{Usage, File, Text, Small, TooFew, Unformatted, Damaged, NotDb, ManyFiles, Frames, FewSubscribers, Numbers, Device, Output, Memory}
+use Rattle.command_openings.specs.Begun.{IsBeginning, ShowsOpening}
+use Rattle.command_openings.specs.Faults.{HasFormatFault, HasOpenFault}
+use Rattle.command_openings.specs.Openings.{IsOpeningOn, new_opening}
+use Rattle.command_openings.proofs.Beginnings.{beginning_opened}
+use Rattle.dude_program.specs.World.{world_of}
+use Rattle.dude_program.specs.Opening.{Starts, file_names, makes_image}
+use Rattle.dude_program.specs.Headline.{Headline, Printed}
+use Rattle.dude_program.specs.Causes.{HasCause, RanUnlessDevice, RefusesContent, RefusesFormat, RefusesInOrder, StoppedAtFiles, StoppedByOpening, Untouched, sizes_made}
+use Rattle.dude_program.specs.Ending.{Ends}
+use Rattle.dude_program.proofs.FilesRead.{FilesRead, good_none_bad, one_bad, read_bad, read_good, read_missing}
+use Rattle.dude_program.proofs.Contents.{fits_not_refused, makes_none, one_content_fault, one_format_fault, opens_not_refused}
+use Rattle.dude_program.proofs.Crashes.{crash_front, sync_none}
+use Rattle.dude_program.proofs.Endings.{sink_same}
+
+-- the calls behind which a fault isn't the medium's
+calls_well : {fault : Option Fault} {s t : Sight} → SomeCalls true s t → (fault ≡ Some Device → ⊥) → RanUnlessDevice fault s t
+calls_well ran other = (true, ran, (λ failed. absurd (let no : ⊥ = cc in no), λ is. absurd (other is)))
+
+calls_failed : {s t : Sight} → SomeCalls false s t → RanUnlessDevice (Some Device) s t
+calls_failed ran = (false, ran, (λ failed. refl, λ is. refl))
+
+calls_none : {fault : Option Fault} (s t : Sight) → t ≡ s → (fault ≡ Some Device → ⊥) → RanUnlessDevice fault s t
+calls_none {fault} s t same other = subst (λ (u : Sight). RanUnlessDevice fault s u) (sym same) (calls_well (ran_here s) other)
+
+reads_ran : {fault : Option Fault} {s t : Sight} → OnlyReads true s t → (fault ≡ Some Device → ⊥) → RanUnlessDevice fault s t
+reads_ran reads other = calls_well (map Read reads.words, reads.made) other
+
+-- the headline where nothing is done
+headline_none : (meaning : Meaning) {s t : Sight} {f g : FilesSight} {k : SinkSight} (fault : Fault) → ((opening : Opening) → Starts meaning s opening → IsBeginning (makes_image meaning) opening s t)
+    → Printed meaning (world_of s f k) (world_of t g k) [] (Some fault) → (((opening : Opening) → Starts meaning s opening → ⊥) → (ok : Bool) × OnlyReads ok s t)
+    → Headline meaning (world_of s f k) (world_of t g k) [] (Some fault)
+headline_none meaning {s} {t} fault front printed reads = record {
+  replies = inl refl;
+  crash = λ opening starts. crash_front meaning opening s t (front opening starts);
+  sync = sync_none s t;
+  printed = printed;
+  only_read = reads;
+}
+
+-- ---- at the files
+
+-- on a medium at rest
+module _ (meaning : Meaning) {s : Sight} {f g : FilesSight} {k : SinkSight} (front : (opening : Opening) → Starts meaning s opening → IsBeginning (makes_image meaning) opening s s) (stays : FilesStay f g) where
+  pub ends_at_files : (fault : Fault) → HasFileFault (file_names meaning) f g fault → (IsTrue f.is_visible → MissesFile (file_names meaning) f → read.StoppedReading fault)
+      → Ends meaning (world_of s f k) (world_of s g k) [] (Some fault)
+  ends_at_files (File n) has missing = record {
+    headline = headline_none meaning (File n) front refl (λ none. (true, reads_here s));
+    causes = record {
+      cause = has;
+      order = record {
+        missing = λ visible misses. tt;
+        bad = λ visible number row field bad. inr tt;
+        format = λ why refuses. inr tt;
+        content = λ opens visible why refuses. inr tt;
+        opening = λ opens visible told opening starts why refuses. inr tt;
+      };
+      complete = λ good medium files output. absurd (files has.1);
+      untouched = (refl, refl);
+      spared = λ bad. (refl, refl);
+      ran = calls_none s s refl (λ e. let no : ⊥ = cc in no);
+      files = stays;
+      sink = sink_same;
+    };
+  }
+  ends_at_files (Text n r c) has missing = record {
+    headline = headline_none meaning (Text n r c) front refl (λ none. (true, reads_here s));
+    causes = record {
+      cause = has.0;
+      order = record {
+        missing = λ visible misses. absurd (missing visible misses);
+        bad = λ visible number row field bad. inl (one_bad f (file_names meaning) n number r row c field visible has.0 bad);
+        format = λ why refuses. inr tt;
+        content = λ opens visible why refuses. inr tt;
+        opening = λ opens visible told opening starts why refuses. inr tt;
+      };
+      complete = λ good medium files output. absurd (good_none_bad f (file_names meaning) n r c good.files good.good has.0);
+      untouched = (refl, refl);
+      spared = λ bad. (refl, refl);
+      ran = calls_none s s refl (λ e. let no : ⊥ = cc in no);
+      files = stays;
+      sink = sink_same;
+    };
+  }
+  ends_at_files Memory has missing = record {
+    headline = headline_none meaning Memory front (inl refl) (λ none. (true, reads_here s));
+    causes = record {
+      cause = tt;
+      order = record {
+        missing = λ visible misses. tt;
+        bad = λ visible number row field bad. inr tt;
+        format = λ why refuses. inr tt;
+        content = λ opens visible why refuses. inr tt;
+        opening = λ opens visible told opening starts why refuses. inr tt;
+      };
+      complete = λ good medium files output. inr refl;
+      untouched = tt;
+      spared = λ bad. (refl, refl);
+      ran = calls_none s s refl (λ e. let no : ⊥ = cc in no);
+      files = stays;
+      sink = sink_same;
+    };
+  }
+  ends_at_files Usage has missing = absurd has
+  ends_at_files (Small a b) has missing = absurd has
+  ends_at_files (TooFew a b) has missing = absurd has
+  ends_at_files Unformatted has missing = absurd has
+  ends_at_files (Damaged a) has missing = absurd has
+  ends_at_files (NotDb a) has missing = absurd has
+  ends_at_files (ManyFiles a b) has missing = absurd has
+  ends_at_files (Frames a b) has missing = absurd has
+  ends_at_files (FewSubscribers a b) has missing = absurd has
+  ends_at_files (Numbers a b) has missing = absurd has
+  ends_at_files Device has missing = absurd has
+  ends_at_files Output has missing = absurd has
+
+-- a medium that wasn't called
+front_new : (opening : Opening) (s : Sight) → IsBeginning true opening s s
+front_new opening s = record {
+  moments = every_moment_here (ShowsOpening true (length (state_now s).told) opening) (λ visible. record { each = λ image is. inl (refl, drop-length (state_now s).told) });
+  told = λ visible. inl refl;
+}
+
+front_old : (opening : Opening) (s : Sight) → (IsTrue s.is_visible → IsSettled s.len (state_now s)) → IsOpeningOn s opening → IsBeginning false opening s s
+front_old opening s settled on =
+    beginning_opened opening s s (every_moment_here (StillRecovers (state_now s).told opening.number opening.sizes opening.database) (content_kept s settled on))
+
+pub front_at_rest : (meaning : Meaning) (s : Sight) → (IsTrue s.is_visible → IsSettled s.len (state_now s)) → (opening : Opening) → Starts meaning s opening → IsBeginning (makes_image meaning) opening s s
+front_at_rest (FreshRun subscribers file) s settled opening starts = front_new opening s
+front_at_rest (FormatImage a b c d) s settled opening starts = front_new opening s
+front_at_rest (RunFiles frames locks files) s settled opening starts = front_old opening s settled starts
+front_at_rest RecoverImage s settled opening starts = front_old opening s settled starts
+front_at_rest DumpTables s settled opening starts = front_old opening s settled starts
+front_at_rest (DriveLoad seed count files) s settled opening starts = front_old opening s settled starts
+
+-- there was no memory for the words
+pub ends_at_words : (meaning : Meaning) (s : Sight) (f : FilesSight) (k : SinkSight) → (IsTrue s.is_visible → IsSettled s.len (state_now s)) → FilesStay f f
+    → Ends meaning (world_of s f k) (world_of s f k) [] (Some Memory)
+ends_at_words meaning s f k settled stays = ends_at_files meaning (front_at_rest meaning s settled) stays Memory tt (λ visible misses. tt)
+
+-- ---- where an image is made
+
+-- A command that makes an image of these sizes.
+pub record IsMaker (meaning : Meaning) (sizes : Sizes) (s : Sight) : Type 0 where
+  pub makes : makes_image meaning ≡ true
+  pub sized : sizes_made meaning ≡ Some sizes
+  pub starts : Starts meaning s (new_opening sizes)
+  pub only : (opening : Opening) → Starts meaning s opening → opening ≡ new_opening sizes
+
+makes_both : (b : Bool) → b ≡ true → b ≡ false → ⊥
+makes_both b one other = let never : ⊥ = cc in never
+
+module _ {meaning : Meaning} {sizes : Sizes} {s t : Sight} {f g : FilesSight} (maker : IsMaker meaning sizes s) (files : FilesRead meaning f g)
+    (front : IsBeginning true (new_opening sizes) s t) where
+  front_each : (opening : Opening) → Starts meaning s opening → IsBeginning (makes_image meaning) opening s t
+  front_each opening starts =
+      subst (λ (b : Bool). IsBeginning b opening s t) (sym maker.makes) (subst (λ (o : Opening). IsBeginning true o s t) (sym (maker.only opening starts)) front)
+
+  order_made : {k : SinkSight} (fault : Fault) → ((why : Fault) → RefusesFormat meaning s.len why → (◌≡◌ {A = Option Fault} (Some fault) (Some why)) ⊎ StoppedAtFiles (Some fault)) → RefusesInOrder meaning (world_of s f k) (Some fault)
+  order_made fault format = record {
+    missing = λ visible misses. absurd (read_missing files visible misses);
+    bad = λ visible number row field bad. absurd (read_bad files number row field visible bad);
+    format = format;
+    content = λ opens visible why refuses. absurd (makes_both (makes_image meaning) maker.makes opens);
+    opening = λ opens visible told opening starts why refuses. absurd (makes_both (makes_image meaning) maker.makes opens);
+  }
+
+  -- the medium's length was refused
+  ends_refused : {k : SinkSight} (why : Fault) → t ≡ s → (why_not : RefusesFormat meaning s.len why) → HasCause meaning (world_of s f k) (world_of t g k) (Some why) → Printed meaning (world_of s f k) (world_of t g k) [] (Some why)
+      → Untouched (Some why) s t [] → (◌≡◌ {A = Option Fault} (Some why) (Some Device) → ⊥) → Ends meaning (world_of s f k) (world_of t g k) [] (Some why)
+  ends_refused why same refuses cause printed untouched other = record {
+    headline = headline_none meaning why front_each printed (λ none. absurd (none (new_opening sizes) maker.starts));
+    causes = record {
+      cause = cause;
+      order = order_made why (λ also r. inl (ap Some (one_format_fault meaning sizes s.len why also maker.sized refuses r)));
+      complete = λ good medium read output. absurd (good.fits why refuses);
+      untouched = untouched;
+      spared = λ bad. (same, refl);
+      ran = calls_none s t same other;
+      files = files.stays;
+      sink = sink_same;
+    };
+  }
+
+  pub ends_at_format : {k : SinkSight} (fault : Fault) → HasFormatFault sizes s t fault → Ends meaning (world_of s f k) (world_of t g k) [] (Some fault)
+  ends_at_format (Small a b) has =
+      ends_refused (Small a b) has.0 (sizes, maker.sized, has.1, has.2, has.3) (sizes, maker.sized, has.1, has.2, has.3) refl (has.0, refl) (λ e. let no : ⊥ = cc in no)
+  ends_at_format (TooFew a b) has =
+      ends_refused (TooFew a b) has.0 (sizes, maker.sized, has.1, has.2, has.3, has.4) (sizes, maker.sized, has.1, has.2, has.3, has.4) refl (has.0, refl) (λ e. let no : ⊥ = cc in no)
+  ends_at_format Device has = record {
+    headline = headline_none meaning Device front_each refl (λ none. absurd (none (new_opening sizes) maker.starts));
+    causes = record {
+      cause = has.1;
+      order = order_made Device (λ why r. absurd (fits_not_refused meaning sizes s.len why maker.sized has.0 r));
+      complete = λ good medium read output. absurd (medium has.1);
+      untouched = tt;
+      spared = λ bad. absurd (elim bad [ inl unread ↦ unread.1 (read_good files) | inr refuses ↦ fits_not_refused meaning sizes s.len refuses.0 maker.sized has.0 refuses.1 ]);
+      ran = calls_failed has.2;
+      files = files.stays;
+      sink = sink_same;
+    };
+  }
+  ends_at_format Memory has = record {
+    headline = headline_none meaning Memory front_each (inl refl) (λ none. absurd (none (new_opening sizes) maker.starts));
+    causes = record {
+      cause = tt;
+      order = order_made Memory (λ why r. inr tt);
+      complete = λ good medium read output. inr refl;
+      untouched = tt;
+      spared = λ bad. absurd (elim bad [ inl unread ↦ unread.1 (read_good files) | inr refuses ↦ fits_not_refused meaning sizes s.len refuses.0 maker.sized has.0 refuses.1 ]);
+      ran = calls_well has.1 (λ e. let no : ⊥ = cc in no);
+      files = files.stays;
+      sink = sink_same;
+    };
+  }
+  ends_at_format Usage has = absurd has
+  ends_at_format (File a) has = absurd has
+  ends_at_format (Text a b c) has = absurd has
+  ends_at_format Unformatted has = absurd has
+  ends_at_format (Damaged a) has = absurd has
+  ends_at_format (NotDb a) has = absurd has
+  ends_at_format (ManyFiles a b) has = absurd has
+  ends_at_format (Frames a b) has = absurd has
+  ends_at_format (FewSubscribers a b) has = absurd has
+  ends_at_format (Numbers a b) has = absurd has
+  ends_at_format Output has = absurd has
+
+-- ---- where an image is opened
+
+-- A command that opens its image.
+pub record IsOpener (meaning : Meaning) (s : Sight) : Type 0 where
+  pub opens : makes_image meaning ≡ false
+  pub sized : sizes_made meaning ≡ None
+  pub on : (opening : Opening) → Starts meaning s opening → IsOpeningOn s opening
+  pub starts : (opening : Opening) → IsOpeningOn s opening → Starts meaning s opening
+
+module _ {meaning : Meaning} {s t : Sight} {f g : FilesSight} (opener : IsOpener meaning s) (files : FilesRead meaning f g)
+    (front : (opening : Opening) → IsOpeningOn s opening → IsBeginning false opening s t)
+    (reads : ((opening : Opening) → IsOpeningOn s opening → ⊥) → (ok : Bool) × OnlyReads ok s t) where
+  front_opened : (opening : Opening) → Starts meaning s opening → IsBeginning (makes_image meaning) opening s t
+  front_opened opening starts = subst (λ (b : Bool). IsBeginning b opening s t) (sym opener.opens) (front opening (opener.on opening starts))
+
+  reads_only : ((opening : Opening) → Starts meaning s opening → ⊥) → (ok : Bool) × OnlyReads ok s t
+  reads_only none = reads (λ opening on. none opening (opener.starts opening on))
+
+  spares : ((IsTrue f.is_visible × (All (read.IsGoodFile f) (file_names meaning) → ⊥)) ⊎ ((why : Fault) × RefusesFormat meaning s.len why)) → (t ≡ s) × (◌≡◌ {A = List Done} [] [])
+  spares bad = absurd (elim bad [ inl unread ↦ unread.1 (read_good files) | inr refuses ↦ makes_none meaning s.len refuses.0 opener.sized refuses.1 ])
+
+  -- its content was refused
+  ends_unopened : {k : SinkSight} (why : Fault) → ContentHas (λ content. RefusesContent content why) s → OnlyReads true s t → HasCause meaning (world_of s f k) (world_of t g k) (Some why)
+      → Printed meaning (world_of s f k) (world_of t g k) [] (Some why) → Untouched (Some why) s t [] → (◌≡◌ {A = Option Fault} (Some why) (Some Device) → ⊥)
+      → Ends meaning (world_of s f k) (world_of t g k) [] (Some why)
+  ends_unopened why refuses read cause printed untouched other = record {
+    headline = headline_none meaning why front_opened printed reads_only;
+    causes = record {
+      cause = cause;
+      order = record {
+        missing = λ visible misses. absurd (read_missing files visible misses);
+        bad = λ visible number row field bad. absurd (read_bad files number row field visible bad);
+        format = λ also r. absurd (makes_none meaning s.len also opener.sized r);
+        content = λ opens visible also r. inl (one_content_fault s why also visible refuses r);
+        opening = λ opens visible told opening starts also r. absurd (opens_not_refused s opening why visible (opener.on opening starts) refuses);
+      };
+      complete = λ good medium unread output. absurd (let o = (good.opens opener.opens).1 in opens_not_refused s o.0 why (good.opens opener.opens).0 (opener.on o.0 o.1) refuses);
+      untouched = untouched;
+      spared = spares;
+      ran = reads_ran read other;
+      files = files.stays;
+      sink = sink_same;
+    };
+  }
+
+  order_stopped : {k : SinkSight} (fault : Fault) → StoppedByOpening (Some fault) → RefusesInOrder meaning (world_of s f k) (Some fault)
+  order_stopped fault stopped = record {
+    missing = λ visible misses. absurd (read_missing files visible misses);
+    bad = λ visible number row field bad. absurd (read_bad files number row field visible bad);
+    format = λ also r. absurd (makes_none meaning s.len also opener.sized r);
+    content = λ opens visible also r. inr stopped;
+    opening = λ opens visible told opening starts also r. inr stopped;
+  }
+
+  pub ends_at_open : {k : SinkSight} (fault : Fault) → HasOpenFault s t fault → Ends meaning (world_of s f k) (world_of t g k) [] (Some fault)
+  ends_at_open Unformatted has = ends_unopened Unformatted has.0 has.1 (opener.opens, has.0) refl (has.1, refl) (λ e. let no : ⊥ = cc in no)
+  ends_at_open (Damaged line) has = ends_unopened (Damaged line) has.0 has.1 (opener.opens, has.0) refl (has.1, refl) (λ e. let no : ⊥ = cc in no)
+  ends_at_open (NotDb word) has = ends_unopened (NotDb word) has.0 has.1 (opener.opens, has.0) refl (has.1, refl) (λ e. let no : ⊥ = cc in no)
+  ends_at_open Device has = record {
+    headline = headline_none meaning Device front_opened refl reads_only;
+    causes = record {
+      cause = has.0;
+      order = order_stopped Device tt;
+      complete = λ good medium unread output. absurd (medium has.0);
+      untouched = tt;
+      spared = spares;
+      ran = calls_failed has.1;
+      files = files.stays;
+      sink = sink_same;
+    };
+  }
+  ends_at_open Memory has = record {
+    headline = headline_none meaning Memory front_opened (inl refl) reads_only;
+    causes = record {
+      cause = tt;
+      order = order_stopped Memory tt;
+      complete = λ good medium unread output. inr refl;
+      untouched = tt;
+      spared = spares;
+      ran = calls_well has (λ e. let no : ⊥ = cc in no);
+      files = files.stays;
+      sink = sink_same;
+    };
+  }
+  ends_at_open Usage has = absurd has
+  ends_at_open (File a) has = absurd has
+  ends_at_open (Text a b c) has = absurd has
+  ends_at_open (Small a b) has = absurd has
+  ends_at_open (TooFew a b) has = absurd has
+  ends_at_open (ManyFiles a b) has = absurd has
+  ends_at_open (Frames a b) has = absurd has
+  ends_at_open (FewSubscribers a b) has = absurd has
+  ends_at_open (Numbers a b) has = absurd has
+  ends_at_open Output has = absurd has

@@ -1,0 +1,90 @@
+-- A run over an opened image, as the command sees it; the requests of a load; and texts.
+use Rattle.std.proofs.Common.{◌≡◌, ◌⊎◌, ℕ, zero, suc, ◌+◌, ◌<◌, ◌≤◌, List, [], ◌∷◌, ◌++◌, length, map, refl, sym, ◌∙◌, ap, subst, inl, inr, arith, Some, None, Result, Ok, Err, Vec, Global, take, get_or}
+use Rattle.std.specs.Result.{result_err}
+use Rattle.std.specs.Prelude.{OnOk, IfErr}
+use Rattle.std.specs.List.{All, range_with_len}
+use Rattle.std.proofs.lemmas.List.{length-map, map_more, map-append}
+use Rattle.std.proofs.lemmas.List.Elements.{All-append, All-cons, All-head, All-nil, All-tail}
+use Rattle.std.proofs.lemmas.List.FromFn.{length-map-range_with_len}
+use Rattle.std.proofs.lemmas.List.Sums.{fold-append}
+use Rattle.pmem_trait.specs.Sights.{Sight}
+use Rattle.tatp_model.specs.declared.request.Request.{Request}
+use Rattle.dude_io.specs.Sink.{SinkSight, Took}
+use Rattle.dude_output.specs.Printing.{FailsIn}
+use Rattle.command_files.specs.Files.{requests_in}
+use Rattle.dude_engine.specs.Requests.{request_count}
+use Rattle.dude_engine.specs.declared.ran.RanEnd.{RanEnd}
+use Rattle.dude_engine.specs.declared.ran.RanEnd.TheVariants.{Whole, NoMemory}
+use Rattle.dude_engine.specs.declared.ran.RanEnd.TheVariants as ran
+use Rattle.dude_engine.specs.Plain as plain
+use Rattle.dude_fault.specs.declared.fault.Fault.{Fault}
+use Rattle.dude_fault.specs.declared.fault.Fault.TheVariants.{Device, Memory}
+use Rattle.dude_program.specs.Causes.{RanUnlessDevice}
+use Rattle.dude_program.specs.Work.{PrintsText, fault_of_end}
+
+pub whole_end : (end : RanEnd) → fault_of_end end ≡ None → end ≡ Whole
+whole_end Whole e = refl
+whole_end ran.Device e = let no : ⊥ = cc in absurd no
+whole_end NoMemory e = let no : ⊥ = cc in absurd no
+
+pub device_end : (end : RanEnd) → fault_of_end end ≡ Some Device → end ≡ ran.Device
+device_end Whole e = let no : ⊥ = cc in absurd no
+device_end ran.Device e = refl
+device_end NoMemory e = let no : ⊥ = cc in absurd no
+
+pub only_ends : (end : RanEnd) → (fault_of_end end ≡ None) ⊎ (fault_of_end end ≡ Some Device) ⊎ (fault_of_end end ≡ Some Memory)
+only_ends Whole = inl refl
+only_ends ran.Device = inr (inl refl)
+only_ends NoMemory = inr (inr refl)
+
+pub ran_end : (end : RanEnd) (s t : Sight) → plain.RanUnlessDevice end s t → RanUnlessDevice (fault_of_end end) s t
+ran_end end s t r = (r.0, r.1, (λ failed. ap fault_of_end (r.2.0 failed), λ is. r.2.1 (device_end end is)))
+
+-- ---- a text
+
+pub text_prints : (text : List ℕ) (r : Result (Unit {0}) Fault) (k l : SinkSight) → OnOk r (Took text k l) → IfErr r (FailsIn text k l) → PrintsText text None (result_err r) k l
+text_prints text (Ok x) k l took fails = took
+text_prints text (Err e) k l took fails = inl fails.0
+
+-- ---- how many requests there are
+
+pub counted_more : (files : List (Vec Request Global)) (i : ℕ) (d : Vec Request Global) → i < length files
+    → request_count (requests_in (take (i + 1) files)) ≡ request_count (requests_in (take i files)) + length (get_or files i d).items
+counted_more files i d below =
+    ap request_count (map_more (λ list. list.items) files i d below)
+    ∙ fold-append (λ count file. count + length file) 0 (requests_in (take i files)) ((get_or files i d).items ∷ [])
+
+pub one_count : (requests : List (List Request)) → length requests ≤ 1 → All (λ list. length list ≤ 100000) requests → request_count requests ≤ 100000
+one_count [] one few = omega arith
+one_count (list ∷ []) one few = let head : length list ≤ 100000 = All-head (λ list. length list ≤ 100000) list [] few in omega (arith, head)
+one_count (list ∷ other ∷ more) one few = absurd (omega (arith, one))
+
+-- ---- the files of a load
+
+pub range_more : (a n : ℕ) → range_with_len a (n + 1) ≡ range_with_len a n ++ (a + n) ∷ []
+range_more a zero = ap (λ (x : ℕ). x ∷ []) (let e : a ≡ a + 0 = omega arith in e)
+range_more a (suc n) =
+    let one : suc n + 1 ≡ suc (n + 1) = omega arith in
+    let e : (a + 1) + n ≡ a + suc n = omega arith in
+    ap (range_with_len a) one ∙ ap (λ (l : List ℕ). a ∷ l) (range_more (a + 1) n ∙ ap (λ (x : ℕ). range_with_len (a + 1) n ++ x ∷ []) e)
+
+pub mixed_more : (f : ℕ → List Request) (old new : List (Vec Request Global)) (v : Vec Request Global) (n : ℕ) → new ≡ old ++ v ∷ [] → requests_in old ≡ map f (range_with_len 0 n) → v.items ≡ f n
+    → requests_in new ≡ map f (range_with_len 0 (n + 1))
+mixed_more f old new v n pushed is this =
+    let zero_up : 0 + n ≡ n = omega arith in
+    ap requests_in pushed ∙ (map-append (λ list. list.items) old (v ∷ []) ∙ (ap (λ (l : List (List Request)). l ++ v.items ∷ []) is
+    ∙ (ap (λ (x : List Request). map f (range_with_len 0 n) ++ x ∷ []) this
+    ∙ sym (ap (map f) (range_more 0 n) ∙ (ap (λ (x : ℕ). map f (range_with_len 0 n ++ x ∷ [])) zero_up ∙ map-append f (range_with_len 0 n) (n ∷ []))))))
+
+pub all_more : (P : List Request → Type 0) (old new : List (Vec Request Global)) (v : Vec Request Global) → new ≡ old ++ v ∷ [] → All P (requests_in old) → P v.items → All P (requests_in new)
+all_more P old new v pushed all this =
+    subst (All P) (sym (ap requests_in pushed ∙ map-append (λ list. list.items) old (v ∷ []))) (All-append P (requests_in old) (v.items ∷ []) all (All-cons P v.items [] this (All-nil P)))
+
+pub mixed_length : (f : ℕ → List Request) (lists : List (Vec Request Global)) (n : ℕ) → requests_in lists ≡ map f (range_with_len 0 n) → length lists ≡ n
+mixed_length f lists n is = sym (length-map lists (λ list. list.items)) ∙ (ap length is ∙ length-map-range_with_len f 0 n)
+
+-- each of the lists is short
+pub few_at : (files : List (Vec Request Global)) (i : ℕ) (d : Vec Request Global) → i < length files → All (λ list. length list ≤ 100000) (requests_in files) → length (get_or files i d).items ≤ 100000
+few_at [] i d below all = absurd (omega (arith, below))
+few_at (file ∷ files) zero d below all = All-head (λ list. length list ≤ 100000) file.items (requests_in files) all
+few_at (file ∷ files) (suc i) d below all = few_at files i d (omega (arith, below)) (All-tail (λ list. length list ≤ 100000) file.items (requests_in files) all)

@@ -1,0 +1,51 @@
+use Rattle.std.proofs.Common.{◌≡◌, ◌∙◌, ◌≤◌, length, sym, ap, arith, Vec, Global, [], ◌∷◌}
+use Rattle.std.specs.List.{AllZip}
+use Rattle.std.proofs.lemmas.List.{length-map}
+use Rattle.std.proofs.lemmas.Slice.Zip.{AllZip-long}
+use Rattle.dude_base.specs.declared.sizes.Sizes.{Sizes}
+use Rattle.tatp_model.specs.declared.request.Request.{Request}
+use Rattle.command_words.specs.Command.{Meaning.FreshRun}
+use Rattle.command_files.specs.Files.{OfFile, requests_in}
+use Rattle.dude_engine.specs.Requests.{request_count}
+use Rattle.dude_program.proofs.Endings.{ends_printed}
+use Rattle.dude_program.proofs.Stops.{ends_at_files, ends_at_format, front_at_rest}
+use Rattle.dude_program.proofs.Came.{begun_new, came_ran}
+use Rattle.dude_program.proofs.EachCommand.{fresh_makes}
+use Rattle.dude_program.proofs.Works.{one_count}
+use Rattle.dude_program.proofs.commands.fresh.Goals as goal
+
+pub returns-in-Err-clause-ends : goal.returns-in-Err-clause-ends
+returns-in-Err-clause-ends g c =
+    rw (c.refused.ensures.medium, c.refused.ensures.done, c.refused.ensures.fault)
+    (ends_at_files (FreshRun c.args.subscribers c.args.file.now) (front_at_rest (FreshRun c.args.subscribers c.args.file.now) (g.M.Medium.sight c.args.medium) c.requires.settled)
+    c.in-Err.ensures.stays c.in-Err.fault c.in-Err.ensures.cause c.in-Err.ensures.missing)
+
+pub work-requires-clause-rings : goal.work-requires-clause-rings
+work-requires-clause-rings g c =
+    let one : length (requests_in c.in-Ok-read_files.lists.items) ≡ 1 = AllZip-long (OfFile (g.F.Files.sight c.args.files.now)) (c.args.file.now ∷ []) (requests_in c.in-Ok-read_files.lists.items) c.in-Ok-read_files.ensures.read in
+    let long : length (requests_in c.in-Ok-read_files.lists.items) ≡ length c.in-Ok-read_files.lists.items = length-map c.in-Ok-read_files.lists.items (λ (list : Vec Request Global). list.items) in
+    let rings : 1 ≡ c.in-Ok-make_and_open.opened.sizes.rings = sym (ap (λ (z : Sizes). z.rings) c.in-Ok.ensures.ok.0) ∙ ap (λ (z : Sizes). z.rings) c.in-Ok-make_and_open.ensures.opening.sizes in
+    rw c.deref.ensures.value (omega (arith, one, long, rings))
+
+pub work-requires-clause-numbers : goal.work-requires-clause-numbers
+work-requires-clause-numbers g c =
+    let one : length (requests_in c.in-Ok-read_files.lists.items) ≡ 1 = AllZip-long (OfFile (g.F.Files.sight c.args.files.now)) (c.args.file.now ∷ []) (requests_in c.in-Ok-read_files.lists.items) c.in-Ok-read_files.ensures.read in
+    let few : request_count (requests_in c.in-Ok-read_files.lists.items) ≤ 100000 = one_count (requests_in c.in-Ok-read_files.lists.items) (omega (arith, one)) c.in-Ok-read_files.ensures.few in
+    let number : 0 ≡ c.in-Ok-make_and_open.opened.number = c.in-Ok-make_and_open.ensures.opening.number in
+    rw c.deref.ensures.value (omega (arith, few, number))
+
+pub returns-in-Ok-make_and_open-clause-ends : goal.returns-in-Ok-make_and_open-clause-ends
+returns-in-Ok-make_and_open-clause-ends g c =
+    let e = c.in-Ok-make_and_open.ensures in
+    let maker = fresh_makes c.args.subscribers c.args.file.now c.in-Ok.sizes (g.M.Medium.sight c.args.medium) c.in-Ok.ensures.ok.0 in
+    let read : AllZip (OfFile (g.F.Files.sight c.args.files.now)) (c.args.file.now ∷ []) (requests_in c.deref.result.now) = rw c.deref.ensures.value c.in-Ok-read_files.ensures.read in
+    let came = came_ran (record { lists = requests_in c.deref.result.now; read = read; stays = c.in-Ok-read_files.ensures.stays }) (begun_new maker e.fits e.begins) read
+    (λ opens. let no : ⊥ = cc in absurd no) c.work.result.fault (c.work.ensures _ e.opening) in
+    rw (c.end_with_lines.ensures.medium, c.end_with_lines.ensures.done) (ends_printed _ _ came c.end_with_lines.ensures.printed)
+
+pub returns-clause-ends : goal.returns-clause-ends
+returns-clause-ends g c =
+    let maker = fresh_makes c.args.subscribers c.args.file.now c.in-Ok.sizes (g.M.Medium.sight c.args.medium) c.in-Ok.ensures.ok.0 in
+    rw (c.refused-in-Err-make_and_open.ensures.medium, c.refused-in-Err-make_and_open.ensures.done, c.refused-in-Err-make_and_open.ensures.fault)
+    (ends_at_format maker (record { lists = requests_in c.in-Ok-read_files.lists.items; read = c.in-Ok-read_files.ensures.read; stays = c.in-Ok-read_files.ensures.stays })
+    c.in-Err-make_and_open.ensures.front c.in-Err-make_and_open.fault c.in-Err-make_and_open.ensures.fault)

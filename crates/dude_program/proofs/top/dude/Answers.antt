@@ -1,0 +1,13 @@
+use Rattle.dude_io.proofs.ReadLaws.{files_stay}
+use Rattle.dude_program.proofs.Stops.{ends_at_words}
+use Rattle.dude_program.proofs.top.dude.Goals as goal
+
+pub returns-in-Err-clause-headline : goal.returns-in-Err-clause-headline
+returns-in-Err-clause-headline g c own means =
+    rw (c.refused-in-Err.ensures.medium, c.refused-in-Err.ensures.done, c.refused-in-Err.ensures.fault)
+    (ends_at_words own (g.M.Medium.sight c.args.medium) (g.F.Files.sight c.args.files.now) (g.K.Sink.sight c.args.out.now) c.requires.settled files_stay).headline
+
+pub returns-in-Err-clause-causes : goal.returns-in-Err-clause-causes
+returns-in-Err-clause-causes g c own means =
+    rw (c.refused-in-Err.ensures.medium, c.refused-in-Err.ensures.done, c.refused-in-Err.ensures.fault)
+    (ends_at_words own (g.M.Medium.sight c.args.medium) (g.F.Files.sight c.args.files.now) (g.K.Sink.sight c.args.out.now) c.requires.settled files_stay).causes

@@ -1,0 +1,159 @@
+ghost use Rattle.std.specs.Prelude.{◌≡◌, ◌≤◌, ℕ, Option, IsTrue, map};
+ghost use Rattle.std.specs.Rc.{rc_str_bytes};
+ghost use Rattle.pmem_trait.specs.Words.{IsSettled};
+ghost use Rattle.pmem_trait.specs.Sights.{state_now};
+ghost use Rattle.command_words.specs.Command.{IsBetween, Meaning.FreshRun, Meaning.FormatImage, Meaning.RunFiles, Meaning.RecoverImage, Meaning.DumpTables, Meaning.DriveLoad};
+ghost use Rattle.dude_io.specs.Files.{FilesSight};
+ghost use Rattle.dude_fault.specs.Fault.{status_of};
+ghost use Rattle.dude_program.specs.Ending.{Ends};
+ghost use Rattle.dude_program.specs.World.{world_of};
+
+use crate::checks::check_run;
+use crate::ended::Ended;
+use crate::load::{Load, make_load};
+use crate::output::{end_with_lines, end_with_summary, print_dump};
+use crate::worked::{idle, work};
+use command_files::read_files;
+use command_openings::{make_and_open, open_and_announce};
+use dude_base::sizes::Sizes;
+use dude_io::{Files, Sink};
+use pmem_trait::Medium;
+use std::alloc::Global;
+use std::rc::RcStr;
+
+/// What a new image is to have.
+#[derive(Clone, Copy)]
+pub struct ImageCounts {
+    pub subscribers: u64,
+    pub calls: u64,
+    pub rings: u64,
+    pub cells: u64,
+}
+
+/// Makes a new image for so many subscribers, and runs the requests of the file.
+pub fn fresh<M: Medium, F: Files, K: Sink>(
+    alloc: Global,
+    subscribers: u64,
+    file: &str,
+    medium: M,
+    files: &mut F,
+    out: &mut K,
+) -> Ended<M>
+    requires settled { IsTrue (M.sight medium).is_visible → IsSettled (M.sight medium).len (state_now (M.sight medium)) }
+    requires subscribers { IsBetween 1 10_000 subscribers }
+    ensures status { result.status ≡ status_of result.fault }
+    ensures ends { Ends (FreshRun subscribers file.now) (world_of (M.sight medium) (F.sight files.old) (K.sight out.old))
+        (world_of (M.sight result.medium) (F.sight files.new) (K.sight out.new)) result.done.items result.fault }
+{
+    let Ok(sizes) = Sizes::of(subscribers, 12 * subscribers, 1, 16) else {
+        unreachable!()
+    };
+    let names = [file];
+    let lists = match read_files(alloc, &names, files) {
+        Ok(lists) => lists,
+        Err(fault) => return Ended::refused(alloc, fault, medium),
+    };
+    match make_and_open(alloc, medium, &sizes) {
+        Ok(opened) => end_with_lines(alloc, work(alloc, opened, &lists), out),
+        Err((fault, medium)) => Ended::refused(alloc, fault, medium),
+    }
+}
+
+/// Makes a new image with so many subscribers, call rows, rings and cells of a ring.
+pub fn format<M: Medium, K: Sink>(
+    alloc: Global,
+    counts: ImageCounts,
+    medium: M,
+    out: &mut K,
+) -> Ended<M>
+    requires settled { IsTrue (M.sight medium).is_visible → IsSettled (M.sight medium).len (state_now (M.sight medium)) }
+    requires subscribers { IsBetween 1 10_000 counts.subscribers }
+    requires calls { IsBetween 1 120_000 counts.calls }
+    requires rings { IsBetween 1 8 counts.rings }
+    requires cells { IsBetween 16 4_096 counts.cells }
+    ensures status { result.status ≡ status_of result.fault }
+    ensures ends { (f : FilesSight) → Ends (FormatImage counts.subscribers counts.calls counts.rings counts.cells) (world_of (M.sight medium) f (K.sight out.old))
+        (world_of (M.sight result.medium) f (K.sight out.new)) result.done.items result.fault }
+{
+    let Ok(sizes) = Sizes::of(counts.subscribers, counts.calls, counts.rings, counts.cells) else {
+        unreachable!()
+    };
+    match make_and_open(alloc, medium, &sizes) {
+        Ok(opened) => end_with_lines(alloc, idle(alloc, opened), out),
+        Err((fault, medium)) => Ended::refused(alloc, fault, medium),
+    }
+}
+
+/// Runs the requests of the files over the image, with so many frames where that is said.
+pub fn run<M: Medium, F: Files, K: Sink>(
+    alloc: Global,
+    frames: Option<u64>,
+    names: &[RcStr],
+    medium: M,
+    files: &mut F,
+    out: &mut K,
+) -> Ended<M>
+    requires settled { IsTrue (M.sight medium).is_visible → IsSettled (M.sight medium).len (state_now (M.sight medium)) }
+    ensures status { result.status ≡ status_of result.fault }
+    ensures ends { (locks : Option ℕ) → Ends (RunFiles frames locks (map rc_str_bytes names.now)) (world_of (M.sight medium) (F.sight files.old) (K.sight out.old))
+        (world_of (M.sight result.medium) (F.sight files.new) (K.sight out.new)) result.done.items result.fault }
+{
+    let lists = match read_files(alloc, names, files) {
+        Ok(lists) => lists,
+        Err(fault) => return Ended::refused(alloc, fault, medium),
+    };
+    let opened = match open_and_announce(alloc, medium) {
+        Ok(opened) => opened,
+        Err((fault, medium)) => return Ended::refused(alloc, fault, medium),
+    };
+    match check_run(&opened, frames, &lists) {
+        Ok(()) => end_with_lines(alloc, work(alloc, opened, &lists), out),
+        Err(fault) => Ended::refused(alloc, fault, opened.back.into_medium()),
+    }
+}
+
+/// Recovers the image.
+pub fn recover<M: Medium, K: Sink>(alloc: Global, medium: M, out: &mut K) -> Ended<M>
+    requires settled { IsTrue (M.sight medium).is_visible → IsSettled (M.sight medium).len (state_now (M.sight medium)) }
+    ensures status { result.status ≡ status_of result.fault }
+    ensures ends { (f : FilesSight) → Ends RecoverImage (world_of (M.sight medium) f (K.sight out.old)) (world_of (M.sight result.medium) f (K.sight out.new)) result.done.items result.fault }
+{
+    match open_and_announce(alloc, medium) {
+        Ok(opened) => end_with_lines(alloc, idle(alloc, opened), out),
+        Err((fault, medium)) => Ended::refused(alloc, fault, medium),
+    }
+}
+
+/// Prints the tables of the image.
+pub fn dump<M: Medium, K: Sink>(alloc: Global, medium: M, out: &mut K) -> Ended<M>
+    requires settled { IsTrue (M.sight medium).is_visible → IsSettled (M.sight medium).len (state_now (M.sight medium)) }
+    ensures status { result.status ≡ status_of result.fault }
+    ensures ends { (f : FilesSight) → Ends DumpTables (world_of (M.sight medium) f (K.sight out.old)) (world_of (M.sight result.medium) f (K.sight out.new)) result.done.items result.fault }
+{
+    match open_and_announce(alloc, medium) {
+        Ok(opened) => {
+            let fault = print_dump(alloc, &opened, out);
+            Ended::new(fault, opened.back.into_medium(), Vec::new(alloc))
+        }
+        Err((fault, medium)) => Ended::refused(alloc, fault, medium),
+    }
+}
+
+/// Runs a load over the image: so many requests of each of so many files, made from a seed.
+pub fn drive<M: Medium, K: Sink>(alloc: Global, load: Load, medium: M, out: &mut K) -> Ended<M>
+    requires settled { IsTrue (M.sight medium).is_visible → IsSettled (M.sight medium).len (state_now (M.sight medium)) }
+    requires count { load.count ≤ 99_999 }
+    requires files { IsBetween 1 8 load.files }
+    ensures status { result.status ≡ status_of result.fault }
+    ensures ends { (f : FilesSight) → Ends (DriveLoad load.seed load.count load.files) (world_of (M.sight medium) f (K.sight out.old))
+        (world_of (M.sight result.medium) f (K.sight out.new)) result.done.items result.fault }
+{
+    let opened = match open_and_announce(alloc, medium) {
+        Ok(opened) => opened,
+        Err((fault, medium)) => return Ended::refused(alloc, fault, medium),
+    };
+    match make_load(alloc, &opened, &load) {
+        Ok(lists) => end_with_summary(alloc, work(alloc, opened, &lists), out),
+        Err(fault) => Ended::refused(alloc, fault, opened.back.into_medium()),
+    }
+}

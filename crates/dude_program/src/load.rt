@@ -1,0 +1,74 @@
+ghost use Rattle.std.specs.Prelude.{◌≡◌, ◌≤◌, ◌+◌, ◌*◌, length, All, IfOk, IfErr, OnOk};
+ghost use Rattle.dude_base.specs.declared.limits.TheConstants.{MAX_NUMBER};
+ghost use Rattle.image_opening.specs.Opened.{IsOpened};
+ghost use Rattle.command_files.specs.Files.{requests_in};
+ghost use Rattle.dude_engine.specs.Requests.{AreInRange, request_count};
+ghost use Rattle.dude_program.specs.Opening.{load_of};
+ghost use Rattle.dude_program.specs.Work.{RefusesLoad};
+
+use crate::checks::{check_numbers, check_rings};
+use dude_fault::Fault;
+use image_opening::Opened;
+use load_mix::mix;
+use pmem_trait::Medium;
+use std::alloc::{AllocError, Global};
+use tatp_model::Request;
+
+/// A load: its seed, how many random requests each file has, and how many files there are.
+#[derive(Clone, Copy)]
+pub struct Load {
+    pub seed: u64,
+    pub count: u64,
+    pub files: u64,
+}
+
+/// The files of a load: so many random requests of each, and a `Sync`.
+fn mix_files(alloc: Global, subscribers: u64, load: &Load) -> Result<Vec<Vec<Request>>, AllocError>
+    requires each_has_one { load.now.files ≤ subscribers }
+    requires limited { subscribers ≤ 10000 }
+    requires few { load.now.count ≤ 99999 }
+    ensures load { IfOk result (λ lists. requests_in lists.items ≡ load_of subscribers load.now.seed load.now.count load.now.files) }
+    ensures length { IfOk result (λ lists. length lists.items ≡ load.now.files) }
+    ensures few { IfOk result (λ lists. All (λ list. length list ≤ 100000) (requests_in lists.items)) }
+    ensures in_range { IfOk result (λ lists. AreInRange (requests_in lists.items)) }
+{
+    let mut lists = Vec::new(alloc);
+    for file in 0..load.files {
+        lists.push(mix(alloc, load.seed, file, load.files, subscribers, load.count)?)?;
+    }
+    Ok(lists)
+}
+
+/// Makes a load over an opened image, unless it is refused: for more files than rings, for fewer subscribers than files, or
+/// for numbers that may not be enough.
+pub fn make_load<M: Medium>(
+    alloc: Global,
+    opened: &Opened<M>,
+    load: &Load,
+) -> Result<Vec<Vec<Request>>, Fault>
+    requires opened { IsOpened opened.now }
+    requires count { load.now.count ≤ 99999 }
+    requires files { load.now.files ≤ 8 }
+    ensures load { IfOk result (λ lists. requests_in lists.items ≡ load_of opened.now.sizes.subscribers load.now.seed load.now.count load.now.files) }
+    ensures rings { IfOk result (λ lists. length lists.items ≤ opened.now.sizes.rings) }
+    ensures files { OnOk result (load.now.files ≤ opened.now.sizes.rings) }
+    ensures subscribers { OnOk result (load.now.files ≤ opened.now.sizes.subscribers) }
+    ensures in_range { IfOk result (λ lists. AreInRange (requests_in lists.items)) }
+    ensures numbers { IfOk result (λ lists. opened.now.number + 65 * request_count (requests_in lists.items) ≤ MAX_NUMBER) }
+    ensures err { IfErr result (RefusesLoad load.now.files opened.now.sizes opened.now.number
+        (load_of opened.now.sizes.subscribers load.now.seed load.now.count load.now.files)) }
+{
+    check_rings(load.files, opened.sizes.rings)?;
+    let subscribers = opened.sizes.subscribers;
+    if subscribers < load.files {
+        return Err(Fault::FewSubscribers {
+            subscribers,
+            files: load.files,
+        });
+    }
+    let Ok(lists) = mix_files(alloc, subscribers, load) else {
+        return Err(Fault::Memory);
+    };
+    check_numbers(opened.number, &lists)?;
+    Ok(lists)
+}

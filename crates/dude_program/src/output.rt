@@ -1,0 +1,89 @@
+ghost use Rattle.std.specs.Prelude.{◌≡◌, None};
+ghost use Rattle.tatp_layout.specs.StandsFor.{StandsFor};
+ghost use Rattle.tatp_model.specs.Database.{Database, IsInOrder, database_of};
+ghost use Rattle.reply_text.specs.Output.{output_of};
+ghost use Rattle.table_dump.specs.Dump.{dump_text};
+ghost use Rattle.load_summary.specs.Summary.{summary_of};
+ghost use Rattle.image_opening.specs.Opened.{IsOpened};
+ghost use Rattle.dude_fault.specs.Fault.{status_of};
+ghost use Rattle.dude_program.specs.Work.{PrintsText};
+
+use crate::ended::Ended;
+use crate::worked::Worked;
+use dude_fault::Fault;
+use dude_io::Sink;
+use dude_output::{print_lines, print_text};
+use image_opening::Opened;
+use load_summary::write_summary;
+use pmem_trait::Medium;
+use std::alloc::Global;
+use table_dump::write_dump;
+use tatp_check::tables_of;
+use tatp_model::{Done, Tables};
+
+/// Prints a line for each request done and the last number, unless a fault came before.
+pub fn end_with_lines<M, K: Sink>(alloc: Global, worked: Worked<M>, out: &mut K) -> Ended<M>
+    ensures status { result.status ≡ status_of result.fault }
+    ensures medium { result.medium ≡ worked.medium }
+    ensures done { result.done ≡ worked.done }
+    ensures printed { PrintsText (output_of worked.done.items worked.last) worked.fault result.fault (K.sight out.old) (K.sight out.new) }
+{
+    let fault = match worked.fault {
+        Some(fault) => Some(fault),
+        None => print_lines(alloc, &worked.done, worked.last, out).err(),
+    };
+    Ended::new(fault, worked.medium, worked.done)
+}
+
+// Prints the summary of the requests done.
+fn print_summary<K: Sink>(alloc: Global, done: &[Done], out: &mut K) -> Option<Fault>
+    ensures { PrintsText (summary_of done.now) None result (K.sight out.old) (K.sight out.new) }
+{
+    let mut text = Vec::new(alloc);
+    if write_summary(done, &mut text).is_err() {
+        return Some(Fault::Memory);
+    }
+    print_text(&text, out).err()
+}
+
+/// Prints the summary of a load, unless a fault came before.
+pub fn end_with_summary<M, K: Sink>(alloc: Global, worked: Worked<M>, out: &mut K) -> Ended<M>
+    ensures status { result.status ≡ status_of result.fault }
+    ensures medium { result.medium ≡ worked.medium }
+    ensures done { result.done ≡ worked.done }
+    ensures printed { PrintsText (summary_of worked.done.items) worked.fault result.fault (K.sight out.old) (K.sight out.new) }
+{
+    let fault = match worked.fault {
+        Some(fault) => Some(fault),
+        None => print_summary(alloc, &worked.done, out),
+    };
+    Ended::new(fault, worked.medium, worked.done)
+}
+
+// Prints tables, and the last number.
+fn print_tables<K: Sink>(alloc: Global, tables: &Tables, last: u64, out: &mut K) -> Option<Fault>
+    requires { IsInOrder (database_of tables.now) }
+    ensures { PrintsText (dump_text (database_of tables.now) last) None result (K.sight out.old) (K.sight out.new) }
+{
+    let mut text = Vec::new(alloc);
+    if write_dump(tables, last, &mut text).is_err() {
+        return Some(Fault::Memory);
+    }
+    print_text(&text, out).err()
+}
+
+/// Prints the tables of an opened image, and its number.
+pub fn print_dump<M: Medium, K: Sink>(
+    alloc: Global,
+    opened: &Opened<M>,
+    out: &mut K,
+) -> Option<Fault>
+    requires opened { IsOpened opened.now }
+    ensures { (db : Database) → StandsFor opened.now.sizes opened.now.words.items db
+        → PrintsText (dump_text db opened.now.number) None result (K.sight out.old) (K.sight out.new) }
+{
+    match tables_of(alloc, &opened.lay, &opened.words) {
+        Ok(tables) => print_tables(alloc, &tables, opened.number, out),
+        Err(_) => Some(Fault::Memory),
+    }
+}

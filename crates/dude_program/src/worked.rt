@@ -1,0 +1,70 @@
+ghost use Rattle.std.specs.Prelude.{◌≡◌, ℕ, ◌+◌, ◌*◌, ◌≤◌, [], None, length};
+ghost use Rattle.dude_base.specs.declared.limits.TheConstants.{MAX_NUMBER};
+ghost use Rattle.back_store.specs.BackView.{medium_of};
+ghost use Rattle.image_opening.specs.Opened.{IsOpened};
+ghost use Rattle.command_files.specs.Files.{requests_in};
+ghost use Rattle.dude_engine.specs.Opening.{Opening};
+ghost use Rattle.dude_engine.specs.Plain.{IsOpeningOf};
+ghost use Rattle.dude_engine.specs.Requests.{AreInRange, request_count};
+ghost use Rattle.dude_program.specs.Work.{RanOver, fault_of_end};
+
+use dude_engine::{RanEnd, plain};
+use dude_fault::Fault;
+use image_opening::Opened;
+use pmem_trait::Medium;
+use std::alloc::Global;
+use tatp_model::{Done, Request};
+
+/// What became of a command's requests, before its output.
+#[derive(Drop)]
+pub struct Worked<M> {
+    pub done: Vec<Done>,
+    pub medium: M,
+    /// The last number told.
+    pub last: u64,
+    pub fault: Option<Fault>,
+}
+
+fn fault_of(end: RanEnd) -> Option<Fault>
+    ensures { result ≡ fault_of_end end }
+{
+    match end {
+        RanEnd::Whole => None,
+        RanEnd::Device => Some(Fault::Device),
+        RanEnd::NoMemory => Some(Fault::Memory),
+    }
+}
+
+/// Runs the requests of files over an opened image.
+pub fn work<M: Medium>(alloc: Global, opened: Opened<M>, files: &[Vec<Request>]) -> Worked<M>
+    requires opened { IsOpened opened }
+    requires rings { length files.now ≤ opened.sizes.rings }
+    requires in_range { AreInRange (requests_in files.now) }
+    requires numbers { opened.number + 65 * request_count (requests_in files.now) ≤ MAX_NUMBER }
+    ensures { (opening : Opening) → IsOpeningOf opened opening
+        → RanOver opening opened.words.items (requests_in files.now) result.done.items result.last result.fault (M.sight (medium_of opened.back)) (M.sight result.medium) }
+{
+    let ran = plain(alloc, opened, files);
+    Worked {
+        done: ran.done,
+        medium: ran.medium,
+        last: ran.last,
+        fault: fault_of(ran.end),
+    }
+}
+
+/// An opened image with no requests.
+pub fn idle<M: Medium>(alloc: Global, opened: Opened<M>) -> Worked<M>
+    ensures done { result.done.items ≡ [] }
+    ensures medium { result.medium ≡ medium_of opened.back }
+    ensures last { result.last ≡ opened.number }
+    ensures fault { result.fault ≡ None }
+{
+    let last = opened.number;
+    Worked {
+        done: Vec::new(alloc),
+        medium: opened.back.into_medium(),
+        last,
+        fault: None,
+    }
+}

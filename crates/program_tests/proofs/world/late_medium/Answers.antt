@@ -1,5 +1,0 @@
-use Rattle.pmem_fake.proofs.Histories.{opening_settled}
-use Rattle.program_tests.proofs.world.late_medium.Goals as goal
-
-pub returns : goal.returns
-returns c = record { settled = λ told. opening_settled c.in_ok-medium.ensures.untouched }
