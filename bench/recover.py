@@ -1,17 +1,20 @@
 #!/usr/bin/env python3
-"""recover.py IMAGE REQUESTS TOLD
+"""recover.py BEFORE AFTER TOLD COMMAND..
 
-Recovers an image of `fresh` by a slow program that shares nothing with the repository's code (docs/FORMATS.md has the
-layout), and holds it to the request file and to what the run printed on standard error before it ended, the file TOLD.
+Judges what a command left that was killed or that ended. BEFORE is a copy of the image as it was at the start, AFTER is the
+image now, TOLD is what the command printed on standard error, and COMMAND its words: `format S C N CELLS`, `fresh S FILE`,
+`run FILE..` or `drive SEED COUNT FILES`. It recovers both images by a slow program that shares nothing with the
+repository's code (docs/FORMATS.md has the layout), reads their tables, and carries the requests out on tables of its own.
 
-Prints the last number told and the number that the image recovers to; or `none`, where nothing was told yet. Ends with 1
-and says why where the image can't be recovered, recovers to less than was told, or holds another database than the one
-after so many updates of the request file.
+Prints the last number told and the number that the image recovers to; or `none`, where the command makes its image anew and
+told nothing. Ends with 1 and says why where the image can't be recovered, recovers to less than was told, or holds another
+database than the one after so many of the requests that write.
 """
 import struct
 import sys
 
 MAGIC = 0x4D454D5445445544
+VERSION = 1
 MOST_NUMBER = 2**48 - 1
 MOST_WRITES = 24
 HEADER_WORDS = 16
@@ -26,10 +29,27 @@ def up8(count):
     return (count + 7) // 8 * 8
 
 
-def pages_for(subscribers, calls):
-    """How many pages the five tables take."""
-    tables = [(subscribers, 8), (subscribers, 4), (4 * subscribers, 4), (4 * subscribers, 4), (calls, 4)]
-    return -(-sum(8 + up8(records) + up8(records * words) for records, words in tables) // 64)
+# ---- the image ----
+
+
+class Pool:
+    """Where a table stands in the home: its header, its buckets and its records."""
+
+    def __init__(self, at, buckets, records, size):
+        self.header, self.buckets, self.size = at, buckets, size
+        self.links = at + 8
+        self.first = self.links + up8(buckets)
+        self.count = records
+        self.end = self.first + up8(records * size)
+
+
+def pools_for(subscribers, calls):
+    """The tables of subscribers, numbers, access rows, facilities and call rows, one behind the other."""
+    parts, at = 4 * subscribers, 0
+    for records, size in [(subscribers, 8), (subscribers, 4), (parts, 4), (parts, 4), (calls, 4)]:
+        pool = Pool(at, records, records, size)
+        at = pool.end
+        yield pool
 
 
 def read_words(file, count):
@@ -45,13 +65,14 @@ class Image:
     def __init__(self, name):
         with open(name, "rb") as file:
             header = read_words(file, HEADER_WORDS)
-            self.subscribers, calls, self.rings, self.cells, self.pages = header[2:7]
+            self.subscribers, self.calls, self.rings, self.cells, self.pages = header[2:7]
             self.mark = header[8]
-            if header[0] != MAGIC or header[1] != 0 or header[7] != 0:
+            if header[0] != MAGIC or header[1] != VERSION or header[7] != 0:
                 raise Wrong("the image isn't formatted")
-            if not (1 <= self.subscribers <= 10_000 and 1 <= calls <= 120_000 and 1 <= self.rings <= 8):
+            if not (1 <= self.subscribers <= 10_000 and 1 <= self.calls <= 120_000 and 1 <= self.rings <= 8):
                 raise Wrong("a size is out of its limits")
-            if not (16 <= self.cells <= 4_096 and self.pages == pages_for(self.subscribers, calls)):
+            self.pools = list(pools_for(self.subscribers, self.calls))
+            if not (16 <= self.cells <= 4_096 and self.pages == -(-self.pools[-1].end // 64)):
                 raise Wrong("a size is out of its limits")
             words = read_words(file, self.rings * self.cells * 8)
             self.home = read_words(file, self.pages * 64)
@@ -68,7 +89,7 @@ class Image:
             cell = self.cell_words[ring * self.cells + (slot + index) % self.cells]
             if cell[:2] != [CONTINUATION * 2**62 + number, index]:
                 raise Wrong(f"ring {ring}, slot {slot}: the record of {number} isn't complete")
-            pairs += cell[2:]
+            pairs = pairs + cell[2:]
         writes = [(pairs[2 * i], pairs[2 * i + 1]) for i in range(count)]
         places = [at for at, _ in writes]
         if len(set(places)) < len(places) or any(at >= self.pages * 64 for at in places):
@@ -89,7 +110,7 @@ class Image:
         return found
 
     def recovered(self):
-        """The number and the home words that the image recovers to."""
+        """The number and the tables that the image recovers to."""
         if self.mark > MOST_NUMBER:
             raise Wrong("the mark is too great")
         records, number, home = self.records(), self.mark, list(self.home)
@@ -97,59 +118,225 @@ class Image:
             number += 1
             for at, value in records[number]:
                 home[at] = value
-        return number, home
+        return number, Tables(self.calls, *(rows_of(home, pool) for pool in self.pools))
 
 
-def row_of(s):
-    """The words of subscriber s of the population."""
-    bits = sum((s + i) % 2 << (i - 1) for i in range(1, 11))
-    hexes = sum((s + i) % 16 << (10 + 4 * (i - 1)) for i in range(1, 11))
-    data = [(7 * s + i) % 256 for i in range(1, 11)]
-    low, high = (sum(byte << 8 * i for i, byte in enumerate(part)) for part in (data[:8], data[8:]))
-    return [s, 0, bits + hexes, low, high, s, 1_000_000 + s, s]
+def chain(home, pool, link, seen):
+    """The records from this link on, each a place."""
+    places = []
+    while link:
+        if not (pool.first <= link < pool.first + pool.count * pool.size and (link - pool.first) % pool.size == 0):
+            raise Wrong(f"{link} is no place of a record")
+        if link in seen:
+            raise Wrong(f"the record at {link} is met twice")
+        seen.add(link)
+        places.append(link)
+        link = home[link + 1]
+    return places
 
 
-def updates_of(name, subscribers):
-    """The updates of the request file that find their subscriber: whom, and where to."""
+def rows_of(home, pool):
+    """The words of each row behind its key and its link, by key."""
+    seen, rows = set(), {}
+    for bucket in range(pool.buckets):
+        for place in chain(home, pool, home[pool.links + bucket], seen):
+            key = home[place]
+            if key % pool.buckets != bucket or key in rows:
+                raise Wrong(f"key {key} stands in another bucket, or twice")
+            rows[key] = tuple(home[place + 2 : place + pool.size])
+    chain(home, pool, home[pool.header], seen)
+    if len(seen) != pool.count or home[pool.header + 1] != len(rows):
+        raise Wrong(f"the table at {pool.header} has lost a record, or counts others")
+    return rows
+
+
+# ---- the tables ----
+
+
+def letters(x, count):
+    """Letters as the low bytes of a number."""
+    return sum((65 + (x + j) % 26) << 8 * j for j in range(count))
+
+
+class Tables:
+    """The rows of a database, each by its key, as the words of its record."""
+
+    def __init__(self, limit, subscribers, numbers, access, facilities, calls):
+        self.limit = limit
+        self.subscribers, self.access, self.facilities, self.calls = subscribers, access, facilities, calls
+        self.numbers = {number: words[0] for number, words in numbers.items()}
+
+    def __eq__(self, other):
+        return vars(self) == vars(other)
+
+
+def population(subscribers, limit):
+    """The tables of a new image."""
+    subs, numbers, access, facilities, calls = {}, {}, {}, {}, {}
+    for s in range(1, subscribers + 1):
+        bits = sum((s + i) % 2 << (i - 1) for i in range(1, 11))
+        hexes = sum((s + i) % 16 << (10 + 4 * (i - 1)) for i in range(1, 11))
+        data = [(7 * s + i) % 256 for i in range(1, 11)]
+        low, high = (sum(byte << 8 * i for i, byte in enumerate(part)) for part in (data[:8], data[8:]))
+        subs[s] = (bits + hexes, low, high, s, 1_000_000 + s, s)
+        numbers[s] = (s,)
+        for a in range(1, 2 + s % 4):
+            data = (s + a) % 256 | (s * a % 256) << 8 | letters(s + a, 3) << 16
+            access[4 * s + a - 1] = (data, letters(s + 2 * a, 5))
+        for f in range(1, 2 + (s + 1) % 4):
+            active = 0 if (s + f) % 7 == 0 else 1
+            facility = 4 * s + f - 1
+            facilities[facility] = (active | (s + 2 * f) % 256 << 8 | (3 * s + f) % 256 << 16, letters(s + 3 * f, 5))
+            for k in range((s + f) % 4):
+                calls[3 * facility + k] = (8 * k + 1 + (s * f + k) % 8, 100 * s + 10 * f + k)
+    return Tables(limit, subs, numbers, access, facilities, calls)
+
+
+def change(tables, request):
+    """Carries a request out on the tables, and tells whether it wrote."""
+    name, *fields = request
+    values = [int(field) for field in fields]
+    if name == "UPDATE_SUBSCRIBER_DATA":
+        s, bit, sf_type, data = values
+        facility = 4 * s + sf_type - 1
+        if s not in tables.subscribers or facility not in tables.facilities:
+            return False
+        word, *others = tables.subscribers[s]
+        tables.subscribers[s] = (word & ~1 | bit, *others)
+        word, letters = tables.facilities[facility]
+        tables.facilities[facility] = (word & 0xFFFF | data << 16, letters)
+        return True
+    if name == "UPDATE_LOCATION":
+        number, location = values
+        if number not in tables.numbers:
+            return False
+        *others, _, last = tables.subscribers[tables.numbers[number]]
+        tables.subscribers[tables.numbers[number]] = (*others, location, last)
+        return True
+    if name in ("INSERT_CALL_FORWARDING", "DELETE_CALL_FORWARDING"):
+        number, sf_type, start, *rest = values
+        if number not in tables.numbers:
+            return False
+        facility = 4 * tables.numbers[number] + sf_type - 1
+        key = 3 * facility + start // 8
+        if name == "DELETE_CALL_FORWARDING":
+            return tables.calls.pop(key, None) is not None
+        if facility not in tables.facilities or key in tables.calls or len(tables.calls) >= tables.limit:
+            return False
+        tables.calls[key] = tuple(rest)
+        return True
+    return False
+
+
+# ---- the requests ----
+
+
+class Generator:
+    """The generator PCG XSH RR 64/32, of which a load draws its numbers."""
+
+    def __init__(self, seed, stream):
+        self.step = 2 * stream + 1
+        self.state = (seed + self.step) % 2**64
+        self.turn()
+
+    def turn(self):
+        self.state = (self.state * 6364136223846793005 + self.step) % 2**64
+
+    def draw(self):
+        state = self.state
+        self.turn()
+        word = ((state >> 18 ^ state) >> 27) % 2**32
+        return (word >> (state >> 59) | word << (-(state >> 59) % 32)) % 2**32
+
+
+def load_of(seed, file, files, subscribers, count):
+    """The requests of a file of a load, of which only those that may write are told apart."""
+    generator = Generator(seed, file)
+    for _ in range(count):
+        w = [generator.draw() for _ in range(7)]
+        kind = w[0] % 100
+        s, kind_of_row = 1 + file + files * (w[1] % (subscribers // files)), 1 + w[2] % 4
+        start, end = 8 * (w[3] % 3), 1 + w[4] % 24
+        if kind < 80:
+            yield ("GET",)
+        elif kind < 82:
+            yield ("UPDATE_SUBSCRIBER_DATA", s, w[6] % 2, kind_of_row, w[5] % 256)
+        elif kind < 96:
+            yield ("UPDATE_LOCATION", s, w[5])
+        elif kind < 98:
+            yield ("INSERT_CALL_FORWARDING", s, kind_of_row, start, end, w[6])
+        else:
+            yield ("DELETE_CALL_FORWARDING", s, kind_of_row, start)
+    yield ("SYNC",)
+
+
+def requests_in(name):
     with open(name) as file:
-        fields = [line.split(",") for line in file.read().split("\n")]
-    updates = [(int(it[1]), int(it[2])) for it in fields if it[0] == "UPDATE_LOCATION"]
-    return [(s, location) for s, location in updates if 1 <= s <= subscribers]
+        return [line.split(",") for line in file.read().split("\n") if line]
 
 
-def home_after(image, updates):
-    home = [word for s in range(1, image.subscribers + 1) for word in row_of(s)]
-    home += [0] * (image.pages * 64 - len(home))
-    for s, location in updates:
-        home[8 * (s - 1) + 6] = location
-    return home
+def in_rounds(files):
+    """Request 0 of each file, then request 1 of each, and so on."""
+    for index in range(max(map(len, files), default=0)):
+        for requests in files:
+            if index < len(requests):
+                yield requests[index]
 
 
-def last_told(name):
-    """The last number told. What stands behind the last line end isn't printed yet."""
+def files_of(command, subscribers):
+    """The lists of requests of a command."""
+    kind, *words = command
+    if kind == "drive":
+        seed, count, files = map(int, words)
+        return [list(load_of(seed, file, files, subscribers, count)) for file in range(files)]
+    if kind == "run":
+        return [requests_in(name) for name in words]
+    return [requests_in(words[1])] if kind == "fresh" else []
+
+
+# ---- the judgment ----
+
+
+def numbers_told(name):
+    """The numbers told. What stands behind the last line end isn't printed yet."""
     with open(name) as file:
         lines = file.read().split("\n")[:-1]
-    if lines != [f"durable {number}" for number in range(len(lines))]:
-        raise Wrong("standard error isn't durable 0, durable 1 and so on")
-    return len(lines) - 1 if lines else None
+    if any(not line.startswith("durable ") for line in lines):
+        raise Wrong("standard error has other lines than of durable numbers")
+    return [int(line.split()[1]) for line in lines]
 
 
-def judged(image_name, requests_name, told_name):
-    told = last_told(told_name)
-    if told is None:
+def opening_of(command, before):
+    """The number and the tables that the command starts from."""
+    if command[0] == "format":
+        return 0, population(int(command[1]), int(command[2]))
+    if command[0] == "fresh":
+        return 0, population(int(command[1]), 12 * int(command[1]))
+    return Image(before).recovered()
+
+
+def judged(before, after, told_name, *command):
+    told = numbers_told(told_name)
+    if not told and command[0] in ("format", "fresh"):
         return "none"
-    image = Image(image_name)
-    number, home = image.recovered()
-    if number < told:
-        raise Wrong(f"durable {told} was printed, and the image recovers to {number}")
-    updates = updates_of(requests_name, image.subscribers)
-    if number > len(updates):
-        raise Wrong(f"the image recovers to {number}, and the file has {len(updates)} updates")
-    wanted = home_after(image, updates[:number])
-    differing = [at for at, (has, wants) in enumerate(zip(home, wanted)) if has != wants]
-    if differing:
-        raise Wrong(f"home word {differing[0]} isn't that after {number} updates")
-    return f"{told} {number}"
+    opening, tables = opening_of(command, before)
+    if told != sorted(told) or told[:1] not in ([], [opening]):
+        raise Wrong(f"the numbers told don't rise from {opening}")
+    least = told[-1] if told else opening
+    image = Image(after)
+    number, found = image.recovered()
+    if number < least:
+        raise Wrong(f"durable {least} was printed, and the image recovers to {number}")
+    reached = opening
+    requests = in_rounds(files_of(command, image.subscribers)) if told and number > opening else iter(())
+    while reached < number:
+        request = next(requests, None)
+        if request is None:
+            raise Wrong(f"the image recovers to {number}, and the requests end at {reached}")
+        reached += change(tables, request)
+    if tables != found:
+        raise Wrong(f"the tables aren't those after number {number}")
+    return f"{least} {number}"
 
 
 if __name__ == "__main__":
