@@ -1,0 +1,3 @@
+pub mod Scans
+pub mod Places
+pub mod Made

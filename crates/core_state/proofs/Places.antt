@@ -1,0 +1,58 @@
+-- Views by their places, and a step that was made.
+use Rattle.std.proofs.Common.{◌≡◌, ◌≢◌, ℕ, zero, suc, ◌<◌, ◌≤◌, Bool, true, false, List, [], ◌∷◌, ◌++◌, length, get_or, set, slice_set, refl, sym, ap, subst, ◌∙◌, arith}
+use Rattle.std.specs.Prelude.{Option}
+use mathlib.Core.Option.{some, some-injective}
+use lib.ListN.{get_elem?}
+use Rattle.core_events.specs.Setups.{Setup}
+use Rattle.core_events.specs.Views.{View, Word, the_threads, the_clock, the_turn, the_durable, the_reproduced, the_lock, the_entry, the_touch, the_cell, the_box}
+use Rattle.core_events.specs.Words.{State, found, put}
+use Rattle.core_events.specs.Events.{Event, name, word_after, view_after}
+use Rattle.core_events.specs.Conditions.{May, Fits, IsAllowed}
+use Rattle.core_events.proofs.Lists.{there}
+use Rattle.core_views.specs.Named.{Tells}
+use Rattle.core_state.specs.Steps.{moved}
+
+pub at_index : {A : Type 0} (l : List A) (i : ℕ) (a : A) → i < length l → a ≡ get_or l i a → get_elem? l i ≡ some a
+at_index [] i a h e = absurd (omega arith)
+at_index (x ∷ xs) zero a h e = ap some (sym e)
+at_index (x ∷ xs) (suc i) a h e = at_index xs i a (omega arith) e
+
+pub inside_there : (l m : List View) (i : ℕ) (v : View) → l ≡ m → get_elem? m i ≡ some v → i < length l
+inside_there l m i v e at = there l i v (ap (λ (k : List View). get_elem? k i) e ∙ at)
+
+-- what is read at the place is the view that is there
+pub same_there : (l m : List View) (i : ℕ) (v u : View) → l ≡ m → get_elem? m i ≡ some v → u ≡ get_or l i u → u ≡ v
+same_there l m i v u e at is =
+    let here : get_elem? l i ≡ some v = ap (λ (k : List View). get_elem? k i) e ∙ at in
+    some-injective u v (sym (at_index l i u (there l i v here) is) ∙ here)
+
+module _ (z : Setup) (c : State) (who : ℕ) (e : Event) (u : View) where
+  pub allowed_tells : (b : Bool) → get_elem? c.views who ≡ some u → May z e u → Tells b (Fits z e c u) → Tells b ((v : View) × IsAllowed z c who e v)
+  allowed_tells true at may h = (u, record { is_there = at; may = may; fits = h })
+  allowed_tells false at may h = λ t. h (subst (λ (v : View). Fits z e c v) (some-injective t.0 u (sym t.1.is_there ∙ at)) t.1.fits)
+
+  pub not_allowed : (b : Bool) → b ≡ false → get_elem? c.views who ≡ some u → Tells b (May z e u) → Tells b ((v : View) × IsAllowed z c who e v)
+  not_allowed true is at h = absurd (cc)
+  not_allowed false is at h = λ t. h (subst (λ (v : View). May z e v) (some-injective t.0 u (sym t.1.is_there ∙ at)) t.1.may)
+
+put_beside : (c : State) (w : Word) (n : ℕ) (vs : List View) → put (record c { views = vs }) w n ≡ record (put c w n) { views = vs }
+put_beside c the_threads n vs = refl
+put_beside c the_clock n vs = refl
+put_beside c the_turn n vs = refl
+put_beside c the_durable n vs = refl
+put_beside c the_reproduced n vs = refl
+put_beside c (the_lock k) n vs = refl
+put_beside c (the_entry k) n vs = refl
+put_beside c (the_touch k) n vs = refl
+put_beside c (the_cell k) n vs = refl
+put_beside c (the_box k) n vs = refl
+
+pub moved_is : (z : Setup) (c : State) (who : ℕ) (e : Event) (v : View) (w : Word) (n x : ℕ) (a d : State) → w ≡ name z e v → n ≡ found c w → x ≡ word_after e v n
+    → a ≡ record c { views = slice_set c.views who (view_after z e v n) } → d ≡ put a w x → d ≡ moved z c who v e
+moved_is z c who e v w n x a d w_is n_is x_is a_is d_is =
+    let m : n ≡ found c (name z e v) = n_is ∙ ap (found c) w_is in
+    let vs : ℕ → List View = λ (k : ℕ). slice_set c.views who (view_after z e v k) in
+    d_is ∙ (ap (λ (s : State). put s w x) a_is ∙ (put_beside c w x (vs n)
+    ∙ (ap (λ (y : Word). record (put c y x) { views = vs n }) w_is
+    ∙ (ap (λ (y : ℕ). record (put c (name z e v) y) { views = vs n }) x_is
+    ∙ ap (λ (k : ℕ). record (put c (name z e v) (word_after e v k)) { views = vs k }) m))))

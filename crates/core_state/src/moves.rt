@@ -1,0 +1,168 @@
+//! A step on one word by one view.
+
+ghost use Rattle.std.specs.Prelude.{◌≡◌, ◌<◌, ◌≤◌, true, slice_index, slice_set, OnOk, OnErr};
+ghost use mathlib.Core.Option.{some};
+ghost use lib.ListN.{get_elem?};
+ghost use Rattle.core_events.specs.Views.{View as Seen};
+ghost use Rattle.core_events.specs.Words.{found as found_in};
+ghost use Rattle.core_events.specs.Entries.{value_at, all_entries};
+ghost use Rattle.core_events.specs.Events.{name, word_after, view_after};
+ghost use Rattle.core_events.specs.Conditions.{May, Fits, IsAllowed, IsPersistedUpTo};
+ghost use Rattle.core_views.specs.Named.{Tells, word_of, event_of, of_turn, of_page};
+ghost use Rattle.core_state.specs.Steps.{IsReady, IsMoved};
+
+use crate::state::State;
+use crate::words::load;
+use core_views::deed::{Deed, PageDeed, TurnDeed};
+use core_views::setup::Setup;
+use core_views::view::View;
+use core_views::word::Word;
+use std::alloc::{AllocError, Global};
+
+impl State {
+    /// Whether the view `who` may make the event.
+    pub fn allows(&self, z: &Setup, who: u64, deed: &Deed) -> bool
+        ensures { Tells result ((v : Seen) × IsAllowed z.now self.now who (event_of deed.now) v) }
+    {
+        if who >= self.views.len() as u64 {
+            return false;
+        }
+        let view = &self.views[who as usize];
+        view.may(z, deed) && self.fits(z, view, deed)
+    }
+
+    // The rest of the state allows it.
+    fn fits(&self, z: &Setup, view: &View, deed: &Deed) -> bool
+        requires { May z.now (event_of deed.now) view.now }
+        ensures { Tells result (Fits z.now (event_of deed.now) self.now view.now) }
+    {
+        match deed {
+            Deed::Read(_) => true,
+            Deed::Write(_) => true,
+            Deed::Turn(deed) => self.turn_fits(z, view, deed),
+            Deed::Page(deed) => self.page_fits(z, view, deed),
+        }
+    }
+
+    fn turn_fits(&self, z: &Setup, view: &View, deed: &TurnDeed) -> bool
+        requires { May z.now (of_turn deed.now) view.now }
+        ensures { Tells result (Fits z.now (of_turn deed.now) self.now view.now) }
+    {
+        match deed {
+            TurnDeed::SeeBox => true,
+            TurnDeed::Post => true,
+            TurnDeed::TakeTurn => true,
+            TurnDeed::GiveTurn { failed: _ } => true,
+            TurnDeed::SeeFull {
+                thread: _,
+                place: _,
+            } => true,
+            TurnDeed::EmptyBox { thread, place } => self.is_full(z.box_of(*thread, *place)),
+            TurnDeed::RaiseDurable { value } => self.may_be_durable(z, *value),
+            TurnDeed::RaiseReproduced { value } => self.may_be_reproduced(*value),
+        }
+    }
+
+    fn is_full(&self, at: u64) -> bool
+        ensures { Tells result (0 < slice_index self.now.boxes at) }
+    {
+        0 < load(&self.boxes, at)
+    }
+
+    fn may_be_durable(&self, z: &Setup, value: u64) -> bool
+        ensures { Tells result ((self.now.durable ≤ value) × IsPersistedUpTo z.now self.now.persisted value) }
+    {
+        self.durable <= value && self.is_persisted_up_to(z, value)
+    }
+
+    fn may_be_reproduced(&self, value: u64) -> bool
+        ensures { Tells result ((self.now.reproduced ≤ value) × (value ≤ self.now.durable)) }
+    {
+        self.reproduced <= value && value <= self.durable
+    }
+
+    fn page_fits(&self, z: &Setup, view: &View, deed: &PageDeed) -> bool
+        ensures { Tells result (Fits z.now (of_page deed.now) self.now view.now) }
+    {
+        match deed {
+            PageDeed::Entry { page: _ } => true,
+            PageDeed::Pin { page: _ } => true,
+            PageDeed::Unpin { page: _ } => true,
+            PageDeed::Touch { page: _ } => true,
+            PageDeed::LoadTouch { page: _ } => true,
+            PageDeed::Evict { page: _ } => true,
+            PageDeed::Fill {
+                page,
+                frame,
+                at,
+                value,
+            } => {
+                self.is_free(z, *frame)
+                    && view.touch_is_up_to(*page, self.reproduced)
+                    && self.has_value(z, *at, *value)
+            }
+            PageDeed::Show { page: _, frame: _ } => true,
+        }
+    }
+
+    // This is the value of the home word at the reproduced number.
+    fn has_value(&self, z: &Setup, at: u64, value: u64) -> bool
+        ensures { Tells result (z.now.is_told ≡ true → value ≡ value_at z.now.opening (all_entries self.now.views) self.now.reproduced at) }
+    {
+        !z.is_told() || value == self.value_at(z, self.reproduced, at)
+    }
+
+    // The word and the view become what the event makes of them.
+    pub(crate) fn move_view(
+        &mut self,
+        alloc: Global,
+        z: &Setup,
+        who: u64,
+        deed: &Deed,
+    ) -> Result<(), AllocError>
+        requires { IsReady z.now self.old who (event_of deed.now) }
+        ensures ok { OnOk result (IsMoved z.now self.old who (event_of deed.now) self.new) }
+        ensures err { OnErr result (self.new ≡ self.old) }
+    {
+        let word = self.name_of(z, who, deed);
+        let found = self.found(word);
+        let value = self.word_after(z, who, deed, found);
+        self.advance(alloc, z, who, deed, word, found)?;
+        self.put(word, value);
+        Ok(())
+    }
+
+    fn name_of(&self, z: &Setup, who: u64, deed: &Deed) -> Word
+        requires { IsReady z.now self.now who (event_of deed.now) }
+        ensures { (v : Seen) → get_elem? self.now.views who ≡ some v → word_of result ≡ name z.now (event_of deed.now) v }
+    {
+        self.views[who as usize].name(z, deed)
+    }
+
+    fn word_after(&self, z: &Setup, who: u64, deed: &Deed, found: u64) -> u64
+        requires ready { IsReady z.now self.now who (event_of deed.now) }
+        requires found { (v : Seen) → get_elem? self.now.views who ≡ some v → found ≡ found_in self.now (name z.now (event_of deed.now) v) }
+        ensures { (v : Seen) → get_elem? self.now.views who ≡ some v → result ≡ word_after (event_of deed.now) v found }
+    {
+        self.views[who as usize].word_after(z, deed, found)
+    }
+
+    fn advance(
+        &mut self,
+        alloc: Global,
+        z: &Setup,
+        who: u64,
+        deed: &Deed,
+        word: Word,
+        found: u64,
+    ) -> Result<(), AllocError>
+        requires ready { IsReady z.now self.old who (event_of deed.now) }
+        requires name { (v : Seen) → get_elem? self.old.views who ≡ some v → word_of word ≡ name z.now (event_of deed.now) v }
+        requires found { (v : Seen) → get_elem? self.old.views who ≡ some v → found ≡ found_in self.old (name z.now (event_of deed.now) v) }
+        ensures ok { OnOk result ((v : Seen) → get_elem? self.old.views who ≡ some v → self.new ≡ record self.old { views = slice_set self.old.views who (view_after z.now (event_of deed.now) v found) }) }
+        ensures err { OnErr result (self.new ≡ self.old) }
+    {
+        self.views[who as usize].advance(alloc, z, deed, word, found)?;
+        Ok(())
+    }
+}

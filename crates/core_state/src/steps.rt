@@ -1,0 +1,145 @@
+//! Events and partings of views, on the state.
+
+ghost use Rattle.std.specs.Prelude.{◌≡◌, ◌∷◌, ◌<◌, Err, slice_index_or, slice_set, OnOk, OnErr};
+ghost use mathlib.Core.Option.{some};
+ghost use lib.ListN.{get_elem?};
+ghost use Rattle.core_events.specs.Views.{View as Seen};
+ghost use Rattle.core_events.specs.Events.{next_box, thread_of};
+ghost use Rattle.core_events.specs.Conditions.{IsAllowed, record_of, no_record};
+ghost use Rattle.core_events.specs.Partings.{Leads, event as step_event};
+ghost use Rattle.core_events.specs.Kept.{Kept};
+ghost use Rattle.core_views.specs.Named.{event_of};
+ghost use Rattle.core_state.specs.Steps.{IsOffAt};
+
+use crate::box_event::BoxEvent;
+use crate::core_refusal::CoreRefusal;
+use crate::state::State;
+use core_views::deed::Deed;
+use core_views::setup::Setup;
+use dude_base::redo::Redo;
+use std::alloc::{AllocError, Global};
+
+impl State {
+    /// Makes an event of the view `who` that a view makes by itself. It is `Off` only where the definitions don't allow it. After
+    /// an `Err` the state is as it was.
+    pub fn make(
+        &mut self,
+        alloc: Global,
+        z: &Setup,
+        who: u64,
+        deed: &Deed,
+    ) -> Result<(), CoreRefusal>
+        requires { Kept z.now self.old }
+        ensures ok { OnOk result (Leads z.now self.old (step_event who (event_of deed.now)) self.new) }
+        ensures err { OnErr result (self.new ≡ self.old) }
+        ensures off { result ≡ Err CoreRefusal.Off → IsOffAt z.now self.old (step_event who (event_of deed.now)) }
+    {
+        if !self.allows(z, who, deed) {
+            return Err(CoreRefusal::Off);
+        }
+        match self.make_allowed(alloc, z, who, deed) {
+            Ok(()) => Ok(()),
+            Err(AllocError) => Err(CoreRefusal::NoMemory),
+        }
+    }
+
+    fn make_allowed(
+        &mut self,
+        alloc: Global,
+        z: &Setup,
+        who: u64,
+        deed: &Deed,
+    ) -> Result<(), AllocError>
+        requires kept { Kept z.now self.old }
+        requires allowed { (v : Seen) × IsAllowed z.now self.old who (event_of deed.now) v }
+        ensures ok { OnOk result (Leads z.now self.old (step_event who (event_of deed.now)) self.new) }
+        ensures err { OnErr result (self.new ≡ self.old) }
+    {
+        match BoxEvent::of(deed) {
+            BoxEvent::Post => {
+                let record = self.record_of(who);
+                let at = self.next_box_of(z, who);
+                self.move_view(alloc, z, who, deed)?;
+                self.put_record(at, record);
+                Ok(())
+            }
+            BoxEvent::Empty { thread, place } => {
+                let at = z.box_of(thread, place);
+                self.persist(at)?;
+                match self.move_view(alloc, z, who, deed) {
+                    Ok(()) => {
+                        self.put_record(at, Redo::new(0));
+                        Ok(())
+                    }
+                    Err(fault) => {
+                        self.forget_last();
+                        Err(fault)
+                    }
+                }
+            }
+            BoxEvent::Other => {
+                self.move_view(alloc, z, who, deed)?;
+                Ok(())
+            }
+        }
+    }
+
+    // The record of the number that the view drew.
+    fn record_of(&self, who: u64) -> Redo
+        requires { (v : Seen) × (get_elem? self.now.views who ≡ some v) }
+        ensures { (v : Seen) → get_elem? self.now.views who ≡ some v → result ≡ record_of v.tx.hand }
+    {
+        self.views[who as usize].record()
+    }
+
+    fn next_box_of(&self, z: &Setup, who: u64) -> u64
+        requires there { (v : Seen) × (get_elem? self.now.views who ≡ some v) }
+        requires inside { (v : Seen) → get_elem? self.now.views who ≡ some v → (thread_of v < z.now.threads) × (v.box.next < z.now.boxes) }
+        ensures { (v : Seen) → get_elem? self.now.views who ≡ some v → result ≡ next_box z.now v }
+    {
+        self.views[who as usize].next_box(z)
+    }
+
+    fn put_record(&mut self, at: u64, posted: Redo)
+        ensures { self.new ≡ record self.old { records = slice_set self.old.records at posted } }
+    {
+        if at < self.records.len() as u64 {
+            self.records[at as usize] = posted;
+        }
+    }
+
+    // The record of the box joins those that left their boxes.
+    fn persist(&mut self, at: u64) -> Result<(), AllocError>
+        ensures ok { OnOk result (self.new ≡ record self.old { persisted = slice_index_or self.old.records at no_record ∷ self.old.persisted }) }
+        ensures err { OnErr result (self.new ≡ self.old) }
+    {
+        let record = self.record_at(at);
+        self.persisted.insert(0, record)?;
+        Ok(())
+    }
+
+    fn record_at(&self, at: u64) -> Redo
+        ensures { result ≡ slice_index_or self.now.records at no_record }
+    {
+        record_at(&self.records, at)
+    }
+
+    // The last record that left its box is forgotten.
+    fn forget_last(&mut self)
+        ensures { (r : _) (rs : _) → self.old.persisted ≡ r ∷ rs → self.new ≡ record self.old { persisted = rs } }
+    {
+        if !self.persisted.is_empty() {
+            self.persisted.remove(0);
+        }
+    }
+}
+
+fn record_at(records: &Vec<Redo>, at: u64) -> Redo
+    ensures { result ≡ slice_index_or records.now.items at no_record }
+{
+    if at < records.len() as u64 {
+        records[at as usize].copy()
+    } else {
+        Redo::new(0)
+    }
+}

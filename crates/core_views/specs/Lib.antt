@@ -1,0 +1,2 @@
+pub mod SetupKept
+pub mod Named
