@@ -20,5 +20,5 @@ line_bytes line = flat_map (to_le_bytes w64) line.words
 pub record IsRun (n : ℕ) (lines : List Line) : Type 0 where
   pub some : 1 ≤ n
   pub within : n ≤ length lines
-  pub most : n ≤ 64
+  pub most : n ≤ 1024
   pub next : (k : ℕ) → k < n → slice_index (map (λ line. line.number) lines) k ≡ slice_index (map (λ line. line.number) lines) 0 + k

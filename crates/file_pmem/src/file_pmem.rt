@@ -1,21 +1,27 @@
 use crate::clock::Clock;
 use crate::edge_fault::EdgeFault;
 use crate::image_file;
+use crate::spill::Spill;
 use crate::write_cache::WriteCache;
 use pmem_trait::{Failed, Medium};
+use std::fs::OpenFile;
+use std::io;
 use std::rt::Files as FileSystem;
 
 /// A medium in a file, of words with their lowest byte first. The words stand in memory, and a fence writes the lines
-/// that were noted, as they stood then, and syncs the file. Once 4,096 lines are noted, the next flush does so too. What
-/// the file holds is not known to a caller, and after `open` the medium takes no memory.
+/// that were noted, as they stood then, and syncs the file. Once 4,096 lines are noted, the next flush writes them too,
+/// and leaves the sync to the fence. What the file holds is not known to a caller, and after `open` the medium takes no
+/// memory.
 ///
 /// After a fence that failed the lines are still noted, and the next one writes them all again. The same holds after a
-/// flush that failed, which noted nothing itself. After a failed put the word is as it was.
+/// flush that failed, which noted nothing itself. Lines that a flush wrote are noted no more: where the fence fails that
+/// should have synced them, they may be lost, and each later fence fails. After a failed put the word is as it was.
 #[derive(Drop)]
 pub struct FilePmem<R: FileSystem> {
     rt: R,
     file: R::File,
     cache: WriteCache,
+    spill: Spill,
     clock: Clock,
 }
 
@@ -41,36 +47,51 @@ impl<R: FileSystem + AllocGlobal + Eprint + Drop> FilePmem<R> {
             rt,
             file,
             cache,
+            spill: Spill::Synced,
             clock: Clock::new(),
         })
     }
 }
 
 impl<R: FileSystem> FilePmem<R> {
-    ghost use Rattle.std.specs.Prelude.{◌≡◌, ◌<◌, ◌==◌, OnOk, OnErr, IsOk, [], is_ok, vec_len, if◌then◌else◌};
+    ghost use Rattle.std.specs.Prelude.{◌≡◌, ◌<◌, ◌==◌, OnOk, OnErr, IsOk, [], is_ok, ◌&&◌, false, if◌then◌else◌};
     ghost use Rattle.pmem_trait.specs.Faults.{faults_after};
-    ghost use Rattle.file_pmem.specs.FilePmem.{pmem_room, cached_words, noted_lines};
+    ghost use Rattle.file_pmem.specs.FilePmem.{pmem_room, noted_lines, HasLostLines};
+    ghost use Rattle.file_pmem.specs.Spill.{spill_fenced, spill_more};
+
+    /// Writes the noted lines and syncs the file. Nothing is synced where lines may be lost.
+    fn write_and_sync(&mut self) -> io::Result<()>
+        ensures lost { HasLostLines self.old → is_ok result ≡ false }
+        ensures cache { self.new.cache ≡ self.old.cache }
+        ensures spill { self.new.spill ≡ self.old.spill }
+        ensures clock { self.new.clock ≡ self.old.clock }
+    {
+        if self.spill == Spill::Lost {
+            return Err(io::ErrorKind::Other.into());
+        }
+        image_file::write_lines(&mut self.file, self.cache.noted())?;
+        self.file.sync_data()
+    }
 
     /// Writes the noted lines, syncs the file, and drops the notes. At an `Err` they stay: a later call writes them
     /// all once more, since a sync that failed may have lost what was written before it.
     fn settle(&mut self) -> Result<(), Failed>
         ensures noted { noted_lines self.new ≡ (if is_ok result then [] else noted_lines self.old) }
-        ensures words { cached_words self.new ≡ cached_words self.old }
-        ensures len { vec_len self.new.cache.words ≡ vec_len self.old.cache.words }
+        ensures words { self.new.cache.words ≡ self.old.cache.words }
         ensures room { OnOk result (pmem_room self.new ≡ 4096) }
+        ensures lost { HasLostLines self.old → is_ok result ≡ false }
+        ensures spill { self.new.spill ≡ spill_fenced (is_ok result) self.old.spill }
         ensures now { self.new.clock.now ≡ self.old.clock.now }
         ensures faults { self.new.clock.faults.count ≡ faults_after (is_ok result) self.old.clock.faults.count }
     {
-        match image_file::write_lines(&mut self.file, self.cache.noted()) {
-            Ok(()) => {
-                self.cache.drop_notes();
-                Ok(())
-            }
-            Err(_) => {
-                self.clock.fault();
-                Err(Failed)
-            }
+        let settled = self.write_and_sync().is_ok();
+        self.spill = self.spill.fenced(settled);
+        if !settled {
+            self.clock.fault();
+            return Err(Failed);
         }
+        self.cache.drop_notes();
+        Ok(())
     }
 
     /// Sees to it that there is room for a note: where none is left, the lines noted before are written.
@@ -79,26 +100,31 @@ impl<R: FileSystem> FilePmem<R> {
         ensures room { OnOk result (pmem_room self.new ≡ (if pmem_room self.old == 0 then 4096 else pmem_room self.old)) }
         ensures made { OnOk result (noted_lines self.new ≡ (if pmem_room self.old == 0 then [] else noted_lines self.old)) }
         ensures kept { OnErr result (noted_lines self.new ≡ noted_lines self.old) }
-        ensures words { cached_words self.new ≡ cached_words self.old }
-        ensures len { vec_len self.new.cache.words ≡ vec_len self.old.cache.words }
+        ensures words { self.new.cache.words ≡ self.old.cache.words }
+        ensures spill { self.new.spill ≡ (if is_ok result && pmem_room self.old == 0 then spill_more self.old.spill else self.old.spill) }
         ensures now { self.new.clock.now ≡ self.old.clock.now }
         ensures faults { self.new.clock.faults.count ≡ faults_after (is_ok result) self.old.clock.faults.count }
     {
-        if self.cache.is_full() {
-            self.settle()
-        } else {
-            Ok(())
+        if !self.cache.is_full() {
+            return Ok(());
         }
+        if image_file::write_lines(&mut self.file, self.cache.noted()).is_err() {
+            self.clock.fault();
+            return Err(Failed);
+        }
+        self.spill = self.spill.more();
+        self.cache.drop_notes();
+        Ok(())
     }
 }
 
 impl<R: FileSystem + Eprint> Medium for FilePmem<R> {
-    ghost use Rattle.std.specs.Prelude.{◌≡◌, ◌+◌, ◌-◌, ◌*◌, ◌^◌, ◌<◌, ◌≤◌, ◌==◌, nat_lt, is_ok, IfOk, IsTrue, OnOk, MatchResult, [], slice_index, slice_set, if◌then◌else◌};
+    ghost use Rattle.std.specs.Prelude.{◌≡◌, ◌+◌, ◌-◌, ◌*◌, ◌^◌, ◌<◌, ◌≤◌, ◌==◌, nat_lt, is_ok, IfOk, IsTrue, OnOk, MatchResult, false, [], slice_index, slice_set, if◌then◌else◌};
     ghost use Rattle.pmem_trait.specs.declared.call.Call.TheVariants.{Read, Put, Flush, Fence, Tell};
     ghost use Rattle.pmem_trait.specs.Words.{value_of};
     ghost use Rattle.pmem_trait.specs.Sights.{state_now, OneCall};
     ghost use Rattle.pmem_trait.specs.Faults.{faults_after};
-    ghost use Rattle.file_pmem.specs.FilePmem.{pmem_sight, pmem_room, cached_words, noted_lines};
+    ghost use Rattle.file_pmem.specs.FilePmem.{pmem_sight, pmem_room, cached_words, noted_lines, HasLostLines};
     ghost use Rattle.file_pmem.specs.Line.{NotesLine};
     ghost use Rattle.std.proofs.Common.{rules};
 
@@ -164,6 +190,10 @@ impl<R: FileSystem + Eprint> Medium for FilePmem<R> {
         ensures words { cached_words self.new ≡ cached_words self.old }
         ensures noted { noted_lines self.new ≡ (if is_ok result then [] else noted_lines self.old) }
         ensures room { OnOk result (pmem_room self.new ≡ 4096) }
+
+        // No fence says that lines are durable which may be lost.
+        ensures lost { HasLostLines self.old → is_ok result ≡ false }
+        ensures stays_lost { HasLostLines self.old → HasLostLines self.new }
     {
         self.clock.tick()?;
         self.settle()

@@ -1,9 +1,8 @@
-ghost use Rattle.std.specs.Prelude.{◌≡◌, ◌+◌, ◌*◌, ◌^◌, ◌<◌, ◌≤◌, length, IfOk, vec_len, vec_capacity, ◌/◌, ◌++◌, map, flat_map};
-ghost use Rattle.std.specs.Int.{w64, from_le_bytes};
-ghost use Rattle.std.specs.Simd.{first_chunks};
+ghost use Rattle.std.specs.Prelude.{◌≡◌, ◌*◌, ◌<◌, ◌≤◌, length, IfOk, flat_map};
 ghost use Rattle.file_pmem.specs.Line.{line_bytes, IsRun};
 
 use crate::edge_fault::EdgeFault;
+use crate::file_words::FileWords;
 use crate::line::{BYTES, Line};
 use std::alloc::Global;
 use std::fs::{File, OpenFile, OpenOptions};
@@ -17,8 +16,11 @@ const NEW_BYTES: usize = 33_554_432;
 
 const PIECE: usize = 65_536;
 
-/// Lines that are written at once.
-const RUN: usize = 64;
+/// The most lines that are written at once.
+const RUN: usize = 1024;
+
+/// Up to so many lines are written by way of few bytes.
+const SHORT_RUN: usize = 32;
 
 /// How many names are tried for a file that is being made.
 const NAMES: u64 = 100;
@@ -99,44 +101,27 @@ fn sync_folder(rt: &impl FileSystem, name: &str) -> io::Result<()> {
 pub(crate) fn read_words<F: Read + OpenFile>(
     alloc: Global,
     file: &mut F,
-) -> Result<Vec<u64>, EdgeFault>
-    ensures { IfOk result (λ words. vec_len words < 2 ^ 61) }
-{
+) -> Result<FileWords, EdgeFault> {
     let count = file.metadata()?.len() / 8;
-    let mut words = Vec::with_capacity(alloc, count as usize)?;
+    let mut words = FileWords::with_capacity(alloc, count)?;
     let mut piece = [0; PIECE];
-    while (words.len() as u64) < count {
-        let left = count - words.len() as u64;
+    while words.count < count {
+        let left = count - words.count;
         let bytes = &mut piece[..8 * left.min(PIECE as u64 / 8) as usize];
         file.read_exact(bytes)?;
-        append_words(&mut words, bytes);
+        words.append(bytes);
     }
     Ok(words)
 }
 
-/// Appends words, for which there is room.
-fn append_words(words: &mut Vec<u64>, bytes: &[u8])
-    requires { vec_len words.old + length bytes.now / 8 ≤ vec_capacity words.old }
-    ensures items { words.new.items ≡ words.old.items ++ map (from_le_bytes w64) (first_chunks 8 (length bytes.now / 8) bytes.now) }
-    ensures len { vec_len words.new ≡ vec_len words.old + length bytes.now / 8 }
-    ensures capacity { vec_capacity words.new ≡ vec_capacity words.old }
-{
-    for word in bytes.as_chunks::<8>().0 {
-        words.push_reserved(u64::from_le_bytes(*word));
-    }
-}
-
-/// Writes the lines in order and syncs the file.
-pub(crate) fn write_lines<F: Write + Seek + OpenFile>(
-    file: &mut F,
-    lines: &[Line],
-) -> io::Result<()> {
+/// Writes the lines in order, and doesn't sync them.
+pub(crate) fn write_lines<F: Write + Seek>(file: &mut F, lines: &[Line]) -> io::Result<()> {
     let mut rest = lines;
     while !rest.is_empty() {
         let written = write_run(file, rest)?;
         rest = &rest[written..];
     }
-    file.sync_data()
+    Ok(())
 }
 
 /// Writes the first lines, as far as they are one run, and answers how many.
@@ -145,12 +130,23 @@ fn write_run<F: Write + Seek>(file: &mut F, lines: &[Line]) -> io::Result<usize>
     ensures { IfOk result (λ n. IsRun n lines.now) }
 {
     let count = run_length(lines);
-    let mut bytes = [0; RUN * BYTES];
-    let run = &mut bytes[..BYTES * count];
-    store_lines(&lines[..count], run);
+    let run = &lines[..count];
     file.seek(SeekFrom::Start(BYTES as u64 * lines[0].number))?;
-    file.write_all(run)?;
+    if count <= SHORT_RUN {
+        write_through(file, run, &mut [0; SHORT_RUN * BYTES])?;
+    } else {
+        write_through(file, run, &mut [0; RUN * BYTES])?;
+    }
     Ok(count)
+}
+
+/// Writes the bytes of these lines at the file's place, by way of these bytes.
+fn write_through<F: Write>(file: &mut F, lines: &[Line], through: &mut [u8]) -> io::Result<()>
+    requires { 64 * length lines.now ≤ length through.old }
+{
+    let run = &mut through[..BYTES * lines.len()];
+    store_lines(lines, run);
+    file.write_all(run)
 }
 
 /// How many of the first lines lie one behind another in the file, as far as they are written at once.

@@ -8,8 +8,10 @@
 mod clock;
 mod edge_fault;
 mod file_pmem;
+mod file_words;
 mod image_file;
 mod line;
+mod spill;
 mod write_cache;
 
 pub use edge_fault::EdgeFault;

@@ -1,5 +1,6 @@
-ghost use Rattle.std.specs.Prelude.{◌^◌, ◌<◌, ◌≤◌, vec_len, vec_capacity};
+ghost use Rattle.std.specs.Prelude.{◌≤◌, vec_len, vec_capacity};
 
+use crate::file_words::FileWords;
 use crate::line::Line;
 use std::alloc::{AllocError, Global};
 
@@ -10,22 +11,21 @@ const NOTES: usize = 4096;
 /// no memory after it is made.
 #[derive(Drop)]
 pub struct WriteCache {
-    pub words: Vec<u64>,
+    pub words: FileWords,
     pub noted: Vec<Line>,
-    ghost small: { vec_len words < 2 ^ 61 },
     ghost within: { vec_len noted ≤ 4096 },
     ghost reserved: { 4096 ≤ vec_capacity noted },
 }
 
 impl WriteCache {
-    ghost use Rattle.std.specs.Prelude.{◌≡◌, ◌+◌, ◌-◌, ◌*◌, ◌^◌, ◌<◌, ◌≤◌, [], IfOk, vec_len, slice_index, slice_set, ◌==◌};
+    ghost use Rattle.std.specs.Prelude.{◌≡◌, ◌+◌, ◌-◌, ◌*◌, ◌<◌, ◌≤◌, [], IfOk, slice_index, slice_set, ◌==◌};
+    ghost use Rattle.file_pmem.specs.FileWords.{words_of};
     ghost use Rattle.file_pmem.specs.Line.{NotesLine};
     ghost use Rattle.file_pmem.specs.WriteCache.{note_room};
 
     /// These words, with no line noted and room for the notes.
-    pub(crate) fn new(alloc: Global, words: Vec<u64>) -> Result<WriteCache, AllocError>
-        requires { vec_len words < 2 ^ 61 }
-        ensures words { IfOk result (λ cache. cache.words.items ≡ words.items) }
+    pub(crate) fn new(alloc: Global, words: FileWords) -> Result<WriteCache, AllocError>
+        ensures words { IfOk result (λ cache. cache.words ≡ words) }
         ensures noted { IfOk result (λ cache. cache.noted.items ≡ []) }
         ensures room { IfOk result (λ cache. note_room cache ≡ 4096) }
     {
@@ -34,25 +34,25 @@ impl WriteCache {
     }
 
     pub(crate) fn len(&self) -> u64
-        ensures { result ≡ vec_len self.now.words }
+        ensures { result ≡ self.now.words.count }
     {
-        self.words.len() as u64
+        self.words.count
     }
 
     pub(crate) fn word(&self, at: u64) -> u64
-        requires { at < vec_len self.now.words }
-        ensures { result ≡ slice_index self.now.words.items at }
+        requires { at < self.now.words.count }
+        ensures { result ≡ slice_index (words_of self.now.words) at }
     {
-        self.words[at as usize]
+        self.words.get(at)
     }
 
     pub(crate) fn set(&mut self, at: u64, value: u64)
-        requires { at < vec_len self.old.words }
-        ensures words { self.new.words.items ≡ slice_set self.old.words.items at value }
-        ensures len { vec_len self.new.words ≡ vec_len self.old.words }
+        requires { at < self.old.words.count }
+        ensures words { words_of self.new.words ≡ slice_set (words_of self.old.words) at value }
+        ensures len { self.new.words.count ≡ self.old.words.count }
         ensures noted { self.new.noted.items ≡ self.old.noted.items }
     {
-        self.words[at as usize] = value;
+        self.words.set(at, value);
     }
 
     /// Whether there is no room for a further note.
@@ -64,13 +64,15 @@ impl WriteCache {
 
     /// Notes the values that the words of a line hold. There is room for the note.
     pub(crate) fn note(&mut self, number: u64)
-        requires inside { 8 * number + 8 ≤ vec_len self.old.words }
+        requires inside { 8 * number + 8 ≤ self.old.words.count }
         requires room { 0 < note_room self.old }
-        ensures noted { NotesLine self.old.words.items number self.old.noted.items self.new.noted.items }
+        ensures noted { NotesLine (words_of self.old.words) number self.old.noted.items self.new.noted.items }
         ensures room { note_room self.new ≡ note_room self.old - 1 }
-        ensures words { self.new.words ≡ self.old.words }
+        ensures words { words_of self.new.words ≡ words_of self.old.words }
+        ensures len { self.new.words.count ≡ self.old.words.count }
     {
-        self.noted.push_reserved(Line::of(&self.words, number));
+        let line = self.words.line(number);
+        self.noted.push_reserved(line);
     }
 
     pub(crate) fn noted(&self) -> &[Line]

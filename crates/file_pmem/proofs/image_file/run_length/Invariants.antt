@@ -6,4 +6,4 @@ abbrev pub invariant-loop-count : goal.invariant-loop-count
 invariant-loop-count l = IsRun l.count l.lines
 
 abbrev pub decreases-loop-count : goal.decreases-loop-count
-decreases-loop-count l = 64 - l.count
+decreases-loop-count l = 1024 - l.count

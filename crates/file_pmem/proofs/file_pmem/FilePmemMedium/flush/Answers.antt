@@ -1,5 +1,7 @@
-use Rattle.std.proofs.Common.{ap, subst, ◌∙◌, ◌++◌, ◌∷◌, [], List, ℕ}
+use Rattle.std.proofs.Common.{ap, subst, ◌∙◌, ◌++◌, ◌∷◌, [], List}
+use Rattle.file_pmem.specs.declared.file_words.FileWords.{FileWords}
 use Rattle.file_pmem.specs.declared.line.Line.{Line}
+use Rattle.file_pmem.specs.FileWords.{words_of}
 use Rattle.file_pmem.specs.Line.{IsLineOf}
 use Rattle.file_pmem.proofs.file_pmem.FilePmemMedium.flush.Goals as goal
 
@@ -8,5 +10,5 @@ returns-clause-noted g c =
     let note = c.note.ensures.noted in (
       note.0,
       note.1 ∙ ap (λ (lines : List Line). lines ++ note.0 ∷ []) c.in_ok-make_room.ensures.made,
-      subst (λ (words : List ℕ). IsLineOf words c.args.line note.0) c.in_ok-make_room.ensures.words note.2,
+      subst (λ (words : FileWords). IsLineOf (words_of words) c.args.line note.0) c.in_ok-make_room.ensures.words note.2,
     )

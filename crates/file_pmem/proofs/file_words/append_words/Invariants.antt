@@ -1,6 +1,6 @@
 use Rattle.std.proofs.Common.{◌≡◌, ◌+◌, ◌++◌, map, take, vec_len, vec_capacity}
 use Rattle.std.specs.Int.{w64, from_le_bytes}
-use Rattle.file_pmem.proofs.image_file.append_words.Given as goal
+use Rattle.file_pmem.proofs.file_words.append_words.Given as goal
 
 abbrev pub invariant-loop-word : goal.invariant-loop-word
 invariant-loop-word l = record {

@@ -1,0 +1,17 @@
+-- What became of lines that were written for want of room, with no sync of their own.
+use Rattle.std.specs.Prelude.{Bool, true, false}
+use Rattle.file_pmem.specs.declared.spill.Spill.{Spill}
+use Rattle.file_pmem.specs.declared.spill.Spill.TheVariants.{Synced, Unsynced, Lost}
+
+-- once more lines were written so
+abbrev pub spill_more : Spill → Spill
+spill_more Synced = Unsynced
+spill_more Unsynced = Unsynced
+spill_more Lost = Lost
+
+-- behind a fence: where it failed, what was not synced may be lost
+abbrev pub spill_fenced : Bool → Spill → Spill
+spill_fenced true _ = Synced
+spill_fenced false Synced = Synced
+spill_fenced false Unsynced = Lost
+spill_fenced false Lost = Lost
