@@ -1,3 +1,4 @@
 pub mod Causes
 pub mod FormatCalls
 pub mod NewImages
+pub mod Texts

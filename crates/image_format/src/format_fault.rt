@@ -21,6 +21,11 @@ pub enum FormatFault {
 }
 
 impl fmt::Display for FormatFault {
+    ghost use Rattle.std.specs.Prelude.{Some};
+    ghost use Rattle.image_format.specs.Texts.{fault_words};
+
+    ghost output = { λ fault. Some (fault_words fault) };
+
     fn fmt<W: fmt::Write>(&self, f: &mut fmt::Formatter<W>) -> fmt::Result {
         match self {
             FormatFault::Size { field } => SizeFault { field: *field }.fmt(f),

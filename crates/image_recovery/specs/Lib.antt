@@ -1,3 +1,4 @@
 pub mod Faults
 pub mod PlainImages
 pub mod Recovered
+pub mod Texts

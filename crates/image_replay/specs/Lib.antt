@@ -1,3 +1,4 @@
 pub mod Faults
 pub mod Header
 pub mod Replays
+pub mod Texts

@@ -18,6 +18,11 @@ pub enum ReplayFault {
 }
 
 impl fmt::Display for ReplayFault {
+    ghost use Rattle.std.specs.Prelude.{Some};
+    ghost use Rattle.image_replay.specs.Texts.{fault_words};
+
+    ghost output = { λ fault. Some (fault_words fault) };
+
     fn fmt<W: fmt::Write>(&self, f: &mut fmt::Formatter<W>) -> fmt::Result {
         match self {
             ReplayFault::Unformatted => f.write_str("there is no image"),
