@@ -3,6 +3,7 @@ pub mod ArraysOfRuns
 pub mod GoingOn
 pub mod HeldArrays
 pub mod LedLogs
+pub mod LoggedCalls
 pub mod NoTells
 pub mod OpenedLogs
 pub mod Persisting

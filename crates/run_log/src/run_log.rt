@@ -1,11 +1,14 @@
-ghost use Rattle.std.specs.Prelude.{◌≡◌, ℕ, ◌+◌, ◌*◌, ◌<◌, ◌≤◌, List, [], ◌∷◌, ◌++◌, All, IfOk, IsTrue, OnOk, false, is_ok};
+ghost use Rattle.std.specs.Prelude.{◌≡◌, ℕ, ◌+◌, ◌*◌, ◌<◌, ◌≤◌, List, [], ◌∷◌, ◌++◌, All, IfOk, IsTrue, OnOk, false, is_ok, true};
 ghost use Rattle.dude_base.specs.declared.limits.TheConstants.{MAX_NUMBER, PAGE};
 ghost use Rattle.dude_base.specs.Sizes.{IsAccepted};
-ghost use Rattle.pmem_trait.specs.Sights.{state_now};
-ghost use Rattle.back_store.specs.Back.{idle};
+ghost use Rattle.pmem_trait.specs.Sights.{CallsMade, state_now};
+ghost use Rattle.redo_record.specs.BackCalls.{announce_calls};
+ghost use Rattle.back_store.specs.Answers.{announced, reproduced};
+ghost use Rattle.back_store.specs.Back.{IsRingFull, idle};
 ghost use Rattle.back_store.specs.BackView.{medium_of, state_of};
 ghost use Rattle.image_opening.specs.Opened.{HoldsOpened};
 ghost use Rattle.run_log.specs.Arrays.{with_writes};
+ghost use Rattle.run_log.specs.LogCalls.{AppendedBy, BroughtHomeBy, Makes, PersistedBy, SettledBy, settled};
 
 use back_store::{Back, BackFault};
 use dude_base::redo::Redo;
@@ -60,6 +63,7 @@ impl<M: Medium> RunLog<M> {
         requires home { All (λ w. w.at < (log_sizes self.old).pages * PAGE) r.now.writes }
         ensures goes_on { GoesOn (is_ok result) self.old (M.sight (log_medium self.old)) self.new (M.sight (log_medium self.new)) }
         ensures done { IfOk result (λ room. IsTrue room → Appended r.now.writes self.old (M.sight (log_medium self.old)) self.new (M.sight (log_medium self.new))) }
+        ensures calls { IfOk result (λ room. IsTrue room → Makes (PersistedBy ring r.now (log_back self.old) (log_back self.new)) (M.sight (log_medium self.old)) (M.sight (log_medium self.new))) }
         ensures full { IfOk result (λ room. room ≡ false → WasFull ring r.now self.old (M.sight (log_medium self.old)) self.new (M.sight (log_medium self.new))) }
         ensures moments { RecoversOn (with_writes r.now.writes) self.old (M.sight (log_medium self.old)) (M.sight (log_medium self.new)) }
     {
@@ -84,6 +88,7 @@ impl<M: Medium> RunLog<M> {
         requires home { All (λ w. w.at < (log_sizes self.old).pages * PAGE) r.now.writes }
         ensures goes_on { GoesOn (is_ok result) self.old (M.sight (log_medium self.old)) self.new (M.sight (log_medium self.new)) }
         ensures done { OnOk result (Appended r.now.writes self.old (M.sight (log_medium self.old)) self.new (M.sight (log_medium self.new))) }
+        ensures calls { OnOk result (Makes (PersistedBy ring r.now (log_back self.old) (log_back self.new)) (M.sight (log_medium self.old)) (M.sight (log_medium self.new))) }
         ensures moments { RecoversOn (with_writes r.now.writes) self.old (M.sight (log_medium self.old)) (M.sight (log_medium self.new)) }
     {
         // Read for the proof alone: a record has few writes.
@@ -99,6 +104,8 @@ impl<M: Medium> RunLog<M> {
     fn reproduce_all(&mut self) -> Result<(), Failed>
         requires alive { IsAlive self.old }
         requires announced { log_durable self.old ≡ log_last self.old }
+        ensures back { OnOk result (log_back self.new ≡ reproduced (log_back self.old) (log_last self.old)) }
+        ensures calls { OnOk result (Makes (BroughtHomeBy (log_back self.old) (log_last self.old)) (M.sight (log_medium self.old)) (M.sight (log_medium self.new))) }
         ensures goes_on { GoesOn (is_ok result) self.old (M.sight (log_medium self.old)) self.new (M.sight (log_medium self.new)) }
         ensures told { OnOk result (IsTrue (M.sight (log_medium self.old)).is_visible → (state_now (M.sight (log_medium self.new))).told ≡ (state_now (M.sight (log_medium self.old))).told) }
         ensures numbers { OnOk result ((log_last self.new ≡ log_last self.old) × (log_durable self.new ≡ log_last self.old) × (log_reproduced self.new ≡ log_last self.old)) }
@@ -122,6 +129,10 @@ impl<M: Medium> RunLog<M> {
         requires home { All (λ w. w.at < (log_sizes self.old).pages * PAGE) r.now.writes }
         ensures goes_on { GoesOn (is_ok result) self.old (M.sight (log_medium self.old)) self.new (M.sight (log_medium self.new)) }
         ensures last { OnOk result (log_last self.new ≡ log_last self.old + 1) }
+        // At `Ok` the record is in this ring, and just the calls for that were made, or for settling and that where it was full.
+        ensures calls { OnOk result (Makes (AppendedBy ring r.now (log_back self.old) (log_back self.new)) (M.sight (log_medium self.old)) (M.sight (log_medium self.new))) }
+        ensures untold { OnOk result ((IsRingFull (log_back self.old) ring r.now → ⊥) → IsTrue (M.sight (log_medium self.old)).is_visible
+            → (state_now (M.sight (log_medium self.new))).told ≡ (state_now (M.sight (log_medium self.old))).told) }
         // The arrays get one more, and at each moment every image recovers to the last array or to that one.
         ensures follows { OnOk result (FollowsOn (with_writes r.now.writes) self.old (M.sight (log_medium self.old)) self.new (M.sight (log_medium self.new))) }
         ensures moments { RecoversOn (with_writes r.now.writes) self.old (M.sight (log_medium self.old)) (M.sight (log_medium self.new)) }
@@ -137,6 +148,8 @@ impl<M: Medium> RunLog<M> {
     pub fn announce(&mut self) -> Result<u64, Failed>
         requires alive { IsAlive self.old }
         ensures answer { IfOk result (λ number. number ≡ log_last self.old) }
+        ensures back { OnOk result (log_back self.new ≡ announced (log_back self.old) (log_last self.old)) }
+        ensures calls { OnOk result (CallsMade (announce_calls (log_last self.old)) true (M.sight (log_medium self.old)) (M.sight (log_medium self.new))) }
         ensures told { OnOk result (IsTrue (M.sight (log_medium self.old)).is_visible
             → (state_now (M.sight (log_medium self.new))).told ≡ (state_now (M.sight (log_medium self.old))).told ++ log_last self.old ∷ []) }
         ensures goes_on { GoesOn (is_ok result) self.old (M.sight (log_medium self.old)) self.new (M.sight (log_medium self.new)) }
@@ -155,6 +168,8 @@ impl<M: Medium> RunLog<M> {
     pub fn settle(&mut self) -> Result<u64, Failed>
         requires alive { IsAlive self.old }
         ensures answer { IfOk result (λ number. number ≡ log_last self.old) }
+        ensures back { OnOk result (log_back self.new ≡ settled (log_back self.old) (log_last self.old)) }
+        ensures calls { OnOk result (Makes (SettledBy (log_back self.old) (log_last self.old)) (M.sight (log_medium self.old)) (M.sight (log_medium self.new))) }
         ensures told { OnOk result (IsTrue (M.sight (log_medium self.old)).is_visible
             → (state_now (M.sight (log_medium self.new))).told ≡ (state_now (M.sight (log_medium self.old))).told ++ log_last self.old ∷ []) }
         ensures goes_on { GoesOn (is_ok result) self.old (M.sight (log_medium self.old)) self.new (M.sight (log_medium self.new)) }

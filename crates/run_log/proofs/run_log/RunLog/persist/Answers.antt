@@ -1,4 +1,5 @@
 use Rattle.std.proofs.Common.{refl, inl, arith}
+use Rattle.back_store.specs.Answers.{persist_calls}
 use Rattle.run_log.specs.RunLog.{log_back, log_last, log_medium}
 use Rattle.run_log.proofs.LedLogs.{durable_least, ring_newest}
 use Rattle.run_log.proofs.Persisting.{full_goes, persist_failed, persist_recovers, persisted, persisted_goes, was_full}
@@ -15,6 +16,17 @@ returns-in-Ok-clause-goes_on g c = persisted_goes c.args.self.now _ c.requires.a
 
 pub returns-in-Ok-clause-done : goal.returns-in-Ok-clause-done
 returns-in-Ok-clause-done g c _ = persisted c.args.self.now _ c.requires.alive c.args.ring c.args.r.now c.requires.ring c.requires.number _ _ c.in-Ok.ensures.len c.in-Ok.ensures.state refl (returns-in-Ok-clause-goes_on g c) c.in-Ok.ensures.keeps c.in-Ok.ensures.home_stays
+
+pub returns-in-Ok-clause-calls : goal.returns-in-Ok-clause-calls
+returns-in-Ok-clause-calls g c _ = (
+  persist_calls (log_back c.args.self.now) c.args.ring c.args.r.now,
+  record {
+    room = λ full. let bad = c.in-Ok.ensures.full.1 (c.requires.alive.alive, full) in absurd (cc);
+    back = c.in-Ok.ensures.state;
+    calls_are = refl;
+  },
+  c.in-Ok.ensures.calls,
+)
 
 pub returns-in-Ok-clause-moments : goal.returns-in-Ok-clause-moments
 returns-in-Ok-clause-moments g c = persist_recovers c.args.self.now _ c.requires.alive c.args.ring c.args.r.now c.requires.ring c.requires.number _ c.in-Ok.ensures.moments

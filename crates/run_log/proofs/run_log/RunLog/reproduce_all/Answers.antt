@@ -1,8 +1,23 @@
-use Rattle.std.proofs.Common.{refl, arith}
-use Rattle.run_log.specs.RunLog.{log_medium}
+use Rattle.std.proofs.Common.{◌≡◌, refl, ap, ◌∙◌, arith}
+use Rattle.run_log.specs.RunLog.{log_back, log_last, log_medium}
+use Rattle.back_store.specs.Answers.{reproduced, stop_after}
 use Rattle.run_log.proofs.GoingOn.{recovers_by}
+use Rattle.run_log.proofs.LedLogs.{stop_last}
+use Rattle.run_log.proofs.LoggedCalls.{reproduced_by}
 use Rattle.run_log.proofs.Reproducing.{all_numbers, reproduce_failed, reproduced_follows, reproduced_goes, reproduced_home, reproduced_told}
 use Rattle.run_log.proofs.run_log.RunLog.reproduce_all.Goals as goal
+
+pub returns-in-Ok-clause-back : goal.returns-in-Ok-clause-back
+returns-in-Ok-clause-back g c =
+    let v = log_back c.args.self.now in
+    let last : stop_after v 18446744073709551615 ≡ log_last c.args.self.now = stop_last v (log_last c.args.self.now) c.requires.alive 18446744073709551615 (omega arith) c.requires.announced in
+    c.in-Ok.ensures.state ∙ ap (λ n. reproduced v n) (c.in-Ok.ensures.answer ∙ last)
+
+pub returns-in-Ok-clause-calls : goal.returns-in-Ok-clause-calls
+returns-in-Ok-clause-calls g c =
+    let v = log_back c.args.self.now in
+    let last : stop_after v 18446744073709551615 ≡ log_last c.args.self.now = stop_last v (log_last c.args.self.now) c.requires.alive 18446744073709551615 (omega arith) c.requires.announced in
+    reproduced_by v _ (log_last c.args.self.now) _ _ _ last (c.in-Ok.ensures.calls c.requires.alive.alive)
 
 pub returns-in-Ok-clause-goes_on : goal.returns-in-Ok-clause-goes_on
 returns-in-Ok-clause-goes_on g c = reproduced_goes _ _ _ _ c.requires.alive refl c.in-Ok.ensures.len _ (omega arith) c.requires.announced c.in-Ok.field-0 c.in-Ok.ensures.state c.in-Ok.ensures.answer (c.in-Ok.ensures.calls c.requires.alive.alive)
