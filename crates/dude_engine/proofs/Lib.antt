@@ -1,6 +1,7 @@
 pub mod Arrays
 pub mod Numbering
 pub mod RunEnds
+pub mod Serving
 pub mod Steps
 pub mod Tellings
 pub mod Turns

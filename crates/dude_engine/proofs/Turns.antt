@@ -18,7 +18,7 @@ use Rattle.dude_engine.specs.declared.run.Run.{Run}
 use Rattle.dude_engine.specs.declared.run_fault.RunFault.{RunFault}
 use Rattle.dude_engine.specs.Opening.{Opening}
 use Rattle.dude_engine.specs.Requests.{request_count}
-use Rattle.dude_engine.specs.Running.{Adds, AddsTurn, AddsUnless, IsReady, Runs}
+use Rattle.dude_engine.specs.Running.{Adds, AddsTurn, AddsUnless, IsReady, Runs, ServesMore}
 
 -- ---- how many requests there are
 
@@ -122,6 +122,7 @@ pub record InRounds {M : Type 0} {ghosts : Ghosts M} (sight : M → Sight) (file
   pub number : log_last run.log ≤ log_last first.log + run.done.len
   pub rounds : Rounds files i k run.done.items
   pub left : (opening : Opening) (words : List ℕ) (s : Sight) → Runs opening words first s (sight (log_medium first.log)) → Runs opening words run s (sight (log_medium run.log))
+  pub calls : ServesMore first (sight (log_medium first.log)) run (sight (log_medium run.log))
 
 pub room_for : (files : List (List Request)) (i k : ℕ) (performed : List Done) (requests : List Request) → slice_get files k ≡ Some requests → i < length requests → Rounds files i k performed → length performed < request_count files
 room_for files i k performed requests there below run = by_request (got requests i below)

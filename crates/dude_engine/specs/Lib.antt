@@ -2,4 +2,5 @@ pub mod Opening
 pub mod Endings
 pub mod Plain
 pub mod Requests
+pub mod RunCalls
 pub mod Running

@@ -18,7 +18,8 @@ use Rattle.run_order.specs.Runs.{IsNumberedFrom}
 use Rattle.image_opening.specs.Opened.{HoldsOpened}
 use Rattle.run_log.specs.declared.run_log.RunLog.{RunLog}
 use Rattle.run_log.specs.Arrays.{RunArrays, array_at, last_number}
-use Rattle.run_log.specs.RunLog.{Follows, IsAlive, Tells, log_durable, log_last, log_sizes}
+use Rattle.run_log.specs.LogCalls.{Makes}
+use Rattle.run_log.specs.RunLog.{Follows, IsAlive, Tells, log_back, log_durable, log_last, log_sizes}
 use Rattle.dude_engine.specs.declared.ran.RanEnd.{RanEnd}
 use Rattle.dude_engine.specs.declared.ran.RanEnd.TheVariants.{Whole, Device as EndsOnDevice, NoMemory as EndsOnNoMemory}
 use Rattle.dude_engine.specs.declared.run.Run.{Run}
@@ -26,6 +27,7 @@ use Rattle.dude_engine.specs.declared.run_fault.RunFault.{RunFault}
 use Rattle.dude_engine.specs.declared.run_fault.RunFault.TheVariants.{Device, NoMemory}
 use Rattle.dude_engine.specs.Opening.{Opening, RecoversAt}
 use Rattle.dude_engine.specs.Endings.{AreSyncsTold, WasToldLast}
+use Rattle.dude_engine.specs.RunCalls.{ServedInTurn}
 
 -- the number of the last request performed, or the opening one
 abbrev pub last_performed : ℕ → List Done → ℕ
@@ -141,6 +143,12 @@ AddsTurn (Ok done) file index requests old new =
     ((request : Request) × (slice_get requests index ≡ Some request) × Adds file index request old new) ⊎ ((length requests ≤ index) × (new ≡ old))
 AddsTurn (Err fault) file index requests old new =
     ((request : Request) × (slice_get requests index ≡ Some request) × Adds file index request old new) ⊎ (new ≡ old)
+
+-- From one run to another some requests more are done, and exactly the calls that serve them were made.
+pub record ServesMore {M : Type 0} {ghosts : Ghosts M} (k : Run M ghosts) (s : Sight) (l : Run M ghosts) (t : Sight) : Type 0 where
+  pub more : List Done
+  pub done : l.done.items ≡ k.done.items ++ more
+  pub makes : Makes (ServedInTurn more (log_back k.log) (log_back l.log)) s t
 
 -- how a run ended, and whether no call failed
 abbrev pub end_by : Result (Unit {0}) RunFault → RanEnd

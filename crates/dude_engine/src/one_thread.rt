@@ -3,12 +3,13 @@ ghost use Rattle.dude_base.specs.declared.limits.TheConstants.{MAX_NUMBER};
 ghost use Rattle.pmem_trait.specs.Sights.{Risen};
 ghost use Rattle.tatp_model.specs.OneThread.{is_sync, RepliesOfOneThread};
 ghost use Rattle.run_order.specs.Runs.{SyncsFollow};
-ghost use Rattle.back_store.specs.BackView.{medium_of};
+ghost use Rattle.back_store.specs.BackView.{medium_of, state_of};
 ghost use Rattle.image_opening.specs.Opened.{IsOpened};
 ghost use Rattle.dude_engine.specs.declared.ran.RanEnd.TheVariants.{Whole, Device};
 ghost use Rattle.dude_engine.specs.Opening.{Opening};
 ghost use Rattle.dude_engine.specs.Endings.{AreSyncsTold};
 ghost use Rattle.dude_engine.specs.Requests.{AreInRange, request_count};
+ghost use Rattle.dude_engine.specs.RunCalls.{MakesItsCalls};
 ghost use Rattle.dude_engine.specs.Running.{end_by};
 ghost use Rattle.dude_engine.specs.Plain.{IsLastTold, IsOpeningOf, IsWhole, PerformsInRounds, RanUnlessDevice, RecoversOnTheRun};
 
@@ -47,6 +48,7 @@ pub fn plain<M: Medium>(alloc: Global, opened: Opened<M>, files: &[Vec<Request>]
     // End: how it ends, and what is told.
     ensures whole { result.end ≡ Whole → (opening : Opening) → IsOpeningOf opened opening
         → IsWhole opening opened.words.items (map (λ f. f.items) files.now) result.done.items result.last (M.sight (medium_of opened.back)) (M.sight result.medium) }
+    ensures calls { result.end ≡ Whole → MakesItsCalls (state_of opened.back) result.done.items result.last (M.sight (medium_of opened.back)) (M.sight result.medium) }
     ensures last_told { IsTrue (M.sight (medium_of opened.back)).is_visible → (opening : Opening) → IsOpeningOf opened opening
         → IsLastTold result.end opening result.last (M.sight (medium_of opened.back)) (M.sight result.medium) }
     ensures ran { RanUnlessDevice result.end (M.sight (medium_of opened.back)) (M.sight result.medium) }

@@ -7,10 +7,12 @@ ghost use Rattle.tatp_model.specs.declared.request.Request.TheVariants.{Sync};
 ghost use Rattle.tatp_model.specs.OneThread.{HoldsAll, PrecedesInFiles, is_changed, is_sync};
 ghost use Rattle.tatp_model.specs.Request.{IsInRange};
 ghost use Rattle.run_order.specs.Runs.{Collects, PrecedesInRounds};
-ghost use Rattle.run_log.specs.RunLog.{log_durable, log_last, log_medium};
+ghost use Rattle.run_log.specs.LogCalls.{Makes};
+ghost use Rattle.run_log.specs.RunLog.{log_back, log_durable, log_last, log_medium};
 ghost use Rattle.dude_engine.specs.Opening.{Opening};
 ghost use Rattle.dude_engine.specs.Requests.{AreInRange, request_count};
-ghost use Rattle.dude_engine.specs.Running.{AddsTurn, AddsUnless, IsChanging, IsLeft, IsReady, IsSettledRun, Runs};
+ghost use Rattle.dude_engine.specs.RunCalls.{RunBy};
+ghost use Rattle.dude_engine.specs.Running.{AddsTurn, AddsUnless, IsChanging, IsLeft, IsReady, IsSettledRun, Runs, ServesMore};
 
 use crate::run_fault::RunFault;
 use pmem_trait::Medium;
@@ -44,6 +46,7 @@ impl<M: Medium> Run<M> {
         ensures rounds { AllPairs PrecedesInRounds self.new.done.items }
         ensures collects { (done : List Done) → IsPermutation self.new.done.items done → AllPairs PrecedesInFiles done → Collects (map (λ f. f.items) files.now) self.new.done.items done }
         ensures all { OnOk result ((done : List Done) → IsPermutation self.new.done.items done → AllPairs PrecedesInFiles done → HoldsAll (map (λ f. f.items) files.now) done) }
+        ensures calls { OnOk result (Makes (RunBy (log_back self.old.log) self.new.done.items (log_durable self.new.log)) (M.sight (log_medium self.old.log)) (M.sight (log_medium self.new.log))) }
         ensures settled { OnOk result ((opening : Opening) (words : List ℕ) (s : Sight) → Runs opening words self.old s (M.sight (log_medium self.old.log))
             → IsSettledRun opening words (log_durable self.new.log) self.new.done.items s (M.sight (log_medium self.new.log))) }
     {
@@ -65,6 +68,7 @@ impl<M: Medium> Run<M> {
         ensures ready { OnOk result (IsReady self.new) }
         ensures left { (opening : Opening) (words : List ℕ) (s : Sight) → Runs opening words self.old s (M.sight (log_medium self.old.log))
             → IsLeft result opening words self.new s (M.sight (log_medium self.new.log)) }
+        ensures calls { OnOk result (ServesMore self.old (M.sight (log_medium self.old.log)) self.new (M.sight (log_medium self.new.log))) }
         ensures rounds { AllPairs PrecedesInRounds self.new.done.items }
         ensures collects { (done : List Done) → IsPermutation self.new.done.items done → AllPairs PrecedesInFiles done → Collects (map (λ f. f.items) files.now) self.new.done.items done }
         ensures all { OnOk result ((done : List Done) → IsPermutation self.new.done.items done → AllPairs PrecedesInFiles done → HoldsAll (map (λ f. f.items) files.now) done) }
@@ -92,6 +96,7 @@ impl<M: Medium> Run<M> {
         ensures adds { AddsTurn result file index requests.now self.old.done.items self.new.done.items }
         ensures left { (opening : Opening) (words : List ℕ) (s : Sight) → Runs opening words self.old s (M.sight (log_medium self.old.log))
             → IsLeft result opening words self.new s (M.sight (log_medium self.new.log)) }
+        ensures calls { OnOk result (ServesMore self.old (M.sight (log_medium self.old.log)) self.new (M.sight (log_medium self.new.log))) }
     {
         match requests.get(index as usize) {
             Some(request) => self.serve(file, index, request),
@@ -113,6 +118,7 @@ impl<M: Medium> Run<M> {
         ensures adds { AddsUnless result file index request.now self.old.done.items self.new.done.items }
         ensures left { (opening : Opening) (words : List ℕ) (s : Sight) → Runs opening words self.old s (M.sight (log_medium self.old.log))
             → IsLeft result opening words self.new s (M.sight (log_medium self.new.log)) }
+        ensures calls { OnOk result (ServesMore self.old (M.sight (log_medium self.old.log)) self.new (M.sight (log_medium self.new.log))) }
     {
         match request {
             Request::Sync => self.serve_sync(file, index),
@@ -131,6 +137,7 @@ impl<M: Medium> Run<M> {
         ensures adds { AddsUnless result file index Sync self.old.done.items self.new.done.items }
         ensures left { (opening : Opening) (words : List ℕ) (s : Sight) → Runs opening words self.old s (M.sight (log_medium self.old.log))
             → IsLeft result opening words self.new s (M.sight (log_medium self.new.log)) }
+        ensures calls { OnOk result (ServesMore self.old (M.sight (log_medium self.old.log)) self.new (M.sight (log_medium self.new.log))) }
     {
         let number = self.log.announce()?;
         self.note(file, index, number, Request::Sync, Reply::Durable);
@@ -152,6 +159,7 @@ impl<M: Medium> Run<M> {
         ensures adds { AddsUnless result file index request.now self.old.done.items self.new.done.items }
         ensures left { (opening : Opening) (words : List ℕ) (s : Sight) → Runs opening words self.old s (M.sight (log_medium self.old.log))
             → IsLeft result opening words self.new s (M.sight (log_medium self.new.log)) }
+        ensures calls { OnOk result (ServesMore self.old (M.sight (log_medium self.old.log)) self.new (M.sight (log_medium self.new.log))) }
     {
         let reply = match run_request(&self.lay, &mut self.words, request) {
             Ok(reply) => reply,
@@ -186,6 +194,7 @@ impl<M: Medium> Run<M> {
         ensures adds { AddsUnless result file index request.now self.old.done.items self.new.done.items }
         ensures left { (opening : Opening) (words : List ℕ) (s : Sight) → Runs opening words self.old s (M.sight (log_medium self.old.log))
             → IsLeft result opening words self.new s (M.sight (log_medium self.new.log)) }
+        ensures calls { OnOk result (ServesMore self.old (M.sight (log_medium self.old.log)) self.new (M.sight (log_medium self.new.log))) }
     {
         let number = self.log.last() + 1;
         let redo = self.words.take(number);

@@ -5,15 +5,18 @@ use Rattle.pmem_trait.specs.Sights.{Sight, Risen, state_now}
 use Rattle.tatp_model.specs.OneThread.{PrecedesInFiles}
 use Rattle.run_order.specs.Runs.{Collects}
 use Rattle.run_order.proofs.Apart.{rounds_apart}
-use Rattle.back_store.specs.BackView.{medium_of}
+use Rattle.back_store.specs.BackView.{medium_of, state_of}
 use Rattle.word_space.specs.Flats.{words_of}
-use Rattle.run_log.specs.RunLog.{Tells, log_durable, log_medium}
+use Rattle.run_log.specs.LogCalls.{Makes}
+use Rattle.run_log.specs.RunLog.{Tells, log_back, log_durable, log_medium}
 use Rattle.dude_engine.specs.declared.ran.RanEnd.{RanEnd}
 use Rattle.dude_engine.specs.declared.ran.RanEnd.TheVariants.{Device}
 use Rattle.dude_engine.specs.Opening.{Opening}
 use Rattle.dude_engine.specs.Plain.{IsLastTold, IsOpeningOf}
+use Rattle.dude_engine.specs.RunCalls.{RunBy}
 use Rattle.dude_engine.specs.Running.{IsLeft, IsRunning, IsSettledRun, end_by, went_well}
 use Rattle.dude_engine.proofs.RunEnds.{Ended, begins, cause_by, device_by, ended_by, follow_of, from_of, on_whole, performs_in_rounds, recovers_of, replies_of, syncs_of, well_by, whole_of}
+use Rattle.dude_engine.proofs.Serving.{makes_its_calls}
 use Rattle.dude_engine.proofs.one_thread.plain.Goals as goal
 
 pub returns : goal.returns
@@ -55,6 +58,10 @@ returns g c =
           whole_of opening files performed done same collects rounds (at opening is).answered o.words.items c.durable-last.result s u (on_whole served ended c.run_all-served.ensures.all done same sorted)
           (subst (λ (v : Sight). IsSettledRun opening o.words.items c.durable-last.result performed s v) (sym still)
           (subst (λ (n : ℕ). IsSettledRun opening o.words.items n performed s t) (sym c.durable-last.ensures) settled));
+      calls = λ whole.
+          let makes : Makes (RunBy (log_back c.new.result) performed (log_durable run.log)) (g.M.Medium.sight (log_medium c.new.result)) t = on_whole served (sym c.end_of.ensures ∙ whole) c.run_all-served.ensures.calls in
+          makes_its_calls (log_back c.new.result) (state_of o.back) performed done (log_durable run.log) c.durable-last.result (g.M.Medium.sight (log_medium c.new.result)) s t u c.new.ensures.back
+          (ap (λ m. g.M.Medium.sight m) c.new.ensures.medium) still c.durable-last.ensures same rounds makes;
       last_told = λ visible opening is.
           subst (λ (e : RanEnd). IsLastTold e opening c.durable-last.result s u) (sym c.end_of.ensures)
           (subst (λ (n : ℕ). IsLastTold (end_by served) opening n s u) (sym c.durable-last.ensures)

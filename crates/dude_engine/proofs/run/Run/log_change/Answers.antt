@@ -12,6 +12,7 @@ use Rattle.run_log.specs.RunLog.{log_durable, log_medium}
 use Rattle.dude_engine.specs.declared.run_fault.RunFault.TheVariants.{Device}
 use Rattle.dude_engine.specs.Running.{HasFailed, IsRunning, tables_after}
 use Rattle.dude_engine.proofs.Numbering.{IsNext}
+use Rattle.dude_engine.proofs.Serving.{serves_logged}
 use Rattle.dude_engine.proofs.Steps.{failed_write, left_failed, running_write, served_next, served_stands}
 use Rattle.dude_engine.proofs.run.Run.log_change.Goals as goal
 
@@ -55,3 +56,10 @@ returns-clause-left g c opening words s run =
     next refl c.requires.no_sync (new_is ∙ ap (λ (ws : List Write). overwritten ws (words_of self.words)) same_writes)
     (served_stands opening self.lay self.done.items d (words_of c.take-redo.new.self) run.layout served) c.append.ensures.moments run
     c.in_ok-append.ensures.last c.in_ok-append.ensures.goes_on c.in_ok-append.ensures.follows)
+
+pub returns-clause-calls : goal.returns-clause-calls
+returns-clause-calls g c =
+    let self = c.args.self.now in
+    let d : Done = record { file = c.args.file; index = c.args.index; number = c.last-number.result + 1; wrote = true; request = c.args.request.now; reply = Changed } in
+    let number : c.take-redo.result.number ≡ d.number = ap (λ (r : RedoRecord). r.number) c.take-redo.ensures.record in
+    serves_logged self _ d c.take-redo.result (g.M.Medium.sight (log_medium self.log)) (g.M.Medium.sight (log_medium c.append.new.self)) c.push_reserved.ensures.items refl number c.in_ok-append.ensures.calls

@@ -10,6 +10,7 @@ use Rattle.word_space.specs.Flats.{words_of, flat_sight, flat_below, fresh}
 use Rattle.run_log.specs.RunLog.{log_last, log_medium}
 use Rattle.dude_engine.specs.Running.{IsRunning, tables_after}
 use Rattle.dude_engine.proofs.Numbering.{IsNext}
+use Rattle.dude_engine.proofs.Serving.{serves_silent}
 use Rattle.dude_engine.proofs.Steps.{ready_same, running_read, runs_same, served_next, unchanged}
 use Rattle.dude_engine.proofs.run.Run.perform.Goals as goal
 
@@ -53,6 +54,7 @@ returns-in_default g c =
       room = c.note.ensures.room;
       number = omega (arith, ap (λ l. log_last l) c.note.ensures.log);
       adds = record { entry = d; added = c.note.ensures.done; file_is = refl; index_is = refl; asked = refl };
+      calls = serves_silent self c.note.new.self d (g.M.Medium.sight (log_medium self.log)) (g.M.Medium.sight (log_medium c.note.new.self.log)) c.note.ensures.done refl c.requires.no_sync c.note.ensures.log (ap (λ l. g.M.Medium.sight (log_medium l)) c.note.ensures.log);
       left = λ opening words s run.
           let stands : StandsFor self.lay (words_of w) (tables_after opening self.done.items) =
           subst (λ (z : Sizes). StandsFor z (words_of w) (tables_after opening self.done.items)) run.layout (subst (λ (l : List ℕ). StandsFor opening.sizes l (tables_after opening self.done.items)) (sym same) run.stands) in

@@ -9,6 +9,7 @@ use Rattle.run_log.specs.RunLog.{log_medium}
 use Rattle.run_order.proofs.Rounds.{Rounds, found_mapped, rounds_all, rounds_collect, rounds_rounds, rounds_start, rounds_turn}
 use Rattle.dude_engine.specs.declared.run_fault.RunFault.{RunFault}
 use Rattle.dude_engine.specs.Running.{IsLeft}
+use Rattle.dude_engine.proofs.Serving.{serves_none, serves_then}
 use Rattle.dude_engine.proofs.Turns.{all_at, room_for, turn_last, turn_next}
 use Rattle.dude_engine.proofs.run.Run.serve_all.Goals as goal
 
@@ -20,6 +21,7 @@ loop-index-init g c = record {
   number = omega arith;
   rounds = subst (λ (done : List Done). Rounds (map (λ f. f.items) c.args.files.now) 0 0 done) (sym c.requires.empty) (rounds_start (map (λ f. f.items) c.args.files.now));
   left = λ opening words s run. run;
+  calls = serves_none c.args.self.now (g.M.Medium.sight (log_medium c.args.self.now.log));
 }
 
 pub serve_turn-requires-clause-room : goal.serve_turn-requires-clause-room
@@ -59,6 +61,7 @@ loop-file-preserved g c =
       number = omega (arith, ok.number, i.number);
       rounds = turn_next files c.loop-index.index c.loop-file.file c.deref.result.now c.loop-file.self.done.items c.serve_turn.new.self.done.items there ok.adds i.rounds;
       left = λ opening words s run. ok.left opening words s (i.left opening words s run);
+      calls = serves_then c.args.self.now c.loop-file.self c.serve_turn.new.self (g.M.Medium.sight (log_medium c.args.self.now.log)) (g.M.Medium.sight (log_medium c.loop-file.self.log)) (g.M.Medium.sight (log_medium c.serve_turn.new.self.log)) i.calls ok.calls;
     }
 
 pub loop-index-preserved : goal.loop-index-preserved
@@ -73,6 +76,7 @@ loop-index-preserved g c =
       number = i.number;
       rounds = rounds_turn files c.loop-index.index c.loop-file.self.done.items (subst (λ (k : ℕ). Rounds files c.loop-index.index k c.loop-file.self.done.items) all i.rounds);
       left = i.left;
+      calls = i.calls;
     }
 
 pub returns-in_err-serve_turn-clause-left : goal.returns-in_err-serve_turn-clause-left
