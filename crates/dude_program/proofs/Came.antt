@@ -22,7 +22,7 @@ use Rattle.dude_fault.specs.declared.fault.Fault.TheVariants.{Device, Memory}
 use Rattle.command_openings.specs.Begun.{Begins}
 use Rattle.command_openings.specs.Openings.{IsOpeningOn, new_opening}
 use Rattle.command_openings.proofs.OneOpening.{one_opening}
-use Rattle.dude_program.specs.Opening.{RequestsAre, Starts, makes_image}
+use Rattle.dude_program.specs.Opening.{RequestsAre, Starts, makes_image, runs_requests}
 use Rattle.dude_program.specs.Headline.{Replies}
 use Rattle.dude_program.specs.Causes.{RanUnlessDevice, RefusesFormat, RefusesOpening}
 use Rattle.dude_program.specs.Work.{RanOver}
@@ -88,6 +88,7 @@ module _ {meaning : Meaning} {f g : FilesSight} {opening : Opening} {words : Lis
     crash = crash_front meaning opening s m (begins_front (makes_image meaning) opening words s m begun.begins);
     sync = sync_none s m;
     ran = begun_well other;
+    nothing = λ opens told why refuses. refl;
     cause = by;
   }
 
@@ -112,7 +113,7 @@ module _ {meaning : Meaning} {f g : FilesSight} {opening : Opening} {words : Lis
   ran_behind ran = (ran.0, ran_then begun.begins.ran ran.1, ran.2)
 
   -- a command whose requests were run
-  module _ {requests : List (List Request)} {done : List Done} {last : ℕ} {t : Sight} (are : RequestsAre meaning f opening requests)
+  module _ {requests : List (List Request)} {done : List Done} {last : ℕ} {t : Sight} (runs : runs_requests meaning ≡ true) (are : RequestsAre meaning f opening requests)
       (passes : makes_image meaning ≡ false → IsTrue f.is_visible → (why : Fault) → RefusesOpening meaning f opening why → ⊥) where
     abbrev replies_run : {fault : Option Fault} → RanOver opening words requests done last fault m t → Replies meaning f opening done
     replies_run run = record { requests = requests; read = are; answered = run.replies; syncs_from = run.syncs_from }
@@ -126,9 +127,10 @@ module _ {meaning : Meaning} {f g : FilesSight} {opening : Opening} {words : Lis
       on = begun.on;
       fits = begun.fits;
       replies = inr (replies_run run);
-      crash = crash_run meaning opening words requests done s m t run.ran.0 begun.begins run.replies run.moments run.ran.1;
+      crash = crash_run meaning opening words requests done s m t run.ran.0 runs begun.begins run.replies run.moments run.ran.1;
       sync = sync_run (makes_image meaning) opening words done s m t begun.begins run.syncs_follow run.syncs_told;
       ran = ran_behind run.ran;
+      nothing = λ opens told why refuses. absurd (passes opens told why refuses);
       cause = by;
     }
 

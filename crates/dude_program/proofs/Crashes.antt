@@ -23,8 +23,9 @@ use Rattle.dude_engine.specs.Endings.{AreSyncsTold, End, WasToldLast}
 use Rattle.dude_engine.specs.Opening.{Opening, RecoversAt, RecoversFrom, last_of}
 use Rattle.dude_engine.specs.Plain.{RecoversOnTheRun}
 use Rattle.command_openings.specs.Begun.{Begins, IsBeginning, ShowsOpening, TellsAtMost}
-use Rattle.dude_program.specs.Opening.{IsReachable, makes_image}
+use Rattle.dude_program.specs.Opening.{IsReachable, makes_image, runs_requests}
 use Rattle.dude_program.specs.Headline.{Crash, RecoversSince, Sync, WasToldFirst}
+use Rattle.dude_program.specs.Causes.{IsLeftOpened}
 
 -- ---- numbers
 
@@ -116,15 +117,16 @@ crash_front meaning opening s t front = record {
   printed = printed_none;
   keeps = every_moment_weaker (λ told image size shown. shows_since meaning (length (state_now s).told) opening [] told image refl shown) front.moments;
   first_told = λ visible. told_first opening s t (front.told visible);
+  told_alone = λ alone visible. front.told visible;
 }
 
 pub begins_front : (makes : Bool) (opening : Opening) (words : List ℕ) (s t : Sight) → Begins makes opening words s t → IsBeginning makes opening s t
 begins_front makes opening words s t begins = record { moments = begins.moments; told = λ visible. inr (begins.told visible) }
 
 -- where requests were run
-pub crash_run : (meaning : Meaning) (opening : Opening) (words : List ℕ) (requests : List (List Request)) (done : List Done) (s m t : Sight) (ok : Bool) → Begins (makes_image meaning) opening words s m
+pub crash_run : (meaning : Meaning) (opening : Opening) (words : List ℕ) (requests : List (List Request)) (done : List Done) (s m t : Sight) (ok : Bool) → runs_requests meaning ≡ true → Begins (makes_image meaning) opening words s m
     → RepliesOfOneThread opening.number opening.sizes.calls opening.database requests done → RecoversOnTheRun opening words done m t → SomeCalls ok m t → Crash meaning opening done s t
-crash_run meaning opening words requests done s m t ok begins replies moments calls =
+crash_run meaning opening words requests done s m t ok runs begins replies moments calls =
     let run = moments (length (state_now s).told) begins.holds in
     let start = none_at_opening opening.sizes.calls opening.number opening.database done run.0 run.1 replies.over in
     record {
@@ -139,6 +141,7 @@ crash_run meaning opening words requests done s m t ok begins replies moments ca
             ap (drop (length (state_now s).told)) (more.is ∙ (ap (λ (l : List ℕ). l ++ more.more) (begins.told visible) ∙ append_assoc (state_now s).told (opening.number ∷ []) more.more))
                 ∙ drop-append_seam (state_now s).told (opening.number ∷ more.more),
           );
+      told_alone = λ alone visible. absurd (let no : ⊥ = cc in no);
     }
 
 -- it is said of each opening, since a visible medium has one
@@ -146,11 +149,13 @@ pub crash_each : (meaning : Meaning) (opening other : Opening) (done : List Done
 crash_each meaning opening other done s t same crash =
     let P : Opening → Type 0 = λ o. AtEveryMoment (RecoversSince meaning (length (state_now s).told) o crash.order) s t in
     let Q : Opening → Type 0 = λ o. WasToldFirst o.number s t in
+    let R : Opening → Type 0 = λ o. TellsAtMost o.number s t in
     record {
       order = crash.order;
       printed = crash.printed;
       keeps = record { later = crash.keeps.later; each = λ visible. (subst P (sym (same visible)) crash.keeps).each visible };
       first_told = λ visible. subst Q (sym (same visible)) (crash.first_told visible);
+      told_alone = λ alone visible. subst R (sym (same visible)) (crash.told_alone alone visible);
     }
 
 -- ---- what is told
@@ -184,23 +189,31 @@ end_run makes opening words done last s m t begins visible end = record {
   images = end.images;
 }
 
--- the opening number was told last, and every image recovers to it
-pub end_begun : (makes : Bool) (opening : Opening) (words : List ℕ) (s t : Sight) → Begins makes opening words s t → IsTrue s.is_visible → End opening [] opening.number s t
-end_begun makes opening words s t begins visible =
-    let told = begins.told visible in
-    let P : ℕ → Type 0 = λ len. EveryImage len (λ told image. RecoversAt opening [] image opening.number) (state_now t) in
-    record {
-      told = ((state_now s).told, told, omega arith);
-      order = [];
-      printed = printed_none;
-      images = subst P (sym begins.moments.later.len) (record {
-        each = λ image is. shown image ((begins.moments.each visible t.now begins.moments.later.now (omega arith)).each image is);
-      });
-    }
+-- every image recovers to the opening
+images_begun : (makes : Bool) (opening : Opening) (words : List ℕ) (s t : Sight) → Begins makes opening words s t → IsTrue s.is_visible
+    → EveryImage t.len (λ told image. RecoversTo image opening.number opening.sizes opening.database) (state_now t)
+images_begun makes opening words s t begins visible =
+    let P : ℕ → Type 0 = λ len. EveryImage len (λ told image. RecoversTo image opening.number opening.sizes opening.database) (state_now t) in
+    subst P (sym begins.moments.later.len) (record {
+      each = λ image is. shown image ((begins.moments.each visible t.now begins.moments.later.now (omega arith)).each image is);
+    })
   where
-    shown : (image : List ℕ) → ShowsOpening makes (length (state_now s).told) opening (state_now t).told image → RecoversAt opening [] image opening.number
+    shown : (image : List ℕ) → ShowsOpening makes (length (state_now s).told) opening (state_now t).told image → RecoversTo image opening.number opening.sizes opening.database
     shown image (inl none) =
         let more : drop (length (state_now s).told) (state_now t).told ≡ opening.number ∷ [] = ap (drop (length (state_now s).told)) (begins.told visible) ∙ drop-append_seam (state_now s).told (opening.number ∷ []) in
         let e = none.1 in
         absurd (let no : ⊥ = cc in no)
     shown image (inr is) = is.1
+
+-- the opening number was told last, and every image recovers to it
+pub end_begun : (makes : Bool) (opening : Opening) (words : List ℕ) (s t : Sight) → Begins makes opening words s t → IsTrue s.is_visible → End opening [] opening.number s t
+end_begun makes opening words s t begins visible = record {
+  told = ((state_now s).told, begins.told visible, omega arith);
+  order = [];
+  printed = printed_none;
+  images = images_begun makes opening words s t begins visible;
+}
+
+-- so an image that is refused behind its beginning is left opened
+pub left_opened : (makes : Bool) (opening : Opening) (words : List ℕ) (s t : Sight) → Begins makes opening words s t → IsTrue s.is_visible → IsLeftOpened opening s t
+left_opened makes opening words s t begins visible = record { told = begins.told visible; images = images_begun makes opening words s t begins visible }

@@ -23,7 +23,7 @@ use Rattle.dude_fault.specs.declared.fault.Fault.TheVariants.{Usage, File, Text,
 use Rattle.command_openings.specs.Openings.{new_opening}
 use Rattle.command_openings.proofs.OneOpening.{opening_with}
 use Rattle.dude_program.specs.Opening.{fresh_sizes, load_of}
-use Rattle.dude_program.specs.Causes.{RefusesOpening, WantsFrames}
+use Rattle.dude_program.specs.Causes.{IsLeftOpened, RefusesOpening, WantsFrames}
 use Rattle.dude_program.specs.Work.{HasFewNumbers, PrintsText, RefusesLoad, RefusesRun}
 use Rattle.dude_program.proofs.Refusals.{one_requests, passes_if}
 use Rattle.dude_program.proofs.Endings.{CameBy}
@@ -99,23 +99,23 @@ module _ (frames locks : Option ℕ) (names : List (List ℕ)) (f : FilesSight) 
   run_refuses opening Output r = absurd r
   run_refuses opening Memory r = absurd r
 
-  pub run_came : (opening : Opening) (last : ℕ) (s t : Sight) (why : Fault) → RefusesRun (RunFiles frames locks names) number opening.sizes opening.number requests why
+  pub run_came : (opening : Opening) (last : ℕ) (s t : Sight) → (IsTrue s.is_visible → IsLeftOpened opening s t) → (why : Fault) → RefusesRun (RunFiles frames locks names) number opening.sizes opening.number requests why
       → CameBy (RunFiles frames locks names) f opening [] last s t (Some why) × (◌≡◌ {A = Option Fault} (Some why) (Some Device) → ⊥)
-  run_came opening last s t (ManyFiles a b) r = ((refl, refl, run_refuses opening (ManyFiles a b) r), λ e. let no : ⊥ = cc in no)
-  run_came opening last s t (Frames a b) r = ((refl, refl, run_refuses opening (Frames a b) r), λ e. let no : ⊥ = cc in no)
-  run_came opening last s t (Numbers a b) r = ((refl, refl, run_refuses opening (Numbers a b) r), λ e. let no : ⊥ = cc in no)
-  run_came opening last s t (FewSubscribers a b) r = absurd r
-  run_came opening last s t Usage r = absurd r
-  run_came opening last s t (File a) r = absurd r
-  run_came opening last s t (Text a b c) r = absurd r
-  run_came opening last s t (Small a b) r = absurd r
-  run_came opening last s t (TooFew a b) r = absurd r
-  run_came opening last s t Unformatted r = absurd r
-  run_came opening last s t (Damaged a) r = absurd r
-  run_came opening last s t (NotDb a) r = absurd r
-  run_came opening last s t Device r = absurd r
-  run_came opening last s t Output r = absurd r
-  run_came opening last s t Memory r = absurd r
+  run_came opening last s t left (ManyFiles a b) r = ((refl, refl, run_refuses opening (ManyFiles a b) r, left), λ e. let no : ⊥ = cc in no)
+  run_came opening last s t left (Frames a b) r = ((refl, refl, run_refuses opening (Frames a b) r, left), λ e. let no : ⊥ = cc in no)
+  run_came opening last s t left (Numbers a b) r = ((refl, refl, run_refuses opening (Numbers a b) r, left), λ e. let no : ⊥ = cc in no)
+  run_came opening last s t left (FewSubscribers a b) r = absurd r
+  run_came opening last s t left Usage r = absurd r
+  run_came opening last s t left (File a) r = absurd r
+  run_came opening last s t left (Text a b c) r = absurd r
+  run_came opening last s t left (Small a b) r = absurd r
+  run_came opening last s t left (TooFew a b) r = absurd r
+  run_came opening last s t left Unformatted r = absurd r
+  run_came opening last s t left (Damaged a) r = absurd r
+  run_came opening last s t left (NotDb a) r = absurd r
+  run_came opening last s t left Device r = absurd r
+  run_came opening last s t left Output r = absurd r
+  run_came opening last s t left Memory r = absurd r
 
 module _ (seed count files : ℕ) (f : FilesSight) (opening : Opening) (requests : List (List Request)) (is : requests ≡ load_of opening.sizes.subscribers seed count files) where
   pub drive_passes : files ≤ opening.sizes.rings → files ≤ opening.sizes.subscribers → opening.number + 65 * request_count requests ≤ MAX_NUMBER
@@ -141,29 +141,29 @@ module _ (seed count files : ℕ) (f : FilesSight) (opening : Opening) (requests
   drive_refuses Device r = absurd r
   drive_refuses Output r = absurd r
 
-  by_refusal : (last : ℕ) (s t : Sight) (why : Fault) → RefusesOpening (DriveLoad seed count files) f opening why
+  by_refusal : (last : ℕ) (s t : Sight) → (IsTrue s.is_visible → IsLeftOpened opening s t) → (why : Fault) → RefusesOpening (DriveLoad seed count files) f opening why
       → CameBy (DriveLoad seed count files) f opening [] last s t (Some why) × (◌≡◌ {A = Option Fault} (Some why) (Some Device) → ⊥)
-  by_refusal last s t (ManyFiles a b) r = ((refl, refl, r), λ e. let no : ⊥ = cc in no)
-  by_refusal last s t (FewSubscribers a b) r = ((refl, refl, r), λ e. let no : ⊥ = cc in no)
-  by_refusal last s t (Numbers a b) r = ((refl, refl, r), λ e. let no : ⊥ = cc in no)
-  by_refusal last s t (Frames a b) r = ((refl, refl, r), λ e. let no : ⊥ = cc in no)
-  by_refusal last s t Memory r = absurd r
-  by_refusal last s t Usage r = absurd r
-  by_refusal last s t (File a) r = absurd r
-  by_refusal last s t (Text a b c) r = absurd r
-  by_refusal last s t (Small a b) r = absurd r
-  by_refusal last s t (TooFew a b) r = absurd r
-  by_refusal last s t Unformatted r = absurd r
-  by_refusal last s t (Damaged a) r = absurd r
-  by_refusal last s t (NotDb a) r = absurd r
-  by_refusal last s t Device r = absurd r
-  by_refusal last s t Output r = absurd r
+  by_refusal last s t left (ManyFiles a b) r = ((refl, refl, r, left), λ e. let no : ⊥ = cc in no)
+  by_refusal last s t left (FewSubscribers a b) r = ((refl, refl, r, left), λ e. let no : ⊥ = cc in no)
+  by_refusal last s t left (Numbers a b) r = ((refl, refl, r, left), λ e. let no : ⊥ = cc in no)
+  by_refusal last s t left (Frames a b) r = ((refl, refl, r, left), λ e. let no : ⊥ = cc in no)
+  by_refusal last s t left Memory r = absurd r
+  by_refusal last s t left Usage r = absurd r
+  by_refusal last s t left (File a) r = absurd r
+  by_refusal last s t left (Text a b c) r = absurd r
+  by_refusal last s t left (Small a b) r = absurd r
+  by_refusal last s t left (TooFew a b) r = absurd r
+  by_refusal last s t left Unformatted r = absurd r
+  by_refusal last s t left (Damaged a) r = absurd r
+  by_refusal last s t left (NotDb a) r = absurd r
+  by_refusal last s t left Device r = absurd r
+  by_refusal last s t left Output r = absurd r
 
-  pub drive_came : (last : ℕ) (s t : Sight) (why : Fault) → RefusesLoad files opening.sizes opening.number requests why
+  pub drive_came : (last : ℕ) (s t : Sight) → (IsTrue s.is_visible → IsLeftOpened opening s t) → (why : Fault) → RefusesLoad files opening.sizes opening.number requests why
       → CameBy (DriveLoad seed count files) f opening [] last s t (Some why) × (◌≡◌ {A = Option Fault} (Some why) (Some Device) → ⊥)
-  drive_came last s t why r = elim (drive_refuses why r) [
+  drive_came last s t left why r = elim (drive_refuses why r) [
     | inl e ↦ subst (λ (x : Fault). CameBy (DriveLoad seed count files) f opening [] last s t (Some x) × (◌≡◌ {A = Option Fault} (Some x) (Some Device) → ⊥)) (sym e) (tt, λ same. let no : ⊥ = cc in no)
-    | inr refuses ↦ by_refusal last s t why refuses
+    | inr refuses ↦ by_refusal last s t left why refuses
   ]
 
 -- ---- what is printed

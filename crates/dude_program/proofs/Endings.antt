@@ -19,7 +19,7 @@ use Rattle.command_openings.specs.Openings.{IsOpeningOn}
 use Rattle.dude_program.specs.World.{SinkStays, world_of}
 use Rattle.dude_program.specs.Opening.{IsReachable, Starts, makes_image, output_for}
 use Rattle.dude_program.specs.Headline.{AllDone, Crash, Headline, Printed, Replies, Sync, TookAll, TookPrefix}
-use Rattle.dude_program.specs.Causes.{Causes, HasCause, IsGood, RanUnlessDevice, RefusesFormat, RefusesOpening, StoppedByOpening, Untouched}
+use Rattle.dude_program.specs.Causes.{Causes, HasCause, IsGood, IsLeftOpened, RanUnlessDevice, RefusesFormat, RefusesOpening, StoppedByOpening, Untouched}
 use Rattle.dude_program.specs.Ending.{Ends}
 use Rattle.dude_program.specs.Work.{PrintsText}
 use Rattle.dude_program.proofs.FilesRead.{FilesRead, read_bad, read_good, read_missing}
@@ -42,7 +42,7 @@ abbrev pub CameBy : Meaning → FilesSight → Opening → List Done → ℕ →
 CameBy meaning f opening done last s t None = Finished meaning f opening done last s t
 CameBy meaning f opening done last s t (Some Device) = Risen s.faults t.faults
 CameBy meaning f opening done last s t (Some Memory) = ⊤
-CameBy meaning f opening done last s t (Some why) = (makes_image meaning ≡ false) × (done ≡ []) × RefusesOpening meaning f opening why
+CameBy meaning f opening done last s t (Some why) = (makes_image meaning ≡ false) × (done ≡ []) × RefusesOpening meaning f opening why × (IsTrue s.is_visible → IsLeftOpened opening s t)
 
 -- What a command came to before its output: its files were read, and its image was begun at this opening.
 pub record Came (meaning : Meaning) (f g : FilesSight) (opening : Opening) (done : List Done) (last : ℕ) (fault : Option Fault) (s t : Sight) : Type 0 where
@@ -56,6 +56,7 @@ pub record Came (meaning : Meaning) (f g : FilesSight) (opening : Opening) (done
   pub crash : Crash meaning opening done s t
   pub sync : Sync done s t
   pub ran : RanUnlessDevice fault s t
+  pub nothing : makes_image meaning ≡ false → IsTrue f.is_visible → (why : Fault) → RefusesOpening meaning f opening why → done ≡ []
   pub cause : CameBy meaning f opening done last s t fault
 
 -- a sink that wasn't called, or that took some bytes
@@ -106,6 +107,8 @@ module _ {meaning : Meaning} {f g : FilesSight} {opening : Opening} {done : List
     complete = λ good medium files output. complete good medium output;
     untouched = untouched;
     spared = λ bad. elim bad [ inl files ↦ absurd (files.1 (read_good came.files)) | inr refuses ↦ absurd (came.fits refuses.0 refuses.1) ];
+    nothing = λ opens visible told other starts why refuses.
+        came.nothing opens told why (subst (λ (o : Opening). RefusesOpening meaning f o why) (came.only visible other starts) refuses);
     ran = ran;
     files = came.files.stays;
     sink = sink;
@@ -137,13 +140,13 @@ ends_faulted Memory came = record {
   causes = causes_of came (Some Memory) tt (λ opens visible told why refuses. inr tt) (λ good medium output. inr refl) tt came.ran sink_same;
 }
 ends_faulted {opening = opening} (ManyFiles a b) came =
-    ends_behind (ManyFiles a b) came came.cause.0 came.cause.2 (record { opening = opening; opens = came.cause.0; starts = came.starts; lawful = came.lawful; why = came.cause.2 }) refl came.cause.1
+    ends_behind (ManyFiles a b) came came.cause.0 came.cause.2 (record { opening = opening; opens = came.cause.0; starts = came.starts; lawful = came.lawful; why = came.cause.2; left = came.cause.3 }) refl came.cause.1
 ends_faulted {opening = opening} (Frames a b) came =
-    ends_behind (Frames a b) came came.cause.0 came.cause.2 (record { opening = opening; opens = came.cause.0; starts = came.starts; lawful = came.lawful; why = came.cause.2 }) refl came.cause.1
+    ends_behind (Frames a b) came came.cause.0 came.cause.2 (record { opening = opening; opens = came.cause.0; starts = came.starts; lawful = came.lawful; why = came.cause.2; left = came.cause.3 }) refl came.cause.1
 ends_faulted {opening = opening} (FewSubscribers a b) came =
-    ends_behind (FewSubscribers a b) came came.cause.0 came.cause.2 (record { opening = opening; opens = came.cause.0; starts = came.starts; lawful = came.lawful; why = came.cause.2 }) refl came.cause.1
+    ends_behind (FewSubscribers a b) came came.cause.0 came.cause.2 (record { opening = opening; opens = came.cause.0; starts = came.starts; lawful = came.lawful; why = came.cause.2; left = came.cause.3 }) refl came.cause.1
 ends_faulted {opening = opening} (Numbers a b) came =
-    ends_behind (Numbers a b) came came.cause.0 came.cause.2 (record { opening = opening; opens = came.cause.0; starts = came.starts; lawful = came.lawful; why = came.cause.2 }) refl came.cause.1
+    ends_behind (Numbers a b) came came.cause.0 came.cause.2 (record { opening = opening; opens = came.cause.0; starts = came.starts; lawful = came.lawful; why = came.cause.2; left = came.cause.3 }) refl came.cause.1
 ends_faulted Usage came = absurd came.cause.2
 ends_faulted (File n) came = absurd came.cause.2
 ends_faulted (Text n r c) came = absurd came.cause.2

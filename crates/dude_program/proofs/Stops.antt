@@ -80,6 +80,7 @@ module _ (meaning : Meaning) {s : Sight} {f g : FilesSight} {k : SinkSight} (fro
       complete = λ good medium files output. absurd (files has.1);
       untouched = (refl, refl);
       spared = λ bad. (refl, refl);
+      nothing = λ opens visible told opening starts why refuses. refl;
       ran = calls_none s s refl (λ e. let no : ⊥ = cc in no);
       files = stays;
       sink = sink_same;
@@ -99,6 +100,7 @@ module _ (meaning : Meaning) {s : Sight} {f g : FilesSight} {k : SinkSight} (fro
       complete = λ good medium files output. absurd (good_none_bad f (file_names meaning) n r c good.files good.good has.0);
       untouched = (refl, refl);
       spared = λ bad. (refl, refl);
+      nothing = λ opens visible told opening starts why refuses. refl;
       ran = calls_none s s refl (λ e. let no : ⊥ = cc in no);
       files = stays;
       sink = sink_same;
@@ -118,6 +120,7 @@ module _ (meaning : Meaning) {s : Sight} {f g : FilesSight} {k : SinkSight} (fro
       complete = λ good medium files output. inr refl;
       untouched = tt;
       spared = λ bad. (refl, refl);
+      nothing = λ opens visible told opening starts why refuses. refl;
       ran = calls_none s s refl (λ e. let no : ⊥ = cc in no);
       files = stays;
       sink = sink_same;
@@ -198,6 +201,7 @@ module _ {meaning : Meaning} {sizes : Sizes} {s t : Sight} {f g : FilesSight} (m
       complete = λ good medium read output. absurd (good.fits why refuses);
       untouched = untouched;
       spared = λ bad. (same, refl);
+      nothing = λ opens visible told opening starts why refuses. refl;
       ran = calls_none s t same other;
       files = files.stays;
       sink = sink_same;
@@ -217,6 +221,7 @@ module _ {meaning : Meaning} {sizes : Sizes} {s t : Sight} {f g : FilesSight} (m
       complete = λ good medium read output. absurd (medium has.1);
       untouched = tt;
       spared = λ bad. absurd (elim bad [ inl unread ↦ unread.1 (read_good files) | inr refuses ↦ fits_not_refused meaning sizes s.len refuses.0 maker.sized has.0 refuses.1 ]);
+      nothing = λ opens visible told opening starts why refuses. refl;
       ran = calls_failed has.2;
       files = files.stays;
       sink = sink_same;
@@ -230,6 +235,7 @@ module _ {meaning : Meaning} {sizes : Sizes} {s t : Sight} {f g : FilesSight} (m
       complete = λ good medium read output. inr refl;
       untouched = tt;
       spared = λ bad. absurd (elim bad [ inl unread ↦ unread.1 (read_good files) | inr refuses ↦ fits_not_refused meaning sizes s.len refuses.0 maker.sized has.0 refuses.1 ]);
+      nothing = λ opens visible told opening starts why refuses. refl;
       ran = calls_well has.1 (λ e. let no : ⊥ = cc in no);
       files = files.stays;
       sink = sink_same;
@@ -286,6 +292,7 @@ module _ {meaning : Meaning} {s t : Sight} {f g : FilesSight} (opener : IsOpener
       complete = λ good medium unread output. absurd (let o = (good.opens opener.opens).1 in opens_not_refused s o.0 why (good.opens opener.opens).0 (opener.on o.0 o.1) refuses);
       untouched = untouched;
       spared = spares;
+      nothing = λ opens visible told opening starts why refuses. refl;
       ran = reads_ran read other;
       files = files.stays;
       sink = sink_same;
@@ -313,6 +320,7 @@ module _ {meaning : Meaning} {s t : Sight} {f g : FilesSight} (opener : IsOpener
       complete = λ good medium unread output. absurd (medium has.0);
       untouched = tt;
       spared = spares;
+      nothing = λ opens visible told opening starts why refuses. refl;
       ran = calls_failed has.1;
       files = files.stays;
       sink = sink_same;
@@ -326,6 +334,7 @@ module _ {meaning : Meaning} {s t : Sight} {f g : FilesSight} (opener : IsOpener
       complete = λ good medium unread output. inr refl;
       untouched = tt;
       spared = spares;
+      nothing = λ opens visible told opening starts why refuses. refl;
       ran = calls_well has (λ e. let no : ⊥ = cc in no);
       files = files.stays;
       sink = sink_same;

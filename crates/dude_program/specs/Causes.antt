@@ -1,17 +1,18 @@
 -- With which fault a command ends, and where; and what stays then.
-use Rattle.std.specs.Prelude.{◌≡◌, ◌⊎◌, ◌↔◌, ℕ, ◌+◌, ◌*◌, ◌<◌, ◌≤◌, ⊤, Bool, true, false, Option, Some, None, IsTrue, List, [], length, min, All}
+use Rattle.std.specs.Prelude.{◌≡◌, ◌⊎◌, ◌↔◌, ℕ, ◌+◌, ◌*◌, ◌<◌, ◌≤◌, ⊤, Bool, true, false, Option, Some, None, IsTrue, List, [], ◌∷◌, ◌++◌, length, min, All}
 use Rattle.dude_base.specs.declared.limits.TheConstants.{MAX_NUMBER, MIN_FRAMES, VERSION}
 use Rattle.dude_base.specs.declared.sizes.Sizes.{Sizes}
 use Rattle.dude_base.specs.Sizes.{IsFrom, sizes_for}
 use Rattle.dude_base.specs.Image.{image_words}
-use Rattle.pmem_trait.specs.Sights.{Sight, Risen, SomeCalls}
+use Rattle.pmem_trait.specs.Words.{EveryImage}
+use Rattle.pmem_trait.specs.Sights.{Sight, Risen, SomeCalls, state_now}
 use Rattle.pmem_trait.specs.Reads.{ContentHas, OnlyReads}
 use Rattle.tatp_model.specs.declared.done.Done.{Done}
 use Rattle.tatp_model.specs.declared.request.Request.{Request}
 use Rattle.tatp_model.specs.Population.{population_calls}
 use Rattle.dude_io.specs.Files.{FilesSight, FilesStay}
 use Rattle.redo_record.specs.Recovery.{IsFormatted, IsDamaged}
-use Rattle.image_recovery.specs.Recovered.{IsNoDatabase}
+use Rattle.image_recovery.specs.Recovered.{IsNoDatabase, RecoversTo}
 use Rattle.command_words.specs.Command.{Meaning, Meaning.FreshRun, Meaning.FormatImage, Meaning.RunFiles, Meaning.DriveLoad}
 use Rattle.command_files.specs.Files.{IsFirstBad, IsFirstUnread, IsGoodFile, MissesFile}
 use Rattle.dude_engine.specs.Opening.{Opening, IsOpening}
@@ -81,13 +82,19 @@ RefusesContent content (Damaged line) = IsFormatted VERSION content × IsDamaged
 RefusesContent content (NotDb word) = IsNoDatabase word content
 RefusesContent content _ = ⊥
 
+-- An opened image that is refused is left opened: its number was told, and nothing else, and every image recovers to it.
+pub record IsLeftOpened (opening : Opening) (s t : Sight) : Type 0 where
+  pub told : (state_now t).told ≡ (state_now s).told ++ opening.number ∷ []
+  pub images : EveryImage t.len (λ told image. RecoversTo image opening.number opening.sizes opening.database) (state_now t)
+
 -- An opening of the command is refused so.
-pub record RefusedBehind (meaning : Meaning) (old : World) (fault : Fault) : Type 0 where
+pub record RefusedBehind (meaning : Meaning) (old new : World) (fault : Fault) : Type 0 where
   pub opening : Opening
   pub opens : makes_image meaning ≡ false
   pub starts : Starts meaning old.medium opening
   pub lawful : IsOpening opening
   pub why : RefusesOpening meaning old.files opening fault
+  pub left : IsTrue old.medium.is_visible → IsLeftOpened opening old.medium new.medium
 
 -- Why the command ended with this fault, if any. Want of memory is free.
 abbrev pub HasCause : Meaning → World → World → Option Fault → Type 0
@@ -103,7 +110,7 @@ HasCause meaning old new (Some (Small has needs)) = RefusesFormat meaning old.me
 HasCause meaning old new (Some (TooFew rows calls)) = RefusesFormat meaning old.medium.len (TooFew rows calls)
 HasCause meaning old new (Some Device) = Risen old.medium.faults new.medium.faults
 HasCause meaning old new (Some Output) = Risen old.sink.faults new.sink.faults
-HasCause meaning old new (Some fault) = RefusedBehind meaning old fault
+HasCause meaning old new (Some fault) = RefusedBehind meaning old new fault
 
 -- The command ended in reading its files: one couldn't be read, or there was no memory.
 abbrev pub StoppedReading : Option Fault → Type 0
@@ -172,6 +179,11 @@ SparesMedium meaning old new done =
     ((IsTrue old.files.is_visible × (All (IsGoodFile old.files) (file_names meaning) → ⊥)) ⊎ ((why : Fault) × RefusesFormat meaning old.medium.len why))
     → (new.medium ≡ old.medium) × (done ≡ [])
 
+-- Where an opened image is refused nothing is done, whatever is answered.
+abbrev pub DoesNothingRefused : Meaning → World → List Done → Type 0
+DoesNothingRefused meaning old done = makes_image meaning ≡ false → IsTrue old.medium.is_visible → IsTrue old.files.is_visible
+    → (opening : Opening) → Starts meaning old.medium opening → (why : Fault) → RefusesOpening meaning old.files opening why → done ≡ []
+
 -- Some calls were made on the medium. None failed but perhaps the last, and that one exactly where the fault is `Device`.
 abbrev pub RanUnlessDevice : Option Fault → Sight → Sight → Type 0
 RanUnlessDevice fault s t = (ok : Bool) × SomeCalls ok s t × ((ok ≡ false) ↔ (fault ≡ Some Device))
@@ -183,6 +195,7 @@ pub record Causes (meaning : Meaning) (old new : World) (done : List Done) (faul
   pub complete : SucceedsIfGood meaning old new fault
   pub untouched : Untouched fault old.medium new.medium done
   pub spared : SparesMedium meaning old new done
+  pub nothing : DoesNothingRefused meaning old done
   pub ran : RanUnlessDevice fault old.medium new.medium
   pub files : FilesStay old.files new.files
   pub sink : SinkStays old.sink new.sink

@@ -5,7 +5,7 @@
 --
 -- It is said over an opening: the number, the sizes and the tables that the command starts from (`Opening`). A command
 -- joins by its cases there.
-use Rattle.std.specs.Prelude.{◌≡◌, ◌⊎◌, ℕ, ◌<◌, ◌≤◌, Bool, Option, Some, None, IsTrue, List, [], ◌∷◌, ◌++◌, drop, take, length, All}
+use Rattle.std.specs.Prelude.{◌≡◌, ◌⊎◌, ℕ, ◌<◌, ◌≤◌, Bool, false, Option, Some, None, IsTrue, List, [], ◌∷◌, ◌++◌, drop, take, length, All}
 use Rattle.pmem_trait.specs.Words.{AtLeast}
 use Rattle.pmem_trait.specs.Sights.{Sight, AtEveryMoment, state_now}
 use Rattle.pmem_trait.specs.Reads.{OnlyReads}
@@ -21,7 +21,8 @@ use Rattle.dude_fault.specs.declared.fault.Fault.{Fault}
 use Rattle.dude_fault.specs.declared.fault.Fault.TheVariants.{Output, Memory}
 use Rattle.command_words.specs.Command.{Meaning}
 use Rattle.dude_program.specs.World.{World}
-use Rattle.dude_program.specs.Opening.{makes_image, Starts, RequestsAre, IsReachable, output_for}
+use Rattle.command_openings.specs.Begun.{TellsAtMost}
+use Rattle.dude_program.specs.Opening.{makes_image, runs_requests, Starts, RequestsAre, IsReachable, output_for}
 
 -- Replies: of the command's requests these are done, each file's first ones in its order, each once; and the replies are
 -- those of one thread along the printed order. A `SYNC` has a number from the opening number on.
@@ -46,12 +47,13 @@ WasToldFirst first s t =
     ⊎ ((more : List ℕ) × (drop (length (state_now s).told) (state_now t).told ≡ first ∷ more))
 
 -- Crash: at each moment of the call each image that a crash may leave recovers so, along the printed order. The first
--- number that is told in the call is the opening number.
+-- number that is told in the call is the opening number; a command that carries no requests out tells it once, and no other.
 pub record Crash (meaning : Meaning) (opening : Opening) (done : List Done) (s t : Sight) : Type 0 where
   pub order : List Done
   pub printed : IsPrintedOrder done order
   pub keeps : AtEveryMoment (RecoversSince meaning (length (state_now s).told) opening order) s t
   pub first_told : IsTrue s.is_visible → WasToldFirst opening.number s t
+  pub told_alone : runs_requests meaning ≡ false → IsTrue s.is_visible → TellsAtMost opening.number s t
 
 -- Sync: the number of a `SYNC` is at least that of each earlier request of its file, and at most the last number told
 pub record Sync (done : List Done) (s t : Sight) : Type 0 where

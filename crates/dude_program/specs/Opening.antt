@@ -26,6 +26,13 @@ makes_image (FreshRun subscribers file) = true
 makes_image (FormatImage subscribers calls rings cells) = true
 makes_image _ = false
 
+-- whether the command carries requests out
+abbrev pub runs_requests : Meaning → Bool
+runs_requests (FormatImage subscribers calls rings cells) = false
+runs_requests RecoverImage = false
+runs_requests DumpTables = false
+runs_requests _ = true
+
 -- The command starts from this opening. One that makes its image starts with the new image's, each other one with what the
 -- content at entry recovers to.
 abbrev pub Starts : Meaning → Sight → Opening → Type 0

@@ -1,4 +1,4 @@
-use Rattle.std.proofs.Common.{◌≡◌, ◌∙◌, ◌≤◌, length, sym, ap, arith, Vec, Global, [], ◌∷◌}
+use Rattle.std.proofs.Common.{◌≡◌, ◌∙◌, ◌≤◌, length, refl, sym, ap, arith, Vec, Global, [], ◌∷◌}
 use Rattle.std.specs.List.{AllZip}
 use Rattle.std.proofs.lemmas.List.{length-map}
 use Rattle.std.proofs.lemmas.Slice.Zip.{AllZip-long}
@@ -39,7 +39,7 @@ returns-in-Ok-make_and_open-clause-ends g c =
     let e = c.in-Ok-make_and_open.ensures in
     let maker = fresh_makes c.args.subscribers c.args.file.now c.in-Ok.sizes (g.M.Medium.sight c.args.medium) c.in-Ok.ensures.ok.0 in
     let read : AllZip (OfFile (g.F.Files.sight c.args.files.now)) (c.args.file.now ∷ []) (requests_in c.deref.result.now) = rw c.deref.ensures.value c.in-Ok-read_files.ensures.read in
-    let came = came_ran (record { lists = requests_in c.deref.result.now; read = read; stays = c.in-Ok-read_files.ensures.stays }) (begun_new maker e.fits e.begins) read
+    let came = came_ran (record { lists = requests_in c.deref.result.now; read = read; stays = c.in-Ok-read_files.ensures.stays }) (begun_new maker e.fits e.begins) refl read
     (λ opens. let no : ⊥ = cc in absurd no) c.work.result.fault (c.work.ensures _ e.opening) in
     rw (c.end_with_lines.ensures.medium, c.end_with_lines.ensures.done) (ends_printed _ _ came c.end_with_lines.ensures.printed)
 
