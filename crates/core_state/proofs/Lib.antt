@@ -1,3 +1,4 @@
-pub mod Scans
 pub mod Places
 pub mod Made
+pub mod Parted
+pub mod Refused

@@ -1,6 +1,6 @@
 -- A step that was allowed, and made in parts.
-use Rattle.std.proofs.Common.{◌≡◌, ℕ, ◌<◌, List, [], ◌∷◌, refl, sym, ap, subst, ◌∙◌, arith}
-use Rattle.std.specs.Prelude.{Option, Some, None, slice_set, slice_index_or}
+use Rattle.std.proofs.Common.{◌≡◌, ℕ, ◌<◌, List, ◌∷◌, refl, sym, ap, subst, ◌∙◌}
+use Rattle.std.specs.Prelude.{Option, slice_set, slice_index_or}
 use mathlib.Core.Option.{some, some-injective}
 use lib.ListN.{get_elem?}
 use Rattle.dude_base.specs.Records.{RedoRecord}
@@ -8,19 +8,19 @@ use Rattle.core_events.specs.Setups.{Setup, box_of}
 use Rattle.core_events.specs.Keyed.{or_else}
 use Rattle.core_events.specs.Views.{View, Word, the_threads, the_clock, the_turn, the_durable, the_reproduced, the_lock, the_entry, the_touch, the_cell, the_box}
 use Rattle.core_events.specs.Words.{State, found, put}
-use Rattle.core_events.specs.Events.{Event, number, post, empty_box, name, word_after, view_after, next_box, thread_of}
-use Rattle.core_events.specs.Conditions.{IsAllowed, after, record_of, no_record, records_after, persisted_after, HasThread}
+use Rattle.core_events.specs.Events.{Event, post, empty_box, name, word_after, view_after, next_box, thread_of}
+use Rattle.core_events.specs.Conditions.{IsAllowed, record_of, no_record, records_after, HasThread}
 use Rattle.core_events.specs.Partings.{Leads, event}
 use Rattle.core_events.specs.Telling.{IsSeated, WordTold}
 use Rattle.core_events.specs.Kept.{Kept}
 use Rattle.core_events.proofs.Telling.{kept_seated, tells}
-use Rattle.core_views.specs.declared.deed.ReadDeed.{ReadDeed}
-use Rattle.core_views.specs.declared.deed.ReadDeed.TheVariants.{Number, Begin, Extend, Look, Load, Check, Finish}
-use Rattle.core_views.specs.declared.deed.WriteDeed.{WriteDeed}
-use Rattle.core_views.specs.declared.deed.WriteDeed.TheVariants.{Take, Draw, Decide, Store, Release, Restore}
-use Rattle.core_views.specs.declared.deed.PageDeed.{PageDeed}
-use Rattle.core_views.specs.declared.deed.PageDeed.TheVariants.{Entry, Pin, Unpin, Touch, LoadTouch, Evict, Fill, Show}
-use Rattle.core_views.specs.Named.{of_read, of_write, of_page}
+use Rattle.core_setup.specs.declared.deed.ReadDeed.{ReadDeed}
+use Rattle.core_setup.specs.declared.deed.ReadDeed.TheVariants.{Number, Begin, Extend, Look, Load, Check, Finish}
+use Rattle.core_setup.specs.declared.deed.WriteDeed.{WriteDeed}
+use Rattle.core_setup.specs.declared.deed.WriteDeed.TheVariants.{Take, Draw, Decide, Store, Release, Restore}
+use Rattle.core_setup.specs.declared.deed.PageDeed.{PageDeed}
+use Rattle.core_setup.specs.declared.deed.PageDeed.TheVariants.{Entry, Pin, Unpin, Touch, LoadTouch, Evict, Fill, Show}
+use Rattle.core_setup.specs.Named.{of_read, of_write, of_page}
 use Rattle.core_state.specs.Steps.{IsReady, IsMoved, moved}
 use Rattle.core_state.specs.BoxEvents.{IsPlain}
 

@@ -1,6 +1,5 @@
 -- Views by their places, and a step that was made.
-use Rattle.std.proofs.Common.{◌≡◌, ◌≢◌, ℕ, zero, suc, ◌<◌, ◌≤◌, Bool, true, false, List, [], ◌∷◌, ◌++◌, length, get_or, set, slice_set, refl, sym, ap, subst, ◌∙◌, arith}
-use Rattle.std.specs.Prelude.{Option}
+use Rattle.std.proofs.Common.{◌≡◌, ℕ, zero, suc, ◌<◌, Bool, true, false, List, [], ◌∷◌, length, get_or, slice_set, refl, sym, ap, subst, ◌∙◌, arith}
 use mathlib.Core.Option.{some, some-injective}
 use lib.ListN.{get_elem?}
 use Rattle.core_events.specs.Setups.{Setup}
@@ -9,13 +8,9 @@ use Rattle.core_events.specs.Words.{State, found, put}
 use Rattle.core_events.specs.Events.{Event, name, word_after, view_after}
 use Rattle.core_events.specs.Conditions.{May, Fits, IsAllowed}
 use Rattle.core_events.proofs.Lists.{there}
-use Rattle.core_views.specs.Named.{Tells}
+use Rattle.core_setup.specs.Named.{Tells}
 use Rattle.core_state.specs.Steps.{moved}
-
-pub at_index : {A : Type 0} (l : List A) (i : ℕ) (a : A) → i < length l → a ≡ get_or l i a → get_elem? l i ≡ some a
-at_index [] i a h e = absurd (omega arith)
-at_index (x ∷ xs) zero a h e = ap some (sym e)
-at_index (x ∷ xs) (suc i) a h e = at_index xs i a (omega arith) e
+use Rattle.state_lists.proofs.Places.{at_index}
 
 pub inside_there : (l m : List View) (i : ℕ) (v : View) → l ≡ m → get_elem? m i ≡ some v → i < length l
 inside_there l m i v e at = there l i v (ap (λ (k : List View). get_elem? k i) e ∙ at)

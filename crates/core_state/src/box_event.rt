@@ -1,7 +1,7 @@
-ghost use Rattle.core_views.specs.Named.{event_of, of_turn};
+ghost use Rattle.core_setup.specs.Named.{event_of, of_turn};
 ghost use Rattle.core_state.specs.BoxEvents.{IsBoxEvent};
 
-use core_views::deed::{Deed, TurnDeed};
+use core_setup::deed::{Deed, TurnDeed};
 
 /// What an event does with the record of a box.
 #[derive(Drop)]

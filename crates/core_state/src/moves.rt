@@ -8,15 +8,18 @@ ghost use Rattle.core_events.specs.Words.{found as found_in};
 ghost use Rattle.core_events.specs.Entries.{value_at, all_entries};
 ghost use Rattle.core_events.specs.Events.{name, word_after, view_after};
 ghost use Rattle.core_events.specs.Conditions.{May, Fits, IsAllowed, IsPersistedUpTo};
-ghost use Rattle.core_views.specs.Named.{Tells, word_of, event_of, of_turn, of_page};
+ghost use Rattle.core_setup.specs.Named.{Tells, word_of, event_of, of_turn, of_page};
 ghost use Rattle.core_state.specs.Steps.{IsReady, IsMoved};
 
 use crate::state::State;
-use crate::words::load;
-use core_views::deed::{Deed, PageDeed, TurnDeed};
-use core_views::setup::Setup;
-use core_views::view::View;
-use core_views::word::Word;
+use core_conditions::may;
+use core_moves::advance;
+use core_setup::deed::{Deed, PageDeed, TurnDeed};
+use core_setup::setup::Setup;
+use core_setup::word::Word;
+use core_view::view::View;
+use core_words::{name, word_after};
+use state_lists::words::load;
 use std::alloc::{AllocError, Global};
 
 impl State {
@@ -28,7 +31,7 @@ impl State {
             return false;
         }
         let view = &self.views[who as usize];
-        view.may(z, deed) && self.fits(z, view, deed)
+        may(view, z, deed) && self.fits(z, view, deed)
     }
 
     // The rest of the state allows it.
@@ -136,7 +139,7 @@ impl State {
         requires { IsReady z.now self.now who (event_of deed.now) }
         ensures { (v : Seen) → get_elem? self.now.views who ≡ some v → word_of result ≡ name z.now (event_of deed.now) v }
     {
-        self.views[who as usize].name(z, deed)
+        name(&self.views[who as usize], z, deed)
     }
 
     fn word_after(&self, z: &Setup, who: u64, deed: &Deed, found: u64) -> u64
@@ -144,7 +147,7 @@ impl State {
         requires found { (v : Seen) → get_elem? self.now.views who ≡ some v → found ≡ found_in self.now (name z.now (event_of deed.now) v) }
         ensures { (v : Seen) → get_elem? self.now.views who ≡ some v → result ≡ word_after (event_of deed.now) v found }
     {
-        self.views[who as usize].word_after(z, deed, found)
+        word_after(&self.views[who as usize], z, deed, found)
     }
 
     fn advance(
@@ -162,7 +165,7 @@ impl State {
         ensures ok { OnOk result ((v : Seen) → get_elem? self.old.views who ≡ some v → self.new ≡ record self.old { views = slice_set self.old.views who (view_after z.now (event_of deed.now) v found) }) }
         ensures err { OnErr result (self.new ≡ self.old) }
     {
-        self.views[who as usize].advance(alloc, z, deed, word, found)?;
+        advance(&mut self.views[who as usize], alloc, z, deed, word, found)?;
         Ok(())
     }
 }

@@ -1,11 +1,11 @@
 ghost use Rattle.std.specs.Prelude.{◌≡◌, slice_index_or};
 ghost use Rattle.core_events.specs.Words.{found, put};
-ghost use Rattle.core_views.specs.Named.{word_of};
+ghost use Rattle.core_setup.specs.Named.{word_of};
 
-use crate::words::{load, store};
-use core_views::view::View;
-use core_views::word::Word;
+use core_setup::word::Word;
+use core_view::view::View;
 use dude_base::redo::Redo;
+use state_lists::words::{load, store};
 use std::marker::Model;
 
 /// The state of the machine: its words, its views, and the records in boxes and behind them.

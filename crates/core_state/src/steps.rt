@@ -1,6 +1,6 @@
 //! Events and partings of views, on the state.
 
-ghost use Rattle.std.specs.Prelude.{◌≡◌, ◌∷◌, ◌<◌, Err, slice_index_or, slice_set, OnOk, OnErr};
+ghost use Rattle.std.specs.Prelude.{◌≡◌, ◌↔◌, ◌∷◌, ◌<◌, slice_index_or, slice_set, OnOk, OnErr, IsErrOf};
 ghost use mathlib.Core.Option.{some};
 ghost use lib.ListN.{get_elem?};
 ghost use Rattle.core_events.specs.Views.{View as Seen};
@@ -8,15 +8,16 @@ ghost use Rattle.core_events.specs.Events.{next_box, thread_of};
 ghost use Rattle.core_events.specs.Conditions.{IsAllowed, record_of, no_record};
 ghost use Rattle.core_events.specs.Partings.{Leads, event as step_event};
 ghost use Rattle.core_events.specs.Kept.{Kept};
-ghost use Rattle.core_views.specs.Named.{event_of};
+ghost use Rattle.core_setup.specs.Named.{event_of};
 ghost use Rattle.core_state.specs.Steps.{IsOffAt};
 
 use crate::box_event::BoxEvent;
 use crate::core_refusal::CoreRefusal;
 use crate::state::State;
-use core_views::deed::Deed;
-use core_views::setup::Setup;
+use core_setup::deed::Deed;
+use core_setup::setup::Setup;
 use dude_base::redo::Redo;
+use state_lists::records::record_at;
 use std::alloc::{AllocError, Global};
 
 impl State {
@@ -32,7 +33,7 @@ impl State {
         requires { Kept z.now self.old }
         ensures ok { OnOk result (Leads z.now self.old (step_event who (event_of deed.now)) self.new) }
         ensures err { OnErr result (self.new ≡ self.old) }
-        ensures off { result ≡ Err CoreRefusal.Off → IsOffAt z.now self.old (step_event who (event_of deed.now)) }
+        ensures off { IsErrOf result CoreRefusal.Off ↔ IsOffAt z.now self.old (step_event who (event_of deed.now)) }
     {
         if !self.allows(z, who, deed) {
             return Err(CoreRefusal::Off);
@@ -131,15 +132,5 @@ impl State {
         if !self.persisted.is_empty() {
             self.persisted.remove(0);
         }
-    }
-}
-
-fn record_at(records: &Vec<Redo>, at: u64) -> Redo
-    ensures { result ≡ slice_index_or records.now.items at no_record }
-{
-    if at < records.len() as u64 {
-        records[at as usize].copy()
-    } else {
-        Redo::new(0)
     }
 }

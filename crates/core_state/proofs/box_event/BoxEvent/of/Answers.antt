@@ -1,6 +1,6 @@
 use Rattle.std.proofs.Common.{sym, subst}
-use Rattle.core_views.specs.declared.deed.Deed.{Deed}
-use Rattle.core_views.specs.Named.{event_of}
+use Rattle.core_setup.specs.declared.deed.Deed.{Deed}
+use Rattle.core_setup.specs.Named.{event_of}
 use Rattle.core_state.specs.BoxEvents.{IsPlain}
 use Rattle.core_state.proofs.Made.{read_plain, write_plain, page_plain}
 use Rattle.core_state.proofs.box_event.BoxEvent.of.Goals as goal

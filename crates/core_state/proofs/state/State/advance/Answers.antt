@@ -1,10 +1,10 @@
-use Rattle.std.proofs.Common.{◌≡◌, set, ap, sym, subst, ◌∙◌, arith, ℕ}
+use Rattle.std.proofs.Common.{set, ap, sym, subst, ◌∙◌, arith, ℕ}
 use Rattle.core_events.specs.Views.{View}
-use Rattle.core_events.specs.Words.{State, found}
-use Rattle.core_events.specs.Events.{name, word_after, view_after}
+use Rattle.core_events.specs.Words.{State}
+use Rattle.core_events.specs.Events.{name, view_after}
 use Rattle.core_events.specs.Conditions.{May}
 use Rattle.core_events.specs.Telling.{IsSeated, WordTold}
-use Rattle.core_views.specs.Named.{event_of}
+use Rattle.core_setup.specs.Named.{event_of}
 use Rattle.core_state.proofs.Places.{inside_there, same_there}
 use Rattle.core_state.proofs.state.State.advance.Goals as goal
 
@@ -25,6 +25,6 @@ advance-requires-clause-name c = c.requires.name c.requires.ready.view c.require
 
 pub returns-clause-ok : goal.returns-clause-ok
 returns-clause-ok c = λ v at.
-    ap (λ (s : State). record s { views = set s.views c.args.who c.advance.new.self }) c.self.view_is
+    ap (λ (s : State). record s { views = set s.views c.args.who c.advance.new.view }) c.self.view_is
     ∙ ap (λ (x : View). record c.args.self.now { views = set c.args.self.now.views c.args.who x })
     (c.in_ok-advance.ensures.ok ∙ ap (λ (u : View). view_after c.args.z.now (event_of c.args.deed.now) u c.args.found) (same_there c.self.inside.views.items c.args.self.now.views c.args.who v c.index_mut.result.now (ap (λ (s : State). s.views) c.self.view_is) at c.index_mut.ensures.value))

@@ -1,7 +1,8 @@
-use Rattle.std.proofs.Common.{◌≡◌, ap, sym, ◌∙◌, arith}
+use Rattle.std.proofs.Common.{ap, arith}
 use Rattle.core_events.specs.Words.{State}
-use Rattle.core_views.specs.Named.{event_of}
-use Rattle.core_state.proofs.Places.{at_index, inside_there, allowed_tells, not_allowed}
+use Rattle.core_setup.specs.Named.{event_of}
+use Rattle.core_state.proofs.Places.{inside_there, allowed_tells, not_allowed}
+use Rattle.state_lists.proofs.Places.{at_index}
 use Rattle.core_state.proofs.state.State.allows.Goals as goal
 
 pub returns-then-who-len : goal.returns-then-who-len

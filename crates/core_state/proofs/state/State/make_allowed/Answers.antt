@@ -1,11 +1,11 @@
-use Rattle.std.proofs.Common.{◌≡◌, ◌∷◌, sym, subst, ap, ◌∙◌}
+use Rattle.std.proofs.Common.{◌∷◌, subst}
 use Rattle.std.specs.Prelude.{slice_index_or}
-use Rattle.core_views.specs.Named.{event_of}
+use Rattle.core_setup.specs.Named.{event_of}
 use Rattle.core_events.specs.Conditions.{no_record}
-use Rattle.core_events.specs.Events.{Event, post}
+use Rattle.core_events.specs.Events.{Event}
 use Rattle.core_events.specs.Conditions.{Threaded}
 use Rattle.core_events.proofs.Telling.{kept_seated}
-use Rattle.core_state.proofs.Made.{ready_of, ready_beside, led_plain, led_post, led_empty, box_inside_of, threaded_post}
+use Rattle.core_state.proofs.Made.{ready_of, ready_beside, box_inside_of, threaded_post}
 use Rattle.core_state.proofs.state.State.make_allowed.Goals as goal
 
 pub next_box_of-at-requires-clause-inside : goal.next_box_of-at-requires-clause-inside

@@ -2,7 +2,6 @@ use Rattle.std.proofs.Common.{ap, sym, subst, ◌∙◌, ◌<◌, arith}
 use Rattle.core_events.specs.Views.{View}
 use Rattle.core_events.specs.Words.{State}
 use Rattle.core_events.specs.Events.{thread_of, next_box}
-use Rattle.core_events.specs.Conditions.{record_of}
 use Rattle.core_state.proofs.Places.{inside_there, same_there}
 use Rattle.core_state.proofs.state.State.next_box_of.Goals as goal
 

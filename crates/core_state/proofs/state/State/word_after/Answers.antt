@@ -1,10 +1,10 @@
-use Rattle.std.proofs.Common.{◌≡◌, ap, sym, subst, ◌∙◌, arith, ℕ}
+use Rattle.std.proofs.Common.{ap, sym, subst, ◌∙◌, arith, ℕ}
 use Rattle.core_events.specs.Views.{View}
-use Rattle.core_events.specs.Words.{State, found}
-use Rattle.core_events.specs.Events.{name, word_after, view_after}
+use Rattle.core_events.specs.Words.{State}
+use Rattle.core_events.specs.Events.{word_after}
 use Rattle.core_events.specs.Conditions.{May}
 use Rattle.core_events.specs.Telling.{IsSeated, WordTold}
-use Rattle.core_views.specs.Named.{event_of}
+use Rattle.core_setup.specs.Named.{event_of}
 use Rattle.core_state.proofs.Places.{inside_there, same_there}
 use Rattle.core_state.proofs.state.State.word_after.Goals as goal
 

@@ -1,0 +1,23 @@
+use core_lists::numbers::Numbers;
+use std::marker::Model;
+
+/// Whose view it is.
+#[derive(Drop)]
+pub struct Part {
+    /// It was joined into another.
+    pub is_spent: bool,
+    /// The thread that it is the view of.
+    pub thread: Option<u64>,
+    /// The threads of the views that were joined into it.
+    pub ended: Numbers,
+    /// How often it may still be split.
+    pub splits: u64,
+}
+
+impl Model for Part {
+    ghost use Rattle.core_events.specs.Views.{Part};
+
+    ghost Value = { Part };
+
+    ghost view = { λ a. record { is_spent = a.is_spent; thread = a.thread; ended = a.ended; splits = a.splits } };
+}

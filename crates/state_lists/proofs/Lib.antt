@@ -1,0 +1,4 @@
+pub mod Walked
+pub mod Started
+pub mod Places
+pub mod Parted
