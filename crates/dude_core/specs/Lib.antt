@@ -1,0 +1,4 @@
+pub mod CoreState
+pub mod CoreWords
+pub mod MadeCores
+pub mod Steps

@@ -1,0 +1,143 @@
+//! Events as those that a view makes by itself, a group at a time.
+
+ghost use Rattle.std.specs.Prelude.{◌≡◌, ◌≢◌, ℕ, IfSome, IfNone};
+ghost use Rattle.core_events.specs.Partings.{event as step_event};
+ghost use Rattle.core_setup.specs.Named.{event_of, of_read, of_write, of_turn, of_page};
+ghost use Rattle.dude_core.specs.Steps.{step_of, group_of, parting_group, reading, writing, turning, paging};
+
+use crate::event::Event;
+use core_setup::about::About;
+use core_setup::deed::{Deed, PageDeed, ReadDeed, TurnDeed, WriteDeed};
+use dude_base::redo::Redo;
+use dude_base::write_list::WriteList;
+
+/// The event as one that a view makes by itself.
+pub(crate) fn deed_of(event: &Event) -> Deed
+    requires { group_of event.now ≢ parting_group }
+    ensures { (who : ℕ) → step_of who event.now ≡ step_event who (event_of result) }
+{
+    if let Some(deed) = read_deed(event) {
+        return Deed::Read(deed);
+    }
+    if let Some(deed) = write_deed(event) {
+        return Deed::Write(deed);
+    }
+    if let Some(deed) = turn_deed(event) {
+        return Deed::Turn(deed);
+    }
+    match page_deed(event) {
+        Some(deed) => Deed::Page(deed),
+        None => unreachable!(),
+    }
+}
+
+fn read_deed(event: &Event) -> Option<ReadDeed>
+    ensures some { IfSome result (λ deed. (who : ℕ) → step_of who event.now ≡ step_event who (of_read deed)) }
+    ensures none { IfNone result (group_of event.now ≢ reading) }
+{
+    match event {
+        Event::Number => Some(ReadDeed::Number),
+        Event::Clock { extend: true } => Some(ReadDeed::Extend),
+        Event::Clock { extend: false } => Some(ReadDeed::Begin),
+        Event::Look { lock } => Some(ReadDeed::Look { lock: *lock }),
+        Event::Load { at } => Some(ReadDeed::Load { at: *at }),
+        Event::Check { lock } => Some(ReadDeed::Check { lock: *lock }),
+        Event::Finish {
+            file,
+            index,
+            request,
+            reply,
+        } => Some(ReadDeed::Finish {
+            about: About::new(*file, *index, *request, *reply),
+        }),
+        _ => None,
+    }
+}
+
+fn write_deed(event: &Event) -> Option<WriteDeed>
+    ensures some { IfSome result (λ deed. (who : ℕ) → step_of who event.now ≡ step_event who (of_write deed)) }
+    ensures none { IfNone result (group_of event.now ≢ writing) }
+{
+    match event {
+        Event::Take { lock } => Some(WriteDeed::Take { lock: *lock }),
+        Event::Draw {
+            file,
+            index,
+            request,
+            reply,
+            writes,
+        } => Some(WriteDeed::Draw {
+            about: About::new(*file, *index, *request, *reply),
+            writes: writes_of(writes),
+        }),
+        Event::Decide => Some(WriteDeed::Decide),
+        Event::Store { at } => Some(WriteDeed::Store { at: *at }),
+        Event::Release { lock } => Some(WriteDeed::Release { lock: *lock }),
+        Event::Restore { lock } => Some(WriteDeed::Restore { lock: *lock }),
+        _ => None,
+    }
+}
+
+fn turn_deed(event: &Event) -> Option<TurnDeed>
+    ensures some { IfSome result (λ deed. (who : ℕ) → step_of who event.now ≡ step_event who (of_turn deed)) }
+    ensures none { IfNone result (group_of event.now ≢ turning) }
+{
+    match event {
+        Event::SeeBox => Some(TurnDeed::SeeBox),
+        Event::Post => Some(TurnDeed::Post),
+        Event::TakeTurn => Some(TurnDeed::TakeTurn),
+        Event::GiveTurn { failed } => Some(TurnDeed::GiveTurn { failed: *failed }),
+        Event::SeeFull { thread, place } => Some(TurnDeed::SeeFull {
+            thread: *thread,
+            place: *place,
+        }),
+        Event::EmptyBox { thread, place } => Some(TurnDeed::EmptyBox {
+            thread: *thread,
+            place: *place,
+        }),
+        Event::RaiseDurable { value } => Some(TurnDeed::RaiseDurable { value: *value }),
+        Event::RaiseReproduced { value } => Some(TurnDeed::RaiseReproduced { value: *value }),
+        _ => None,
+    }
+}
+
+fn page_deed(event: &Event) -> Option<PageDeed>
+    ensures some { IfSome result (λ deed. (who : ℕ) → step_of who event.now ≡ step_event who (of_page deed)) }
+    ensures none { IfNone result (group_of event.now ≢ paging) }
+{
+    match event {
+        Event::Entry { page } => Some(PageDeed::Entry { page: *page }),
+        Event::Pin { page } => Some(PageDeed::Pin { page: *page }),
+        Event::Unpin { page } => Some(PageDeed::Unpin { page: *page }),
+        Event::Touch { page } => Some(PageDeed::Touch { page: *page }),
+        Event::LoadTouch { page } => Some(PageDeed::LoadTouch { page: *page }),
+        Event::Evict { page } => Some(PageDeed::Evict { page: *page }),
+        Event::Fill {
+            page,
+            frame,
+            at,
+            value,
+        } => Some(PageDeed::Fill {
+            page: *page,
+            frame: *frame,
+            at: *at,
+            value: *value,
+        }),
+        Event::Show { page, frame } => Some(PageDeed::Show {
+            page: *page,
+            frame: *frame,
+        }),
+        _ => None,
+    }
+}
+
+// The writes of the record.
+fn writes_of(record: &Redo) -> WriteList
+    ensures { result ≡ record.now.writes }
+{
+    let mut writes = WriteList::new();
+    for k in 0..record.len() {
+        writes.put(record.write_at(k)).unwrap();
+    }
+    writes
+}

@@ -1,0 +1,107 @@
+ghost use Rattle.std.specs.Prelude.{◌≡◌, ◌↔◌, ◌⊎◌, ◌*◌, ◌≤◌, length, slice_get, option_map, IfOk, IfErr, OnOk, OnErr, IsErrOf};
+ghost use Rattle.dude_base.specs.declared.limits.TheConstants.{PAGE as PAGE_WORDS, MAX_RINGS, MAX_NUMBER};
+ghost use Rattle.dude_base.specs.Run.{IsRunWithin};
+ghost use Rattle.dude_base.specs.Sizes.{IsAccepted, IsFrom};
+ghost use Rattle.core_events.specs.Setups.{IsSetup};
+ghost use Rattle.core_events.specs.Words.{found};
+ghost use Rattle.core_events.specs.Partings.{Leads};
+ghost use Rattle.core_events.specs.Kept.{Kept};
+ghost use Rattle.core_state.specs.Steps.{IsOffAt};
+ghost use Rattle.dude_core.specs.declared.core_fault.CoreFault.TheVariants.{Size, NoMemory};
+ghost use Rattle.dude_core.specs.CoreWords.{HasWord, word_at};
+ghost use Rattle.dude_core.specs.MadeCores.{setup_of, core_of};
+ghost use Rattle.dude_core.specs.Steps.{step_of};
+
+use crate::core_fault::CoreFault;
+use crate::core_word::CoreWord;
+use crate::event::Event;
+use crate::named::word_of;
+use crate::steps::step;
+use core_setup::setup::Setup;
+use core_state::core_refusal::CoreRefusal;
+use core_state::state::State;
+use core_view::view::View;
+use dude_base::run::Run;
+use dude_base::sizes::Sizes;
+use std::alloc::Global;
+use std::marker::Model;
+
+/// The machine: what it is set up with, within its limits, and its state, which is kept.
+#[derive(Drop)]
+pub struct Core {
+    setup: Setup,
+    state: State,
+}
+
+impl Model for Core {
+    ghost use Rattle.dude_core.specs.CoreState.{CoreState};
+
+    ghost Value = { CoreState };
+
+    ghost use Rattle.core_events.specs.Setups.{IsSetup};
+    ghost use Rattle.core_events.specs.Kept.{Kept};
+
+    ghost view = { λ a. record { setup = a.setup; state = a.state } };
+
+    ghost invariant = { λ a. IsSetup a.setup × Kept a.setup a.state };
+}
+
+impl Core {
+    /// The machine at its start over these home words, whose first pages are in frames.
+    pub fn new(
+        alloc: Global,
+        words: Vec<u64>,
+        sizes: &Sizes,
+        run: &Run,
+        threads: u64,
+        number: u64,
+    ) -> Result<Core, CoreFault>
+        requires sizes { IsAccepted sizes.now }
+        requires words { length words.items ≡ sizes.now.pages * PAGE_WORDS }
+        requires number { number ≤ MAX_NUMBER }
+        ensures made { IfOk result (λ core. core ≡ core_of (setup_of words.items sizes.now.pages run.now threads number)) }
+        ensures setup { IfOk result (λ core. IsSetup core.setup) }
+        ensures kept { IfOk result (λ core. Kept core.setup core.state) }
+        ensures size { IsErrOf result (Size run.now.frames sizes.now.pages) ↔ (IsFrom 1 MAX_RINGS threads × IsRunWithin sizes.now.pages run.now → ⊥) }
+        ensures fault { IfErr result (λ fault. (fault ≡ Size run.now.frames sizes.now.pages) ⊎ (fault ≡ NoMemory)) }
+    {
+        match Setup::new(words, sizes.pages, run, threads, number) {
+            Some(setup) => {
+                let state = State::start(alloc, &setup)?;
+                Ok(Core { setup, state })
+            }
+            None => Err(CoreFault::Size {
+                frames: run.frames,
+                pages: sizes.pages,
+            }),
+        }
+    }
+
+    /// What the word holds.
+    pub fn word(&self, word: CoreWord) -> u64
+        requires { HasWord self.now.setup word }
+        ensures { result ≡ found self.now.state (word_at self.now.setup word) }
+    {
+        self.state.found(word_of(&self.setup, word))
+    }
+
+    /// The view `who`, if it is there. The first view is 0, and the others follow in the order in
+    /// which they were split off.
+    pub fn view(&self, who: u64) -> Option<&View>
+        ensures { option_map (λ view. view.now) result ≡ slice_get self.now.state.views who }
+    {
+        self.state.view(who)
+    }
+}
+
+/// Makes an event by the view `who`. It is `Off` exactly where the definitions don't allow it;
+/// after an `Err` the core is as it was.
+pub fn core_step(alloc: Global, core: &mut Core, who: u64, event: &Event) -> Result<(), CoreRefusal>
+    ensures ok { OnOk result (Leads core.old.setup core.old.state (step_of who event.now) core.new.state) }
+    ensures setup { core.new.setup ≡ core.old.setup }
+    ensures kept { Kept core.new.setup core.new.state }
+    ensures err { OnErr result (core.new ≡ core.old) }
+    ensures off { IsErrOf result CoreRefusal.Off ↔ IsOffAt core.old.setup core.old.state (step_of who event.now) }
+{
+    step(&mut core.state, alloc, &core.setup, who, event)
+}

@@ -1,0 +1,33 @@
+//! An event made on the state.
+
+ghost use Rattle.std.specs.Prelude.{◌≡◌, ◌↔◌, OnOk, OnErr, IsErrOf};
+ghost use Rattle.core_events.specs.Partings.{Leads};
+ghost use Rattle.core_events.specs.Kept.{Kept};
+ghost use Rattle.core_state.specs.Steps.{IsOffAt};
+ghost use Rattle.dude_core.specs.Steps.{step_of};
+
+use crate::deeds::deed_of;
+use crate::event::Event;
+use core_setup::setup::Setup;
+use core_state::core_refusal::CoreRefusal;
+use core_state::state::State;
+use std::alloc::Global;
+
+pub(crate) fn step(
+    state: &mut State,
+    alloc: Global,
+    z: &Setup,
+    who: u64,
+    event: &Event,
+) -> Result<(), CoreRefusal>
+    requires { Kept z.now state.old }
+    ensures ok { OnOk result (Leads z.now state.old (step_of who event.now) state.new) }
+    ensures err { OnErr result (state.new ≡ state.old) }
+    ensures off { IsErrOf result CoreRefusal.Off ↔ IsOffAt z.now state.old (step_of who event.now) }
+{
+    match event {
+        Event::Split { draws } => state.split(alloc, z, who, *draws),
+        Event::Join { other } => state.join(alloc, z, who, *other),
+        _ => state.make(alloc, z, who, &deed_of(event)),
+    }
+}
