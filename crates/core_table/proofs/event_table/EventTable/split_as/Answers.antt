@@ -1,0 +1,13 @@
+use Rattle.std.proofs.Common.{◌≡◌, ◌∙◌, sym, ap}
+use Rattle.core_table.specs.Layout.{TableSight}
+use Rattle.core_table.proofs.Parted.{by_split, some_word}
+use Rattle.core_table.proofs.event_table.EventTable.split_as.Goals as goal
+
+pub split_seat-requires : goal.split_seat-requires
+split_seat-requires g c =
+    let t = c.args.self.now in let i = c.self.inside.table.shared in let seat = c.args.seat.now in let r = c.requires in
+    let is : i.key ≡ t.setup = ap (λ (u : TableSight). u.setup) c.self.view_is in (
+      r.seat.table ∙ sym (ap (λ (u : TableSight). u.id) c.self.view_is),
+      some_word t i.key i.table_id c.self.invariant.words_are,
+      rw (is, r.setup) (by_split g.P.SlotRule.fact t.setup g.P.SlotRule.beside seat.id g.C.Cut.draws seat.me.0 r.can r.slots),
+    )

@@ -1,0 +1,33 @@
+//! A table that no thread shares any more.
+
+ghost use Rattle.std.specs.Prelude.{◌≡◌};
+ghost use Rattle.std.specs.Mem.Slots.{slots_items, slots_len, IsFull};
+ghost use Rattle.atomic_table.specs.Table.{Final, Seen};
+ghost use Rattle.core_table.specs.Places.{count};
+ghost use Rattle.core_table.specs.Rules.{Holds};
+ghost use Rattle.core_table.specs.Steps.{BelongsTo};
+
+use crate::event_table::{EventTable, Seat};
+use crate::slot_rule::SlotRule;
+use atomic_table::Closed;
+use std::alloc::Global;
+
+impl<S, X, P: SlotRule<S, X>> EventTable<S, X, P> {
+    /// Ends the table with the last seat: its words and slots are those of a state that keeps the
+    /// rule, in which the seat knows what it knows.
+    pub fn close(self, seat: Seat<S, X>) -> Closed<S, Global>
+        requires { BelongsTo self seat }
+        ensures counts { (slots_len result.words ≡ count self.setup) × (slots_len result.slots ≡ self.id.slots) }
+        ensures values { IsFull result.words × IsFull result.slots × Final (Seen (Holds P.fact self.setup) seat.id seat.me.0) (slots_items result.words) (slots_items result.slots) }
+    {
+        let EventTable {
+            table,
+            threads: _,
+            locks: _,
+            pages: _,
+            frames: _,
+            boxes: _,
+        } = self;
+        table.close_with(seat)
+    }
+}

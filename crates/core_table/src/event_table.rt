@@ -1,0 +1,31 @@
+use crate::known::Known;
+use crate::law::Law;
+use crate::slot_rule::SlotRule;
+use crate::terms::Terms;
+use atomic_table::Table;
+use std::alloc::Global;
+use std::marker::Model;
+
+/// What a thread makes its steps with.
+pub type Seat<S, X> = atomic_table::Seat<S, Known<X>>;
+
+/// The words of the machine, on a table with slots of the type `S`.
+#[derive(Drop)]
+pub struct EventTable<S, X, P: SlotRule<S, X>> {
+    pub(crate) table: Table<S, Known<X>, Terms, Law<P>, Global>,
+    pub(crate) threads: u64,
+    pub(crate) locks: u64,
+    pub(crate) pages: u64,
+    pub(crate) frames: u64,
+    pub(crate) boxes: u64,
+}
+
+impl<S, X, P: SlotRule<S, X>> Model for EventTable<S, X, P> {
+    ghost use Rattle.core_table.specs.Layout.{TableSight, IsLaidOut};
+
+    ghost Value = { TableSight };
+
+    ghost view = { λ t. record { id = t.table.shared.table_id; setup = t.table.shared.key } };
+
+    ghost invariant = { λ t. IsLaidOut t.table.shared.key t.table.shared.table_id.words t.threads t.locks t.pages t.frames t.boxes };
+}

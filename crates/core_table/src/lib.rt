@@ -1,0 +1,18 @@
+//! The words of the machine of running transactions on a table that threads share. A step on the
+//! table is an event of the machine, made by a seat whose view allows it.
+#![tactic(auto)]
+
+pub mod choice;
+mod closing;
+pub mod cut;
+pub mod event_table;
+pub mod known;
+pub mod law;
+mod opening;
+mod partings;
+pub mod places;
+pub mod plays;
+pub mod seat_moves;
+pub mod slot_rule;
+mod steps;
+pub mod terms;

@@ -1,0 +1,38 @@
+//! A seat is split in two, and two seats are joined.
+
+ghost use Rattle.std.specs.Prelude.{◌≡◌, []};
+ghost use Rattle.core_events.specs.Partings.{newcomer};
+ghost use Rattle.core_table.specs.Rules.{OutlastsSplit, OutlastsJoin};
+ghost use Rattle.core_table.specs.Seats.{CanSplit, CanJoin, known_left, known_both};
+ghost use Rattle.core_table.specs.Steps.{BelongsTo};
+
+use crate::cut::Cut;
+use crate::event_table::{EventTable, Seat};
+use crate::seat_moves::{Joins, Splits};
+use crate::slot_rule::SlotRule;
+
+impl<S, X, P: SlotRule<S, X>> EventTable<S, X, P> {
+    /// A split that hands on the draws of `C`, which are picked from `_draws`.
+    pub fn split_as<C: Cut>(&self, seat: &mut Seat<S, X>, _draws: u64) -> Seat<S, X>
+        requires setup { C.setup ≡ self.now.setup }
+        requires seat { BelongsTo self.now seat.old }
+        requires can { CanSplit seat.old.me.0.view C.draws }
+        requires slots { OutlastsSplit P.fact self.now.setup C.draws P.beside }
+        ensures seat { BelongsTo self.now seat.new × (seat.new.id ≡ seat.old.id) × (seat.new.me ≡ (known_left C.draws seat.old.me.0, seat.old.me.1)) }
+        ensures other { BelongsTo self.now result × (result.me ≡ (record { view = newcomer self.now.setup 0 C.draws; beside = P.beside }, [])) }
+    {
+        self.table.shared.split_seat::<Splits<S, P, C>>(seat)
+    }
+
+    /// A join. The setup is that of `C`.
+    pub fn join_as<C: Cut>(&self, seat: &mut Seat<S, X>, other: Seat<S, X>)
+        requires setup { C.setup ≡ self.now.setup }
+        requires seat { BelongsTo self.now seat.old }
+        requires other { BelongsTo self.now other × (other.me.1 ≡ []) }
+        requires can { CanJoin seat.old.me.0.view other.me.0.view }
+        requires slots { OutlastsJoin P.fact self.now.setup P.beside }
+        ensures { BelongsTo self.now seat.new × (seat.new.id ≡ seat.old.id) × (seat.new.me ≡ (known_both seat.old.me.0 other.me.0, seat.old.me.1)) }
+    {
+        self.table.shared.join_seat::<Joins<S, P, C>>(seat, other)
+    }
+}

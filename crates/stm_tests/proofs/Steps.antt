@@ -1,0 +1,57 @@
+-- Steps of the history that are allowed, and what the seat knows of the rest of the state where they ask something of it.
+use Rattle.std.proofs.Common.{◌≡◌, ℕ, ◌<◌, ◌≤◌, List, [], ◌∷◌, true, refl, ap, ◌∙◌, arith}
+use Rattle.std.specs.Prelude.{Some}
+use mathlib.Core.Option.{Option, some}
+use lib.ListN.{get_elem?}
+use Rattle.core_events.specs.Setups.{Setup}
+use Rattle.core_events.specs.Keyed.{find, has}
+use Rattle.core_events.specs.Views.{View}
+use Rattle.core_events.specs.Words.{State}
+use Rattle.core_events.specs.Events.{Event, store, touch, take_turn, see_full, empty_box, see_box, raise_durable, raise_reproduced, view_after}
+use Rattle.core_events.specs.Conditions.{May}
+use Rattle.core_events.specs.KeptNumbers.{numbers_of}
+use Rattle.core_table.specs.Known.{Known}
+use Rattle.core_table.specs.Rules.{Foreseen}
+use Rattle.core_table.proofs.Foreseen.{box_full, clock_upto, durable_drawn, durable_raised, drawn_persisted}
+use Rattle.stm_tests.specs.Views.{two, decided, posted, after_all}
+
+pub can_store : May two (store 3) decided
+can_store = record { live = refl; threaded = (0, refl); named = omega arith; can = (refl, (7, refl), (0, refl), (0, refl)) }
+
+pub can_touch : May two (touch 0) (view_after two (store 3) decided 0)
+can_touch = record { live = refl; threaded = (0, refl); named = omega arith; can = (refl, (3, (7, refl), refl), (0, refl)) }
+
+abbrev pub turn_taken : View
+turn_taken = after_all ((take_turn, 0) ∷ (see_full 0 0, 1) ∷ []) posted
+
+abbrev pub box_seen : View
+box_seen = after_all ((empty_box 0 0, 0) ∷ (see_box, 0) ∷ []) turn_taken
+
+abbrev pub durable_one : View
+durable_one = view_after two (raise_durable 1) box_seen 0
+
+only_one : (l : List ℕ) → has l 1 ≡ true → (n : ℕ) → 0 < n → n ≤ 1 → has l n ≡ true
+only_one l h n pos le = let e : n ≡ 1 = omega arith in rw e h
+
+module _ {S X : Type 0} (slot_fact : Setup → State → List X → List (Option S) → Type 0) (id : ℕ) (k : Known X) where
+  pub empty_fits : k.view ≡ turn_taken → Foreseen slot_fact two (empty_box 0 0) id k
+  empty_fits is s h at = box_full slot_fact two id k s h at 0 1 (ap (λ (v : View). v.turn.has_it) is) (ap (λ (v : View). find v.turn.full 0) is)
+
+  pub durable_fits : k.view ≡ box_seen → Foreseen slot_fact two (raise_durable 1) id k
+  durable_fits is s h at =
+      let draws : k.view.draws ≡ box_seen.draws = ap (λ (v : View). v.draws) is in
+      let up = clock_upto slot_fact two id k s h at 1 (omega arith) in let drawn = durable_drawn slot_fact two id k s h at in
+      let number_is : k.view.tx.hand.number ≡ 0 = ap (λ (v : View). v.tx.hand.number) is in
+      let kept = drawn_persisted slot_fact two id k s h at 1 (ap (λ (v : View). has v.drawn 1) is) (λ e. absurd (omega arith)) refl (ap (λ (v : View). v.box.is_empty) is) in
+      (omega arith, (λ n pos le. only_one (numbers_of h.core.persisted) kept n pos le))
+
+  pub reproduced_fits : k.view ≡ durable_one → Foreseen slot_fact two (raise_reproduced 1) id k
+  reproduced_fits is s h at =
+      let draws : k.view.draws ≡ durable_one.draws = ap (λ (v : View). v.draws) is in let number : k.view.turn.durable ≡ 1 = ap (λ (v : View). v.turn.durable) is in
+      let up = clock_upto slot_fact two id k s h at 1 (omega arith) in let drawn = durable_drawn slot_fact two id k s h at in let raised = durable_raised slot_fact two id k s h at in
+      let low = raised.0 in let ordered = raised.1 in
+      (omega arith, omega arith)
+
+-- the view after a step, where the one before and the number found are known
+pub next_view : (z : Setup) (e : Event) (v w u : View) (n m : ℕ) → z ≡ two → v ≡ u → n ≡ m → w ≡ view_after z e v n → w ≡ view_after two e u m
+next_view z e v w u n m setup before found is = is ∙ (λ i. view_after (setup i) e (before i) (found i))

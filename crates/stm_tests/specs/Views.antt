@@ -1,0 +1,59 @@
+-- What the first seat of a short history knows, after each part of it. Numbers are those that the test expects to find.
+use Rattle.std.specs.Prelude.{ℕ, List, [], ◌∷◌, replicate, true, false}
+use Rattle.dude_base.specs.declared.limits.TheConstants.{PAGE}
+use Rattle.dude_base.specs.declared.write.Write.{Write}
+use Rattle.tatp_model.specs.declared.request.Request.TheVariants.{Sync}
+use Rattle.tatp_model.specs.declared.reply.Reply.TheVariants.{Durable}
+use Rattle.core_events.specs.Setups.{Setup}
+use Rattle.core_events.specs.Views.{View}
+use Rattle.core_events.specs.Events.{Event, number, see_box, begin, entry, pin, look, load, check, finish, take, draw, decide, store, touch, release, unpin, post, take_turn, see_full, empty_box, raise_durable, raise_reproduced, give_turn, extend, restore, evict, load_touch, view_after}
+use Rattle.core_events.specs.Partings.{newcomer, left_of, both_of}
+use Rattle.core_table.specs.Seats.{opener}
+use Rattle.tiny_stm.specs.Abouts.{about}
+
+-- two threads, one lock, page, frame and box; all words are 0
+abbrev pub two : Setup
+two = record { threads = 2; locks = 1; pages = 1; frames = 1; boxes = 1; opening = replicate PAGE 0; first = 0; is_told = true; may_fail = false }
+
+abbrev pub one_write : List Write
+one_write = record { at = 3; value = 7 } ∷ []
+
+-- the view after events that found these numbers
+abbrev pub after_all : List (Event × ℕ) → View → View
+after_all [] v = v
+after_all (x ∷ xs) v = after_all xs (view_after two x.0 v x.1)
+
+abbrev pub entered : View
+entered = view_after two number (left_of 0 (opener two)) 0
+
+-- of the second seat
+abbrev pub entered_too : View
+entered_too = view_after two number (newcomer two 0 0) 1
+
+abbrev pub read_out : View
+read_out = after_all ((begin, 0) ∷ (entry 0, 65_536) ∷ (pin 0, 65_536) ∷ (look 0, 0) ∷ (load 3, 0) ∷ (check 0, 0) ∷ (unpin 0, 65_537) ∷ (finish (about 0 0 Sync Durable), 2) ∷ []) entered
+
+abbrev pub decided : View
+decided = after_all ((see_box, 0) ∷ (begin, 0) ∷ (entry 0, 65_536) ∷ (pin 0, 65_536) ∷ (look 0, 0) ∷ (take 0, 0) ∷ (draw (about 0 1 Sync Durable) one_write, 0) ∷ (decide, 1) ∷ []) read_out
+
+abbrev pub posted : View
+posted = after_all ((store 3, 0) ∷ (touch 0, 0) ∷ (release 0, 0) ∷ (unpin 0, 65_537) ∷ (post, 0) ∷ []) decided
+
+abbrev pub settled : View
+settled = after_all ((take_turn, 0) ∷ (see_full 0 0, 1) ∷ (empty_box 0 0, 0) ∷ (see_box, 0) ∷ (raise_durable 1, 0) ∷ (raise_reproduced 1, 0) ∷ (give_turn false, 0) ∷ []) posted
+
+abbrev pub joined : View
+joined = both_of settled entered_too
+
+abbrev pub read_back : View
+read_back = after_all ((begin, 1) ∷ (entry 0, 65_536) ∷ (pin 0, 65_536) ∷ (look 0, 2) ∷ (load 3, 7) ∷ (check 0, 2) ∷ []) joined
+
+-- ---- of a history of the other kinds, by one seat
+abbrev pub alone : View
+alone = view_after two number (opener two) 0
+
+abbrev pub given_back : View
+given_back = after_all ((begin, 0) ∷ (extend, 0) ∷ (look 0, 0) ∷ (take 0, 0) ∷ (restore 0, 0) ∷ (finish (about 0 0 Sync Durable), 1) ∷ []) alone
+
+abbrev pub dropped : View
+dropped = after_all ((take_turn, 0) ∷ (entry 0, 65_536) ∷ (evict 0, 65_536) ∷ (load_touch 0, 0) ∷ (give_turn false, 0) ∷ []) given_back

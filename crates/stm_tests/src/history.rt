@@ -1,0 +1,104 @@
+//! A short history: a thread reads a word, writes it, and settles its record.
+
+ghost use Rattle.std.specs.Prelude.{◌≡◌, [], OnOk};
+ghost use Rattle.core_table.specs.Steps.{BelongsTo};
+ghost use Rattle.stm_tests.specs.Views.{two, one_write, entered, read_out, decided, posted, settled, joined, read_back};
+
+use crate::odd::{Odd, expect};
+use core_table::event_table::Seat;
+use core_table::slot_rule::AnySlots;
+use dude_base::write_list::WriteList;
+use tatp_model::reply::Reply;
+use tatp_model::request::Request;
+use tiny_stm::stm::Stm;
+
+pub type Small = Stm<(), (), AnySlots>;
+
+/// A transaction that reads the word 3.
+pub fn read(stm: &Small, seat: &mut Seat<(), ()>) -> Result<(), Odd>
+    requires setup { stm.now.events.setup ≡ two }
+    requires seat { BelongsTo stm.now.events seat.old }
+    requires view { seat.old.me.0.view ≡ entered }
+    ensures seat { OnOk result (BelongsTo stm.now.events seat.new) }
+    ensures view { OnOk result (seat.new.me.0.view ≡ read_out) }
+{
+    expect(stm.clock(seat), 0)?;
+    expect(stm.entry(seat, 0), 65_536)?;
+    expect(stm.pin(seat, 0, 65_536), 65_536)?;
+    expect(stm.look(seat, 0), 0)?;
+    expect(stm.load(seat, 3, 0), 0)?;
+    expect(stm.check(seat, 0), 0)?;
+    expect(stm.unpin(seat, 0), 65_537)?;
+    expect(stm.finish(seat, 0, 0, &Request::Sync, &Reply::Durable), 2)
+}
+
+/// Another transaction takes the lock, draws a number for the writes and decides it.
+pub fn own(stm: &Small, seat: &mut Seat<(), ()>, writes: &WriteList) -> Result<(), Odd>
+    requires setup { stm.now.events.setup ≡ two }
+    requires seat { BelongsTo stm.now.events seat.old }
+    requires view { seat.old.me.0.view ≡ read_out }
+    requires writes { writes.now ≡ one_write }
+    ensures seat { OnOk result (BelongsTo stm.now.events seat.new) }
+    ensures view { OnOk result (seat.new.me.0.view ≡ decided) }
+{
+    expect(stm.see_box(seat, 0, 0), 0)?;
+    expect(stm.clock(seat), 0)?;
+    expect(stm.entry(seat, 0), 65_536)?;
+    expect(stm.pin(seat, 0, 65_536), 65_536)?;
+    expect(stm.look(seat, 0), 0)?;
+    expect(stm.take(seat, 0, 0, 0), 0)?;
+    expect(
+        stm.draw(seat, 0, 1, &Request::Sync, &Reply::Durable, writes),
+        0,
+    )?;
+    expect(stm.decide(seat, 0), 1)
+}
+
+/// It stores its value and posts its record.
+pub fn publish(stm: &Small, seat: &mut Seat<(), ()>) -> Result<(), Odd>
+    requires setup { stm.now.events.setup ≡ two }
+    requires seat { BelongsTo stm.now.events seat.old }
+    requires view { seat.old.me.0.view ≡ decided }
+    ensures seat { OnOk result (BelongsTo stm.now.events seat.new) }
+    ensures view { OnOk result (seat.new.me.0.view ≡ posted) }
+{
+    stm.store(seat, 3, 0, 7);
+    expect(stm.touch(seat, 0, 1), 0)?;
+    stm.release(seat, 0, 1);
+    expect(stm.unpin(seat, 0), 65_537)?;
+    stm.post(seat, 0, 0, 1);
+    Ok(())
+}
+
+/// The thread takes the turn, empties its box and raises both numbers.
+pub fn settle(stm: &Small, seat: &mut Seat<(), ()>) -> Result<(), Odd>
+    requires setup { stm.now.events.setup ≡ two }
+    requires seat { BelongsTo stm.now.events seat.old }
+    requires view { seat.old.me.0.view ≡ posted }
+    ensures seat { OnOk result (BelongsTo stm.now.events seat.new) }
+    ensures view { OnOk result (seat.new.me.0.view ≡ settled) }
+{
+    expect(stm.take_turn(seat, 0), 0)?;
+    expect(stm.see_full(seat, 0, 0), 1)?;
+    stm.empty_box(seat, 0, 0);
+    expect(stm.see_box(seat, 0, 0), 0)?;
+    stm.raise_durable(seat, 1);
+    stm.raise_reproduced(seat, 1);
+    stm.give_turn(seat, false);
+    Ok(())
+}
+
+/// A later transaction finds the value.
+pub fn read_again(stm: &Small, seat: &mut Seat<(), ()>) -> Result<(), Odd>
+    requires setup { stm.now.events.setup ≡ two }
+    requires seat { BelongsTo stm.now.events seat.old }
+    requires view { seat.old.me.0.view ≡ joined }
+    ensures view { OnOk result (seat.new.me.0.view ≡ read_back) }
+{
+    expect(stm.clock(seat), 1)?;
+    expect(stm.entry(seat, 0), 65_536)?;
+    expect(stm.pin(seat, 0, 65_536), 65_536)?;
+    expect(stm.look(seat, 0), 2)?;
+    expect(stm.load(seat, 3, 0), 7)?;
+    expect(stm.check(seat, 0), 2)
+}

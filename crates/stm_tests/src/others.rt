@@ -1,0 +1,43 @@
+//! The kinds of step that the first history doesn't have: a lock is given back, and a page is
+//! dropped.
+
+ghost use Rattle.std.specs.Prelude.{◌≡◌, OnOk};
+ghost use Rattle.core_table.specs.Steps.{BelongsTo};
+ghost use Rattle.stm_tests.specs.Views.{two, alone, given_back, dropped};
+
+use crate::history::Small;
+use crate::odd::{Odd, expect};
+use core_table::event_table::Seat;
+use tatp_model::reply::Reply;
+use tatp_model::request::Request;
+
+/// A transaction extends its snapshot, takes a lock and gives it back.
+pub fn give_back(stm: &Small, seat: &mut Seat<(), ()>) -> Result<(), Odd>
+    requires setup { stm.now.events.setup ≡ two }
+    requires seat { BelongsTo stm.now.events seat.old }
+    requires view { seat.old.me.0.view ≡ alone }
+    ensures seat { OnOk result (BelongsTo stm.now.events seat.new) }
+    ensures view { OnOk result (seat.new.me.0.view ≡ given_back) }
+{
+    expect(stm.clock(seat), 0)?;
+    expect(stm.extend(seat), 0)?;
+    expect(stm.look(seat, 0), 0)?;
+    expect(stm.take(seat, 0, 0, 0), 0)?;
+    stm.restore(seat, 0, 0);
+    expect(stm.finish(seat, 0, 0, &Request::Sync, &Reply::Durable), 1)
+}
+
+/// The thread takes the turn and makes a page absent.
+pub fn drop_page(stm: &Small, seat: &mut Seat<(), ()>) -> Result<(), Odd>
+    requires setup { stm.now.events.setup ≡ two }
+    requires seat { BelongsTo stm.now.events seat.old }
+    requires view { seat.old.me.0.view ≡ given_back }
+    ensures view { OnOk result (seat.new.me.0.view ≡ dropped) }
+{
+    expect(stm.take_turn(seat, 0), 0)?;
+    expect(stm.entry(seat, 0), 65_536)?;
+    expect(stm.evict(seat, 0, 65_536), 65_536)?;
+    expect(stm.load_touch(seat, 0), 0)?;
+    stm.give_turn(seat, false);
+    Ok(())
+}

@@ -1,0 +1,69 @@
+//! The whole history, from a new table on.
+
+ghost use Rattle.std.specs.Prelude.{◌≡◌, IfOk, OnOk};
+ghost use Rattle.stm_tests.specs.Views.{two, one_write};
+
+use crate::history::{Small, own, publish, read, read_again, settle};
+use crate::odd::expect;
+use crate::others::{drop_page, give_back};
+use crate::trouble::Trouble;
+use core_table::terms::Terms;
+use dude_base::write::Write;
+use dude_base::write_list::WriteList;
+use std::alloc::{AllocError, Global};
+use tiny_stm::stm::Stm;
+
+/// A second seat is split off, which draws nothing, and is joined again behind the first one's
+/// transactions.
+pub fn whole(alloc: Global) -> Result<(), Trouble> {
+    let terms = smallest(alloc)?;
+    let writes = one_write();
+    let (stm, mut seat): (Small, _) = Stm::new(alloc, &terms, Vec::new(alloc))?;
+    let mut other = stm.split(&mut seat, 0);
+    expect(stm.number(&mut seat), 0)?;
+    expect(stm.number(&mut other), 1)?;
+    read(&stm, &mut seat)?;
+    own(&stm, &mut seat, &writes)?;
+    publish(&stm, &mut seat)?;
+    settle(&stm, &mut seat)?;
+    stm.join(&mut seat, other);
+    read_again(&stm, &mut seat)?;
+    Ok(())
+}
+
+/// One seat gives a lock back, and drops a page.
+pub fn others(alloc: Global) -> Result<(), Trouble> {
+    let terms = smallest(alloc)?;
+    let (stm, mut seat): (Small, _) = Stm::new(alloc, &terms, Vec::new(alloc))?;
+    expect(stm.number(&mut seat), 0)?;
+    give_back(&stm, &mut seat)?;
+    drop_page(&stm, &mut seat)?;
+    Ok(())
+}
+
+// Two threads, and one of each other thing.
+fn smallest(alloc: Global) -> Result<Terms, AllocError>
+    ensures { IfOk result (λ terms. terms ≡ two) }
+{
+    Ok(Terms {
+        threads: 2,
+        locks: 1,
+        pages: 1,
+        frames: 1,
+        boxes: 1,
+        opening: vec![in alloc; 0u64; 64]?,
+        first: 0,
+        is_told: true,
+        may_fail: false,
+    })
+}
+
+// The value 7 for the word 3.
+fn one_write() -> WriteList
+    ensures { result ≡ one_write }
+{
+    let mut writes = WriteList::new();
+    let put = writes.put(Write { at: 3, value: 7 });
+    prove!(put.is_ok());
+    writes
+}

@@ -1,0 +1,126 @@
+//! The steps on boxes, and those of the turn.
+
+ghost use Rattle.std.specs.Prelude.{◌≡◌, Some};
+ghost use Rattle.core_events.specs.Events.{empty_box, give_turn, post, raise_durable, raise_reproduced, see_box, see_full, take_turn, view_after};
+ghost use Rattle.core_events.specs.Conditions.{May};
+ghost use Rattle.core_table.specs.Rules.{Foreseen, Outlasts};
+ghost use Rattle.core_table.specs.Steps.{BelongsTo, IsSame, HasFound};
+
+use crate::stm::Stm;
+use core_table::event_table::Seat;
+use core_table::places::{DURABLE, REPRODUCED, TURN};
+use core_table::slot_rule::SlotRule;
+use std::marker::Brand;
+
+impl<S, X, P: SlotRule<S, X>> Stm<S, X, P> {
+    /// Loads the word of the thread's next box.
+    pub fn see_box(&self, seat: &mut Seat<S, X>, thread: u64, place: u64) -> u64
+        requires seat { BelongsTo self.now.events seat.old }
+        requires thread { seat.old.me.0.view.part.thread ≡ Some thread }
+        requires place { seat.old.me.0.view.box.next ≡ place }
+        requires may { May self.now.events.setup see_box seat.old.me.0.view }
+        requires slots { Outlasts P.fact self.now.events.setup see_box }
+        ensures view { seat.new.me.0.view ≡ view_after self.now.events.setup see_box seat.old.me.0.view result }
+        ensures found { HasFound self.now.events see_box seat.old seat.new result }
+    {
+        self.events
+            .load_as::<Brand, ()>(seat, self.events.box_place(thread, place), &())
+    }
+
+    /// Stores the number in the thread's next box, and ends the transaction.
+    pub fn post(&self, seat: &mut Seat<S, X>, thread: u64, place: u64, number: u64)
+        requires seat { BelongsTo self.now.events seat.old }
+        requires thread { seat.old.me.0.view.part.thread ≡ Some thread }
+        requires place { seat.old.me.0.view.box.next ≡ place }
+        requires number { seat.old.me.0.view.tx.hand.number ≡ number }
+        requires may { May self.now.events.setup post seat.old.me.0.view }
+        requires slots { Outlasts P.fact self.now.events.setup post }
+        ensures view { seat.new.me.0.view ≡ view_after self.now.events.setup post seat.old.me.0.view 0 }
+        ensures same { IsSame self.now.events seat.old seat.new }
+    {
+        self.events
+            .store_as::<Brand, ()>(seat, self.events.box_place(thread, place), number, &())
+    }
+
+    /// Takes the turn, where nobody has it.
+    pub fn take_turn(&self, seat: &mut Seat<S, X>, thread: u64) -> u64
+        requires seat { BelongsTo self.now.events seat.old }
+        requires thread { seat.old.me.0.view.part.thread ≡ Some thread }
+        requires may { May self.now.events.setup take_turn seat.old.me.0.view }
+        requires slots { Outlasts P.fact self.now.events.setup take_turn }
+        ensures view { seat.new.me.0.view ≡ view_after self.now.events.setup take_turn seat.old.me.0.view result }
+        ensures found { HasFound self.now.events take_turn seat.old seat.new result }
+    {
+        self.events
+            .exchange_as::<Brand, ()>(seat, TURN, 0, thread + 1, &())
+    }
+
+    /// Gives the turn back; `failed` says whether it met a fault.
+    pub fn give_turn(&self, seat: &mut Seat<S, X>, failed: bool)
+        requires seat { BelongsTo self.now.events seat.old }
+        requires may { May self.now.events.setup (give_turn failed) seat.old.me.0.view }
+        requires slots { Outlasts P.fact self.now.events.setup (give_turn failed) }
+        ensures view { seat.new.me.0.view ≡ view_after self.now.events.setup (give_turn failed) seat.old.me.0.view 0 }
+        ensures same { IsSame self.now.events seat.old seat.new }
+    {
+        self.events.store_as::<Brand, bool>(seat, TURN, 0, &failed)
+    }
+
+    /// Loads the word of a box, while the turn is had.
+    pub fn see_full(&self, seat: &mut Seat<S, X>, thread: u64, place: u64) -> u64
+        requires seat { BelongsTo self.now.events seat.old }
+        requires may { May self.now.events.setup (see_full thread place) seat.old.me.0.view }
+        requires slots { Outlasts P.fact self.now.events.setup (see_full thread place) }
+        ensures view { seat.new.me.0.view ≡ view_after self.now.events.setup (see_full thread place) seat.old.me.0.view result }
+        ensures found { HasFound self.now.events (see_full thread place) seat.old seat.new result }
+    {
+        self.events.load_as::<Brand, (u64, u64)>(
+            seat,
+            self.events.box_place(thread, place),
+            &(thread, place),
+        )
+    }
+
+    /// Empties a box, whose record was persisted.
+    pub fn empty_box(&self, seat: &mut Seat<S, X>, thread: u64, place: u64)
+        requires seat { BelongsTo self.now.events seat.old }
+        requires may { May self.now.events.setup (empty_box thread place) seat.old.me.0.view }
+        requires fits { Foreseen P.fact self.now.events.setup (empty_box thread place) seat.old.id seat.old.me.0 }
+        requires slots { Outlasts P.fact self.now.events.setup (empty_box thread place) }
+        ensures view { seat.new.me.0.view ≡ view_after self.now.events.setup (empty_box thread place) seat.old.me.0.view 0 }
+        ensures same { IsSame self.now.events seat.old seat.new }
+    {
+        self.events.store_as::<Brand, (u64, u64)>(
+            seat,
+            self.events.box_place(thread, place),
+            0,
+            &(thread, place),
+        )
+    }
+
+    /// Stores the durable number.
+    pub fn raise_durable(&self, seat: &mut Seat<S, X>, value: u64)
+        requires seat { BelongsTo self.now.events seat.old }
+        requires may { May self.now.events.setup (raise_durable value) seat.old.me.0.view }
+        requires fits { Foreseen P.fact self.now.events.setup (raise_durable value) seat.old.id seat.old.me.0 }
+        requires slots { Outlasts P.fact self.now.events.setup (raise_durable value) }
+        ensures view { seat.new.me.0.view ≡ view_after self.now.events.setup (raise_durable value) seat.old.me.0.view 0 }
+        ensures same { IsSame self.now.events seat.old seat.new }
+    {
+        self.events
+            .store_as::<Brand, u64>(seat, DURABLE, value, &value)
+    }
+
+    /// Stores the reproduced number.
+    pub fn raise_reproduced(&self, seat: &mut Seat<S, X>, value: u64)
+        requires seat { BelongsTo self.now.events seat.old }
+        requires may { May self.now.events.setup (raise_reproduced value) seat.old.me.0.view }
+        requires fits { Foreseen P.fact self.now.events.setup (raise_reproduced value) seat.old.id seat.old.me.0 }
+        requires slots { Outlasts P.fact self.now.events.setup (raise_reproduced value) }
+        ensures view { seat.new.me.0.view ≡ view_after self.now.events.setup (raise_reproduced value) seat.old.me.0.view 0 }
+        ensures same { IsSame self.now.events seat.old seat.new }
+    {
+        self.events
+            .store_as::<Brand, u64>(seat, REPRODUCED, value, &value)
+    }
+}

@@ -1,0 +1,119 @@
+//! The steps of a transaction that writes.
+
+ghost use Rattle.std.specs.Prelude.{◌≡◌, ◌<◌, Some};
+ghost use Rattle.dude_base.specs.Writes.{written};
+ghost use Rattle.core_events.specs.Setups.{page_of};
+ghost use Rattle.core_events.specs.Keyed.{find};
+ghost use Rattle.tiny_stm.specs.Abouts.{about};
+ghost use Rattle.core_events.specs.Events.{decide, draw, release, restore, store, take, first_lock, view_after};
+ghost use Rattle.core_events.specs.Conditions.{May};
+ghost use Rattle.core_table.specs.Rules.{Outlasts};
+ghost use Rattle.core_table.specs.Steps.{BelongsTo, IsSame, HasFound};
+
+use crate::stm::Stm;
+use core_table::event_table::Seat;
+use core_table::places::CLOCK;
+use core_table::slot_rule::SlotRule;
+use dude_base::write_list::WriteList;
+use std::marker::Brand;
+use tatp_model::reply::Reply;
+use tatp_model::request::Request;
+
+impl<S, X, P: SlotRule<S, X>> Stm<S, X, P> {
+    /// Takes a lock, whose word at the last look was `seen`.
+    pub fn take(&self, seat: &mut Seat<S, X>, lock: u64, seen: u64, thread: u64) -> u64
+        requires seat { BelongsTo self.now.events seat.old }
+        requires seen { seat.old.me.0.view.tx.look ≡ Some (lock, seen) }
+        requires thread { seat.old.me.0.view.part.thread ≡ Some thread }
+        requires may { May self.now.events.setup (take lock) seat.old.me.0.view }
+        requires slots { Outlasts P.fact self.now.events.setup (take lock) }
+        ensures view { seat.new.me.0.view ≡ view_after self.now.events.setup (take lock) seat.old.me.0.view result }
+        ensures found { HasFound self.now.events (take lock) seat.old seat.new result }
+    {
+        self.events.exchange_as::<Brand, u64>(
+            seat,
+            self.events.lock_place(lock),
+            seen,
+            2 * thread + 1,
+            &lock,
+        )
+    }
+
+    /// Draws the number behind the one found, for these writes.
+    pub fn draw(
+        &self,
+        seat: &mut Seat<S, X>,
+        file: u64,
+        index: u64,
+        request: &Request,
+        reply: &Reply,
+        writes: &WriteList,
+    ) -> u64
+        requires seat { BelongsTo self.now.events seat.old }
+        requires may { May self.now.events.setup (draw (about file index request.now reply.now) writes.now) seat.old.me.0.view }
+        requires slots { Outlasts P.fact self.now.events.setup (draw (about file index request.now reply.now) writes.now) }
+        ensures view { seat.new.me.0.view ≡ view_after self.now.events.setup (draw (about file index request.now reply.now) writes.now) seat.old.me.0.view result }
+        ensures found { HasFound self.now.events (draw (about file index request.now reply.now) writes.now) seat.old seat.new result }
+    {
+        self.events
+            .add_as::<Brand, (u64, u64, &Request, &Reply, &WriteList)>(
+                seat,
+                CLOCK,
+                1,
+                &(file, index, request, reply, writes),
+            )
+    }
+
+    /// Decides the number, by a load of the lock that was taken last.
+    pub fn decide(&self, seat: &mut Seat<S, X>, lock: u64) -> u64
+        requires seat { BelongsTo self.now.events seat.old }
+        requires lock { lock ≡ first_lock seat.old.me.0.view.tx.owned }
+        requires may { May self.now.events.setup decide seat.old.me.0.view }
+        requires slots { Outlasts P.fact self.now.events.setup decide }
+        ensures view { seat.new.me.0.view ≡ view_after self.now.events.setup decide seat.old.me.0.view result }
+        ensures found { HasFound self.now.events decide seat.old seat.new result }
+    {
+        self.events
+            .load_as::<Brand, ()>(seat, self.events.lock_place(lock), &())
+    }
+
+    /// Stores a written value, in the frame of its page, which the view pins.
+    pub fn store(&self, seat: &mut Seat<S, X>, at: u64, frame: u64, value: u64)
+        requires seat { BelongsTo self.now.events seat.old }
+        requires frame { find seat.old.me.0.view.paging.pins (page_of at) ≡ Some frame }
+        requires value { written seat.old.me.0.view.tx.hand.writes at ≡ Some value }
+        requires may { May self.now.events.setup (store at) seat.old.me.0.view }
+        requires slots { Outlasts P.fact self.now.events.setup (store at) }
+        ensures view { seat.new.me.0.view ≡ view_after self.now.events.setup (store at) seat.old.me.0.view 0 }
+        ensures same { IsSame self.now.events seat.old seat.new }
+    {
+        self.events
+            .store_as::<Brand, u64>(seat, self.events.cell_place(frame, at), value, &at)
+    }
+
+    /// Gives a lock back, with the number as its version.
+    pub fn release(&self, seat: &mut Seat<S, X>, lock: u64, number: u64)
+        requires seat { BelongsTo self.now.events seat.old }
+        requires number { seat.old.me.0.view.tx.hand.number ≡ number }
+        requires may { May self.now.events.setup (release lock) seat.old.me.0.view }
+        requires slots { Outlasts P.fact self.now.events.setup (release lock) }
+        ensures view { seat.new.me.0.view ≡ view_after self.now.events.setup (release lock) seat.old.me.0.view 0 }
+        ensures same { IsSame self.now.events seat.old seat.new }
+    {
+        self.events
+            .store_as::<Brand, u64>(seat, self.events.lock_place(lock), 2 * number, &lock)
+    }
+
+    /// Gives a lock back, with the word that it had.
+    pub fn restore(&self, seat: &mut Seat<S, X>, lock: u64, old: u64)
+        requires seat { BelongsTo self.now.events seat.old }
+        requires old { find seat.old.me.0.view.tx.owned lock ≡ Some old }
+        requires may { May self.now.events.setup (restore lock) seat.old.me.0.view }
+        requires slots { Outlasts P.fact self.now.events.setup (restore lock) }
+        ensures view { seat.new.me.0.view ≡ view_after self.now.events.setup (restore lock) seat.old.me.0.view 0 }
+        ensures same { IsSame self.now.events seat.old seat.new }
+    {
+        self.events
+            .store_as::<Brand, u64>(seat, self.events.lock_place(lock), old, &lock)
+    }
+}
