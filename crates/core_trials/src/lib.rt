@@ -1,0 +1,20 @@
+//! Scripts of the machine of running transactions, for tests: steps by views, each with whether it is to be allowed.
+#![tactic(auto)]
+
+mod digest;
+mod events;
+mod fact;
+mod script;
+mod stage;
+mod step;
+mod surprise;
+mod told;
+mod world;
+
+pub use events::{draw, finish};
+pub use fact::Fact;
+pub use stage::Stage;
+pub use step::Step;
+pub use surprise::{Place, Surprise};
+pub use told::Told;
+pub use world::World;
