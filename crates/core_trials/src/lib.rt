@@ -1,8 +1,7 @@
 //! Scripts of the machine of running transactions, for tests: steps by views, each with whether it is to be allowed.
 #![tactic(auto)]
 
-mod digest;
-mod events;
+mod act;
 mod fact;
 mod script;
 mod stage;
@@ -11,9 +10,8 @@ mod surprise;
 mod told;
 mod world;
 
-pub use events::{draw, finish};
+pub use act::Act;
 pub use fact::Fact;
-pub use stage::Stage;
 pub use step::Step;
 pub use surprise::{Place, Surprise};
 pub use told::Told;

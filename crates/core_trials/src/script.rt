@@ -1,48 +1,55 @@
 //! Scripts, played on a stage.
 
-use crate::digest::VIEWS;
-use crate::events::{draw, other_kinds, transaction_kinds};
+use crate::act::{Act, NAMELESS_KINDS, OTHER_KINDS, draw};
 use crate::fact::Fact;
 use crate::stage::{Stage, place_in};
 use crate::step::Step;
 use crate::surprise::{Place, Surprise};
 use crate::told::Told;
-use crate::world::opening_word;
+use crate::world::{World, opening_word};
 use dude_base::limits::PAGE;
 use dude_core::{CoreRefusal, CoreWord, Event, core_step};
+use std::alloc::Global;
 
-impl Stage {
-    /// Plays the steps of a part, up to the first surprise.
-    pub fn play(&mut self, steps: &[Step]) -> Result<(), Surprise> {
-        let part = self.part;
-        for (step, taken) in steps.iter().enumerate() {
-            self.take(Place { part, step }, taken)?;
+/// No script has more views.
+const VIEWS: u64 = 16;
+
+impl World {
+    /// Plays the parts of a script, up to the first surprise. At the end the entries of all views are to be the told ones: those of
+    /// a view in their order, view by view.
+    pub fn plays(&self, alloc: Global, parts: &[&[Step]], told: &[Told]) -> Result<(), Surprise> {
+        let mut stage = self.open(alloc)?;
+        for (part, steps) in parts.iter().enumerate() {
+            stage.play(part, *steps)?;
         }
-        self.part = part.saturating_add(1);
-        Ok(())
-    }
-
-    /// The entries of all views are to be the told ones: those of a view in their order, view by view.
-    pub fn ends_with(&self, told: &[Told]) -> Result<(), Surprise> {
-        if self.has_entries(told) {
+        if stage.has_entries(told) {
             Ok(())
         } else {
             Err(Surprise::Entries)
         }
     }
+}
+
+impl Stage {
+    fn play(&mut self, part: usize, steps: &[Step]) -> Result<(), Surprise> {
+        for (step, taken) in steps.iter().enumerate() {
+            self.take(Place { part, step }, taken)?;
+        }
+        Ok(())
+    }
 
     fn take(&mut self, at: Place, step: &Step) -> Result<(), Surprise> {
-        match step {
-            Step::Off(who, event, reason) => self.is_off(at, *who, event, reason),
-            Step::NoneMay(who) => self.are_off(at, *who, 0),
-            Step::Nameless(who) => self.are_off(at, *who, 3),
-            Step::Holds(word, number) => told(at, self.found(*word) == Some(*number)),
-            Step::InFrame(frame, page, changed) => told(
-                at,
-                self.is_in_frame(*frame, *page, changed),
-            ),
-            Step::Shows(who, fact) => told(at, self.shows(*who, fact)),
-            allowed => match self.make(allowed) {
+        match *step {
+            Step::Off(who, act, reason) => self.is_off(at, who, &act, reason),
+            Step::NoneMay(who) => {
+                self.are_off(at, who, &NAMELESS_KINDS)?;
+                self.are_off(at, who, &OTHER_KINDS)
+            }
+            Step::Nameless(who) => self.are_off(at, who, &OTHER_KINDS),
+            Step::Holds(word, number) => told(at, self.found(word) == Some(number)),
+            Step::InFrame(frame, page, changed) => told(at, self.is_in_frame(frame, page, changed)),
+            Step::Shows(who, fact) => told(at, self.shows(who, &fact)),
+            allowed => match self.make(&allowed) {
                 Ok(()) => Ok(()),
                 Err(CoreRefusal::Off) => Err(Surprise::Off(at)),
                 Err(CoreRefusal::NoMemory) => Err(Surprise::NoMemory),
@@ -54,93 +61,78 @@ impl Stage {
         &mut self,
         at: Place,
         who: u64,
-        event: &Event,
+        act: &Act,
         reason: &'static str,
     ) -> Result<(), Surprise> {
-        let before = self.digest()?;
-        match core_step(self.alloc, &mut self.core, who, event) {
-            Ok(()) => return Err(Surprise::Made(at, reason)),
-            Err(CoreRefusal::NoMemory) => return Err(Surprise::NoMemory),
-            Err(CoreRefusal::Off) => {}
-        }
-        let after = self.digest()?;
-        if before.as_slice() == after.as_slice() {
-            Ok(())
-        } else {
-            Err(Surprise::Changed(at))
+        match self.step(who, &act.event()) {
+            Ok(()) => Err(Surprise::Made(at, reason)),
+            Err(CoreRefusal::NoMemory) => Err(Surprise::NoMemory),
+            Err(CoreRefusal::Off) => Ok(()),
         }
     }
 
-    // All kinds of event but so many are off.
-    fn are_off(&mut self, at: Place, who: u64, but: usize) -> Result<(), Surprise> {
-        for event in transaction_kinds().iter().skip(but) {
-            self.is_off(at, who, event, "no view with a number")?;
-        }
-        for event in &other_kinds() {
-            self.is_off(at, who, event, "no view with a number")?;
+    fn are_off(&mut self, at: Place, who: u64, acts: &[Act]) -> Result<(), Surprise> {
+        for act in acts {
+            self.is_off(at, who, act, "no view with a number")?;
         }
         Ok(())
     }
 
     // The events of a step that is allowed.
     fn make(&mut self, step: &Step) -> Result<(), CoreRefusal> {
-        match step {
-            Step::May(who, event) => core_step(self.alloc, &mut self.core, *who, event),
-            Step::Begins(who) => self.begin(*who),
-            Step::Pins(who, page) => self.pin(*who, *page),
-            Step::Reads(who, at) => self.read(*who, *at),
-            Step::Takes(who, lock) => self.own(*who, *lock),
-            Step::Commits(who, at) => self.commit(*who, *at),
-            Step::Updates(who, at, value) => self.update(*who, *at, *value),
-            Step::Empties(who, thread, place) => self.empty(*who, *thread, *place),
-            Step::Fills(who, range, frame, changed) => self.fill(*who, *range, *frame, changed),
+        match *step {
+            Step::May(who, act) => self.step(who, &act.event()),
+            Step::Begins(who) => self.begin(who),
+            Step::Pins(who, page) => self.pin(who, page),
+            Step::Reads(who, at) => self.read(who, at),
+            Step::Takes(who, lock) => self.own(who, lock),
+            Step::Commits(who, at) => self.commit(who, at),
+            Step::Updates(who, at, value) => self.update(who, at, value),
+            Step::Empties(who, thread, place) => self.empty(who, thread, place),
+            Step::Fills(who, range, frame, changed) => self.fill(who, range, frame, changed),
             _ => Ok(()),
         }
     }
 
-    fn make_all(&mut self, who: u64, events: &[Event]) -> Result<(), CoreRefusal> {
-        for event in events {
-            core_step(self.alloc, &mut self.core, who, event)?;
+    fn step(&mut self, who: u64, event: &Event) -> Result<(), CoreRefusal> {
+        core_step(self.alloc, &mut self.core, who, event)
+    }
+
+    fn make_all(&mut self, who: u64, acts: &[Act]) -> Result<(), CoreRefusal> {
+        for act in acts {
+            self.step(who, &act.event())?;
         }
         Ok(())
     }
 
     fn begin(&mut self, who: u64) -> Result<(), CoreRefusal> {
-        self.make_all(who, &[Event::SeeBox, Event::Clock { extend: false }])
+        self.make_all(who, &[Act::SeeBox, Act::Clock { extend: false }])
     }
 
     fn pin(&mut self, who: u64, page: u64) -> Result<(), CoreRefusal> {
-        self.make_all(who, &[Event::Entry { page }, Event::Pin { page }])
+        self.make_all(who, &[Act::Entry(page), Act::Pin(page)])
     }
 
     fn read(&mut self, who: u64, at: u64) -> Result<(), CoreRefusal> {
         let lock = self.lock_of(at);
-        self.make_all(
-            who,
-            &[
-                Event::Look { lock },
-                Event::Load { at },
-                Event::Check { lock },
-            ],
-        )
+        self.make_all(who, &[Act::Look(lock), Act::Load(at), Act::Check(lock)])
     }
 
     fn own(&mut self, who: u64, lock: u64) -> Result<(), CoreRefusal> {
-        self.make_all(who, &[Event::Look { lock }, Event::Take { lock }])
+        self.make_all(who, &[Act::Look(lock), Act::Take(lock)])
     }
 
     fn commit(&mut self, who: u64, at: u64) -> Result<(), CoreRefusal> {
-        let lock = self.lock_of(at);
         let page = at / PAGE;
         self.make_all(
             who,
             &[
-                Event::Decide,
-                Event::Store { at },
-                Event::Touch { page },
-                Event::Release { lock },
-                Event::Unpin { page },
-                Event::Post,
+                Act::Decide,
+                Act::Store(at),
+                Act::Touch(page),
+                Act::Release(self.lock_of(at)),
+                Act::Unpin(page),
+                Act::Post,
             ],
         )
     }
@@ -149,17 +141,14 @@ impl Stage {
         self.begin(who)?;
         self.pin(who, at / PAGE)?;
         self.own(who, self.lock_of(at))?;
-        core_step(self.alloc, &mut self.core, who, &draw(0, &[(at, value)]))?;
+        self.step(who, &draw(0, &[(at, value)]))?;
         self.commit(who, at)
     }
 
     fn empty(&mut self, who: u64, thread: u64, place: u64) -> Result<(), CoreRefusal> {
         self.make_all(
             who,
-            &[
-                Event::SeeFull { thread, place },
-                Event::EmptyBox { thread, place },
-            ],
+            &[Act::SeeFull(thread, place), Act::EmptyBox(thread, place)],
         )
     }
 
@@ -171,13 +160,8 @@ impl Stage {
         changed: &[(u64, u64)],
     ) -> Result<(), CoreRefusal> {
         for at in range.0..range.1 {
-            let event = Event::Fill {
-                page: at / PAGE,
-                frame,
-                at,
-                value: word_with(changed, at),
-            };
-            core_step(self.alloc, &mut self.core, who, &event)?;
+            let act = Act::Fill(at / PAGE, frame, at, word_with(changed, at));
+            self.step(who, &act.event())?;
         }
         Ok(())
     }

@@ -6,14 +6,13 @@ use dude_base::limits::PAGE;
 use dude_core::{Core, CoreWord};
 use std::alloc::Global;
 
-/// A machine on which the parts of a script are played, and what it was set up with.
+/// A machine on which a script is played, and what it was set up with.
 #[derive(Drop)]
-pub struct Stage {
+pub(crate) struct Stage {
     pub(crate) alloc: Global,
     pub(crate) core: Core,
     pub(crate) world: World,
     pub(crate) pages: u64,
-    pub(crate) part: usize,
     ghost threads: { core.setup.threads ≡ world.threads },
     ghost locks: { core.setup.locks ≡ world.locks },
     ghost home: { core.setup.pages ≡ pages },

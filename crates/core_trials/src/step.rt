@@ -1,13 +1,14 @@
+use crate::act::Act;
 use crate::fact::Fact;
-use dude_core::{CoreWord, Event};
+use dude_core::CoreWord;
 
 /// A step of a script; the first number is that of the view which makes it. Those of several events are allowed one by one.
-#[derive(Drop)]
+#[derive(Clone, Copy)]
 pub enum Step {
     /// The event is allowed.
-    May(u64, Event),
-    /// The event is off, for this reason, and changes nothing.
-    Off(u64, Event, &'static str),
+    May(u64, Act),
+    /// The event is off, for this reason.
+    Off(u64, Act, &'static str),
     /// Every kind of event of the view is off.
     NoneMay(u64),
     /// Every kind of event of the view that needs a thread's number is off.

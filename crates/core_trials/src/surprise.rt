@@ -19,8 +19,6 @@ pub enum Surprise {
     Off(Place),
     /// The event was to be off for this reason, and was made.
     Made(Place, &'static str),
-    /// An event that is off changed something.
-    Changed(Place),
     /// A word or a view isn't as the step says.
     Other(Place),
     /// The entries at the end aren't as told.

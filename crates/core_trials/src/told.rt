@@ -1,8 +1,8 @@
-use crate::events::{reading, updating};
+use crate::act::{reading, updating};
 use core_view::entry::Entry;
 use tatp_model::reply::Reply;
 
-/// An entry that is to be there, made by the events of `finish` and `draw`.
+/// An entry that is to be there, made by `Act::Finish` and `Act::Draw`.
 #[derive(Clone, Copy)]
 pub struct Told {
     /// In which view it stands.

@@ -52,7 +52,7 @@ impl World {
     }
 
     /// A stage with the machine at its start.
-    pub fn open(&self, alloc: Global) -> Result<Stage, Surprise> {
+    pub(crate) fn open(&self, alloc: Global) -> Result<Stage, Surprise> {
         let Ok(sizes) = Sizes::of(self.subscribers, self.calls, 1, 16) else {
             return Err(Surprise::Sizes);
         };
@@ -72,7 +72,6 @@ impl World {
                 core,
                 world: *self,
                 pages: sizes.pages,
-                part: 0,
             }),
             Err(fault) => Err(Surprise::Fault(fault)),
         }

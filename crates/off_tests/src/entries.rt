@@ -1,68 +1,61 @@
 //! `Entry` and `Pin`.
 
-use crate::begun::two_views;
-use core_trials::{Fact, Step, Surprise, Told, World, finish};
-use dude_core::Event;
+use crate::begun::TWO_VIEWS;
+use core_trials::{Act, Fact, Step, Surprise, Told, World};
 
-fn seen() -> [Step; 11] {
-    [
-        Step::Off(0, Event::Entry { page: 0 }, "no transaction and no turn"),
-        Step::Begins(0),
-        Step::Off(0, Event::Entry { page: 3 }, "no such page"),
-        Step::Off(0, Event::Pin { page: 0 }, "no entry is kept"),
-        Step::May(0, Event::Entry { page: 0 }),
-        Step::Off(0, Event::Pin { page: 1 }, "no entry is kept"),
-        Step::Off(0, Event::Pin { page: 3 }, "no such page"),
-        Step::May(0, finish(0)),
-        Step::Off(0, Event::Pin { page: 0 }, "no transaction"),
-        Step::Off(0, Event::Entry { page: 0 }, "no transaction and no turn"),
-        Step::Begins(0),
-    ]
-}
+const SEEN: &[Step] = &[
+    Step::Off(0, Act::Entry(0), "no transaction and no turn"),
+    Step::Begins(0),
+    Step::Off(0, Act::Entry(3), "no such page"),
+    Step::Off(0, Act::Pin(0), "no entry is kept"),
+    Step::May(0, Act::Entry(0)),
+    Step::Off(0, Act::Pin(1), "no entry is kept"),
+    Step::Off(0, Act::Pin(3), "no such page"),
+    Step::May(0, Act::Finish(0)),
+    Step::Off(0, Act::Pin(0), "no transaction"),
+    Step::Off(0, Act::Entry(0), "no transaction and no turn"),
+    Step::Begins(0),
+];
 
-fn pinned() -> [Step; 9] {
-    [
-        Step::May(0, Event::Pin { page: 0 }),
-        Step::Off(0, Event::Pin { page: 0 }, "it is pinned"),
-        Step::May(0, Event::Entry { page: 0 }),
-        Step::Off(0, Event::Pin { page: 0 }, "it is pinned"),
-        Step::May(0, Event::Unpin { page: 0 }),
-        Step::Off(0, Event::Unpin { page: 0 }, "no pin"),
-        Step::May(0, Event::TakeTurn),
-        Step::Off(0, Event::Evict { page: 0 }, "entries of before are dropped"),
-        Step::May(0, Event::Entry { page: 0 }),
-    ]
-}
+const PINNED: &[Step] = &[
+    Step::May(0, Act::Pin(0)),
+    Step::Off(0, Act::Pin(0), "it is pinned"),
+    Step::May(0, Act::Entry(0)),
+    Step::Off(0, Act::Pin(0), "it is pinned"),
+    Step::May(0, Act::Unpin(0)),
+    Step::Off(0, Act::Unpin(0), "no pin"),
+    Step::May(0, Act::TakeTurn),
+    Step::Off(0, Act::Evict(0), "entries of before are dropped"),
+    Step::May(0, Act::Entry(0)),
+];
 
 // Page 2 is evicted on the way.
-fn with_the_turn() -> [Step; 10] {
-    [
-        Step::Off(0, Event::Pin { page: 0 }, "the view has the turn"),
-        Step::May(0, Event::Entry { page: 2 }),
-        Step::May(0, Event::Evict { page: 2 }),
-        Step::May(0, Event::GiveTurn { failed: false }),
-        Step::Off(0, Event::Pin { page: 2 }, "the page is in no frame"),
-        Step::May(0, Event::Entry { page: 2 }),
-        Step::Off(0, Event::Pin { page: 2 }, "the page is in no frame"),
-        Step::May(0, Event::Pin { page: 0 }),
-        Step::Shows(0, Fact::Pinned(&[(0, 0)])),
-        Step::May(1, Event::TakeTurn),
-    ]
-}
+const WITH_THE_TURN: &[Step] = &[
+    Step::Off(0, Act::Pin(0), "the view has the turn"),
+    Step::May(0, Act::Entry(2)),
+    Step::May(0, Act::Evict(2)),
+    Step::May(0, Act::GiveTurn { failed: false }),
+    Step::Off(0, Act::Pin(2), "the page is in no frame"),
+    Step::May(0, Act::Entry(2)),
+    Step::Off(0, Act::Pin(2), "the page is in no frame"),
+    Step::May(0, Act::Pin(0)),
+    Step::Shows(0, Fact::Pinned(&[(0, 0)])),
+    Step::May(1, Act::TakeTurn),
+];
+
+const FINISHED: Told = Told {
+    view: 0,
+    number: 0,
+    index: 0,
+    reads: &[],
+    writes: &[],
+};
 
 #[test]
 fn a_pin_needs_an_entry_that_is_kept(rt: HostRuntime) -> Result<(), Surprise> {
-    let told = Told {
-        view: 0,
-        number: 0,
-        index: 0,
-        reads: &[],
-        writes: &[],
-    };
-    let mut stage = World::SMALL.open(rt.alloc())?;
-    stage.play(&two_views())?;
-    stage.play(&seen())?;
-    stage.play(&pinned())?;
-    stage.play(&with_the_turn())?;
-    stage.ends_with(&[told])
+    World::SMALL.plays(
+        rt.alloc(),
+        &[TWO_VIEWS, SEEN, PINNED, WITH_THE_TURN],
+        &[FINISHED],
+    )
 }

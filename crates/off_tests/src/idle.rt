@@ -1,68 +1,61 @@
 //! `Clock`, `SeeBox`, `Join` and `Finish`, for which a number, a lock or a pin is in the way.
 
-use crate::begun::two_views;
-use core_trials::{Step, Surprise, Told, World, draw, finish};
-use dude_core::Event;
+use crate::begun::TWO_VIEWS;
+use core_trials::{Act, Step, Surprise, Told, World};
 
-fn pinned_or_owning() -> [Step; 12] {
-    [
-        Step::Off(1, Event::Clock { extend: true }, "none is open"),
-        Step::Begins(1),
-        Step::Pins(1, 0),
-        Step::Off(1, Event::Clock { extend: false }, "a pin"),
-        Step::Off(1, Event::SeeBox, "a pin"),
-        Step::Off(0, Event::Join { other: 1 }, "a pin"),
-        Step::Takes(1, 1),
-        Step::May(1, Event::Unpin { page: 0 }),
-        Step::Off(1, Event::Clock { extend: false }, "an owned lock"),
-        Step::Off(1, Event::SeeBox, "an owned lock"),
-        Step::Off(0, Event::Join { other: 1 }, "an owned lock"),
-        Step::May(1, Event::Clock { extend: true }),
-    ]
-}
+const PINNED_OR_OWNING: &[Step] = &[
+    Step::Off(1, Act::Clock { extend: true }, "none is open"),
+    Step::Begins(1),
+    Step::Pins(1, 0),
+    Step::Off(1, Act::Clock { extend: false }, "a pin"),
+    Step::Off(1, Act::SeeBox, "a pin"),
+    Step::Off(0, Act::Join(1), "a pin"),
+    Step::Takes(1, 1),
+    Step::May(1, Act::Unpin(0)),
+    Step::Off(1, Act::Clock { extend: false }, "an owned lock"),
+    Step::Off(1, Act::SeeBox, "an owned lock"),
+    Step::Off(0, Act::Join(1), "an owned lock"),
+    Step::May(1, Act::Clock { extend: true }),
+];
 
-fn drawn() -> [Step; 14] {
-    [
-        Step::Pins(1, 0),
-        Step::May(1, draw(0, &[(1, 60)])),
-        Step::Off(1, Event::Clock { extend: true }, "a number"),
-        Step::May(1, Event::Decide),
-        Step::May(1, Event::Store { at: 1 }),
-        Step::May(1, Event::Touch { page: 0 }),
-        Step::May(1, Event::Release { lock: 1 }),
-        Step::May(1, Event::Unpin { page: 0 }),
-        Step::Off(1, Event::Clock { extend: false }, "a number"),
-        Step::Off(1, Event::SeeBox, "a number"),
-        Step::Off(0, Event::Join { other: 1 }, "a number"),
-        Step::Off(1, Event::Clock { extend: true }, "a number"),
-        Step::Off(1, finish(1), "a number"),
-        Step::May(1, Event::Post),
-    ]
-}
+const DRAWN: &[Step] = &[
+    Step::Pins(1, 0),
+    Step::May(1, Act::Draw(0, &[(1, 60)])),
+    Step::Off(1, Act::Clock { extend: true }, "a number"),
+    Step::May(1, Act::Decide),
+    Step::May(1, Act::Store(1)),
+    Step::May(1, Act::Touch(0)),
+    Step::May(1, Act::Release(1)),
+    Step::May(1, Act::Unpin(0)),
+    Step::Off(1, Act::Clock { extend: false }, "a number"),
+    Step::Off(1, Act::SeeBox, "a number"),
+    Step::Off(0, Act::Join(1), "a number"),
+    Step::Off(1, Act::Clock { extend: true }, "a number"),
+    Step::Off(1, Act::Finish(1), "a number"),
+    Step::May(1, Act::Post),
+];
 
-fn idle() -> [Step; 5] {
-    [
-        Step::May(1, Event::SeeBox),
-        Step::May(1, Event::Clock { extend: false }),
-        Step::May(1, Event::SeeBox),
-        Step::Off(1, Event::Clock { extend: true }, "it was dropped"),
-        Step::May(0, Event::Join { other: 1 }),
-    ]
-}
+const IDLE: &[Step] = &[
+    Step::May(1, Act::SeeBox),
+    Step::May(1, Act::Clock { extend: false }),
+    Step::May(1, Act::SeeBox),
+    Step::Off(1, Act::Clock { extend: true }, "it was dropped"),
+    Step::May(0, Act::Join(1)),
+];
+
+const WROTE: Told = Told {
+    view: 0,
+    number: 1,
+    index: 0,
+    reads: &[],
+    writes: &[(1, 60)],
+};
 
 #[test]
 fn a_number_a_lock_or_a_pin_is_in_the_way(rt: HostRuntime) -> Result<(), Surprise> {
-    let told = Told {
-        view: 0,
-        number: 1,
-        index: 0,
-        reads: &[],
-        writes: &[(1, 60)],
-    };
-    let mut stage = World::SMALL.open(rt.alloc())?;
-    stage.play(&two_views())?;
-    stage.play(&pinned_or_owning())?;
-    stage.play(&drawn())?;
-    stage.play(&idle())?;
-    stage.ends_with(&[told])
+    World::SMALL.plays(
+        rt.alloc(),
+        &[TWO_VIEWS, PINNED_OR_OWNING, DRAWN, IDLE],
+        &[WROTE],
+    )
 }

@@ -1,81 +1,67 @@
 //! What needs the turn: boxes that are emptied, and the durable and the reproduced number.
 
-use crate::begun::two_views;
-use core_trials::{Step, Surprise, Told, World};
-use dude_core::{CoreWord, Event};
+use crate::begun::TWO_VIEWS;
+use core_trials::{Act, Step, Surprise, Told, World};
+use dude_core::CoreWord;
 
-fn see_full(thread: u64, place: u64) -> Event {
-    Event::SeeFull { thread, place }
-}
+const WITHOUT_THE_TURN: &[Step] = &[
+    Step::Updates(1, 1, 60),
+    Step::Off(0, Act::GiveTurn { failed: false }, "no turn"),
+    Step::Off(0, Act::SeeFull(1, 0), "no turn"),
+    Step::Off(0, Act::EmptyBox(1, 0), "no turn"),
+    Step::Off(0, Act::RaiseDurable(0), "no turn"),
+    Step::Off(0, Act::RaiseReproduced(0), "no turn"),
+    Step::Begins(0),
+    Step::Pins(0, 0),
+    Step::Off(0, Act::TakeTurn, "a pin"),
+    Step::May(0, Act::Unpin(0)),
+    Step::May(0, Act::TakeTurn),
+    Step::Off(0, Act::TakeTurn, "the view has it"),
+];
 
-fn empty_box(thread: u64, place: u64) -> Event {
-    Event::EmptyBox { thread, place }
-}
+const WITH_THE_TURN: &[Step] = &[
+    Step::Off(0, Act::GiveTurn { failed: true }, "nothing may fail"),
+    Step::Off(0, Act::SeeFull(2, 0), "no such thread"),
+    Step::Off(0, Act::SeeFull(1, 2), "no such place"),
+    Step::Off(0, Act::EmptyBox(2, 0), "no such thread"),
+    Step::Off(0, Act::EmptyBox(0, 2), "no such place"),
+    Step::Off(0, Act::EmptyBox(0, 0), "it is empty"),
+    Step::Off(0, Act::EmptyBox(1, 1), "it is empty"),
+    Step::May(0, Act::SeeFull(1, 1)),
+    Step::May(0, Act::SeeFull(1, 0)),
+    Step::Off(0, Act::RaiseDurable(1), "1 isn't persisted"),
+    Step::May(0, Act::EmptyBox(1, 0)),
+];
 
-fn without_the_turn() -> [Step; 12] {
-    [
-        Step::Updates(1, 1, 60),
-        Step::Off(0, Event::GiveTurn { failed: false }, "no turn"),
-        Step::Off(0, see_full(1, 0), "no turn"),
-        Step::Off(0, empty_box(1, 0), "no turn"),
-        Step::Off(0, Event::RaiseDurable { value: 0 }, "no turn"),
-        Step::Off(0, Event::RaiseReproduced { value: 0 }, "no turn"),
-        Step::Begins(0),
-        Step::Pins(0, 0),
-        Step::Off(0, Event::TakeTurn, "a pin"),
-        Step::May(0, Event::Unpin { page: 0 }),
-        Step::May(0, Event::TakeTurn),
-        Step::Off(0, Event::TakeTurn, "the view has it"),
-    ]
-}
+const RAISED: &[Step] = &[
+    Step::Off(0, Act::EmptyBox(1, 0), "it is empty"),
+    Step::Off(0, Act::RaiseReproduced(1), "it isn't durable"),
+    Step::Off(0, Act::RaiseDurable(2), "2 isn't persisted"),
+    Step::May(0, Act::RaiseDurable(1)),
+    Step::Off(0, Act::RaiseDurable(0), "it would fall"),
+    Step::May(0, Act::RaiseDurable(1)),
+    Step::May(0, Act::RaiseReproduced(1)),
+    Step::Off(0, Act::RaiseReproduced(0), "it would fall"),
+    Step::Off(0, Act::RaiseReproduced(2), "it isn't durable"),
+    Step::May(0, Act::GiveTurn { failed: false }),
+    Step::Off(0, Act::GiveTurn { failed: false }, "no turn"),
+    Step::Holds(CoreWord::Durable, 1),
+    Step::Holds(CoreWord::Reproduced, 1),
+];
 
-fn with_the_turn() -> [Step; 11] {
-    [
-        Step::Off(0, Event::GiveTurn { failed: true }, "nothing may fail"),
-        Step::Off(0, see_full(2, 0), "no such thread"),
-        Step::Off(0, see_full(1, 2), "no such place"),
-        Step::Off(0, empty_box(2, 0), "no such thread"),
-        Step::Off(0, empty_box(0, 2), "no such place"),
-        Step::Off(0, empty_box(0, 0), "it is empty"),
-        Step::Off(0, empty_box(1, 1), "it is empty"),
-        Step::May(0, see_full(1, 1)),
-        Step::May(0, see_full(1, 0)),
-        Step::Off(0, Event::RaiseDurable { value: 1 }, "1 isn't persisted"),
-        Step::May(0, empty_box(1, 0)),
-    ]
-}
-
-fn raised() -> [Step; 13] {
-    [
-        Step::Off(0, empty_box(1, 0), "it is empty"),
-        Step::Off(0, Event::RaiseReproduced { value: 1 }, "it isn't durable"),
-        Step::Off(0, Event::RaiseDurable { value: 2 }, "2 isn't persisted"),
-        Step::May(0, Event::RaiseDurable { value: 1 }),
-        Step::Off(0, Event::RaiseDurable { value: 0 }, "it would fall"),
-        Step::May(0, Event::RaiseDurable { value: 1 }),
-        Step::May(0, Event::RaiseReproduced { value: 1 }),
-        Step::Off(0, Event::RaiseReproduced { value: 0 }, "it would fall"),
-        Step::Off(0, Event::RaiseReproduced { value: 2 }, "it isn't durable"),
-        Step::May(0, Event::GiveTurn { failed: false }),
-        Step::Off(0, Event::GiveTurn { failed: false }, "no turn"),
-        Step::Holds(CoreWord::Durable, 1),
-        Step::Holds(CoreWord::Reproduced, 1),
-    ]
-}
+const WROTE: Told = Told {
+    view: 1,
+    number: 1,
+    index: 0,
+    reads: &[],
+    writes: &[(1, 60)],
+};
 
 #[test]
 fn only_the_turn_empties_boxes_and_raises_numbers(rt: HostRuntime) -> Result<(), Surprise> {
-    let told = Told {
-        view: 1,
-        number: 1,
-        index: 0,
-        reads: &[],
-        writes: &[(1, 60)],
-    };
-    let mut stage = World::SMALL.open(rt.alloc())?;
-    stage.play(&two_views())?;
-    stage.play(&without_the_turn())?;
-    stage.play(&with_the_turn())?;
-    stage.play(&raised())?;
-    stage.ends_with(&[told])
+    World::SMALL.plays(
+        rt.alloc(),
+        &[TWO_VIEWS, WITHOUT_THE_TURN, WITH_THE_TURN, RAISED],
+        &[WROTE],
+    )
 }
