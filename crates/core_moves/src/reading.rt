@@ -4,7 +4,6 @@ ghost use Rattle.std.specs.Prelude.{◌≡◌, ◌==◌, ◌<◌, ◌-◌, ◌^�
 ghost use Rattle.core_events.specs.Events.{begin, extend, load, check, finish, look, name, view_after, looked_word, is_good, extending, validating};
 ghost use Rattle.core_setup.specs.Named.{word_of, of_read};
 
-use crate::notes::notice;
 use core_setup::about::About;
 use core_setup::deed::ReadDeed;
 use core_setup::setup::Setup;
@@ -48,7 +47,7 @@ fn begin(view: &mut View, z: &Setup, found: u64)
     view.tx.extension = None;
     view.tx.reads.clear();
     view.tx.loaded = None;
-    notice(view, Word::Clock, found);
+    view.notice(Word::Clock, found);
 }
 
 // An extension without reads ends at once.
@@ -64,7 +63,7 @@ fn extend(view: &mut View, z: &Setup, found: u64)
     } else {
         view.tx.extension = Some(found);
     }
-    notice(view, Word::Clock, found);
+    view.notice(Word::Clock, found);
 }
 
 fn look(view: &mut View, z: &Setup, lock: u64, found: u64)
@@ -73,7 +72,7 @@ fn look(view: &mut View, z: &Setup, lock: u64, found: u64)
 {
     view.tx.look = Some((lock, found));
     view.tx.loaded = None;
-    notice(view, Word::Lock(lock), found);
+    view.notice(Word::Lock(lock), found);
 }
 
 fn load(view: &mut View, z: &Setup, at: u64, word: Word, found: u64)
@@ -82,7 +81,7 @@ fn load(view: &mut View, z: &Setup, at: u64, word: Word, found: u64)
     ensures { view.new ≡ view_after z.now (load at) view.old found }
 {
     view.tx.loaded = Some((at, found));
-    notice(view, word, found);
+    view.notice(word, found);
 }
 
 fn check(view: &mut View, z: &Setup, lock: u64, found: u64) -> Result<(), AllocError>
@@ -97,7 +96,7 @@ fn check(view: &mut View, z: &Setup, lock: u64, found: u64) -> Result<(), AllocE
             None => validate(view, lock, found)?,
         },
     }
-    notice(view, Word::Lock(lock), found);
+    view.notice(Word::Lock(lock), found);
     Ok(())
 }
 
@@ -172,6 +171,6 @@ fn finish(
     view.entries.push(entry)?;
     view.tx.is_open = false;
     view.tx.loaded = None;
-    notice(view, Word::Threads, found);
+    view.notice(Word::Threads, found);
     Ok(())
 }

@@ -6,13 +6,12 @@ ghost use Rattle.core_events.specs.Conditions.{May};
 ghost use Rattle.core_events.specs.Telling.{IsSeated, WordTold};
 ghost use Rattle.core_setup.specs.Named.{word_of, event_of};
 
-use crate::paging_steps::page;
 use crate::reading::read;
-use crate::turning::turn;
 use crate::writing::write;
 use core_setup::deed::Deed;
 use core_setup::setup::Setup;
 use core_setup::word::Word;
+use core_turns::{page, turn};
 use core_view::view::View;
 use std::alloc::{AllocError, Global};
 

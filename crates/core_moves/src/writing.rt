@@ -7,7 +7,6 @@ ghost use Rattle.core_events.specs.Telling.{WordTold};
 ghost use Rattle.core_events.specs.Conditions.{May};
 ghost use Rattle.core_setup.specs.Named.{word_of, of_write};
 
-use crate::notes::notice;
 use core_setup::about::About;
 use core_setup::deed::WriteDeed;
 use core_setup::setup::Setup;
@@ -55,7 +54,7 @@ fn take(view: &mut View, z: &Setup, lock: u64, found: u64) -> Result<(), AllocEr
     }
     view.tx.look = Some((lock, found));
     view.tx.loaded = None;
-    notice(view, Word::Lock(lock), found);
+    view.notice(Word::Lock(lock), found);
     Ok(())
 }
 
@@ -105,6 +104,6 @@ fn decide(
     };
     view.entries.push(entry)?;
     view.tx.hand.decided = true;
-    notice(view, word, found);
+    view.notice(word, found);
     Ok(())
 }

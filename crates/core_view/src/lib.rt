@@ -5,6 +5,7 @@
 pub mod boxes;
 pub mod entry;
 pub mod hand;
+mod notes;
 pub mod paging;
 pub mod part;
 mod partings;

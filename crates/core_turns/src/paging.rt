@@ -6,14 +6,14 @@ ghost use Rattle.core_events.specs.Events.{entry, pin, load_touch, evict, fill, 
 ghost use Rattle.core_events.specs.Conditions.{May};
 ghost use Rattle.core_setup.specs.Named.{word_of, of_page};
 
-use crate::notes::notice;
 use core_setup::deed::PageDeed;
 use core_setup::setup::{Setup, frame_in};
 use core_setup::word::Word;
 use core_view::view::View;
 use std::alloc::AllocError;
 
-pub(crate) fn page(
+/// Makes an event of a page or of a frame, where it found this in its word.
+pub fn page(
     view: &mut View,
     z: &Setup,
     deed: &PageDeed,
@@ -50,7 +50,7 @@ fn see_entry(view: &mut View, z: &Setup, page: u64, found: u64) -> Result<(), Al
     ensures err { OnErr result (view.new ≡ view.old) }
 {
     view.paging.entries.put_first(page, found)?;
-    notice(view, Word::Entry(page), found);
+    view.notice(Word::Entry(page), found);
     Ok(())
 }
 
@@ -64,7 +64,7 @@ fn pin(view: &mut View, z: &Setup, page: u64, found: u64) -> Result<(), AllocErr
         return Ok(());
     }
     view.paging.entries.put_first(page, found)?;
-    notice(view, Word::Entry(page), found);
+    view.notice(Word::Entry(page), found);
     Ok(())
 }
 
@@ -74,7 +74,7 @@ fn load_touch(view: &mut View, z: &Setup, page: u64, found: u64) -> Result<(), A
     ensures err { OnErr result (view.new ≡ view.old) }
 {
     view.turn.touches.put_first(page, found)?;
-    notice(view, Word::Touch(page), found);
+    view.notice(Word::Touch(page), found);
     Ok(())
 }
 
@@ -90,7 +90,7 @@ fn evict(view: &mut View, z: &Setup, page: u64, found: u64) -> Result<(), AllocE
         return Ok(());
     }
     view.paging.entries.put_first(page, found)?;
-    notice(view, Word::Entry(page), found);
+    view.notice(Word::Entry(page), found);
     Ok(())
 }
 

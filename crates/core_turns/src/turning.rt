@@ -7,7 +7,6 @@ ghost use Rattle.core_events.specs.Conditions.{May};
 ghost use Rattle.core_events.specs.Telling.{IsSeated};
 ghost use Rattle.core_setup.specs.Named.{word_of, of_turn};
 
-use crate::notes::{drop_transaction, notice};
 use core_setup::about::About;
 use core_setup::deed::TurnDeed;
 use core_setup::setup::Setup;
@@ -18,7 +17,8 @@ use std::alloc::AllocError;
 use tatp_model::reply::Reply;
 use tatp_model::request::Request;
 
-pub(crate) fn turn(
+/// Makes an event of a box or of the turn, where it found this in its word.
+pub fn turn(
     view: &mut View,
     z: &Setup,
     deed: &TurnDeed,
@@ -54,16 +54,16 @@ fn see_box(view: &mut View, word: Word, found: u64)
     requires { view.old.count < 2 ^ 64 - 1 }
     ensures { (z : _) → word_of word ≡ name z see_box view.old → view.new ≡ view_after z see_box view.old found }
 {
-    drop_transaction(view);
+    view.drop_transaction();
     view.boxes.is_empty = found == 0;
-    notice(view, word, found);
+    view.notice(word, found);
 }
 
 fn post(view: &mut View, z: &Setup, found: u64)
     requires { view.old.box.next < z.now.boxes }
     ensures { view.new ≡ view_after z.now post view.old found }
 {
-    drop_transaction(view);
+    view.drop_transaction();
     view.tx.hand.number = 0;
     view.tx.hand.decided = false;
     view.tx.hand.void = false;
@@ -81,7 +81,7 @@ fn take_turn(view: &mut View, z: &Setup, found: u64)
     ensures { view.new ≡ view_after z.now take_turn view.old found }
 {
     if found != 0 {
-        notice(view, Word::Turn, found);
+        view.notice(Word::Turn, found);
         return;
     }
     view.paging.entries.clear();
@@ -117,6 +117,6 @@ fn see_full(
     if found != 0 {
         view.turn.full.put_first(z.box_of(thread, place), found)?;
     }
-    notice(view, word, found);
+    view.notice(word, found);
     Ok(())
 }
