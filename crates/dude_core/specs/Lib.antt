@@ -2,3 +2,4 @@ pub mod CoreState
 pub mod CoreWords
 pub mod MadeCores
 pub mod Steps
+pub mod Texts

@@ -13,6 +13,11 @@ pub enum CoreFault {
 }
 
 impl fmt::Display for CoreFault {
+    ghost use Rattle.std.specs.Prelude.{Some};
+    ghost use Rattle.dude_core.specs.Texts.{fault_words};
+
+    ghost output = { λ fault. Some (fault_words fault) };
+
     fn fmt<W: fmt::Write>(&self, f: &mut fmt::Formatter<W>) -> fmt::Result {
         match self {
             CoreFault::Size { frames, pages } => {
