@@ -1,5 +1,5 @@
 -- A step on the table that is an event of the machine keeps the rule; so does a split of a seat, and a join of two.
-use Rattle.std.proofs.Common.{◌≡◌, ℕ, ◌<◌, ◌^◌, List, get_or, map, set, sym, ap, ◌∙◌, arith}
+use Rattle.std.proofs.Common.{◌≡◌, ℕ, ◌<◌, ◌^◌, List, ◌∷◌, get_or, map, set, sym, ap, ◌∙◌, arith}
 use Rattle.std.proofs.lemmas.List.{map-set}
 use mathlib.Core.Option.{Option, some}
 use lib.ListN.{get_elem?}
@@ -29,7 +29,7 @@ module _ {S X : Type 0} (slot_fact : Setup → State → List X → List (Option
   abbrev pub Acts : Event → ℕ → Me S (Known X) → (ℕ → Me S (Known X) → Type 0) → Type 0
   Acts e id me then = (c : State) (xs : List X) (homes : List (Option S)) → Kept z c → IsAllowed z c id e me.0.view → get_elem? xs id ≡ some me.0.beside → slot_fact z c xs homes
       → (a : Act S) × (x : X) × Valid homes me.1 a × slot_fact z (after z c id me.0.view e) (set xs id x) (homes_after homes me.1 a)
-      × (IsTold z e me.0.view (found c (name z e me.0.view)) → then (found c (name z e me.0.view)) (record { view = view_after z e me.0.view (found c (name z e me.0.view)); beside = x }, carried_after me.1 a))
+      × (IsTold z e me.0.view (found c (name z e me.0.view)) → then (found c (name z e me.0.view)) (record { view = view_after z e me.0.view (found c (name z e me.0.view)); beside = x; made = e ∷ me.0.made }, carried_after me.1 a))
 
   -- a step whose word becomes what the event says is allowed
   pub by_acting : (e : Event) (f : ℕ → ℕ) (then : ℕ → Me S (Known X) → Type 0) (slots id : ℕ) (me : Me S (Known X)) → IsInside z (name z e me.0.view) → May z e me.0.view → Foreseen slot_fact z e id me.0
@@ -46,7 +46,7 @@ module _ {S X : Type 0} (slot_fact : Setup → State → List X → List (Option
       let told = tells z e c id v h.kept allowed in
       let same : f n ≡ word_after e v n = word n (rw (← here) small) told in
       let a = acts c (map beside_of s.views) s.homes h.kept allowed (at_map beside_of s.views id me.0 at) h.slots in
-      let w : Known X = record { view = view_after z e v n; beside = a.1 } in
+      let w : Known X = record { view = view_after z e v n; beside = a.1; made = e ∷ me.0.made } in
       rw here (
         w,
         a.0,

@@ -15,7 +15,7 @@ use Rattle.core_table.specs.Rules.{Holds}
 use Rattle.core_table.specs.Seats.{opener}
 
 pub opens : {S X : Type 0} (slot_fact : Setup → State → List X → List (Option S) → Type 0) (z : Setup) (x : X) (ws : List ℕ) (xs : List S) → IsSetup z → ws ≡ flat (start z) → slot_fact z (start z) (x ∷ []) (map some xs)
-    → Holds slot_fact z (opening ws xs (record { view = opener z; beside = x }))
+    → Holds slot_fact z (opening ws xs (record { view = opener z; beside = x; made = [] }))
 opens slot_fact z x ws xs ok is fact = record { core = start z; words = is; views = refl; kept = start_keeps z ok; slots = fact }
 
 -- the entries of the pages from p on begin with that of p

@@ -1,5 +1,5 @@
 -- What a step asks of its seat, and what it tells.
-use Rattle.std.specs.Prelude.{◌≡◌, ℕ}
+use Rattle.std.specs.Prelude.{◌≡◌, ℕ, ◌∷◌}
 use Rattle.atomic_table.specs.Table.{Me}
 use Rattle.atomic_table.specs.declared.shared.Seat.{Seat}
 use Rattle.core_events.specs.Setups.{Setup}
@@ -25,14 +25,15 @@ pub record BelongsTo {S X : Type 0} (t : TableSight) (s : Seat S (Known X)) : Ty
   pub small : IsSmall t.setup
   pub seated : IsSeated t.setup s.me.0.view
 
--- The seat keeps its number, what it has beside its view, and its slots
-pub record IsSame {S X : Type 0} (t : TableSight) (old new : Seat S (Known X)) : Type 0 where
+-- The seat made the event, and keeps its number, what it has beside its view, and its slots
+pub record HasMade {S X : Type 0} (t : TableSight) (e : Event) (old new : Seat S (Known X)) : Type 0 where
   pub belongs : BelongsTo t new
   pub id : new.id ≡ old.id
   pub beside : new.me.0.beside ≡ old.me.0.beside
   pub slots : new.me.1 ≡ old.me.1
+  pub made : new.me.0.made ≡ e ∷ old.me.0.made
 
--- It made the event, which found the number n: what that tells
+-- The event found the number n: what that tells
 pub record HasFound {S X : Type 0} (t : TableSight) (e : Event) (old new : Seat S (Known X)) (n : ℕ) : Type 0 where
-  pub same : IsSame t old new
+  pub made : HasMade t e old new
   pub told : IsTold t.setup e old.me.0.view n

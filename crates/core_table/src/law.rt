@@ -10,10 +10,11 @@ pub struct Law<P> {
 }
 
 impl<S, X, P: SlotRule<S, X>> TableRule<S, Known<X>, Terms> for Law<P> {
+    ghost use Rattle.std.specs.Prelude.{[]};
     ghost use Rattle.core_table.specs.Rules.{Holds};
     ghost use Rattle.core_table.specs.Seats.{opener};
 
     ghost holds = { λ z. Holds P.fact z };
 
-    ghost first = { λ z. record { view = opener z; beside = P.beside } };
+    ghost first = { λ z. record { view = opener z; beside = P.beside; made = [] } };
 }

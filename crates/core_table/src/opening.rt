@@ -27,7 +27,7 @@ impl<S, X, P: SlotRule<S, X>> EventTable<S, X, P> {
         requires setup { IsSetup terms.now }
         requires pages { terms.now.pages ≤ 2 ^ 32 }
         requires slots { P.fact terms.now (start terms.now) (P.beside ∷ []) (map some slots.items) }
-        ensures ok { IfOk result (λ r. (r.0.setup ≡ terms.now) × BelongsTo r.0 r.1 × (r.1.me ≡ (record { view = opener terms.now; beside = P.beside }, []))) }
+        ensures ok { IfOk result (λ r. (r.0.setup ≡ terms.now) × BelongsTo r.0 r.1 × (r.1.me ≡ (record { view = opener terms.now; beside = P.beside; made = [] }, []))) }
         ensures err { IfErr result (λ r. r.slots.items ≡ slots.items) }
     {
         let Ok(words) = start_words(alloc, terms) else {

@@ -19,7 +19,7 @@ impl<S, X, P: SlotRule<S, X>> EventTable<S, X, P> {
         requires can { CanSplit seat.old.me.0.view C.draws }
         requires slots { OutlastsSplit P.fact self.now.setup C.draws P.beside }
         ensures seat { BelongsTo self.now seat.new × (seat.new.id ≡ seat.old.id) × (seat.new.me ≡ (known_left C.draws seat.old.me.0, seat.old.me.1)) }
-        ensures other { BelongsTo self.now result × (result.me ≡ (record { view = newcomer self.now.setup 0 C.draws; beside = P.beside }, [])) }
+        ensures other { BelongsTo self.now result × (result.me ≡ (record { view = newcomer self.now.setup 0 C.draws; beside = P.beside; made = [] }, [])) }
     {
         self.table.shared.split_seat::<Splits<S, P, C>>(seat)
     }

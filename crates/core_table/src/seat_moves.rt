@@ -12,12 +12,13 @@ pub struct Splits<S, P, C> {
 }
 
 impl<S, X, P: SlotRule<S, X>, C: Cut> Split<Known<X>> for Splits<S, P, C> {
+    ghost use Rattle.std.specs.Prelude.{[]};
     ghost use Rattle.core_events.specs.Partings.{newcomer};
     ghost use Rattle.core_table.specs.Seats.{known_left};
 
     ghost left = { λ k. known_left C.draws k };
 
-    ghost right = { λ k. record { view = newcomer C.setup 0 C.draws; beside = P.beside } };
+    ghost right = { λ k. record { view = newcomer C.setup 0 C.draws; beside = P.beside; made = [] } };
 }
 
 /// Two seats are joined.
@@ -26,10 +27,11 @@ pub struct Joins<S, P, C> {
 }
 
 impl<S, X, P: SlotRule<S, X>, C: Cut> Join<Known<X>> for Joins<S, P, C> {
+    ghost use Rattle.std.specs.Prelude.{[]};
     ghost use Rattle.core_events.specs.Partings.{spent};
     ghost use Rattle.core_table.specs.Seats.{known_both};
 
     ghost both = { known_both };
 
-    ghost spent = { record { view = spent C.setup; beside = P.beside } };
+    ghost spent = { record { view = spent C.setup; beside = P.beside; made = [] } };
 }

@@ -7,7 +7,7 @@ ghost use Rattle.core_events.specs.Conditions.{May};
 ghost use Rattle.core_events.specs.Telling.{IsTold};
 ghost use Rattle.core_table.specs.Places.{index};
 ghost use Rattle.core_table.specs.Rules.{Outlasts, Foreseen};
-ghost use Rattle.core_table.specs.Steps.{BelongsTo, IsSame, HasFound};
+ghost use Rattle.core_table.specs.Steps.{BelongsTo, HasMade, HasFound};
 
 use crate::choice::Choice;
 use crate::event_table::{EventTable, Seat};
@@ -41,7 +41,7 @@ impl<S, X, P: SlotRule<S, X>> EventTable<S, X, P> {
         requires word { (n : ℕ) → IsTold self.now.setup E.event seat.old.me.0.view n → word_after E.event seat.old.me.0.view n ≡ new }
         requires blind { (n : ℕ) → view_after self.now.setup E.event seat.old.me.0.view n ≡ view_after self.now.setup E.event seat.old.me.0.view 0 }
         ensures view { seat.new.me.0.view ≡ view_after self.now.setup E.event seat.old.me.0.view 0 }
-        ensures same { IsSame self.now seat.old seat.new }
+        ensures made { HasMade self.now E.event seat.old seat.new }
     {
         self.table.shared.store::<Puts<E>>(seat, place, new)
     }

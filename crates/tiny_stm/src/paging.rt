@@ -5,7 +5,7 @@ ghost use Rattle.core_events.specs.Keyed.{find};
 ghost use Rattle.core_events.specs.Events.{entry, evict, fill, load_touch, pin, show, touch, unpin, view_after};
 ghost use Rattle.core_events.specs.Conditions.{May};
 ghost use Rattle.core_table.specs.Rules.{Foreseen, Outlasts};
-ghost use Rattle.core_table.specs.Steps.{BelongsTo, IsSame, HasFound};
+ghost use Rattle.core_table.specs.Steps.{BelongsTo, HasMade, HasFound};
 
 use crate::stm::Stm;
 use core_table::event_table::Seat;
@@ -58,16 +58,16 @@ impl<S, X, P: SlotRule<S, X>> Stm<S, X, P> {
     }
 
     /// Raises the touch of a page to the number.
-    pub fn touch(&self, seat: &mut Seat<S, X>, page: u64, number: u64) -> u64
+    pub fn touch(&self, seat: &mut Seat<S, X>, page: u64, number: u64)
         requires seat { BelongsTo self.now.events seat.old }
         requires number { seat.old.me.0.view.tx.hand.number ≡ number }
         requires may { May self.now.events.setup (touch page) seat.old.me.0.view }
         requires slots { Outlasts P.fact self.now.events.setup (touch page) }
-        ensures view { seat.new.me.0.view ≡ view_after self.now.events.setup (touch page) seat.old.me.0.view result }
-        ensures found { HasFound self.now.events (touch page) seat.old seat.new result }
+        ensures view { seat.new.me.0.view ≡ view_after self.now.events.setup (touch page) seat.old.me.0.view 0 }
+        ensures made { HasMade self.now.events (touch page) seat.old seat.new }
     {
         self.events
-            .raise_as::<Brand, u64>(seat, self.events.touch_place(page), number, &page)
+            .raise_as::<Brand, u64>(seat, self.events.touch_place(page), number, &page);
     }
 
     /// Loads the touch of a page.
@@ -107,7 +107,7 @@ impl<S, X, P: SlotRule<S, X>> Stm<S, X, P> {
         requires fits { Foreseen P.fact self.now.events.setup (fill page frame at value) seat.old.id seat.old.me.0 }
         requires slots { Outlasts P.fact self.now.events.setup (fill page frame at value) }
         ensures view { seat.new.me.0.view ≡ view_after self.now.events.setup (fill page frame at value) seat.old.me.0.view 0 }
-        ensures same { IsSame self.now.events seat.old seat.new }
+        ensures made { HasMade self.now.events (fill page frame at value) seat.old seat.new }
     {
         self.events.store_as::<Brand, (u64, u64, u64, u64)>(
             seat,
@@ -123,7 +123,7 @@ impl<S, X, P: SlotRule<S, X>> Stm<S, X, P> {
         requires may { May self.now.events.setup (show page frame) seat.old.me.0.view }
         requires slots { Outlasts P.fact self.now.events.setup (show page frame) }
         ensures view { seat.new.me.0.view ≡ view_after self.now.events.setup (show page frame) seat.old.me.0.view 0 }
-        ensures same { IsSame self.now.events seat.old seat.new }
+        ensures made { HasMade self.now.events (show page frame) seat.old seat.new }
     {
         self.events.store_as::<Brand, (u64, u64)>(
             seat,

@@ -30,7 +30,7 @@ impl<S, X, P: SlotRule<S, X>> Stm<S, X, P> {
         requires setup { IsSetup terms.now }
         requires pages { terms.now.pages ≤ 2 ^ 32 }
         requires slots { P.fact terms.now (start terms.now) (P.beside ∷ []) (map some slots.items) }
-        ensures ok { IfOk result (λ r. (r.0.events.setup ≡ terms.now) × BelongsTo r.0.events r.1 × (r.1.me ≡ (record { view = opener terms.now; beside = P.beside }, []))) }
+        ensures ok { IfOk result (λ r. (r.0.events.setup ≡ terms.now) × BelongsTo r.0.events r.1 × (r.1.me ≡ (record { view = opener terms.now; beside = P.beside; made = [] }, []))) }
         ensures err { IfErr result (λ r. r.slots.items ≡ slots.items) }
     {
         let (events, seat) = EventTable::new(alloc, terms, slots)?;
@@ -43,7 +43,7 @@ impl<S, X, P: SlotRule<S, X>> Stm<S, X, P> {
         requires can { CanSplit seat.old.me.0.view draws }
         requires slots { OutlastsSplit P.fact self.now.events.setup draws P.beside }
         ensures seat { BelongsTo self.now.events seat.new × (seat.new.id ≡ seat.old.id) × (seat.new.me ≡ (known_left draws seat.old.me.0, seat.old.me.1)) }
-        ensures other { BelongsTo self.now.events result × (result.me ≡ (record { view = newcomer self.now.events.setup 0 draws; beside = P.beside }, [])) }
+        ensures other { BelongsTo self.now.events result × (result.me ≡ (record { view = newcomer self.now.events.setup 0 draws; beside = P.beside; made = [] }, [])) }
     {
         self.events.split_as::<Brand>(seat, draws)
     }

@@ -4,7 +4,7 @@ ghost use Rattle.std.specs.Prelude.{◌≡◌, Some};
 ghost use Rattle.core_events.specs.Events.{empty_box, give_turn, post, raise_durable, raise_reproduced, see_box, see_full, take_turn, view_after};
 ghost use Rattle.core_events.specs.Conditions.{May};
 ghost use Rattle.core_table.specs.Rules.{Foreseen, Outlasts};
-ghost use Rattle.core_table.specs.Steps.{BelongsTo, IsSame, HasFound};
+ghost use Rattle.core_table.specs.Steps.{BelongsTo, HasMade, HasFound};
 
 use crate::stm::Stm;
 use core_table::event_table::Seat;
@@ -36,7 +36,7 @@ impl<S, X, P: SlotRule<S, X>> Stm<S, X, P> {
         requires may { May self.now.events.setup post seat.old.me.0.view }
         requires slots { Outlasts P.fact self.now.events.setup post }
         ensures view { seat.new.me.0.view ≡ view_after self.now.events.setup post seat.old.me.0.view 0 }
-        ensures same { IsSame self.now.events seat.old seat.new }
+        ensures made { HasMade self.now.events post seat.old seat.new }
     {
         self.events
             .store_as::<Brand, ()>(seat, self.events.box_place(thread, place), number, &())
@@ -61,7 +61,7 @@ impl<S, X, P: SlotRule<S, X>> Stm<S, X, P> {
         requires may { May self.now.events.setup (give_turn failed) seat.old.me.0.view }
         requires slots { Outlasts P.fact self.now.events.setup (give_turn failed) }
         ensures view { seat.new.me.0.view ≡ view_after self.now.events.setup (give_turn failed) seat.old.me.0.view 0 }
-        ensures same { IsSame self.now.events seat.old seat.new }
+        ensures made { HasMade self.now.events (give_turn failed) seat.old seat.new }
     {
         self.events.store_as::<Brand, bool>(seat, TURN, 0, &failed)
     }
@@ -88,7 +88,7 @@ impl<S, X, P: SlotRule<S, X>> Stm<S, X, P> {
         requires fits { Foreseen P.fact self.now.events.setup (empty_box thread place) seat.old.id seat.old.me.0 }
         requires slots { Outlasts P.fact self.now.events.setup (empty_box thread place) }
         ensures view { seat.new.me.0.view ≡ view_after self.now.events.setup (empty_box thread place) seat.old.me.0.view 0 }
-        ensures same { IsSame self.now.events seat.old seat.new }
+        ensures made { HasMade self.now.events (empty_box thread place) seat.old seat.new }
     {
         self.events.store_as::<Brand, (u64, u64)>(
             seat,
@@ -105,7 +105,7 @@ impl<S, X, P: SlotRule<S, X>> Stm<S, X, P> {
         requires fits { Foreseen P.fact self.now.events.setup (raise_durable value) seat.old.id seat.old.me.0 }
         requires slots { Outlasts P.fact self.now.events.setup (raise_durable value) }
         ensures view { seat.new.me.0.view ≡ view_after self.now.events.setup (raise_durable value) seat.old.me.0.view 0 }
-        ensures same { IsSame self.now.events seat.old seat.new }
+        ensures made { HasMade self.now.events (raise_durable value) seat.old seat.new }
     {
         self.events
             .store_as::<Brand, u64>(seat, DURABLE, value, &value)
@@ -118,7 +118,7 @@ impl<S, X, P: SlotRule<S, X>> Stm<S, X, P> {
         requires fits { Foreseen P.fact self.now.events.setup (raise_reproduced value) seat.old.id seat.old.me.0 }
         requires slots { Outlasts P.fact self.now.events.setup (raise_reproduced value) }
         ensures view { seat.new.me.0.view ≡ view_after self.now.events.setup (raise_reproduced value) seat.old.me.0.view 0 }
-        ensures same { IsSame self.now.events seat.old seat.new }
+        ensures made { HasMade self.now.events (raise_reproduced value) seat.old seat.new }
     {
         self.events
             .store_as::<Brand, u64>(seat, REPRODUCED, value, &value)

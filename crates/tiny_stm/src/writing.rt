@@ -8,7 +8,7 @@ ghost use Rattle.tiny_stm.specs.Abouts.{about};
 ghost use Rattle.core_events.specs.Events.{decide, draw, release, restore, store, take, first_lock, view_after};
 ghost use Rattle.core_events.specs.Conditions.{May};
 ghost use Rattle.core_table.specs.Rules.{Outlasts};
-ghost use Rattle.core_table.specs.Steps.{BelongsTo, IsSame, HasFound};
+ghost use Rattle.core_table.specs.Steps.{BelongsTo, HasMade, HasFound};
 
 use crate::stm::Stm;
 use core_table::event_table::Seat;
@@ -85,7 +85,7 @@ impl<S, X, P: SlotRule<S, X>> Stm<S, X, P> {
         requires may { May self.now.events.setup (store at) seat.old.me.0.view }
         requires slots { Outlasts P.fact self.now.events.setup (store at) }
         ensures view { seat.new.me.0.view ≡ view_after self.now.events.setup (store at) seat.old.me.0.view 0 }
-        ensures same { IsSame self.now.events seat.old seat.new }
+        ensures made { HasMade self.now.events (store at) seat.old seat.new }
     {
         self.events
             .store_as::<Brand, u64>(seat, self.events.cell_place(frame, at), value, &at)
@@ -98,7 +98,7 @@ impl<S, X, P: SlotRule<S, X>> Stm<S, X, P> {
         requires may { May self.now.events.setup (release lock) seat.old.me.0.view }
         requires slots { Outlasts P.fact self.now.events.setup (release lock) }
         ensures view { seat.new.me.0.view ≡ view_after self.now.events.setup (release lock) seat.old.me.0.view 0 }
-        ensures same { IsSame self.now.events seat.old seat.new }
+        ensures made { HasMade self.now.events (release lock) seat.old seat.new }
     {
         self.events
             .store_as::<Brand, u64>(seat, self.events.lock_place(lock), 2 * number, &lock)
@@ -111,7 +111,7 @@ impl<S, X, P: SlotRule<S, X>> Stm<S, X, P> {
         requires may { May self.now.events.setup (restore lock) seat.old.me.0.view }
         requires slots { Outlasts P.fact self.now.events.setup (restore lock) }
         ensures view { seat.new.me.0.view ≡ view_after self.now.events.setup (restore lock) seat.old.me.0.view 0 }
-        ensures same { IsSame self.now.events seat.old seat.new }
+        ensures made { HasMade self.now.events (restore lock) seat.old seat.new }
     {
         self.events
             .store_as::<Brand, u64>(seat, self.events.lock_place(lock), old, &lock)
