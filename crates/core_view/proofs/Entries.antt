@@ -1,5 +1,6 @@
 -- A list of entries that is walked from the front: what it says of the writes of a number.
-use Rattle.std.proofs.Common.{◌≡◌, ◌==◌, ◌&&◌, ℕ, ◌+◌, ◌<◌, ◌≤◌, Bool, true, false, List, ◌∷◌, ◌++◌, length, drop, get_or, refl, sym, ap, ◌∙◌, ne_eqb}
+use Rattle.std.proofs.Common.{◌≡◌, ◌⊎◌, inl, inr, ◌==◌, ◌&&◌, ℕ, ◌+◌, ◌<◌, ◌≤◌, Bool, true, false, List, ◌∷◌, ◌++◌, length, drop, get_or, refl, sym, ap, ◌∙◌, ne_eqb}
+use Rattle.std.specs.List.{Contains}
 use Rattle.core_events.specs.Views.{Entry}
 use Rattle.core_events.specs.Entries.{writes_of}
 use Rattle.core_lists.proofs.Walks.{rest_cons, rest_all}
@@ -25,3 +26,10 @@ walks_here xs i n e es lt is h so = so ∙ (ap (λ (l : List Entry). writes_of (
 
 pub walks_end : (xs : List Entry) (i n : ℕ) (es : List Entry) → length xs ≤ i → writes_of (xs ++ es) n ≡ writes_of (drop i xs ++ es) n → writes_of (xs ++ es) n ≡ writes_of es n
 walks_end xs i n es le so = so ∙ ap (λ (l : List Entry). writes_of (l ++ es) n) (rest_all xs i le)
+
+-- an entry of the list wrote with the number, or the number is 0: so it is with the next one, which is the same or that of the entry at the place i
+pub which_wrote : (xs : List Entry) (i m n : ℕ) (e : Entry) → i < length xs → e ≡ get_or xs i e → (n ≡ m) ⊎ ((e.wrote ≡ true) × (e.number ≡ n))
+    → (m ≡ 0) ⊎ ((x : Entry) × Contains xs x × (x.wrote ≡ true) × (x.number ≡ m)) → (n ≡ 0) ⊎ ((x : Entry) × Contains xs x × (x.wrote ≡ true) × (x.number ≡ n))
+which_wrote xs i m n e lt is (inl same) (inl none) = inl (same ∙ none)
+which_wrote xs i m n e lt is (inl same) (inr some) = inr (some.0, some.1, some.2, some.3 ∙ sym same)
+which_wrote xs i m n e lt is (inr this) before = inr (e, (i, lt, sym is), this.0, this.1)

@@ -1,4 +1,4 @@
-ghost use Rattle.std.specs.Prelude.{◌≡◌, ◌==◌, ◌&&◌, ◌≤◌, true};
+ghost use Rattle.std.specs.Prelude.{◌≡◌, ◌⊎◌, ◌==◌, ◌&&◌, ◌≤◌, true};
 ghost use Rattle.dude_base.specs.Writes.{written};
 
 use core_lists::pairs::Pairs;
@@ -36,6 +36,7 @@ impl Entry {
         ensures upto { result ≤ most }
         ensures from { last ≤ result }
         ensures later { self.now.wrote ≡ true → self.now.number ≤ most → self.now.number ≤ result }
+        ensures which { (result ≡ last) ⊎ ((self.now.wrote ≡ true) × (self.now.number ≡ result)) }
     {
         if self.wrote && self.number <= most {
             last.max(self.number)

@@ -1,6 +1,7 @@
 //! What the entries of a view say of numbers and their writes.
 
-ghost use Rattle.std.specs.Prelude.{◌≡◌, ◌<◌, ◌≤◌, ℕ, List, ◌++◌, IfSome, IfNone};
+ghost use Rattle.std.specs.Prelude.{◌≡◌, ◌⊎◌, ◌<◌, ◌≤◌, ℕ, List, ◌++◌, true, IfSome, IfNone};
+ghost use Rattle.std.specs.List.{Contains};
 ghost use Rattle.dude_base.specs.Writes.{written};
 ghost use Rattle.core_events.specs.Views.{Entry as Left};
 ghost use Rattle.core_events.specs.Entries.{writes_of};
@@ -13,6 +14,7 @@ impl View {
     pub fn last_number(&self, most: u64) -> u64
         ensures upto { result ≤ most }
         ensures last { (n : ℕ) (es : List Left) → result < n → n ≤ most → writes_of (self.now.entries ++ es) n ≡ writes_of es n }
+        ensures wrote { (result ≡ 0) ⊎ ((e : Left) × Contains self.now.entries e × (e.wrote ≡ true) × (e.number ≡ result)) }
     {
         last_number(&self.entries, most)
     }
@@ -30,6 +32,7 @@ impl View {
 fn last_number(entries: &Vec<Entry>, most: u64) -> u64
     ensures upto { result ≤ most }
     ensures last { (n : ℕ) (es : List Left) → result < n → n ≤ most → writes_of (entries.now.items ++ es) n ≡ writes_of es n }
+    ensures wrote { (result ≡ 0) ⊎ ((e : Left) × Contains entries.now.items e × (e.wrote ≡ true) × (e.number ≡ result)) }
 {
     let mut last = 0;
     for entry in entries {
