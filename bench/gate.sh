@@ -1,38 +1,171 @@
 #!/usr/bin/env bash
-# Measures what the gate takes, in processor seconds by crate: a check from nothing, the tests with their proof from
-# nothing, and the must-fail edits. Prints the rows of the table in docs/GATE.md. Works on a copy, one step at a time.
+# Measures one gate from nothing, `rt ci --anew`, from the system's table of processes: processor seconds of each crate's
+# proof, of its tests, of what builds and runs its program, and of each edit; and the longest chain of crates.
 #
-#     bench/gate.sh [CRATE..]     these crates, or all in crates.txt
+#     bench/gate.sh              the whole gate, at the top; writes the tables of docs/GATE.md
+#     bench/gate.sh CRATE..      these crates and those below them, on a copy; prints the tables alone
 set -euo pipefail
-top=$(cd "$(dirname "$0")/.." && pwd)
-[ $# -gt 0 ] || set -- $(sed -n 's/^\([a-z0-9_]*\)\b[^:]*:.*/\1/p' "$top/crates.txt")
-room=$(mktemp -d)
-trap 'rm -rf "$room"' EXIT
-tar -C "$top" --exclude=out -cf - crates crates.txt HANDLES | tar -C "$room" -xf -
-export TIMEFORMAT='%U %S'
+cd "$(dirname "$0")/.."
+exec python3 - "$@" <<'PROGRAM'
+import os, re, subprocess, sys, time
 
-# Runs a command, and prints its processor seconds with those of all that it started.
-seconds() {
-  { time "$@" > "$room/log" 2>&1; } 2> "$room/time" || { cat "$room/log" >&2; exit 1; }
-  awk 'END { printf "%.0f", $1 + $2 }' "$room/time"
-}
+TICK = os.sysconf("SC_CLK_TCK")
+LOOK = 0.5
+HEAD = "<!-- made by bench/gate.sh -->"
 
-for crate in "$@"; do
-  cd "$room/crates/$crate"
-  tests=- edits=-
-  count=$(find . -path './must-fail/*.edit' | wc -l)
-  # The crates below are built first, and aren't counted.
-  rt check --only "" > "$room/log" 2>&1 || { cat "$room/log" >&2; exit 1; }
-  rm -rf out
-  check=$(seconds rt check --jobs 1)
-  if grep -rqF '#[test]' src; then
-    rm -rf out
-    tests=$(seconds rt test --jobs 1)
-  fi
-  if [ "$count" -gt 0 ]; then
-    cd "$room"
-    edits=$(seconds rt must-fail "$crate")
-  fi
-  echo "| \`$crate\` | $check | $tests | $edits | $count |"
-done | awk -F ' *[|] *' '{ print; fflush(); for (i = 3; i <= 6; i++) sum[i] += $i }
-  END { print "| all | " sum[3] " | " sum[4] " | " sum[5] " | " sum[6] " |" }'
+
+def stat_of(pid):
+    """The parent, the start and the processor seconds of a process."""
+    with open(f"/proc/{pid}/stat") as it:
+        words = it.read().rpartition(")")[2].split()
+    return int(words[1]), int(words[19]), (int(words[11]) + int(words[12])) / TICK
+
+
+def words_of(pid):
+    with open(f"/proc/{pid}/cmdline", "rb") as it:
+        return it.read().decode(errors="replace").split("\0")
+
+
+def work_of(pid):
+    """What a process works at, as (crate, kind, edit); None where its parent says it."""
+    words = words_of(pid)
+    ran = re.search(r"/rt-run-[^/]*/bin/(\w+?)(_tests)?$", words[0] if words else "")
+    if ran:
+        return ran[1], "tests" if ran[2] else "program", None
+    if "--crate-name" in words:
+        crate = words[words.index("--crate-name") + 1]
+        if "/rt-edit-" in os.readlink(f"/proc/{pid}/cwd"):
+            over = words[words.index("--incremental") + 1] if "--incremental" in words else ""
+            number = os.path.basename(over)
+            return (crate, "seed", None) if number == "seed" else (crate, "edits", int(number) if number else None)
+        if "--test" in words:
+            return crate, "tests", None
+        return crate, "program" if "--crate-checked" in words else "proof", None
+    linked = re.search(r"\bout/(\w+?)(_tests)?(\.\w+)?$", words[words.index("-o") + 1]) if "-o" in words else None
+    return (linked[1], "tests" if linked[2] else "program", None) if linked else None
+
+
+class Looks:
+    """What was seen of the processes below one."""
+
+    def __init__(self, root):
+        self.root, self.seen, self.work, self.spans = root, {}, {root: None}, {}
+
+    def look(self):
+        now, stats = time.time(), {}
+        for name in os.listdir("/proc"):
+            if name.isdigit():
+                try:
+                    stats[int(name)] = stat_of(name)
+                except (OSError, ValueError, IndexError):
+                    pass
+        for pid in sorted(stats, key=lambda it: stats[it][1]):
+            parent, start, used = stats[pid]
+            if pid == self.root or (parent in stats and (parent, stats[parent][1]) in self.work) or (pid, start) in self.work:
+                self.note((pid, start), (parent, stats.get(parent, (0, 0))[1]), used, now)
+
+    def note(self, who, parent, used, now):
+        if not self.work.get(who):
+            try:
+                self.work[who] = work_of(who[0]) or self.work.get(parent)
+            except (OSError, ValueError, IndexError):
+                self.work.setdefault(who, self.work.get(parent))
+        self.seen[who] = used
+        work = self.work[who]
+        if work:
+            first, _ = self.spans.get(work, (now, now))
+            self.spans[work] = first, now
+
+    def seconds(self):
+        sums = {}
+        for who, used in self.seen.items():
+            sums[self.work[who]] = sums.get(self.work[who], 0) + used
+        return sums
+
+
+def crates_of():
+    """The crates of the repository that each crate stands on."""
+    below = {}
+    with open("crates.txt") as it:
+        for line in it:
+            name, colon, rest = line.partition("#")[0].partition(":")
+            if colon:
+                below[name.split()[0]] = rest.split()
+    return {name: [it for it in rest if it in below] for name, rest in below.items()}
+
+
+def lines_of(crate):
+    files = [f"{at}/{name}" for part in ("src", "specs", "proofs") for at, _, names in os.walk(f"crates/{crate}/{part}") for name in names]
+    return sum(open(it, "rb").read().count(b"\n") for it in files)
+
+
+def edits_of(crate):
+    folder = f"crates/{crate}/must-fail"
+    return sorted(it[:-5] for it in os.listdir(folder) if it.endswith(".edit")) if os.path.isdir(folder) else []
+
+
+def longest_chain(below, spans):
+    """The crates, each standing on the one before, whose proofs took longest one after another."""
+    best = {}
+    for name in [it for it in below if (it, "proof", None) in spans]:
+        first, last = spans[name, "proof", None]
+        over = max((best[it] for it in below[name] if it in best), default=(0, []))
+        best[name] = over[0] + last - first, over[1] + [name]
+    return max(best.values(), default=(0, []))
+
+
+def tables(below, looks, wall, whole):
+    sums, kinds = looks.seconds(), ("proof", "tests", "program", "seed", "edits")
+    rows, edits, total = [], [], dict.fromkeys(kinds, 0)
+    for crate in below:
+        by = {kind: sum(used for work, used in sums.items() if work and work[:2] == (crate, kind)) for kind in kinds}
+        if not any(by.values()):
+            continue
+        total = {kind: total[kind] + by[kind] for kind in kinds}
+        cells = [f"{by[kind]:.0f}" if by[kind] >= 0.5 else "" for kind in kinds]
+        rows.append(f"| `{crate}` | {lines_of(crate)} | " + " | ".join(cells) + f" | {sum(by.values()):.0f} |")
+        tried = [f"`{name}` {sums.get((crate, 'edits', at), 0):.0f}" for at, name in enumerate(edits_of(crate))]
+        if tried and by["edits"]:
+            edits.append(f"| `{crate}` | {', '.join(tried)} |")
+    lines = sum(lines_of(crate) for crate in below if (crate, "proof", None) in looks.spans)
+    rows.append(f"| all | {lines} | " + " | ".join(f"{total[kind]:.0f}" for kind in kinds) + f" | {sum(total.values()):.0f} |")
+    chain = longest_chain(below, looks.spans)
+    return "\n".join([
+        f"{whole / 60:.0f} processor minutes, {whole / 60 / (lines / 1000):.2f} a thousand lines, in {wall / 60:.0f} minutes on "
+        f"{os.cpu_count()} hardware threads. {whole - sum(total.values()):.0f} processor seconds are those of `rt` itself and of what ended between two looks.",
+        "",
+        "| Crate | Lines | Proof | Tests | Program | Seed of edits | Edits | All |",
+        "| --- | --- | --- | --- | --- | --- | --- | --- |",
+        *rows,
+        "",
+        f"The longest chain took {chain[0] / 60:.0f} minutes: {', '.join(f'`{it}`' for it in chain[1])}.",
+        "",
+        "| Crate | Its edits, and the processor seconds of each |",
+        "| --- | --- |",
+        *edits,
+    ])
+
+
+def main(names):
+    below, begun = crates_of(), time.time()
+    ci = subprocess.Popen(["rt", "ci", "--anew", *names], stdin=subprocess.DEVNULL)
+    looks = Looks(ci.pid)
+    looks.work = {(ci.pid, stat_of(ci.pid)[1]): None}
+    while True:
+        pid, status, used = os.wait4(ci.pid, os.WNOHANG)
+        if pid:
+            break
+        looks.look()
+        time.sleep(LOOK)
+    made = tables(below, looks, time.time() - begun, used.ru_utime + used.ru_stime)
+    print(made)
+    if not names and not status:
+        with open("docs/GATE.md") as it:
+            front, _, rest = it.read().partition(HEAD)
+        with open("docs/GATE.md", "w") as it:
+            it.write(f"{front}{HEAD}\n\n{made}\n\n{HEAD}{rest.partition(HEAD)[2]}")
+    return os.waitstatus_to_exitcode(status)
+
+
+sys.exit(main(sys.argv[1:]))
+PROGRAM
