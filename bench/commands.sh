@@ -1,0 +1,77 @@
+#!/usr/bin/env bash
+# Tries the built program by command lines, with what each has to leave: its status, its output, the last line on standard
+# error, and files. What `main` does stands in no contract. Prints each that is wrong, and ends with 1 where one is.
+#
+#     bench/commands.sh [PROGRAM]     crates/dude/out/dude, or another build of it
+set -u
+top=$(cd "$(dirname "$0")/.." && pwd)
+program=$(readlink -f "${1:-$top/crates/dude/out/dude}")
+room=$(mktemp -d)
+trap 'rm -rf "$room"' EXIT
+cd "$room" || exit 1
+tried=0 wrong=0
+
+# Runs the program, and compares its status, its output and the last line on standard error with the first three words.
+try() {
+  local status=$1 output=$2 line=$3 found
+  shift 3
+  "$program" "$@" > out 2> err < /dev/null
+  found=$?
+  tried=$((tried + 1))
+  [ "$found" = "$status" ] && [ "$(head -c 200 out)" = "$output" ] && [ "$(tail -n 1 err)" = "$line" ] && return
+  wrong=$((wrong + 1))
+  echo "dude $*: status $found, output '$(head -c 200 out)', last line '$(tail -n 1 err)'; not $status, '$output', '$line'"
+}
+
+# Says what is wrong, where the test that follows fails.
+holds() {
+  local what=$1
+  shift
+  tried=$((tried + 1))
+  "$@" || { wrong=$((wrong + 1)); echo "$what"; }
+}
+
+printf 'UPDATE_LOCATION,000000000000001,7\nSYNC\n' > good.csv
+printf 'SYNC\nSINC\n' > bad.csv
+head -c 1232 /dev/zero > short.img
+mkdir folder
+
+try 0 'last 0' 'durable 0' new.img format 8 96 2 16
+holds 'a new image has 33554432 bytes' [ "$(stat -c %s new.img)" = 33554432 ]
+holds 'nothing is left beside a new image' [ -z "$(find . -name '*.new*')" ]
+try 0 $'1 OK\n1 DURABLE\nlast 1' 'durable 1' new.img run good.csv
+try 0 'last 1' 'durable 1' new.img recover
+try 0 $'1 OK\n1 DURABLE\nlast 1' 'durable 1' other.img fresh 8 good.csv
+try 2 '' 'usage'
+try 2 '' 'usage' new.img
+try 2 '' 'usage' run new.img good.csv
+try 2 '' 'usage' new.img format 0 96 2 16
+holds 'a new image is made before the words are judged' [ -e run ]
+try 2 '' 'usage' unmade.img $'run\xff'
+holds 'a word that is no text makes no file' [ ! -e unmade.img ]
+try 3 '' 'file 2' new.img run good.csv none.csv
+try 3 '' 'file 1' new.img run folder
+try 4 '' 'file 1 record 2 field 0' new.img run bad.csv
+try 5 '' 'unformatted' short.img recover
+holds 'a refused image stays' cmp -s short.img <(head -c 1232 /dev/zero)
+try 5 '' 'too many files: 3 files, 2 rings' new.img run good.csv good.csv good.csv
+try 6 '' 'device' folder recover
+try 6 '' 'device' none/new.img recover
+try 0 'dude 0.1.0' '' --version
+"$program" --help > out 2> err
+holds 'help is printed' grep -q '^usage: dude IMAGE COMMAND' out
+holds 'help goes to standard output alone' [ ! -s err ]
+"$program" new.img recover > /dev/full 2> err
+holds 'a full output ends with 7' [ $? = 7 ]
+holds 'a full output is told' [ "$(tail -n 1 err)" = output ]
+"$program" new.img recover > out 2> /dev/full
+holds 'a full standard error ends with 6' [ $? = 6 ]
+holds 'nothing is printed then' [ ! -s out ]
+"$program" new.img recover 2> err | true
+holds 'a closed pipe ends with 7' [ "${PIPESTATUS[0]}" = 7 ]
+"$program" new.img recover > out 2>&-
+holds 'a closed standard error ends with 6' [ $? = 6 ]
+try 0 'last 1' 'durable 1' new.img recover
+
+echo "$tried command lines and what they leave: $wrong wrong"
+[ "$wrong" = 0 ]
