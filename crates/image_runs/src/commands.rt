@@ -1,13 +1,14 @@
 //! The commands of a script.
 
-use crate::left::{print_calls, print_words};
+use crate::left::{print_calls, print_fault, print_words, word_at};
 use crate::plan::Plan;
 use crate::sweeps::{budgets, formats, moments, openings};
 use crate::world::World;
 use dude_base::field::Field;
 use dude_base::sizes::Sizes;
 use image_format::FormatFault;
-use script_words::{number_of, numbers_of, pairs_of, words_of};
+use script_words::{numbers_of, pairs_of, words_of};
+use std::alloc::AllocError;
 use std::io;
 
 /// Carries out a command; `false` where the line is none.
@@ -36,16 +37,27 @@ fn with_changes(
     let Some(changes) = pairs_of(rt.alloc(), rest)? else {
         return Ok(false);
     };
-    let len = world.image.len() as u64;
-    if changes.iter().any(|change| change.0 >= len) {
+    let Some(image) = image_with(&world.image, &changes)? else {
         return Ok(false);
-    }
+    };
     match name {
-        "change" => world.change(rt, &changes)?,
-        "recover" => world.recover(rt, &changes)?,
-        _ => world.open(rt, &changes)?,
+        "change" => world.hold(rt, image)?,
+        "recover" => world.recover(rt, &image)?,
+        _ => world.open(rt, &image)?,
     }
     Ok(true)
+}
+
+/// An image with these words in place of its own; `None` where it has no such word.
+fn image_with(image: &Vec<u64>, changes: &[(u64, u64)]) -> Result<Option<Vec<u64>>, AllocError> {
+    let mut image = image.clone()?;
+    for change in changes {
+        let Some(word) = image.get_mut(change.0 as usize) else {
+            return Ok(None);
+        };
+        *word = change.1;
+    }
+    Ok(Some(image))
 }
 
 /// The commands with numbers.
@@ -66,7 +78,7 @@ fn with_numbers(
 /// The commands with nothing else.
 fn with_none(rt: &HostRuntime, world: &mut World, name: &str) -> io::Result<bool> {
     match name {
-        "calls" => print_calls(rt, &world.medium)?,
+        "calls" => print_calls(rt, world.medium.made())?,
         "take" => {
             let image = world.medium.content().to_vec(rt.alloc())?;
             world.hold(rt, image)?;
@@ -176,33 +188,39 @@ fn sizes_of(numbers: &[u64]) -> Option<Sizes> {
     }
 }
 
-/// Prints the text of a reason why no image is made.
+/// Prints the text of a reason why no image is made: its name, and its numbers.
 fn print_text(rt: &HostRuntime, words: &[&str]) -> io::Result<bool> {
-    match fault_of(words) {
+    let [name, numbers @ ..] = words else {
+        return Ok(false);
+    };
+    let Some(numbers) = numbers_of(rt.alloc(), numbers)? else {
+        return Ok(false);
+    };
+    match fault_of(name, word_at(&numbers, 0), word_at(&numbers, 1)) {
         Some(fault) => {
-            println!(rt; "{fault}")?;
+            print_fault(rt, &fault)?;
             Ok(true)
         }
         None => Ok(false),
     }
 }
 
-/// The reason that these words name.
-fn fault_of(words: &[&str]) -> Option<FormatFault> {
-    match words {
-        ["subscribers"] => Some(FormatFault::Size {
+/// The reason of this name, with two numbers.
+fn fault_of(name: &str, first: u64, second: u64) -> Option<FormatFault> {
+    match name {
+        "subscribers" => Some(FormatFault::Size {
             field: Field::Subscribers,
         }),
-        ["device"] => Some(FormatFault::Device),
-        ["memory"] => Some(FormatFault::NoMemory),
-        ["small", has, needs] => Some(FormatFault::Small {
-            has: number_of(has)?,
-            needs: number_of(needs)?,
+        "small" => Some(FormatFault::Small {
+            has: first,
+            needs: second,
         }),
-        ["few", rows, calls] => Some(FormatFault::TooFew {
-            rows: number_of(rows)?,
-            calls: number_of(calls)?,
+        "few" => Some(FormatFault::TooFew {
+            rows: first,
+            calls: second,
         }),
+        "device" => Some(FormatFault::Device),
+        "memory" => Some(FormatFault::NoMemory),
         _ => None,
     }
 }

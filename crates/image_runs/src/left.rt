@@ -1,7 +1,8 @@
 //! What is printed of images, homes and calls.
 
+use image_format::FormatFault;
 use pmem_fake::MemPmem;
-use pmem_trait::{Call, Medium};
+use pmem_trait::{Call, Made};
 use std::alloc::{AllocError, Global};
 use std::io;
 
@@ -14,25 +15,27 @@ fn text_of(alloc: Global, number: u64) -> Result<String, AllocError> {
     }
 }
 
+/// A word of an image, 0 behind its end.
+pub fn word_at(image: &[u64], at: usize) -> u64 {
+    image.get(at).copied().unwrap_or(0)
+}
+
 /// Prints the words of an image from this one to that, those that follow one another and are equal in one line.
 pub fn print_words(rt: &HostRuntime, image: &[u64], first: usize, last: usize) -> io::Result<()> {
-    let mut runs: Vec<(usize, usize, u64)> = Vec::new(rt.alloc());
-    for (at, value) in image.iter().enumerate() {
-        if first <= at && at <= last {
-            match runs.last_mut() {
-                Some(run) if run.2 == *value => run.1 = at,
-                _ => runs.push((at, at, *value))?,
-            }
+    let end = last.saturating_add(1).min(image.len());
+    let mut start = first;
+    for at in first..end {
+        let value = word_at(image, at);
+        if at + 1 == end || word_at(image, at + 1) != value {
+            print_equal(rt, start, at, value)?;
+            start = at + 1;
         }
-    }
-    for run in &runs {
-        print_run(rt, run.0, run.1, run.2)?;
     }
     Ok(())
 }
 
 // Prints words of one value.
-fn print_run(rt: &HostRuntime, first: usize, last: usize, value: u64) -> io::Result<()> {
+fn print_equal(rt: &HostRuntime, first: usize, last: usize, value: u64) -> io::Result<()> {
     let value = text_of(rt.alloc(), value)?;
     if first == last {
         println!(rt; "word {first} is {value}")
@@ -43,18 +46,21 @@ fn print_run(rt: &HostRuntime, first: usize, last: usize, value: u64) -> io::Res
 
 /// Prints which words of a home are others than before.
 pub fn print_changes(rt: &HostRuntime, before: &[u64], after: &[u64]) -> io::Result<()> {
-    let mut count = 0_u64;
-    print!(rt; "changed")?;
-    for (at, (old, new)) in before.iter().zip(after).enumerate() {
-        if old != new {
-            count = count.saturating_add(1);
-            print!(rt; " {at}={new}")?;
+    let mut is_same = true;
+    rt.print("changed")?;
+    for at in 0..after.len() {
+        let value = word_at(after, at);
+        if word_at(before, at) != value {
+            is_same = false;
+            print!(rt; " {at}={value}")?;
         }
     }
-    if count == 0 {
-        print!(rt; " nothing")?;
-    }
-    rt.println("")
+    rt.println(if is_same { " nothing" } else { "" })
+}
+
+/// Prints why no image was made.
+pub fn print_fault(rt: &HostRuntime, fault: &FormatFault) -> io::Result<()> {
+    println!(rt; "{fault}")
 }
 
 /// Prints what was told on a medium, and how many calls failed.
@@ -66,58 +72,49 @@ pub fn print_faults(rt: &HostRuntime, medium: &MemPmem) -> io::Result<()> {
     }
 }
 
-// Whether a call is of the kind of a first one, on the place behind a last one.
-fn goes_on(first: Call, last: u64, call: Call) -> bool {
-    match (first, call) {
-        (Call::Put { .. }, Call::Put { at, .. }) => at == last.saturating_add(1),
-        (Call::Flush(_), Call::Flush(line)) => line == last.saturating_add(1),
+// Whether a second call is of the kind of the first, on the next place; reads follow each other on any place.
+fn goes_on(first: Call, second: Call) -> bool {
+    match (first, second) {
+        (Call::Put { at, .. }, Call::Put { at: next, .. }) => next == at.saturating_add(1),
+        (Call::Flush(line), Call::Flush(next)) => next == line.saturating_add(1),
+        (Call::Read(_), Call::Read(_)) => true,
         _ => false,
     }
 }
 
-// The word or the line of a call.
-fn place_of(call: Call) -> u64 {
-    match call {
-        Call::Put { at, .. } | Call::Read(at) => at,
-        Call::Flush(line) => line,
-        Call::Fence | Call::Tell(_) => 0,
-    }
-}
-
-/// Prints how many reads were made on a medium, and the other calls, those on places that follow one another in one line.
-pub fn print_calls(rt: &HostRuntime, medium: &MemPmem) -> io::Result<()> {
-    let mut reads = 0_u64;
-    let mut runs: Vec<(Call, u64)> = Vec::new(rt.alloc());
-    for made in medium.made() {
-        let call = made.call;
-        if matches!(call, Call::Read(_)) {
-            reads = reads.saturating_add(1);
-            continue;
+/// Prints these calls, those of a kind on places that follow one another in one line.
+pub fn print_calls(rt: &HostRuntime, made: &[Made]) -> io::Result<()> {
+    let mut start = 0;
+    for at in 0..made.len() {
+        if at + 1 == made.len() || !goes_on(made[at].call, made[at + 1].call) {
+            print_call(rt, made[at].call, at.saturating_sub(start) as u64)?;
+            start = at + 1;
         }
-        match runs.last_mut() {
-            Some(run) if goes_on(run.0, run.1, call) => run.1 = place_of(call),
-            _ => runs.push((call, place_of(call)))?,
-        }
-    }
-    println!(rt; "{reads} reads")?;
-    for run in &runs {
-        print_call(rt, run.0, run.1)?;
     }
     Ok(())
 }
 
-// Prints calls from this one to the one on that place.
-fn print_call(rt: &HostRuntime, call: Call, last: u64) -> io::Result<()> {
+// Prints a call, before which so many of its kind were made.
+fn print_call(rt: &HostRuntime, call: Call, before: u64) -> io::Result<()> {
     match call {
-        Call::Put { at, value } if at == last => {
+        Call::Put { at, value } if before == 0 => {
             let value = text_of(rt.alloc(), value)?;
             println!(rt; "put {value} in word {at}")
         }
-        Call::Put { at, .. } => println!(rt; "put words {at} to {last}"),
-        Call::Flush(line) if line == last => println!(rt; "flush line {line}"),
-        Call::Flush(line) => println!(rt; "flush lines {line} to {last}"),
+        Call::Put { at, .. } => print_places(rt, "put words", at, before),
+        Call::Flush(line) if before == 0 => println!(rt; "flush line {line}"),
+        Call::Flush(line) => print_places(rt, "flush lines", line, before),
         Call::Fence => rt.println("fence"),
         Call::Tell(number) => println!(rt; "tell {number}"),
-        Call::Read(at) => println!(rt; "read word {at}"),
+        Call::Read(_) => {
+            let count = before.saturating_add(1);
+            println!(rt; "read {count} words")
+        }
     }
+}
+
+// Prints the places up to a last one.
+fn print_places(rt: &HostRuntime, what: &str, last: u64, before: u64) -> io::Result<()> {
+    let first = last.saturating_sub(before);
+    println!(rt; "{what} {first} to {last}")
 }

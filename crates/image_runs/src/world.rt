@@ -1,6 +1,6 @@
 //! What a script works on, and the commands for one image.
 
-use crate::left::{print_changes, print_faults};
+use crate::left::{print_changes, print_fault, print_faults, word_at};
 use crate::media::{formatted, made, opened};
 use crate::outcomes::{Outcome, picks_of, recovered};
 use crate::plan::{Plan, medium_of};
@@ -25,11 +25,6 @@ pub struct World {
     pub sizes: Sizes,
     /// Which calls of the next format or opening fail.
     pub plan: Plan,
-}
-
-/// A word of an image, 0 behind its end.
-fn word_at(image: &[u64], at: usize) -> u64 {
-    image.get(at).copied().unwrap_or(0)
 }
 
 /// The words of an image from the first home word on, which follows the rings that its header has.
@@ -66,28 +61,11 @@ impl World {
         })
     }
 
-    /// The image with these words.
-    fn image_with(&self, changes: &[(u64, u64)]) -> Result<Vec<u64>, AllocError> {
-        let mut image = self.image.clone()?;
-        for (at, value) in changes {
-            if let Some(word) = image.get_mut(*at as usize) {
-                *word = *value;
-            }
-        }
-        Ok(image)
-    }
-
     /// Holds these words as the image in memory.
     pub fn hold(&mut self, rt: &HostRuntime, image: Vec<u64>) -> io::Result<()> {
         let len = image.len();
         self.image = image;
         println!(rt; "{len} words")
-    }
-
-    /// Changes words of the image.
-    pub fn change(&mut self, rt: &HostRuntime, changes: &[(u64, u64)]) -> io::Result<()> {
-        let image = self.image_with(changes)?;
-        self.hold(rt, image)
     }
 
     /// Takes the image that a crash leaves now, with this pick of each word.
@@ -97,11 +75,10 @@ impl World {
         self.hold(rt, image)
     }
 
-    /// Recovers the image with these words.
-    pub fn recover(&mut self, rt: &HostRuntime, changes: &[(u64, u64)]) -> io::Result<()> {
-        let image = self.image_with(changes)?;
-        self.found = recovered(rt.alloc(), &image);
-        self.print_found(rt, &image)
+    /// Recovers an image.
+    pub fn recover(&mut self, rt: &HostRuntime, image: &[u64]) -> io::Result<()> {
+        self.found = recovered(rt.alloc(), image);
+        self.print_found(rt, image)
     }
 
     // Prints what was found of an image.
@@ -117,30 +94,34 @@ impl World {
         }
     }
 
-    /// Opens the image with these words.
-    pub fn open(&mut self, rt: &HostRuntime, changes: &[(u64, u64)]) -> io::Result<()> {
-        let image = self.image_with(changes)?;
-        let (outcome, medium) = opened(rt.alloc(), image.clone()?, &self.plan)?;
+    /// Opens an image.
+    pub fn open(&mut self, rt: &HostRuntime, image: &[u64]) -> io::Result<()> {
+        let (outcome, medium) = opened(rt.alloc(), image.to_vec(rt.alloc())?, &self.plan)?;
         self.found = outcome;
         self.medium = medium;
         self.plan = Plan::WHOLE;
-        self.print_found(rt, &image)?;
-        self.print_opened(rt, &image)
+        self.print_found(rt, image)?;
+        self.print_opened(rt, image)
+    }
+
+    // Whether the medium has this image, and a crash leaves it.
+    fn is_unchanged(&self, alloc: Global, image: &[u64]) -> Result<bool, AllocError> {
+        let picks = picks_of(alloc, image, 1)?;
+        let left = self.medium.crash(alloc, &picks)?;
+        Ok(self.medium.content() == image && left.as_slice() == image)
     }
 
     // Prints what the opening of an image left.
     fn print_opened(&self, rt: &HostRuntime, image: &[u64]) -> io::Result<()> {
-        let content = self.medium.content();
-        let picks = picks_of(rt.alloc(), image, 1)?;
-        let same = content == image && self.medium.crash(rt.alloc(), &picks)?.as_slice() == image;
-        rt.println(if same {
+        let is_unchanged = self.is_unchanged(rt.alloc(), image)?;
+        rt.println(if is_unchanged {
             "medium unchanged"
         } else {
             "medium changed"
         })?;
         if let Ok((_, home)) = &self.found {
-            let mark = word_at(content, MARK as usize);
-            let whose = whose_home(content, home);
+            let mark = word_at(self.medium.content(), MARK as usize);
+            let whose = whose_home(self.medium.content(), home);
             println!(rt; "mark {mark}, {whose} home on the medium")?;
         }
         print_faults(rt, &self.medium)
@@ -154,7 +135,7 @@ impl World {
         self.plan = Plan::WHOLE;
         match outcome {
             Ok(()) => rt.println("made")?,
-            Err(fault) => println!(rt; "{fault}")?,
+            Err(fault) => print_fault(rt, &fault)?,
         }
         self.print_counts(rt)
     }
@@ -174,7 +155,7 @@ impl World {
         self.plan = Plan::WHOLE;
         match outcome {
             Ok(home) => self.print_home(rt, &home)?,
-            Err(fault) => println!(rt; "{fault}")?,
+            Err(fault) => print_fault(rt, &fault)?,
         }
         self.print_counts(rt)
     }
