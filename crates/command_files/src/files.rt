@@ -1,3 +1,5 @@
+//! The request files of a command are read, in order, before any of them is parsed.
+
 ghost use Rattle.std.specs.Prelude.{◌≡◌, ◌≤◌, length, map, All, IsTrue, OnOk, IfOk, IfErr, IsErr, IsErrAnd};
 ghost use Rattle.std.specs.List.{AllZip};
 ghost use Rattle.tatp_model.specs.Request.{IsInRange};

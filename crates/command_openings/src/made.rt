@@ -1,3 +1,5 @@
+//! A new image is made on a medium, and opened.
+
 ghost use Rattle.std.specs.Prelude.{◌≡◌, true, IfOk, IfErr, IsTrue};
 ghost use Rattle.dude_base.specs.Sizes.{IsAccepted};
 ghost use Rattle.pmem_trait.specs.Words.{IsSettled};

@@ -1,3 +1,5 @@
+//! The image on a medium is opened, and its opening number told.
+
 ghost use Rattle.std.specs.Prelude.{◌≡◌, ℕ, Bool, true, false, List, [], ◌∷◌, ◌++◌, IfOk, IfErr, IsTrue, MatchResult};
 ghost use Rattle.pmem_trait.specs.Words.{IsSettled};
 ghost use Rattle.pmem_trait.specs.Sights.{Risen, SomeCalls, state_now, AtEveryMoment};

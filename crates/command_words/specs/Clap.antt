@@ -35,9 +35,11 @@ files_rule = record (new_rule (codes "files")) {
 
 -- ---- the commands
 
+-- `fresh`: how many subscribers, and a file
 abbrev pub fresh_app : App
 fresh_app = with_rule (with_rule (new_app (codes "fresh")) (number_rule (codes "subscribers") 1 10_000)) file_rule
 
+-- `format`: how many subscribers, call records, rings, and cells of a ring
 abbrev pub format_app : App
 format_app =
     with_rule (with_rule (with_rule (with_rule (new_app (codes "format"))
@@ -46,10 +48,12 @@ format_app =
     (number_rule (codes "rings") 1 8))
     (number_rule (codes "cells") 16 4_096)
 
+-- `run`: an option for the frames, one for the locks, and one or more files
 abbrev pub run_app : App
 run_app =
     with_rule (with_rule (with_rule (new_app (codes "run")) (option_rule (codes "frames") 1 32_768)) (option_rule (codes "locks") 1 65_536)) files_rule
 
+-- `drive`: a seed, how many requests each file has, and how many files
 abbrev pub drive_app : App
 drive_app =
     with_rule (with_rule (with_rule (new_app (codes "drive"))
@@ -63,23 +67,28 @@ drive_app =
 abbrev pub is_number : Text → Bool
 is_number word = is_decimal 20 word
 
+-- a number's word, or none
 abbrev pub is_number_or_absent : Option Text → Bool
 is_number_or_absent None = true
 is_number_or_absent (Some word) = is_number word
 
+-- the words of `fresh`: a number and a file name
 abbrev pub has_fresh_form : List Text → Bool
 has_fresh_form (name ∷ subscribers ∷ file ∷ []) = is_number subscribers && is_file_name file
 has_fresh_form _ = false
 
+-- the words of `format`: four numbers
 abbrev pub has_format_form : List Text → Bool
 has_format_form (name ∷ subscribers ∷ calls ∷ rings ∷ cells ∷ []) =
     is_number subscribers && is_number calls && is_number rings && is_number cells
 has_format_form _ = false
 
+-- the words of `drive`: three numbers
 abbrev pub has_drive_form : List Text → Bool
 has_drive_form (name ∷ seed ∷ count ∷ files ∷ []) = is_number seed && is_number count && is_number files
 has_drive_form _ = false
 
+-- the words of `run`: a number behind each option that is there, and one or more file names
 abbrev pub has_run_form : RunWords → Bool
 has_run_form given = is_number_or_absent given.frames && is_number_or_absent given.locks && are_file_names given.files
 
@@ -106,15 +115,19 @@ abbrev pub fresh_with : Option ℕ → Option Text → Option Meaning
 fresh_with (Some subscribers) (Some file) = Some (FreshRun subscribers file)
 fresh_with _ _ = None
 
+-- what the matches of `fresh` mean
 abbrev pub fresh_in : List Row → Option Meaning
 fresh_in rows = fresh_with (number_of (codes "subscribers") rows) (first_of (codes "file") rows)
 
+-- what the matches of `format` mean
 abbrev pub format_in : List Row → Option Meaning
 format_in rows =
     format_with (number_of (codes "subscribers") rows) (number_of (codes "calls") rows) (number_of (codes "rings") rows) (number_of (codes "cells") rows)
 
+-- what the matches of `run` mean, with these files
 abbrev pub run_in : List Text → List Row → Option Meaning
 run_in files rows = Some (RunFiles (number_of (codes "frames") rows) (number_of (codes "locks") rows) files)
 
+-- what the matches of `drive` mean
 abbrev pub drive_in : List Row → Option Meaning
 drive_in rows = drive_with (number_of (codes "seed") rows) (number_of (codes "count") rows) (number_of (codes "files") rows)

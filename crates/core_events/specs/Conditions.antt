@@ -18,6 +18,7 @@ use Rattle.core_events.specs.Events.{Event, number, begin, extend, look, load, c
 abbrev pub Keeps : List (ℕ × ℕ) → ℕ → Type 0
 Keeps xs k = (n : ℕ) × (find xs k ≡ Some n)
 
+-- the view has a thread's number
 abbrev pub HasThread : View → Type 0
 HasThread v = (t : ℕ) × (v.part.thread ≡ Some t)
 
@@ -37,6 +38,7 @@ pub record IsSteady (x : Transaction) : Type 0 where
   pub undrawn : IsUndrawn x
   pub no_extension : x.extension ≡ None
 
+-- the number drawn is neither decided nor void
 pub record IsUndecided (h : Hand) : Type 0 where
   pub number : 0 < h.number
   pub not_decided : h.decided ≡ false
@@ -50,9 +52,11 @@ LooksGood v k = (y : ℕ) × (v.tx.look ≡ Some (k, y)) × (is_good v.part.thre
 abbrev pub LooksUnowned : View → ℕ → Type 0
 LooksUnowned v k = (u : ℕ) × (v.tx.look ≡ Some (k, 2 * u)) × (u ≤ v.tx.snapshot)
 
+-- the transaction of the view owns the lock k
 abbrev pub Owns : View → ℕ → Type 0
 Owns v k = Keeps v.tx.owned k
 
+-- the view pins the page p
 abbrev pub Pins : View → ℕ → Type 0
 Pins v p = Keeps v.paging.pins p
 
@@ -143,6 +147,7 @@ Can z (evict p) v = (v.turn.has_it ≡ true) × KeepsFrame v p
 Can z (fill p f i x) v = (v.turn.has_it ≡ true) × (page_of i ≡ p) × Keeps v.turn.touches p
 Can z (show p f) v = (v.turn.has_it ≡ true) × ((i : ℕ) → page_of i ≡ p → IsFilled v.turn.filled i f)
 
+-- the view has a thread's number; the event that draws one asks for none
 abbrev pub Threaded : Event → View → Type 0
 Threaded number v = Unit {0}
 Threaded e v = HasThread v
@@ -163,6 +168,8 @@ IsFree z c f = (p : ℕ) → p < z.pages → 0 < slice_index c.entries p → fra
 abbrev pub IsPersistedUpTo : Setup → List RedoRecord → ℕ → Type 0
 IsPersistedUpTo z rs x = (n : ℕ) → z.first < n → n ≤ x → has (map (λ r. r.number) rs) n ≡ true
 
+-- a box that is emptied is full; the durable number rises within what is persisted, the reproduced one up to it; a word
+-- is filled into a free frame, once the home has all writes of its page; every other event asks nothing
 abbrev pub Fits : Setup → Event → State → View → Type 0
 Fits z (empty_box t j) c v = 0 < slice_index c.boxes (box_of z t j)
 Fits z (raise_durable x) c v = (c.durable ≤ x) × IsPersistedUpTo z c.persisted x
@@ -185,14 +192,17 @@ IsOff z c who e = (v : View) → IsAllowed z c who e v → ⊥
 abbrev pub record_of : Hand → RedoRecord
 record_of h = record { number = h.number; writes = if h.decided then h.writes else [] }
 
+-- what an empty box has in place of a record
 abbrev pub no_record : RedoRecord
 no_record = record { number = 0; writes = [] }
 
+-- what lies in the boxes: a post puts the record of the view's number into its next box, an emptying takes one out
 abbrev pub records_after : Setup → Event → State → View → List RedoRecord
 records_after z post c v = slice_set c.records (next_box z v) (record_of v.tx.hand)
 records_after z (empty_box t j) c v = slice_set c.records (box_of z t j) no_record
 records_after z e c v = c.records
 
+-- the persisted records: an emptying puts the record of its box before the others
 abbrev pub persisted_after : Setup → Event → State → List RedoRecord
 persisted_after z (empty_box t j) c = slice_index_or c.records (box_of z t j) no_record ∷ c.persisted
 persisted_after z e c = c.persisted

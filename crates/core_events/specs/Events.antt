@@ -10,6 +10,7 @@ use Rattle.core_events.specs.Setups.{Setup, lock_of, page_of, cell_of, box_of, e
 use Rattle.core_events.specs.Keyed.{find, without, has, or_else}
 use Rattle.core_events.specs.Views.{Word, the_threads, the_clock, the_turn, the_durable, the_reproduced, the_lock, the_entry, the_touch, the_cell, the_box, About, Entry, Hand, Transaction, Paging, Turn, View}
 
+-- the kinds of step, each with the locks, words, pages, frames, boxes and numbers that it names
 pub data Event : Type 0 where
   number : Event
   begin : Event
@@ -43,12 +44,15 @@ pub data Event : Type 0 where
   show : ℕ → ℕ → Event
 
 -- ---- what a view says
+-- what stands in place of a request where no number is drawn
 abbrev pub no_about : About
 no_about = record { file = 0; index = 0; request = Sync; reply = Durable }
 
+-- what a view has where it drew no number
 abbrev pub no_hand : Hand
 no_hand = record { number = 0; decided = false; void = false; about = no_about; writes = []; stored = [] }
 
+-- the number of the view's thread; 0 where it has none
 abbrev pub thread_of : View → ℕ
 thread_of v = or_else v.part.thread 0
 
@@ -65,6 +69,7 @@ looked_word (Some p) = p.1
 abbrev pub is_good : Option ℕ → ℕ → ℕ → Bool
 is_good thread snapshot n = (n == own_word thread) || ((n == 2 * (n / 2)) && leb (n / 2) snapshot)
 
+-- the first of the locks owned; 0 where there is none
 abbrev pub first_lock : List (ℕ × ℕ) → ℕ
 first_lock [] = 0
 first_lock (x ∷ xs) = x.0
@@ -73,6 +78,7 @@ first_lock (x ∷ xs) = x.0
 abbrev pub pinned_frame : View → ℕ → ℕ
 pinned_frame v page = or_else (find v.paging.pins page) 0
 
+-- the entry of a page that the view keeps; 0 where it keeps none
 abbrev pub kept_entry : View → ℕ → ℕ
 kept_entry v page = or_else (find v.paging.entries page) 0
 
@@ -81,6 +87,7 @@ abbrev pub next_box : Setup → View → ℕ
 next_box z v = box_of z (thread_of v) v.box.next
 
 -- ---- the word
+-- which word the event is a step on
 abbrev pub name : Setup → Event → View → Word
 name z number v = the_threads
 name z begin v = the_clock
@@ -202,6 +209,7 @@ abbrev pub turning : Bool → Turn → Turn
 turning true t = record t { has_it = true; count = t.count + 1; full = []; touches = []; filled = [] }
 turning false t = t
 
+-- where a turn begins, the page entries that were kept are dropped
 abbrev pub forgetting : Bool → Paging → Paging
 forgetting true g = record g { entries = [] }
 forgetting false g = g
@@ -224,10 +232,11 @@ replacing made p t = record t { touches = if made then without t.touches p else 
 abbrev pub place_behind : Setup → ℕ → ℕ
 place_behind z place = (place + 1) % z.boxes
 
--- the entry of a transaction that read, and of one that wrote
+-- the entry of a transaction that read, at its snapshot
 abbrev pub read_entry : About → View → Entry
 read_entry a v = record { number = v.tx.snapshot; wrote = false; about = a; reads = v.tx.reads; writes = [] }
 
+-- the entry of a transaction that wrote, at its number
 abbrev pub write_entry : View → Entry
 write_entry v = record { number = v.tx.hand.number; wrote = true; about = v.tx.hand.about; reads = v.tx.reads; writes = v.tx.hand.writes }
 

@@ -13,6 +13,7 @@ pub data Hold : Type 0 where
   taken : ℕ → ℕ → Hold
   writing : ℕ → ℕ → Hold
 
+-- the version under the lock
 abbrev pub version : Hold → ℕ
 version (free u) = u
 version (taken j u) = u
@@ -24,6 +25,7 @@ word_of thread (free u) = 2 * u
 word_of thread (taken j u) = 2 * thread j + 1
 word_of thread (writing j u) = 2 * thread j + 1
 
+-- the owner has decided its number
 abbrev pub IsWriting : Hold → Type 0
 IsWriting h = (j : ℕ) × (u : ℕ) × (h ≡ writing j u)
 
@@ -44,6 +46,8 @@ pub record Claims : Type 0 where
   pub settled : ℕ → Bool
   pub lock : ℕ → Hold
 
+-- the claims, whose entries have each decided number, where each number is, the threads of views and the frames of
+-- pages
 pub record Ghost : Type 0 where
   pub claims : Claims
   -- in whose entries a decided number is
@@ -68,6 +72,8 @@ voids None (Some s) good n pending = pending
 voids None None true n pending = pending
 voids None None false n pending = change pending n []
 
+-- what the event makes of the claims: a check after the draw, a take, a draw, a decision, a release and a restore
+-- change some, and every other event leaves them
 abbrev pub claims_after : Setup → Claims → State → ℕ → View → Event → Claims
 claims_after z q c who v (check k) = record q { pending = voids v.tx.loaded v.tx.extension (is_good v.part.thread v.tx.snapshot (slice_index c.locks k)) v.tx.hand.number q.pending }
 claims_after z q c who v (take k) = record q { lock = if slice_index c.locks k == looked_word v.tx.look then change q.lock k (taken who (version (q.lock k))) else q.lock }
@@ -86,29 +92,35 @@ claims_after z q c who v (release k) = record q { lock = change q.lock k (free v
 claims_after z q c who v (restore k) = record q { lock = change q.lock k (free (version (q.lock k))) }
 claims_after z q c who v e = q
 
+-- a decided number is in the entries of the view that decided it
 abbrev pub author_after : (ℕ → ℕ) → ℕ → View → Event → ℕ → ℕ
 author_after author who v decide = change author v.tx.hand.number who
 author_after author who v e = author
 
+-- a number that is drawn is in its view, one that is posted in a box, one whose box is emptied behind the boxes
 abbrev pub place_after : Setup → (ℕ → Place) → State → ℕ → View → Event → ℕ → Place
 place_after z place c who v (draw a ws) = change place (c.clock + 1) (in_view who)
 place_after z place c who v post = change place v.tx.hand.number (in_box (next_box z v))
 place_after z place c who v (empty_box t j) = change place (slice_index c.boxes (box_of z t j)) behind_boxes
 place_after z place c who v e = place
 
+-- the view that draws a thread's number has that thread
 abbrev pub thread_after : (ℕ → ℕ) → State → ℕ → Event → ℕ → ℕ
 thread_after thread c who number = change thread who c.threads
 thread_after thread c who e = thread
 
+-- a thread's number is at the view that drew it
 abbrev pub home_after : (ℕ → ℕ) → State → ℕ → Event → ℕ → ℕ
 home_after home c who number = change home c.threads who
 home_after home c who e = home
 
+-- an eviction that succeeds leaves the page in no frame, and a page that is shown is in its frame
 abbrev pub frame_after : (ℕ → Option ℕ) → State → View → Event → ℕ → Option ℕ
 frame_after frame c v (evict p) = if slice_index c.entries p == without_pins (kept_entry v p) then change frame p None else frame
 frame_after frame c v (show p f) = change frame p (Some f)
 frame_after frame c v e = frame
 
+-- what the event makes of all that is kept beside the state
 abbrev pub ghost_after : Setup → Ghost → State → ℕ → View → Event → Ghost
 ghost_after z g c who v e = record {
   claims = claims_after z g.claims c who v e;
@@ -123,5 +135,6 @@ ghost_after z g c who v e = record {
 abbrev pub moved : (ℕ → ℕ) → ℕ → ℕ → ℕ → ℕ
 moved f who other t = if f t == other then who else f t
 
+-- after a join, the threads and the entries that were at the view `other` are at the view `who`
 abbrev pub ghost_joined : Ghost → ℕ → ℕ → Ghost
 ghost_joined g who other = record g { home = moved g.home who other; author = moved g.author who other }

@@ -10,9 +10,12 @@ use Rattle.core_events.specs.Words.{State}
 use Rattle.core_events.specs.Entries.{History, numbers_written, read_at}
 use Rattle.core_events.specs.Ghosts.{Ghost}
 
+-- what the transactions of a view left
 abbrev pub entries_of : View → List Entry
 entries_of v = v.entries
 
+-- An entry's number is up to the clock, and it read at the opening number or later. Where it wrote, its number is over
+-- the opening one and decided, and its writes are those of the number.
 pub record EntryLegal (first : ℕ) (hist pending : History) (settled : ℕ → Bool) (clock : ℕ) (e : Entry) : Type 0 where
   pub upto : e.number ≤ clock
   pub from : first ≤ read_at e
@@ -20,6 +23,7 @@ pub record EntryLegal (first : ℕ) (hist pending : History) (settled : ℕ → 
   pub apart : (n : ℕ) → n ≤ read_at e → All (λ r. written (pending n) r.0 ≡ None) e.reads
   pub wrote : e.wrote ≡ true → (first < e.number) × (settled e.number ≡ true) × (hist e.number ≡ e.writes)
 
+-- each entry of each view is legal
 abbrev pub EntriesLegal : ℕ → History → History → (ℕ → Bool) → ℕ → List (List Entry) → Type 0
 EntriesLegal first hist pending settled clock logs = (j : ℕ) (es : List Entry) → get_elem? logs j ≡ some es → All (EntryLegal first hist pending settled clock) es
 
@@ -37,6 +41,7 @@ OnlyDecidedWrote settled hist = (n : ℕ) → settled n ≡ false → hist n ≡
 abbrev pub SpentEmpty : List View → Type 0
 SpentEmpty views = (j : ℕ) (v : View) → get_elem? views j ≡ some v → v.part.is_spent ≡ true → v.entries ≡ []
 
+-- The layer of entries: each is legal, each decided number is in one, none but these wrote, and spent views have none.
 pub record EntriesKept (z : Setup) (g : Ghost) (c : State) : Type 0 where
   pub legal : EntriesLegal z.first g.claims.hist g.claims.pending g.claims.settled c.clock (map entries_of c.views)
   pub once : EntriesOnce g.author g.claims.settled c.clock (map entries_of c.views)

@@ -13,9 +13,11 @@ use Rattle.core_events.specs.Events.{own_word}
 use Rattle.core_events.specs.Conditions.{IsUndrawn, IsUndecided}
 use Rattle.core_events.specs.Ghosts.{Hold, taken, writing, version, word_of, Claims}
 
+-- the number that a view drew and has not posted, with its writes
 abbrev pub hand_of : View → Hand
 hand_of v = v.tx.hand
 
+-- how many numbers a view may still draw
 abbrev pub draws_of : View → ℕ
 draws_of v = v.draws
 
@@ -63,6 +65,7 @@ pub record OpenNumber (hist pending : History) (who : ℕ → ℕ) (settled : �
 pub record ReadsApart (pending : History) (is_open : Bool) (snapshot : ℕ) (reads : List (ℕ × ℕ)) : Type 0 where
   pub apart : is_open ≡ true → (n : ℕ) → n ≤ snapshot → All (λ r. written (pending n) r.0 ≡ None) reads
 
+-- the number n writes nothing at the home word i, be it decided or undecided
 abbrev pub Unwritten : History → History → ℕ → ℕ → Type 0
 Unwritten hist pending i n = (written (hist n) i ≡ None) × (written (pending n) i ≡ None)
 
@@ -81,6 +84,7 @@ pub record LookPending (z : Setup) (lock : ℕ → Hold) (thread : Option ℕ) (
   pub waits : (i y : ℕ) → x.loaded ≡ Some (i, y)
       → IsUndrawn x × (x.extension ≡ None) × (((u : ℕ) × (x.look ≡ Some (lock_of z i, 2 * u)) × (u ≤ x.snapshot)) ⊎ ((x.look ≡ Some (lock_of z i, own_word thread)) × ((t : ℕ) × (thread ≡ Some t))))
 
+-- What holds of the view j: of the locks that it owns, its open number, its reads, its snapshot and its last look.
 pub record Knows (z : Setup) (q : Claims) (clock j : ℕ) (thread : Option ℕ) (x : Transaction) : Type 0 where
   pub owns : OwnLocks z.locks q.lock j thread x.is_open x.snapshot x.hand.decided x.owned
   pub number : OpenNumber q.hist q.pending q.who q.settled clock j x.is_open x.snapshot x.hand
@@ -89,6 +93,7 @@ pub record Knows (z : Setup) (q : Claims) (clock j : ℕ) (thread : Option ℕ) 
   pub look : LookPending z q.lock thread x
 
 -- ---- the layer
+-- The layer of locks and reads: of the words, of undecided numbers and of each view; there is room for all draws.
 pub record LocksKept (z : Setup) (q : Claims) (thread : ℕ → ℕ) (clock : ℕ) (locks : List ℕ) (views : List View) : Type 0 where
   pub owned : LocksOwned z q.hist q.lock thread clock locks (map hand_of views)
   pub undecided : UndecidedExclusive z q.pending q.lock (map hand_of views)

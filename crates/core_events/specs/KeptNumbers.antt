@@ -10,9 +10,11 @@ use Rattle.core_events.specs.Words.{State}
 use Rattle.core_events.specs.Entries.{History}
 use Rattle.core_events.specs.Ghosts.{Place, in_view, in_box, behind_boxes, Ghost}
 
+-- the number that a view drew and has not posted; 0 is none
 abbrev pub number_of : View → ℕ
 number_of v = v.tx.hand.number
 
+-- the numbers of these records
 abbrev pub numbers_of : List RedoRecord → List ℕ
 numbers_of rs = map (λ r. r.number) rs
 
@@ -38,6 +40,7 @@ pub record DrawnPlaced (z : Setup) (boxes persisted : List ℕ) (v : View) : Typ
   pub each : (n : ℕ) → has v.drawn n ≡ true → (0 < n) × ((v.tx.hand.number ≡ n)
       ⊎ (((t j : ℕ) × (v.part.thread ≡ Some t) × (j < z.boxes) × (get_elem? boxes (box_of z t j) ≡ some n)) ⊎ (has persisted n ≡ true)))
 
+-- The layer of numbers: each has one place, records have the writes of theirs, and what a view drew is where it may be.
 pub record NumbersKept (z : Setup) (g : Ghost) (c : State) : Type 0 where
   pub placed : NumbersPlaced z.first g.place c.clock (map number_of c.views) c.boxes (numbers_of c.persisted)
   pub records : RecordsKept g.claims.hist g.claims.pending c.boxes c.records c.persisted

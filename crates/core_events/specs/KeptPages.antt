@@ -17,9 +17,11 @@ pub record Pinner : Type 0 where
   pub number : ℕ
   pub pins : List (ℕ × ℕ)
 
+-- the pages that a view pins, with their frames
 abbrev pub pins_of : View → List (ℕ × ℕ)
 pins_of v = v.paging.pins
 
+-- the number that a view drew, with the pages that it pins
 abbrev pub pinner_of : View → Pinner
 pinner_of v = record { number = v.tx.hand.number; pins = v.paging.pins }
 
@@ -27,6 +29,7 @@ pinner_of v = record { number = v.tx.hand.number; pins = v.paging.pins }
 abbrev pub pins_at : ℕ → List (ℕ × ℕ) → ℕ
 pins_at p pins = one_if (find pins p)
 
+-- the entry of a page by its frame and its pins; 0 where it is in no frame
 abbrev pub entry_word : Option ℕ → ℕ → ℕ
 entry_word None pins = 0
 entry_word (Some f) pins = entry_with f pins
@@ -69,6 +72,7 @@ pub record KnowsPages (z : Setup) (frame : ℕ → Option ℕ) (touches : List �
   pub pins : PinsKept touches v.part.thread v.tx.is_open v.tx.hand v.paging.pins v.paging.touched
   pub turn : v.turn.has_it ≡ true → TurnPages z frame touches v.paging.entries v.turn.touches v.turn.filled
 
+-- The layer of pages: pins are counted, touches are made, frames have one page each, and each view knows its pages.
 pub record PagesKept (z : Setup) (g : Ghost) (c : State) : Type 0 where
   pub pins : PinsCounted z g.frame c.entries (map pins_of c.views)
   pub touches : TouchesMade z g.claims.hist c.touches (map pinner_of c.views)

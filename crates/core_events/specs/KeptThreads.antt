@@ -5,6 +5,7 @@ use lib.ListN.{get_elem?}
 use Rattle.core_events.specs.Keyed.{has, one_if, total, Distinct}
 use Rattle.core_events.specs.Views.{Part, View}
 
+-- whose view it is, which threads ended in it, and how often it may still be split
 abbrev pub part_of : View → Part
 part_of v = v.part
 
@@ -16,6 +17,7 @@ held_of p = one_if p.thread + length p.ended
 abbrev pub waiting_of : Part → ℕ
 waiting_of p = if p.is_spent then 0 else (1 - one_if p.thread)
 
+-- how often a view may still be split
 abbrev pub splits_of : Part → ℕ
 splits_of p = p.splits
 

@@ -13,6 +13,7 @@ pub record Holder : Type 0 where
   pub thread : Option ℕ
   pub has_it : Bool
 
+-- a view's thread, and whether the view has the turn
 abbrev pub holder_of : View → Holder
 holder_of v = record { thread = v.part.thread; has_it = v.turn.has_it }
 
@@ -40,6 +41,8 @@ pub record KnowsTurn (z : Setup) (boxes : List ℕ) (durable : ℕ) (v : View) :
   pub seen : BoxesSeen z boxes v.part.thread v.tx.hand.number v.box v.turn.has_it v.turn.full
   pub raised : v.turn.durable ≤ durable
 
+-- The layer of the turn and of boxes: the turn word shows who has the turn, the reproduced number is at most the
+-- durable one, there are as many boxes as the setup says, and each view knows its boxes.
 pub record TurnKept (z : Setup) (c : State) : Type 0 where
   pub turn : TurnHeld c.turn (map holder_of c.views)
   pub durable : DurableOrdered z c

@@ -37,6 +37,7 @@ pub record FilledWords (z : Setup) (hist : History) (clock : ℕ) (cells : List 
 pub record EntryReads (z : Setup) (hist : History) (e : Entry) : Type 0 where
   pub read : All (λ r. r.1 ≡ value z.opening hist (read_at e) r.0) e.reads
 
+-- The layer of values: of shown words, of what views read and filled, and of the reads of entries.
 pub record ValuesKept (z : Setup) (g : Ghost) (c : State) : Type 0 where
   pub shown : ShownWords z g.claims.hist g.claims.lock g.frame c.clock c.cells (map hand_of c.views)
   pub reads : (j : ℕ) (v : View) → get_elem? c.views j ≡ some v → ReadValues z g.claims.hist g.claims.lock v.part.thread v.tx

@@ -6,6 +6,7 @@ abbrev pub find : List (ℕ × ℕ) → ℕ → Option ℕ
 find [] k = None
 find (x ∷ xs) k = if x.0 == k then Some x.1 else find xs k
 
+-- the list with no pair of this key
 abbrev pub without : List (ℕ × ℕ) → ℕ → List (ℕ × ℕ)
 without [] k = []
 without (x ∷ xs) k = if x.0 == k then without xs k else (x ∷ without xs k)
@@ -15,6 +16,7 @@ abbrev pub has : List ℕ → ℕ → Bool
 has [] a = false
 has (x ∷ xs) a = (x == a) || has xs a
 
+-- the number; d where there is none
 abbrev pub or_else : Option ℕ → ℕ → ℕ
 or_else None d = d
 or_else (Some x) d = x
@@ -24,6 +26,7 @@ abbrev pub Distinct : List ℕ → Type 0
 Distinct [] = Unit {0}
 Distinct (x ∷ xs) = (has xs x ≡ false) × Distinct xs
 
+-- the sum of what the function gives for each element
 abbrev pub total : {A : Type 0} → (A → ℕ) → List A → ℕ
 total f [] = 0
 total f (v ∷ vs) = f v + total f vs
@@ -32,6 +35,7 @@ total f (v ∷ vs) = f v + total f vs
 abbrev pub change : {A : Type 0} → (ℕ → A) → ℕ → A → ℕ → A
 change f k a j = if j == k then a else f j
 
+-- 1 where there is a number, 0 where there is none
 abbrev pub one_if : Option ℕ → ℕ
 one_if None = 0
 one_if (Some t) = 1

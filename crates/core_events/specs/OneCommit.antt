@@ -11,14 +11,17 @@ use Rattle.core_events.specs.Partings.{Step, event}
 abbrev pub smallest : Setup
 smallest = record { threads = 1; locks = 1; pages = 1; frames = 1; boxes = 1; opening = replicate PAGE 0; first = 0; is_told = true; may_fail = false }
 
+-- the value 7 for the word 3
 abbrev pub one_write : List Write
 one_write = record { at = 3; value = 7 } ∷ []
 
+-- a thread's number is drawn, the transaction reads, writes and posts, and a turn persists its record
 abbrev pub commit_events : List Event
 commit_events =
     number ∷ see_box ∷ begin ∷ entry 0 ∷ pin 0 ∷ look 0 ∷ load 3 ∷ check 0 ∷ take 0 ∷ draw no_about one_write ∷ check 0 ∷ decide ∷ store 3 ∷ touch 0 ∷ release 0 ∷ unpin 0 ∷ post
     ∷ take_turn ∷ see_full 0 0 ∷ empty_box 0 0 ∷ raise_durable 1 ∷ raise_reproduced 1 ∷ give_turn false ∷ []
 
+-- these events, all made by the first view
 abbrev pub commit_steps : List Step
 commit_steps = map (λ e. event 0 e) commit_events
 

@@ -33,13 +33,17 @@ spent z = record (newcomer z 0 0) { part = record { is_spent = true; thread = No
 abbrev pub left_of : ℕ → View → View
 left_of draws v = record v { part = record v.part { splits = v.part.splits - 1 }; draws = v.draws - draws }
 
+-- a list of the thread's number, or of nothing where there is none
 abbrev pub thread_list : Option ℕ → List ℕ
 thread_list None = []
 thread_list (Some t) = t ∷ []
 
+-- what p becomes when q is joined into it: the threads of q ended in it, and it has the splits of both, with one more
+-- where q has no thread
 abbrev pub both_parts : Part → Part → Part
 both_parts p q = record p { ended = p.ended ++ (thread_list q.thread ++ q.ended); splits = p.splits + (q.splits + (1 - one_if q.thread)) }
 
+-- what p becomes when q is joined into it: the greater durable number, and a fault where one of them met one
 abbrev pub both_turns : Turn → Turn → Turn
 both_turns p q = record p { durable = max p.durable q.durable; met_fault = p.met_fault || q.met_fault }
 
@@ -47,12 +51,14 @@ both_turns p q = record p { durable = max p.durable q.durable; met_fault = p.met
 abbrev pub both_of : View → View → View
 both_of v w = record v { part = both_parts v.part w.part; draws = v.draws + w.draws; turn = both_turns v.turn w.turn; entries = v.entries ++ w.entries }
 
+-- The view `who` may be split: it is live, and has a split and so many draws left.
 pub record MaySplit (c : State) (who : ℕ) (v : View) (draws : ℕ) : Type 0 where
   pub is_there : get_elem? c.views who ≡ some v
   pub live : v.part.is_spent ≡ false
   pub split_left : 0 < v.part.splits
   pub draws_left : draws ≤ v.draws
 
+-- The view `who` may take in the view `other`: both are live, and the other one is idle and has not the turn.
 pub record MayJoin (c : State) (who : ℕ) (v : View) (other : ℕ) (w : View) : Type 0 where
   pub is_there : get_elem? c.views who ≡ some v
   pub live : v.part.is_spent ≡ false
@@ -62,13 +68,16 @@ pub record MayJoin (c : State) (who : ℕ) (v : View) (other : ℕ) (w : View) :
   pub other_idle : IsIdle w
   pub no_turn : w.turn.has_it ≡ false
 
+-- the state after a split: the new view comes last, with so many draws of the view `who`
 abbrev pub split : Setup → State → ℕ → View → ℕ → State
 split z c who v draws = record c { views = slice_set c.views who (left_of draws v) ++ newcomer z 0 draws ∷ [] }
 
+-- the state after a join: the view `who` has all of the view `other`, which is spent
 abbrev pub join : Setup → State → ℕ → View → ℕ → View → State
 join z c who v other w = record c { views = slice_set (slice_set c.views who (both_of v w)) other (spent z) }
 
 -- ---- lists of steps
+-- an event by a view; a split of a view, with so many draws; a join of a view and another one
 pub data Step : Type 0 where
   event : ℕ → Event → Step
   parting : ℕ → ℕ → Step
@@ -104,6 +113,7 @@ abbrev pub first_entries : ℕ → ℕ → ℕ → List ℕ
 first_entries frames p zero = []
 first_entries frames p (suc more) = (if ltb p frames then entry_with p 0 else 0) ∷ first_entries frames (p + 1) more
 
+-- the state at the start: one view has all splits and draws, no lock is owned, and the first pages are in the frames
 abbrev pub start : Setup → State
 start z = record {
   threads = 0;

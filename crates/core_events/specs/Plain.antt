@@ -47,6 +47,8 @@ pub record PlainTurn (c : State) : Type 0 where
   pub holds : (j : ℕ) (v : View) → IsView c j v → v.turn.has_it ≡ true → (t : ℕ) × (v.part.thread ≡ Some t) × (c.turn ≡ t + 1)
   pub held : (t : ℕ) → c.turn ≡ t + 1 → (j : ℕ) × (v : View) × IsView c j v × (v.part.thread ≡ Some t) × (v.turn.has_it ≡ true)
 
+-- What the kept state says with no ghost: of locks, undecided numbers, pages and the turn, and of values where it is
+-- known what the medium gives.
 pub record IsPlain (z : Setup) (c : State) : Type 0 where
   pub locks : PlainLocks z c
   pub undecided : PlainUndecided z c

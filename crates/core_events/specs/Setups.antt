@@ -5,6 +5,8 @@ use Rattle.dude_base.specs.declared.run.Run.{Run}
 use Rattle.dude_base.specs.Run.{IsRunWithin}
 use Rattle.dude_base.specs.Sizes.{IsFrom}
 
+-- how many threads, locks, pages, frames and boxes there are, the home words and the number at the start, whether it is
+-- known what the medium gives, and whether a turn may end with a fault
 pub record Setup : Type 0 where
   -- how many threads may take part
   pub threads : ℕ
@@ -21,6 +23,7 @@ pub record Setup : Type 0 where
   -- whether a turn may end with a fault, as it may over a medium that fails
   pub may_fail : Bool
 
+-- its frames, locks and boxes, whose limits are those of a run
 abbrev pub run_of : Setup → Run
 run_of z = record { frames = z.frames; locks = z.locks; boxes = z.boxes }
 
@@ -49,6 +52,7 @@ abbrev pub box_of : Setup → ℕ → ℕ → ℕ
 box_of z thread place = thread * z.boxes + place
 
 -- ---- page entries
+-- what the frame of an entry is multiplied by; a pin counts 1
 abbrev pub ENTRY : ℕ
 ENTRY = 65_536
 
@@ -60,5 +64,6 @@ entry_with frame pins = (frame + 1) * ENTRY + pins
 abbrev pub frame_in : ℕ → ℕ
 frame_in entry = entry / ENTRY - 1
 
+-- the entry of a page in the same frame with no pins
 abbrev pub without_pins : ℕ → ℕ
 without_pins entry = entry / ENTRY * ENTRY

@@ -64,6 +64,7 @@ pub record LockTold (z : Setup) (v : View) (k n : ℕ) : Type 0 where
 abbrev pub EntryTold : Setup → ℕ → Type 0
 EntryTold z n = (n ≡ 0) ⊎ ((f : ℕ) × (pins : ℕ) × (n ≡ entry_with f pins) × (f < z.frames) × (pins ≤ z.threads))
 
+-- what it tells, by event, that the number n was found in the word
 abbrev pub WordTold : Setup → Event → View → ℕ → Type 0
 WordTold z number v n = n < z.threads
 WordTold z begin v n = ClockTold z v n

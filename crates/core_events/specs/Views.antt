@@ -58,6 +58,7 @@ pub record Hand : Type 0 where
   pub writes : List Write
   pub stored : List ℕ
 
+-- the transaction of a view
 pub record Transaction : Type 0 where
   pub is_open : Bool
   pub snapshot : ℕ
@@ -75,6 +76,7 @@ pub record Transaction : Type 0 where
   pub owned : List (ℕ × ℕ)
   pub hand : Hand
 
+-- what a view keeps of pages
 pub record Paging : Type 0 where
   -- the page entries that it keeps
   pub entries : List (ℕ × ℕ)
@@ -83,12 +85,14 @@ pub record Paging : Type 0 where
   -- the pages that its number touched
   pub touched : List ℕ
 
+-- what a view keeps of the boxes of its thread
 pub record Boxes : Type 0 where
   -- the place of its next box
   pub next : ℕ
   -- that box was seen empty
   pub is_empty : Bool
 
+-- what a view keeps of the turn
 pub record Turn : Type 0 where
   pub has_it : Bool
   -- how many turns it took
@@ -101,6 +105,7 @@ pub record Turn : Type 0 where
   pub touches : List (ℕ × ℕ)
   pub filled : List (ℕ × ℕ)
 
+-- what a view keeps: whose it is, its draws, its transaction, pages, boxes and turn, and the entries that it made
 pub record View : Type 0 where
   pub part : Part
   -- how many numbers it may still draw, and all that it drew

@@ -3,6 +3,7 @@ use Rattle.std.specs.Prelude.{ℕ, List, slice_index, slice_set}
 use Rattle.dude_base.specs.Records.{RedoRecord}
 use Rattle.core_events.specs.Views.{View, Word, the_threads, the_clock, the_turn, the_durable, the_reproduced, the_lock, the_entry, the_touch, the_cell, the_box}
 
+-- the shared words, the views by their numbers, and the records in boxes and behind them
 pub record State : Type 0 where
   pub threads : ℕ
   pub clock : ℕ
@@ -23,6 +24,7 @@ pub record State : Type 0 where
   -- the records that left their boxes; a medium beside this state has them later
   pub persisted : List RedoRecord
 
+-- what a word holds
 abbrev pub found : State → Word → ℕ
 found c the_threads = c.threads
 found c the_clock = c.clock
@@ -35,6 +37,7 @@ found c (the_touch p) = slice_index c.touches p
 found c (the_cell i) = slice_index c.cells i
 found c (the_box k) = slice_index c.boxes k
 
+-- the state with this number in a word
 abbrev pub put : State → Word → ℕ → State
 put c the_threads n = record c { threads = n }
 put c the_clock n = record c { clock = n }

@@ -1,3 +1,5 @@
+//! Lists of numbers.
+
 ghost use Rattle.std.specs.Prelude.{◌≡◌, [], ◌∷◌, ◌++◌, OnOk, OnErr, IfOk};
 ghost use Rattle.core_events.specs.Keyed.{has};
 

@@ -1,3 +1,5 @@
+//! Lists of keys with values.
+
 ghost use Rattle.std.specs.Prelude.{◌≡◌, ◌≤◌, ◌^◌, ℕ, true, All, map, ◌↔◌, [], ◌∷◌, ◌++◌, IsTrue, OnOk, OnErr, IfOk};
 ghost use Rattle.core_events.specs.Keyed.{find, without, has};
 ghost use Rattle.core_events.specs.Events.{unfilled, refilled, all_checked, first_lock};

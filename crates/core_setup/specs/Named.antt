@@ -15,6 +15,7 @@ use Rattle.core_setup.specs.declared.deed.PageDeed.TheVariants.{Entry as SeeEntr
 use Rattle.core_setup.specs.declared.deed.Deed.{Deed}
 use Rattle.core_setup.specs.declared.deed.Deed.TheVariants.{Read, Write, Turn as OfTurn, Page}
 
+-- the word of the definitions that this value names
 abbrev pub word_of : Named → Word
 word_of Threads = the_threads
 word_of Clock = the_clock
@@ -27,10 +28,12 @@ word_of (Touch p) = the_touch p
 word_of (Cell i) = the_cell i
 word_of (Box k) = the_box k
 
+-- a word of the definitions with the number found in it, or none
 abbrev pub found_of : Option (Named × ℕ) → Option (Word × ℕ)
 found_of None = None
 found_of (Some p) = Some (word_of p.0, p.1)
 
+-- the event of the definitions, of a transaction that reads
 abbrev pub of_read : ReadDeed → Event
 of_read Number = number
 of_read Begin = begin
@@ -40,6 +43,7 @@ of_read (Load i) = load i
 of_read (Check k) = check k
 of_read (Finish a) = finish a
 
+-- the event of the definitions, of a transaction that writes
 abbrev pub of_write : WriteDeed → Event
 of_write (Take k) = take k
 of_write (Draw a ws) = draw a ws
@@ -48,6 +52,7 @@ of_write (Store i) = store i
 of_write (Release k) = release k
 of_write (Restore k) = restore k
 
+-- the event of the definitions, of boxes or of the turn
 abbrev pub of_turn : TurnDeed → Event
 of_turn SeeBox = see_box
 of_turn Post = post
@@ -58,6 +63,7 @@ of_turn (EmptyBox t j) = empty_box t j
 of_turn (RaiseDurable x) = raise_durable x
 of_turn (RaiseReproduced x) = raise_reproduced x
 
+-- the event of the definitions, of pages and frames
 abbrev pub of_page : PageDeed → Event
 of_page (SeeEntry p) = entry p
 of_page (Pin p) = pin p

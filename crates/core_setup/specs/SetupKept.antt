@@ -4,6 +4,7 @@ use Rattle.dude_base.specs.declared.limits.TheConstants.{MAX_RINGS, MAX_LOCKS, M
 use Rattle.dude_base.specs.Sizes.{IsFrom}
 use Rattle.core_setup.specs.declared.setup.Setup.TheInside.{Inside}
 
+-- Threads, locks and boxes are within their limits, there are no more frames than pages, and at most 2^32 pages.
 pub record IsWithinLimits (a : Inside) : Type 0 where
   pub threads : IsFrom 1 MAX_RINGS a.threads
   pub locks : IsFrom 1 MAX_LOCKS a.locks

@@ -1,3 +1,5 @@
+//! What an entry is about: a request of a file, and its reply.
+
 ghost use Rattle.std.specs.Prelude.{◌≡◌};
 
 use std::marker::Model;

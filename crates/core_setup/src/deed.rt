@@ -1,3 +1,5 @@
+//! The events that a view makes by itself, in four groups.
+
 use crate::about::About;
 use dude_base::write_list::WriteList;
 

@@ -1,3 +1,5 @@
+//! What the machine of running transactions is set up with, and where its locks, boxes and frame words stand.
+
 ghost use Rattle.std.specs.Prelude.{◌≡◌, slice_index, true, ◌+◌, ◌*◌, ◌<◌, ◌≤◌, ◌^◌, false, length, IfSome, IfNone};
 ghost use Rattle.dude_base.specs.declared.limits.TheConstants.{PAGE as PAGE_WORDS, MAX_NUMBER, MAX_RINGS as MAX_THREADS, MAX_LOCKS as MOST_LOCKS, MAX_BOXES as MOST_BOXES};
 ghost use Rattle.dude_base.specs.Run.{IsRunWithin};

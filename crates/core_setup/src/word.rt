@@ -1,3 +1,5 @@
+//! The shared words of the machine, by name.
+
 /// A shared word, by name; the words of frames and of boxes are numbered through.
 #[derive(Clone, Copy, Debug, PartialEq, Eq)]
 pub enum Word {

@@ -13,6 +13,7 @@ pub record IsPlain (e : Event) : Type 0 where
   pub records : (z : Setup) (c : State) (v : View) → records_after z e c v ≡ c.records
   pub persisted : (z : Setup) (c : State) → persisted_after z e c ≡ c.persisted
 
+-- the event is a post, or empties this box, or leaves all records where they are
 abbrev pub IsBoxEvent : BoxEvent → Event → Type 0
 IsBoxEvent Post e = e ≡ post
 IsBoxEvent (Empty t j) e = e ≡ empty_box t j

@@ -1,3 +1,5 @@
+//! What an event does with the record of a box.
+
 ghost use Rattle.core_setup.specs.Named.{event_of, of_turn};
 ghost use Rattle.core_state.specs.BoxEvents.{IsBoxEvent};
 

@@ -1,3 +1,5 @@
+//! Why an event wasn't made.
+
 ghost use Rattle.std.specs.Prelude.{◌≡◌};
 
 use std::alloc::AllocError;

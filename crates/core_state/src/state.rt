@@ -1,3 +1,5 @@
+//! The state of the machine over vectors, and what its words hold.
+
 ghost use Rattle.std.specs.Prelude.{◌≡◌, slice_index_or};
 ghost use Rattle.core_events.specs.Words.{found, put};
 ghost use Rattle.core_setup.specs.Named.{word_of};

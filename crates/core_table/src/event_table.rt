@@ -1,3 +1,5 @@
+//! The table that has the words of the machine, and its seats.
+
 use crate::known::Known;
 use crate::law::Law;
 use crate::slot_rule::SlotRule;

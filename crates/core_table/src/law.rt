@@ -1,3 +1,5 @@
+//! The rule of the table: its words and views are those of a kept state.
+
 use crate::known::Known;
 use crate::slot_rule::SlotRule;
 use crate::terms::Terms;

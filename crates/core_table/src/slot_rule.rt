@@ -1,3 +1,5 @@
+//! The fact that a user of the table keeps of its slots, and of what stands beside the views.
+
 /// What a user of the table keeps of its slots, and beside the views.
 pub trait SlotRule<S, X> {
     ghost use Rattle.std.specs.Prelude.{List};

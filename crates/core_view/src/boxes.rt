@@ -1,3 +1,5 @@
+//! The part of a view that is about its boxes.
+
 use std::marker::Model;
 
 /// What the view keeps of its boxes.

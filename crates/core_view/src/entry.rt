@@ -1,3 +1,5 @@
+//! What a transaction leaves.
+
 ghost use Rattle.std.specs.Prelude.{◌≡◌, ◌⊎◌, ◌==◌, ◌&&◌, ◌≤◌, true};
 ghost use Rattle.dude_base.specs.Writes.{written};
 

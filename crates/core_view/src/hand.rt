@@ -1,3 +1,5 @@
+//! The number that a view drew and hasn't posted.
+
 use core_lists::numbers::Numbers;
 use core_setup::about::About;
 use dude_base::write_list::WriteList;

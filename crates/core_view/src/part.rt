@@ -1,3 +1,5 @@
+//! The part of a view that says whose it is.
+
 use core_lists::numbers::Numbers;
 use std::marker::Model;
 

@@ -1,3 +1,5 @@
+//! The part of a view that is about its transaction.
+
 use crate::hand::Hand;
 use core_lists::numbers::Numbers;
 use core_lists::pairs::Pairs;

@@ -1,3 +1,5 @@
+//! The part of a view that is about the turn.
+
 use core_lists::pairs::Pairs;
 use std::marker::Model;
 

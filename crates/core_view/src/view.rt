@@ -1,3 +1,5 @@
+//! The view of a thread, with all its parts.
+
 use crate::boxes::Boxes;
 use crate::entry::Entry;
 use crate::paging::Paging;

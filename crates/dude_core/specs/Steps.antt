@@ -8,6 +8,7 @@ use Rattle.core_events.specs.Partings.{Step, event, parting, joining}
 use Rattle.dude_core.specs.declared.event.Event.{Event}
 use Rattle.dude_core.specs.declared.event.Event.TheVariants.{Split, Join, Number, Clock, Look, Load, Check, Finish, Take, Draw, Decide, Store, Release, Restore, SeeBox, Post, TakeTurn, GiveTurn, SeeFull, EmptyBox, RaiseDurable, RaiseReproduced, Entry, Pin, Unpin, Touch, LoadTouch, Evict, Fill, Show}
 
+-- the request at this place of a file, and its reply
 abbrev pub about : ℕ → ℕ → Request → Reply → About
 about file index request reply = record { file = file; index = index; request = request; reply = reply }
 
@@ -50,6 +51,7 @@ abbrev pub steps_of : List (ℕ × Event) → List Step
 steps_of es = map (λ e. step_of e.0 e.1) es
 
 -- ---- the groups of events
+-- splits and joins; the events of a transaction that reads, of one that writes, of boxes and the turn, and of pages
 pub data Group : Type 0 where
   parting_group : Group
   reading : Group
@@ -57,6 +59,7 @@ pub data Group : Type 0 where
   turning : Group
   paging : Group
 
+-- the group that an event is in
 abbrev pub group_of : Event → Group
 group_of (Split draws) = parting_group
 group_of (Join other) = parting_group

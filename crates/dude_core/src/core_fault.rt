@@ -1,3 +1,5 @@
+//! Why no core was made.
+
 use std::alloc::AllocError;
 use std::error::Error;
 use std::fmt;

@@ -1,3 +1,5 @@
+//! The words of a core, by name.
+
 /// A word of the core.
 #[derive(Clone, Copy, Debug, PartialEq, Eq)]
 pub enum CoreWord {

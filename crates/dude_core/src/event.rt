@@ -1,3 +1,5 @@
+//! The events of the machine, each with what it names.
+
 use dude_base::redo::Redo;
 use tatp_model::reply::Reply;
 use tatp_model::request::Request;

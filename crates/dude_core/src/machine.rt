@@ -1,3 +1,5 @@
+//! The machine: made over home words, read, and led on by one event after another.
+
 ghost use Rattle.std.specs.Prelude.{◌≡◌, ◌↔◌, ◌⊎◌, ◌*◌, ◌≤◌, length, slice_get, option_map, IfOk, IfErr, OnOk, OnErr, IsErrOf};
 ghost use Rattle.dude_base.specs.declared.limits.TheConstants.{PAGE as PAGE_WORDS, MAX_RINGS, MAX_NUMBER};
 ghost use Rattle.dude_base.specs.Run.{IsRunWithin};

@@ -91,6 +91,7 @@ pub record IsRunning {M : Type 0} {ghosts : Ghosts M} (opening : Opening) (words
   pub follows : (before : ℕ) → HoldsOpened before opening.sizes opening.number words s → FollowsRun before opening performed current l t
   pub moments : (before : ℕ) → HoldsOpened before opening.sizes opening.number words s → AtEveryMoment (RecoversSoFar before opening performed) s t
 
+-- a run that began at this opening, with these words in the home, stands between two requests
 abbrev pub Runs : {M : Type 0} {ghosts : Ghosts M} → Opening → List ℕ → Run M ghosts → Sight → Sight → Type 0
 Runs opening words run s t = IsRunning opening words run.lay run.log (words_of run.words) run.done.items s t
 
@@ -150,12 +151,13 @@ pub record ServesMore {M : Type 0} {ghosts : Ghosts M} (k : Run M ghosts) (s : S
   pub done : l.done.items ≡ k.done.items ++ more
   pub makes : Makes (ServedInTurn more (log_back k.log) (log_back l.log)) s t
 
--- how a run ended, and whether no call failed
+-- how a run ended, by its answer
 abbrev pub end_by : Result (Unit {0}) RunFault → RanEnd
 end_by (Ok done) = Whole
 end_by (Err Device) = EndsOnDevice
 end_by (Err NoMemory) = EndsOnNoMemory
 
+-- no call on the medium failed
 abbrev pub went_well : Result (Unit {0}) RunFault → Bool
 went_well (Ok done) = true
 went_well (Err NoMemory) = true

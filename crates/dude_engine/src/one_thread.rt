@@ -1,3 +1,5 @@
+//! The requests of files, run on one thread.
+
 ghost use Rattle.std.specs.Prelude.{◌≡◌, ◌⊎◌, ℕ, ◌+◌, ◌*◌, ◌≤◌, List, IsTrue, map, length, All};
 ghost use Rattle.dude_base.specs.declared.limits.TheConstants.{MAX_NUMBER};
 ghost use Rattle.pmem_trait.specs.Sights.{Risen};

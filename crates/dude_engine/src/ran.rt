@@ -1,3 +1,5 @@
+//! What became of a run.
+
 use tatp_model::Done;
 
 /// How a run of requests ended.

@@ -1,3 +1,5 @@
+//! A run on one thread: it serves requests in rounds, logs what they write, and settles at the end.
+
 ghost use Rattle.std.specs.Prelude.{◌≡◌, ℕ, ◌+◌, ◌*◌, ◌<◌, ◌≤◌, List, [], ◌∷◌, ◌++◌, map, length, All, AllPairs, IsPermutation, OnOk, OnErr, false, true, vec_len, vec_capacity};
 ghost use Rattle.dude_base.specs.declared.limits.TheConstants.{MAX_NUMBER};
 ghost use Rattle.pmem_trait.specs.Sights.{Sight};

@@ -1,3 +1,5 @@
+//! Why a run ends before its requests do.
+
 use pmem_trait::Failed;
 use std::alloc::AllocError;
 

@@ -5,9 +5,11 @@ use Rattle.dude_io.specs.declared.real_sink.RealSink.{RealSink}
 use Rattle.dude_io.specs.Files.{FilesSight}
 use Rattle.dude_io.specs.Sink.{SinkSight}
 
+-- files of which clauses see the count of faults and no text
 abbrev pub silent_files : ℕ → FilesSight
 silent_files faults = record { faults = faults; is_visible = false; text = λ _. None }
 
+-- a sink of which clauses see the count of faults and no byte taken
 abbrev pub silent_sink : ℕ → SinkSight
 silent_sink faults = record { faults = faults; is_visible = false; taken = [] }
 

@@ -1,3 +1,5 @@
+//! Which calls on a thing in memory fail, and how many bytes a call moves.
+
 ghost use Rattle.std.specs.Prelude.{◌≤◌};
 
 use pmem_trait::FaultCount;

@@ -1,3 +1,5 @@
+//! Why a file has no text.
+
 ghost use Rattle.std.specs.Prelude.{◌≡◌};
 ghost use Rattle.dude_io.specs.declared.file_fault.FileFault.TheVariants.{Failed as FileFailed, NoMemory};
 

@@ -1,3 +1,5 @@
+//! What reading a file up to a limit of bytes found.
+
 /// What reading a file up to a limit of bytes found.
 #[derive(Debug, Drop)]
 pub enum FileText {

@@ -1,3 +1,5 @@
+//! The trait of files that are read by name.
+
 ghost use Rattle.std.specs.Prelude.{◌<◌, length};
 ghost use Rattle.dude_io.specs.Files.{FilesSight, ReadsFile};
 

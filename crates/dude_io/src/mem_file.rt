@@ -1,3 +1,5 @@
+//! One file in memory, by its name.
+
 /// A file in memory.
 #[derive(Debug, Drop)]
 pub struct MemFile {

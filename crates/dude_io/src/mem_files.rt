@@ -1,3 +1,5 @@
+//! Files in memory, of which chosen calls fail.
+
 ghost use Rattle.std.specs.Prelude.{◌≡◌, ◌<◌, ◌≤◌, ◌-◌, min, length};
 ghost use Rattle.std.specs.Option.{option_copied};
 ghost use Rattle.dude_io.specs.Files.{GivesBytes};

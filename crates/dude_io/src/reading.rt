@@ -1,3 +1,5 @@
+//! A file is read to its end, or until it is longer than a limit.
+
 ghost use Rattle.std.specs.Prelude.{◌≡◌, OnOk, IfOk, IfErr, IsTrue, IsSomeAnd};
 ghost use Rattle.dude_io.specs.Files.{FilesStay};
 ghost use Rattle.dude_io.specs.FileText.{IsBounded, IsReadFault, HoldsText};

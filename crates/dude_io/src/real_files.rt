@@ -1,3 +1,5 @@
+//! The files of the system; what a read of them gives is seen by no contract (trusted).
+
 ghost use Rattle.std.specs.Prelude.{◌≡◌, ◌≤◌, length, IfOk};
 ghost use Rattle.dude_io.specs.Silent.{silent_files};
 

@@ -1,3 +1,5 @@
+//! Standard output; what it does with the bytes that it takes is seen by no contract (trusted).
+
 ghost use Rattle.std.specs.Prelude.{◌≡◌};
 ghost use Rattle.dude_io.specs.Silent.{silent_sink};
 

@@ -1,3 +1,5 @@
+//! The trait of what takes the program's output.
+
 ghost use Rattle.std.specs.Prelude.{◌<◌, length};
 ghost use Rattle.dude_io.specs.Sink.{SinkSight, WritesSink};
 

@@ -1,3 +1,5 @@
+//! All bytes of a text are handed to a sink, call by call.
+
 ghost use Rattle.std.specs.Prelude.{◌≡◌, OnOk, []};
 ghost use Rattle.dude_io.specs.Sink.{WritesAll};
 

@@ -1,3 +1,5 @@
+//! The lines of the requests done and of the last number, handed to a sink in pieces.
+
 ghost use Rattle.std.specs.Prelude.{◌≡◌, ◌++◌, [], OnOk, IfErr};
 ghost use Rattle.reply_text.specs.Output.{output_line, last_line, output_of};
 ghost use Rattle.dude_io.specs.Sink.{Took};

@@ -1,3 +1,5 @@
+//! A whole text, handed to a sink.
+
 ghost use Rattle.std.specs.Prelude.{◌≡◌, [], OnOk, IfErr};
 ghost use Rattle.dude_io.specs.Sink.{Took};
 ghost use Rattle.dude_output.specs.Printing.{FailsIn};

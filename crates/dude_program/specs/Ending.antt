@@ -7,6 +7,7 @@ use Rattle.dude_program.specs.World.{World}
 use Rattle.dude_program.specs.Headline.{Headline}
 use Rattle.dude_program.specs.Causes.{Causes}
 
+-- What the command did is as the headline says, and why it ended so is as the causes say.
 pub record Ends (own : Meaning) (old new : World) (done : List Done) (fault : Option Fault) : Type 0 where
   pub headline : Headline own old new done fault
   pub causes : Causes own old new done fault

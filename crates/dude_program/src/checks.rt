@@ -1,3 +1,5 @@
+//! What an opened image refuses of a run: too many files, frames out of their limits, too few numbers.
+
 ghost use Rattle.std.specs.Prelude.{◌≡◌, ◌<◌, ◌≤◌, ◌+◌, ◌*◌, ℕ, List, Option, length, All, OnOk, IfErr};
 ghost use Rattle.dude_base.specs.declared.limits.TheConstants.{MAX_NUMBER};
 ghost use Rattle.image_opening.specs.Opened.{IsOpened};

@@ -1,3 +1,5 @@
+//! The six commands: each reads its files, makes or opens the image, does its work, and prints.
+
 ghost use Rattle.std.specs.Prelude.{◌≡◌, ◌≤◌, ℕ, Option, IsTrue, map};
 ghost use Rattle.std.specs.Rc.{rc_str_bytes};
 ghost use Rattle.pmem_trait.specs.Words.{IsSettled};

@@ -1,3 +1,5 @@
+//! How a command ended, with the medium that was handed in.
+
 ghost use Rattle.std.specs.Prelude.{◌≡◌, [], Some};
 ghost use Rattle.dude_fault.specs.Fault.{status_of};
 
@@ -19,6 +21,7 @@ pub struct Ended<M> {
 }
 
 impl<M> Ended<M> {
+    /// The end of a command, with the status of its fault.
     pub fn new(fault: Option<Fault>, medium: M, done: Vec<Done>) -> Ended<M>
         ensures status { result.status ≡ status_of result.fault }
         ensures fault { result.fault ≡ fault }

@@ -1,3 +1,5 @@
+//! The load of `drive`, and what an opened image refuses of it.
+
 ghost use Rattle.std.specs.Prelude.{◌≡◌, ◌≤◌, ◌+◌, ◌*◌, length, All, IfOk, IfErr, OnOk};
 ghost use Rattle.dude_base.specs.declared.limits.TheConstants.{MAX_NUMBER};
 ghost use Rattle.image_opening.specs.Opened.{IsOpened};

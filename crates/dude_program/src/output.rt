@@ -1,3 +1,5 @@
+//! What a command prints at its end, unless a fault came before.
+
 ghost use Rattle.std.specs.Prelude.{◌≡◌, None};
 ghost use Rattle.tatp_layout.specs.StandsFor.{StandsFor};
 ghost use Rattle.tatp_model.specs.Database.{Database, IsInOrder, database_of};

@@ -1,3 +1,5 @@
+//! A command, carried out by its words; the contract of the whole program is here.
+
 ghost use Rattle.std.specs.Prelude.{◌≡◌, map, IsTrue, Some, None, IfSome};
 ghost use Rattle.std.specs.Rc.{rc_str_bytes};
 ghost use Rattle.pmem_trait.specs.Words.{IsSettled};

@@ -1,3 +1,5 @@
+//! What became of a command's requests, before its output.
+
 ghost use Rattle.std.specs.Prelude.{◌≡◌, ℕ, ◌+◌, ◌*◌, ◌≤◌, [], None, length};
 ghost use Rattle.dude_base.specs.declared.limits.TheConstants.{MAX_NUMBER};
 ghost use Rattle.back_store.specs.BackView.{medium_of};

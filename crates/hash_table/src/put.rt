@@ -1,3 +1,5 @@
+//! What became of the key of an insertion.
+
 /// What became of the key of an insertion.
 #[derive(Clone, Copy, Debug, PartialEq, Eq)]
 pub enum Put {

@@ -1,3 +1,5 @@
+//! Tables over an array of words: a key is found, inserted and removed.
+
 ghost use Rattle.std.specs.Prelude.{◌≡◌, Some, ◌+◌, ◌*◌, ◌%◌, ◌^◌, ◌<◌, ◌≤◌, ℕ, List, None, if◌then◌else◌, IfOk, IfErr, IfSome, OnOk, slice_set};
 ghost use Rattle.word_space.specs.Sights.{IsBelow, shown};
 ghost use Rattle.word_space.specs.Steps.{GoesOn, Looked, RanOn, stop_of};

@@ -4,6 +4,7 @@ use Rattle.dude_base.specs.Texts.{field_words}
 use Rattle.image_format.specs.declared.format_fault.FormatFault.{FormatFault}
 use Rattle.image_format.specs.declared.format_fault.FormatFault.TheVariants.{Size, Small, TooFew, Device, NoMemory}
 
+-- the text of each `FormatFault`
 abbrev pub fault_words : FormatFault → List ℕ
 fault_words (Size field) = field_words field
 fault_words (Small has needs) = codes "the medium has " ++ decimal has ++ codes " words, the image needs " ++ decimal needs

@@ -1,3 +1,5 @@
+//! An image that can be run on.
+
 ghost use Rattle.std.specs.Prelude.{◌≡◌, ℕ, ◌≤◌, IfOk, IsTrue, MatchResult};
 ghost use Rattle.dude_base.specs.declared.limits.TheConstants.{MAX_NUMBER};
 ghost use Rattle.dude_base.specs.Sizes.{IsAccepted};

@@ -1,3 +1,5 @@
+//! The image on a medium is opened, or refused for the first reason that fits.
+
 ghost use Rattle.std.specs.Prelude.{◌≡◌, ℕ, ◌*◌, ◌≤◌, Bool, true, length, is_ok, IfOk, IfErr, IsErrOf, IsTrue, MatchResult};
 ghost use Rattle.dude_base.specs.declared.limits.TheConstants.{PAGE, VERSION};
 ghost use Rattle.dude_base.specs.declared.sizes.Sizes.{Sizes};

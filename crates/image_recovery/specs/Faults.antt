@@ -9,13 +9,14 @@ use Rattle.image_replay.specs.declared.replay_fault.ReplayFault.TheVariants as r
 use Rattle.image_recovery.specs.declared.open_fault.OpenFault.{OpenFault}
 use Rattle.image_recovery.specs.declared.open_fault.OpenFault.TheVariants.{Unformatted, Damaged, NotDb, Device, NoMemory}
 
--- what a fault of a replay, and one of a check, is for the recovery
+-- what a fault of a replay is for the recovery
 abbrev pub fault_of_replay : ReplayFault → OpenFault
 fault_of_replay replay.Unformatted = Unformatted
 fault_of_replay (replay.Damaged line) = Damaged line
 fault_of_replay replay.Device = Device
 fault_of_replay replay.NoMemory = NoMemory
 
+-- what a fault of a check is for the recovery
 abbrev pub fault_of_check : CheckFault → OpenFault
 fault_of_check (check.NotDb word) = NotDb word
 fault_of_check check.NoMemory = NoMemory

@@ -1,3 +1,5 @@
+//! The layout of a home whose sizes are known to be accepted.
+
 ghost use Rattle.std.specs.Prelude.{◌≡◌};
 ghost use Rattle.dude_base.specs.Sizes.{IsAccepted};
 

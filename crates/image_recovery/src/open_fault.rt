@@ -1,3 +1,5 @@
+//! Why an image can't be opened.
+
 use image_replay::ReplayFault;
 use pmem_trait::Failed;
 use std::alloc::AllocError;

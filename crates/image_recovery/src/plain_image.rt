@@ -1,3 +1,5 @@
+//! An image in memory as a medium that can only be read.
+
 ghost use Rattle.std.specs.Prelude.{◌<◌, ◌^◌, length};
 
 use pmem_trait::{Failed, FaultCount, Medium};

@@ -1,3 +1,5 @@
+//! What an image recovers to.
+
 /// What an image recovers to.
 #[derive(Drop)]
 pub struct Recovered {

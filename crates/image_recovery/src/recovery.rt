@@ -1,3 +1,5 @@
+//! The image on a medium, or one in memory, is recovered, or refused for the first reason that fits.
+
 ghost use Rattle.std.specs.Prelude.{◌≡◌, ℕ, ◌+◌, ◌≤◌, IfOk, IsErrOf};
 ghost use Rattle.dude_base.specs.declared.limits.TheConstants.{VERSION};
 ghost use Rattle.pmem_trait.specs.Sights.{Risen};

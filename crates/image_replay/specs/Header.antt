@@ -12,6 +12,7 @@ pub record NamesSizes (len : ℕ) (header : List ℕ) : Type 0 where
   pub sizes : IsAccepted (sizes_of header)
   pub whole : image_words (sizes_of header) ≤ len
 
+-- these are the sizes that the header names, or it names none
 abbrev pub AreSizes : ℕ → List ℕ → Option Sizes → Type 0
 AreSizes len header None = ¬ NamesSizes len header
 AreSizes len header (Some s) = NamesSizes len header × (s ≡ sizes_of header)

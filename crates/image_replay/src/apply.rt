@@ -1,3 +1,5 @@
+//! The home is overwritten by the records that follow the mark without a gap.
+
 ghost use Rattle.std.specs.Prelude.{◌≡◌, ◌<◌, ◌≤◌, ℕ, All, length};
 ghost use Rattle.std.specs.List.{AllPairs};
 ghost use Rattle.dude_base.specs.declared.limits.TheConstants.{MAX_NUMBER};

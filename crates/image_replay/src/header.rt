@@ -1,3 +1,5 @@
+//! The header of an image is read for the sizes that it names.
+
 ghost use Rattle.std.specs.Prelude.{◌≡◌, ℕ, ◌+◌, ◌<◌, ◌≤◌, length, is_ok, slice_index, IfOk, IfSome, OnOk};
 ghost use Rattle.dude_base.specs.Sizes.{IsAccepted};
 ghost use Rattle.dude_base.specs.Image.{image_words};

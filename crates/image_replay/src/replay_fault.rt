@@ -1,3 +1,5 @@
+//! Why an image wasn't replayed.
+
 use log_ring::ScanFault;
 use pmem_trait::Failed;
 use std::alloc::AllocError;

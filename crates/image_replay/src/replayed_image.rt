@@ -1,3 +1,5 @@
+//! What the replay of an image gives.
+
 use dude_base::sizes::Sizes;
 
 /// What the replay of an image gives.

@@ -1,3 +1,5 @@
+//! The image on a medium is replayed, or refused for the first reason that fits.
+
 ghost use Rattle.std.specs.Prelude.{◌≡◌, ℕ, ◌+◌, ◌≤◌, IfOk, IsErrOf};
 ghost use Rattle.dude_base.specs.declared.limits.TheConstants.{VERSION};
 ghost use Rattle.pmem_trait.specs.Sights.{Risen};

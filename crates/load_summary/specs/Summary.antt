@@ -8,35 +8,42 @@ use Rattle.load_summary.specs.declared.counts.Counts.{Counts}
 use Rattle.load_summary.specs.declared.summary.Summary.{Summary}
 use Rattle.load_summary.specs.Counts.{HasRoom, counts_of, line_of, with_reply}
 
--- the kinds of request
+-- the request is `GET_SUBSCRIBER_DATA`
 abbrev pub is_get_subscriber : Request → Bool
 is_get_subscriber (GetSubscriber s_id) = true
 is_get_subscriber _ = false
 
+-- the request is `GET_NEW_DESTINATION`
 abbrev pub is_get_destination : Request → Bool
 is_get_destination (GetDestination s_id sf_type start_time end_time) = true
 is_get_destination _ = false
 
+-- the request is `GET_ACCESS_DATA`
 abbrev pub is_get_access : Request → Bool
 is_get_access (GetAccess s_id ai_type) = true
 is_get_access _ = false
 
+-- the request is `UPDATE_SUBSCRIBER_DATA`
 abbrev pub is_update_subscriber : Request → Bool
 is_update_subscriber (UpdateSubscriber s_id bit_1 sf_type data_a) = true
 is_update_subscriber _ = false
 
+-- the request is `UPDATE_LOCATION`
 abbrev pub is_update_location : Request → Bool
 is_update_location (UpdateLocation sub_nbr vlr) = true
 is_update_location _ = false
 
+-- the request is `INSERT_CALL_FORWARDING`
 abbrev pub is_insert_call : Request → Bool
 is_insert_call (InsertCall sub_nbr sf_type start_time end_time numberx) = true
 is_insert_call _ = false
 
+-- the request is `DELETE_CALL_FORWARDING`
 abbrev pub is_delete_call : Request → Bool
 is_delete_call (DeleteCall sub_nbr sf_type start_time) = true
 is_delete_call _ = false
 
+-- the request is `SYNC`
 abbrev pub is_sync : Request → Bool
 is_sync Sync = true
 is_sync _ = false

@@ -9,10 +9,11 @@ use Rattle.pmem_fake.specs.History.{sight_of}
 abbrev pub sight : MemPmem → Sight
 sight m = sight_of m.history.late m.start.items m.history.calls.items m.history.now m.history.budget m.history.faults
 
--- how many calls are allowed, and the counts of the calls that are to fail
+-- how many calls are allowed
 abbrev pub allowed : MemPmem → ℕ
 allowed m = m.history.budget
 
+-- the counts of the calls that are to fail
 abbrev pub failing : MemPmem → List ℕ
 failing m = m.history.fail.items
 

@@ -1,3 +1,5 @@
+//! The calls made on a medium in memory, and which of them fail.
+
 ghost use Rattle.std.specs.Prelude.{◌≡◌, ◌^◌, ◌<◌, ◌≤◌, min, length, vec_capacity};
 
 use pmem_trait::{Call, Failed, Made};

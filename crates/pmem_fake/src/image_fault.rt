@@ -1,3 +1,5 @@
+//! Why there is no image of a moment.
+
 ghost use Rattle.std.specs.Prelude.{◌≡◌};
 ghost use Rattle.pmem_fake.specs.declared.image_fault.ImageFault.TheVariants.{NoMemory};
 

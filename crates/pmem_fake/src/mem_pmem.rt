@@ -1,3 +1,5 @@
+//! A medium in memory, with the images that a crash may leave at each moment.
+
 ghost use Rattle.std.specs.Prelude.{◌≡◌, ℕ, ◌<◌, length, slice_index};
 ghost use Rattle.pmem_trait.specs.Words.{value_of};
 ghost use Rattle.pmem_fake.specs.History.{after_made, start_state};

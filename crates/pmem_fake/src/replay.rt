@@ -1,3 +1,5 @@
+//! The calls of a history are done again, and an image is picked of what they leave.
+
 ghost use Rattle.std.specs.Prelude.{◌≡◌, ℕ, List, length, slice_index, IfOk, OnOk};
 ghost use Rattle.pmem_trait.specs.declared.call.Call.TheVariants.{Put, Flush, Fence};
 ghost use Rattle.pmem_trait.specs.Words.{State, last_told};

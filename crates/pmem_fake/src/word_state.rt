@@ -1,3 +1,5 @@
+//! One word of a medium in memory: its settled value and the later ones.
+
 use std::alloc::{AllocError, Global};
 use std::marker::Model;
 

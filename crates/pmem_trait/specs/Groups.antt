@@ -45,9 +45,10 @@ pub record SettlesGroup (ws : List (ℕ × ℕ)) (ls : List ℕ) (p q : State) :
 abbrev pub MixOf : ℕ → State → List (ℕ × ℕ) → List ℕ → List ℕ → Type 0
 MixOf len p ws told image = (told ≡ p.told) × OldOrNew len p ws image
 
--- each word written is below the length, and each line lies within it
+-- each word written is below the length
 abbrev pub PlacesFit : ℕ → List (ℕ × ℕ) → Type 0
 PlacesFit len ws = All (λ w. w.0 < len) ws
 
+-- each line that is flushed lies within the length
 abbrev pub LinesFit : ℕ → List ℕ → Type 0
 LinesFit len ls = All (λ l. 8 * l + 8 ≤ len) ls

@@ -1,3 +1,5 @@
+//! The calls on a medium.
+
 /// One call on a medium. Words and lines are counted from 0; a line is eight words.
 #[derive(Clone, Copy, Debug, PartialEq, Eq)]
 pub enum Call {

@@ -1,3 +1,5 @@
+//! How many calls on a thing outside failed.
+
 ghost use Rattle.std.specs.Prelude.{◌≡◌, ◌+◌, ◌^◌, ◌<◌};
 ghost use Rattle.pmem_trait.specs.Faults.{up_to_last};
 

@@ -1,3 +1,5 @@
+//! Writes that are made together: puts, flushes of their lines, and a fence.
+
 ghost use Rattle.std.specs.Prelude.{◌≡◌, IsTrue, OnOk, is_ok};
 ghost use Rattle.pmem_trait.specs.Sights.{state_now, CallsMade, AtEveryMoment};
 ghost use Rattle.pmem_trait.specs.Groups.{put_pairs, flush_lines, group_calls, PlacesFit, LinesFit, MixOf, SettlesGroup};

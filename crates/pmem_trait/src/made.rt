@@ -1,3 +1,5 @@
+//! A call that was made, and whether it failed.
+
 use crate::call::Call;
 
 /// A call that was made on a medium, and whether it failed.

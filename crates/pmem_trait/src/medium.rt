@@ -1,3 +1,5 @@
+//! The trait of persistent memory.
+
 ghost use Rattle.std.specs.Prelude.{◌≡◌, ℕ, ◌+◌, ◌*◌, ◌^◌, ◌<◌, ◌≤◌, is_ok, IfOk, IsTrue};
 ghost use Rattle.pmem_trait.specs.declared.call.Call.TheVariants.{Read, Put, Flush, Fence, Tell};
 ghost use Rattle.pmem_trait.specs.Words.{value_of};

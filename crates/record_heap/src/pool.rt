@@ -1,3 +1,5 @@
+//! Pools of records over an array of words: a record is taken and given back.
+
 ghost use Rattle.std.specs.Prelude.{◌≡◌, Some, ◌+◌, ◌<◌, ◌↔◌, ℕ, List, length, is_some, if◌then◌else◌, IsTrue, IfOk, IfErr, IfSome, OnOk, Contains, slice_set};
 ghost use Rattle.word_space.specs.Sights.{IsBelow, shown};
 ghost use Rattle.word_space.specs.Steps.{GoesOn, Looked, RanOn, stop_of};

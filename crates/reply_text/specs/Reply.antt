@@ -21,6 +21,7 @@ access_fields info = decimal info.data1 ∷ decimal info.data2 ∷ info.data3 �
 abbrev pub found_text : List (List ℕ) → List ℕ
 found_text fields = codes "OK " ++ join_with_byte 44 fields
 
+-- `OK` with the fields of what a read found, or a word for what became of the request
 abbrev pub reply_text : Reply → List ℕ
 reply_text (Subscriber row) = found_text (row_fields row)
 reply_text (Destinations phones) = found_text (map phone_text (list_of phones))

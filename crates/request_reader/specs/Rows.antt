@@ -22,6 +22,7 @@ abbrev pub rows_from : State → Option (List ℕ) → List (List (List ℕ))
 rows_from state None = []
 rows_from state (Some text) = records_from default_config (length text + 1) state text
 
+-- the rows that the reader has left; none where it has failed
 abbrev pub rows_left : Reader (Bor (List ℕ)) → List (List (List ℕ))
 rows_left reader = rows_from (reader_state reader) (bytes_left reader)
 

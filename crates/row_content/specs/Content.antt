@@ -8,6 +8,7 @@ use Rattle.tatp_layout.specs.Records.{RowForm, subscriber_form, number_form, acc
 use Rattle.row_content.specs.declared.table_kind.TableKind.{TableKind}
 use Rattle.row_content.specs.declared.table_kind.TableKind.TheVariants.{Subscribers, Numbers, Access, Facilities, Calls}
 
+-- the table of this kind in a home of these sizes
 abbrev pub table_of : TableKind → Sizes → Table
 table_of Subscribers s = subscriber_table s
 table_of Numbers s = number_table s
@@ -20,6 +21,7 @@ table_of Calls s = call_table s
 abbrev pub MayHold : {R : Type 0} → RowForm R → (R → Type 0) → ℕ → ℕ → Type 0
 MayHold {R} form InRange offset word = (row : R) × InRange row × form.Lengths row × (slice_index_or (form.key row ∷ word ∷ form.words row) offset word ≡ word)
 
+-- a record of a table of this kind may hold this word at this offset
 unfoldable pub content_of : TableKind → ℕ → ℕ → Type 0
 content_of Subscribers = MayHold subscriber_form IsSubRow
 content_of Numbers = MayHold number_form IsSubRow

@@ -1,3 +1,5 @@
+//! The five tables by their kinds, each with where it stands and what its records may hold.
+
 ghost use Rattle.std.specs.Prelude.{◌≡◌, ◌*◌};
 ghost use Rattle.dude_base.specs.declared.limits.TheConstants.{PAGE};
 ghost use Rattle.hash_table.specs.Table.{FitsTable};

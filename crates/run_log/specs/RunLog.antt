@@ -15,17 +15,19 @@ use Rattle.back_store.specs.Images.{Keeps}
 use Rattle.run_log.specs.declared.run_log.RunLog.{RunLog}
 use Rattle.run_log.specs.Arrays.{RunArrays, RecoversIn, array_at, last_number, with_writes}
 
--- its medium, and its back without it
+-- its medium
 abbrev pub log_medium : {M : Type 0} {ghosts : Ghosts M} → RunLog M ghosts → M
 log_medium l = medium_of l.back
 
+-- its back, without the medium
 abbrev pub log_back : {M : Type 0} {ghosts : Ghosts M} → RunLog M ghosts → BackState
 log_back l = state_of l.back
 
--- the last number of the run, and the number that was told last or the first one of the run
+-- the last number of the run
 abbrev pub log_last : {M : Type 0} {ghosts : Ghosts M} → RunLog M ghosts → ℕ
 log_last l = l.last
 
+-- the number that was told last, or the first one of the run where none was
 abbrev pub log_durable : {M : Type 0} {ghosts : Ghosts M} → RunLog M ghosts → ℕ
 log_durable l = (log_back l).log.durable
 

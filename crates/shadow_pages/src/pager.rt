@@ -1,3 +1,5 @@
+//! Pages are placed in frames and dropped, and the hand finds the next page to drop.
+
 ghost use Rattle.std.specs.Prelude.{◌≡◌, None, Some, ◌<◌, ◌≤◌, ◌↔◌, ℕ, replicate, slice_set, IfOk, IfSome, IsNone};
 ghost use Rattle.shadow_pages.specs.PageMap.{Holds, IsFree, IsIn, IsOccupied, HasFree, IsOneToOne, IsLeastFree, IsNextOccupied, IsVictim};
 

@@ -1,3 +1,5 @@
+//! An image, given by its words, is replayed.
+
 ghost use Rattle.std.specs.Prelude.{◌<◌};
 
 use crate::log::{count, damaged_line, head_of, word_at, write};

@@ -1,3 +1,5 @@
+//! How the words of an image are shared out, by its header.
+
 ghost use Rattle.std.specs.Prelude.{◌+◌, ◌≤◌};
 
 /// How the words of a formatted image are shared out.

@@ -1,3 +1,5 @@
+//! Why an array was refused.
+
 use std::alloc::AllocError;
 use std::error::Error;
 use std::fmt;

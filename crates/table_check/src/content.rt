@@ -1,3 +1,5 @@
+//! The trait of what the records of a table may hold.
+
 ghost use Rattle.std.specs.Prelude.{ℕ, ◌↔◌, IsTrue};
 
 /// Which words the records of a table may hold.

@@ -1,3 +1,5 @@
+//! Which records of a pool were met.
+
 use record_heap::pool::Pool;
 use std::alloc::{AllocError, Global};
 

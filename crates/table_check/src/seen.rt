@@ -1,3 +1,5 @@
+//! What a walk through a table has met.
+
 use crate::marks::Marks;
 use crate::taken::Taken;
 

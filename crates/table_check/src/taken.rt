@@ -1,3 +1,5 @@
+//! The records in the chains of a table, also by their keys.
+
 ghost use Rattle.std.specs.Ordering.{nat_cmp};
 ghost use Rattle.std.specs.BTreeMap.{IsOrdered};
 ghost use Rattle.std.proofs.Props.{props};

@@ -1,3 +1,5 @@
+//! A table is walked through, chain by chain and then along its free list, and the first wrong word is named.
+
 ghost use Rattle.std.specs.Prelude.{◌≡◌, ℕ, ◌+◌, ◌*◌, ◌<◌, ◌≤◌, List, IfOk, IfErr, OnOk, length};
 ghost use Rattle.record_heap.specs.Pool.{IsRecord};
 ghost use Rattle.hash_table.specs.Table.{FitsTable};

@@ -24,6 +24,7 @@ pub record IsInReferences (s : Sizes) (array : List ℕ) (word : ℕ) : Type 0 w
   pub whole : (kind : TableKind) → IsWholeKind s array kind (records kind)
   pub wrong : IsFirstUnbound array records word
 
+-- the first wrong word: one of a table or, where nothing is wrong in the tables, one that tells a wrong reference
 abbrev pub IsFirstWord : Sizes → List ℕ → ℕ → Type 0
 IsFirstWord s array word = IsInTables s array word ⊎ IsInReferences s array word
 

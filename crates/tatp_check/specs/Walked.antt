@@ -12,6 +12,7 @@ use Rattle.row_content.specs.declared.table_kind.TableKind.TheVariants.{Subscrib
 use Rattle.row_content.specs.Content.{content_of, table_of}
 use Rattle.tatp_check.specs.declared.walked.Walked.{Walked}
 
+-- what the walk through the table of this kind took in: its records, and the record of each key
 abbrev pub taken_of : Walked → TableKind → Taken
 taken_of walked Subscribers = walked.subscribers
 taken_of walked Numbers = walked.numbers
@@ -19,6 +20,7 @@ taken_of walked Access = walked.access
 taken_of walked Facilities = walked.facilities
 taken_of walked Calls = walked.calls
 
+-- the records in the chains of the table of this kind, in the order of the walk
 abbrev pub records_of_kind : Walked → TableKind → List ℕ
 records_of_kind walked kind = records_taken (taken_of walked kind)
 

@@ -1,3 +1,5 @@
+//! The check of an array of home words.
+
 ghost use Rattle.std.specs.Prelude.{◌≡◌, ◌*◌, IfErr, OnOk, length};
 ghost use Rattle.dude_base.specs.declared.limits.TheConstants.{PAGE};
 ghost use Rattle.tatp_layout.specs.StandsFor.{IsLawful};

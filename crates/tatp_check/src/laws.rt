@@ -1,3 +1,5 @@
+//! What is told of an array: one database and one first wrong word, as contracts of functions that do nothing.
+
 ghost use Rattle.tatp_check.specs.Laws.{LawOfFirstWord, LawOfOneDatabase};
 
 /// An array stands for at most one database.

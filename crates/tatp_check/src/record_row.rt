@@ -1,3 +1,5 @@
+//! The trait of rows that the words of a record tell.
+
 ghost use Rattle.std.specs.Prelude.{◌≡◌, ℕ, List, length};
 ghost use Rattle.dude_base.specs.declared.limits.TheConstants.{ROW_WORDS, SUBSCRIBER_WORDS};
 ghost use Rattle.tatp_layout.specs.Decoding.{access_in, call_in, facility_in, subscriber_in};

@@ -1,3 +1,5 @@
+//! The references between the records of the five tables, and the first one that is wrong.
+
 ghost use Rattle.std.specs.Prelude.{◌≡◌, ◌<◌, ◌*◌, ◌↔◌, ◌+◌, Contains, IfSome, IsSomeAnd, IsTrue, MatchOption, length, slice_index};
 ghost use Rattle.dude_base.specs.declared.limits.TheConstants.{PAGE};
 ghost use Rattle.tatp_check.specs.References.{AreBound, AreAllBound, IsFirstUnbound, IsUnbound, Refers, reference_offset};

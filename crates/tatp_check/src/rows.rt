@@ -1,3 +1,5 @@
+//! The rows of some records.
+
 ghost use Rattle.std.specs.Prelude.{◌≡◌, ◌+◌, ◌≤◌, All, IfOk, length, map};
 
 use crate::record_row::RecordRow;

@@ -1,3 +1,5 @@
+//! The tables for which an array of home words stands.
+
 ghost use Rattle.std.specs.Prelude.{◌≡◌, ◌*◌, IfOk, length};
 ghost use Rattle.dude_base.specs.declared.limits.TheConstants.{PAGE};
 ghost use Rattle.tatp_model.specs.Database.{database_of};

@@ -1,3 +1,5 @@
+//! The records of the five tables, as walks through them find them.
+
 ghost use Rattle.std.specs.Prelude.{◌≡◌, ◌*◌, IfErr, IfOk, length};
 ghost use Rattle.dude_base.specs.declared.limits.TheConstants.{PAGE};
 ghost use Rattle.hash_table.specs.Table.{FitsTable};

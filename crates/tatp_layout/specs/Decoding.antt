@@ -6,6 +6,7 @@ use Rattle.tatp_model.specs.declared.fac_row.FacRow.{FacRow}
 use Rattle.tatp_model.specs.declared.call_row.CallRow.{CallRow}
 use Rattle.tatp_layout.specs.Digits.{to_digits}
 
+-- the subscriber's row that the record at this word has
 abbrev pub subscriber_in : List ℕ → ℕ → SubRow
 subscriber_in array at = record {
   s_id = slice_index array at;
@@ -17,6 +18,7 @@ subscriber_in array at = record {
   vlr = slice_index array (at + 6);
 }
 
+-- the access row that the record at this word has
 abbrev pub access_in : List ℕ → ℕ → AccessRow
 access_in array at = record {
   s_id = slice_index array at / 4;
@@ -29,6 +31,7 @@ access_in array at = record {
   };
 }
 
+-- the facility that the record at this word has
 abbrev pub facility_in : List ℕ → ℕ → FacRow
 facility_in array at = record {
   s_id = slice_index array at / 4;
@@ -39,6 +42,7 @@ facility_in array at = record {
   data_b = to_digits 256 5 (slice_index array (at + 3));
 }
 
+-- the call row that the record at this word has
 abbrev pub call_in : List ℕ → ℕ → CallRow
 call_in array at = record {
   s_id = slice_index array at / 3 / 4;

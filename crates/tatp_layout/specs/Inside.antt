@@ -16,6 +16,7 @@ layout_of s = record {
   calls = call_table s;
 }
 
+-- The sizes are accepted, and the fields are those for these sizes.
 pub record IsLayout (l : Inside) : Type 0 where
   pub accepted : IsAccepted l.sizes
   pub is : l ≡ layout_of l.sizes

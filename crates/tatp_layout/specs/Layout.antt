@@ -17,48 +17,58 @@ table_at base shape = record {
   pool = record { base = base; first = base + LINE + in_whole_lines shape.buckets; size = shape.size; count = shape.records };
 }
 
--- the shapes: as many buckets as records
+-- a shape with as many buckets as records
 abbrev pub shape_of : ℕ → ℕ → TableShape
 shape_of records size = record { buckets = records; records = records; size = size }
 
+-- of the subscriber table: a record for each subscriber
 abbrev pub subscriber_shape : Sizes → TableShape
 subscriber_shape s = shape_of s.subscribers SUBSCRIBER_WORDS
 
+-- of the number table, which finds subscribers by their phone numbers: a record for each of them
 abbrev pub number_shape : Sizes → TableShape
 number_shape s = shape_of s.subscribers ROW_WORDS
 
--- of the access table and of the facility table
+-- of the access table and of the facility table: MAX_ROWS records for each subscriber
 abbrev pub kind_shape : Sizes → TableShape
 kind_shape s = shape_of (MAX_ROWS * s.subscribers) ROW_WORDS
 
+-- of the table of call rows: as many records as the sizes say
 abbrev pub call_shape : Sizes → TableShape
 call_shape s = shape_of s.calls ROW_WORDS
 
--- where each table begins
+-- the word where the number table begins, behind the subscriber table
 abbrev pub number_base : Sizes → ℕ
 number_base s = table_words (subscriber_shape s)
 
+-- the word where the access table begins, behind the number table
 abbrev pub access_base : Sizes → ℕ
 access_base s = number_base s + table_words (number_shape s)
 
+-- the word where the facility table begins, behind the access table
 abbrev pub facility_base : Sizes → ℕ
 facility_base s = access_base s + table_words (kind_shape s)
 
+-- the word where the table of call rows begins, behind the facility table
 abbrev pub call_base : Sizes → ℕ
 call_base s = facility_base s + table_words (kind_shape s)
 
--- the tables
+-- the table of subscribers by s_id, from word 0 on
 abbrev pub subscriber_table : Sizes → Table
 subscriber_table s = table_at 0 (subscriber_shape s)
 
+-- the table of subscribers by phone number
 abbrev pub number_table : Sizes → Table
 number_table s = table_at (number_base s) (number_shape s)
 
+-- the table of access rows
 abbrev pub access_table : Sizes → Table
 access_table s = table_at (access_base s) (kind_shape s)
 
+-- the table of facilities
 abbrev pub facility_table : Sizes → Table
 facility_table s = table_at (facility_base s) (kind_shape s)
 
+-- the table of call rows
 abbrev pub call_table : Sizes → Table
 call_table s = table_at (call_base s) (call_shape s)

@@ -54,5 +54,6 @@ facility_form = record {
   Lengths = λ r. length r.data_b ≡ 5;
 }
 
+-- end_time; the phone number numberx
 abbrev pub call_form : RowForm CallRow
 call_form = record { key = call_key; words = λ r. r.end_time ∷ r.numberx ∷ []; Lengths = λ r. Unit {0} }

@@ -1,3 +1,5 @@
+//! The digits of a number that packs several fields.
+
 ghost use Rattle.std.specs.Prelude.{◌≡◌, ◌≤◌};
 ghost use Rattle.tatp_layout.specs.Digits.{to_digits};
 

@@ -1,3 +1,5 @@
+//! Facilities in their records.
+
 ghost use Rattle.std.specs.Prelude.{◌≡◌, Some, ◌*◌, ℕ, ◌+◌, List, [], ◌∷◌, IfOk, IfErr, OnOk, length};
 ghost use Rattle.dude_base.specs.declared.limits.TheConstants.{PAGE, ROW_WORDS};
 ghost use Rattle.word_space.specs.Sights.{IsBelow, shown};

@@ -1,3 +1,5 @@
+//! The keys of rows that belong to a subscriber or to a facility.
+
 ghost use Rattle.std.specs.Prelude.{◌≡◌, ◌+◌, ◌-◌, ◌*◌};
 ghost use Rattle.tatp_model.specs.Ranges.{IsId, IsKind};
 

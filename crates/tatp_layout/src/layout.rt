@@ -1,3 +1,5 @@
+//! Where the five tables stand in a home of given sizes.
+
 ghost use Rattle.std.specs.Prelude.{◌≡◌, ◌<◌, ◌≤◌, ◌+◌, ◌*◌, IfOk, IfErr};
 ghost use Rattle.dude_base.specs.declared.limits.TheConstants.{PAGE};
 ghost use Rattle.dude_base.specs.Sizes.{IsAccepted, IsFirstOut};

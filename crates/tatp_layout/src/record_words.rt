@@ -1,3 +1,5 @@
+//! The words of a record are read, but for its link.
+
 ghost use Rattle.std.specs.Prelude.{◌≡◌, Some, ◌+◌, ◌-◌, ◌≤◌, ℕ, List, IfOk, IfErr};
 ghost use Rattle.word_space.specs.Sights.{IsBelow, shown};
 ghost use Rattle.word_space.specs.Steps.{GoesOn, Looked, stop_of};

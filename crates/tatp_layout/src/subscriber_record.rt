@@ -1,3 +1,5 @@
+//! Subscribers in their records.
+
 ghost use Rattle.std.specs.Prelude.{◌≡◌, Some, ◌+◌, ◌*◌, ℕ, List, [], ◌∷◌, IfOk, IfErr, OnOk, length, slice_set};
 ghost use Rattle.dude_base.specs.declared.limits.TheConstants.{PAGE, SUBSCRIBER_WORDS};
 ghost use Rattle.word_space.specs.Sights.{IsBelow, shown};

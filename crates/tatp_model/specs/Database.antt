@@ -24,17 +24,19 @@ database_of t = record {
   calls = t.calls.items;
 }
 
--- the keys by which the rows of each table rise
+-- the key by which access rows rise: each subscriber has four, by type
 abbrev pub access_key : AccessRow → ℕ
 access_key r = 4 * r.s_id + r.ai_type - 1
 
+-- the key by which facilities rise: each subscriber has four, by type
 abbrev pub facility_key : FacRow → ℕ
 facility_key r = 4 * r.s_id + r.sf_type - 1
 
+-- the key by which call rows rise: each facility has three, by the start times 0, 8 and 16
 abbrev pub call_key : CallRow → ℕ
 call_key r = 3 * (4 * r.s_id + r.sf_type - 1) + r.start_time / 8
 
--- each field of a row is in its range
+-- each field of a subscriber's row is in its range
 pub record IsSubRow (r : SubRow) : Type 0 where
   pub s_id : IsId r.s_id
   pub sub_nbr : IsPhone r.sub_nbr
@@ -44,6 +46,7 @@ pub record IsSubRow (r : SubRow) : Type 0 where
   pub msc : IsLocation r.msc
   pub vlr : IsLocation r.vlr
 
+-- each field of an access row is in its range
 pub record IsAccessRow (r : AccessRow) : Type 0 where
   pub s_id : IsId r.s_id
   pub ai_type : IsKind r.ai_type
@@ -52,6 +55,7 @@ pub record IsAccessRow (r : AccessRow) : Type 0 where
   pub data3 : All IsLetter r.info.data3
   pub data4 : All IsLetter r.info.data4
 
+-- each field of a facility is in its range
 pub record IsFacRow (r : FacRow) : Type 0 where
   pub s_id : IsId r.s_id
   pub sf_type : IsKind r.sf_type
@@ -60,6 +64,7 @@ pub record IsFacRow (r : FacRow) : Type 0 where
   pub data_a : IsByte r.data_a
   pub data_b : All IsLetter r.data_b
 
+-- each field of a call row is in its range
 pub record IsCallRow (r : CallRow) : Type 0 where
   pub s_id : IsId r.s_id
   pub sf_type : IsKind r.sf_type

@@ -9,10 +9,12 @@ use Rattle.tatp_model.specs.declared.done.Done.{Done}
 use Rattle.tatp_model.specs.Database.{Database}
 use Rattle.tatp_model.specs.Transaction.{reply_to, after_request}
 
+-- the request is `Sync`
 abbrev pub is_sync : Request → Bool
 is_sync Sync = true
 is_sync _ = false
 
+-- the reply is `Changed`
 abbrev pub is_changed : Reply → Bool
 is_changed Changed = true
 is_changed _ = false
@@ -56,6 +58,7 @@ pub record IndexedRequest : Type 0 where
   pub index : ℕ
   pub request : Request
 
+-- the request that was done, with its file and its index there
 abbrev pub indexed_request_of : Done → IndexedRequest
 indexed_request_of d = record { file = d.file; index = d.index; request = d.request }
 
@@ -69,6 +72,7 @@ indexed_requests_from file (requests ∷ files) =
 abbrev pub HoldsAll : List (List Request) → List Done → Type 0
 HoldsAll files done = map indexed_request_of done ≡ indexed_requests_from 0 files
 
+-- the requests begin with the prefix
 abbrev pub IsPrefixOf : List Request → List Request → Type 0
 IsPrefixOf prefix requests = (rest : List Request) × (requests ≡ prefix ++ rest)
 

@@ -57,16 +57,19 @@ call_at s f k = record {
   numberx = 100 * s + 10 * f + k;
 }
 
--- the rows of one subscriber
+-- the access rows of subscriber s: 1 + s mod 4 of them, by type from 1 on
 abbrev pub access_of : ℕ → List AccessRow
 access_of s = map (access_at s) (range_with_len 1 (1 + s % 4))
 
+-- the types of the facilities of subscriber s: 1 + (s + 1) mod 4 of them, from 1 on
 abbrev pub facility_types : ℕ → List ℕ
 facility_types s = range_with_len 1 (1 + (s + 1) % 4)
 
+-- the facilities of subscriber s, one of each of its types
 abbrev pub facilities_of : ℕ → List FacRow
 facilities_of s = map (facility_at s) (facility_types s)
 
+-- the call rows of subscriber s: (s + f) mod 4 of each of its facilities f
 abbrev pub calls_of : ℕ → List CallRow
 calls_of s = flat_map (λ f. map (call_at s f) (range_with_len 0 ((s + f) % 4))) (facility_types s)
 

@@ -13,22 +13,27 @@ use Rattle.tatp_model.specs.declared.reply.Reply.TheVariants.{Subscriber, Destin
 use Rattle.tatp_model.specs.Numbers.{numbers_of}
 use Rattle.tatp_model.specs.Database.{Database, call_key}
 
--- the tests by which requests name rows
+-- a subscriber's row of this s_id
 abbrev pub is_subscriber : ℕ → SubRow → Bool
 is_subscriber s_id r = r.s_id == s_id
 
+-- a subscriber's row with this phone number
 abbrev pub has_phone : ℕ → SubRow → Bool
 has_phone sub_nbr r = r.sub_nbr == sub_nbr
 
+-- an access row of this s_id and ai_type
 abbrev pub is_access : ℕ → ℕ → AccessRow → Bool
 is_access s_id ai_type r = (r.s_id == s_id) && (r.ai_type == ai_type)
 
+-- a facility of this s_id and sf_type
 abbrev pub is_facility : ℕ → ℕ → FacRow → Bool
 is_facility s_id sf_type r = (r.s_id == s_id) && (r.sf_type == sf_type)
 
+-- a facility of this s_id and sf_type that is active
 abbrev pub is_active_facility : ℕ → ℕ → FacRow → Bool
 is_active_facility s_id sf_type r = is_facility s_id sf_type r && (r.is_active == 1)
 
+-- a call row of this s_id, sf_type and start_time
 abbrev pub is_call : ℕ → ℕ → ℕ → CallRow → Bool
 is_call s_id sf_type start_time r = (r.s_id == s_id) && (r.sf_type == sf_type) && (r.start_time == start_time)
 
@@ -107,8 +112,10 @@ outcome_of limit db (DeleteCall sub_nbr sf_type start_time) =
     option_map_or (λ r. delete_call db r.s_id sf_type start_time) (find (has_phone sub_nbr) db.subscribers) (answers db Missing)
 outcome_of limit db Sync = answers db Durable
 
+-- the reply to a request on these tables
 abbrev pub reply_to : ℕ → Database → Request → Reply
 reply_to limit db request = (outcome_of limit db request).reply
 
+-- the tables that a request leaves of these
 abbrev pub after_request : ℕ → Database → Request → Database
 after_request limit db request = (outcome_of limit db request).after

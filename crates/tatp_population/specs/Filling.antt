@@ -11,6 +11,7 @@ use Rattle.tatp_population.specs.Filled.{record_at, chain_for, free_from}
 abbrev pub entry_of : {R : Type 0} → RowForm R → R → List ℕ
 entry_of form row = form.key row ∷ form.words row
 
+-- the key among these words, which comes first
 abbrev pub key_of : List ℕ → ℕ
 key_of entry = slice_index entry 0
 

@@ -1,3 +1,5 @@
+//! The table of call rows is filled, and its rows are counted.
+
 ghost use Rattle.std.specs.Prelude.{◌≡◌, ℕ, ◌+◌, ◌*◌, ◌%◌, ◌<◌, ◌≤◌, ◌^◌, List, ◌++◌, length, map};
 ghost use Rattle.std.specs.List.{range_with_len};
 ghost use Rattle.dude_base.specs.declared.limits.TheConstants.{PAGE};

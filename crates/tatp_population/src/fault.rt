@@ -1,3 +1,5 @@
+//! Why there is no new home.
+
 /// Why there is no new home.
 #[derive(Clone, Copy, Debug, PartialEq, Eq)]
 pub enum PopFault {

@@ -1,3 +1,5 @@
+//! A table is filled record by record, and its free list and its header are written at the end.
+
 ghost use Rattle.std.specs.Prelude.{◌≡◌, ◌≢◌, ℕ, ◌+◌, ◌*◌, ◌^◌, ◌<◌, ◌≤◌, List, [], ◌∷◌, ◌++◌, length, slice_index};
 ghost use Rattle.record_heap.specs.Pool.{AreApart};
 ghost use Rattle.hash_table.specs.Table.{FitsTable};

@@ -1,3 +1,5 @@
+//! Several fields are packed into one number.
+
 ghost use Rattle.std.specs.Prelude.{◌≡◌, ◌<◌, ◌≤◌, ◌^◌, All, length};
 ghost use Rattle.tatp_layout.specs.Digits.{from_digits};
 

@@ -1,3 +1,5 @@
+//! The home of a new database is made.
+
 ghost use Rattle.std.specs.Prelude.{◌≡◌, ℕ, ◌*◌, ◌≤◌, List, IfOk, IfErr, OnOk, length, slice_index};
 ghost use Rattle.dude_base.specs.declared.limits.TheConstants.{PAGE};
 ghost use Rattle.dude_base.specs.declared.sizes.Sizes.{Sizes};

@@ -1,3 +1,5 @@
+//! The rows of a new database, by formulas.
+
 ghost use Rattle.std.specs.Prelude.{◌≡◌, ◌+◌, ◌%◌, ◌<◌, ◌≤◌, ◌^◌, map};
 ghost use Rattle.std.specs.List.{range_with_len};
 ghost use Rattle.tatp_model.specs.Population.{access_at, call_at, facility_at, letters, subscriber_at};

@@ -1,3 +1,5 @@
+//! The tables of subscribers, by s_id and by phone number, are filled.
+
 ghost use Rattle.std.specs.Prelude.{◌≡◌, ◌*◌, length};
 ghost use Rattle.dude_base.specs.declared.limits.TheConstants.{PAGE};
 ghost use Rattle.tatp_model.specs.Population.{population};

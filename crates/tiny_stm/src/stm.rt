@@ -1,3 +1,5 @@
+//! What threads make the steps of running transactions on.
+
 use core_table::event_table::EventTable;
 use core_table::slot_rule::SlotRule;
 

@@ -16,6 +16,7 @@ flat_sight f = record { count = length f.words.items; reads = f.reads; writes = 
 abbrev pub fresh : List ℕ → WordsSight
 fresh words = record { count = length words; reads = []; writes = []; stopped = None }
 
+-- what is seen of it is well formed at all times
 pub flat_well_formed : (f : Flat) → IsWellFormed (flat_sight f)
 flat_well_formed f = record { count = f.sound.in_range; writes = f.sound.list; inside = f.sound.inside }
 

@@ -38,6 +38,7 @@ abbrev pub DoesRead : ℕ → Result ℕ Stop → WordsSight → WordsSight → 
 DoesRead at (Ok v) s t = MatchOption (written s.writes at) (t ≡ record s { reads = s.reads ++ (at, v) ∷ [] }) (λ x. (v ≡ x) × (t ≡ s))
 DoesRead at (Err e) s t = (e ≢ Wide) × (t ≡ record s { stopped = Some e })
 
+-- What a read of the word `at` leaves, by its result: nothing was written, and it did exactly what a read does.
 pub record ReadsWord (at : ℕ) (result : Result ℕ Stop) (s t : WordsSight) : Type 0 where
   pub looked : Looked (stop_of result) s t
   pub does : DoesRead at result s t
@@ -48,6 +49,7 @@ abbrev pub DoesWrite : ℕ → ℕ → Result (Unit {0}) Stop → WordsSight →
 DoesWrite at value (Ok _) s t = (¬ IsWide s.writes at) × (t ≡ record s { writes = put_write s.writes (record { at = at; value = value }) })
 DoesWrite at value (Err e) s t = ((e ≡ Wide) ↔ IsWide s.writes at) × (t ≡ record s { stopped = Some e })
 
+-- What a write of the value to the word `at` leaves, by its result: it did exactly what a write does.
 pub record WritesWord (at value : ℕ) (result : Result (Unit {0}) Stop) (s t : WordsSight) : Type 0 where
   pub ran : RanOn (stop_of result) s t
   pub does : DoesWrite at value result s t

@@ -3,6 +3,7 @@ use Rattle.std.specs.Prelude.{ℕ, List, ◌++◌, codes, decimal}
 use Rattle.word_space.specs.declared.stop.Stop.{Stop}
 use Rattle.word_space.specs.declared.stop.Stop.TheVariants.{Conflict, Out, Busy, Wide, NoMemory}
 
+-- the text of each Stop
 abbrev pub stop_words : Stop → List ℕ
 stop_words (Conflict lock seen) = codes "lock " ++ decimal lock ++ codes " was found as " ++ decimal seen
 stop_words (Out page) = codes "page " ++ decimal page ++ codes " is in no frame"

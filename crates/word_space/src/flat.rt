@@ -1,3 +1,5 @@
+//! An array at rest, read and written by one transaction after another.
+
 ghost use Rattle.word_space.specs.Sound.{IsSound};
 
 use crate::read_set::ReadSet;

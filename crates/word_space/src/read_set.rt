@@ -1,3 +1,5 @@
+//! The reads of a transaction, in their order.
+
 ghost use Rattle.std.specs.Prelude.{◌≡◌, ◌<◌, [], ◌∷◌, ◌++◌, length, slice_get, OnOk, OnErr};
 
 use std::alloc::{AllocError, Global};

@@ -1,3 +1,5 @@
+//! Why a read or a write was not made.
+
 use std::error::Error;
 use std::fmt;
 

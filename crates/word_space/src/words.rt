@@ -1,3 +1,5 @@
+//! The trait of reads and writes over an array of words.
+
 ghost use Rattle.std.specs.Prelude.{◌≡◌, ℕ, ◌<◌, IfOk, OnOk, List, slice_index, slice_set};
 ghost use Rattle.word_space.specs.Sights.{WordsSight, IsBelow, shown, IsWellFormed};
 ghost use Rattle.word_space.specs.Steps.{ReadsWord, WritesWord, GoesOn};

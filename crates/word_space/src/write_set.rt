@@ -1,3 +1,5 @@
+//! The pending writes of a transaction.
+
 ghost use Rattle.std.specs.Prelude.{◌≡◌, ◌<◌, ◌↔◌, [], length, slice_get, OnOk, OnErr, IsErr};
 ghost use Rattle.dude_base.specs.Writes.{written, put_write, IsWide, IsWriteList};
 
