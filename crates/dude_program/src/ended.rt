@@ -19,6 +19,7 @@ pub struct Ended<M> {
 }
 
 impl<M> Ended<M> {
+    /// The end of a command, with the status of its fault.
     pub fn new(fault: Option<Fault>, medium: M, done: Vec<Done>) -> Ended<M>
         ensures status { result.status ≡ status_of result.fault }
         ensures fault { result.fault ≡ fault }
