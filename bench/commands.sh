@@ -72,6 +72,17 @@ holds 'a closed pipe ends with 7' [ "${PIPESTATUS[0]}" = 7 ]
 "$program" new.img recover > out 2>&-
 holds 'a closed standard error ends with 6' [ $? = 6 ]
 try 0 'last 1' 'durable 1' new.img recover
+cp new.img before.img
+exec 9<> new.img
+flock 9
+for words in recover dump 'run good.csv' 'drive 1 5 2' 'format 8 96 2 16' 'fresh 8 good.csv'; do
+  try 6 '' 'device' new.img $words
+done
+exec 9>&-
+holds 'a locked image stays' cmp -s new.img before.img
+ln -s nowhere link.img
+try 6 '' 'device' link.img recover
+holds 'nothing is left beside an image that is not made' [ -z "$(find . -name '*.new*')" ]
 
 echo "$tried command lines and what they leave: $wrong wrong"
 [ "$wrong" = 0 ]

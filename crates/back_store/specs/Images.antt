@@ -46,5 +46,6 @@ pub record IsReproduced (v w : BackState) (number : ℕ) (s t : Sight) : Type 0 
   pub arrays : (n : ℕ) (array : List ℕ) → number ≤ n → IsArrayAt (waiting_now v) v.log.reproduced (home_now v.log.sizes s) n array
       → IsArrayAt (waiting_now w) w.log.reproduced (home_now v.log.sizes t) n array
 
+-- Where the medium holds the store and the back is alive: the home is the array at this number, at which the mark is settled, and the arrays from there on stay.
 abbrev pub HasReproduced : BackState → BackState → ℕ → Sight → Sight → Type 0
 HasReproduced v w number s t = (before : ℕ) → Keeps before v s → v.dead ≡ false → IsTrue s.is_visible → IsReproduced v w number s t

@@ -3,6 +3,7 @@ use Rattle.std.specs.Prelude.{◌≡◌}
 use Rattle.backlog.specs.declared.backlog.Backlog.TheInside.{Inside}
 use Rattle.backlog.specs.Backlog.{BacklogState, IsLawful}
 
+-- what contracts see of a `Backlog`, by its fields
 abbrev pub backlog_state : Inside → BacklogState
 backlog_state a = record { sizes = a.place; lanes = a.lanes.items; durable = a.durable; reproduced = a.reproduced }
 

@@ -9,6 +9,7 @@ use Rattle.backlog.specs.declared.lane.Lane.TheInside.{Inside}
 abbrev pub extent : Logged → ℕ × ℕ
 extent l = (l.number, l.cells)
 
+-- the number of a record, and the cells that it takes
 abbrev pub extent_of : RedoRecord → ℕ × ℕ
 extent_of r = (r.number, cells_for (length r.writes))
 

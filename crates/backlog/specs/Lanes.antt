@@ -17,6 +17,7 @@ abbrev pub waiting_from : ℕ → List LaneState → List Waiting
 waiting_from ring [] = []
 waiting_from ring (v ∷ vs) = map (waiting_in ring) v.waiting ++ waiting_from (ring + 1) vs
 
+-- the records that wait in all lanes, each with the ring of its lane
 abbrev pub waiting_of : List LaneState → List Waiting
 waiting_of lanes = waiting_from 0 lanes
 

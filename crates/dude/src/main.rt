@@ -40,9 +40,11 @@ drive SEED COUNT FILES
 fresh and run print each request's number and reply, and the last number. Each
 command tells on standard error the numbers up to which all is durable.
 
+Each command writes IMAGE. While one runs, every other on that image ends with 6.
+
 status: 0 done, 2 usage, 3 a file couldn't be read, 4 a file is no request file,
-5 the image doesn't fit or can't be opened, 6 the image failed, 7 the output
-failed, 8 no memory, 9 the numbers may not be enough
+5 the image doesn't fit or can't be opened, 6 the image failed or is in use, 7
+the output failed, 8 no memory, 9 the numbers may not be enough
 ";
 
 /// What `--version` prints.

@@ -26,6 +26,7 @@ home_tables subscribers calls =
     ∷ record { buckets = calls; records = calls; size = ROW_WORDS }
     ∷ []
 
+-- how many words the tables take, for so many subscribers and call records
 abbrev pub home_length : ℕ → ℕ → ℕ
 home_length subscribers calls = sum_by table_words (home_tables subscribers calls)
 

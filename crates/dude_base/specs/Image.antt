@@ -21,6 +21,7 @@ pub record Cell : Type 0 where
   pub ring : ℕ
   pub slot : ℕ
 
+-- the cell at this slot of this ring
 abbrev pub cell_at : ℕ → ℕ → Cell
 cell_at ring slot = record { ring = ring; slot = slot }
 

@@ -1,6 +1,7 @@
 use crate::clock::Clock;
 use crate::edge_fault::EdgeFault;
 use crate::image_file;
+use crate::lock::Lock;
 use crate::spill::Spill;
 use crate::write_cache::WriteCache;
 use pmem_trait::{Failed, Medium};
@@ -25,12 +26,16 @@ pub struct FilePmem<R: FileSystem> {
     clock: Clock,
 }
 
-impl<R: FileSystem + AllocGlobal + Eprint + Drop> FilePmem<R> {
+impl<R: FileSystem + AllocGlobal + Eprint + Drop> FilePmem<R>
+where
+    R::File: Lock,
+{
     ghost use Rattle.std.specs.Prelude.{◌≡◌, IfOk, []};
     ghost use Rattle.file_pmem.specs.FilePmem.{pmem_room, noted_lines};
 
-    /// Opens the image of this path. Where there is no file, one of 33,554,432 zero bytes is made, whole or not at
-    /// all. Bytes behind the last whole word stay as they are.
+    /// Opens the image of this path, and locks it until the medium is dropped. Where there is no file, one of 33,554,432
+    /// zero bytes is made, whole or not at all. Bytes behind the last whole word stay as they are. A file that another
+    /// opening has locked is an error, and nothing is read or written.
     ///
     /// After an `Err` a file that was there is as it was. Where there was none, the new one may be there, whole; or a
     /// part of it under its own name with `.new` and a number behind, where that couldn't be removed.

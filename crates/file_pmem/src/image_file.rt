@@ -4,6 +4,7 @@ ghost use Rattle.file_pmem.specs.Line.{line_bytes, IsRun};
 use crate::edge_fault::EdgeFault;
 use crate::file_words::FileWords;
 use crate::line::{BYTES, Line};
+use crate::lock::Lock;
 use std::alloc::Global;
 use std::fs::{File, OpenFile, OpenOptions};
 use std::io::{Read, Seek, SeekFrom, Write};
@@ -25,8 +26,12 @@ const SHORT_RUN: usize = 32;
 /// How many names are tried for a file that is being made.
 const NAMES: u64 = 100;
 
-/// Opens the image, and makes it where there is no file. What is read from it later is on the disk.
-pub(crate) fn open<R: FileSystem + AllocGlobal>(rt: &R, name: &str) -> Result<R::File, EdgeFault> {
+/// Opens the image, and makes it where there is no file. Nothing is read from one that another process has open. What is
+/// read from it later is on the disk.
+pub(crate) fn open<R: FileSystem + AllocGlobal>(rt: &R, name: &str) -> Result<R::File, EdgeFault>
+where
+    R::File: Lock,
+{
     let file = match open_old(rt, name) {
         Err(error) if error.kind() == io::ErrorKind::NotFound => {
             make(rt, name)?;
@@ -37,6 +42,7 @@ pub(crate) fn open<R: FileSystem + AllocGlobal>(rt: &R, name: &str) -> Result<R:
     if !file.metadata()?.is_file() {
         return Err(EdgeFault::Failed);
     }
+    file.try_lock()?;
     file.sync_all()?;
     Ok(past_streams(file)?)
 }
@@ -53,7 +59,8 @@ fn open_old<R: FileSystem>(rt: &R, name: &str) -> io::Result<R::File> {
     OpenOptions::new().read(true).write(true).open(rt, name)
 }
 
-/// Makes the image under a name of its own beside it, and renames it once it is whole and on the disk.
+/// Makes the image under a name of its own beside it, and gives it its name once it is whole and on the disk. Where another
+/// process made it meanwhile, that one stays.
 fn make<R: FileSystem + AllocGlobal>(rt: &R, name: &str) -> Result<(), EdgeFault> {
     for attempt in 0..NAMES {
         let fresh = format!(in rt.alloc(); "{name}.new{attempt}")?;
@@ -66,19 +73,18 @@ fn make<R: FileSystem + AllocGlobal>(rt: &R, name: &str) -> Result<(), EdgeFault
     Err(EdgeFault::Failed)
 }
 
+/// Fills a new file, gives it a second name, and takes the first one away.
 fn place<R: FileSystem>(rt: &R, mut file: R::File, fresh: &str, name: &str) -> io::Result<()> {
     let placed = match fill(&mut file) {
-        Ok(()) => fs::rename(rt, fresh, name),
+        Ok(()) => match fs::hard_link(rt, fresh, name) {
+            Err(error) if error.kind() == io::ErrorKind::AlreadyExists => Ok(()),
+            linked => linked,
+        },
         failed => failed,
     };
-    match placed {
-        Ok(()) => sync_folder(rt, name),
-        Err(error) => {
-            // What is left of it is of no use.
-            let _ = fs::remove_file(rt, fresh);
-            Err(error)
-        }
-    }
+    let _ = fs::remove_file(rt, fresh);
+    placed?;
+    sync_folder(rt, name)
 }
 
 fn fill<F: Write + OpenFile>(file: &mut F) -> io::Result<()> {

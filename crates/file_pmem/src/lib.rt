@@ -11,8 +11,10 @@ mod file_pmem;
 mod file_words;
 mod image_file;
 mod line;
+mod lock;
 mod spill;
 mod write_cache;
 
 pub use edge_fault::EdgeFault;
 pub use file_pmem::FilePmem;
+pub use lock::Lock;

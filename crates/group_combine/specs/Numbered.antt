@@ -10,6 +10,7 @@ abbrev pub numbered_from : ℕ → List Write → List Numbered
 numbered_from n [] = []
 numbered_from n (w ∷ ws) = record { at = w.at; order = n; value = w.value } ∷ numbered_from (n + 1) ws
 
+-- the write without its order
 abbrev pub write_of : Numbered → Write
 write_of w = record { at = w.at; value = w.value }
 

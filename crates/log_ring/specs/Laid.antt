@@ -21,6 +21,7 @@ pub record AreLaid (s : Sizes) (next : ℕ) (logged : List Logged) : Type 0 wher
   pub ends : slot_after s (oldest_slot next logged) (cells_used logged) ≡ next
   pub few : cells_used logged ≤ s.cells
 
+-- What a `Ring` keeps of its fields: a ring and a next slot of the image, and records that are laid out before that slot.
 pub record IsKeptRing (a : Inside) : Type 0 where
   pub accepted : IsAccepted a.place
   pub ring : a.ring < a.place.rings

@@ -42,11 +42,14 @@ HasReplayable s found = (n : ℕ) (r : RedoRecord) → get nat_cmp found.records
 abbrev pub record_reads : ℕ
 record_reads = 65
 
+-- the most reads that looking at one cell takes, with those of its record
 abbrev pub cell_reads : ℕ
 cell_reads = 66
 
+-- the most reads that the scan of one ring takes
 abbrev pub ring_reads : ℕ
 ring_reads = cell_reads * MAX_CELLS
 
+-- the most reads that the scan of all rings takes
 abbrev pub scan_reads : ℕ
 scan_reads = ring_reads * MAX_RINGS

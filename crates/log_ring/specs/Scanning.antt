@@ -20,6 +20,7 @@ pub record HoldsHome (s : Sizes) (words : List ℕ) : Type 0 where
   pub slice : IsRecordSlice words
   pub home : All (λ w. w.at < s.pages * PAGE) (record_of (word_in_slice words)).writes
 
+-- the record that these words hold, all of whose writes are of home words; or none, where they hold no such record
 abbrev pub IsHomeRecord : Sizes → List ℕ → Option RedoRecord → Type 0
 IsHomeRecord s words None = ¬ HoldsHome s words
 IsHomeRecord s words (Some r) = HoldsHome s words × (r ≡ record_of (word_in_slice words))

@@ -22,6 +22,7 @@ impl ScanState {
     ghost use Rattle.log_ring.specs.declared.scan_fault.ScanFault.TheVariants.{Damaged, Device};
     ghost use Rattle.log_ring.specs.Scanning.{TakesRecord};
 
+    /// Nothing was found yet.
     pub fn new(alloc: Global) -> ScanState
         ensures records { result.records.entries ≡ [] }
         ensures duplicate { result.duplicate ≡ None }

@@ -77,9 +77,11 @@ pub record Reproducing (l : LogState) (ws : List Write) (number : ℕ) (p q : St
 abbrev pub with_waiting : LogState → (ℕ → RingRecords) → List Waiting → LogState
 with_waiting l rings waiting = record l { rings = rings; waiting = waiting }
 
+-- the log with other records in its rings
 abbrev pub with_rings : LogState → (ℕ → RingRecords) → LogState
 with_rings l rings = record l { rings = rings }
 
+-- the log where the home has these writes, all up to a number is reproduced, and these records wait
 abbrev pub reproduced_to : LogState → List Write → ℕ → List Waiting → LogState
 reproduced_to l ws number waiting = record l { reproduced = number; home = overwritten ws l.home; waiting = waiting }
 

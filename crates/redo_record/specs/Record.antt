@@ -17,9 +17,11 @@ use Rattle.redo_record.specs.Tags.{kind_of, number_of, IsNumber}
 abbrev pub cells_for : ℕ → ℕ
 cells_for count = max 1 ((count + 2) / 3)
 
+-- how many writes a head counts: its word 1
 abbrev pub count_of : (ℕ → ℕ → ℕ) → ℕ
 count_of cells = cells 0 1
 
+-- the i-th write of a record: each of its cells has three, a place and a value each, from word 2 on
 abbrev pub write_of : (ℕ → ℕ → ℕ) → ℕ → Write
 write_of cells i = record { at = cells (i / 3) (2 + 2 * (i % 3)); value = cells (i / 3) (3 + 2 * (i % 3)) }
 

@@ -4,15 +4,19 @@ use Rattle.std.specs.Prelude.{◌≡◌, ℕ, ◌+◌, ◌*◌, ◌/◌, ◌%◌
 use Rattle.dude_base.specs.declared.limits.TheConstants.{MAX_NUMBER}
 use Rattle.dude_base.specs.Sizes.{IsFrom}
 
+-- the kind of a cell, in the two highest bits of its tag: 1 is a head, 2 a continuation
 abbrev pub kind_of : ℕ → ℕ
 kind_of tag = tag / 2 ^ 62
 
+-- the number in the other bits of a tag
 abbrev pub number_of : ℕ → ℕ
 number_of tag = tag % 2 ^ 62
 
+-- the tag of the head of a record with this number
 abbrev pub head_tag : ℕ → ℕ
 head_tag number = 2 ^ 62 + number
 
+-- the tag of the other cells of a record with this number
 abbrev pub continuation_tag : ℕ → ℕ
 continuation_tag number = 2 * 2 ^ 62 + number
 
