@@ -62,6 +62,8 @@ class Module:
         for line in lines:
             plain = line.removeprefix(inside)
             is_top = plain and not plain[0].isspace()
+            if inside and line and not line[0].isspace() and not line.startswith("--"):
+                inside, plain, is_top = "", line, True
             found = IMPORT.search(line)
             if found and is_top:
                 self.add_imports(found)

@@ -15,6 +15,7 @@ use Rattle.tiny_stm.specs.Abouts.{about}
 abbrev pub two : Setup
 two = record { threads = 2; locks = 1; pages = 1; frames = 1; boxes = 1; opening = replicate PAGE 0; first = 0; is_told = true; may_fail = false }
 
+-- the writes of the transaction: 7 to word 3
 abbrev pub one_write : List Write
 one_write = record { at = 3; value = 7 } ∷ []
 
@@ -23,6 +24,7 @@ abbrev pub after_all : List (Event × ℕ) → View → View
 after_all [] v = v
 after_all (x ∷ xs) v = after_all xs (view_after two x.0 v x.1)
 
+-- the first seat, once it has a number of a thread
 abbrev pub entered : View
 entered = view_after two number (left_of 0 (opener two)) 0
 
@@ -30,30 +32,38 @@ entered = view_after two number (left_of 0 (opener two)) 0
 abbrev pub entered_too : View
 entered_too = view_after two number (newcomer two 0 0) 1
 
+-- it has read word 3 and answered that it only read
 abbrev pub read_out : View
 read_out = after_all ((begin, 0) ∷ (entry 0, 65_536) ∷ (pin 0, 65_536) ∷ (look 0, 0) ∷ (load 3, 0) ∷ (check 0, 0) ∷ (unpin 0, 65_537) ∷ (finish (about 0 0 Sync Durable), 2) ∷ []) entered
 
+-- it has drawn number 1, and decided it
 abbrev pub decided : View
 decided = after_all ((see_box, 0) ∷ (begin, 0) ∷ (entry 0, 65_536) ∷ (pin 0, 65_536) ∷ (look 0, 0) ∷ (take 0, 0) ∷ (draw (about 0 1 Sync Durable) one_write, 0) ∷ (decide, 1) ∷ []) read_out
 
+-- it has stored, shown and posted number 1
 abbrev pub posted : View
 posted = after_all ((store 3, 0) ∷ (touch 0, 0) ∷ (release 0, 0) ∷ (unpin 0, 65_537) ∷ (post, 0) ∷ []) decided
 
+-- number 1 has left its box, and is durable and reproduced
 abbrev pub settled : View
 settled = after_all ((take_turn, 0) ∷ (see_full 0 0, 1) ∷ (empty_box 0 0, 0) ∷ (see_box, 0) ∷ (raise_durable 1, 0) ∷ (raise_reproduced 1, 0) ∷ (give_turn false, 0) ∷ []) posted
 
+-- the second seat has joined it
 abbrev pub joined : View
 joined = both_of settled entered_too
 
+-- it has read word 3 again, which has the 7
 abbrev pub read_back : View
 read_back = after_all ((begin, 1) ∷ (entry 0, 65_536) ∷ (pin 0, 65_536) ∷ (look 0, 2) ∷ (load 3, 7) ∷ (check 0, 2) ∷ []) joined
 
--- ---- of a history of the other kinds, by one seat
+-- a history of the other kinds, by one seat: it has a number of a thread
 abbrev pub alone : View
 alone = view_after two number (opener two) 0
 
+-- it has extended its snapshot, and given a lock back
 abbrev pub given_back : View
 given_back = after_all ((begin, 0) ∷ (extend, 0) ∷ (look 0, 0) ∷ (take 0, 0) ∷ (restore 0, 0) ∷ (finish (about 0 0 Sync Durable), 1) ∷ []) alone
 
+-- it has evicted a page in its turn
 abbrev pub dropped : View
 dropped = after_all ((take_turn, 0) ∷ (entry 0, 65_536) ∷ (evict 0, 65_536) ∷ (load_touch 0, 0) ∷ (give_turn false, 0) ∷ []) given_back
