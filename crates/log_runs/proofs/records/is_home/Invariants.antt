@@ -1,0 +1,8 @@
+-- the writes gone over so far are those of home words
+use Rattle.std.proofs.Common.{ℕ, ◌<◌, get_or}
+use Rattle.dude_base.specs.declared.write.Write.{Write}
+use Rattle.log_runs.specs.declared.records.TheConstants.{HOME}
+use Rattle.log_runs.proofs.records.is_home.Given as goal
+
+abbrev pub invariant-loop-k : goal.invariant-loop-k
+invariant-loop-k l = (j : ℕ) (d : Write) → j < l.k → (get_or l.redo.writes j d).at < HOME

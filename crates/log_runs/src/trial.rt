@@ -1,0 +1,114 @@
+//! A back over a medium in memory, with what was persisted on it: it persists only what it may.
+ghost use Rattle.std.specs.Prelude.{◌≡◌, ◌≢◌, ◌<◌, All, IsTrue};
+ghost use Rattle.std.specs.List.{Contains};
+ghost use Rattle.dude_base.specs.Sizes.{sizes_for};
+ghost use Rattle.redo_record.specs.Waiting.{Waiting};
+ghost use Rattle.back_store.specs.Back.{waiting_now};
+ghost use Rattle.back_store.specs.BackView.{state_of};
+ghost use Rattle.log_runs.specs.Persisted.{is_listed};
+
+use crate::records::{is_home, small_sizes};
+use back_store::{Back, BackFault};
+use dude_base::limits::MAX_NUMBER;
+use dude_base::place::Place;
+use dude_base::redo::Redo;
+use pmem_fake::MemPmem;
+use pmem_trait::Medium;
+use std::alloc::{AllocError, Global};
+
+/// A back over the small image, and the numbers persisted, each behind its ring.
+#[derive(Drop)]
+pub struct Trial {
+    back: Back<MemPmem>,
+    persisted: Vec<(u64, u64)>,
+    ghost sizes: { (state_of back).log.sizes ≡ sizes_for 8 96 2 16 },
+    ghost listed: { (w : Waiting) → Contains (waiting_now (state_of back)) w → IsTrue (is_listed persisted.items w.ring w.redo.number) },
+}
+
+// Whether a record of this number may be persisted in this ring behind these.
+fn may_follow(persisted: &[(u64, u64)], ring: u64, number: u64) -> bool
+    ensures { IsTrue result → All (λ p. (p.1 ≢ number) × (p.0 ≡ ring → p.1 < number)) persisted.now }
+{
+    for &(other, before) in persisted {
+        if before == number || other == ring && before > number {
+            return false;
+        }
+    }
+    true
+}
+
+impl Trial {
+    /// A back where nothing waits; none where the medium has no room for the image.
+    pub fn new(alloc: Global, medium: MemPmem) -> Result<Option<Trial>, AllocError> {
+        let Some(sizes) = small_sizes() else {
+            return Ok(None);
+        };
+        if medium.len() < Place::of(&sizes).words() {
+            return Ok(None);
+        }
+        match Back::new(alloc, medium, &sizes, 0) {
+            Ok(back) => Ok(Some(Trial {
+                back,
+                persisted: Vec::new(alloc),
+            })),
+            Err((refused, _medium)) => Err(refused),
+        }
+    }
+
+    /// Persists a record; `None` where the back doesn't take it.
+    pub fn persist(
+        &mut self,
+        ring: u64,
+        redo: &Redo,
+    ) -> Result<Option<Result<(), BackFault>>, AllocError> {
+        let number = redo.number();
+        let in_range = ring < 2 && 1 <= number && number <= MAX_NUMBER;
+        if !in_range
+            || number <= self.back.durable()
+            || !is_home(redo)
+            || !may_follow(&self.persisted, ring, number)
+        {
+            return Ok(None);
+        }
+        self.persisted.push((ring, number))?;
+        Ok(Some(self.back.persist(ring, redo)))
+    }
+
+    /// How many records a back was asked to persist.
+    pub fn asked(&self) -> u64 {
+        self.persisted.len() as u64
+    }
+
+    /// Announces the number to which waiting records lead.
+    pub fn announce(&mut self) -> Result<u64, BackFault> {
+        self.back.announce()
+    }
+
+    /// Reproduces the next at most `most` durable records.
+    pub fn reproduce(&mut self, most: u64) -> Result<u64, BackFault> {
+        self.back.reproduce(most)
+    }
+
+    /// A page of the home, of which there are fifteen.
+    pub fn page(&mut self, page: u64) -> Result<[u64; 64], BackFault>
+        requires { page < 15 }
+    {
+        let mut words = [0; 64];
+        self.back.read_page(page, &mut words)?;
+        Ok(words)
+    }
+
+    /// The durable number, the reproduced one, and whether the back is dead.
+    pub fn numbers(&self) -> (u64, u64, bool) {
+        (
+            self.back.durable(),
+            self.back.reproduced(),
+            self.back.is_dead(),
+        )
+    }
+
+    /// The medium, as it is.
+    pub fn into_medium(self) -> MemPmem {
+        self.back.into_medium()
+    }
+}
