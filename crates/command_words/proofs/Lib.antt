@@ -1,5 +1,6 @@
 pub mod Plain
 pub mod Rows
+pub mod Arguments
 pub mod NumberWords
 pub mod Readings
 pub mod FormatWords

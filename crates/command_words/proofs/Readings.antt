@@ -1,5 +1,5 @@
 -- What a command's words mean, where it is known what `clap` makes of them.
-use Rattle.std.proofs.Common.{◌≡◌, ◌∙◌, Bool, true, false, List, [], ◌∷◌, Option, Some, None, sym, ap}
+use Rattle.std.proofs.Common.{◌≡◌, ◌∙◌, Bool, true, false, List, [], ◌∷◌, Option, Some, None, subst, sym, ap}
 use Rattle.std.specs.Prelude.{if◌then◌else◌, IfOk, Result, Ok, Err}
 use Rattle.std.specs.Option.{option_map}
 use Rattle.command_words.specs.declared.command.Command.{Command}
@@ -33,6 +33,11 @@ reads-by app words meaning reading false rows fault matches means = record {
   taken = λ none. absurd (let no : ◌≡◌ {A = Kinds} (ValueValidation ∷ []) [] = sym fault ∙ none in cc no);
   refused = λ some. means;
 }
+
+-- what is read by one command is read by its equal
+pub read-as : {E : Type 0} (app known : App) (words : List Text) (r : Result (Option ArgMatches) E)
+    → app ≡ known → IfOk r (IsReading app words) → IfOk r (IsReading known words)
+read-as app known words r same read = subst (λ (a : App). IfOk r (IsReading a words)) same read
 
 -- matches that were made of the words
 pub taken-in : (app known : App) (words : List Text) (found : Option ArgMatches) (m : ArgMatches) (meaning : Option Meaning) (reading : List Row → Option Meaning)

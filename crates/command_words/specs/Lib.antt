@@ -1,3 +1,4 @@
 pub mod Command
 pub mod Clap
 pub mod Run
+pub mod Numbers

@@ -3,13 +3,14 @@
 ghost use Rattle.std.specs.Prelude.{◌≡◌, true, drop, map, IfOk};
 ghost use Rattle.std.specs.Option.{option_map};
 ghost use Rattle.std.specs.Rc.{rc_str_bytes};
-ghost use Rattle.clap.specs.Words.{app_of, found_of, rows_of};
+ghost use Rattle.clap.specs.Words.{found_of, rows_of};
 ghost use Rattle.command_words.specs.Command.{drive_of, meaning_of_command};
-ghost use Rattle.command_words.specs.Clap.{drive_app, drive_in, has_drive_form};
+ghost use Rattle.command_words.specs.Clap.{drive_in, has_drive_form};
 
 use crate::command::Command;
 use crate::form::is_number;
-use crate::matches::{matches_in, number, number_at};
+use crate::matches::number_at;
+use crate::numbers::{Number, numbers_in};
 use clap::ArgMatches;
 use dude_base::limits::MAX_RINGS;
 use std::alloc::{AllocError, Global};
@@ -35,7 +36,25 @@ fn read_drive(alloc: Global, words: &[RcStr]) -> Result<Option<Command<'_>>, All
     requires { has_drive_form (map rc_str_bytes words.now) ≡ true }
     ensures { IfOk result (λ command. option_map meaning_of_command command ≡ drive_of (drop 1 (map rc_str_bytes words.now))) }
 {
-    match matches_in(drive_command(alloc)?, words)? {
+    // A load has at most a file for each ring.
+    let numbers = [
+        Number {
+            id: "seed",
+            low: 0,
+            high: u64::MAX,
+        },
+        Number {
+            id: "count",
+            low: 0,
+            high: MAX_COUNT,
+        },
+        Number {
+            id: "files",
+            low: 1,
+            high: MAX_RINGS,
+        },
+    ];
+    match numbers_in(alloc, "drive", &numbers, words)? {
         Some(matches) => Ok(drive_in(&matches)),
         None => Ok(None),
     }
@@ -49,14 +68,4 @@ fn drive_in<'a>(matches: &ArgMatches<'_>) -> Option<Command<'a>>
     let count = number_at(matches, "count")?;
     let files = number_at(matches, "files")?;
     Some(Command::Drive { seed, count, files })
-}
-
-// A load has at most a file for each ring.
-fn drive_command<'a>(alloc: Global) -> Result<clap::Command<'a>, AllocError>
-    ensures { IfOk result (λ command. app_of command ≡ drive_app) }
-{
-    clap::Command::new(alloc, "drive")
-        .arg(number(alloc, "seed", 0, u64::MAX))?
-        .arg(number(alloc, "count", 0, MAX_COUNT))?
-        .arg(number(alloc, "files", 1, MAX_RINGS))
 }

@@ -3,13 +3,14 @@
 ghost use Rattle.std.specs.Prelude.{◌≡◌, true, drop, map, IfOk};
 ghost use Rattle.std.specs.Option.{option_map};
 ghost use Rattle.std.specs.Rc.{rc_str_bytes};
-ghost use Rattle.clap.specs.Words.{app_of, found_of, rows_of};
+ghost use Rattle.clap.specs.Words.{found_of, rows_of};
 ghost use Rattle.command_words.specs.Command.{format_of, meaning_of_command};
-ghost use Rattle.command_words.specs.Clap.{format_app, format_in, has_format_form};
+ghost use Rattle.command_words.specs.Clap.{format_in, has_format_form};
 
 use crate::command::Command;
 use crate::form::is_number;
-use crate::matches::{matches_in, number, number_at};
+use crate::matches::number_at;
+use crate::numbers::{Number, numbers_in};
 use clap::ArgMatches;
 use dude_base::limits::{MAX_CALLS, MAX_CELLS, MAX_RINGS, MAX_SUBSCRIBERS, MIN_CELLS};
 use std::alloc::{AllocError, Global};
@@ -32,7 +33,29 @@ fn read_format(alloc: Global, words: &[RcStr]) -> Result<Option<Command<'_>>, Al
     requires { has_format_form (map rc_str_bytes words.now) ≡ true }
     ensures { IfOk result (λ command. option_map meaning_of_command command ≡ format_of (drop 1 (map rc_str_bytes words.now))) }
 {
-    match matches_in(format_command(alloc)?, words)? {
+    let numbers = [
+        Number {
+            id: "subscribers",
+            low: 1,
+            high: MAX_SUBSCRIBERS,
+        },
+        Number {
+            id: "calls",
+            low: 1,
+            high: MAX_CALLS,
+        },
+        Number {
+            id: "rings",
+            low: 1,
+            high: MAX_RINGS,
+        },
+        Number {
+            id: "cells",
+            low: MIN_CELLS,
+            high: MAX_CELLS,
+        },
+    ];
+    match numbers_in(alloc, "format", &numbers, words)? {
         Some(matches) => Ok(format_in(&matches)),
         None => Ok(None),
     }
@@ -52,14 +75,4 @@ fn format_in<'a>(matches: &ArgMatches<'_>) -> Option<Command<'a>>
         rings,
         cells,
     })
-}
-
-fn format_command<'a>(alloc: Global) -> Result<clap::Command<'a>, AllocError>
-    ensures { IfOk result (λ command. app_of command ≡ format_app) }
-{
-    clap::Command::new(alloc, "format")
-        .arg(number(alloc, "subscribers", 1, MAX_SUBSCRIBERS))?
-        .arg(number(alloc, "calls", 1, MAX_CALLS))?
-        .arg(number(alloc, "rings", 1, MAX_RINGS))?
-        .arg(number(alloc, "cells", MIN_CELLS, MAX_CELLS))
 }

@@ -10,6 +10,7 @@ mod form;
 mod format;
 mod fresh;
 mod matches;
+mod numbers;
 mod run;
 
 pub use command::{Command, command_of};

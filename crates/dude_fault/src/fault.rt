@@ -2,7 +2,8 @@
 
 ghost use Rattle.std.specs.Prelude.{◌≡◌, ◌++◌, decimal, OnOk, OnErr};
 ghost use Rattle.std.specs.Fmt.{WritesOnOk};
-ghost use Rattle.dude_fault.specs.Fault.{fault_line};
+ghost use Rattle.dude_fault.specs.Fault.{fault_line, fault_words};
+ghost use Rattle.dude_fault.specs.declared.fault.Fault.TheVariants.{Text};
 
 use std::alloc::{AllocError, AllocFailed};
 use std::fmt;
@@ -81,37 +82,44 @@ impl fmt::Display for Fault {
         match *self {
             Fault::Usage => f.write_str("usage"),
             Fault::File { file } => write_one(f, "file ", file),
-            Fault::Text { file, row, field } => {
-                write_two(f, "file ", file, " record ", row)?;
-                write_one(f, " field ", field)
-            }
+            Fault::Text { file, row, field } => write_place(f, file, row, field),
             Fault::Small { has, needs } => write_two(f, "too small: has ", has, ", needs ", needs),
-            Fault::TooFew { rows, calls } => {
-                write_two(f, "too few calls: ", rows, " rows, ", calls)?;
-                f.write_str(" calls")
-            }
+            Fault::TooFew { rows, calls } => write_all(
+                f,
+                "too few calls: ",
+                rows,
+                " rows, ",
+                calls,
+                " calls",
+            ),
             Fault::Unformatted => f.write_str("unformatted"),
             Fault::Damaged { line } => write_one(f, "damaged line ", line),
             Fault::NotDb { word } => write_one(f, "not a database, word ", word),
-            Fault::ManyFiles { files, rings } => {
-                write_two(f, "too many files: ", files, " files, ", rings)?;
-                f.write_str(" rings")
-            }
+            Fault::ManyFiles { files, rings } => write_all(
+                f,
+                "too many files: ",
+                files,
+                " files, ",
+                rings,
+                " rings",
+            ),
             Fault::Frames { frames, pages } => write_two(f, "frames ", frames, ", pages ", pages),
-            Fault::FewSubscribers { subscribers, files } => {
-                write_two(
-                    f,
-                    "too few subscribers: ",
-                    subscribers,
-                    " subscribers, ",
-                    files,
-                )?;
-                f.write_str(" files")
-            }
-            Fault::Numbers { number, requests } => {
-                write_two(f, "numbers: ", number, ", ", requests)?;
-                f.write_str(" requests")
-            }
+            Fault::FewSubscribers { subscribers, files } => write_all(
+                f,
+                "too few subscribers: ",
+                subscribers,
+                " subscribers, ",
+                files,
+                " files",
+            ),
+            Fault::Numbers { number, requests } => write_all(
+                f,
+                "numbers: ",
+                number,
+                ", ",
+                requests,
+                " requests",
+            ),
             Fault::Device => f.write_str("device"),
             Fault::Output => f.write_str("output"),
             Fault::Memory => f.write_str("memory"),
@@ -138,6 +146,34 @@ fn write_two<W: fmt::Write>(
 {
     write_one(f, first, number)?;
     write_one(f, second, other)
+}
+
+/// Writes two texts, each with a number behind it, and a last text.
+fn write_all<W: fmt::Write>(
+    f: &mut fmt::Formatter<W>,
+    first: &str,
+    number: u64,
+    second: &str,
+    other: u64,
+    last: &str,
+) -> fmt::Result
+    ensures { WritesOnOk W.write_str_gives f.old result (first.now ++ decimal number ++ second.now ++ decimal other ++ last.now) f.new }
+{
+    write_two(f, first, number, second, other)?;
+    f.write_str(last)
+}
+
+/// Writes where a file's first bad field is.
+fn write_place<W: fmt::Write>(
+    f: &mut fmt::Formatter<W>,
+    file: u64,
+    row: u64,
+    field: u64,
+) -> fmt::Result
+    ensures { WritesOnOk W.write_str_gives f.old result (fault_words (Text file row field)) f.new }
+{
+    write_two(f, "file ", file, " record ", row)?;
+    write_one(f, " field ", field)
 }
 
 impl From<AllocError> for Fault {

@@ -1,24 +1,23 @@
-use Rattle.std.proofs.Common.{◌∙◌, ap, map, sym, drop}
+use Rattle.std.proofs.Common.{◌∙◌, map, sym, drop, refl}
 use Rattle.std.specs.Rc.{rc_str_bytes}
-use Rattle.clap.specs.Words.{app_of, is_simple_and_free}
 use Rattle.command_words.specs.Command.{drive_of}
 use Rattle.command_words.specs.Clap.{drive_app, drive_in}
 use Rattle.command_words.proofs.DriveWords.{drive-reads, simple-drive}
 use Rattle.command_words.proofs.Readings.{refused-in, taken-in}
 use Rattle.command_words.proofs.drive.read_drive.Goals as goal
 
-pub matches_in-requires : goal.matches_in-requires
-matches_in-requires c = ap is_simple_and_free c.in_ok-drive_command.ensures ∙ simple-drive
+pub numbers_in-requires : goal.numbers_in-requires
+numbers_in-requires c = simple-drive
 
 pub returns-in-Some : goal.returns-in-Some
 returns-in-Some c =
     let words = map rc_str_bytes c.args.words.now in
     c.drive_in.ensures
-    ∙ sym (taken-in (app_of c.in_ok-drive_command.field-0) drive_app words c.in_ok-matches.field-0 c.in-Some.matches (drive_of (drop 1 words)) drive_in
-    c.in_ok-drive_command.ensures c.in-Some.is c.in_ok-matches.ensures (drive-reads words c.requires))
+    ∙ sym (taken-in drive_app drive_app words c.in_ok-matches.field-0 c.in-Some.matches (drive_of (drop 1 words)) drive_in
+    refl c.in-Some.is c.in_ok-matches.ensures (drive-reads words c.requires))
 
 pub returns-in-None : goal.returns-in-None
 returns-in-None c =
     let words = map rc_str_bytes c.args.words.now in
-    sym (refused-in (app_of c.in_ok-drive_command.field-0) drive_app words c.in_ok-matches.field-0 (drive_of (drop 1 words)) drive_in
-    c.in_ok-drive_command.ensures c.in-None.is c.in_ok-matches.ensures (drive-reads words c.requires))
+    sym (refused-in drive_app drive_app words c.in_ok-matches.field-0 (drive_of (drop 1 words)) drive_in
+    refl c.in-None.is c.in_ok-matches.ensures (drive-reads words c.requires))

@@ -1,0 +1,15 @@
+-- Commands whose words are all numbers, as `clap` sees them.
+use Rattle.std.specs.Prelude.{List}
+use Rattle.std.specs.List.{fold}
+use Rattle.clap.specs.Walk.{Text}
+use Rattle.clap.specs.Simple.{App, new_app, with_rule}
+use Rattle.command_words.specs.Clap.{number_rule}
+use Rattle.command_words.specs.declared.numbers.Number.{Number}
+
+-- a command with one number more
+abbrev pub with_number : App → Number → App
+with_number app number = with_rule app (number_rule number.id.now number.low number.high)
+
+-- a command that takes these numbers
+abbrev pub numbers_app : Text → List Number → App
+numbers_app name numbers = fold with_number (new_app name) numbers
