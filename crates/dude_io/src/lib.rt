@@ -23,7 +23,7 @@ mod sink;
 mod writing;
 
 pub use file_fault::FileFault;
-pub use file_pmem::{EdgeFault, FilePmem};
+pub use file_pmem::{EdgeFault, FilePmem, Lock};
 pub use file_text::FileText;
 pub use files::Files;
 pub use mem_file::MemFile;

@@ -262,8 +262,15 @@ impl Bench {
         match (name, numbers.as_slice()) {
             ("fill", &[len, byte]) => write_bytes(self.rt, file, len, byte)?,
             ("bytes", places) => say_file(self.rt, file, places)?,
-            ("open", &[]) => self.subject = open(self.rt, file)?,
-            ("open_failing", &[write]) => self.subject = open_faulty(self.rt, file, write)?,
+            ("open", &[]) => {
+                self.subject = Subject::Nothing;
+                self.subject = open(self.rt, file)?;
+            }
+            ("open_failing", &[write]) => {
+                self.subject = Subject::Nothing;
+                self.subject = open_faulty(self.rt, file, write)?;
+            }
+            ("open_beside", &[]) => drop(open(self.rt, file)?),
             ("folder", &[]) => make_folder(self.rt, file)?,
             ("names", &[]) => say_names(self.rt, file)?,
             ("remove", &[]) => remove(self.rt, file)?,

@@ -1,5 +1,6 @@
 //! A file of which a write fails.
 
+use dude_io::Lock;
 use std::fs::{File, Metadata, OpenFile};
 use std::io;
 use std::io::{ErrorKind, Read, Seek, SeekFrom, Write};
@@ -59,5 +60,11 @@ impl OpenFile for FaultyFile {
 
     fn sync_data(&self) -> io::Result<()> {
         self.file.sync_data()
+    }
+}
+
+impl Lock for FaultyFile {
+    fn try_lock(&self) -> io::Result<()> {
+        Lock::try_lock(&self.file)
     }
 }

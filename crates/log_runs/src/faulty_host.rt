@@ -46,6 +46,10 @@ impl Files for FaultyHost {
         self.rt.rename(from, to)
     }
 
+    fn hard_link(&self, original: &str, link: &str) -> io::Result<()> {
+        self.rt.hard_link(original, link)
+    }
+
     fn remove_file(&self, path: &str) -> io::Result<()> {
         self.rt.remove_file(path)
     }
