@@ -1,58 +1,46 @@
 //! The check of homes with some words changed.
 
-ghost use Rattle.std.specs.Prelude.{◌≡◌, IfOk, length};
+ghost use Rattle.std.specs.Prelude.{◌≡◌, IfSome, length};
 
 use crate::home::Home;
+use crate::page::Page;
 use crate::rows::say_tables;
-use crate::say::{end_line, say};
-use number_text::push_number;
-use std::alloc::{AllocError, Global};
+use std::alloc::Global;
 use tatp_check::{CheckFault, check, tables_of};
 
 /// The words but for some places.
-fn changed(words: &[u64], changes: &[(u64, u64)], alloc: Global) -> Result<Vec<u64>, AllocError>
-    ensures { IfOk result (λ other. length other.items ≡ length words.now) }
+fn changed(alloc: Global, words: &[u64], changes: &[(u64, u64)]) -> Option<Vec<u64>>
+    ensures { IfSome result (λ other. length other.items ≡ length words.now) }
 {
-    let mut other = words.to_vec(alloc)?;
+    let mut other = words.to_vec(alloc).ok()?;
     for (place, value) in changes {
         let place = *place as usize;
         if place < other.len() {
             other[place] = *value;
         }
     }
-    Ok(other)
+    Some(other)
 }
 
-/// Checks the home with these words changed, and prints the verdict.
+/// Checks the home with these words changed, and prints the verdict, or the rows of its tables where `with_rows` says so.
 pub fn say_check(
     home: &Home,
     alloc: Global,
     changes: &[(u64, u64)],
-    out: &mut Vec<u8>,
-) -> Result<(), AllocError> {
-    let words = changed(&home.words, changes, alloc)?;
+    with_rows: bool,
+    page: &mut Page,
+) {
+    let Some(words) = changed(alloc, &home.words, changes) else {
+        return page.cut();
+    };
     match check(alloc, &home.lay, &words) {
-        Ok(()) => say(out, "a database"),
-        Err(fault) => say_fault(fault, out),
-    }
-}
-
-fn say_fault(fault: CheckFault, out: &mut Vec<u8>) -> Result<(), AllocError> {
-    let text = format!(in *out.allocator(); "{fault}")?;
-    say(out, text.as_str())
-}
-
-/// Prints the rows of the tables for which the home with these words changed stands.
-pub fn say_tables_in(
-    home: &Home,
-    alloc: Global,
-    changes: &[(u64, u64)],
-    out: &mut Vec<u8>,
-) -> Result<(), AllocError> {
-    let words = changed(&home.words, changes, alloc)?;
-    match check(alloc, &home.lay, &words) {
-        Ok(()) => say_tables(&tables_of(alloc, &home.lay, &words)?, out),
-        Err(fault) => say_fault(fault, out),
+        Ok(()) if with_rows => match tables_of(alloc, &home.lay, &words) {
+            Ok(tables) => say_tables(&tables, page),
+            Err(_) => page.cut(),
+        },
+        Ok(()) => page.line("a database"),
+        Err(CheckFault::NotDb { word }) => page.numbers("wrong at word", &[word]),
+        Err(CheckFault::NoMemory) => page.cut(),
     }
 }
 
@@ -64,45 +52,37 @@ pub fn say_accepted(
     first: u64,
     end: u64,
     values: &[u64],
-    out: &mut Vec<u8>,
-) -> Result<(), AllocError> {
+    page: &mut Page,
+) {
     for value in values {
-        let places = accepted(home, alloc, first, end, *value)?;
-        push_number(*value, out)?;
-        out.push(b':')?;
-        push_runs(&places, out)?;
-        end_line(out)?;
+        let mut places = Vec::new(alloc);
+        for place in first..end {
+            if is_accepted(home, alloc, place, *value) && places.push(place).is_err() {
+                page.cut();
+            }
+        }
+        page.put_number(*value);
+        page.put(b":");
+        put_runs(&places, page);
+        page.line("");
     }
-    Ok(())
 }
 
-fn accepted(
-    home: &Home,
-    alloc: Global,
-    first: u64,
-    end: u64,
-    value: u64,
-) -> Result<Vec<u64>, AllocError> {
-    let mut places = Vec::new(alloc);
-    for place in first..end {
-        let words = changed(&home.words, &[(place, value)], alloc)?;
-        if check(alloc, &home.lay, &words).is_ok() {
-            places.push(place)?;
-        }
+fn is_accepted(home: &Home, alloc: Global, place: u64, value: u64) -> bool {
+    match changed(alloc, &home.words, &[(place, value)]) {
+        Some(words) => check(alloc, &home.lay, &words).is_ok(),
+        None => false,
     }
-    Ok(places)
 }
 
 /// Prints rising numbers, each run of them by its first and its last one.
-fn push_runs(numbers: &[u64], out: &mut Vec<u8>) -> Result<(), AllocError> {
+fn put_runs(numbers: &[u64], page: &mut Page) {
     for number in numbers {
         if !numbers.contains(&number.wrapping_sub(1)) {
-            out.push(b' ')?;
-            push_number(*number, out)?;
+            page.put_numbers(&[*number]);
         } else if !numbers.contains(&number.wrapping_add(1)) {
-            out.push(b'-')?;
-            push_number(*number, out)?;
+            page.put(b"-");
+            page.put_number(*number);
         }
     }
-    Ok(())
 }

@@ -1,11 +1,11 @@
 //! The lines of a script.
 
-use crate::checks::{say_check, say_tables_in};
+use crate::checks::say_check;
 use crate::home::{Home, new_home};
 use crate::home_lines::take_home;
 use crate::order::say_in_files;
+use crate::page::Page;
 use crate::runs::Files;
-use crate::say::say;
 use crate::steps::say_steps;
 use dude_base::sizes::Sizes;
 use request_reader::read_requests;
@@ -33,15 +33,16 @@ impl Play {
         &mut self,
         alloc: Global,
         line: &str,
-        out: &mut Vec<u8>,
+        page: &mut Page,
     ) -> Result<(), AllocError> {
         if is_remark(line) {
-            return say(out, line);
+            page.line(line);
+            return Ok(());
         }
         let words = words_of(alloc, line)?;
         match words.split_first() {
-            Some((name, others)) => self.take_command(alloc, name, others, out),
-            None => no_command(out),
+            Some((name, others)) => self.take_command(alloc, name, others, page),
+            None => Ok(()),
         }
     }
 
@@ -50,109 +51,66 @@ impl Play {
         alloc: Global,
         name: &str,
         others: &[&str],
-        out: &mut Vec<u8>,
+        page: &mut Page,
     ) -> Result<(), AllocError> {
         match name {
-            "first" | "second" => self.files.append(name, others),
-            "set" | "check" | "tables" => self.take_pairs(alloc, name, others, out),
+            "first" | "second" => self.files.append(name, others)?,
+            "set" | "check" | "tables" => match pairs_of(alloc, others)? {
+                Some(changes) => self.take_changes(alloc, name, &changes, page),
+                None => page.no_command(),
+            },
+            "steps" => return self.take_steps(alloc, page),
             _ => match numbers_of(alloc, others)? {
-                Some(numbers) => self.take_numbers(alloc, name, &numbers, out),
-                None => no_command(out),
+                Some(numbers) => self.take_numbers(alloc, name, &numbers, page),
+                None => page.no_command(),
             },
         }
-    }
-
-    /// Commands on a home with some words changed.
-    fn take_pairs(
-        &mut self,
-        alloc: Global,
-        name: &str,
-        words: &[&str],
-        out: &mut Vec<u8>,
-    ) -> Result<(), AllocError> {
-        match (&mut self.home, pairs_of(alloc, words)?) {
-            (Some(home), Some(changes)) => match name {
-                "set" => {
-                    home.put_all(&changes);
-                    Ok(())
-                }
-                "check" => say_check(home, alloc, &changes, out),
-                _ => say_tables_in(home, alloc, &changes, out),
-            },
-            _ => no_command(out),
-        }
-    }
-
-    fn take_numbers(
-        &mut self,
-        alloc: Global,
-        name: &str,
-        numbers: &[u64],
-        out: &mut Vec<u8>,
-    ) -> Result<(), AllocError> {
-        match name {
-            "home" => self.take_sizes(alloc, numbers, out),
-            "steps" => self.take_steps(alloc, out),
-            "order" => say_in_files(numbers, out),
-            "files" => {
-                self.files = Files::new(alloc);
-                Ok(())
-            }
-            "run" | "images" | "failing" => self.take_run(alloc, name, numbers, out),
-            _ => match &mut self.home {
-                Some(home) => take_home(home, alloc, name, numbers, out),
-                None => no_command(out),
-            },
-        }
-    }
-
-    /// A new home.
-    fn take_sizes(
-        &mut self,
-        alloc: Global,
-        numbers: &[u64],
-        out: &mut Vec<u8>,
-    ) -> Result<(), AllocError> {
-        let [subscribers, calls, rings, cells] = *numbers else {
-            return no_command(out);
-        };
-        self.home = match Sizes::of(subscribers, calls, rings, cells) {
-            Ok(sizes) => new_home(alloc, &sizes, out)?,
-            Err(_) => None,
-        };
         Ok(())
     }
 
+    /// Commands on a home with some words changed.
+    fn take_changes(&mut self, alloc: Global, name: &str, changes: &[(u64, u64)], page: &mut Page) {
+        match &mut self.home {
+            Some(home) if name == "set" => home.put_all(changes),
+            Some(home) => say_check(home, alloc, changes, name == "tables", page),
+            None => page.no_command(),
+        }
+    }
+
     /// Performs the requests of the first file on the plain tables.
-    fn take_steps(&self, alloc: Global, out: &mut Vec<u8>) -> Result<(), AllocError> {
+    fn take_steps(&self, alloc: Global, page: &mut Page) -> Result<(), AllocError> {
         match (&self.home, read_requests(alloc, &self.files.first)) {
-            (Some(home), Ok(requests)) => say_steps(home, alloc, &requests, out),
-            _ => no_command(out),
+            (Some(home), Ok(requests)) => say_steps(home, alloc, &requests, page),
+            _ => Err(AllocError),
         }
     }
 
-    fn take_run(
-        &self,
-        alloc: Global,
-        name: &str,
-        numbers: &[u64],
-        out: &mut Vec<u8>,
-    ) -> Result<(), AllocError> {
+    fn take_numbers(&mut self, alloc: Global, name: &str, numbers: &[u64], page: &mut Page) {
         match (name, numbers) {
-            ("run", [calls]) => self.files.say_run(alloc, *calls, out),
-            ("images", [calls, every, last]) => {
-                self.files.say_images(alloc, *calls, *every, *last, out)
+            ("home", [subscribers, calls, rings, cells]) => {
+                self.home = match Sizes::of(*subscribers, *calls, *rings, *cells) {
+                    Ok(sizes) => new_home(alloc, &sizes, page),
+                    Err(_) => None,
+                };
             }
-            ("failing", [calls, before, every, last]) => {
-                self.files
-                    .say_failing(alloc, *calls, *before, *every, *last, out)
-            }
-            _ => no_command(out),
+            ("order", _) => say_in_files(alloc, numbers, page),
+            ("files", []) => self.files = Files::new(alloc),
+            _ => self.take_at_home(alloc, name, numbers, page),
         }
     }
-}
 
-/// Says that a line is no command.
-pub fn no_command(out: &mut Vec<u8>) -> Result<(), AllocError> {
-    say(out, "no command")
+    fn take_at_home(&mut self, alloc: Global, name: &str, numbers: &[u64], page: &mut Page) {
+        match (&mut self.home, name, numbers) {
+            (Some(home), "run", []) => self.files.say_run(home, alloc, page),
+            (Some(home), "images", [every, last]) => {
+                self.files.say_images(home, alloc, *every, *last, page);
+            }
+            (Some(home), "failing", [before, every, last]) => {
+                self.files
+                    .say_failing(home, alloc, *before, *every, *last, page);
+            }
+            (Some(home), _, _) => take_home(home, alloc, name, numbers, page),
+            (None, _, _) => page.no_command(),
+        }
+    }
 }

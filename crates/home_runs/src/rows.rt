@@ -1,83 +1,60 @@
 //! Rows, printed with all their fields.
 
-use crate::say::end_line;
-use number_text::push_number;
-use std::alloc::AllocError;
+use crate::page::Page;
 use tatp_model::{AccessRow, CallRow, FacRow, SubRow, Tables};
 
 /// Prints the rows of all tables.
-pub fn say_tables(tables: &Tables, out: &mut Vec<u8>) -> Result<(), AllocError> {
+pub fn say_tables(tables: &Tables, page: &mut Page) {
     for row in &tables.subscribers {
-        say_subscriber(row, out)?;
+        say_subscriber(row, page);
     }
     for row in &tables.access {
-        say_access(row, out)?;
+        say_access(row, page);
     }
     for row in &tables.facilities {
-        say_facility(row, out)?;
+        say_facility(row, page);
     }
     for row in &tables.calls {
-        say_call(row, out)?;
+        say_call(row, page);
     }
-    Ok(())
 }
 
 /// Prints a subscriber: its id, its phone number, ten bits, ten numbers below 16, ten bytes, and two locations.
-pub fn say_subscriber(row: &SubRow, out: &mut Vec<u8>) -> Result<(), AllocError> {
-    push_fields("subscriber", &[row.s_id, row.sub_nbr], out)?;
-    push_bytes(&row.bits, out)?;
-    push_bytes(&row.hexes, out)?;
-    push_bytes(&row.bytes, out)?;
-    push_fields("", &[row.msc, row.vlr], out)?;
-    end_line(out)
+pub fn say_subscriber(row: &SubRow, page: &mut Page) {
+    page.put(b"subscriber");
+    page.put_numbers(&[row.s_id, row.sub_nbr]);
+    page.put_bytes(&row.bits);
+    page.put_bytes(&row.hexes);
+    page.put_bytes(&row.bytes);
+    page.numbers("", &[row.msc, row.vlr]);
 }
 
 /// Prints an access row: its subscriber, its type, two bytes, three letters and five letters.
-pub fn say_access(row: &AccessRow, out: &mut Vec<u8>) -> Result<(), AllocError> {
-    push_fields("access", &[row.s_id, row.ai_type], out)?;
-    push_bytes(&[row.info.data1, row.info.data2], out)?;
-    push_letters(&row.info.data3, out)?;
-    push_letters(&row.info.data4, out)?;
-    end_line(out)
+pub fn say_access(row: &AccessRow, page: &mut Page) {
+    let info = &row.info;
+    page.put(b"access");
+    page.put_numbers(&[row.s_id, row.ai_type]);
+    page.put_bytes(&[info.data1, info.data2]);
+    page.put(b" ");
+    page.put(&info.data3);
+    page.put(b" ");
+    page.put(&info.data4);
+    page.line("");
 }
 
 /// Prints a facility: its subscriber, its type, whether it is active, two bytes and five letters.
-pub fn say_facility(row: &FacRow, out: &mut Vec<u8>) -> Result<(), AllocError> {
-    push_fields("facility", &[row.s_id, row.sf_type], out)?;
-    push_bytes(&[row.is_active, row.error_cntrl, row.data_a], out)?;
-    push_letters(&row.data_b, out)?;
-    end_line(out)
+pub fn say_facility(row: &FacRow, page: &mut Page) {
+    page.put(b"facility");
+    page.put_numbers(&[row.s_id, row.sf_type]);
+    page.put_bytes(&[row.is_active, row.error_cntrl, row.data_a]);
+    page.put(b" ");
+    page.put(&row.data_b);
+    page.line("");
 }
 
 /// Prints a call row: its subscriber, the type of its facility, its two hours and its number.
-pub fn say_call(row: &CallRow, out: &mut Vec<u8>) -> Result<(), AllocError> {
-    push_fields(
-        "call",
-        &[row.s_id, row.sf_type, row.start_time, row.end_time],
-        out,
-    )?;
-    push_fields("", &[row.numberx], out)?;
-    end_line(out)
-}
-
-fn push_fields(name: &str, fields: &[u64], out: &mut Vec<u8>) -> Result<(), AllocError> {
-    out.extend_from_slice(name.as_bytes())?;
-    for field in fields {
-        out.push(b' ')?;
-        push_number(*field, out)?;
-    }
-    Ok(())
-}
-
-fn push_bytes(fields: &[u8], out: &mut Vec<u8>) -> Result<(), AllocError> {
-    for field in fields {
-        out.push(b' ')?;
-        push_number(u64::from(*field), out)?;
-    }
-    Ok(())
-}
-
-fn push_letters(letters: &[u8], out: &mut Vec<u8>) -> Result<(), AllocError> {
-    out.push(b' ')?;
-    out.extend_from_slice(letters)
+pub fn say_call(row: &CallRow, page: &mut Page) {
+    page.put(b"call");
+    page.put_numbers(&[row.s_id, row.sf_type]);
+    page.numbers("", &[row.start_time, row.end_time, row.numberx]);
 }

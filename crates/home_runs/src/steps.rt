@@ -4,8 +4,8 @@ ghost use Rattle.std.specs.Prelude.{All};
 ghost use Rattle.tatp_model.specs.Request.{IsInRange};
 
 use crate::home::{Home, say_reply};
+use crate::page::Page;
 use crate::rows::say_tables;
-use crate::say::say;
 use std::alloc::{AllocError, Global};
 use tatp_check::{check, tables_of};
 use tatp_model::Request;
@@ -17,21 +17,22 @@ pub fn say_steps(
     home: &Home,
     alloc: Global,
     requests: &[Request],
-    out: &mut Vec<u8>,
+    page: &mut Page,
 ) -> Result<(), AllocError>
     requires { All IsInRange requests.now }
 {
     if check(alloc, &home.lay, &home.words).is_err() {
-        return say(out, "no database");
+        return Err(AllocError);
     }
     let mut tables = tables_of(alloc, &home.lay, &home.words)?;
     let limit = home.lay.sizes().calls;
     if tables.calls.len() as u64 > limit {
-        return say(out, "too many call rows");
+        return Err(AllocError);
     }
     for request in requests {
         let reply = step(alloc, &mut tables, limit, request)?;
-        say_reply(tables.calls.len() as u64, reply, out)?;
+        say_reply(tables.calls.len() as u64, reply, page);
     }
-    say_tables(&tables, out)
+    say_tables(&tables, page);
+    Ok(())
 }
