@@ -1,25 +1,25 @@
 //! The check of homes with some words changed.
 
-ghost use Rattle.std.specs.Prelude.{◌≡◌, IfSome, length};
+ghost use Rattle.std.specs.Prelude.{◌≡◌, IfOk, length};
 
 use crate::home::Home;
 use crate::page::Page;
 use crate::rows::say_tables;
-use std::alloc::Global;
+use std::alloc::{AllocError, Global};
 use tatp_check::{CheckFault, check, tables_of};
 
 /// The words but for some places.
-fn changed(alloc: Global, words: &[u64], changes: &[(u64, u64)]) -> Option<Vec<u64>>
-    ensures { IfSome result (λ other. length other.items ≡ length words.now) }
+fn changed(alloc: Global, words: &[u64], changes: &[(u64, u64)]) -> Result<Vec<u64>, AllocError>
+    ensures { IfOk result (λ other. length other.items ≡ length words.now) }
 {
-    let mut other = words.to_vec(alloc).ok()?;
+    let mut other = words.to_vec(alloc)?;
     for (place, value) in changes {
         let place = *place as usize;
         if place < other.len() {
             other[place] = *value;
         }
     }
-    Some(other)
+    Ok(other)
 }
 
 /// Checks the home with these words changed, and prints the verdict, or the rows of its tables where `with_rows` says so.
@@ -30,7 +30,7 @@ pub fn say_check(
     with_rows: bool,
     page: &mut Page,
 ) {
-    let Some(words) = changed(alloc, &home.words, changes) else {
+    let Ok(words) = changed(alloc, &home.words, changes) else {
         return page.cut();
     };
     match check(alloc, &home.lay, &words) {
@@ -70,8 +70,8 @@ pub fn say_accepted(
 
 fn is_accepted(home: &Home, alloc: Global, place: u64, value: u64) -> bool {
     match changed(alloc, &home.words, &[(place, value)]) {
-        Some(words) => check(alloc, &home.lay, &words).is_ok(),
-        None => false,
+        Ok(words) => check(alloc, &home.lay, &words).is_ok(),
+        Err(_) => false,
     }
 }
 

@@ -1,13 +1,12 @@
 //! What a call answered.
 
-use crate::say::say_numbers;
-use std::alloc::AllocError;
+use crate::page::Page;
 
-/// What a call answered.
+/// What a call answered: a text, and a number where there is one.
 #[derive(Clone, Copy)]
 pub struct Answer {
-    text: &'static str,
-    number: Option<u64>,
+    pub text: &'static str,
+    pub number: Option<u64>,
 }
 
 impl Answer {
@@ -24,24 +23,11 @@ impl Answer {
         }
     }
 
-    /// The number, if there is one.
-    pub fn maybe(text: &'static str, number: Option<u64>) -> Answer {
-        match number {
-            Some(number) => Answer::of(text, number),
-            None => Answer::plain("none"),
-        }
-    }
-
-    /// The answer to what is no call.
-    pub fn no_command() -> Answer {
-        Answer::plain("no command")
-    }
-
     /// Prints the answer.
-    pub fn say(&self, out: &mut Vec<u8>) -> Result<(), AllocError> {
+    pub fn say(&self, page: &mut Page) {
         match self.number {
-            Some(number) => say_numbers(out, self.text, &[number]),
-            None => say_numbers(out, self.text, &[]),
+            Some(number) => page.numbers(self.text, &[number]),
+            None => page.line(self.text),
         }
     }
 }

@@ -2,59 +2,59 @@
 
 ghost use Rattle.dude_base.specs.Sizes.{IsAccepted};
 
-use crate::say::{end_line, push_pair, say, say_numbers};
+use crate::page::Page;
+use dude_base::field::Field;
 use dude_base::place::Place;
 use dude_base::redo::Redo;
 use dude_base::size_fault::SizeFault;
 use dude_base::sizes::Sizes;
 use dude_base::wide::Wide;
 use dude_base::write::Write;
-use number_text::push_number;
-use std::alloc::AllocError;
+use std::alloc::Global;
 use word_space::read_set::ReadSet;
 
 /// Carries out a command on the sizes of an image: the first four numbers are its subscribers, call rows, rings and cells.
-pub fn say_sizes(name: &str, numbers: &[u64], out: &mut Vec<u8>) -> Result<(), AllocError> {
+pub fn say_sizes(name: &str, numbers: &[u64], page: &mut Page) {
     let [subscribers, calls, rings, cells, others @ ..] = numbers else {
-        return say(out, "no command");
+        return page.no_command();
     };
     match Sizes::of(*subscribers, *calls, *rings, *cells) {
-        Ok(sizes) => say_place(name, &sizes, others, out),
-        Err(fault) => say_fault(fault, out),
+        Ok(sizes) => say_place(name, &sizes, others, page),
+        Err(fault) => say_fault(fault, page),
     }
 }
 
-fn say_fault(fault: SizeFault, out: &mut Vec<u8>) -> Result<(), AllocError> {
-    let text = format!(in *out.allocator(); "{fault}")?;
-    say(out, text.as_str())
+fn say_fault(fault: SizeFault, page: &mut Page) {
+    page.line(match fault.field {
+        Field::Subscribers => "no such number of subscribers",
+        Field::Calls => "no such number of calls",
+        Field::Rings => "no such number of rings",
+        Field::Cells => "no such number of cells",
+        Field::Pages => "no such number of pages",
+    });
 }
 
-fn say_place(
-    name: &str,
-    sizes: &Sizes,
-    numbers: &[u64],
-    out: &mut Vec<u8>,
-) -> Result<(), AllocError>
+fn say_place(name: &str, sizes: &Sizes, numbers: &[u64], page: &mut Page)
     requires { IsAccepted sizes.now }
 {
     let place = Place::of(sizes);
     match (name, numbers) {
-        ("pages", []) => say_numbers(out, "pages", &[sizes.pages]),
-        ("length", []) => say_numbers(out, "words", &[place.words()]),
+        ("pages", []) => page.numbers("pages", &[sizes.pages]),
+        ("length", []) => page.numbers("words", &[place.words()]),
         ("cell", [ring, cell]) if *ring < sizes.rings && *cell < sizes.cells => {
-            say_numbers(out, "word", &[place.cell(*ring, *cell)])
+            page.numbers("word", &[place.cell(*ring, *cell)]);
         }
         ("home", [word]) if *word / 64 < sizes.pages => {
-            say_numbers(out, "word", &[place.home(*word)])
+            page.numbers("word", &[place.home(*word)]);
         }
-        _ => say(out, "no command"),
+        _ => page.no_command(),
     }
 }
 
 /// Checks the sizes of an image with its pages.
-pub fn say_check(numbers: &[u64], out: &mut Vec<u8>) -> Result<(), AllocError> {
+pub fn say_check(numbers: &[u64], page: &mut Page) {
     let [subscribers, calls, rings, cells, pages] = *numbers else {
-        return say(out, "no command");
+        return page.no_command();
     };
     let sizes = Sizes {
         subscribers,
@@ -64,34 +64,35 @@ pub fn say_check(numbers: &[u64], out: &mut Vec<u8>) -> Result<(), AllocError> {
         pages,
     };
     match sizes.check() {
-        Ok(()) => say(out, "accepted"),
-        Err(fault) => say_fault(fault, out),
+        Ok(()) => page.line("accepted"),
+        Err(fault) => say_fault(fault, page),
     }
 }
 
 /// Makes a record of this number with these writes, and prints a copy of it, and before it each write that is one too many.
-pub fn say_record(number: u64, writes: &[(u64, u64)], out: &mut Vec<u8>) -> Result<(), AllocError> {
+pub fn say_record(number: u64, writes: &[(u64, u64)], page: &mut Page) {
     let mut redo = Redo::new(number);
     for (at, value) in writes {
         let (at, value) = (*at, *value);
         if redo.push(Write { at, value }).is_err() {
-            out.extend_from_slice(b"too many with")?;
-            push_pair(out, at, value)?;
-            end_line(out)?;
+            page.put(b"too wide");
+            page.put_pair(at, value);
+            page.line("");
         }
     }
-    say_redo(&redo.copy(), out)
+    say_redo(&redo.copy(), page);
 }
 
-/// Prints a record: its number, how many words it writes, and its writes.
-pub fn say_redo(redo: &Redo, out: &mut Vec<u8>) -> Result<(), AllocError> {
-    out.extend_from_slice(b"record ")?;
-    push_number(redo.number(), out)?;
+/// Prints a record: its number, and its writes.
+pub fn say_redo(redo: &Redo, page: &mut Page) {
+    page.put(b"record");
+    page.put_number(redo.number());
+    page.put(b":");
     for index in 0..redo.len() {
         let write = redo.write_at(index);
-        push_pair(out, write.at, write.value)?;
+        page.put_pair(write.at, write.value);
     }
-    end_line(out)
+    page.line("");
 }
 
 /// Overwrites the words by a record of these writes, if there are such words and the record has room.
@@ -109,15 +110,17 @@ pub fn overwrite(words: &mut [u64], writes: &[(u64, u64)]) -> Result<(), Wide> {
 }
 
 /// Notes these reads, and prints those that are noted.
-pub fn say_reads(reads: &[(u64, u64)], out: &mut Vec<u8>) -> Result<(), AllocError> {
-    let mut set = ReadSet::new(*out.allocator());
+pub fn say_reads(alloc: Global, reads: &[(u64, u64)], page: &mut Page) {
+    let mut set = ReadSet::new(alloc);
     for (at, value) in reads {
-        set.add(*at, *value)?;
+        if set.add(*at, *value).is_err() {
+            page.cut();
+        }
     }
-    out.extend_from_slice(b"reads")?;
+    page.put(b"reads");
     for index in 0..set.len() {
         let (at, value) = set.get(index);
-        push_pair(out, at, value)?;
+        page.put_pair(at, value);
     }
-    end_line(out)
+    page.line("");
 }

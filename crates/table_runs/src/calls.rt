@@ -1,8 +1,9 @@
 //! Calls on words: reads and writes, those of a pool of three records, those of a table of two buckets over it, and those of
 //! the callers over any words.
 
-ghost use Rattle.std.specs.Prelude.{◌≡◌};
+ghost use Rattle.table_runs.specs.declared.calls.TheConstants.{TABLE};
 ghost use Rattle.table_runs.specs.Stoppings.{stopping_sight};
+ghost use Rattle.hash_table.specs.Table.{FitsTable};
 
 use crate::answer::Answer;
 use crate::callers::{at_word, exchange, first_at, insert_all, take_all};
@@ -13,22 +14,23 @@ use record_heap::pool::Pool;
 use word_space::stop::Stop;
 use word_space::words::Words;
 
-/// A pool of three records.
-pub const POOL: Pool = Pool {
-    base: 0,
-    first: 8,
-    size: 4,
-    count: 3,
-};
-
-/// A table of two buckets over that pool.
+/// A table of two buckets over a pool of three records.
 pub const TABLE: Table = Table {
     buckets: 2,
     at: 24,
-    pool: POOL,
+    pool: Pool {
+        base: 0,
+        first: 8,
+        size: 4,
+        count: 3,
+    },
 };
 
+/// How many words the table takes.
+const TABLE_WORDS: u64 = 32;
+
 /// Makes a call, if the words have its places.
+#[tactic(auto, using(hash_table::proofs::Fits::table_fits))]
 pub fn take_call(words: &mut Stopping, name: &str, numbers: &[u64]) -> Result<Answer, Stop> {
     match (name, numbers) {
         ("read", [at]) => read(words, *at),
@@ -37,24 +39,36 @@ pub fn take_call(words: &mut Stopping, name: &str, numbers: &[u64]) -> Result<An
         ("exchange", [first, second]) => exchange_two(words, *first, *second),
         ("seek", [count, key]) => seek(words, *count, *key),
         _ => {
-            if words.len() != 32 {
-                return Ok(Answer::no_command());
+            if words.len() != TABLE_WORDS {
+                return Ok(no_command());
             }
             take_pool_call(words, name, numbers)
         }
     }
 }
 
+fn no_command() -> Answer {
+    Answer::plain("no command")
+}
+
+/// The number, if there is one.
+fn maybe(text: &'static str, number: Option<u64>) -> Answer {
+    match number {
+        Some(number) => Answer::of(text, number),
+        None => Answer::plain("none"),
+    }
+}
+
 fn read(words: &mut Stopping, at: u64) -> Result<Answer, Stop> {
     if at >= words.len() {
-        return Ok(Answer::no_command());
+        return Ok(no_command());
     }
     Ok(Answer::of("value", words.read(at)?))
 }
 
 fn write(words: &mut Stopping, at: u64, value: u64) -> Result<Answer, Stop> {
     if at >= words.len() {
-        return Ok(Answer::no_command());
+        return Ok(no_command());
     }
     words.write(at, value)?;
     Ok(Answer::plain("written"))
@@ -62,14 +76,14 @@ fn write(words: &mut Stopping, at: u64, value: u64) -> Result<Answer, Stop> {
 
 fn follow(words: &mut Stopping, at: u64) -> Result<Answer, Stop> {
     if at >= words.len() {
-        return Ok(Answer::no_command());
+        return Ok(no_command());
     }
-    Ok(Answer::maybe("value", at_word(words, at)?))
+    Ok(maybe("value", at_word(words, at)?))
 }
 
 fn exchange_two(words: &mut Stopping, first: u64, second: u64) -> Result<Answer, Stop> {
     if first >= words.len() || second >= words.len() {
-        return Ok(Answer::no_command());
+        return Ok(no_command());
     }
     exchange(words, first, second)?;
     Ok(Answer::plain("exchanged"))
@@ -77,36 +91,35 @@ fn exchange_two(words: &mut Stopping, first: u64, second: u64) -> Result<Answer,
 
 fn seek(words: &mut Stopping, count: u64, key: u64) -> Result<Answer, Stop> {
     if count > words.len() {
-        return Ok(Answer::no_command());
+        return Ok(no_command());
     }
-    Ok(Answer::maybe("at", first_at(words, count, key)?))
+    Ok(maybe("at", first_at(words, count, key)?))
 }
 
-#[tactic(auto, using(record_heap::proofs::Pools::fits_behind))]
 fn take_pool_call(words: &mut Stopping, name: &str, numbers: &[u64]) -> Result<Answer, Stop>
-    requires { (stopping_sight words.old).count ≡ 32 }
+    requires { FitsTable TABLE (stopping_sight words.old).count }
 {
+    let pool = &TABLE.pool;
     match (name, numbers) {
-        ("take", []) => Ok(Answer::maybe("record", POOL.take(words)?)),
+        ("take", []) => Ok(maybe("record", pool.take(words)?)),
         ("give", [at]) => {
-            if !POOL.has(*at) {
+            if !pool.has(*at) {
                 return Ok(Answer::plain("no record"));
             }
-            POOL.give(words, *at)?;
+            pool.give(words, *at)?;
             Ok(Answer::plain("given"))
         }
-        ("live", []) => Ok(Answer::of("taken", POOL.live(words)?)),
-        ("drain", []) => Ok(Answer::of("taken", take_all(&POOL, words)?)),
+        ("live", []) => Ok(Answer::of("taken", pool.live(words)?)),
+        ("drain", []) => Ok(Answer::of("taken", take_all(pool, words)?)),
         _ => take_table_call(words, name, numbers),
     }
 }
 
-#[tactic(auto, using(hash_table::proofs::Fits::table_fits))]
 fn take_table_call(words: &mut Stopping, name: &str, numbers: &[u64]) -> Result<Answer, Stop>
-    requires { (stopping_sight words.old).count ≡ 32 }
+    requires { FitsTable TABLE (stopping_sight words.old).count }
 {
     match (name, numbers) {
-        ("find", [key]) => Ok(Answer::maybe("record", TABLE.find(words, *key)?)),
+        ("find", [key]) => Ok(maybe("record", TABLE.find(words, *key)?)),
         ("insert", [key]) => Ok(put_answer(TABLE.insert(words, *key)?)),
         ("remove", [key]) => {
             let was = TABLE.remove(words, *key)?;
@@ -116,7 +129,7 @@ fn take_table_call(words: &mut Stopping, name: &str, numbers: &[u64]) -> Result<
             let whole = insert_all(&TABLE, words, keys)?;
             Ok(Answer::plain(if whole { "all there" } else { "full" }))
         }
-        _ => Ok(Answer::no_command()),
+        _ => Ok(no_command()),
     }
 }
 

@@ -6,22 +6,26 @@ mod bases;
 mod callers;
 mod calls;
 mod lists;
+mod page;
 mod play;
-mod say;
 mod stopping;
 mod stops;
 
+use page::Page;
 use play::Play;
-use std::io::{self, BufRead, BufReader, Write};
+use std::io::{self, BufRead, BufReader, ErrorKind, Write};
 
 fn main(rt: HostRuntime) -> io::Result<()> {
     let mut play = Play::new(rt.alloc());
     let mut writer = io::writer(&rt);
     for line in BufReader::new(rt.alloc(), rt.reader())?.lines(rt.alloc()) {
         let line = line?;
-        let mut out = Vec::new(rt.alloc());
-        play.take_line(rt.alloc(), line.as_str(), &mut out)?;
-        writer.write_all(&out)?;
+        let mut page = Page::new(rt.alloc());
+        play.take_line(rt.alloc(), line.as_str(), &mut page)?;
+        match page.text() {
+            Some(text) => writer.write_all(text)?,
+            None => return Err(io::Error::from(ErrorKind::OutOfMemory)),
+        }
     }
     Ok(())
 }

@@ -1,11 +1,9 @@
-//! Calls of which each read of the array is stopped in turn.
-
-ghost use Rattle.table_runs.specs.Stops.{IsNotWide};
+//! Calls of which each read and each write is stopped in turn.
 
 use crate::calls::take_call;
-use crate::say::say_numbers;
+use crate::page::Page;
 use crate::stopping::Stopping;
-use std::alloc::AllocError;
+use std::alloc::Global;
 use word_space::flat::Flat;
 use word_space::stop::Stop;
 
@@ -20,26 +18,29 @@ const STOPS: [Stop; 3] = [
 /// how many of them handed the stop on and left the array at rest, and how many writes are pending then; or the count of calls
 /// before the first one that did not.
 pub fn say_stops(
+    alloc: Global,
     array: &[u64],
     times: u64,
     name: &str,
     numbers: &[u64],
-    out: &mut Vec<u8>,
-) -> Result<(), AllocError> {
+    page: &mut Page,
+) {
     let mut stopped = 0u64;
     let mut pending = 0u64;
     for stop in STOPS {
         for calls in 0..times {
-            let words = array.to_vec(*out.allocator())?;
+            let Ok(words) = array.to_vec(alloc) else {
+                return page.cut();
+            };
             let words = Stopping::new(Flat::new(words), calls, stop);
             match handed_on(words, stop, name, numbers, array) {
                 Some(writes) => pending = pending.wrapping_add(writes),
-                None => return say_numbers(out, "not stopped after", &[calls]),
+                None => return page.numbers("not stopped after", &[calls]),
             }
             stopped = stopped.wrapping_add(1);
         }
     }
-    say_numbers(out, "stopped and writes pending", &[stopped, pending])
+    page.numbers("stopped and writes pending", &[stopped, pending]);
 }
 
 /// How many writes are pending where a call hands this stop on and leaves the array at rest.
@@ -52,10 +53,9 @@ fn handed_on(
 ) -> Option<u64> {
     let mut words = words;
     let answered = take_call(&mut words, name, numbers);
-    let handed_on = matches!(answered, Err(met) if met == stop) && words.stopped() == Some(stop);
-    let mut flat = words.into_flat();
-    if !handed_on || flat.words() != array {
+    let handed_on = matches!(answered, Err(met) if met == stop) && words.stopped == Some(stop);
+    if !handed_on || words.flat.words() != array {
         return None;
     }
-    Some(flat.take(1).len())
+    Some(words.flat.take(1).len())
 }
