@@ -1,0 +1,33 @@
+//! Scripts of the home of the five tables, carried out line by line: its words, its rows, requests on it and on the plain
+//! tables, the check of changed homes, and runs of request files over a medium in memory.
+#![tactic(auto)]
+
+mod checks;
+mod home;
+mod home_lines;
+mod order;
+mod page;
+mod play;
+mod records;
+mod rows;
+mod runs;
+mod steps;
+
+use page::Page;
+use play::Play;
+use std::io::{self, BufRead, BufReader, ErrorKind, Write};
+
+fn main(rt: HostRuntime) -> io::Result<()> {
+    let mut play = Play::new(rt.alloc());
+    let mut writer = io::writer(&rt);
+    for line in BufReader::new(rt.alloc(), rt.reader())?.lines(rt.alloc()) {
+        let line = line?;
+        let mut page = Page::new(rt.alloc());
+        play.take_line(rt.alloc(), line.as_str(), &mut page)?;
+        match page.text() {
+            Some(text) => writer.write_all(text)?,
+            None => return Err(io::Error::from(ErrorKind::OutOfMemory)),
+        }
+    }
+    Ok(())
+}
