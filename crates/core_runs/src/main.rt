@@ -1,0 +1,38 @@
+//! Scripts of the machine of running transactions and of the map of pages and frames, played line by line: what happened, and what
+//! is found, is printed.
+#![tactic(auto)]
+
+mod entries;
+mod events;
+mod facts;
+mod output;
+mod pages;
+mod play;
+mod stage;
+mod steps;
+mod words;
+mod world;
+
+use play::Play;
+use script_words::is_remark;
+use std::io::{self, BufRead, BufReader};
+
+fn main(rt: HostRuntime) -> io::Result<()> {
+    let mut play = Play::new();
+    for line in BufReader::new(rt.alloc(), rt.reader())?.lines(rt.alloc()) {
+        let line = line?;
+        take_line(&rt, &mut play, line.as_str())?;
+    }
+    Ok(())
+}
+
+/// Prints a remark again, and carries out another line but for the reason behind ` # `.
+fn take_line(rt: &HostRuntime, play: &mut Play, line: &str) -> io::Result<()> {
+    if is_remark(line) {
+        return rt.println(line);
+    }
+    match line.split_once(" # ") {
+        Some((command, _)) => play.carry_out(rt, command),
+        None => play.carry_out(rt, line),
+    }
+}
