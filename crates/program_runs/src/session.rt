@@ -21,6 +21,7 @@ pub struct Session {
 }
 
 impl Session {
+    /// No image and no files yet.
     pub fn new(alloc: Global) -> Session {
         Session {
             alloc,

@@ -1,10 +1,15 @@
 //! Tests of the steps of running transactions, by their public items alone.
 #![tactic(auto)]
 
-pub mod history;
-pub mod odd;
-pub mod others;
+#[cfg(test)]
+mod history;
+#[cfg(test)]
+mod odd;
+#[cfg(test)]
+mod others;
 #[cfg(test)]
 mod tests;
-pub mod trouble;
-pub mod whole;
+#[cfg(test)]
+mod trouble;
+#[cfg(test)]
+mod whole;

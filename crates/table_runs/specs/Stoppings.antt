@@ -12,5 +12,6 @@ stopping_sight s = record (flat_sight s.flat) { stopped = s.stopped }
 abbrev pub HasSameWords : Stopping → Stopping → Type 0
 HasSameWords s t = words_of t.flat ≡ words_of s.flat
 
+-- what is seen of it is well formed
 pub stopping_well_formed : (s : Stopping) → IsWellFormed (stopping_sight s)
 stopping_well_formed s = let fits = flat_well_formed s.flat in record { count = fits.count; writes = fits.writes; inside = fits.inside }

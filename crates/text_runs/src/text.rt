@@ -6,7 +6,10 @@ use std::alloc::{AllocError, Global};
 
 /// The numbers among these words, which stand between others that say what they count.
 pub fn numbers_among(alloc: Global, words: &[&str]) -> Result<Vec<u64>, AllocError> {
-    words.iter().filter_map(|word| number_of(word)).collect(alloc)
+    words
+        .iter()
+        .filter_map(|word| number_of(word))
+        .collect(alloc)
 }
 
 /// The bytes that these words say, joined.

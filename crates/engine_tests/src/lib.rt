@@ -1,7 +1,0 @@
-//! Tests of runs over a medium in memory.
-#![tactic(auto)]
-
-#[cfg(test)]
-mod runs;
-#[cfg(test)]
-mod world;

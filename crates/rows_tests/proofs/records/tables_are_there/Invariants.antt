@@ -1,5 +1,0 @@
-use Rattle.std.proofs.Common.{◌≡◌}
-use Rattle.rows_tests.proofs.records.tables_are_there.Given as goal
-
-abbrev pub invariant-loop-s : goal.invariant-loop-s
-invariant-loop-s g l = (g.W.Words.sight l.w).count ≡ (g.W.Words.sight l.fn.w).count

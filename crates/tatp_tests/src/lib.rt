@@ -1,5 +1,0 @@
-//! Tests of the tables' model, by its public items alone.
-#![tactic(auto)]
-
-#[cfg(test)]
-mod steps;
