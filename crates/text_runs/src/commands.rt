@@ -25,7 +25,9 @@ fn shared_words(alloc: Global, words: &[&str]) -> Result<Vec<RcStr>, Stop> {
     let mut shared = Vec::new(alloc);
     for word in words {
         let text = text_of(alloc, &[word])?;
-        let text = str::from_utf8(&text).map_err(|_| Stop::NoCommand)?;
+        let Ok(text) = str::from_utf8(&text) else {
+            return Err(Stop::NoCommand);
+        };
         shared.push(RcStr::from_str(alloc, text)?)?;
     }
     Ok(shared)
@@ -34,9 +36,8 @@ fn shared_words(alloc: Global, words: &[&str]) -> Result<Vec<RcStr>, Stop> {
 fn show_command(rt: &HostRuntime, command: Command<'_>) -> Result<(), Stop> {
     match command {
         Command::Fresh { subscribers, file } => {
-            view::word(rt, "fresh")?;
-            view::field(rt, "subscribers", subscribers)?;
-            view::word(rt, " file")?;
+            view::numbers(rt, "fresh", &[subscribers])?;
+            view::word(rt, " ")?;
             view::quoted(rt, file)?;
         }
         Command::Format {
@@ -44,7 +45,7 @@ fn show_command(rt: &HostRuntime, command: Command<'_>) -> Result<(), Stop> {
             calls,
             rings,
             cells,
-        } => show_format(rt, subscribers, calls, rings, cells)?,
+        } => view::numbers(rt, "format", &[subscribers, calls, rings, cells])?,
         Command::Run {
             frames,
             locks,
@@ -52,30 +53,11 @@ fn show_command(rt: &HostRuntime, command: Command<'_>) -> Result<(), Stop> {
         } => show_run(rt, frames, locks, files)?,
         Command::Recover => view::word(rt, "recover")?,
         Command::Dump => view::word(rt, "dump")?,
-        Command::Drive { seed, count, files } => show_drive(rt, seed, count, files)?,
+        Command::Drive { seed, count, files } => {
+            view::numbers(rt, "drive", &[seed, count, files])?
+        }
     }
-    view::line(rt, "")
-}
-
-fn show_format(
-    rt: &HostRuntime,
-    subscribers: u64,
-    calls: u64,
-    rings: u64,
-    cells: u64,
-) -> Result<(), Stop> {
-    view::word(rt, "format")?;
-    view::field(rt, "subscribers", subscribers)?;
-    view::field(rt, "calls", calls)?;
-    view::field(rt, "rings", rings)?;
-    view::field(rt, "cells", cells)
-}
-
-fn show_drive(rt: &HostRuntime, seed: u64, count: u64, files: u64) -> Result<(), Stop> {
-    view::word(rt, "drive")?;
-    view::field(rt, "seed", seed)?;
-    view::field(rt, "count", count)?;
-    view::field(rt, "files", files)
+    view::word(rt, "\n")
 }
 
 fn show_run(
@@ -85,15 +67,20 @@ fn show_run(
     files: &[RcStr],
 ) -> Result<(), Stop> {
     view::word(rt, "run")?;
-    if let Some(frames) = frames {
-        view::field(rt, "frames", frames)?;
-    }
-    if let Some(locks) = locks {
-        view::field(rt, "locks", locks)?;
-    }
+    show_option(rt, " frames", frames)?;
+    show_option(rt, " locks", locks)?;
     view::word(rt, " files")?;
     for file in files {
+        view::word(rt, " ")?;
         view::quoted(rt, file.as_str())?;
     }
     Ok(())
+}
+
+/// An option of `run`, where it is given.
+fn show_option(rt: &HostRuntime, label: &str, option: Option<u64>) -> Result<(), Stop> {
+    match option {
+        Some(number) => view::numbers(rt, label, &[number]),
+        None => Ok(()),
+    }
 }

@@ -18,6 +18,13 @@ pub fn fault(rt: &HostRuntime, words: &[&str]) -> Result<(), Stop> {
     view::text(rt, &out)
 }
 
+/// Prints a fault in place of what was to be printed.
+pub fn show_fault(rt: &HostRuntime, fault: &Fault) -> Result<(), Stop> {
+    view::word(rt, "fault ")?;
+    rt.print(*fault)?;
+    view::word(rt, "\n")
+}
+
 /// The fault of this name, with what it tells.
 fn fault_of(name: &str, numbers: &[u64]) -> Option<Fault> {
     match numbers {

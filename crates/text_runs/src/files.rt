@@ -1,5 +1,6 @@
 //! The files of a command, read by their names.
 
+use crate::faults::show_fault;
 use crate::requests::show_requests;
 use crate::stop::Stop;
 use crate::text::{numbers_among, text_of};
@@ -50,8 +51,8 @@ fn world_of(alloc: Global, files: &[MemFile], fail: Vec<u64>) -> Result<MemFiles
     let mut copies = Vec::new(alloc);
     for file in files {
         copies.push(MemFile {
-            name: file.name.clone()?,
-            bytes: file.bytes.clone()?,
+            name: String::from_str(alloc, file.name.as_str())?,
+            bytes: file.bytes.to_vec(alloc)?,
         })?;
     }
     Ok(MemFiles::new(copies, MOST, fail)?)
@@ -66,7 +67,7 @@ fn show_lists(rt: &HostRuntime, lists: Result<Vec<Vec<Request>>, Fault>) -> Resu
                 show_requests(rt, requests)?;
             }
         }
-        Err(fault) => println!(rt; "fault {fault}")?,
+        Err(fault) => show_fault(rt, &fault)?,
     }
     Ok(())
 }

@@ -1,5 +1,6 @@
 //! The lines of replies and of summaries, and what a sink gets of output.
 
+use crate::faults::show_fault;
 use crate::stop::Stop;
 use crate::text::{numbers_among, text_of};
 use crate::view;
@@ -71,7 +72,7 @@ pub fn piece(rt: &HostRuntime, sink: &mut MemSink, words: &[&str]) -> Result<(),
 fn show_printed(rt: &HostRuntime, printed: Result<(), Fault>, bytes: &[u8]) -> Result<(), Stop> {
     match printed {
         Ok(()) => view::line(rt, "whole")?,
-        Err(fault) => println!(rt; "fault {fault}")?,
+        Err(fault) => show_fault(rt, &fault)?,
     }
     view::text(rt, bytes)
 }

@@ -17,7 +17,8 @@ pub const FIRST_ROW: SubRow = SubRow {
     vlr: 1_000_001,
 };
 
-const fn access(ai_type: u64, data1: u8, data2: u8, data3: [u8; 3], data4: [u8; 5]) -> AccessRow
+/// An access row of subscriber 1.
+pub const fn access(ai_type: u64, data1: u8, data2: u8, data3: [u8; 3], data4: [u8; 5]) -> AccessRow
     ensures { result ≡ record { s_id = 1; ai_type = ai_type; info = record { data1 = data1; data2 = data2; data3 = data3; data4 = data4 } } }
 {
     AccessRow {

@@ -63,41 +63,31 @@ pub fn show_requests(rt: &HostRuntime, requests: &[Request]) -> Result<(), Stop>
 fn show_fault(rt: &HostRuntime, fault: TextFault) -> Result<(), Stop> {
     match fault {
         TextFault::Bad { row, field } => {
-            view::word(rt, "bad")?;
-            view::field(rt, "record", row)?;
-            view::field(rt, "field", field)?;
-            view::line(rt, "")
+            view::numbers(rt, "bad record", &[row])?;
+            view::numbers(rt, " field", &[field])?;
+            view::word(rt, "\n")
         }
         TextFault::NoMemory => Err(Stop::NoMemory),
     }
 }
 
-/// The name of a request's record, and the request's fields with their names.
+/// The name of a request's record, and the numbers of its fields.
 fn show_request(rt: &HostRuntime, request: &Request) -> Result<(), Stop> {
     match *request {
-        Request::GetSubscriber { s_id } => {
-            show_fields(rt, "GET_SUBSCRIBER_DATA", &[("s_id", s_id)])
-        }
+        Request::GetSubscriber { s_id } => view::numbers(rt, "GET_SUBSCRIBER_DATA", &[s_id]),
         Request::GetDestination {
             s_id,
             sf_type,
             start_time,
             end_time,
-        } => show_fields(
+        } => view::numbers(
             rt,
             "GET_NEW_DESTINATION",
-            &[
-                ("s_id", s_id),
-                ("sf_type", sf_type),
-                ("start_time", start_time),
-                ("end_time", end_time),
-            ],
+            &[s_id, sf_type, start_time, end_time],
         ),
-        Request::GetAccess { s_id, ai_type } => show_fields(
-            rt,
-            "GET_ACCESS_DATA",
-            &[("s_id", s_id), ("ai_type", ai_type)],
-        ),
+        Request::GetAccess { s_id, ai_type } => {
+            view::numbers(rt, "GET_ACCESS_DATA", &[s_id, ai_type])
+        }
         Request::Sync => view::word(rt, "SYNC"),
         _ => show_change(rt, request),
     }
@@ -111,59 +101,34 @@ fn show_change(rt: &HostRuntime, request: &Request) -> Result<(), Stop> {
             bit_1,
             sf_type,
             data_a,
-        } => show_fields(
+        } => view::numbers(
             rt,
             "UPDATE_SUBSCRIBER_DATA",
-            &[
-                ("s_id", s_id),
-                ("bit_1", bit_1),
-                ("sf_type", sf_type),
-                ("data_a", data_a),
-            ],
+            &[s_id, bit_1, sf_type, data_a],
         ),
-        Request::UpdateLocation { sub_nbr, vlr } => show_fields(
-            rt,
-            "UPDATE_LOCATION",
-            &[("sub_nbr", sub_nbr), ("vlr", vlr)],
-        ),
+        Request::UpdateLocation { sub_nbr, vlr } => {
+            view::numbers(rt, "UPDATE_LOCATION", &[sub_nbr, vlr])
+        }
         Request::InsertCall {
             sub_nbr,
             sf_type,
             start_time,
             end_time,
             numberx,
-        } => show_fields(
+        } => view::numbers(
             rt,
             "INSERT_CALL_FORWARDING",
-            &[
-                ("sub_nbr", sub_nbr),
-                ("sf_type", sf_type),
-                ("start_time", start_time),
-                ("end_time", end_time),
-                ("numberx", numberx),
-            ],
+            &[sub_nbr, sf_type, start_time, end_time, numberx],
         ),
         Request::DeleteCall {
             sub_nbr,
             sf_type,
             start_time,
-        } => show_fields(
+        } => view::numbers(
             rt,
             "DELETE_CALL_FORWARDING",
-            &[
-                ("sub_nbr", sub_nbr),
-                ("sf_type", sf_type),
-                ("start_time", start_time),
-            ],
+            &[sub_nbr, sf_type, start_time],
         ),
         _ => Err(Stop::NoCommand),
     }
-}
-
-fn show_fields(rt: &HostRuntime, name: &str, fields: &[(&str, u64)]) -> Result<(), Stop> {
-    view::word(rt, name)?;
-    for (label, number) in fields {
-        view::field(rt, label, *number)?;
-    }
-    Ok(())
 }

@@ -80,7 +80,9 @@ fn done_of(alloc: Global, words: &[&str]) -> Result<Done, Stop> {
     };
     let number = number_of(number).ok_or(Stop::NoCommand)?;
     let text = text_of(alloc, &[record])?;
-    let requests = read_requests(alloc, &text).map_err(|_| Stop::NoCommand)?;
+    let Ok(requests) = read_requests(alloc, &text) else {
+        return Err(Stop::NoCommand);
+    };
     let request = requests.first().ok_or(Stop::NoCommand)?;
     Ok(Done {
         file: 0,

@@ -1,15 +1,20 @@
 //! Texts and numbers of a script.
 
+ghost use Rattle.std.specs.Prelude.{◌<◌, IfSome};
+
 use crate::stop::Stop;
 use script_words::number_of;
 use std::alloc::{AllocError, Global};
 
 /// The numbers among these words, which stand between others that say what they count.
 pub fn numbers_among(alloc: Global, words: &[&str]) -> Result<Vec<u64>, AllocError> {
-    words
-        .iter()
-        .filter_map(|word| number_of(word))
-        .collect(alloc)
+    let mut numbers = Vec::new(alloc);
+    for word in words {
+        if let Some(number) = number_of(word) {
+            numbers.push(number)?;
+        }
+    }
+    Ok(numbers)
 }
 
 /// The bytes that these words say, joined.
@@ -26,10 +31,10 @@ pub fn text_of(alloc: Global, words: &[&str]) -> Result<Vec<u8>, Stop> {
 fn piece_of(alloc: Global, word: &str) -> Result<Vec<u8>, Stop> {
     match repeated(word) {
         Some((times, piece)) => {
-            let piece = unquoted(alloc, piece)?;
+            let piece = unquoted(alloc, piece.as_bytes())?;
             Ok(piece.repeat(alloc, times as usize)?)
         }
-        None => unquoted(alloc, word),
+        None => unquoted(alloc, word.as_bytes()),
     }
 }
 
@@ -40,35 +45,43 @@ fn repeated(word: &str) -> Option<(u64, &str)> {
 }
 
 /// The bytes of a word, without the quotes round it.
-fn unquoted(alloc: Global, word: &str) -> Result<Vec<u8>, Stop> {
-    let inner = match word.strip_prefix('"') {
-        Some(rest) => rest.strip_suffix('"').ok_or(Stop::NoCommand)?,
-        None => word,
+fn unquoted(alloc: Global, word: &[u8]) -> Result<Vec<u8>, Stop> {
+    let inner = match word {
+        [b'"', inner @ .., b'"'] => inner,
+        [b'"', ..] => return Err(Stop::NoCommand),
+        bare => bare,
     };
     let mut text = Vec::new(alloc);
-    for (index, part) in inner.split('\\').enumerate() {
+    for (index, part) in inner.split(|byte| *byte == b'\\').enumerate() {
         if index == 0 {
-            text.extend_from_slice(part.as_bytes())?;
+            text.extend_from_slice(part)?;
         } else {
             let (byte, rest) = escaped(part).ok_or(Stop::NoCommand)?;
             text.push(byte)?;
-            text.extend_from_slice(rest.as_bytes())?;
+            text.extend_from_slice(rest)?;
         }
     }
     Ok(text)
 }
 
 /// The byte that is meant behind a backslash, and the rest.
-fn escaped(part: &str) -> Option<(u8, &str)> {
-    if let Some(hex) = part.strip_prefix('x') {
-        let byte = u8::from_str_radix(hex.get(..2)?, 16).ok()?;
-        return Some((byte, hex.get(2..)?));
+fn escaped(part: &[u8]) -> Option<(u8, &[u8])> {
+    match part {
+        [b'n', rest @ ..] => Some((b'\n', rest)),
+        [b'r', rest @ ..] => Some((b'\r', rest)),
+        [b'"', rest @ ..] => Some((b'"', rest)),
+        [b'x', high, low, rest @ ..] => Some((16 * digit_of(*high)? + digit_of(*low)?, rest)),
+        _ => None,
     }
-    let (byte, rest) = part.split_at_checked(1)?;
-    match byte {
-        "n" => Some((b'\n', rest)),
-        "r" => Some((b'\r', rest)),
-        "\"" => Some((b'"', rest)),
+}
+
+/// The value of a digit of base sixteen.
+fn digit_of(letter: u8) -> Option<u8>
+    ensures { IfSome result (λ digit. digit < 16) }
+{
+    match letter {
+        b'0'..=b'9' => Some(letter - b'0'),
+        b'a'..=b'f' => Some(letter - b'a' + 10),
         _ => None,
     }
 }
