@@ -11,7 +11,6 @@ mod play;
 mod stage;
 mod steps;
 mod words;
-mod world;
 
 use play::Play;
 use script_words::is_remark;

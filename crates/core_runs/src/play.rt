@@ -5,14 +5,16 @@ use crate::pages::Pages;
 use crate::stage::Stage;
 use crate::steps::{ask_view, print_all_entries, print_frame};
 use crate::words::word_of;
-use crate::world::World;
-use script_words::{number_of, words_of};
+use dude_base::sizes::Sizes;
+use script_words::{number_of, numbers_of, words_of};
+use std::alloc::{AllocError, Global};
 use std::io;
 
 /// What a script has set up.
 #[derive(Drop)]
 pub struct Play {
-    world: World,
+    sizes: Option<Sizes>,
+    first_word: u64,
     stage: Option<Stage>,
     pages: Option<Pages>,
 }
@@ -21,7 +23,8 @@ impl Play {
     /// Nothing is set up.
     pub fn new() -> Self {
         Play {
-            world: World::new(),
+            sizes: None,
+            first_word: 0,
             stage: None,
             pages: None,
         }
@@ -46,7 +49,16 @@ impl Play {
 
     fn carry_out_words(&mut self, rt: &HostRuntime, words: &[&str]) -> io::Result<()> {
         match words {
-            ["world", numbers @ ..] => self.set_up(rt, numbers),
+            [
+                "database",
+                "subscribers",
+                subscribers,
+                "calls",
+                calls,
+                "words",
+                word,
+            ] => { self.set_database(rt, [*subscribers, *calls, *word]) }
+            ["machine", numbers @ ..] => self.set_machine(rt, numbers),
             ["map", "pages", pages, "frames", frames] => self.set_up_map(rt, *pages, *frames),
             ["map", words @ ..] => match &mut self.pages {
                 Some(map) => map.carry_out(rt, words),
@@ -59,19 +71,32 @@ impl Play {
         }
     }
 
-    /// Sets a machine up with the last world, but for these numbers.
-    fn set_up(&mut self, rt: &HostRuntime, numbers: &[&str]) -> io::Result<()> {
-        if !self.world.take(numbers) {
+    /// Takes the sizes of a database and its first word, and prints how many pages it has.
+    fn set_database(&mut self, rt: &HostRuntime, words: [&str; 3]) -> io::Result<()> {
+        let numbers = (
+            number_of(words[0]),
+            number_of(words[1]),
+            number_of(words[2]),
+        );
+        let (Some(subscribers), Some(calls), Some(first_word)) = numbers else {
             return print_no_command(rt);
-        }
+        };
+        self.first_word = first_word;
+        self.sizes = Sizes::of(subscribers, calls, 1, 16).ok();
+        print_maybe(rt, "pages", self.sizes.map(|sizes| sizes.pages))
+    }
+
+    /// Sets a machine up over the last database.
+    fn set_machine(&mut self, rt: &HostRuntime, words: &[&str]) -> io::Result<()> {
+        let (Some(sizes), Some(numbers)) = (self.sizes, machine_numbers(rt.alloc(), words)?) else {
+            return print_no_command(rt);
+        };
         self.stage = None;
-        match Stage::open(rt.alloc(), &self.world) {
-            Ok(Some(stage)) => {
-                let pages = stage.pages;
-                self.stage = Some(stage);
-                println!(rt; "{pages} pages")
+        match Stage::open(rt.alloc(), sizes, self.first_word, numbers.as_slice()) {
+            Ok(stage) => {
+                self.stage = stage;
+                print_set_up(rt, self.stage.is_some())
             }
-            Ok(None) => rt.println("no such sizes"),
             Err(fault) => println!(rt; "{fault}"),
         }
     }
@@ -81,12 +106,31 @@ impl Play {
             return print_no_command(rt);
         };
         self.pages = Pages::new(rt.alloc(), pages, frames)?;
-        rt.println(if self.pages.is_some() {
-            "set up"
-        } else {
-            "no such map"
-        })
+        print_set_up(rt, self.pages.is_some())
     }
+}
+
+/// How many threads, frames, locks and boxes a machine has, and its number at the start.
+fn machine_numbers(alloc: Global, words: &[&str]) -> Result<Option<Vec<u64>>, AllocError> {
+    match words {
+        [
+            "threads",
+            threads,
+            "frames",
+            frames,
+            "locks",
+            locks,
+            "boxes",
+            boxes,
+            "number",
+            number,
+        ] => { numbers_of(alloc, &[*threads, *frames, *locks, *boxes, *number]) }
+        _ => Ok(None),
+    }
+}
+
+fn print_set_up(rt: &HostRuntime, is_set_up: bool) -> io::Result<()> {
+    rt.println(if is_set_up { "set up" } else { "not set up" })
 }
 
 fn ask_stage(rt: &HostRuntime, stage: &Stage, words: &[&str]) -> io::Result<()> {

@@ -3,81 +3,75 @@
 ghost use Rattle.std.specs.Prelude.{◌≡◌, IsTrue, length};
 ghost use Rattle.dude_core.specs.CoreWords.{HasWord};
 
-use crate::world::World;
 use dude_base::limits::{MAX_NUMBER, PAGE};
 use dude_base::run::Run;
 use dude_base::sizes::Sizes;
 use dude_core::{Core, CoreFault, CoreRefusal, CoreWord, Event, core_step};
 use std::alloc::Global;
 
-/// What became of an event.
-#[derive(Clone, Copy, PartialEq, Eq)]
-pub enum Outcome {
-    Allowed,
-    Off,
-    NoMemory,
-    NoEvent,
-}
-
-impl Outcome {
-    /// Its word.
-    pub fn word(&self) -> &'static str {
-        match self {
-            Outcome::Allowed => "allowed",
-            Outcome::Off => "off",
-            Outcome::NoMemory => "no memory",
-            Outcome::NoEvent => "no command",
-        }
-    }
-}
-
 /// A machine, and what it was set up with.
 #[derive(Drop)]
 pub struct Stage {
     pub alloc: Global,
     pub core: Core,
-    pub world: World,
-    pub pages: u64,
-    ghost threads: { core.setup.threads ≡ world.threads },
-    ghost locks: { core.setup.locks ≡ world.locks },
-    ghost home: { core.setup.pages ≡ pages },
-    ghost frames: { core.setup.frames ≡ world.frames },
-    ghost boxes: { core.setup.boxes ≡ world.boxes },
+    sizes: Sizes,
+    first_word: u64,
+    threads: u64,
+    run: Run,
+    ghost home: { core.setup.pages ≡ sizes.pages },
+    ghost seats: { core.setup.threads ≡ threads },
+    ghost frames: { core.setup.frames ≡ run.frames },
+    ghost locks: { core.setup.locks ≡ run.locks },
+    ghost boxes: { core.setup.boxes ≡ run.boxes },
 }
 
 impl Stage {
-    /// The machine at its start; `None` where there are no such sizes, or larger ones than a script's.
-    pub fn open(alloc: Global, world: &World) -> Result<Option<Stage>, CoreFault> {
-        let Ok(sizes) = Sizes::of(world.subscribers, world.calls, 1, 16) else {
+    /// The machine at its start over a database whose words are numbers from the first one on; `None` where the sizes or the
+    /// numbers (threads, frames, locks, boxes, and the number at the start) are none of a script.
+    pub fn open(
+        alloc: Global,
+        sizes: Sizes,
+        first_word: u64,
+        numbers: &[u64],
+    ) -> Result<Option<Stage>, CoreFault> {
+        let [threads, frames, locks, boxes, number] = numbers else {
             return Ok(None);
         };
-        if sizes.pages > 1_000 || world.number > MAX_NUMBER {
+        let (threads, number) = (*threads, *number);
+        if sizes.check().is_err() || sizes.pages > 1_000 || number > MAX_NUMBER {
             return Ok(None);
         }
         let mut words = vec![in alloc; 0; (sizes.pages * PAGE) as usize]?;
-        put_opening(world, &mut words);
+        put_opening(first_word, &mut words);
         let run = Run {
-            frames: world.frames,
-            locks: world.locks,
-            boxes: world.boxes,
+            frames: *frames,
+            locks: *locks,
+            boxes: *boxes,
         };
-        match Core::new(alloc, words, &sizes, &run, world.threads, world.number) {
+        match Core::new(alloc, words, &sizes, &run, threads, number) {
             Ok(core) => Ok(Some(Stage {
                 alloc,
                 core,
-                world: *world,
-                pages: sizes.pages,
+                sizes,
+                first_word,
+                threads,
+                run,
             })),
             Err(fault) => Err(fault),
         }
     }
 
-    /// Makes the event by this view.
-    pub fn make(&mut self, who: u64, event: &Event) -> Outcome {
+    /// The home word at the start.
+    pub fn opening_word(&self, at: u64) -> u64 {
+        self.first_word.saturating_add(at)
+    }
+
+    /// Makes the event by this view, and says in a word whether it is allowed.
+    pub fn make(&mut self, who: u64, event: &Event) -> &'static str {
         match core_step(self.alloc, &mut self.core, who, event) {
-            Ok(()) => Outcome::Allowed,
-            Err(CoreRefusal::Off) => Outcome::Off,
-            Err(CoreRefusal::NoMemory) => Outcome::NoMemory,
+            Ok(()) => "allowed",
+            Err(CoreRefusal::Off) => "off",
+            Err(CoreRefusal::NoMemory) => "no memory",
         }
     }
 
@@ -94,12 +88,12 @@ impl Stage {
         ensures { IsTrue result → HasWord self.now.core.setup word }
     {
         match word {
-            CoreWord::Lock(lock) => lock < self.world.locks,
-            CoreWord::Entry(page) => page < self.pages,
-            CoreWord::Touch(page) => page < self.pages,
-            CoreWord::FrameWord(at) => at / PAGE < self.world.frames,
+            CoreWord::Lock(lock) => lock < self.run.locks,
+            CoreWord::Entry(page) => page < self.sizes.pages,
+            CoreWord::Touch(page) => page < self.sizes.pages,
+            CoreWord::FrameWord(at) => at / PAGE < self.run.frames,
             CoreWord::BoxWord { thread, place } => {
-                thread < self.world.threads && place < self.world.boxes
+                thread < self.threads && place < self.run.boxes
             }
             _ => true,
         }
@@ -111,10 +105,10 @@ pub fn place_in(page: u64, offset: u64) -> u64 {
     page.saturating_mul(PAGE).saturating_add(offset)
 }
 
-fn put_opening(world: &World, words: &mut [u64])
+fn put_opening(first_word: u64, words: &mut [u64])
     ensures { length words.new ≡ length words.old }
 {
     for (at, word) in words.iter_mut().enumerate() {
-        *word = world.opening_word(at as u64);
+        *word = first_word.saturating_add(at as u64);
     }
 }

@@ -4,7 +4,7 @@ use crate::entries::print_entries;
 use crate::events::event_of;
 use crate::facts::print_fact;
 use crate::output::{print_no_command, print_pair};
-use crate::stage::{Outcome, Stage, place_in};
+use crate::stage::{Stage, place_in};
 use dude_base::limits::PAGE;
 use dude_core::{CoreWord, Event};
 use script_words::{number_of, words_of};
@@ -24,8 +24,8 @@ pub fn ask_view(rt: &HostRuntime, stage: &mut Stage, head: &[&str], rest: &str) 
         return print_no_command(rt);
     };
     match verb {
-        "makes" => make_each(rt, stage, who, rest, Outcome::Allowed),
-        "off" => make_each(rt, stage, who, rest, Outcome::Off),
+        "makes" => make_each(rt, stage, who, rest, "allowed"),
+        "off" => make_each(rt, stage, who, rest, "off"),
         "fills" => fill(rt, stage, who, rest),
         "shows" => match stage.core.view(who) {
             Some(view) => print_fact(rt, view, rest),
@@ -41,26 +41,24 @@ fn make_each(
     stage: &mut Stage,
     who: u64,
     events: &str,
-    wanted: Outcome,
+    wanted: &str,
 ) -> io::Result<()> {
     let mut count = 0_u64;
     for event in events.split("; ") {
-        let outcome = make(rt, stage, who, event)?;
-        let word = outcome.word();
-        if outcome != wanted {
+        let word = make(rt, stage, who, event)?;
+        if word != wanted {
             return println!(rt; "{word}: {event}");
         }
         count = count.saturating_add(1);
     }
-    let word = wanted.word();
-    println!(rt; "{count} {word}")
+    println!(rt; "{count} {wanted}")
 }
 
-fn make(rt: &HostRuntime, stage: &mut Stage, who: u64, event: &str) -> io::Result<Outcome> {
+fn make(rt: &HostRuntime, stage: &mut Stage, who: u64, event: &str) -> io::Result<&'static str> {
     let words = words_of(rt.alloc(), event)?;
     match event_of(words.as_slice()) {
         Some(event) => Ok(stage.make(who, &event)),
-        None => Ok(Outcome::NoEvent),
+        None => Ok("no command"),
     }
 }
 
@@ -93,16 +91,13 @@ fn fill_range(
             page: place.0,
             frame: place.1,
             at,
-            value: stage.world.opening_word(at),
+            value: stage.opening_word(at),
         };
-        let word = match stage.make(who, &event) {
-            Outcome::Allowed => {
-                count = count.saturating_add(1);
-                continue;
-            }
-            other => other.word(),
-        };
-        return println!(rt; "{word}: word {at}");
+        let word = stage.make(who, &event);
+        if word != "allowed" {
+            return println!(rt; "{word}: word {at}");
+        }
+        count = count.saturating_add(1);
     }
     println!(rt; "{count} allowed")
 }
@@ -114,7 +109,7 @@ pub fn print_frame(rt: &HostRuntime, stage: &Stage, frame: u64, page: u64) -> io
     for offset in 0..PAGE {
         let at = place_in(page, offset);
         let found = stage.found(CoreWord::FrameWord(place_in(frame, offset)));
-        if found != Some(stage.world.opening_word(at)) {
+        if found != Some(stage.opening_word(at)) {
             rt.print(comma)?;
             print_pair(rt, at, found.unwrap_or(0))?;
             comma = "";
