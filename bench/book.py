@@ -22,7 +22,7 @@ TOWERS = [
     ("Images", ["image_format image_opening dude_recover", "image_recovery", "image_replay"]),
     ("Log", ["back_store", "backlog", "log_ring", "redo_record group_combine"]),
     ("Home", ["request_service", "tatp_core tatp_read tatp_check tatp_population tatp_rows", "tatp_layout row_content", "table_check hash_table", "record_heap", "word_space"]),
-    ("Texts", ["tatp_text", "request_reader table_dump load_mix load_summary", "reply_text request_text", "number_text"]),
+    ("Texts", ["request_reader", "tatp_text"]),
     ("Base", ["dude_io", "file_pmem", "dude_base tatp_model pmem_trait"]),
     ("Threads", ["tiny_stm", "core_table shadow_pages", "dude_core", "core_state state_lists", "core_conditions core_words core_turns core_moves", "core_view core_lists core_setup", "core_events"]),
 ]

@@ -4,7 +4,7 @@ use Rattle.std.specs.Prelude.{Result, Ok, Err, if◌then◌else◌, nat_lt}
 use Rattle.std.proofs.lemmas.Bool.Decides.{nat_tests}
 use Rattle.csv.specs.Reading.{default_config, records, strip_bom}
 use Rattle.tatp_model.specs.declared.request.Request.{Request}
-use Rattle.request_text.specs.Record.{request_of}
+use Rattle.tatp_text.specs.RequestRecord.{request_of}
 use Rattle.request_reader.specs.RequestFile.{Place, requests_from, requests_of, with_first}
 
 same_lists : (a b : List Request) → ◌≡◌ {A = Result (List Request) Place} (Ok a) (Ok b) → a ≡ b

@@ -8,9 +8,9 @@ ghost use Rattle.command_files.specs.Texts.{HoldsRequests, IsTextFault, IsFirstT
 use dude_fault::Fault;
 use dude_io::FileText;
 use request_reader::read_requests;
-use request_text::TextFault;
 use std::alloc::Global;
 use tatp_model::Request;
+use tatp_text::TextFault;
 
 /// The requests of the text of the file of this number.
 fn parse_text(alloc: Global, text: &FileText, number: u64) -> Result<Vec<Request>, Fault>

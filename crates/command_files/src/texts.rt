@@ -8,9 +8,9 @@ ghost use Rattle.command_files.specs.Texts.{IsTextOf};
 
 use dude_fault::Fault;
 use dude_io::{FileFault, FileText, Files, read_file};
-use request_text::MAX_BYTES;
 use std::alloc::Global;
 use std::convert::AsStr;
+use tatp_text::MAX_BYTES;
 
 /// The texts of the files of these names. The first file that can't be read ends it.
 pub fn read_texts<F: Files, S: AsStr>(

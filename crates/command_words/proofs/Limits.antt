@@ -7,7 +7,7 @@ use Rattle.std.specs.Rc.{rc_str_bytes}
 use Rattle.std.proofs.lemmas.Bool.Decides.{nat_tests}
 use Rattle.std.proofs.lemmas.Grind.{common_steps}
 use Rattle.std.proofs.lemmas.List.{length-map}
-use Rattle.number_text.specs.Number.{is_decimal}
+use Rattle.tatp_text.specs.Number.{is_decimal}
 use Rattle.command_words.specs.declared.command.Command.{Command}
 use Rattle.command_words.specs.declared.command.Command.TheVariants as command
 use Rattle.command_words.specs.Command.{Meaning, FreshRun, FormatImage, RunFiles, RecoverImage, DumpTables, DriveLoad, IsBetween, IsInLimits, alone, are_file_names, drive_of, drive_with, format_of, format_with, fresh_of, is_file_name, meaning_of_command, optional_number, run_of, run_with, run_words, word_number}

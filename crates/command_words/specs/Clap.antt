@@ -9,7 +9,7 @@ use Rattle.clap.specs.Lexer.{usize_max}
 use Rattle.clap.specs.Words.{fault_of, found_of, matches_of, rows_of}
 use Rattle.clap.specs.declared.builder.value_parser.ValueParser.TheVariants as vp
 use Rattle.clap.specs.declared.parser.matches.ArgMatches.{ArgMatches}
-use Rattle.number_text.specs.Number.{is_decimal}
+use Rattle.tatp_text.specs.Number.{is_decimal}
 use Rattle.command_words.specs.Command.{Meaning, FreshRun, RunFiles, RunWords, are_file_names, drive_with, format_with, is_file_name}
 
 -- ---- the arguments

@@ -9,7 +9,7 @@ use Rattle.pmem_trait.proofs.Runs.{risen_later}
 use Rattle.tatp_model.specs.declared.done.Done.{Done}
 use Rattle.dude_fault.specs.declared.fault.Fault.{Fault}
 use Rattle.dude_fault.specs.declared.fault.Fault.TheVariants.{Output}
-use Rattle.reply_text.specs.Output.{output_line, last_line, output_of}
+use Rattle.tatp_text.specs.Output.{output_line, last_line, output_of}
 use Rattle.dude_io.specs.Sink.{SinkSight, Took, TookPart}
 use Rattle.dude_io.proofs.WriteLaws.{took_none, took-then}
 use Rattle.dude_output.specs.Printing.{Collects, StopsIn}

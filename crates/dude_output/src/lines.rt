@@ -1,16 +1,16 @@
 //! The lines of the requests done and of the last number, handed to a sink in pieces.
 
 ghost use Rattle.std.specs.Prelude.{◌≡◌, ◌++◌, [], OnOk, IfErr};
-ghost use Rattle.reply_text.specs.Output.{output_line, last_line, output_of};
+ghost use Rattle.tatp_text.specs.Output.{output_line, last_line, output_of};
 ghost use Rattle.dude_io.specs.Sink.{Took};
 ghost use Rattle.dude_output.specs.Printing.{Collects, StopsIn};
 
 use crate::text::print_text;
 use dude_fault::Fault;
 use dude_io::Sink;
-use reply_text::{write_done, write_last};
 use std::alloc::Global;
 use tatp_model::Done;
+use tatp_text::{write_done, write_last};
 
 /// How many bytes are held back before the sink gets them.
 const PIECE: usize = 65_536;

@@ -6,10 +6,10 @@ use Rattle.dude_base.specs.Sizes.{sizes_for}
 use Rattle.pmem_trait.specs.Sights.{Sight}
 use Rattle.tatp_model.specs.declared.done.Done.{Done}
 use Rattle.tatp_model.specs.declared.request.Request.{Request}
-use Rattle.reply_text.specs.Output.{output_of, last_line}
-use Rattle.table_dump.specs.Dump.{dump_text}
-use Rattle.load_mix.specs.Load.{mixed}
-use Rattle.load_summary.specs.Summary.{summary_of}
+use Rattle.tatp_text.specs.Output.{output_of, last_line}
+use Rattle.tatp_text.specs.Dump.{dump_text}
+use Rattle.tatp_text.specs.Load.{mixed}
+use Rattle.tatp_text.specs.Summary.{summary_of}
 use Rattle.dude_io.specs.Files.{FilesSight}
 use Rattle.command_words.specs.Command.{Meaning, Meaning.FreshRun, Meaning.FormatImage, Meaning.RunFiles, Meaning.RecoverImage, Meaning.DumpTables, Meaning.DriveLoad}
 use Rattle.command_files.specs.Files.{OfFile}

@@ -11,10 +11,10 @@ ghost use Rattle.dude_program.specs.Work.{RefusesLoad};
 use crate::checks::{check_numbers, check_rings};
 use dude_fault::Fault;
 use image_opening::Opened;
-use load_mix::mix;
 use pmem_trait::Medium;
 use std::alloc::{AllocError, Global};
 use tatp_model::Request;
+use tatp_text::mix;
 
 /// A load: its seed, how many random requests each file has, and how many files there are.
 #[derive(Clone, Copy)]

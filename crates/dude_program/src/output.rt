@@ -3,9 +3,9 @@
 ghost use Rattle.std.specs.Prelude.{◌≡◌, None};
 ghost use Rattle.tatp_layout.specs.StandsFor.{StandsFor};
 ghost use Rattle.tatp_model.specs.Database.{Database, IsInOrder, database_of};
-ghost use Rattle.reply_text.specs.Output.{output_of};
-ghost use Rattle.table_dump.specs.Dump.{dump_text};
-ghost use Rattle.load_summary.specs.Summary.{summary_of};
+ghost use Rattle.tatp_text.specs.Output.{output_of};
+ghost use Rattle.tatp_text.specs.Dump.{dump_text};
+ghost use Rattle.tatp_text.specs.Summary.{summary_of};
 ghost use Rattle.image_opening.specs.Opened.{IsOpened};
 ghost use Rattle.dude_fault.specs.Fault.{status_of};
 ghost use Rattle.dude_program.specs.Work.{PrintsText};
@@ -16,12 +16,11 @@ use dude_fault::Fault;
 use dude_io::Sink;
 use dude_output::{print_lines, print_text};
 use image_opening::Opened;
-use load_summary::write_summary;
 use pmem_trait::Medium;
 use std::alloc::Global;
-use table_dump::write_dump;
 use tatp_check::tables_of;
 use tatp_model::{Done, Tables};
+use tatp_text::{write_dump, write_summary};
 
 /// Prints a line for each request done and the last number, unless a fault came before.
 pub fn end_with_lines<M, K: Sink>(alloc: Global, worked: Worked<M>, out: &mut K) -> Ended<M>

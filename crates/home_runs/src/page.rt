@@ -1,9 +1,8 @@
 //! What is printed, line by line.
 
-use number_text::push_number;
-use reply_text::write_done;
 use std::alloc::Global;
 use tatp_model::Done;
+use tatp_text::{push_number, write_done};
 
 /// The least word that prints in base sixteen: most words from it on pack several fields.
 const PACKED: u64 = 65_536;

@@ -2,3 +2,5 @@ pub mod Fields
 pub mod Left
 pub mod Requests
 pub mod Ranges
+pub mod Lines
+pub mod RoundTrip

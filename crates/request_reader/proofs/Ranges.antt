@@ -5,8 +5,8 @@ use Rattle.std.proofs.lemmas.List.Elements.{All-cons, All-nil}
 use Rattle.csv.specs.Reading.{default_config, records, strip_bom}
 use Rattle.tatp_model.specs.Request.{IsInRange}
 use Rattle.tatp_model.specs.declared.request.Request.{Request}
-use Rattle.request_text.specs.Record.{request_of}
-use Rattle.request_text.proofs.Ranges.{request_of-ranges}
+use Rattle.tatp_text.specs.RequestRecord.{request_of}
+use Rattle.tatp_text.proofs.RecordRanges.{request_of-ranges}
 use Rattle.request_reader.specs.RequestFile.{Place, requests_from, requests_of, with_first}
 
 list-inj : (a b : List Request) → ◌≡◌ {A = Result (List Request) Place} (Ok a) (Ok b) → a ≡ b

@@ -5,7 +5,7 @@ use Rattle.std.proofs.lemmas.Bool.Decides.{nat_tests}
 use Rattle.std.proofs.lemmas.Grind.{common_steps}
 use Rattle.std.specs.Prelude.{Result, Ok, Err, nat_lt}
 use Rattle.tatp_model.specs.declared.request.Request.{Request}
-use Rattle.request_text.specs.Record.{request_of}
+use Rattle.tatp_text.specs.RequestRecord.{request_of}
 use Rattle.request_reader.specs.RequestFile.{Place, with_first, requests_from}
 
 -- these requests before the others, unless one of those is bad

@@ -2,9 +2,9 @@
 use Rattle.std.specs.Prelude.{ℕ, ⊤, ◌≡◌, ◌+◌, nat_lt, Result, Ok, Err, if◌then◌else◌, List, [], ◌∷◌, length}
 use Rattle.csv.specs.Reading.{records, default_config, strip_bom}
 use Rattle.tatp_model.specs.declared.request.Request.{Request}
-use Rattle.request_text.specs.declared.text_fault.TextFault.{TextFault}
-use Rattle.request_text.specs.declared.text_fault.TextFault.TheVariants.{Bad, NoMemory}
-use Rattle.request_text.specs.Record.{request_of}
+use Rattle.tatp_text.specs.declared.text_fault.TextFault.{TextFault}
+use Rattle.tatp_text.specs.declared.text_fault.TextFault.TheVariants.{Bad, NoMemory}
+use Rattle.tatp_text.specs.RequestRecord.{request_of}
 
 -- the number of a record and of a field, both counted from 1
 abbrev pub Place : Type 0

@@ -2,11 +2,11 @@
 
 ghost use Rattle.std.specs.Prelude.{◌≡◌, [], drop, get_or};
 ghost use Rattle.csv.specs.Records.{fields_of};
-ghost use Rattle.request_text.specs.Record.{request_of, start_time_in, sync_of, get_subscriber_of, get_destination_of, get_access_of, update_subscriber_of, update_location_of, insert_call_of, delete_call_of};
+ghost use Rattle.tatp_text.specs.RequestRecord.{request_of, start_time_in, sync_of, get_subscriber_of, get_destination_of, get_access_of, update_subscriber_of, update_location_of, insert_call_of, delete_call_of};
 
 use csv::ByteRecord;
-use number_text::{number_in, phone_in};
 use tatp_model::Request;
+use tatp_text::{number_in, phone_in};
 
 /// The most digits that a number in a record may have.
 const FIELD_DIGITS: usize = 10;

@@ -7,9 +7,9 @@ ghost use Rattle.request_reader.specs.RequestFile.{requests_of, HasCause};
 use crate::record::request_of;
 use crate::rows::{next_row, rows_of};
 use csv::ByteRecord;
-use request_text::{MAX_BYTES, MAX_RECORDS, TextFault};
 use std::alloc::Global;
 use tatp_model::Request;
+use tatp_text::{MAX_BYTES, MAX_RECORDS, TextFault};
 
 /// Reads a request file, in time that grows with its bytes.
 pub fn read_requests(alloc: Global, bytes: &[u8]) -> Result<Vec<Request>, TextFault>

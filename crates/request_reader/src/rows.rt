@@ -6,8 +6,8 @@ ghost use Rattle.csv.specs.Records.{fields_of};
 ghost use Rattle.request_reader.specs.Rows.{IsReading, rows_left, TakesFirst};
 
 use csv::{ByteRecord, ErrorKind, Reader, ReaderBuilder};
-use request_text::TextFault;
 use std::alloc::Global;
+use tatp_text::TextFault;
 
 /// A reader of the rows of a text: commas, double quotes, no header row, no trimming, rows of any length.
 pub fn rows_of(alloc: Global, text: &[u8]) -> Reader<&[u8]>

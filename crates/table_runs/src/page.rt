@@ -1,7 +1,7 @@
 //! What is printed, line by line.
 
-use number_text::push_number;
 use std::alloc::Global;
+use tatp_text::push_number;
 
 /// Lines that are to be printed. Where there is no memory for one, the page is cut off.
 #[derive(Drop)]

@@ -1,9 +1,12 @@
-pub use Rattle.number_text.specs.Number
-pub use Rattle.number_text.specs.Record as RecordText
-pub use Rattle.reply_text.specs.Reply
-pub use Rattle.reply_text.specs.Output
-pub use Rattle.request_text.specs.Record
-pub use Rattle.request_text.specs.RequestLine
-pub use Rattle.request_reader.specs.RequestFile
-pub use Rattle.table_dump.specs.Dump
-pub mod RequestText
+pub mod Number
+pub mod RecordText
+pub mod Reply
+pub mod Output
+pub mod RequestRecord
+pub mod RequestLine
+pub mod Draws
+pub mod Load
+pub mod Counts
+pub mod Summary
+pub mod Dump
+pub mod Writing

@@ -9,7 +9,7 @@ use dude_io::{MemFile, MemSink};
 use script_words::number_of;
 use std::alloc::{AllocError, Global};
 use tatp_model::Done;
-use tatp_text::read_requests;
+use request_reader::read_requests;
 
 /// What a script remembers from one command to the next.
 #[derive(Drop)]

@@ -1,6 +1,6 @@
 use Rattle.std.proofs.Common.{◌+◌, ◌++◌, drop, refl}
 use Rattle.std.specs.List.{flat_map}
-use Rattle.reply_text.specs.Output.{output_line, last_line}
+use Rattle.tatp_text.specs.Output.{output_line, last_line}
 use Rattle.dude_output.proofs.Prints.{printed_more, output_is, later_stops, err_map, last_stops}
 use Rattle.dude_output.proofs.lines.print_lines.Goals as goal
 

@@ -1,7 +1,7 @@
 use Rattle.std.proofs.Common.{◌≤◌, arith, length}
 use Rattle.std.specs.List.{All}
 use Rattle.tatp_model.specs.Request.{IsInRange}
-use Rattle.load_mix.specs.Load.{mixed}
+use Rattle.tatp_text.specs.Load.{mixed}
 use Rattle.dude_program.proofs.Works.{all_more, mixed_length, mixed_more}
 use Rattle.dude_program.proofs.load.mix_files.Goals as goal
 

@@ -2,7 +2,7 @@ use Rattle.std.proofs.Common.{None, subst, List, ℕ}
 use Rattle.dude_base.specs.declared.sizes.Sizes.{Sizes}
 use Rattle.tatp_layout.specs.StandsFor.{StandsFor}
 use Rattle.tatp_model.specs.Database.{Database, database_of}
-use Rattle.table_dump.specs.Dump.{dump_text}
+use Rattle.tatp_text.specs.Dump.{dump_text}
 use Rattle.tatp_check.proofs.OneDatabase.{one_database}
 use Rattle.dude_program.specs.Work.{PrintsText}
 use Rattle.dude_program.proofs.output.print_dump.Goals as goal

@@ -1,7 +1,0 @@
-//! The generated load.
-#![tactic(auto)]
-
-mod draws;
-mod load;
-
-pub use load::mix;

@@ -1,5 +1,0 @@
-use Rattle.tatp_text.proofs.RoundTrip.{requests_of-requests_text}
-use Rattle.tatp_text.proofs.laws.law_of_request_text.Goals as goal
-
-pub returns : goal.returns
-returns c = requests_of-requests_text

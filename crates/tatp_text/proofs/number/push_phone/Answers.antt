@@ -1,0 +1,19 @@
+use Rattle.std.proofs.Common.{ℕ, List, min, ◌≡◌, ◌++◌, ◌-◌, ◌∙◌, ap, length, take, drop, append_assoc}
+use Rattle.std.specs.Prelude.{decimal, replicate, Result, Ok, Err, OnOk, is_ok, if◌then◌else◌}
+use Rattle.tatp_text.specs.Number.{phone_text}
+use Rattle.tatp_text.proofs.Zeros.{zeros_before}
+use Rattle.tatp_text.proofs.number.push_phone.Goals as goal
+
+-- what was appended, where there was memory
+written_where_ok : {T E : Type 0} (r : Result T E) (new appended old items : List ℕ) → new ≡ (if is_ok r then appended else old) → appended ≡ items → OnOk r (new ≡ items)
+written_where_ok (Ok x) new appended old items is same = is ∙ same
+written_where_ok (Err e) new appended old items is same = tt
+
+pub returns : goal.returns
+returns c =
+    let line = c.args.line.now.items in
+    let digits = decimal c.args.number in
+    let written : c.as_bytes-digits.result.now ≡ digits = c.as_bytes-digits.ensures.value ∙ c.format.ensures.text in
+    let zeros : take {A = ℕ} (15 - c.min.result) (drop c.min.result (replicate 15 48)) ≡ replicate (15 - length digits) 48 = zeros_before (length digits) c.min.result (c.min.ensures ∙ ap (λ (text : List ℕ). min (length text) 15) written) in
+    let steps : c.extend_from_slice.new.self.items ++ c.as_bytes-digits.result.now ≡ line ++ phone_text c.args.number = rw (c.in_ok-extend_from_slice.ensures.items, written, zeros) (append_assoc line (replicate (15 - length digits) 48) digits) in
+    written_where_ok c.extend_from_slice-2.result _ _ _ _ c.extend_from_slice-2.ensures.items steps
