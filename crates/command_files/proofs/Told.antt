@@ -11,8 +11,8 @@ use Rattle.dude_io.specs.declared.file_text.FileText.{FileText}
 use Rattle.dude_io.specs.declared.file_text.FileText.TheVariants.{Whole, TooLong}
 use Rattle.dude_io.specs.FileText.{HoldsText}
 use Rattle.dude_io.specs.Files.{FilesSight, FilesStay}
-use Rattle.dude_fault.specs.declared.fault.Fault.{Fault}
-use Rattle.dude_fault.specs.declared.fault.Fault.TheVariants.{File, Text, Memory}
+use Rattle.command_output.specs.declared.fault.Fault.{Fault}
+use Rattle.command_output.specs.declared.fault.Fault.TheVariants.{File, Text, Memory}
 use Rattle.command_files.specs.Files.{OfFile, IsBadAt, IsGoodFile, IsBadFile, IsThere, MissesFile, HasBadFile, IsFirst, HasFileFault}
 use Rattle.command_files.specs.Texts.{IsTextOf, meaning_of, HoldsRequests, IsTextFault, IsFirstTextFault}
 use Rattle.command_files.proofs.Firsts.{IsFirst-all, IsFirst-at, IsFirst-zip}

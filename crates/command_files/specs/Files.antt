@@ -5,8 +5,8 @@ use Rattle.pmem_trait.specs.Sights.{Risen}
 use Rattle.tatp_model.specs.declared.request.Request.{Request}
 use Rattle.request_reader.specs.RequestFile.{requests_of}
 use Rattle.dude_io.specs.Files.{FilesSight}
-use Rattle.dude_fault.specs.declared.fault.Fault.{Fault}
-use Rattle.dude_fault.specs.declared.fault.Fault.TheVariants.{File, Text, Memory}
+use Rattle.command_output.specs.declared.fault.Fault.{Fault}
+use Rattle.command_output.specs.declared.fault.Fault.TheVariants.{File, Text, Memory}
 
 -- these are the requests of some text, and of the file of this name where the files tell
 abbrev pub OfFile : FilesSight → List ℕ → List Request → Type 0

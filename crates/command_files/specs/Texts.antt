@@ -7,8 +7,8 @@ use Rattle.dude_io.specs.declared.file_text.FileText.{FileText}
 use Rattle.dude_io.specs.declared.file_text.FileText.TheVariants.{Whole, TooLong}
 use Rattle.dude_io.specs.FileText.{HoldsText}
 use Rattle.dude_io.specs.Files.{FilesSight}
-use Rattle.dude_fault.specs.declared.fault.Fault.{Fault}
-use Rattle.dude_fault.specs.declared.fault.Fault.TheVariants.{Text, Memory}
+use Rattle.command_output.specs.declared.fault.Fault.{Fault}
+use Rattle.command_output.specs.declared.fault.Fault.TheVariants.{Text, Memory}
 use Rattle.command_files.specs.Files.{IsFirst}
 
 -- this is the text of the file of this name, or it is too long, where the files tell

@@ -8,7 +8,7 @@ ghost use Rattle.command_files.specs.Files.{OfFile, HasFileFault, MissesFile, Ha
 
 use crate::lists::parse_texts;
 use crate::texts::read_texts;
-use dude_fault::Fault;
+use command_output::Fault;
 use dude_io::Files;
 use std::alloc::Global;
 use std::convert::AsStr;

@@ -5,7 +5,7 @@ ghost use Rattle.std.specs.List.{AllZip};
 ghost use Rattle.command_files.specs.Files.{requests_in};
 ghost use Rattle.command_files.specs.Texts.{HoldsRequests, IsTextFault, IsFirstTextFault};
 
-use dude_fault::Fault;
+use command_output::Fault;
 use dude_io::FileText;
 use request_reader::read_requests;
 use std::alloc::Global;

@@ -6,7 +6,7 @@ ghost use Rattle.dude_io.specs.Files.{FilesStay};
 ghost use Rattle.command_files.specs.Files.{HasReadFault};
 ghost use Rattle.command_files.specs.Texts.{IsTextOf};
 
-use dude_fault::Fault;
+use command_output::Fault;
 use dude_io::{FileFault, FileText, Files, read_file};
 use std::alloc::Global;
 use std::convert::AsStr;

@@ -10,8 +10,8 @@ use Rattle.dude_io.specs.Files.{FilesSight, FilesStay}
 use Rattle.dude_io.proofs.ReadLaws.{files_stay}
 use Rattle.command_files.specs.Files.{IsBadAt, IsFirst, IsFirstBad, IsGoodFile, MissesFile, OfFile}
 use Rattle.command_words.specs.Command.{Meaning}
-use Rattle.dude_fault.specs.declared.fault.Fault.{Fault}
-use Rattle.dude_fault.specs.declared.fault.Fault.TheVariants.{Text}
+use Rattle.command_output.specs.declared.fault.Fault.{Fault}
+use Rattle.command_output.specs.declared.fault.Fault.TheVariants.{Text}
 use Rattle.dude_program.specs.Opening.{file_names}
 
 -- The files of the command were read, and hold these lists of requests.

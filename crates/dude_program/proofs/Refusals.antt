@@ -7,8 +7,8 @@ use Rattle.command_words.specs.Command.{Meaning, Meaning.FreshRun, Meaning.Forma
 use Rattle.command_files.specs.Files.{OfFile}
 use Rattle.dude_engine.specs.Opening.{Opening}
 use Rattle.dude_engine.specs.Requests.{request_count}
-use Rattle.dude_fault.specs.declared.fault.Fault.{Fault}
-use Rattle.dude_fault.specs.declared.fault.Fault.TheVariants.{Usage, File, Text, Small, TooFew, Unformatted, Damaged, NotDb, ManyFiles, Frames, FewSubscribers, Numbers, Device, Output, Memory}
+use Rattle.command_output.specs.declared.fault.Fault.{Fault}
+use Rattle.command_output.specs.declared.fault.Fault.TheVariants.{Usage, File, Text, Small, TooFew, Unformatted, Damaged, NotDb, ManyFiles, Frames, FewSubscribers, Numbers, Device, Output, Memory}
 use Rattle.dude_program.specs.Opening.{RequestsAre}
 use Rattle.dude_program.specs.Causes.{RefusesOpening, WantsFrames, WantsNumbers, WantsSubscribers, files_run}
 

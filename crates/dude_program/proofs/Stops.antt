@@ -19,8 +19,8 @@ use Rattle.command_words.specs.Command.{Meaning, Meaning.FreshRun, Meaning.Forma
 use Rattle.command_files.specs.Files.{HasFileFault, MissesFile}
 use Rattle.command_files.specs.Files as read
 use Rattle.dude_engine.specs.Opening.{Opening}
-use Rattle.dude_fault.specs.declared.fault.Fault.{Fault}
-use Rattle.dude_fault.specs.declared.fault.Fault.TheVariants.{Usage, File, Text, Small, TooFew, Unformatted, Damaged, NotDb, ManyFiles, Frames, FewSubscribers, Numbers, Device, Output, Memory}
+use Rattle.command_output.specs.declared.fault.Fault.{Fault}
+use Rattle.command_output.specs.declared.fault.Fault.TheVariants.{Usage, File, Text, Small, TooFew, Unformatted, Damaged, NotDb, ManyFiles, Frames, FewSubscribers, Numbers, Device, Output, Memory}
 use Rattle.command_openings.specs.Begun.{IsBeginning, ShowsOpening}
 use Rattle.command_openings.specs.Faults.{HasFormatFault, HasOpenFault}
 use Rattle.command_openings.specs.Openings.{IsOpeningOn, new_opening}

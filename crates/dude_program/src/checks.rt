@@ -6,12 +6,12 @@ ghost use Rattle.image_opening.specs.Opened.{IsOpened};
 ghost use Rattle.command_files.specs.Files.{requests_in};
 ghost use Rattle.command_words.specs.Command.{Meaning.RunFiles};
 ghost use Rattle.dude_engine.specs.Requests.{request_count};
-ghost use Rattle.dude_fault.specs.declared.fault.Fault.TheVariants.{Frames};
+ghost use Rattle.command_output.specs.declared.fault.Fault.TheVariants.{Frames};
 ghost use Rattle.dude_program.specs.Causes.{WantsFrames};
 ghost use Rattle.dude_program.specs.Work.{HasFewNumbers, HasManyFiles, RefusesRun};
 
+use command_output::Fault;
 use dude_base::limits::{MAX_NUMBER, MIN_FRAMES};
-use dude_fault::Fault;
 use image_opening::Opened;
 use pmem_trait::Medium;
 use tatp_model::Request;

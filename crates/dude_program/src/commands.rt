@@ -6,7 +6,7 @@ ghost use Rattle.pmem_trait.specs.Words.{IsSettled};
 ghost use Rattle.pmem_trait.specs.Sights.{state_now};
 ghost use Rattle.command_words.specs.Command.{IsBetween, Meaning.FreshRun, Meaning.FormatImage, Meaning.RunFiles, Meaning.RecoverImage, Meaning.DumpTables, Meaning.DriveLoad};
 ghost use Rattle.dude_io.specs.Files.{FilesSight};
-ghost use Rattle.dude_fault.specs.Fault.{status_of};
+ghost use Rattle.command_output.specs.Fault.{status_of};
 ghost use Rattle.dude_program.specs.Ending.{Ends};
 ghost use Rattle.dude_program.specs.World.{world_of};
 

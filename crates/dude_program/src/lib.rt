@@ -12,6 +12,6 @@ mod output;
 mod top;
 mod worked;
 
-pub use dude_fault::{Fault, fault_text};
+pub use command_output::{Fault, fault_text};
 pub use ended::Ended;
 pub use top::dude;

@@ -9,7 +9,7 @@ ghost use Rattle.dude_program.specs.Opening.{load_of};
 ghost use Rattle.dude_program.specs.Work.{RefusesLoad};
 
 use crate::checks::{check_numbers, check_rings};
-use dude_fault::Fault;
+use command_output::Fault;
 use image_opening::Opened;
 use pmem_trait::Medium;
 use std::alloc::{AllocError, Global};

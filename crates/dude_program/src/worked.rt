@@ -10,8 +10,8 @@ ghost use Rattle.dude_engine.specs.Plain.{IsOpeningOf};
 ghost use Rattle.dude_engine.specs.Requests.{AreInRange, request_count};
 ghost use Rattle.dude_program.specs.Work.{RanOver, fault_of_end};
 
+use command_output::Fault;
 use dude_engine::{RanEnd, plain};
-use dude_fault::Fault;
 use image_opening::Opened;
 use pmem_trait::Medium;
 use std::alloc::Global;

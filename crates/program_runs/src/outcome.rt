@@ -1,6 +1,6 @@
 //! What a command left.
 
-use dude_fault::Fault;
+use command_output::Fault;
 use dude_io::{MemFiles, MemSink};
 use pmem_fake::MemPmem;
 use pmem_trait::{Call, Medium};

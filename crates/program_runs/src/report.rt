@@ -1,7 +1,7 @@
 //! The lines that say how a command ended.
 
 use crate::outcome::Outcome;
-use dude_fault::{Fault, fault_text};
+use command_output::{Fault, fault_text};
 use pmem_trait::{Call, Made, Medium};
 use std::alloc::{AllocError, Global};
 

@@ -3,7 +3,7 @@
 use crate::stop::Stop;
 use crate::text::numbers_among;
 use crate::view;
-use dude_fault::{Fault, fault_text};
+use command_output::{Fault, fault_text};
 
 /// Prints the status of a fault, and its line.
 pub fn fault(rt: &HostRuntime, words: &[&str]) -> Result<(), Stop> {

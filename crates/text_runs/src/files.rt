@@ -6,7 +6,7 @@ use crate::stop::Stop;
 use crate::text::{numbers_among, text_of};
 use crate::view;
 use command_files::read_files;
-use dude_fault::Fault;
+use command_output::Fault;
 use dude_io::{MemFile, MemFiles};
 use std::alloc::Global;
 use std::rc::RcStr;

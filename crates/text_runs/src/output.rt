@@ -4,9 +4,8 @@ use crate::faults::show_fault;
 use crate::stop::Stop;
 use crate::text::{numbers_among, text_of};
 use crate::view;
-use dude_fault::Fault;
+use command_output::{Fault, print_lines, print_text};
 use dude_io::{MemSink, Sink};
-use dude_output::{print_lines, print_text};
 use tatp_model::Done;
 use tatp_text::{write_done, write_last, write_summary};
 

@@ -3,8 +3,8 @@
 use crate::stop::Stop;
 use crate::text::{numbers_among, text_of};
 use crate::view;
-use tatp_model::Request;
 use request_reader::read_requests;
+use tatp_model::Request;
 use tatp_text::{MAX_BYTES, MAX_RECORDS, TextFault, mix, write_request};
 
 /// Reads a request file, and prints its requests, or the record and the field that is bad.

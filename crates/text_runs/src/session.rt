@@ -6,10 +6,10 @@ use crate::stop::Stop;
 use crate::text::{numbers_among, text_of};
 use crate::view;
 use dude_io::{MemFile, MemSink};
+use request_reader::read_requests;
 use script_words::number_of;
 use std::alloc::{AllocError, Global};
 use tatp_model::Done;
-use request_reader::read_requests;
 
 /// What a script remembers from one command to the next.
 #[derive(Drop)]

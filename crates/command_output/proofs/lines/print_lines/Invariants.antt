@@ -1,5 +1,5 @@
-use Rattle.dude_output.proofs.Prints.{Printed}
-use Rattle.dude_output.proofs.lines.print_lines.Given as goal
+use Rattle.command_output.proofs.Prints.{Printed}
+use Rattle.command_output.proofs.lines.print_lines.Given as goal
 
 -- the lines so far were taken or are held back
 abbrev pub invariant-loop-entry : goal.invariant-loop-entry

@@ -2,9 +2,9 @@
 
 ghost use Rattle.std.specs.Prelude.{◌≡◌, [], OnOk, IfErr};
 ghost use Rattle.dude_io.specs.Sink.{Took};
-ghost use Rattle.dude_output.specs.Printing.{FailsIn};
+ghost use Rattle.command_output.specs.Printing.{FailsIn};
 
-use dude_fault::Fault;
+use crate::fault::Fault;
 use dude_io::{Sink, write_all};
 
 /// Hands the sink a whole text. An empty text makes no call.

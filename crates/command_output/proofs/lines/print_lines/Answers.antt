@@ -1,8 +1,8 @@
 use Rattle.std.proofs.Common.{◌+◌, ◌++◌, drop, refl}
 use Rattle.std.specs.List.{flat_map}
 use Rattle.tatp_text.specs.Output.{output_line, last_line}
-use Rattle.dude_output.proofs.Prints.{printed_more, output_is, later_stops, err_map, last_stops}
-use Rattle.dude_output.proofs.lines.print_lines.Goals as goal
+use Rattle.command_output.proofs.Prints.{printed_more, output_is, later_stops, err_map, last_stops}
+use Rattle.command_output.proofs.lines.print_lines.Goals as goal
 
 pub loop-entry-preserved : goal.loop-entry-preserved
 loop-entry-preserved g c = printed_more c.args.done.now c.loop-entry.entry-index _ c.loop-entry-test.true refl c.loop-entry.invariant c.in_default.ensures.ok

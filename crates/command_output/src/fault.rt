@@ -2,8 +2,8 @@
 
 ghost use Rattle.std.specs.Prelude.{◌≡◌, ◌++◌, decimal, OnOk, OnErr};
 ghost use Rattle.std.specs.Fmt.{WritesOnOk};
-ghost use Rattle.dude_fault.specs.Fault.{fault_line, fault_words};
-ghost use Rattle.dude_fault.specs.declared.fault.Fault.TheVariants.{Text};
+ghost use Rattle.command_output.specs.Fault.{fault_line, fault_words};
+ghost use Rattle.command_output.specs.declared.fault.Fault.TheVariants.{Text};
 
 use std::alloc::{AllocError, AllocFailed};
 use std::fmt;
@@ -46,7 +46,7 @@ pub enum Fault {
 
 impl Fault {
     ghost use Rattle.std.specs.Prelude.{◌≡◌, Some};
-    ghost use Rattle.dude_fault.specs.Fault.{status_of};
+    ghost use Rattle.command_output.specs.Fault.{status_of};
 
     /// The status that the program ends with.
     pub fn status(&self) -> u8
@@ -74,7 +74,7 @@ impl Fault {
 
 impl fmt::Display for Fault {
     ghost use Rattle.std.specs.Prelude.{Some};
-    ghost use Rattle.dude_fault.specs.Fault.{fault_words};
+    ghost use Rattle.command_output.specs.Fault.{fault_words};
 
     ghost output = { λ f. Some (fault_words f) };
 
@@ -178,7 +178,7 @@ fn write_place<W: fmt::Write>(
 
 impl From<AllocError> for Fault {
     ghost use Rattle.std.specs.Prelude.{◌≡◌};
-    ghost use Rattle.dude_fault.specs.declared.fault.Fault.TheVariants.{Memory};
+    ghost use Rattle.command_output.specs.declared.fault.Fault.TheVariants.{Memory};
 
     ghost from_gives = { λ _ fault. fault ≡ Memory };
 
@@ -189,7 +189,7 @@ impl From<AllocError> for Fault {
 
 impl<T: Drop> From<AllocFailed<T>> for Fault {
     ghost use Rattle.std.specs.Prelude.{◌≡◌};
-    ghost use Rattle.dude_fault.specs.declared.fault.Fault.TheVariants.{Memory};
+    ghost use Rattle.command_output.specs.declared.fault.Fault.TheVariants.{Memory};
 
     ghost from_gives = { λ _ fault. fault ≡ Memory };
 

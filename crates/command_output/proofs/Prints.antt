@@ -7,12 +7,12 @@ use Rattle.std.proofs.Math.Seq.{drop-cons}
 use Rattle.std.specs.List.{flat_map}
 use Rattle.pmem_trait.proofs.Runs.{risen_later}
 use Rattle.tatp_model.specs.declared.done.Done.{Done}
-use Rattle.dude_fault.specs.declared.fault.Fault.{Fault}
-use Rattle.dude_fault.specs.declared.fault.Fault.TheVariants.{Output}
+use Rattle.command_output.specs.declared.fault.Fault.{Fault}
+use Rattle.command_output.specs.declared.fault.Fault.TheVariants.{Output}
 use Rattle.tatp_text.specs.Output.{output_line, last_line, output_of}
 use Rattle.dude_io.specs.Sink.{SinkSight, Took, TookPart}
 use Rattle.dude_io.proofs.WriteLaws.{took_none, took-then}
-use Rattle.dude_output.specs.Printing.{Collects, StopsIn}
+use Rattle.command_output.specs.Printing.{Collects, StopsIn}
 
 -- the sink failed in a text
 pub part_stops : (text : List ℕ) {s t : SinkSight} → TookPart text s t → StopsIn text s t Output

@@ -1,8 +1,8 @@
 -- Output that is handed to a sink in pieces.
 use Rattle.std.specs.Prelude.{◌≡◌, ◌⊎◌, ℕ, ◌≤◌, List, ◌++◌, length}
 use Rattle.pmem_trait.specs.Sights.{Risen}
-use Rattle.dude_fault.specs.declared.fault.Fault.{Fault}
-use Rattle.dude_fault.specs.declared.fault.Fault.TheVariants.{Output, Memory}
+use Rattle.command_output.specs.declared.fault.Fault.{Fault}
+use Rattle.command_output.specs.declared.fault.Fault.TheVariants.{Output, Memory}
 use Rattle.dude_io.specs.Sink.{SinkSight, Took}
 
 -- of what was held back and some more, a front was taken and the rest is held back now

@@ -3,10 +3,10 @@
 ghost use Rattle.std.specs.Prelude.{◌≡◌, ◌++◌, [], OnOk, IfErr};
 ghost use Rattle.tatp_text.specs.Output.{output_line, last_line, output_of};
 ghost use Rattle.dude_io.specs.Sink.{Took};
-ghost use Rattle.dude_output.specs.Printing.{Collects, StopsIn};
+ghost use Rattle.command_output.specs.Printing.{Collects, StopsIn};
 
+use crate::fault::Fault;
 use crate::text::print_text;
-use dude_fault::Fault;
 use dude_io::Sink;
 use std::alloc::Global;
 use tatp_model::Done;
