@@ -5,7 +5,7 @@ use std::alloc::AllocError;
 use std::io;
 
 /// Why an image file is not open.
-#[derive(Clone, Copy, Debug, PartialEq, Eq)]
+#[derive(Clone, Copy)]
 pub enum EdgeFault {
     /// The file couldn't be opened, made or read, or is no plain file.
     Failed,

@@ -71,7 +71,7 @@ impl<R: FileSystem> FilePmem<R> {
         ensures spill { self.new.spill ≡ self.old.spill }
         ensures clock { self.new.clock ≡ self.old.clock }
     {
-        if self.spill == Spill::Lost {
+        if matches!(self.spill, Spill::Lost) {
             return Err(io::ErrorKind::Other.into());
         }
         image_file::write_lines(&mut self.file, self.cache.noted())?;

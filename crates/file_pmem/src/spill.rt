@@ -1,5 +1,5 @@
 /// What became of the lines that were written for want of room, with no sync of their own.
-#[derive(Clone, Copy, Debug, PartialEq, Eq)]
+#[derive(Clone, Copy)]
 pub enum Spill {
     /// There are none, or all are synced.
     Synced,

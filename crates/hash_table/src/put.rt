@@ -1,7 +1,7 @@
 //! What became of the key of an insertion.
 
 /// What became of the key of an insertion.
-#[derive(Clone, Copy, Debug, PartialEq, Eq)]
+#[derive(Clone, Copy)]
 pub enum Put {
     /// The key was there before, in this record.
     There(u64),

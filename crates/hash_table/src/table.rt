@@ -22,7 +22,7 @@ use word_space::words::Words;
 ///
 /// In an array that is no lawful table, a link that is no record's first word ends its chain, and
 /// a chain ends after as many records as the pool has.
-#[derive(Clone, Copy, Debug, PartialEq, Eq)]
+#[derive(Clone, Copy)]
 pub struct Table {
     pub buckets: u64,
     pub at: u64,

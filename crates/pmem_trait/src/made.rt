@@ -3,7 +3,7 @@
 use crate::call::Call;
 
 /// A call that was made on a medium, and whether it failed.
-#[derive(Clone, Copy, Debug, PartialEq, Eq)]
+#[derive(Clone, Copy)]
 pub struct Made {
     pub call: Call,
     pub failed: bool,

@@ -14,7 +14,7 @@ use word_space::words::Words;
 /// Word 0 of the header links the first free record, and word 1 counts the taken records. Word 1 of
 /// a free record links the next one. A record goes by the number of its word 0, and so does a link
 /// to it; a link of 0 leads to none.
-#[derive(Clone, Copy, Debug, PartialEq, Eq)]
+#[derive(Clone, Copy)]
 pub struct Pool {
     pub base: u64,
     pub first: u64,

@@ -2,4 +2,3 @@ pub mod Flats
 pub mod Sights
 pub mod Sound
 pub mod Steps
-pub mod StopTexts
