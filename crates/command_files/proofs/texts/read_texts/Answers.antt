@@ -1,8 +1,8 @@
-use Rattle.std.proofs.Common.{◌≡◌, ℕ, IsTrue, List, get_or, ap, refl, ◌∙◌, subst}
+use Rattle.std.proofs.Common.{◌≡◌, ℕ, IsTrue, List, get_or, ap, ◌∙◌, subst}
 use Rattle.std.proofs.lemmas.List.{map_more}
 use Rattle.std.proofs.lemmas.Result.{IfOk-from_err}
 use Rattle.pmem_trait.specs.Sights.{Risen}
-use Rattle.dude_io.proofs.ReadLaws.{files_stay, files_stay-then}
+use Rattle.dude_io.proofs.ReadLaws.{files_stay-then}
 use Rattle.command_files.specs.Files.{IsThere}
 use Rattle.command_files.specs.Texts.{IsTextOf}
 use Rattle.command_files.proofs.Firsts.{IsFirst-map-at}
@@ -31,9 +31,6 @@ loop-index-preserved g c =
       read = rw (map_more text c.args.names.now c.loop-index.index c.index-names-index.result c.loop-index-test.true, c.in_ok-push-in-Ok.ensures.items)
           (AllZip-more (IsTextOf s) _ _ _ _ c.loop-index.invariant.read (subst (λ (name : List ℕ). IsTextOf s name c.in-Ok.text) same is));
     }
-
-pub loop-index-init : goal.loop-index-init
-loop-index-init g c = record { stays = files_stay; calm = refl; read = tt }
 
 pub returns-in_err-push-in-Ok-clause-stays : goal.returns-in_err-push-in-Ok-clause-stays
 returns-in_err-push-in-Ok-clause-stays g c = files_stay-then c.loop-index.invariant.stays c.in-Ok.ensures.stays
