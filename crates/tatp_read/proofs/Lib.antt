@@ -1,3 +1,4 @@
 pub mod Forwarding
+pub mod Handed
 pub mod Lookups
 pub mod Replies

@@ -1,5 +1,6 @@
 use Rattle.std.proofs.Common.{◌≡◌, ℕ, IsTrue, List, get_or, ap, ◌∙◌, subst}
 use Rattle.std.proofs.lemmas.List.{map_more}
+use Rattle.std.proofs.lemmas.Result.{IfOk-from_err}
 use Rattle.pmem_trait.specs.Sights.{Risen}
 use Rattle.dude_io.proofs.ReadLaws.{files_stay-then}
 use Rattle.command_files.specs.Files.{IsThere}
@@ -30,3 +31,24 @@ loop-index-preserved g c =
       read = rw (map_more text c.args.names.now c.loop-index.index c.index-names-index.result c.loop-index-test.true, c.in_ok-push-in-Ok.ensures.items)
           (AllZip-more (IsTextOf s) _ _ _ _ c.loop-index.invariant.read (subst (λ (name : List ℕ). IsTextOf s name c.in-Ok.text) same is));
     }
+
+pub returns-in_err-push-in-Ok-clause-stays : goal.returns-in_err-push-in-Ok-clause-stays
+returns-in_err-push-in-Ok-clause-stays g c = files_stay-then c.loop-index.invariant.stays c.in-Ok.ensures.stays
+
+pub returns-in_err-push-in-Ok-clause-calm : goal.returns-in_err-push-in-Ok-clause-calm
+returns-in_err-push-in-Ok-clause-calm g c = IfOk-from_err _ _ c.from_residual.ensures.0
+
+pub returns-in_err-push-in-Ok-clause-read : goal.returns-in_err-push-in-Ok-clause-read
+returns-in_err-push-in-Ok-clause-read g c = IfOk-from_err _ _ c.from_residual.ensures.0
+
+pub returns-in-Err-NoMemory-clause-stays : goal.returns-in-Err-NoMemory-clause-stays
+returns-in-Err-NoMemory-clause-stays g c = files_stay-then c.loop-index.invariant.stays c.in-Err-NoMemory.ensures.stays
+
+pub returns-in-Err-Failed-clause-stays : goal.returns-in-Err-Failed-clause-stays
+returns-in-Err-Failed-clause-stays g c = files_stay-then c.loop-index.invariant.stays c.in-Err-Failed.ensures.stays
+
+pub returns-clause-stays : goal.returns-clause-stays
+returns-clause-stays g c = c.loop-index.invariant.stays
+
+pub returns-clause-calm : goal.returns-clause-calm
+returns-clause-calm g c = c.loop-index.invariant.calm

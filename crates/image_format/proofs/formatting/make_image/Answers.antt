@@ -1,4 +1,5 @@
-use Rattle.std.proofs.Common.{◌≡◌, ◌≤◌, ℕ, Bool, true, false, List, Err, sym, ap, arith, rules, subst}
+use Rattle.std.proofs.Common.{◌≡◌, ◌≤◌, ℕ, Bool, true, false, List, Err, refl, sym, ap, arith, rules, subst}
+use Rattle.std.proofs.lemmas.Result.{IfOk-from_err}
 use Rattle.dude_base.specs.declared.sizes.Sizes.{Sizes}
 use Rattle.dude_base.specs.Image.{image_words}
 use Rattle.pmem_trait.specs.Words.{State, IsSettled}
@@ -7,6 +8,7 @@ use Rattle.pmem_trait.proofs.Runs.{made_here, made_cause}
 use Rattle.pmem_trait.proofs.Laws.{made_keep}
 use Rattle.tatp_model.specs.Population.{population, population_calls}
 use Rattle.tatp_layout.specs.StandsFor.{StandsFor}
+use Rattle.tatp_population.specs.Populated.{IsPopulated}
 use Rattle.image_format.specs.declared.format_fault.FormatFault.TheVariants.{Device}
 use Rattle.image_format.specs.FormatCalls.{format_calls}
 use Rattle.image_format.specs.NewImages.{IsNewImage}
@@ -23,6 +25,9 @@ stands_same {xs = xs} layout stands = subst (λ (s : Sizes). StandsFor s xs (pop
 
 room_same : {l s : Sizes} → l ≡ s → population_calls l.subscribers ≤ l.calls → population_calls s.subscribers ≤ s.calls
 room_same layout room = subst (λ (s : Sizes). population_calls s.subscribers ≤ s.calls) layout room
+
+populated_same : {l s : Sizes} {xs : List ℕ} → l ≡ s → IsPopulated l xs → IsPopulated s xs
+populated_same {xs = xs} layout populated = subst (λ (s : Sizes). IsPopulated s xs) layout populated
 
 pub returns-in_err-write_image-clause-cause : goal.returns-in_err-write_image-clause-cause
 returns-in_err-write_image-clause-cause g c =
@@ -63,3 +68,81 @@ returns-clause-settled g c =
     let made = made_same c.of-place.ensures c.deref.ensures.value c.in_ok-write_image.ensures.made in
     let layout = c.in_ok-lay.ensures.ok in
     λ visible. subst P (sym (made_here made visible)) (new_settled (stands_same layout.0 c.in_ok-home.ensures.stands) (state_now old) old.len (c.requires.settled visible))
+
+pub returns-in_err-lay-clause-fits : goal.returns-in_err-lay-clause-fits
+returns-in_err-lay-clause-fits g c = IfOk-from_err _ _ c.from_residual.ensures.0
+
+pub returns-in_err-lay-clause-home : goal.returns-in_err-lay-clause-home
+returns-in_err-lay-clause-home g c = IfOk-from_err _ _ c.from_residual.ensures.0
+
+pub returns-in_err-lay-clause-populated : goal.returns-in_err-lay-clause-populated
+returns-in_err-lay-clause-populated g c = IfOk-from_err _ _ c.from_residual.ensures.0
+
+pub returns-in_err-lay-clause-rests : goal.returns-in_err-lay-clause-rests
+returns-in_err-lay-clause-rests g c = IfOk-from_err _ _ c.from_residual.ensures.0
+
+pub returns-in_err-lay-clause-settled : goal.returns-in_err-lay-clause-settled
+returns-in_err-lay-clause-settled g c = IfOk-from_err _ _ c.from_residual.ensures.0
+
+pub returns-in_err-home-clause-fits : goal.returns-in_err-home-clause-fits
+returns-in_err-home-clause-fits g c = IfOk-from_err _ _ c.from_residual-in_err-home.ensures.0
+
+pub returns-in_err-home-clause-home : goal.returns-in_err-home-clause-home
+returns-in_err-home-clause-home g c = IfOk-from_err _ _ c.from_residual-in_err-home.ensures.0
+
+pub returns-in_err-home-clause-populated : goal.returns-in_err-home-clause-populated
+returns-in_err-home-clause-populated g c = IfOk-from_err _ _ c.from_residual-in_err-home.ensures.0
+
+pub returns-in_err-home-clause-rests : goal.returns-in_err-home-clause-rests
+returns-in_err-home-clause-rests g c = IfOk-from_err _ _ c.from_residual-in_err-home.ensures.0
+
+pub returns-in_err-home-clause-settled : goal.returns-in_err-home-clause-settled
+returns-in_err-home-clause-settled g c = IfOk-from_err _ _ c.from_residual-in_err-home.ensures.0
+
+pub returns-in_err-write_image-clause-fits : goal.returns-in_err-write_image-clause-fits
+returns-in_err-write_image-clause-fits g c = IfOk-from_err _ _ c.from_residual-in_err-write_image.ensures.0
+
+pub returns-in_err-write_image-clause-home : goal.returns-in_err-write_image-clause-home
+returns-in_err-write_image-clause-home g c = IfOk-from_err _ _ c.from_residual-in_err-write_image.ensures.0
+
+pub returns-in_err-write_image-clause-populated : goal.returns-in_err-write_image-clause-populated
+returns-in_err-write_image-clause-populated g c = IfOk-from_err _ _ c.from_residual-in_err-write_image.ensures.0
+
+pub returns-in_err-write_image-clause-rests : goal.returns-in_err-write_image-clause-rests
+returns-in_err-write_image-clause-rests g c = IfOk-from_err _ _ c.from_residual-in_err-write_image.ensures.0
+
+pub returns-in_err-write_image-clause-settled : goal.returns-in_err-write_image-clause-settled
+returns-in_err-write_image-clause-settled g c = IfOk-from_err _ _ c.from_residual-in_err-write_image.ensures.0
+
+pub returns-in_err-lay-clause-len : goal.returns-in_err-lay-clause-len
+returns-in_err-lay-clause-len g c = refl
+
+pub returns-in_err-home-clause-len : goal.returns-in_err-home-clause-len
+returns-in_err-home-clause-len g c = refl
+
+pub returns-in_err-write_image-clause-len : goal.returns-in_err-write_image-clause-len
+returns-in_err-write_image-clause-len g c = c.in_err-write_image.ensures.len
+
+pub returns-clause-len : goal.returns-clause-len
+returns-clause-len g c = c.in_ok-write_image.ensures.len
+
+pub returns-clause-fits : goal.returns-clause-fits
+returns-clause-fits g c =
+    let words = ap image_words c.of-place.ensures in
+    let layout = c.in_ok-lay.ensures.ok in
+    record { accepted = layout.1; room = omega arith; calls = room_same layout.0 c.in_ok-home.ensures.room }
+
+pub returns-clause-home : goal.returns-clause-home
+returns-clause-home g c = stands_same c.in_ok-lay.ensures.ok.0 c.in_ok-home.ensures.stands
+
+pub returns-clause-populated : goal.returns-clause-populated
+returns-clause-populated g c = populated_same c.in_ok-lay.ensures.ok.0 c.in_ok-home.ensures.words
+
+pub returns-clause-calls : goal.returns-clause-calls
+returns-clause-calls g c =
+    (c.in_ok-home.home.items, populated_same c.in_ok-lay.ensures.ok.0 c.in_ok-home.ensures.words, made_same c.of-place.ensures c.deref.ensures.value c.in_ok-write_image.ensures.made)
+
+pub returns-in_err-write_image-clause-calls : goal.returns-in_err-write_image-clause-calls
+returns-in_err-write_image-clause-calls g c =
+    let is : c.from_residual-in_err-write_image.result ≡ Err Device = search rules in
+    rw is (c.in_ok-home.home.items, populated_same c.in_ok-lay.ensures.ok.0 c.in_ok-home.ensures.words, made_same c.of-place.ensures c.deref.ensures.value c.in_err-write_image.ensures.made)

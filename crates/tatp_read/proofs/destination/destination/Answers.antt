@@ -1,4 +1,4 @@
-use Rattle.std.proofs.Common.{None, arith, ap, true, false, ◌∙◌, subst, sym}
+use Rattle.std.proofs.Common.{None, arith, ap, true, false, ◌∙◌, subst, sym, Some, IfSome}
 use Rattle.std.proofs.lemmas.Bool.{lt-ltb, le-ltb}
 use Rattle.std.proofs.lemmas.Result.{IfOk-from_err}
 use Rattle.hash_table.specs.Table.{FitsTable}
@@ -6,6 +6,8 @@ use Rattle.hash_table.specs.declared.table.Table.{Table}
 use Rattle.word_space.proofs.Runs.{below_looked, looked_then, shown_looked}
 use Rattle.record_heap.proofs.Calls.{most_more, most_then}
 use Rattle.tatp_read.proofs.Lookups.{call_absent, call_there}
+use Rattle.tatp_read.proofs.Handed.{looked_handed, last_handed}
+use Rattle.record_heap.specs.Pool.{IsRecord}
 use Rattle.tatp_read.proofs.destination.destination.Goals as goal
 
 pub find-requires : goal.find-requires
@@ -53,3 +55,36 @@ pub returns-else-end_time-row-clause-numbers : goal.returns-else-end_time-row-cl
 returns-else-end_time-row-clause-numbers g c = λ array below db stands.
     let below_find = below_looked {stop = None} c.in_ok-row.ensures.looked below in
     call_there c.args.key stands (c.in_ok-at.ensures.found array below_find) c.args.end_time c.calls.ensures.table false (le-ltb _ _ c.if-end_time-row.false) c.in-Some.is (shown_looked {stop = None} c.in_ok-at.ensures.looked array) (c.in_ok-row.ensures.row array below)
+
+pub returns-in_err-at-clause-looked : goal.returns-in_err-at-clause-looked
+returns-in_err-at-clause-looked g c = looked_handed c.from_residual.result c.from_residual.ensures.1 c.in_err-at.ensures.looked
+
+pub returns-in_err-at-clause-turns : goal.returns-in_err-at-clause-turns
+returns-in_err-at-clause-turns g c = λ x led. c.in_err-at.ensures.turns x led
+
+pub returns-in_err-at-clause-last : goal.returns-in_err-at-clause-last
+returns-in_err-at-clause-last g c = last_handed c.from_residual.result c.from_residual.ensures.1 c.in_err-at.ensures.last
+
+pub returns-in_default-clause-looked : goal.returns-in_default-clause-looked
+returns-in_default-clause-looked g c = c.in_ok-at.ensures.looked
+
+pub returns-in_default-clause-turns : goal.returns-in_default-clause-turns
+returns-in_default-clause-turns g c = λ x led. c.in_ok-at.ensures.turns x led
+
+pub returns-in_err-row-clause-looked : goal.returns-in_err-row-clause-looked
+returns-in_err-row-clause-looked g c = looked_handed c.from_residual-in_err-row.result c.from_residual-in_err-row.ensures.1 (looked_then {stop = Some c.in_err-row.field-0.0} c.in_ok-at.ensures.looked c.in_err-row.ensures.looked)
+
+pub returns-in_err-row-clause-turns : goal.returns-in_err-row-clause-turns
+returns-in_err-row-clause-turns g c = λ x led. c.in_err-row.ensures.turns x (c.in_ok-at.ensures.turns x led)
+
+pub returns-in_err-row-clause-last : goal.returns-in_err-row-clause-last
+returns-in_err-row-clause-last g c = last_handed c.from_residual-in_err-row.result c.from_residual-in_err-row.ensures.1 c.in_err-row.ensures.last
+
+pub returns-then-end_time-row-clause-turns : goal.returns-then-end_time-row-clause-turns
+returns-then-end_time-row-clause-turns g c = λ x led. c.in_ok-row.ensures.turns x (c.in_ok-at.ensures.turns x led)
+
+pub returns-else-end_time-row-clause-turns : goal.returns-else-end_time-row-clause-turns
+returns-else-end_time-row-clause-turns g c = λ x led. c.in_ok-row.ensures.turns x (c.in_ok-at.ensures.turns x led)
+
+pub get_call-requires-clause-record : goal.get_call-requires-clause-record
+get_call-requires-clause-record g c = subst (λ (t : Table). IsRecord t.pool c.in-Some.at) c.calls.ensures.table (subst (λ o. IfSome o (IsRecord c.calls.result.pool)) c.in-Some.is c.in_ok-at.ensures.«record»)

@@ -1,4 +1,4 @@
-use Rattle.std.proofs.Common.{◌≡◌, ◌<◌, ◌+◌, ◌/◌, ◌*◌, ◌-◌, None, arith, sym, ap, ◌∙◌}
+use Rattle.std.proofs.Common.{◌≡◌, ◌<◌, ◌+◌, ◌/◌, ◌*◌, ◌-◌, None, arith, sym, ap, ◌∙◌, Some}
 use Rattle.std.proofs.lemmas.Result.{IfOk-from_err}
 use Rattle.word_space.proofs.Runs.{below_looked, looked_here, looked_then}
 use Rattle.record_heap.proofs.Calls.{most_more, most_none, most_then}
@@ -8,6 +8,7 @@ use Rattle.tatp_model.proofs.Calls.{eighth}
 use Rattle.tatp_read.specs.Forwarding.{numbers_within}
 use Rattle.tatp_read.proofs.Forwarding.{numbers_all, numbers_kept, numbers_none, numbers_pushed, one_look_up_more, three_look_ups}
 use Rattle.tatp_read.proofs.Replies.{stands_looked}
+use Rattle.tatp_read.proofs.Handed.{looked_handed, last_handed}
 use Rattle.tatp_read.proofs.destination.destinations.Goals as goal
 use Rattle.tatp_read.proofs.destination.destinations.Goals.{in-Some, in_default}
 
@@ -79,3 +80,18 @@ returns-clause-numbers g c = λ array below db stands.
     let held = c.loop-key.invariant.numbers array below db stands in
     held ∙ ap numbers_of (ap (λ k. numbers_within first k c.args.end_time db.calls) end ∙ ap (λ k. numbers_within k (k + c.args.start_time / 8 + 1) c.args.end_time db.calls) c.first_call_key-first.ensures
     ∙ numbers_all c.args.s_id c.args.sf_type c.args.start_time c.args.end_time c.requires.id c.requires.kind c.requires.start db.calls stands.in_order.calls_in_range)
+
+pub returns-in_err-phone-clause-looked : goal.returns-in_err-phone-clause-looked
+returns-in_err-phone-clause-looked g c = looked_handed c.from_residual.result c.from_residual.ensures.1 (looked_then {stop = Some c.in_err-phone.field-0.0} c.loop-key.invariant.looked c.in_err-phone.ensures.looked)
+
+pub returns-in_err-phone-clause-turns : goal.returns-in_err-phone-clause-turns
+returns-in_err-phone-clause-turns g c = λ x led. c.in_err-phone.ensures.turns x (c.loop-key.invariant.turns x led)
+
+pub returns-in_err-phone-clause-last : goal.returns-in_err-phone-clause-last
+returns-in_err-phone-clause-last g c = last_handed c.from_residual.result c.from_residual.ensures.1 c.in_err-phone.ensures.last
+
+pub returns-clause-looked : goal.returns-clause-looked
+returns-clause-looked g c = c.loop-key.invariant.looked
+
+pub returns-clause-turns : goal.returns-clause-turns
+returns-clause-turns g c = λ x led. c.loop-key.invariant.turns x led
