@@ -10,7 +10,7 @@ use crate::trial::{Step, Trial};
 use dude_base::redo::Redo;
 use dude_io::{FilePmem, MemSink, RealFiles, read_file};
 use pmem_fake::MemPmem;
-use script_words::{number_of, pair_of, words_of};
+use script_words::{number_of, numbers_of, pairs_of, words_of};
 use std::{io, mem};
 
 /// What a script's lines are carried out on.
@@ -25,6 +25,17 @@ pub struct Bench {
     steps: Vec<Step>,
     /// The names and texts of the files in memory.
     texts: Vec<(String, String)>,
+}
+
+/// How many of these words are numbers.
+fn count_numbers(words: &[&str]) -> usize {
+    let mut count = 0_usize;
+    for word in words {
+        if number_of(word).is_some() {
+            count = count.saturating_add(1);
+        }
+    }
+    count
 }
 
 /// What only the type of a medium that may move to another thread is passed to.
@@ -45,26 +56,21 @@ impl Bench {
         }
     }
 
-    /// Carries out a line: a name, and then numbers, pairs and other words, each in its order.
+    /// Carries out a line: a name, numbers, and then pairs or other words.
     pub fn carry_out(&mut self, line: &str) -> io::Result<()> {
         let alloc = self.rt.alloc();
         let words = words_of(alloc, line)?;
         let Some((name, rest)) = words.split_first() else {
             return self.rt.println("no command");
         };
-        let mut numbers = Vec::new(alloc);
-        let mut pairs = Vec::new(alloc);
-        let mut texts = Vec::new(alloc);
-        for word in rest {
-            match (number_of(word), pair_of(word)) {
-                (Some(number), _) => numbers.push(number)?,
-                (None, Some(pair)) => pairs.push(pair)?,
-                (None, None) => texts.push(*word)?,
-            }
-        }
-        match texts.split_first() {
-            Some((file, lines)) => self.by_words(name, &numbers, file, lines),
-            None => self.by_numbers(name, &numbers, &pairs),
+        let (numbers, rest) = rest.split_at(count_numbers(rest).min(rest.len()));
+        let Some(numbers) = numbers_of(alloc, numbers)? else {
+            return self.rt.println("no numbers");
+        };
+        match (pairs_of(alloc, rest)?, rest) {
+            (None, [file, lines @ ..]) => self.by_words(name, &numbers, file, lines),
+            (Some(pairs), _) => self.by_numbers(name, &numbers, &pairs),
+            _ => self.rt.println("no command"),
         }
     }
 

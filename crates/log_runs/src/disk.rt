@@ -13,11 +13,20 @@ pub fn say_file(rt: HostRuntime, name: &str, places: &[u64]) -> io::Result<()> {
     print!(rt; "{count} bytes:")?;
     for at in 0..count {
         let byte = bytes[at];
-        if places.contains(&(at as u64)) || places.is_empty() && byte != 0 {
+        if is_wanted(places, at as u64, byte) {
             print!(rt; " {at}={byte}")?;
         }
     }
     println!(rt)
+}
+
+/// Whether a byte is printed.
+fn is_wanted(places: &[u64], at: u64, byte: u8) -> bool {
+    if places.is_empty() {
+        byte != 0
+    } else {
+        places.contains(&at)
+    }
 }
 
 /// Opens the medium in a file, of which a write may fail, and prints its size, or why there is none.
