@@ -1,27 +1,17 @@
 //! What a script's lines are carried out on.
 
-use crate::back_commands::{say_numbers, say_page, say_step, step_of};
-use crate::cells::{say_cells, say_combined, say_decoded};
-use crate::crashes::say_failures;
-use crate::disk::{
-    make_folder, open, open_faulty, remove, say_file, say_names, store, write_bytes,
-};
-use crate::edges::{files_of, say_output, say_sink, say_text, text_of};
+use crate::crashes::{medium_of, say_failures};
+use crate::disk::{change, open, say_file};
+use crate::edges::{files_of, say_output, say_read, say_sink, text_of};
 use crate::log::Log;
-use crate::medium_calls::{call_of, in_words, is_send};
-use crate::memory_commands::{say_image, say_made, say_replay, say_scan, say_state};
-use crate::moments::say_moments;
-use crate::records::record_of;
-use crate::save::save_safe;
-use crate::say::{say_done, say_words};
-use crate::step::Step;
-use crate::subject::Subject;
-use crate::trial::Trial;
-use dude_io::RealFiles;
+use crate::medium::Subject;
+use crate::records::{record_of, say_cells, say_combined, say_decoded};
+use crate::trial::{Step, Trial};
+use dude_base::redo::Redo;
+use dude_io::{FilePmem, MemSink, RealFiles, read_file};
 use pmem_fake::MemPmem;
-use pmem_trait::Medium;
-use script_words::{number_of, numbers_of, pair_of, pairs_of, words_of};
-use std::{fs, io, mem};
+use script_words::{number_of, numbers_of, pairs_of, words_of};
+use std::{io, mem};
 
 /// What a script's lines are carried out on.
 #[derive(Drop)]
@@ -37,9 +27,25 @@ pub struct Bench {
     texts: Vec<(String, String)>,
 }
 
+/// How many of these words are numbers.
+fn count_numbers(words: &[&str]) -> usize {
+    let mut count = 0_usize;
+    for word in words {
+        if number_of(word).is_some() {
+            count = count.saturating_add(1);
+        }
+    }
+    count
+}
+
+/// What only the type of a medium that may move to another thread is passed to.
+fn is_send<T: Send>() {}
+
 impl Bench {
     /// Nothing yet.
     pub fn new(rt: HostRuntime) -> Bench {
+        is_send::<MemPmem>();
+        is_send::<FilePmem<HostRuntime>>();
         Bench {
             rt,
             words: Vec::new(rt.alloc()),
@@ -50,144 +56,153 @@ impl Bench {
         }
     }
 
-    /// Carries out a line.
+    /// Carries out a line: a name, numbers, and then pairs or other words.
     pub fn carry_out(&mut self, line: &str) -> io::Result<()> {
-        let words = words_of(self.rt.alloc(), line)?;
+        let alloc = self.rt.alloc();
+        let words = words_of(alloc, line)?;
         let Some((name, rest)) = words.split_first() else {
             return self.rt.println("no command");
         };
-        if let Some(numbers) = numbers_of(self.rt.alloc(), rest)?
-            && self.by_numbers(name, &numbers)?
-        {
-            return Ok(());
+        let (numbers, rest) = rest.split_at(count_numbers(rest).min(rest.len()));
+        let Some(numbers) = numbers_of(alloc, numbers)? else {
+            return self.rt.println("no numbers");
+        };
+        match (pairs_of(alloc, rest)?, rest) {
+            (None, [file, lines @ ..]) => self.by_words(name, &numbers, file, lines),
+            (Some(pairs), _) => self.by_numbers(name, &numbers, &pairs),
+            _ => self.rt.println("no command"),
         }
-        if self.by_pairs(name, rest)? || self.on_disk(name, rest)? || self.at_edges(name, rest)? {
-            return Ok(());
-        }
-        self.rt.println("no command")
     }
 
-    /// Carries out a command that has only numbers, and says whether it is one.
-    fn by_numbers(&mut self, name: &str, numbers: &[u64]) -> io::Result<bool> {
-        if let Some(call) = call_of(name, numbers) {
-            self.subject.call(self.rt, call)?;
-            return Ok(true);
-        }
-        if let Some(step) = step_of(name, numbers) {
-            self.step(step)?;
-            return Ok(true);
-        }
-        Ok(
-            self.on_words(name, numbers)?
-                || self.on_file(name, numbers)?
-                || self.on_memory(name, numbers)?
-                || self.on_ring(name, numbers)?
-                || self.on_back(name, numbers)?,
-        )
-    }
-
-    /// Reads a record, or looks at a medium in a file.
-    fn on_file(&mut self, name: &str, numbers: &[u64]) -> io::Result<bool> {
-        match (name, numbers) {
-            ("decode", words) => say_decoded(self.rt, words)?,
-            ("note", &[count, value, later]) => self.subject.note(self.rt, count, value, later)?,
-            ("size", &[]) => self.subject.size(self.rt)?,
-            _ => return Ok(false),
-        }
-        Ok(true)
-    }
-
-    /// Prepares the words of a new medium in memory, and makes it.
-    fn on_words(&mut self, name: &str, numbers: &[u64]) -> io::Result<bool> {
+    /// Carries out a command that has numbers, and maybe pairs behind them.
+    fn by_numbers(&mut self, name: &str, numbers: &[u64], pairs: &[(u64, u64)]) -> io::Result<()> {
         match (name, numbers) {
             ("words", &[count, value]) => {
-                self.words = vec![in self.rt.alloc(); value; count as usize]?
+                self.words = vec![in self.rt.alloc(); value; count as usize]?;
+                self.say_count()
             }
             ("set", [at, values @ ..]) => self.set(*at, values),
-            ("memory", [budget, fail @ ..]) => self.start(*budget, fail, false)?,
-            ("late", [budget, fail @ ..]) => self.start(*budget, fail, true)?,
-            _ => return Ok(false),
+            ("memory", [late, budget, fail @ ..]) => self.start(*late != 0, *budget, fail),
+            ("decode", words) => say_decoded(self.rt, words),
+            ("ring", &[ring]) => self.begin_ring(ring),
+            ("release", &[number]) => self.release(number),
+            ("back", &[]) => self.begin_back(),
+            ("end", &[]) => self.end_back(),
+            ("announce", &[]) => self.step(Step::Announce),
+            ("reproduce", &[most]) => self.step(Step::Reproduce(most)),
+            ("each", &[calls]) => say_failures(self.rt, &self.words, &self.steps, calls),
+            ("combine", &[count]) => say_combined(self.rt, count, pairs),
+            ("encode" | "append" | "persist", _) => self.with_record(name, numbers, pairs),
+            _ => self.subject.carry_out(self.rt, name, numbers),
         }
-        let count = self.words.len();
-        println!(self.rt; "{count} words")?;
-        Ok(true)
+    }
+
+    /// Carries out a command on a record of these writes, of which the last number is that of the record.
+    fn with_record(
+        &mut self,
+        name: &str,
+        numbers: &[u64],
+        writes: &[(u64, u64)],
+    ) -> io::Result<()> {
+        let number = numbers.last().copied().unwrap_or(0);
+        let redo = match record_of(number, writes) {
+            Ok(redo) => redo,
+            Err(fault) => return self.rt.println(fault),
+        };
+        match (name, numbers) {
+            ("encode", &[_]) => say_cells(self.rt, &redo),
+            ("append", &[_]) => self.append(&redo),
+            ("persist", &[ring, _]) => self.step(Step::Persist(ring, redo)),
+            _ => self.rt.println("no command"),
+        }
+    }
+
+    /// Carries out a command that has words: the name of a file, or a text, and lines.
+    fn by_words(
+        &mut self,
+        name: &str,
+        numbers: &[u64],
+        file: &str,
+        lines: &[&str],
+    ) -> io::Result<()> {
+        let rt = self.rt;
+        match (name, numbers) {
+            ("file", &[]) => self.add_file(file, lines),
+            ("text", [limit, chunk, fail @ ..]) if *chunk >= 1 => {
+                let mut files = files_of(rt.alloc(), &self.texts, *chunk, fail)?;
+                say_read(rt, read_file(rt.alloc(), &mut files, file, *limit))
+            }
+            ("disk", &[limit]) => {
+                let mut files = RealFiles::new(rt);
+                say_read(rt, read_file(rt.alloc(), &mut files, file, limit))
+            }
+            ("sink", [room, chunk, fail @ ..]) if *chunk >= 1 => {
+                let mut sink = MemSink::new(rt.alloc(), *room, *chunk, fail.to_vec(rt.alloc())?)?;
+                say_sink(rt, &mut sink, file)
+            }
+            ("output", &[]) => say_output(rt, file),
+            ("open", writes) => self.open(file, writes.first().copied()),
+            ("open_beside", &[]) => Ok(drop(open(rt, file, None)?)),
+            ("bytes", places) => say_file(rt, file, places),
+            _ => change(rt, name, numbers, file, lines),
+        }
     }
 
     /// Sets words from a place on.
-    fn set(&mut self, at: u64, values: &[u64]) {
-        for (word, value) in self.words.iter_mut().skip(at as usize).zip(values) {
-            *word = *value;
+    fn set(&mut self, at: u64, values: &[u64]) -> io::Result<()> {
+        for k in 0..values.len() {
+            let place = k.saturating_add(at as usize);
+            if place < self.words.len() {
+                self.words[place] = values[k];
+            }
         }
+        self.say_count()
     }
 
-    /// A medium in memory with the words, of which calls over a budget fail, and those of these counts.
-    fn start(&mut self, budget: u64, fail: &[u64], late: bool) -> io::Result<()> {
-        let alloc = self.rt.alloc();
-        let words = self.words.clone()?;
-        let fail = fail.to_vec(alloc)?;
-        let budget = budget.min(10_000_000);
-        let medium = if late {
-            MemPmem::late(alloc, words, budget, fail)?
-        } else {
-            MemPmem::new(alloc, words, budget, fail)?
-        };
-        is_send(&medium);
+    /// Makes a medium in memory with the words.
+    fn start(&mut self, late: bool, budget: u64, fail: &[u64]) -> io::Result<()> {
+        let medium = medium_of(self.rt.alloc(), &self.words, late, budget, fail)?;
         self.subject = Subject::Memory(medium);
-        Ok(())
+        self.say_count()
     }
 
-    /// Looks at a medium in memory.
-    fn on_memory(&mut self, name: &str, numbers: &[u64]) -> io::Result<bool> {
-        let rt = self.rt;
-        let Some(medium) = self.subject.memory() else {
-            return Ok(false);
+    /// Prints how many words a new medium has.
+    fn say_count(&self) -> io::Result<()> {
+        let count = self.words.len();
+        println!(self.rt; "{count} words")
+    }
+
+    /// Makes a ring.
+    fn begin_ring(&mut self, ring: u64) -> io::Result<()> {
+        self.ring = Log::new(self.rt.alloc(), ring)?;
+        self.rt.println("ok")
+    }
+
+    /// Releases records of the ring.
+    fn release(&mut self, number: u64) -> io::Result<()> {
+        if let Some(log) = &mut self.ring {
+            log.release(number);
+        }
+        self.rt.println("ok")
+    }
+
+    /// Appends a record to the ring, and prints the answer.
+    fn append(&mut self, redo: &Redo) -> io::Result<()> {
+        let (Some(log), Subject::Memory(medium)) = (&mut self.ring, &mut self.subject) else {
+            return self.rt.println("no ring, or no medium");
         };
-        match (name, numbers) {
-            ("image", [moment, picks @ ..]) => say_image(rt, medium, *moment, picks)?,
-            ("crash", picks) => say_words(rt, &medium.crash(rt.alloc(), picks)?)?,
-            ("content", &[]) => say_words(rt, medium.content())?,
-            ("made", &[]) => say_made(rt, medium.made())?,
-            ("state", &[]) => say_state(rt, medium)?,
-            ("replay", &[]) => say_replay(rt, medium)?,
-            ("scan", &[above]) => say_scan(rt, medium, above)?,
-            ("moments", &[]) => say_moments(rt, medium)?,
-            ("save", &[value]) => say_saved(rt, medium, value, false)?,
-            ("save_and_tell", &[value]) => say_saved(rt, medium, value, true)?,
-            _ => return Ok(false),
+        match log.append(medium, redo) {
+            Some(Ok(())) => self.rt.println("ok"),
+            Some(Err(fault)) => self.rt.println(fault),
+            None => self.rt.println("not allowed"),
         }
-        Ok(true)
-    }
-
-    /// Makes a ring, or releases its records.
-    fn on_ring(&mut self, name: &str, numbers: &[u64]) -> io::Result<bool> {
-        match (name, numbers, &mut self.ring) {
-            ("ring", &[ring], _) => self.ring = Log::new(self.rt.alloc(), ring)?,
-            ("release", &[number], Some(log)) => log.release(number),
-            _ => return Ok(false),
-        }
-        self.rt.println("ok")?;
-        Ok(true)
-    }
-
-    /// Carries out a command on a back, or makes one of the medium in memory and a medium of it.
-    fn on_back(&mut self, name: &str, numbers: &[u64]) -> io::Result<bool> {
-        let rt = self.rt;
-        match (name, numbers, &mut self.subject) {
-            ("back", &[], _) => self.begin_back()?,
-            ("end", &[], _) => self.end_back()?,
-            ("each", &[calls], _) => say_failures(rt, &self.words, &self.steps, calls)?,
-            ("page", &[page], Subject::Back(trial)) => say_page(rt, trial, page)?,
-            ("numbers", &[], Subject::Back(trial)) => say_numbers(rt, trial)?,
-            _ => return Ok(false),
-        }
-        Ok(true)
     }
 
     /// Makes a back of the medium in memory.
     fn begin_back(&mut self) -> io::Result<()> {
         self.steps.clear();
         if let Subject::Memory(medium) = mem::replace(&mut self.subject, Subject::Nothing)
-            && let Some(trial) = Trial::new(self.rt.alloc(), medium)?
+            && let Some(trial) = Trial::new(self.rt.alloc(), medium)
         {
             self.subject = Subject::Back(trial);
             return self.rt.println("ok");
@@ -198,144 +213,39 @@ impl Bench {
     /// Makes a medium in memory of the back.
     fn end_back(&mut self) -> io::Result<()> {
         if let Subject::Back(trial) = mem::replace(&mut self.subject, Subject::Nothing) {
-            self.subject = Subject::Memory(trial.into_medium());
+            self.subject = Subject::Memory(trial.back.into_medium());
             return self.rt.println("ok");
         }
         self.rt.println("no back")
     }
 
-    /// Makes a call on the back.
+    /// Makes a call on the back, and prints its answer.
     fn step(&mut self, step: Step) -> io::Result<()> {
-        match &mut self.subject {
-            Subject::Back(trial) => say_step(self.rt, trial, &step)?,
-            _ => self.rt.println("no back")?,
-        }
+        let answer = match &mut self.subject {
+            Subject::Back(trial) => trial.take(&step)?,
+            _ => None,
+        };
         self.steps.push(step)?;
-        Ok(())
-    }
-
-    /// Carries out a command that has numbers and then the writes of a record.
-    fn by_pairs(&mut self, name: &str, words: &[&str]) -> io::Result<bool> {
-        let alloc = self.rt.alloc();
-        let at = words.iter().position(|word| pair_of(word).is_some());
-        let (numbers, pairs) = words.split_at(at.unwrap_or(words.len()));
-        let (Some(numbers), Some(writes)) = (numbers_of(alloc, numbers)?, pairs_of(alloc, pairs)?)
-        else {
-            return Ok(false);
-        };
-        match (name, numbers.as_slice()) {
-            ("append", &[number]) => self.append(number, &writes)?,
-            ("encode", &[number]) => say_cells(self.rt, number, &writes)?,
-            ("persist", &[ring, number]) => self.step(Step::Persist {
-                ring,
-                number,
-                writes,
-            })?,
-            _ => return Ok(false),
-        }
-        Ok(true)
-    }
-
-    /// Appends a record to the ring, and prints the answer.
-    fn append(&mut self, number: u64, writes: &[(u64, u64)]) -> io::Result<()> {
-        let (Some(log), Some(medium), Ok(redo)) = (
-            &mut self.ring,
-            self.subject.memory(),
-            record_of(number, writes),
-        ) else {
-            return self.rt.println("no ring, or too many writes");
-        };
-        match log.append(medium, &redo) {
-            Some(appended) => say_done(self.rt, appended),
+        match answer {
+            Some(Ok(number)) => self.rt.println(number),
+            Some(Err(fault)) => self.rt.println(fault),
             None => self.rt.println("not allowed"),
         }
     }
 
-    /// Carries out a command on a file on disk.
-    fn on_disk(&mut self, name: &str, words: &[&str]) -> io::Result<bool> {
-        let Some((file, rest)) = words.split_first() else {
-            return Ok(false);
-        };
-        let Some(numbers) = numbers_of(self.rt.alloc(), rest)? else {
-            return Ok(false);
-        };
-        match (name, numbers.as_slice()) {
-            ("fill", &[len, byte]) => write_bytes(self.rt, file, len, byte)?,
-            ("bytes", places) => say_file(self.rt, file, places)?,
-            ("open", &[]) => {
-                self.subject = Subject::Nothing;
-                self.subject = open(self.rt, file)?;
-            }
-            ("open_failing", &[write]) => {
-                self.subject = Subject::Nothing;
-                self.subject = open_faulty(self.rt, file, write)?;
-            }
-            ("open_beside", &[]) => drop(open(self.rt, file)?),
-            ("folder", &[]) => make_folder(self.rt, file)?,
-            ("names", &[]) => say_names(self.rt, file)?,
-            ("remove", &[]) => remove(self.rt, file)?,
-            ("disk", &[limit]) => say_text(self.rt, &mut RealFiles::new(self.rt), file, limit)?,
-            _ => return Ok(false),
-        }
-        Ok(true)
+    /// Opens the medium in a file, once that of before is let go.
+    fn open(&mut self, file: &str, failing: Option<u64>) -> io::Result<()> {
+        self.subject = Subject::Nothing;
+        self.subject = open(self.rt, file, failing)?;
+        Ok(())
     }
 
-    /// Carries out a command on texts.
-    fn at_edges(&mut self, name: &str, words: &[&str]) -> io::Result<bool> {
-        match (name, words) {
-            ("file", [file, lines @ ..]) => self.add_file(file, lines)?,
-            ("store", [file, lines @ ..]) => store(self.rt, file, lines)?,
-            ("text", [file, numbers @ ..]) => self.say_file(file, numbers)?,
-            ("sink", [room, chunk, fail, words @ ..]) => {
-                say_sink(self.rt, [room, chunk, fail], words)?
-            }
-            ("output", words) => say_output(self.rt, &text_of(self.rt.alloc(), words, " ")?)?,
-            ("combine", words) => combine_words(self.rt, words)?,
-            _ => return Ok(false),
-        }
-        Ok(true)
-    }
-
-    /// Adds a file in memory.
+    /// Adds a file in memory, and prints how many bytes it has.
     fn add_file(&mut self, name: &str, lines: &[&str]) -> io::Result<()> {
         let name = String::from_str(self.rt.alloc(), name)?;
-        let text = text_of(self.rt.alloc(), lines, "\n")?;
+        let text = text_of(self.rt.alloc(), lines)?;
         let count = text.len();
         self.texts.push((name, text))?;
         println!(self.rt; "{count} bytes")
     }
-
-    /// Reads a file in memory up to a limit, so many bytes at most in a call, where the calls of these counts fail.
-    fn say_file(&self, name: &str, words: &[&str]) -> io::Result<()> {
-        let numbers = numbers_of(self.rt.alloc(), words)?.unwrap_or(Vec::new(self.rt.alloc()));
-        match numbers.as_slice() {
-            [limit, chunk, fail @ ..] if *chunk >= 1 => {
-                let mut files = files_of(self.rt.alloc(), &self.texts, *chunk, fail)?;
-                say_text(self.rt, &mut files, name, *limit)
-            }
-            _ => self.rt.println("no numbers"),
-        }
-    }
-}
-
-/// Combines the records of the writes before and behind the word `then`.
-fn combine_words(rt: HostRuntime, words: &[&str]) -> io::Result<()> {
-    let at = words
-        .iter()
-        .position(|word| *word == "then")
-        .unwrap_or(words.len());
-    let (first, rest) = words.split_at(at);
-    let second = rest.get(1..).unwrap_or_default();
-    match (pairs_of(rt.alloc(), first)?, pairs_of(rt.alloc(), second)?) {
-        (Some(first), Some(second)) => say_combined(rt, &first, &second),
-        _ => rt.println("no pairs"),
-    }
-}
-
-/// Settles a value where the medium is long enough, and prints whether that was done.
-fn say_saved(rt: HostRuntime, medium: &mut MemPmem, value: u64, tell: bool) -> io::Result<()> {
-    if medium.len() < 16 {
-        return rt.println("no such place");
-    }
-    say_done(rt, in_words(save_safe(medium, value, tell)))
 }

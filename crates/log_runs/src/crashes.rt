@@ -1,8 +1,7 @@
 //! Runs of a back in which a call on the medium fails: it is dead from then on, and each image recovers.
 
-use crate::records::WORDS;
-use crate::step::{Step, persist};
-use crate::trial::Trial;
+use crate::records::{WORDS, apply, record_of};
+use crate::trial::{Step, Trial};
 use back_store::BackFault;
 use dude_base::limits::VERSION;
 use pmem_fake::MemPmem;
@@ -17,104 +16,105 @@ pub fn say_failures(rt: HostRuntime, words: &[u64], steps: &[Step], calls: u64) 
     let mut well = 0_u64;
     for call in 1..=calls {
         for late in [false, true] {
-            let medium = failing_medium(rt.alloc(), words, call, late)?;
+            let medium = medium_of(rt.alloc(), words, late, 2_000, &[call])?;
             if goes_well(rt.alloc(), medium, steps, call)? {
                 well = well.saturating_add(1);
-            } else {
-                println!(rt; "call {call} goes wrong, late {late}")?;
             }
         }
     }
     println!(rt; "{well} runs end at the failed call, stay dead and leave images that recover")
 }
 
-fn failing_medium(
+/// A medium in memory with these words, of which calls over a budget fail, and those of these counts.
+pub fn medium_of(
     alloc: Global,
     words: &[u64],
-    call: u64,
     late: bool,
+    budget: u64,
+    fail: &[u64],
 ) -> Result<MemPmem, AllocError> {
     let words = words.to_vec(alloc)?;
-    let fail = vec![in alloc; call]?;
+    let fail = fail.to_vec(alloc)?;
+    let budget = budget.min(10_000_000);
     if late {
-        MemPmem::late(alloc, words, 2_000, fail)
+        MemPmem::late(alloc, words, budget, fail)
     } else {
-        MemPmem::new(alloc, words, 2_000, fail)
+        MemPmem::new(alloc, words, budget, fail)
     }
 }
 
 /// Whether the steps end at the failed call, the back does nothing more, and each image recovers.
-fn goes_well(alloc: Global, medium: MemPmem, steps: &[Step], call: u64) -> io::Result<bool> {
-    let Some(mut trial) = Trial::new(alloc, medium)? else {
+fn goes_well(
+    alloc: Global,
+    medium: MemPmem,
+    steps: &[Step],
+    call: u64,
+) -> Result<bool, AllocError> {
+    let Some(mut trial) = Trial::new(alloc, medium) else {
         return Ok(false);
     };
-    let ends = ends_at_device(&mut trial, steps)?;
-    let most = trial.asked();
-    let (durable, _, dead) = trial.numbers();
+    let ends = first_fault(&mut trial, steps)? == Some(Err(BackFault::Device));
+    let most = trial.persisted.len() as u64;
     let stays = stays_dead(&mut trial)?;
-    let medium = trial.into_medium();
-    let count = medium.now() == call && medium.faults() == 1;
+    let least = trial.back.durable();
+    let medium = trial.back.into_medium();
     let ones = vec![in alloc; 1; WORDS]?;
     Ok(
-        ends && dead
-            && stays
-            && count
-            && survives(alloc, &medium, steps, &[], durable, most)?
-            && survives(alloc, &medium, steps, &ones, durable, most)?,
+        ends && stays
+            && medium.now() == call
+            && medium.faults() == 1
+            && survives(alloc, &medium.crash(alloc, &[])?, steps, least, most)?
+            && survives(alloc, &medium.crash(alloc, &ones)?, steps, least, most)?,
     )
 }
 
-/// Whether the first step without an answer says that the medium failed.
-fn ends_at_device(trial: &mut Trial, steps: &[Step]) -> Result<bool, AllocError> {
-    for step in steps {
-        match step.take(trial)? {
+/// The first answer that is none or a fault; none where each step was done.
+fn first_fault(
+    trial: &mut Trial,
+    steps: &[Step],
+) -> Result<Option<Result<u64, BackFault>>, AllocError> {
+    for k in 0..steps.len() {
+        match trial.take(&steps[k])? {
             Some(Ok(_)) => {}
-            fault => return Ok(fault == Some(Err(BackFault::Device))),
+            fault => return Ok(fault),
         }
     }
-    Ok(false)
+    Ok(None)
 }
 
-/// Whether each call answers that the back is dead.
+/// Whether the back is dead, and each call answers that.
 fn stays_dead(trial: &mut Trial) -> Result<bool, AllocError> {
-    let dead = Err(BackFault::Dead);
+    let dead = Some(Err(BackFault::Dead));
+    let Ok(redo) = record_of(9, &[(5, 90), (576, 109)]) else {
+        return Ok(false);
+    };
     Ok(
-        trial.announce() == dead
-            && trial.reproduce(9) == dead
-            && trial.page(0) == Err(BackFault::Dead)
-            && persist(trial, 0, 9, &[(5, 90), (576, 109)])? == Some(dead),
+        trial.back.is_dead()
+            && trial.take(&Step::Announce)? == dead
+            && trial.take(&Step::Reproduce(9))? == dead
+            && trial.take(&Step::Persist(0, redo))? == dead
+            && trial.page(0) == Err(BackFault::Dead),
     )
 }
 
-/// Whether a crash now leaves an image that recovers to a number from `least` to `most`, and to the home after its records.
+/// Whether an image recovers to a number from `least` to `most`, and to the home after the records up to it.
 fn survives(
     alloc: Global,
-    medium: &MemPmem,
+    image: &[u64],
     steps: &[Step],
-    picks: &[u64],
     least: u64,
     most: u64,
 ) -> Result<bool, AllocError> {
-    let image = medium.crash(alloc, picks)?;
-    let Replay::Recovered { number, home } = recover(alloc, &image, VERSION)? else {
+    let Replay::Recovered { number, home } = recover(alloc, image, VERSION)? else {
         return Ok(false);
     };
-    let wanted = home_after(alloc, steps, number, home.len())?;
-    Ok(least <= number && number <= most && home == wanted)
-}
-
-/// The home after the records up to a number.
-fn home_after(
-    alloc: Global,
-    steps: &[Step],
-    last: u64,
-    words: usize,
-) -> Result<Vec<u64>, AllocError> {
-    let mut home = vec![in alloc; 0; words]?;
-    for number in 1..=last {
-        for step in steps {
-            step.write(number, &mut home);
+    let mut wanted = vec![in alloc; 0; home.len()]?;
+    for step in steps {
+        if let Step::Persist(_, redo) = step
+            && redo.number() <= number
+        {
+            apply(redo, &mut wanted);
         }
     }
-    Ok(home)
+    Ok(least <= number && number <= most && home == wanted)
 }

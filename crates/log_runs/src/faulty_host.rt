@@ -1,17 +1,17 @@
-//! The host, of whose files one write fails, and whose standard error takes nothing.
+//! The host, of whose files one write may fail; its standard error takes nothing then.
 
-use crate::faulty_file::{FaultyFile, failure};
+use dude_io::Lock;
 use std::alloc::{Allocator, Global};
 use std::fmt::Display;
-use std::fs::{Metadata, OpenOptions};
-use std::io;
+use std::fs::{File, Metadata, OpenFile, OpenOptions};
+use std::io::{self, ErrorKind, Read, Seek, SeekFrom, Write};
 use std::rt::Files;
 
-/// The host with files of which a write fails, once in each file. Writes are counted from 0.
+/// The host, where it is said with files of which a write fails, once in each file. Writes are counted from 0.
 #[derive(Drop)]
 pub struct FaultyHost {
     pub rt: HostRuntime,
-    pub failing: u64,
+    pub failing: Option<u64>,
 }
 
 impl Files for FaultyHost {
@@ -22,7 +22,7 @@ impl Files for FaultyHost {
     fn open_file(&self, how: &OpenOptions, path: &str) -> io::Result<FaultyFile> {
         Ok(FaultyFile {
             file: self.rt.open_file(how, path)?,
-            left: self.failing,
+            left: self.failing.unwrap_or(u64::MAX),
         })
     }
 
@@ -76,11 +76,81 @@ impl Alloc for FaultyHost {
 }
 
 impl Eprint for FaultyHost {
-    fn eprint<D: Display + Drop>(&self, _value: D) -> io::Result<()> {
-        Err(failure())
+    fn eprint<D: Display + Drop>(&self, value: D) -> io::Result<()> {
+        match self.failing {
+            Some(_) => Err(failure()),
+            None => self.rt.eprint(value),
+        }
     }
 
-    fn eprintln<D: Display + Drop>(&self, _value: D) -> io::Result<()> {
-        Err(failure())
+    fn eprintln<D: Display + Drop>(&self, value: D) -> io::Result<()> {
+        match self.failing {
+            Some(_) => Err(failure()),
+            None => self.rt.eprintln(value),
+        }
+    }
+}
+
+/// A file of which a write may fail, once.
+#[derive(Drop)]
+pub struct FaultyFile {
+    file: File,
+    /// How many writes are made before the one that fails.
+    left: u64,
+}
+
+/// What fails.
+fn failure() -> io::Error {
+    io::Error::from(ErrorKind::Other)
+}
+
+impl Read for FaultyFile {
+    fn read(&mut self, buf: &mut [u8]) -> io::Result<usize> {
+        self.file.read(buf)
+    }
+}
+
+impl Write for FaultyFile {
+    fn write(&mut self, buf: &[u8]) -> io::Result<usize> {
+        if self.left == 0 {
+            self.left = u64::MAX;
+            return Err(failure());
+        }
+        self.left -= 1;
+        self.file.write(buf)
+    }
+
+    fn flush(&mut self) -> io::Result<()> {
+        self.file.flush()
+    }
+}
+
+impl Seek for FaultyFile {
+    fn seek(&mut self, to: SeekFrom) -> io::Result<u64> {
+        self.file.seek(to)
+    }
+}
+
+impl OpenFile for FaultyFile {
+    fn metadata(&self) -> io::Result<Metadata> {
+        self.file.metadata()
+    }
+
+    fn set_len(&self, size: u64) -> io::Result<()> {
+        self.file.set_len(size)
+    }
+
+    fn sync_all(&self) -> io::Result<()> {
+        self.file.sync_all()
+    }
+
+    fn sync_data(&self) -> io::Result<()> {
+        self.file.sync_data()
+    }
+}
+
+impl Lock for FaultyFile {
+    fn try_lock(&self) -> io::Result<()> {
+        Lock::try_lock(&self.file)
     }
 }

@@ -4,23 +4,17 @@
 //! The script is read from standard input; what each of its lines does stands at its head.
 #![tactic(auto)]
 
-mod back_commands;
 mod bench;
-mod cells;
 mod crashes;
 mod disk;
 mod edges;
-mod faulty_file;
 mod faulty_host;
 mod log;
-mod medium_calls;
-mod memory_commands;
-mod moments;
+mod medium;
 mod records;
+mod replays;
 mod save;
 mod say;
-mod step;
-mod subject;
 mod trial;
 
 use bench::Bench;

@@ -2,11 +2,13 @@
 ghost use Rattle.std.specs.Prelude.{◌≡◌, ◌<◌, All, IsTrue, IfSome};
 ghost use Rattle.dude_base.specs.Sizes.{IsAccepted, sizes_for};
 
-use crate::say::say_pairs;
+use dude_base::limits::MAX_NUMBER;
 use dude_base::redo::Redo;
 use dude_base::sizes::Sizes;
 use dude_base::wide::Wide;
 use dude_base::write::Write;
+use group_combine::{Group, combine};
+use redo_record::{cells_of, decode, encode};
 use std::io;
 
 /// How many words the home of the small image has.
@@ -43,14 +45,67 @@ pub fn is_home(redo: &Redo) -> bool
     true
 }
 
-/// The writes of a record, behind its number.
-pub fn say_record(rt: HostRuntime, redo: &Redo) -> io::Result<()> {
-    let number = redo.number();
-    let mut writes = Vec::new(rt.alloc());
+/// Overwrites the home by a record.
+pub fn apply(redo: &Redo, home: &mut [u64]) {
     for k in 0..redo.len() {
         let write = redo.write_at(k);
-        writes.push((write.at, write.value))?;
+        let at = write.at as usize;
+        if at < home.len() {
+            home[at] = write.value;
+        }
     }
+}
+
+/// Prints the writes of a record, behind its number.
+pub fn say_record(rt: HostRuntime, redo: &Redo) -> io::Result<()> {
+    let number = redo.number();
     print!(rt; "record {number}:")?;
-    say_pairs(rt, &writes)
+    for k in 0..redo.len() {
+        say_write(rt, redo.write_at(k))?;
+    }
+    println!(rt)
+}
+
+/// Prints a write behind what stands on the line.
+fn say_write(rt: HostRuntime, write: Write) -> io::Result<()> {
+    let Write { at, value } = write;
+    print!(rt; " {at}={value}")
+}
+
+/// Prints how many cells a record has, and the words of each.
+pub fn say_cells(rt: HostRuntime, redo: &Redo) -> io::Result<()> {
+    let count = cells_of(redo);
+    println!(rt; "{count} cells")?;
+    if redo.number() < 1 || redo.number() > MAX_NUMBER {
+        return Ok(());
+    }
+    for cell in 0..count {
+        let mut words = [9; 8];
+        encode(redo, cell, &mut words);
+        println!(rt; "{words:?}")?;
+    }
+    Ok(())
+}
+
+/// Prints the record that these words hold.
+pub fn say_decoded(rt: HostRuntime, words: &[u64]) -> io::Result<()> {
+    match decode(words) {
+        Ok(redo) => say_record(rt, &redo),
+        Err(fault) => rt.println(fault),
+    }
+}
+
+/// Prints the writes that stand for two records, of which the first has so many of these.
+pub fn say_combined(rt: HostRuntime, count: u64, writes: &[(u64, u64)]) -> io::Result<()> {
+    let (first, second) = writes.split_at(writes.len().min(count as usize));
+    let (Ok(first), Ok(second)) = (record_of(1, first), record_of(2, second)) else {
+        return rt.println("too many writes");
+    };
+    let mut group = Group::new(rt.alloc(), first.len() + second.len())?;
+    combine(&[first, second], &mut group);
+    rt.print("writes")?;
+    for k in 0..group.len() {
+        say_write(rt, group.get(k))?;
+    }
+    println!(rt)
 }

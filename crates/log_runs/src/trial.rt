@@ -16,11 +16,19 @@ use pmem_fake::MemPmem;
 use pmem_trait::Medium;
 use std::alloc::{AllocError, Global};
 
+/// A call on the back of the store.
+#[derive(Drop)]
+pub enum Step {
+    Persist(u64, Redo),
+    Announce,
+    Reproduce(u64),
+}
+
 /// A back over the small image, and the numbers persisted, each behind its ring.
 #[derive(Drop)]
 pub struct Trial {
-    back: Back<MemPmem>,
-    persisted: Vec<(u64, u64)>,
+    pub back: Back<MemPmem>,
+    pub persisted: Vec<(u64, u64)>,
     ghost sizes: { (state_of back).log.sizes ≡ sizes_for 8 96 2 16 },
     ghost listed: { (w : Waiting) → Contains (waiting_now (state_of back)) w → IsTrue (is_listed persisted.items w.ring w.redo.number) },
 }
@@ -29,7 +37,8 @@ pub struct Trial {
 fn may_follow(persisted: &[(u64, u64)], ring: u64, number: u64) -> bool
     ensures { IsTrue result → All (λ p. (p.1 ≢ number) × (p.0 ≡ ring → p.1 < number)) persisted.now }
 {
-    for &(other, before) in persisted {
+    for k in 0..persisted.len() {
+        let (other, before) = persisted[k];
         if before == number || other == ring && before > number {
             return false;
         }
@@ -39,24 +48,34 @@ fn may_follow(persisted: &[(u64, u64)], ring: u64, number: u64) -> bool
 
 impl Trial {
     /// A back where nothing waits; none where the medium has no room for the image.
-    pub fn new(alloc: Global, medium: MemPmem) -> Result<Option<Trial>, AllocError> {
-        let Some(sizes) = small_sizes() else {
-            return Ok(None);
-        };
+    pub fn new(alloc: Global, medium: MemPmem) -> Option<Trial> {
+        let sizes = small_sizes()?;
         if medium.len() < Place::of(&sizes).words() {
-            return Ok(None);
+            return None;
         }
         match Back::new(alloc, medium, &sizes, 0) {
-            Ok(back) => Ok(Some(Trial {
+            Ok(back) => Some(Trial {
                 back,
                 persisted: Vec::new(alloc),
-            })),
-            Err((refused, _medium)) => Err(refused),
+            }),
+            Err(_) => None,
         }
     }
 
-    /// Persists a record; `None` where the back doesn't take it.
-    pub fn persist(
+    /// Makes a call; `None` where the back doesn't take it. One that persists answers the number.
+    pub fn take(&mut self, step: &Step) -> Result<Option<Result<u64, BackFault>>, AllocError> {
+        match step {
+            Step::Persist(ring, redo) => match self.persist(*ring, redo)? {
+                Some(Ok(())) => Ok(Some(Ok(redo.number()))),
+                Some(Err(fault)) => Ok(Some(Err(fault))),
+                None => Ok(None),
+            },
+            Step::Announce => Ok(Some(self.announce())),
+            Step::Reproduce(most) => Ok(Some(self.reproduce(*most))),
+        }
+    }
+
+    fn persist(
         &mut self,
         ring: u64,
         redo: &Redo,
@@ -74,18 +93,11 @@ impl Trial {
         Ok(Some(self.back.persist(ring, redo)))
     }
 
-    /// How many records a back was asked to persist.
-    pub fn asked(&self) -> u64 {
-        self.persisted.len() as u64
-    }
-
-    /// Announces the number to which waiting records lead.
-    pub fn announce(&mut self) -> Result<u64, BackFault> {
+    fn announce(&mut self) -> Result<u64, BackFault> {
         self.back.announce()
     }
 
-    /// Reproduces the next at most `most` durable records.
-    pub fn reproduce(&mut self, most: u64) -> Result<u64, BackFault> {
+    fn reproduce(&mut self, most: u64) -> Result<u64, BackFault> {
         self.back.reproduce(most)
     }
 
@@ -96,19 +108,5 @@ impl Trial {
         let mut words = [0; 64];
         self.back.read_page(page, &mut words)?;
         Ok(words)
-    }
-
-    /// The durable number, the reproduced one, and whether the back is dead.
-    pub fn numbers(&self) -> (u64, u64, bool) {
-        (
-            self.back.durable(),
-            self.back.reproduced(),
-            self.back.is_dead(),
-        )
-    }
-
-    /// The medium, as it is.
-    pub fn into_medium(self) -> MemPmem {
-        self.back.into_medium()
     }
 }

@@ -1,0 +1,97 @@
+//! Images that a crash leaves, replayed by a scan of their rings and by the slow replay.
+
+use crate::records::{WORDS, apply, say_record, small_sizes};
+use crate::say::say_words;
+use dude_base::limits::VERSION;
+use dude_base::place::Place;
+use dude_base::redo::Redo;
+use log_ring::{ScanFault, scan};
+use pmem_fake::MemPmem;
+use pmem_trait::Medium;
+use slow_recovery::{Replay, recover};
+use std::alloc::{AllocError, Global};
+use std::io;
+
+/// The first home word of the small image.
+const FIRST_HOME: usize = 272;
+
+/// Prints what the slow replay makes of the image that a crash leaves now, where each word takes its settled value.
+pub fn say_replay(rt: HostRuntime, medium: &MemPmem) -> io::Result<()> {
+    let image = medium.crash(rt.alloc(), &[])?;
+    match recover(rt.alloc(), &image, VERSION)? {
+        Replay::Recovered { number, home } => {
+            println!(rt; "recovers to {number}")?;
+            say_words(rt, &home)
+        }
+        refused => println!(rt; "{refused:?}"),
+    }
+}
+
+/// The records over a number of the small image on a medium. A medium that is too short fails.
+fn records_over(alloc: Global, medium: &mut MemPmem, above: u64) -> Result<Vec<Redo>, ScanFault> {
+    let Some(sizes) = small_sizes() else {
+        return Err(ScanFault::Device);
+    };
+    let place = Place::of(&sizes);
+    if medium.len() < place.words() {
+        return Err(ScanFault::Device);
+    }
+    scan(alloc, medium, &place, above)
+}
+
+/// Prints the records over a number.
+pub fn say_scan(rt: HostRuntime, medium: &mut MemPmem, above: u64) -> io::Result<()> {
+    match records_over(rt.alloc(), medium, above) {
+        Ok(records) => {
+            for redo in &records {
+                say_record(rt, redo)?;
+            }
+            Ok(())
+        }
+        Err(fault) => rt.println(fault),
+    }
+}
+
+/// Prints of how many images at all moments, of settled values and of first later ones, a scan gives the slow replay.
+pub fn say_moments(rt: HostRuntime, medium: &MemPmem) -> io::Result<()> {
+    let ones = vec![in rt.alloc(); 1; WORDS]?;
+    let moments = u128::from(medium.now()) + 1;
+    let mut agree = 0_u64;
+    for moment in 0..=medium.now() {
+        for picks in [&[], ones.as_slice()] {
+            if let Ok(image) = medium.images_at(rt.alloc(), moment, picks)
+                && agrees(rt.alloc(), &image)?
+            {
+                agree = agree.saturating_add(1);
+            }
+        }
+    }
+    println!(rt; "{moments} moments, {agree} images agree with the slow replay")
+}
+
+/// Whether a scan over its mark replays an image as the slow replay does.
+fn agrees(alloc: Global, image: &[u64]) -> Result<bool, AllocError> {
+    let mark = image.get(8).copied().unwrap_or(0);
+    let mut medium = MemPmem::new(alloc, image.to_vec(alloc)?, 1_000, Vec::new(alloc))?;
+    let found = records_over(alloc, &mut medium, mark);
+    match (recover(alloc, image, VERSION)?, found) {
+        (Replay::Recovered { number, home }, Ok(records)) => {
+            let mut own = image.get(FIRST_HOME..).unwrap_or_default().to_vec(alloc)?;
+            Ok(number == apply_all(&records, mark, &mut own) && home == own)
+        }
+        (Replay::Damaged { line }, Err(fault)) => Ok(fault == ScanFault::Damaged { line }),
+        _ => Ok(false),
+    }
+}
+
+/// Overwrites the home by the records that follow one another over the mark, and answers the last number.
+fn apply_all(records: &[Redo], mark: u64, home: &mut [u64]) -> u64 {
+    let mut number = mark;
+    for redo in records {
+        if redo.number() == number.saturating_add(1) {
+            apply(redo, home);
+            number = redo.number();
+        }
+    }
+    number
+}
