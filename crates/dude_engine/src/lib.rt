@@ -8,4 +8,4 @@ mod run_fault;
 
 pub use one_thread::plain;
 pub use ran::{Ran, RanEnd};
-pub use request_service::run_request;
+pub use tatp_core::run_request;

@@ -18,8 +18,8 @@ ghost use Rattle.dude_engine.specs.Running.{AddsTurn, AddsUnless, IsChanging, Is
 
 use crate::run_fault::RunFault;
 use pmem_trait::Medium;
-use request_service::run_request;
 use run_log::RunLog;
+use tatp_core::run_request;
 use tatp_layout::Layout;
 use tatp_model::{Done, Reply, Request};
 use word_space::flat::Flat;

@@ -7,5 +7,6 @@ pub mod Locations
 pub mod OfKind
 pub mod Outcomes
 pub mod Phones
+pub mod Reading
 pub mod Subscribers
 pub mod Writes

@@ -1,3 +1,4 @@
 pub mod Kinds
 pub mod Phones
+pub mod Reads
 pub mod Serves

@@ -1,7 +1,7 @@
 use Rattle.std.proofs.Common.{rules}
-use Rattle.request_service.specs.Reads.{IsRead}
-use Rattle.request_service.proofs.Reading.{serves_read}
-use Rattle.request_service.proofs.request.run_request.Goals as goal
+use Rattle.tatp_core.specs.Reads.{IsRead}
+use Rattle.tatp_core.proofs.Reading.{serves_read}
+use Rattle.tatp_core.proofs.request.run_request.Goals as goal
 
 pub returns-in_default-clause-serves : goal.returns-in_default-clause-serves
 returns-in_default-clause-serves g c =

@@ -11,9 +11,12 @@ ghost use Rattle.tatp_model.specs.Request.{IsInRange};
 ghost use Rattle.tatp_model.specs.Transaction.{reply_to};
 ghost use Rattle.tatp_layout.specs.StandsFor.{StandsFor};
 ghost use Rattle.tatp_core.specs.Serves.{Serves, WritesIfChanged};
-ghost use Rattle.request_service.specs.Reads.{IsRead};
+ghost use Rattle.tatp_core.specs.Reads.{IsRead};
 
-use tatp_core::{write_delete, write_insert, write_location, write_subscriber};
+use crate::delete::write_delete;
+use crate::insert::write_insert;
+use crate::location::write_location;
+use crate::subscriber::write_subscriber;
 use tatp_layout::Layout;
 use tatp_model::{Reply, Request};
 use tatp_read::{read_access, read_destination, read_subscriber};

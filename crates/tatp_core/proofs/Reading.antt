@@ -13,7 +13,7 @@ use Rattle.tatp_model.specs.Database.{Database}
 use Rattle.tatp_model.specs.Transaction.{reply_to, after_request}
 use Rattle.tatp_layout.specs.StandsFor.{StandsFor}
 use Rattle.tatp_core.specs.Serves.{Serves}
-use Rattle.request_service.specs.Reads.{IsRead}
+use Rattle.tatp_core.specs.Reads.{IsRead}
 
 pub after_read : (limit : ℕ) (db : Database) (q : Request) → IsRead q → after_request limit db q ≡ db
 after_read limit db (GetSubscriber s_id) read = refl

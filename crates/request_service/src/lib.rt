@@ -1,6 +1,0 @@
-//! A request over the words of a home, whatever its kind.
-#![tactic(auto)]
-
-mod request;
-
-pub use request::run_request;
