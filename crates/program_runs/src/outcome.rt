@@ -1,40 +1,123 @@
 //! What a command left.
 
-use command_output::Fault;
-use dude_io::{MemFiles, MemSink};
 use pmem_fake::MemPmem;
-use pmem_trait::{Call, Medium};
+use pmem_trait::{Call, Made, Medium};
+use std::alloc::{AllocError, Global};
 use tatp_model::Done;
 
 /// What a command left.
 #[derive(Drop)]
 pub struct Outcome {
-    pub status: u8,
-    pub fault: Option<Fault>,
-    pub done: Vec<Done>,
+    /// The words on which it began.
+    pub before: Vec<u64>,
+    /// Lines that say how it ended.
+    pub answer: String,
     pub medium: MemPmem,
-    pub files: MemFiles,
-    pub sink: MemSink,
+    /// The requests done.
+    pub done: Vec<Done>,
+    /// The output of a command of the product.
+    pub printed: Option<Vec<u8>>,
+    /// Whether the next read of file `f` and the next write of the sink fail.
+    pub next_fail: bool,
 }
 
 impl Outcome {
-    /// The output as a text.
-    pub fn printed(&self) -> &str {
-        str::from_utf8(self.sink.bytes()).unwrap_or("(no text)")
-    }
-
-    /// Whether the command made so many calls on the medium, of which only the last one failed.
-    pub fn failed_at(&self, call: u64) -> bool {
-        self.medium.now() == call && self.medium.faults() == 1
+    /// What is left where there were no requests and no output.
+    pub fn new(
+        alloc: Global,
+        before: &[u64],
+        answer: String,
+        medium: MemPmem,
+    ) -> Result<Outcome, AllocError> {
+        Ok(Outcome {
+            before: before.to_vec(alloc)?,
+            answer,
+            medium,
+            done: Vec::new(alloc),
+            printed: None,
+            next_fail: false,
+        })
     }
 
     /// How many calls on the medium were made up to this one, with it.
     pub fn calls_to(&self, call: Call) -> Option<u64> {
-        let index = self
-            .medium
-            .made()
-            .iter()
-            .position(|made| made.call == call)?;
-        Some((index as u64).saturating_add(1))
+        let made = self.medium.made();
+        for at in 0..made.len() {
+            if made[at].call == call {
+                return Some(at as u64 + 1);
+            }
+        }
+        None
+    }
+
+    /// Whether so many calls were made on the medium, of which only the last one failed.
+    pub fn failed_at(&self, call: u64) -> bool {
+        self.medium.now() == call && self.medium.faults() == 1
+    }
+
+    /// The line that says how many requests were done, what was told last, and what was done to the medium.
+    pub fn ending(&self, alloc: Global) -> Result<String, AllocError> {
+        let done = self.done.len();
+        let told = self.told(alloc)?;
+        let words = self.words_left(alloc)?;
+        let failed = if self.medium.faults() == 0 {
+            ""
+        } else if self.failed_at(self.medium.made().len() as u64) {
+            ", only the last call on the medium failed"
+        } else {
+            ", the medium failed"
+        };
+        format!(in alloc; "done {done}, {told}, {words}{failed}\n")
+    }
+
+    /// What was told last.
+    pub fn told(&self, alloc: Global) -> Result<String, AllocError> {
+        match self.medium.told() {
+            None => String::from_str(alloc, "told nothing"),
+            Some(number) => format!(in alloc; "told {number}"),
+        }
+    }
+
+    /// What was done to the words of the medium.
+    fn words_left(&self, alloc: Global) -> Result<&'static str, AllocError> {
+        if self.medium.now() == 0 {
+            return Ok("the medium not called");
+        }
+        if only_reads(self.medium.made()) {
+            return Ok("the medium only read");
+        }
+        let left = crash_at(alloc, &self.medium, self.medium.now(), true)?;
+        let same = self.medium.content() == self.before.as_slice() && left == self.before;
+        Ok(if same {
+            "the same words"
+        } else {
+            "other words"
+        })
+    }
+}
+
+/// Whether all these calls are reads.
+fn only_reads(made: &[Made]) -> bool {
+    for made in made {
+        if !matches!(made.call, Call::Read(_)) {
+            return false;
+        }
+    }
+    true
+}
+
+/// The image that a crash leaves at a moment up to now, each word with its settled value, or with the one first put since.
+/// No words where the moment hasn't come.
+pub fn crash_at(
+    alloc: Global,
+    medium: &MemPmem,
+    moment: u64,
+    later: bool,
+) -> Result<Vec<u64>, AllocError> {
+    let pick = if later { 1 } else { 0 };
+    let picks = vec![in alloc; pick; medium.content().len()]?;
+    match medium.images_at(alloc, moment, &picks) {
+        Ok(image) => Ok(image),
+        Err(_) => Ok(Vec::new(alloc)),
     }
 }

@@ -1,108 +1,130 @@
 //! A script under way.
 
-use crate::left::ask;
+use crate::acts::act;
+use crate::asks::ask;
 use crate::outcome::Outcome;
-use crate::report::{brief_report, whole_report};
-use crate::setup::{add_to_last_file, set_up};
-use crate::stage::Stage;
-use crate::turns::each_turn;
-use script_words::{is_remark, words_of};
+use crate::printing::{print_ending, print_output};
+use crate::scene::{Scene, Settings, medium_of};
+use crate::setup::{add_line, next_file, next_image};
+use crate::turns::{after, each};
+use dude_io::MemFile;
+use script_words::{is_remark, number_of, words_of};
 use std::alloc::{AllocError, Global};
+use std::io;
 
 /// A script under way.
 #[derive(Drop)]
 pub struct Session {
-    alloc: Global,
-    stage: Stage,
+    pub image: Vec<u64>,
+    /// The request files.
+    files: Vec<MemFile>,
+    settings: Settings,
     /// What the last command left.
-    outcome: Option<Outcome>,
+    pub outcome: Outcome,
     /// Whether the lines are those of the last file.
     in_file: bool,
 }
 
 impl Session {
-    /// No image and no files yet.
-    pub fn new(alloc: Global) -> Session {
-        Session {
-            alloc,
-            stage: Stage::new(alloc),
-            outcome: None,
+    /// No words, no files, and no call that fails.
+    pub fn new(alloc: Global) -> Result<Session, AllocError> {
+        let settings = Settings::new();
+        let scene = Scene {
+            image: &[],
+            files: &[],
+            settings,
+        };
+        let medium = medium_of(alloc, &scene)?;
+        Ok(Session {
+            image: Vec::new(alloc),
+            files: Vec::new(alloc),
+            settings,
+            outcome: Outcome::new(alloc, &[], String::new(alloc), medium)?,
             in_file: false,
+        })
+    }
+
+    /// What the next command is tried with.
+    fn scene(&self) -> Scene<'_> {
+        Scene {
+            image: &self.image,
+            files: &self.files,
+            settings: self.settings,
         }
     }
 
-    /// Does what a line says, and gives the text that it prints.
-    pub fn answer(&mut self, line: &str) -> Result<String, AllocError> {
-        let alloc = self.alloc;
+    /// Does what a line says.
+    pub fn take_line(&mut self, rt: &HostRuntime, line: &str) -> io::Result<()> {
         if self.in_file {
-            self.in_file = line != "end";
-            if self.in_file {
-                add_to_last_file(&mut self.stage.files, line)?;
-            }
-            return Ok(String::new(alloc));
+            self.add_to_file(line)?;
+            return Ok(());
         }
         if is_remark(line) {
-            return format!(in alloc; "{line}\n");
+            return rt.println(line);
         }
-        let words = words_of(alloc, line)?;
-        match words.as_slice() {
-            [] => no_command(alloc),
-            [first, rest @ ..] => self.obey(first, rest),
-        }
-    }
-
-    /// Does what a line of these words says.
-    fn obey(&mut self, first: &str, rest: &[&str]) -> Result<String, AllocError> {
-        let alloc = self.alloc;
-        match first {
-            "start" => {
-                self.stage = Stage::new(alloc);
-                self.outcome = None;
-                Ok(String::new(alloc))
-            }
-            "dude" | "brief" => self.command(first, rest),
-            "aside" => self.aside(rest),
-            "each" => each_turn(alloc, &self.stage, rest),
-            _ => self.obey_other(first, rest),
-        }
-    }
-
-    /// The same for the other first words.
-    fn obey_other(&mut self, first: &str, rest: &[&str]) -> Result<String, AllocError> {
-        let alloc = self.alloc;
-        if set_up(alloc, &mut self.stage, first, rest)? {
-            self.in_file = first == "file";
-            return Ok(String::new(alloc));
-        }
-        match &mut self.outcome {
-            Some(outcome) => ask(alloc, &mut self.stage, outcome, first, rest),
-            None => no_command(alloc),
-        }
-    }
-
-    /// Carries out a command, and keeps what it left.
-    fn command(&mut self, first: &str, words: &[&str]) -> Result<String, AllocError> {
-        let alloc = self.alloc;
-        let settings = self.stage.settings;
-        let outcome = self.stage.carry_out(alloc, &settings, words)?;
-        let text = if first == "brief" {
-            brief_report(alloc, &outcome)?
+        let words = words_of(rt.alloc(), line)?;
+        if self.obey(rt, &words)? {
+            Ok(())
         } else {
-            whole_report(alloc, &outcome, &self.stage.image)?
+            rt.println("no command")
+        }
+    }
+
+    /// Adds a line to the last file, or ends it.
+    fn add_to_file(&mut self, line: &str) -> Result<(), AllocError> {
+        self.in_file = line != "end";
+        match self.files.last_mut() {
+            Some(file) if self.in_file => add_line(&mut file.bytes, line.as_bytes()),
+            _ => Ok(()),
+        }
+    }
+
+    /// Does what a line of these words says; `false` where it says nothing.
+    fn obey(&mut self, rt: &HostRuntime, words: &[&str]) -> io::Result<bool> {
+        let [first, rest @ ..] = words else {
+            return Ok(false);
         };
-        self.outcome = Some(outcome);
-        Ok(text)
+        match *first {
+            "start" => *self = Session::new(rt.alloc())?,
+            "dude" | "open" | "format" | "make" => self.outcome = self.carried_out(rt, words)?,
+            "aside" => {
+                self.carried_out(rt, words)?;
+            }
+            "each" => return each(rt, &self.scene(), rest),
+            "after" => match after(rt, &self.scene(), &self.outcome, rest)? {
+                Some(outcome) => self.outcome = outcome,
+                None => return Ok(false),
+            },
+            _ => return self.set_up(rt, first, rest),
+        }
+        Ok(true)
     }
 
-    /// Carries out a command. What an earlier one left is kept.
-    fn aside(&self, words: &[&str]) -> Result<String, AllocError> {
-        let settings = self.stage.settings;
-        let outcome = self.stage.carry_out(self.alloc, &settings, words)?;
-        whole_report(self.alloc, &outcome, &self.stage.image)
+    /// Carries out a command, and prints what it left.
+    fn carried_out(&self, rt: &HostRuntime, words: &[&str]) -> io::Result<Outcome> {
+        let outcome = act(rt.alloc(), &self.scene(), words)?;
+        print_ending(rt, &outcome)?;
+        print_output(rt, &outcome)?;
+        Ok(outcome)
     }
-}
 
-/// What a line prints that is no command.
-pub fn no_command(alloc: Global) -> Result<String, AllocError> {
-    String::from_str(alloc, "no command\n")
+    /// Sets up the image, a file or a setting, or asks for something.
+    fn set_up(&mut self, rt: &HostRuntime, first: &str, rest: &[&str]) -> io::Result<bool> {
+        if let Some(image) = next_image(rt.alloc(), &self.image, &self.outcome, first, rest)? {
+            self.image = image;
+            return Ok(true);
+        }
+        if let Some(file) = next_file(rt.alloc(), first, rest)? {
+            self.files.push(file)?;
+            self.in_file = rest.len() == 1;
+            return Ok(true);
+        }
+        if let [count] = rest
+            && let Some(count) = number_of(count)
+            && self.settings.set(first, count)
+        {
+            return Ok(true);
+        }
+        ask(rt, &self.image, &self.outcome, first, rest)
+    }
 }

@@ -1,224 +1,151 @@
-//! The lines that set up what the next commands are tried with.
+//! The images and files that the lines of a script make.
 
-use crate::settings::Settings;
-use crate::stage::Stage;
+use crate::acts::command_of;
+use crate::outcome::{Outcome, crash_at};
+use crate::scene::{Scene, Settings};
 use dude_io::MemFile;
-use script_words::{number_of, numbers_of, pairs_of};
+use pmem_trait::{Call, Medium};
+use script_words::{number_of, numbers_of, pair_of, pairs_of};
 use std::alloc::{AllocError, Global};
 
-/// Does what a line says that sets up something. Gives whether it is such a line.
-pub fn set_up(
+/// The image that a line makes of the one in memory, or of what the last command left; `None` where it makes none.
+pub fn next_image(
     alloc: Global,
-    stage: &mut Stage,
+    image: &[u64],
+    outcome: &Outcome,
     first: &str,
     rest: &[&str],
-) -> Result<bool, AllocError> {
+) -> Result<Option<Vec<u64>>, AllocError> {
     match first {
-        "image" => set_image(alloc, stage, rest),
-        "made" => make_image(alloc, stage, rest),
-        "words" => set_words(alloc, &mut stage.image, rest),
-        "length" => Ok(cut(&mut stage.image, rest)),
-        "more" => extend(alloc, &mut stage.image, rest),
-        _ => set_up_files(alloc, stage, first, rest),
+        "words" => changed(alloc, image, rest),
+        "made" => made_image(alloc, rest),
+        "take" => taken(alloc, outcome, rest),
+        "keep" => Ok(Some(outcome.medium.content().to_vec(alloc)?)),
+        _ => resized(alloc, image, first, rest),
     }
 }
 
-/// The same for the lines about files and settings.
-fn set_up_files(
+/// An image with these words in place of its own; `None` where it has no such word.
+pub fn changed(
     alloc: Global,
-    stage: &mut Stage,
-    first: &str,
-    rest: &[&str],
-) -> Result<bool, AllocError> {
-    match first {
-        "file" => open_file(alloc, &mut stage.files, rest),
-        "lines" => repeat_line(alloc, &mut stage.files, rest),
-        "bytes" => set_bytes(alloc, &mut stage.files, rest),
-        "fail" => Ok(set_failure(&mut stage.settings, rest)),
-        "budget" | "chunk" | "room" => Ok(set_limit(&mut stage.settings, first, rest)),
-        _ => Ok(false),
-    }
-}
-
-/// `image COUNT VALUE`: so many words of this value.
-fn set_image(alloc: Global, stage: &mut Stage, rest: &[&str]) -> Result<bool, AllocError> {
-    let Some((count, value)) = two_numbers(rest) else {
-        return Ok(false);
+    image: &[u64],
+    pairs: &[&str],
+) -> Result<Option<Vec<u64>>, AllocError> {
+    let Some(pairs) = pairs_of(alloc, pairs)? else {
+        return Ok(None);
     };
-    stage.image = vec![in alloc; value; count as usize]?;
-    Ok(true)
+    let mut image = image.to_vec(alloc)?;
+    for (at, value) in &pairs {
+        match image.get_mut(*at as usize) {
+            Some(word) => *word = *value,
+            None => return Ok(None),
+        }
+    }
+    Ok(Some(image))
 }
 
 /// `made COUNT COMMAND`: the image that the command makes of so many words of 0.
-fn make_image(alloc: Global, stage: &mut Stage, rest: &[&str]) -> Result<bool, AllocError> {
+fn made_image(alloc: Global, rest: &[&str]) -> Result<Option<Vec<u64>>, AllocError> {
     let [count, command @ ..] = rest else {
-        return Ok(false);
+        return Ok(None);
     };
     let Some(count) = number_of(count) else {
-        return Ok(false);
+        return Ok(None);
     };
-    let empty = Stage {
-        image: vec![in alloc; 0; count as usize]?,
-        ..Stage::new(alloc)
-    };
+    let image = vec![in alloc; 0; count as usize]?;
     let settings = Settings {
         budget: 1_000_000,
         ..Settings::new()
     };
-    let outcome = empty.carry_out(alloc, &settings, command)?;
-    stage.image = outcome.medium.content().to_vec(alloc)?;
-    Ok(outcome.status == 0)
-}
-
-/// `words AT=VALUE ..`: sets words of the image.
-fn set_words(alloc: Global, image: &mut [u64], rest: &[&str]) -> Result<bool, AllocError> {
-    let Some(pairs) = pairs_of(alloc, rest)? else {
-        return Ok(false);
+    let scene = Scene {
+        image: &image,
+        files: &[],
+        settings,
     };
-    for (at, value) in &pairs {
-        match image.get_mut(*at as usize) {
-            Some(word) => *word = *value,
-            None => return Ok(false),
-        }
+    let left = command_of(alloc, &scene, command)?;
+    if left.answer.as_str() == "status 0\n" {
+        Ok(Some(left.medium.content().to_vec(alloc)?))
+    } else {
+        Ok(None)
     }
-    Ok(true)
 }
 
-/// `length COUNT`: keeps so many words of the image.
-fn cut(image: &mut Vec<u64>, rest: &[&str]) -> bool {
-    let Some(count) = one_number(rest) else {
-        return false;
+/// `take settled` and `take later`: the image that a crash leaves now. `take settled AT=VALUE STEPS`: the one so many calls
+/// on from the moment before this value is put.
+fn taken(alloc: Global, outcome: &Outcome, rest: &[&str]) -> Result<Option<Vec<u64>>, AllocError> {
+    let [picks, place @ ..] = rest else {
+        return Ok(None);
     };
-    let fits = count <= image.len() as u64;
-    image.truncate(count as usize);
-    fits
-}
-
-/// `more VALUE ..`: words behind those of the image.
-fn extend(alloc: Global, image: &mut Vec<u64>, rest: &[&str]) -> Result<bool, AllocError> {
-    let Some(values) = numbers_of(alloc, rest)? else {
-        return Ok(false);
+    let Some(moment) = moment_of(outcome, place) else {
+        return Ok(None);
     };
-    image.extend_from_slice(&values)?;
-    Ok(true)
+    let image = crash_at(alloc, &outcome.medium, moment, *picks == "later")?;
+    Ok(Some(image))
 }
 
-/// `file NAME`: a file, whose lines follow.
-fn open_file(alloc: Global, files: &mut Vec<MemFile>, rest: &[&str]) -> Result<bool, AllocError> {
-    let [name] = rest else {
-        return Ok(false);
+/// The moment that these words name; now where there are none.
+fn moment_of(outcome: &Outcome, words: &[&str]) -> Option<u64> {
+    let [put, steps] = words else {
+        return Some(outcome.medium.now());
     };
-    add_file(alloc, files, name, Vec::new(alloc))?;
-    Ok(true)
+    let (at, value) = pair_of(put)?;
+    let calls = outcome.calls_to(Call::Put { at, value })?;
+    calls.checked_add(number_of(steps)?)?.checked_sub(1)
 }
 
-/// Adds a line to the last file.
-pub fn add_to_last_file(files: &mut [MemFile], line: &str) -> Result<(), AllocError> {
-    let Some(file) = files.last_mut() else {
-        return Ok(());
+/// `image COUNT VALUE`, `more COUNT VALUE` and `cut COUNT`: so many words, so many more, and only so many.
+fn resized(
+    alloc: Global,
+    image: &[u64],
+    first: &str,
+    rest: &[&str],
+) -> Result<Option<Vec<u64>>, AllocError> {
+    let Some(numbers) = numbers_of(alloc, rest)? else {
+        return Ok(None);
     };
-    add_line(&mut file.bytes, line)
+    let mut image = image.to_vec(alloc)?;
+    match numbers.as_slice() {
+        [count] if first == "cut" => image.truncate(*count as usize),
+        [count, value] if first == "image" => image = vec![in alloc; *value; *count as usize]?,
+        [count, value] if first == "more" => {
+            let len = image.len().saturating_add(*count as usize);
+            image.resize(len, *value)?;
+        }
+        _ => return Ok(None),
+    }
+    Ok(Some(image))
 }
 
-/// `lines NAME COUNT LINE`: a file that has this line so many times; empty lines where none is given.
-fn repeat_line(alloc: Global, files: &mut Vec<MemFile>, rest: &[&str]) -> Result<bool, AllocError> {
+/// `file NAME`: a file, whose lines follow. `file NAME COUNT LINE`: one that has this line so many times; empty lines where
+/// none is given, and lines of one byte where it is the number of a byte.
+pub fn next_file(alloc: Global, first: &str, rest: &[&str]) -> Result<Option<MemFile>, AllocError> {
     let (name, count, line) = match rest {
-        [name, count] => (name, count, ""),
-        [name, count, line] => (name, count, *line),
-        _ => return Ok(false),
+        _ if first != "file" => return Ok(None),
+        [name] => (*name, "0", ""),
+        [name, count] => (*name, *count, ""),
+        [name, count, line] => (*name, *count, *line),
+        _ => return Ok(None),
     };
     let Some(count) = number_of(count) else {
-        return Ok(false);
+        return Ok(None);
     };
-    let mut bytes = Vec::new(alloc);
+    let mut file = MemFile {
+        name: String::from_str(alloc, name)?,
+        bytes: Vec::new(alloc),
+    };
+    let byte = line.parse::<u8>();
     for _ in 0..count {
-        add_line(&mut bytes, line)?;
+        match &byte {
+            Ok(byte) => add_line(&mut file.bytes, &[*byte])?,
+            Err(_) => add_line(&mut file.bytes, line.as_bytes())?,
+        }
     }
-    add_file(alloc, files, name, bytes)?;
-    Ok(true)
-}
-
-/// `bytes NAME BYTE ..`: a file of these bytes.
-fn set_bytes(alloc: Global, files: &mut Vec<MemFile>, rest: &[&str]) -> Result<bool, AllocError> {
-    let [name, values @ ..] = rest else {
-        return Ok(false);
-    };
-    let mut bytes = Vec::new(alloc);
-    for value in values {
-        let Ok(byte) = value.parse::<u8>() else {
-            return Ok(false);
-        };
-        bytes.push(byte)?;
-    }
-    add_file(alloc, files, name, bytes)?;
-    Ok(true)
-}
-
-/// Adds a file.
-fn add_file(
-    alloc: Global,
-    files: &mut Vec<MemFile>,
-    name: &str,
-    bytes: Vec<u8>,
-) -> Result<(), AllocError> {
-    let name = String::from_str(alloc, name)?;
-    files.push(MemFile { name, bytes })?;
-    Ok(())
+    Ok(Some(file))
 }
 
 /// Adds a line and its end.
-fn add_line(bytes: &mut Vec<u8>, line: &str) -> Result<(), AllocError> {
-    bytes.extend_from_slice(line.as_bytes())?;
+pub fn add_line(bytes: &mut Vec<u8>, line: &[u8]) -> Result<(), AllocError> {
+    bytes.extend_from_slice(line)?;
     bytes.push(b'\n')?;
     Ok(())
-}
-
-/// `fail early CALL`, `fail late CALL`, `fail read CALL`, `fail write CALL`: this call fails.
-fn set_failure(settings: &mut Settings, rest: &[&str]) -> bool {
-    let [what, count] = rest else {
-        return false;
-    };
-    let Some(count) = number_of(count) else {
-        return false;
-    };
-    match *what {
-        "early" => settings.failing_call = count,
-        "late" => {
-            settings.failing_call = count;
-            settings.late = true;
-        }
-        "read" => settings.failing_read = count,
-        "write" => settings.failing_write = count,
-        _ => return false,
-    }
-    true
-}
-
-/// `budget COUNT`, `chunk COUNT`, `room COUNT`.
-fn set_limit(settings: &mut Settings, first: &str, rest: &[&str]) -> bool {
-    let Some(count) = one_number(rest) else {
-        return false;
-    };
-    match first {
-        "budget" => settings.budget = count,
-        "chunk" => settings.chunk = count,
-        _ => settings.room = count,
-    }
-    true
-}
-
-/// The number that the only word is.
-pub fn one_number(words: &[&str]) -> Option<u64> {
-    match words {
-        [word] => number_of(word),
-        _ => None,
-    }
-}
-
-/// The numbers that the two words are.
-pub fn two_numbers(words: &[&str]) -> Option<(u64, u64)> {
-    match words {
-        [first, second] => Some((number_of(first)?, number_of(second)?)),
-        _ => None,
-    }
 }

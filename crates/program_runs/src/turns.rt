@@ -1,165 +1,140 @@
 //! Commands of which each call fails in turn.
 
+use crate::acts::act;
+use crate::found::{Wanted, recovered};
 use crate::outcome::Outcome;
-use crate::recoveries::{both_survive, number_in};
-use crate::report::{crash_line, ending, failure_line, status_line};
-use crate::session::no_command;
-use crate::settings::Settings;
-use crate::stage::Stage;
-use pmem_trait::Medium;
+use crate::printing::print_ending;
+use crate::scene::Scene;
+use pmem_trait::{Call, Medium};
 use script_words::number_of;
 use std::alloc::{AllocError, Global};
-
-/// Which calls fail in turn, and how.
-#[derive(Clone, Copy)]
-enum Turn {
-    /// A call on the medium does nothing, and so would each one behind it.
-    Budget,
-    /// A call on the medium does nothing.
-    Early,
-    /// A call on the medium has its effect first.
-    Late,
-    /// A read of a file.
-    Read,
-    /// A write of the sink.
-    Write,
-}
-
-impl Turn {
-    /// The turn of this name.
-    fn of(word: &str) -> Option<Turn> {
-        match word {
-            "budget" => Some(Turn::Budget),
-            "early" => Some(Turn::Early),
-            "late" => Some(Turn::Late),
-            "read" => Some(Turn::Read),
-            "write" => Some(Turn::Write),
-            _ => None,
-        }
-    }
-
-    /// The settings with which this call fails.
-    fn settings(self, call: u64, whole: &Settings) -> Settings {
-        let mut settings = *whole;
-        match self {
-            Turn::Budget => settings.budget = call.saturating_sub(1),
-            Turn::Early => settings.failing_call = call,
-            Turn::Late => {
-                settings.failing_call = call;
-                settings.late = true;
-            }
-            Turn::Read => settings.failing_read = call,
-            Turn::Write => settings.failing_write = call,
-        }
-        settings
-    }
-
-    /// Whether the calls are those on the medium.
-    fn is_on_medium(self) -> bool {
-        match self {
-            Turn::Budget | Turn::Early | Turn::Late => true,
-            Turn::Read | Turn::Write => false,
-        }
-    }
-}
+use std::io;
 
 /// `each TURN NUMBER COMMAND`: carries out the command, and then again and again, each time with another call that fails.
 /// The number is the greatest one to which an image that is left may recover, or how many reads or writes fail.
-pub fn each_turn(alloc: Global, stage: &Stage, words: &[&str]) -> Result<String, AllocError> {
-    let [turn, number, command @ ..] = words else {
-        return no_command(alloc);
+pub fn each(rt: &HostRuntime, scene: &Scene, rest: &[&str]) -> io::Result<bool> {
+    let [turn, number, words @ ..] = rest else {
+        return Ok(false);
     };
-    let (Some(turn), Some(number)) = (Turn::of(turn), number_of(number)) else {
-        return no_command(alloc);
+    let Some(most) = number_of(number) else {
+        return Ok(false);
     };
-    let whole = stage.carry_out(alloc, &stage.settings, command)?;
-    let mut text = ending(alloc, &whole, &stage.image)?;
-    let trial = Trial {
-        stage,
-        command,
-        turn,
-        whole: &whole,
-        began: number_in(alloc, &stage.image)?,
-        most: number,
-    };
-    let calls = if turn.is_on_medium() {
+    let whole = act(rt.alloc(), scene, words)?;
+    print_ending(rt, &whole)?;
+    let began = recovered(rt.alloc(), scene.image);
+    let wanted = Wanted { began, most };
+    let calls = if is_on_medium(turn) {
         whole.medium.now()
     } else {
-        number
+        most
     };
-    trial.add_reports(alloc, calls, &mut text)?;
+    let mut last = String::new(rt.alloc());
+    for call in 1..=calls {
+        let outcome = failed(rt.alloc(), scene, turn, words, call)?;
+        let report = report(rt.alloc(), turn, &whole, &wanted, &outcome, call)?;
+        // Of those that follow one another and are the same, only the first stands.
+        if report.as_str() != last.as_str() {
+            print!(rt; "from call {call} on:\n{report}")?;
+            last = report;
+        }
+    }
+    Ok(true)
+}
+
+/// `after NUMBER MOST COMMAND`: carries out a command where the call fails behind the one by which the last command told
+/// this number, and says what was told, and then the same as `each`. Gives what was left.
+pub fn after(
+    rt: &HostRuntime,
+    scene: &Scene,
+    whole: &Outcome,
+    rest: &[&str],
+) -> io::Result<Option<Outcome>> {
+    let [number, most, words @ ..] = rest else {
+        return Ok(None);
+    };
+    let (Some(number), Some(most)) = (number_of(number), number_of(most)) else {
+        return Ok(None);
+    };
+    let Some(calls) = whole.calls_to(Call::Tell(number)) else {
+        return Ok(None);
+    };
+    let began = recovered(rt.alloc(), scene.image);
+    let wanted = Wanted { began, most };
+    let call = calls.saturating_add(1);
+    let outcome = failed(rt.alloc(), scene, "early", words, call)?;
+    let told = outcome.told(rt.alloc())?;
+    let report = report(rt.alloc(), "early", whole, &wanted, &outcome, call)?;
+    print!(rt; "{told}\n{report}")?;
+    Ok(Some(outcome))
+}
+
+/// Whether the calls of a turn are those on the medium.
+fn is_on_medium(turn: &str) -> bool {
+    turn != "read" && turn != "write"
+}
+
+/// What a command leaves where this call fails, or the budget ends before it.
+fn failed(
+    alloc: Global,
+    scene: &Scene,
+    turn: &str,
+    words: &[&str],
+    call: u64,
+) -> Result<Outcome, AllocError> {
+    let mut scene = *scene;
+    let before = if turn == "budget" { 1 } else { 0 };
+    scene.settings.set(turn, call.saturating_sub(before));
+    act(alloc, &scene, words)
+}
+
+/// The lines that say how a command ended where this call failed.
+fn report(
+    alloc: Global,
+    turn: &str,
+    whole: &Outcome,
+    wanted: &Wanted,
+    outcome: &Outcome,
+    call: u64,
+) -> Result<String, AllocError> {
+    let mut text = outcome.answer.clone()?;
+    if !is_on_medium(turn) {
+        text.push_str(&outcome.ending(alloc)?)?;
+        text.push_str(output_line(turn, whole, outcome, call))?;
+        return Ok(text);
+    }
+    text.push_str(if outcome.failed_at(call) {
+        "only this call on the medium failed, and it was the last\n"
+    } else {
+        "other calls on the medium failed\n"
+    })?;
+    text.push_str(output_line(turn, whole, outcome, call))?;
+    text.push_str(if wanted.both_survive(alloc, outcome)? {
+        "both images of a crash are right\n"
+    } else {
+        "an image of a crash is wrong\n"
+    })?;
     Ok(text)
 }
 
-/// A command of which each call fails in turn.
-#[derive(Clone, Copy)]
-struct Trial<'a> {
-    stage: &'a Stage,
-    command: &'a [&'a str],
-    turn: Turn,
-    /// What the command left where no call failed.
-    whole: &'a Outcome,
-    /// The number of the image that it begins on.
-    began: Option<u64>,
-    /// The greatest number to which an image may recover.
-    most: u64,
-}
-
-impl Trial<'_> {
-    /// Adds the reports for so many calls. Of those that follow one another and are the same, only the first stands.
-    fn add_reports(&self, alloc: Global, calls: u64, text: &mut String) -> Result<(), AllocError> {
-        let mut last = String::new(alloc);
-        for call in 1..=calls {
-            let report = self.report(alloc, call)?;
-            if report.as_str() != last.as_str() {
-                text.push_str(&format!(in alloc; "from call {call} on:\n{report}")?)?;
-                last = report;
-            }
-        }
-        Ok(())
-    }
-
-    /// How the command ends where this call fails.
-    fn report(&self, alloc: Global, call: u64) -> Result<String, AllocError> {
-        let settings = self.turn.settings(call, &self.stage.settings);
-        let outcome = self.stage.carry_out(alloc, &settings, self.command)?;
-        if self.turn.is_on_medium() {
-            self.report_of_medium(alloc, &outcome, call)
+/// The line that says how much of the output was printed where this call failed; where there is none, whether anything was
+/// told.
+fn output_line(turn: &str, whole: &Outcome, outcome: &Outcome, call: u64) -> &'static str {
+    let (Some(printed), Some(whole)) = (&outcome.printed, &whole.printed) else {
+        let is_told = outcome.medium.told().is_some();
+        return if is_told {
+            "told a number\n"
         } else {
-            let mut text = ending(alloc, &outcome, &self.stage.image)?;
-            text.push_str(self.output_line(&outcome, call))?;
-            Ok(text)
-        }
-    }
-
-    /// How the command ended where this call on the medium failed.
-    fn report_of_medium(
-        &self,
-        alloc: Global,
-        outcome: &Outcome,
-        call: u64,
-    ) -> Result<String, AllocError> {
-        let mut text = status_line(alloc, outcome)?;
-        text.push_str(failure_line(outcome.failed_at(call)))?;
-        text.push_str(self.output_line(outcome, call))?;
-        let right = both_survive(alloc, outcome, self.began, self.most)?;
-        text.push_str(crash_line(right))?;
-        Ok(text)
-    }
-
-    /// The line that says how much of the output was printed where this call failed.
-    fn output_line(&self, outcome: &Outcome, call: u64) -> &'static str {
-        let printed = outcome.sink.bytes();
-        let whole = self.whole.sink.bytes();
-        let before = whole.get(..call.saturating_sub(1) as usize);
-        if matches!(self.turn, Turn::Write) && before == Some(printed) {
-            "printed the bytes before this write\n"
-        } else if printed.is_empty() {
-            "printed nothing\n"
-        } else if printed == whole {
-            "printed all\n"
-        } else {
-            "printed something else\n"
-        }
+            "told nothing\n"
+        };
+    };
+    let before = whole.get(..call.saturating_sub(1) as usize);
+    if turn == "write" && before == Some(printed.as_slice()) {
+        "printed the bytes before this write\n"
+    } else if printed.is_empty() {
+        "printed nothing\n"
+    } else if printed == whole {
+        "printed all\n"
+    } else {
+        "printed something else\n"
     }
 }
