@@ -40,7 +40,7 @@ pub fn take_call(words: &mut Stopping, name: &str, numbers: &[u64]) -> Result<An
             Ok(("written", None))
         }
         ("exchange", [first, second]) => exchange(words, *first, *second),
-        _ if words.len() == TABLE_WORDS => take_table_call(words, name, numbers),
+        _ if words.len() == TABLE_WORDS => take_pool_call(words, name, numbers),
         _ => Ok(("no command", None)),
     }
 }
@@ -79,7 +79,7 @@ fn exchange(words: &mut Stopping, first: u64, second: u64) -> Result<Answer, Sto
     Ok(("exchanged", None))
 }
 
-fn take_table_call(words: &mut Stopping, name: &str, numbers: &[u64]) -> Result<Answer, Stop>
+fn take_pool_call(words: &mut Stopping, name: &str, numbers: &[u64]) -> Result<Answer, Stop>
     requires { FitsTable TABLE (stopping_sight words.old).count }
 {
     let pool = &TABLE.pool;
@@ -90,17 +90,30 @@ fn take_table_call(words: &mut Stopping, name: &str, numbers: &[u64]) -> Result<
             Ok(("given", None))
         }
         ("live", []) => Ok(("taken", Some(pool.live(words)?))),
-        ("find", [key]) => Ok(record_or_none(TABLE.find(words, *key)?)),
-        ("insert", [key]) => match TABLE.insert(words, *key)? {
-            Put::There(record) => Ok(("there in", Some(record))),
-            Put::Full => Ok(("full", None)),
-            Put::Stored(record) => Ok(("stored in", Some(record))),
-        },
-        ("remove", [key]) => {
-            let was = TABLE.remove(words, *key)?;
+        (_, [key]) => take_table_call(words, name, *key),
+        _ => Ok(("no command", None)),
+    }
+}
+
+fn take_table_call(words: &mut Stopping, name: &str, key: u64) -> Result<Answer, Stop>
+    requires { FitsTable TABLE (stopping_sight words.old).count }
+{
+    match name {
+        "find" => Ok(record_or_none(TABLE.find(words, key)?)),
+        "insert" => Ok(put_answer(TABLE.insert(words, key)?)),
+        "remove" => {
+            let was = TABLE.remove(words, key)?;
             Ok((if was { "removed" } else { "not there" }, None))
         }
         _ => Ok(("no command", None)),
+    }
+}
+
+fn put_answer(put: Put) -> Answer {
+    match put {
+        Put::There(record) => ("there in", Some(record)),
+        Put::Full => ("full", None),
+        Put::Stored(record) => ("stored in", Some(record)),
     }
 }
 

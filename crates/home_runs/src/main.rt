@@ -1,5 +1,5 @@
 //! Scripts of words and of the home of the five tables, carried out line by line: records of writes, a pool and a table in an
-//! array, a home's words and rows, requests on it and on the plain tables, the check of changed homes, and runs of request files
+//! array, the words and rows of a home, requests on it and on the plain tables, the check of changed homes, and runs of request files
 //! over a medium in memory.
 #![tactic(auto)]
 

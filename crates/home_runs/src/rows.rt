@@ -1,44 +1,44 @@
 //! Rows, printed with all their fields.
 
+ghost use Rattle.std.specs.Prelude.{◌≡◌, ◌*◌};
+ghost use Rattle.dude_base.specs.declared.limits.TheConstants.{PAGE};
+ghost use Rattle.word_space.specs.Flats.{flat_sight};
+
 use crate::home::is_home;
 use crate::page::Page;
-use tatp_layout::{Layout, get_access, get_call, get_fac, get_sub};
+use dude_base::limits::ROW_WORDS;
+use tatp_layout::{Layout, get_call, get_fac};
 use tatp_model::{AccessRow, CallRow, FacRow, SubRow, Tables};
 use word_space::flat::Flat;
 use word_space::words::Words;
 
-/// Prints the rows in records of the home, of which the numbers say the first one's place, the words of each, and how many they
-/// are.
+/// Prints the rows in records of the facilities or of the call rows, of which the numbers say the first one's place and how many
+/// they are.
 pub fn say_records(lay: &Layout, flat: &mut Flat, numbers: &[u64], page: &mut Page) {
-    let [first, size, count] = *numbers else {
+    let [first, count] = *numbers else {
         return page.line("no command");
     };
     for index in 0..count {
-        say_record_at(lay, flat, first.saturating_add(index.saturating_mul(size)), page);
+        let at = first.saturating_add(index.saturating_mul(ROW_WORDS));
+        if is_home(lay, flat.len()) {
+            say_record_at(lay, flat, at, page);
+        }
     }
 }
 
-/// Prints the row in the record that stands at a place, whatever its table.
-fn say_record_at(lay: &Layout, flat: &mut Flat, at: u64, page: &mut Page) {
-    if !is_home(lay, flat.len()) {
-        return page.line("no command");
-    }
-    if lay.subscribers().pool.has(at)
-        && let Ok(row) = get_sub(lay, flat, at)
-    {
-        say_subscriber(&row, page);
-    } else if lay.access().pool.has(at)
-        && let Ok(row) = get_access(lay, flat, at)
-    {
-        say_access(&row, page);
-    } else if lay.facilities().pool.has(at)
-        && let Ok(row) = get_fac(lay, flat, at)
-    {
-        say_facility(&row, page);
-    } else if lay.calls().pool.has(at)
-        && let Ok(row) = get_call(lay, flat, at)
-    {
-        say_call(&row, page);
+fn say_record_at(lay: &Layout, flat: &mut Flat, at: u64, page: &mut Page)
+    requires { (flat_sight flat.old).count ≡ lay.now.pages * PAGE }
+{
+    if lay.facilities().pool.has(at) {
+        match get_fac(lay, flat, at) {
+            Ok(row) => say_facility(&row, page),
+            Err(_) => page.cut(),
+        }
+    } else if lay.calls().pool.has(at) {
+        match get_call(lay, flat, at) {
+            Ok(row) => say_call(&row, page),
+            Err(_) => page.cut(),
+        }
     }
 }
 
