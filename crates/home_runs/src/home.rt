@@ -1,11 +1,15 @@
-//! The home of a database, whose words a script may change.
+//! The home of a database: its new words, where its parts stand, and requests on it.
 
-ghost use Rattle.std.specs.Prelude.{◌≡◌, ◌*◌, [], All, IfSome, length};
+ghost use Rattle.std.specs.Prelude.{◌≡◌, ◌*◌, [], All, IsTrue};
 ghost use Rattle.dude_base.specs.declared.limits.TheConstants.{PAGE};
 ghost use Rattle.word_space.specs.Flats.{flat_sight};
 ghost use Rattle.tatp_model.specs.Request.{IsInRange};
 
 use crate::page::Page;
+use dude_base::field::Field;
+use dude_base::limits::PAGE;
+use dude_base::place::Place;
+use dude_base::size_fault::SizeFault;
 use dude_base::sizes::Sizes;
 use hash_table::table::Table;
 use std::alloc::Global;
@@ -14,150 +18,88 @@ use tatp_layout::Layout;
 use tatp_model::{Done, Reply, Request};
 use tatp_population::{PopFault, populate};
 use word_space::flat::Flat;
+use word_space::words::Words;
 
-/// The home of a database.
-#[derive(Drop)]
-pub struct Home {
-    pub lay: Layout,
-    pub words: Vec<u64>,
-    /// The words that it had as it was made.
-    new: Vec<u64>,
-    ghost size: { length words.items ≡ lay.pages * PAGE },
-}
-
-/// The home of a new database of these sizes, or `None` where there is none.
-pub fn new_home(alloc: Global, sizes: &Sizes, page: &mut Page) -> Option<Home> {
-    let lay = Layout::of(sizes).ok()?;
+/// The home of a new database of these sizes, the subscribers, the call rows, the rings, the cells of a ring, and the pages where
+/// they are given. `None` where there is none; what it is, or why there is none, is printed.
+pub fn new_home(alloc: Global, numbers: &[u64], page: &mut Page) -> Option<(Layout, Vec<u64>)> {
+    let lay = match layout_of(numbers) {
+        Ok(lay) => lay,
+        Err(fault) => {
+            say_fault(fault, page);
+            return None;
+        }
+    };
     match populate(alloc, &lay) {
         Ok(words) => {
-            page.numbers("words", &[words.len() as u64]);
-            let new = words.clone().ok()?;
-            Some(Home { lay, words, new })
+            page.numbers("pages and words", &[lay.sizes().pages, words.len() as u64]);
+            Some((lay, words))
         }
         Err(PopFault::TooFew { rows, calls }) => {
             page.numbers("more call rows than room", &[rows, calls]);
             None
         }
-        Err(PopFault::NoMemory) => None,
-    }
-}
-
-impl Home {
-    /// The words at rest.
-    pub fn flat(&self) -> Option<Flat>
-        ensures size { IfSome result (λ flat. (flat_sight flat).count ≡ self.now.lay.pages * PAGE) }
-        ensures writes { IfSome result (λ flat. (flat_sight flat).writes ≡ []) }
-    {
-        match self.words.clone() {
-            Ok(words) => Some(Flat::new(words)),
-            Err(_) => None,
-        }
-    }
-
-    /// Makes the writes that are pending, and answers how many there are.
-    pub fn keep(&mut self, flat: Flat) -> u64 {
-        let mut flat = flat;
-        let written = flat.take(1).len();
-        let words = flat.into_words();
-        if words.len() == self.words.len() {
-            self.words = words;
-        }
-        written
-    }
-
-    /// Changes words.
-    pub fn put_all(&mut self, changes: &[(u64, u64)]) {
-        for (place, value) in changes {
-            let place = *place as usize;
-            if place < self.words.len() {
-                self.words[place] = *value;
-            }
-        }
-    }
-
-    /// Changes all words.
-    pub fn fill(&mut self, value: u64) {
-        for place in 0..self.words.len() {
-            self.words[place] = value;
-        }
-    }
-
-    /// Prints where each table stands: its header, the links of its buckets, its records, and the words of each.
-    pub fn say_places(&self, page: &mut Page) {
-        let lay = &self.lay;
-        page.numbers("pages", &[lay.sizes().pages]);
-        say_place("subscribers", &lay.subscribers(), page);
-        say_place("numbers", &lay.numbers(), page);
-        say_place("access", &lay.access(), page);
-        say_place("facilities", &lay.facilities(), page);
-        say_place("calls", &lay.calls(), page);
-    }
-
-    /// Prints the words at these places.
-    pub fn say_at(&self, places: &[u64], page: &mut Page) {
-        page.put(b"words");
-        for place in places {
-            let word = self.words.get(*place as usize).copied().unwrap_or(0);
-            say_pair(*place, word, page);
-        }
-        page.line("");
-    }
-
-    /// Prints all words, eight to a line.
-    pub fn say_all(&self, page: &mut Page) {
-        for line in self.words.chunks(8) {
-            page.put(b"words");
-            for word in line {
-                page.put(b" ");
-                page.put_word(*word);
-            }
-            page.line("");
-        }
-    }
-
-    /// Prints the words that differ from those of the new home.
-    pub fn say_changes(&self, page: &mut Page) {
-        page.put(b"changed");
-        for (place, word) in self.words.iter().enumerate() {
-            if self.new.get(place) != Some(word) {
-                say_pair(place as u64, *word, page);
-            }
-        }
-        page.line("");
-    }
-
-    /// Serves requests one after another, and of each prints how many words it wrote and its reply.
-    pub fn serve_each(&mut self, requests: &[Request], page: &mut Page)
-        requires { All IsInRange requests.now }
-    {
-        for request in requests {
-            self.serve(request, page);
-        }
-    }
-
-    fn serve(&mut self, request: &Request, page: &mut Page)
-        requires { IsInRange request.now }
-    {
-        match request {
-            Request::Sync => page.line("no request to tables"),
-            _ => {
-                let Some(mut flat) = self.flat() else {
-                    return page.cut();
-                };
-                match run_request(&self.lay, &mut flat, request) {
-                    Ok(reply) => say_reply(self.keep(flat), reply, page),
-                    Err(_) => page.cut(),
-                }
-            }
+        Err(PopFault::NoMemory) => {
+            page.cut();
+            None
         }
     }
 }
 
-/// Prints a word with its place.
-fn say_pair(place: u64, word: u64, page: &mut Page) {
-    page.put_numbers(&[place]);
-    page.put(b"=");
-    page.put_word(word);
+fn layout_of(numbers: &[u64]) -> Result<Layout, SizeFault> {
+    let sizes = match *numbers {
+        [subscribers, calls, rings, cells] => Sizes::of(subscribers, calls, rings, cells)?,
+        [subscribers, calls, rings, cells, pages] => Sizes {
+            subscribers,
+            calls,
+            rings,
+            cells,
+            pages,
+        },
+        _ => Sizes::of(0, 0, 0, 0)?,
+    };
+    Layout::of(&sizes)
+}
+
+fn say_fault(fault: SizeFault, page: &mut Page) {
+    page.line(match fault.field {
+        Field::Subscribers => "no such number of subscribers",
+        Field::Calls => "no such number of calls",
+        Field::Rings => "no such number of rings",
+        Field::Cells => "no such number of cells",
+        Field::Pages => "no such number of pages",
+    });
+}
+
+/// Whether a home has so many words.
+pub fn is_home(lay: &Layout, count: u64) -> bool
+    ensures { IsTrue result → count ≡ lay.now.pages * PAGE }
+{
+    lay.sizes().pages.checked_mul(PAGE) == Some(count)
+}
+
+/// Prints where in the image a cell of a ring and a word of the home stand, and how long the image is.
+pub fn say_in_image(lay: &Layout, numbers: &[u64], page: &mut Page) {
+    let sizes = lay.sizes();
+    let place = Place::of(&sizes);
+    match *numbers {
+        [ring, cell, word]
+            if ring < sizes.rings && cell < sizes.cells && word / PAGE < sizes.pages =>
+        {
+            let places = [place.cell(ring, cell), place.home(word), place.words()];
+            page.numbers("cell, word and length", &places);
+        }
+        _ => page.line("no command"),
+    }
+}
+
+/// Prints where each table stands: its header, the links of its buckets, its records, and the words of each.
+pub fn say_places(lay: &Layout, page: &mut Page) {
+    say_place("subscribers", &lay.subscribers(), page);
+    say_place("numbers", &lay.numbers(), page);
+    say_place("access", &lay.access(), page);
+    say_place("facilities", &lay.facilities(), page);
+    say_place("calls", &lay.calls(), page);
 }
 
 fn say_place(name: &str, table: &Table, page: &mut Page) {
@@ -165,15 +107,54 @@ fn say_place(name: &str, table: &Table, page: &mut Page) {
     page.numbers(name, &[pool.base, table.at, pool.first, pool.size]);
 }
 
-/// Prints a number and a reply.
-pub fn say_reply(number: u64, reply: Reply, page: &mut Page) {
-    let done = Done {
-        file: 0,
-        index: 0,
+/// Prints the words that differ from those of a new home.
+pub fn say_changes(alloc: Global, lay: &Layout, words: &[u64], page: &mut Page) {
+    let Ok(new) = populate(alloc, lay) else {
+        return page.cut();
+    };
+    page.put(b"changed");
+    for (place, word) in words.iter().enumerate() {
+        if new.get(place) != Some(word) {
+            page.put_pair(place as u64, *word);
+        }
+    }
+    page.line("");
+}
+
+/// Serves requests one after another, and of each prints how many words it wrote and its reply.
+pub fn serve_each(lay: &Layout, flat: &mut Flat, requests: &[Request], page: &mut Page)
+    requires { All IsInRange requests.now }
+{
+    for request in requests {
+        flat.forget();
+        if is_home(lay, flat.len()) {
+            serve(lay, flat, request, page);
+        }
+    }
+}
+
+fn serve(lay: &Layout, flat: &mut Flat, request: &Request, page: &mut Page)
+    requires in_range { IsInRange request.now }
+    requires size { (flat_sight flat.old).count ≡ lay.now.pages * PAGE }
+    requires no_writes { (flat_sight flat.old).writes ≡ [] }
+{
+    if let Request::Sync = request {
+        return page.line("no request to tables");
+    }
+    match run_request(lay, flat, request) {
+        Ok(reply) => page.done(&done_at(0, 0, flat.take(1).len(), reply)),
+        Err(_) => page.cut(),
+    }
+}
+
+/// A request that is done, of which its place, its number and its reply are told.
+pub fn done_at(file: u64, index: u64, number: u64, reply: Reply) -> Done {
+    Done {
+        file,
+        index,
         number,
         wrote: false,
         request: Request::Sync,
         reply,
-    };
-    page.done(&done);
+    }
 }

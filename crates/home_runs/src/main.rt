@@ -1,17 +1,19 @@
-//! Scripts of the home of the five tables, carried out line by line: its words, its rows, requests on it and on the plain
-//! tables, the check of changed homes, and runs of request files over a medium in memory.
+//! Scripts of words and of the home of the five tables, carried out line by line: records of writes, a pool and a table in an
+//! array, the words and rows of a home, requests on it and on the plain tables, the check of changed homes, and runs of request files
+//! over a medium in memory.
 #![tactic(auto)]
 
+mod calls;
 mod checks;
 mod home;
-mod home_lines;
-mod order;
 mod page;
 mod play;
 mod records;
 mod rows;
 mod runs;
-mod steps;
+mod stopping;
+mod stops;
+mod words;
 
 use page::Page;
 use play::Play;
@@ -23,7 +25,7 @@ fn main(rt: HostRuntime) -> io::Result<()> {
     for line in BufReader::new(rt.alloc(), rt.reader())?.lines(rt.alloc()) {
         let line = line?;
         let mut page = Page::new(rt.alloc());
-        play.take_line(rt.alloc(), line.as_str(), &mut page)?;
+        play.take_line(rt.alloc(), line.as_str(), &mut page);
         match page.text() {
             Some(text) => writer.write_all(text)?,
             None => return Err(io::Error::from(ErrorKind::OutOfMemory)),

@@ -10,7 +10,6 @@ const PACKED: u64 = 65_536;
 /// Lines that are to be printed. Where there is no memory for one, the page is cut off.
 #[derive(Drop)]
 pub struct Page {
-    alloc: Global,
     text: Vec<u8>,
     is_cut: bool,
 }
@@ -19,7 +18,6 @@ impl Page {
     /// An empty page.
     pub fn new(alloc: Global) -> Page {
         Page {
-            alloc,
             text: Vec::new(alloc),
             is_cut: false,
         }
@@ -57,24 +55,22 @@ impl Page {
         }
     }
 
-    /// Appends small numbers, each behind a space.
-    pub fn put_bytes(&mut self, numbers: &[u8]) {
-        for number in numbers {
-            self.put(b" ");
-            self.put_number(u64::from(*number));
-        }
-    }
-
     /// Appends a word.
     pub fn put_word(&mut self, word: u64) {
         if word < PACKED {
-            self.put_number(word);
-        } else {
-            match format!(in self.alloc; "{word:#x}") {
-                Ok(text) => self.put(text.as_bytes()),
-                Err(_) => self.cut(),
-            }
+            return self.put_number(word);
         }
+        match format!(in *self.text.allocator(); "{word:#x}") {
+            Ok(text) => self.put(text.as_bytes()),
+            Err(_) => self.is_cut = true,
+        }
+    }
+
+    /// Appends a word with its place.
+    pub fn put_pair(&mut self, place: u64, word: u64) {
+        self.put_numbers(&[place]);
+        self.put(b"=");
+        self.put_word(word);
     }
 
     /// Appends the line of a request that is done.
@@ -95,10 +91,5 @@ impl Page {
         self.put(name.as_bytes());
         self.put_numbers(numbers);
         self.put(b"\n");
-    }
-
-    /// Appends a line that says that there is no such command.
-    pub fn no_command(&mut self) {
-        self.line("no command");
     }
 }

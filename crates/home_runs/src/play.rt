@@ -1,116 +1,150 @@
 //! The lines of a script.
 
-use crate::checks::say_check;
-use crate::home::{Home, new_home};
-use crate::home_lines::take_home;
-use crate::order::say_in_files;
+use crate::calls::say_call;
+use crate::checks::{say_accepted, say_check, say_steps};
+use crate::home::{new_home, say_changes, say_in_image, say_places, serve_each};
 use crate::page::Page;
-use crate::runs::Files;
-use crate::steps::say_steps;
-use dude_base::sizes::Sizes;
+use crate::records::{say_reads, say_record, say_redo};
+use crate::rows::say_records;
+use crate::runs::{Files, say_in_files};
+use crate::stopping::Stopping;
+use crate::stops::say_stops;
+use crate::words::{changed, say_words};
 use request_reader::read_requests;
-use script_words::{is_remark, numbers_of, pairs_of, words_of};
-use std::alloc::{AllocError, Global};
+use script_words::{is_remark, numbers_of, words_of};
+use std::alloc::Global;
+use tatp_layout::Layout;
+use word_space::flat::Flat;
+use word_space::stop::Stop;
 
-/// What the lines of a script work on.
+/// What the lines of a script work on: words, the home that they are, if they are one, and request files.
 #[derive(Drop)]
 pub struct Play {
-    home: Option<Home>,
+    words: Stopping,
+    lay: Option<Layout>,
     files: Files,
 }
 
+/// Words that no call stops.
+fn unstopped(words: Vec<u64>) -> Stopping {
+    Stopping::new(Flat::new(words), u64::MAX, Stop::NoMemory)
+}
+
 impl Play {
-    /// No home yet, and empty files.
+    /// No words yet, and empty files.
     pub fn new(alloc: Global) -> Play {
         Play {
-            home: None,
+            words: unstopped(Vec::new(alloc)),
+            lay: None,
             files: Files::new(alloc),
         }
     }
 
     /// Prints a remark again, and carries out another line.
-    pub fn take_line(
-        &mut self,
-        alloc: Global,
-        line: &str,
-        page: &mut Page,
-    ) -> Result<(), AllocError> {
+    pub fn take_line(&mut self, alloc: Global, line: &str, page: &mut Page) {
         if is_remark(line) {
-            page.line(line);
-            return Ok(());
+            return page.line(line);
         }
-        let words = words_of(alloc, line)?;
-        match words.split_first() {
-            Some((name, others)) => self.take_command(alloc, name, others, page),
-            None => Ok(()),
+        let Ok(words) = words_of(alloc, line) else {
+            return page.cut();
+        };
+        let Some((name, others)) = words.split_first() else {
+            return;
+        };
+        match numbers_of(alloc, others) {
+            Ok(Some(numbers)) => self.take_command(alloc, name, &numbers, page),
+            Ok(None) => self.files.append(name, others, page),
+            Err(_) => page.cut(),
         }
     }
 
-    fn take_command(
+    fn take_command(&mut self, alloc: Global, name: &str, numbers: &[u64], page: &mut Page) {
+        match (name, numbers) {
+            ("home", sizes) => {
+                if let Some((lay, words)) = new_home(alloc, sizes, page) {
+                    self.lay = Some(lay);
+                    self.words = unstopped(words);
+                }
+            }
+            ("array", [count, value, changes @ ..]) => {
+                match vec![in alloc; *value; (*count).min(1_000) as usize] {
+                    Ok(words) => self.set(alloc, &words, changes, page),
+                    Err(_) => page.cut(),
+                }
+            }
+            ("set", changes) => match self.words.flat.words().to_vec(alloc) {
+                Ok(words) => self.set(alloc, &words, changes, page),
+                Err(_) => page.cut(),
+            },
+            ("files", []) => self.files = Files::new(alloc),
+            ("order", done) => say_in_files(alloc, done, page),
+            _ => self.take_on_words(alloc, name, numbers, page),
+        }
+    }
+
+    fn set(&mut self, alloc: Global, words: &[u64], changes: &[u64], page: &mut Page) {
+        match changed(alloc, words, changes) {
+            Ok(words) => self.words = unstopped(words),
+            Err(_) => page.cut(),
+        }
+    }
+
+    fn take_on_words(&mut self, alloc: Global, name: &str, numbers: &[u64], page: &mut Page) {
+        let flat = &mut self.words.flat;
+        match (name, numbers) {
+            ("words", places) => say_words(flat.words(), places, page),
+            ("record", [number, writes @ ..]) => say_record(*number, writes, page),
+            ("reads", reads) => say_reads(alloc, reads, page),
+            ("wide", [at]) => page.line(if flat.is_wide(*at) {
+                "one word too many"
+            } else {
+                "room"
+            }),
+            // The pending writes are made, or forgotten.
+            ("commit", [number]) => say_redo(&flat.take(*number), page),
+            ("forget", []) => flat.forget(),
+            _ => match self.lay {
+                Some(lay) => self.take_at_home(alloc, &lay, name, numbers, page),
+                None => self.call(alloc, name, numbers, page),
+            },
+        }
+    }
+
+    fn take_at_home(
         &mut self,
         alloc: Global,
+        lay: &Layout,
         name: &str,
-        others: &[&str],
+        numbers: &[u64],
         page: &mut Page,
-    ) -> Result<(), AllocError> {
+    ) {
+        let flat = &mut self.words.flat;
         match name {
-            "first" | "second" => self.files.append(name, others)?,
-            "set" | "check" | "tables" => match pairs_of(alloc, others)? {
-                Some(changes) => self.take_changes(alloc, name, &changes, page),
-                None => page.no_command(),
+            "image" => say_in_image(lay, numbers, page),
+            "places" => say_places(lay, page),
+            "changes" => say_changes(alloc, lay, flat.words(), page),
+            "check" => say_check(alloc, lay, flat.words(), numbers, false, page),
+            "tables" => say_check(alloc, lay, flat.words(), numbers, true, page),
+            "accepted" => say_accepted(alloc, lay, flat.words(), numbers, page),
+            "records" => say_records(lay, flat, numbers, page),
+            "run" => self.files.say_run(alloc, lay, flat.words(), page),
+            "images" => self.files.say_images(alloc, lay, flat.words(), numbers, page),
+            "failing" => self.files.say_failing(alloc, lay, flat.words(), numbers, page),
+            "steps" => match read_requests(alloc, &self.files.first) {
+                Ok(requests) => say_steps(alloc, lay, flat.words(), &requests, page),
+                Err(_) => page.line("no command"),
             },
-            "steps" => return self.take_steps(alloc, page),
-            _ => match numbers_of(alloc, others)? {
-                Some(numbers) => self.take_numbers(alloc, name, &numbers, page),
-                None => page.no_command(),
+            _ => match read_requests(alloc, name.as_bytes()) {
+                Ok(requests) => serve_each(lay, flat, &requests, page),
+                Err(_) => self.call(alloc, name, numbers, page),
             },
         }
-        Ok(())
     }
 
-    /// Commands on a home with some words changed.
-    fn take_changes(&mut self, alloc: Global, name: &str, changes: &[(u64, u64)], page: &mut Page) {
-        match &mut self.home {
-            Some(home) if name == "set" => home.put_all(changes),
-            Some(home) => say_check(home, alloc, changes, name == "tables", page),
-            None => page.no_command(),
-        }
-    }
-
-    /// Performs the requests of the first file on the plain tables.
-    fn take_steps(&self, alloc: Global, page: &mut Page) -> Result<(), AllocError> {
-        match (&self.home, read_requests(alloc, &self.files.first)) {
-            (Some(home), Ok(requests)) => say_steps(home, alloc, &requests, page),
-            _ => Err(AllocError),
-        }
-    }
-
-    fn take_numbers(&mut self, alloc: Global, name: &str, numbers: &[u64], page: &mut Page) {
-        match (name, numbers) {
-            ("home", [subscribers, calls, rings, cells]) => {
-                self.home = match Sizes::of(*subscribers, *calls, *rings, *cells) {
-                    Ok(sizes) => new_home(alloc, &sizes, page),
-                    Err(_) => None,
-                };
-            }
-            ("order", _) => say_in_files(alloc, numbers, page),
-            ("files", []) => self.files = Files::new(alloc),
-            _ => self.take_at_home(alloc, name, numbers, page),
-        }
-    }
-
-    fn take_at_home(&mut self, alloc: Global, name: &str, numbers: &[u64], page: &mut Page) {
-        match (&mut self.home, name, numbers) {
-            (Some(home), "run", []) => self.files.say_run(home, alloc, page),
-            (Some(home), "images", [every, last]) => {
-                self.files.say_images(home, alloc, *every, *last, page);
-            }
-            (Some(home), "failing", [before, every, last]) => {
-                self.files
-                    .say_failing(home, alloc, *before, *every, *last, page);
-            }
-            (Some(home), _, _) => take_home(home, alloc, name, numbers, page),
-            (None, _, _) => page.no_command(),
+    fn call(&mut self, alloc: Global, name: &str, numbers: &[u64], page: &mut Page) {
+        match name.strip_prefix("each-") {
+            Some(name) => say_stops(alloc, self.words.flat.words(), name, numbers, page),
+            None => say_call(&mut self.words, name, numbers, page),
         }
     }
 }

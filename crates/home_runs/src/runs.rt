@@ -9,17 +9,20 @@ ghost use Rattle.tatp_model.specs.Request.{IsInRange};
 ghost use Rattle.image_opening.specs.Opened.{IsOpened};
 ghost use Rattle.dude_engine.specs.Requests.{AreInRange, request_count};
 
-use crate::home::Home;
+use crate::home::done_at;
 use crate::page::Page;
 use dude_base::limits::{MAGIC, VERSION};
+use dude_base::place::Place;
 use dude_engine::{Ran, RanEnd, plain};
 use image_opening::{Opened, open};
 use image_recovery::image_of;
 use pmem_fake::MemPmem;
 use pmem_trait::Medium;
 use request_reader::read_requests;
+use run_order::put_in_files;
 use std::alloc::{AllocError, Global};
-use tatp_model::Request;
+use tatp_layout::Layout;
+use tatp_model::{Reply, Request};
 
 /// The home word of subscriber 1's location, and what a new database has there.
 const LOCATION: usize = 22;
@@ -44,28 +47,29 @@ impl Files {
     }
 
     /// Appends requests to the first or to the second file.
-    pub fn append(&mut self, file: &str, requests: &[&str]) -> Result<(), AllocError> {
+    pub fn append(&mut self, file: &str, requests: &[&str], page: &mut Page) {
+        let text = match file {
+            "first" => &mut self.first,
+            "second" => &mut self.second,
+            _ => return page.line("no command"),
+        };
         for request in requests {
-            let text = match file {
-                "first" => &mut self.first,
-                _ => &mut self.second,
-            };
-            text.extend_from_slice(request.as_bytes())?;
-            text.extend_from_slice(b"\n")?;
+            if text.extend_from_slice(request.as_bytes()).is_err() || text.push(b'\n').is_err() {
+                page.cut();
+            }
         }
-        Ok(())
     }
 
-    /// Runs the files over the image of a home with two rings of sixteen cells. The call on the medium of the count `fail`,
-    /// from 1 on, fails. `None` where they can't be run.
-    fn run(&self, home: &Home, alloc: Global, fail: u64) -> Option<Ran<MemPmem>> {
+    /// Runs the files over the image of a home. The call on the medium of the count `fail`, from 1 on, fails. `None` where they
+    /// can't be run.
+    fn run(&self, alloc: Global, lay: &Layout, words: &[u64], fail: u64) -> Option<Ran<MemPmem>> {
         let Ok(first) = read_requests(alloc, &self.first) else {
             return None;
         };
         let Ok(second) = read_requests(alloc, &self.second) else {
             return None;
         };
-        let Ok(medium) = medium(alloc, home, fail) else {
+        let Ok(medium) = medium(alloc, lay, words, fail) else {
             return None;
         };
         match open(alloc, medium) {
@@ -78,19 +82,16 @@ impl Files {
     }
 
     /// Runs the files, and prints how the run ended and what is done.
-    pub fn say_run(&self, home: &Home, alloc: Global, page: &mut Page) {
-        let Some(ran) = self.run(home, alloc, 0) else {
+    pub fn say_run(&self, alloc: Global, lay: &Layout, words: &[u64], page: &mut Page) {
+        let Some(ran) = self.run(alloc, lay, words, 0) else {
             return page.line("not run");
         };
-        page.put(match ran.end {
-            RanEnd::Whole => b"whole",
-            RanEnd::Device => b"failed device",
-            RanEnd::NoMemory => b"no memory",
-        });
-        page.numbers(
-            ", last and told",
-            &[ran.last, ran.medium.told().unwrap_or(0)],
-        );
+        let end = match ran.end {
+            RanEnd::Whole => "whole, last and told",
+            RanEnd::Device => "failed device, last and told",
+            RanEnd::NoMemory => "no memory, last and told",
+        };
+        page.numbers(end, &[ran.last, ran.medium.told().unwrap_or(0)]);
         for done in &ran.done {
             page.put(if done.wrote { b"wrote" } else { b"read" });
             page.put_numbers(&[done.file, done.index]);
@@ -100,17 +101,25 @@ impl Files {
     }
 
     /// Runs the files, takes the images that a crash may leave at every so many moments, with the settled words and with the
-    /// first later ones, and prints whether each is that of a run of updates up to the last number.
-    pub fn say_images(&self, home: &Home, alloc: Global, every: u64, last: u64, page: &mut Page) {
-        let Some(ran) = self.run(home, alloc, 0) else {
+    /// first later ones, and prints whether each is that of a run of updates up to the last number. The numbers are the count of
+    /// moments and the last number.
+    pub fn say_images(
+        &self,
+        alloc: Global,
+        lay: &Layout,
+        words: &[u64],
+        numbers: &[u64],
+        page: &mut Page,
+    ) {
+        let (Some(ran), [every, last]) = (self.run(alloc, lay, words, 0), numbers) else {
             return page.line("not run");
         };
         let Ok(ones) = vec![in alloc; 1; ran.medium.content().len()] else {
             return page.cut();
         };
-        for moment in (0..ran.medium.now().saturating_add(1)).step_by(every.max(1) as usize) {
-            if !is_of_updates_at(alloc, &ran.medium, moment, &[], last)
-                || !is_of_updates_at(alloc, &ran.medium, moment, &ones, last)
+        for moment in (0..ran.medium.now().saturating_add(1)).step_by((*every).max(1) as usize) {
+            if !is_of_updates(alloc, &ran.medium, moment, &[], *last)
+                || !is_of_updates(alloc, &ran.medium, moment, &ones, *last)
             {
                 return page.numbers("another image at moment", &[moment]);
             }
@@ -119,48 +128,41 @@ impl Files {
     }
 
     /// Runs the files once for every so many of the last calls, each of which fails in turn, and prints how many of these runs
-    /// end there and leave the image of a run of updates up to the last number.
+    /// end there and leave the image of a run of updates up to the last number. The numbers are how many calls are the last
+    /// ones, the count of calls, and the last number.
     pub fn say_failing(
         &self,
-        home: &Home,
         alloc: Global,
-        before: u64,
-        every: u64,
-        last: u64,
+        lay: &Layout,
+        words: &[u64],
+        numbers: &[u64],
         page: &mut Page,
     ) {
-        let Some(whole) = self.run(home, alloc, 0) else {
+        let (Some(whole), [before, every, last]) = (self.run(alloc, lay, words, 0), numbers) else {
             return page.line("not run");
         };
         let end = whole.medium.now();
         let mut ended = 0u64;
-        for fail in (end.saturating_sub(before)..end).step_by(every.max(1) as usize) {
-            if !self.ends_at(home, alloc, fail, last) {
-                return page.numbers("another end where call fails", &[fail]);
+        for fail in (end.saturating_sub(*before)..end).step_by((*every).max(1) as usize) {
+            if let Some(ran) = self.run(alloc, lay, words, fail)
+                && ran.end == RanEnd::Device
+                && ran.medium.now() == fail
+                && is_of_updates(alloc, &ran.medium, fail, &[], *last)
+            {
+                ended = ended.wrapping_add(1);
+            } else {
+                page.numbers("another end where call fails", &[fail]);
             }
-            ended = ended.wrapping_add(1);
         }
         page.numbers("runs that end where a call fails", &[ended]);
     }
-
-    /// Whether a run ends at the call that fails, and leaves the image of a run of updates.
-    fn ends_at(&self, home: &Home, alloc: Global, fail: u64, last: u64) -> bool {
-        let Some(ran) = self.run(home, alloc, fail) else {
-            return false;
-        };
-        if ran.end != RanEnd::Device || ran.medium.now() != fail {
-            return false;
-        }
-        match ran.medium.crash(alloc, &[]) {
-            Ok(image) => is_of_updates(alloc, &image, last),
-            Err(_) => false,
-        }
-    }
 }
 
-/// The image of a home with two rings of sixteen cells.
-fn image_with(home: &Home, alloc: Global) -> Result<Vec<u64>, AllocError> {
-    let sizes = home.lay.sizes();
+/// A medium with the image of a home, of which the call of this count fails.
+fn medium(alloc: Global, lay: &Layout, words: &[u64], fail: u64) -> Result<MemPmem, AllocError>
+    ensures { IfOk result (λ medium. IsTrue (sight medium).is_visible → IsSettled (sight medium).len (state_now (sight medium))) }
+{
+    let sizes = lay.sizes();
     let mut image = vec![in alloc;
         MAGIC,
         VERSION,
@@ -169,18 +171,9 @@ fn image_with(home: &Home, alloc: Global) -> Result<Vec<u64>, AllocError> {
         sizes.rings,
         sizes.cells,
         sizes.pages,
-        0,
     ]?;
-    image.resize(272, 0)?;
-    image.extend_from_slice(&home.words)?;
-    Ok(image)
-}
-
-/// A medium with that image, of which the call of this count fails.
-fn medium(alloc: Global, home: &Home, fail: u64) -> Result<MemPmem, AllocError>
-    ensures settled { IfOk result (λ medium. IsTrue (sight medium).is_visible → IsSettled (sight medium).len (state_now (sight medium))) }
-{
-    let image = image_with(home, alloc)?;
+    image.resize(Place::of(&sizes).home(0) as usize, 0)?;
+    image.extend_from_slice(words)?;
     let medium = MemPmem::new(alloc, image, 1_000_000, vec![in alloc; fail]?)?;
     Ok(medium)
 }
@@ -210,30 +203,41 @@ fn files_for(
     Vec::new(alloc)
 }
 
-/// Whether an image recovers to what updates of subscriber 1 leave, the k-th to location k: the number has to be at most the
-/// last one, and the location its.
-fn is_of_updates(alloc: Global, image: &[u64], last: u64) -> bool {
-    match image_of(alloc, image) {
-        Ok(found) => {
-            let location = match found.number {
-                0 => NEW_LOCATION,
-                number => number,
-            };
-            found.number <= last && found.words.get(LOCATION) == Some(&location)
-        }
-        Err(_) => false,
-    }
-}
-
-fn is_of_updates_at(
+/// Whether the image that a crash may leave at a moment recovers to what updates of subscriber 1 leave, the k-th to location k:
+/// the number has to be at most the last one, and the location its.
+fn is_of_updates(
     alloc: Global,
     medium: &MemPmem,
     moment: u64,
     picks: &[u64],
     last: u64,
 ) -> bool {
-    match medium.images_at(alloc, moment, picks) {
-        Ok(image) => is_of_updates(alloc, &image, last),
-        Err(_) => false,
+    let Ok(image) = medium.images_at(alloc, moment, picks) else {
+        return false;
+    };
+    let Ok(found) = image_of(alloc, &image) else {
+        return false;
+    };
+    let location = match found.number {
+        0 => NEW_LOCATION,
+        number => number,
+    };
+    found.number <= last && found.words.get(LOCATION) == Some(&location)
+}
+
+/// Puts requests that are done, each told by its file, its index and its number, in the order of files, and prints them.
+pub fn say_in_files(alloc: Global, numbers: &[u64], page: &mut Page) {
+    let mut done = Vec::new(alloc);
+    for place in numbers.chunks(3) {
+        if let [file, index, number] = *place
+            && done.push(done_at(file, index, number, Reply::Durable)).is_err()
+        {
+            page.cut();
+        }
+    }
+    put_in_files(&mut done);
+    page.numbers("requests", &[done.len() as u64]);
+    for each in &done {
+        page.numbers("done", &[each.file, each.index, each.number]);
     }
 }

@@ -1,6 +1,6 @@
 use Rattle.std.proofs.Common.{◌≤◌, length}
 use Rattle.tatp_model.specs.Database.{database_of, IsInOrder}
-use Rattle.home_runs.proofs.steps.say_steps.Given as goal
+use Rattle.home_runs.proofs.checks.say_steps.Given as goal
 
 -- the tables are in order, and no more call rows stand than may
 abbrev pub invariant-loop-request : goal.invariant-loop-request

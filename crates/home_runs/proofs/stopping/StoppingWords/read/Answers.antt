@@ -1,5 +1,5 @@
 use Rattle.std.proofs.Common.{refl, ◌∙◌}
-use Rattle.table_runs.proofs.stopping.StoppingWords.read.Goals as goal
+use Rattle.home_runs.proofs.stopping.StoppingWords.read.Goals as goal
 
 -- the array stays, as it does in the `Flat` below
 pub returns-in-Ok-clause-turns : goal.returns-in-Ok-clause-turns

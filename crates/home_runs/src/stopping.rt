@@ -1,13 +1,11 @@
 //! An array at rest that stops at a planned call.
 
-ghost use Rattle.table_runs.specs.Stops.{IsNotWide};
-
 use word_space::flat::Flat;
 use word_space::stop::Stop;
 use word_space::words::Words;
 
-/// An array at rest that answers a given Stop at each call after the first `calls` ones. It is made
-/// for tests of code over any `Words`.
+/// An array at rest that answers a given Stop at each call after the first `calls` ones, but for `Wide`, since that depends on
+/// the writes. It is made for tests of code over any `Words`.
 #[derive(Drop)]
 pub struct Stopping {
     /// The array with the reads and the writes that were made so far.
@@ -16,15 +14,11 @@ pub struct Stopping {
     stop: Stop,
     /// The last Stop that was answered.
     pub stopped: Option<Stop>,
-    ghost narrow: { IsNotWide stop },
 }
 
 impl Stopping {
-    /// The array, which answers `calls` calls itself before it stops. `stop` is no `Wide`, since that
-    /// depends on the writes.
-    pub fn new(flat: Flat, calls: u64, stop: Stop) -> Self
-        requires { IsNotWide stop }
-    {
+    /// The array, which answers `calls` calls itself before it stops.
+    pub fn new(flat: Flat, calls: u64, stop: Stop) -> Self {
         Stopping {
             flat,
             calls,
@@ -36,7 +30,7 @@ impl Stopping {
 
 impl Words for Stopping {
     ghost use Rattle.std.proofs.Common.{refl, ◌∙◌};
-    ghost use Rattle.table_runs.specs.Stoppings.{stopping_sight, stopping_well_formed, HasSameWords};
+    ghost use Rattle.home_runs.specs.Stoppings.{stopping_sight, stopping_well_formed, HasSameWords};
 
     ghost sight = { stopping_sight };
 
@@ -53,11 +47,11 @@ impl Words for Stopping {
     }
 
     fn read(&mut self, at: u64) -> Result<u64, Stop> {
-        if self.calls == 0 {
+        if self.calls == 0 && self.stop != Stop::Wide {
             self.stopped = Some(self.stop);
             return Err(self.stop);
         }
-        self.calls -= 1;
+        self.calls = self.calls.saturating_sub(1);
         match self.flat.read(at) {
             Ok(value) => Ok(value),
             Err(stop) => {
@@ -68,7 +62,7 @@ impl Words for Stopping {
     }
 
     fn write(&mut self, at: u64, value: u64) -> Result<(), Stop> {
-        if self.calls == 0 && !self.flat.is_wide(at) {
+        if self.calls == 0 && self.stop != Stop::Wide && !self.flat.is_wide(at) {
             self.stopped = Some(self.stop);
             return Err(self.stop);
         }

@@ -2,7 +2,7 @@
 use Rattle.std.specs.Prelude.{◌≡◌}
 use Rattle.word_space.specs.Flats.{words_of, flat_sight, flat_well_formed}
 use Rattle.word_space.specs.Sights.{WordsSight, IsWellFormed}
-use Rattle.table_runs.specs.declared.stopping.Stopping.{Stopping}
+use Rattle.home_runs.specs.declared.stopping.Stopping.{Stopping}
 
 -- that of the array, but for the last Stop
 abbrev pub stopping_sight : Stopping → WordsSight

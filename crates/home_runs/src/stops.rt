@@ -14,21 +14,17 @@ const STOPS: [Stop; 3] = [
     Stop::NoMemory,
 ];
 
-/// Makes a call over and over, each time on this array, of which another read or write stops it, by each kind of stop. Prints
-/// how many of them handed the stop on and left the array at rest, and how many writes are pending then; or the count of calls
-/// before the first one that did not.
-pub fn say_stops(
-    alloc: Global,
-    array: &[u64],
-    times: u64,
-    name: &str,
-    numbers: &[u64],
-    page: &mut Page,
-) {
+/// Makes a call over and over, each time on this array, of which another read or write stops it, by each kind of stop: the first
+/// number is how many of these there are, and the others are those of the call. Prints how many of them handed the stop on and
+/// left the array at rest, and how many writes are pending then; or the count of calls before the first one that did not.
+pub fn say_stops(alloc: Global, array: &[u64], name: &str, numbers: &[u64], page: &mut Page) {
+    let Some((times, numbers)) = numbers.split_first() else {
+        return page.line("no command");
+    };
     let mut stopped = 0u64;
     let mut pending = 0u64;
     for stop in STOPS {
-        for calls in 0..times {
+        for calls in 0..*times {
             let Ok(words) = array.to_vec(alloc) else {
                 return page.cut();
             };
@@ -52,9 +48,10 @@ fn handed_on(
     array: &[u64],
 ) -> Option<u64> {
     let mut words = words;
-    let answered = take_call(&mut words, name, numbers);
-    let handed_on = matches!(answered, Err(met) if met == stop) && words.stopped == Some(stop);
-    if !handed_on || words.flat.words() != array {
+    let Err(met) = take_call(&mut words, name, numbers) else {
+        return None;
+    };
+    if met != stop || words.stopped != Some(stop) || words.flat.words() != array {
         return None;
     }
     Some(words.flat.take(1).len())
