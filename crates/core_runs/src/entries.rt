@@ -2,7 +2,7 @@
 
 use crate::events::{reading, updating};
 use crate::output::{print_pair, print_pairs};
-use core_setup::about::About;
+use core_view::about::About;
 use core_view::entry::Entry;
 use core_view::view::View;
 use std::io;
