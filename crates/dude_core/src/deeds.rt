@@ -37,8 +37,13 @@ fn read_deed(event: &Event) -> Option<ReadDeed>
 {
     match event {
         Event::Number => Some(ReadDeed::Number),
-        Event::Clock { extend: true } => Some(ReadDeed::Extend),
-        Event::Clock { extend: false } => Some(ReadDeed::Begin),
+        Event::Clock { extend } => {
+            if *extend {
+                Some(ReadDeed::Extend)
+            } else {
+                Some(ReadDeed::Begin)
+            }
+        }
         Event::Look { lock } => Some(ReadDeed::Look { lock: *lock }),
         Event::Load { at } => Some(ReadDeed::Load { at: *at }),
         Event::Check { lock } => Some(ReadDeed::Check { lock: *lock }),
