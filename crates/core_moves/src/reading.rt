@@ -2,14 +2,14 @@
 
 ghost use Rattle.std.specs.Prelude.{◌≡◌, ◌==◌, ◌<◌, ◌-◌, ◌^◌, [], ◌∷◌, ◌++◌, None, Some, OnOk, OnErr, if◌then◌else◌};
 ghost use Rattle.core_events.specs.Events.{begin, extend, load, check, finish, look, name, view_after, looked_word, is_good, extending, validating};
-ghost use Rattle.core_setup.specs.Named.{word_of, of_read};
+ghost use Rattle.core_view.specs.Named.{word_of, of_read};
 
-use core_setup::about::About;
-use core_setup::deed::ReadDeed;
-use core_setup::setup::Setup;
-use core_setup::word::Word;
+use core_view::about::About;
+use core_view::deed::ReadDeed;
 use core_view::entry::Entry;
+use core_view::setup::Setup;
 use core_view::view::View;
+use core_view::word::Word;
 use dude_base::write_list::WriteList;
 use std::alloc::{AllocError, Global};
 

@@ -4,15 +4,15 @@ ghost use Rattle.std.specs.Prelude.{◌≡◌, ◌<◌, ◌-◌, ◌^◌, OnOk, 
 ghost use Rattle.core_events.specs.Events.{name, view_after};
 ghost use Rattle.core_events.specs.Conditions.{May};
 ghost use Rattle.core_events.specs.Telling.{IsSeated, WordTold};
-ghost use Rattle.core_setup.specs.Named.{word_of, event_of};
+ghost use Rattle.core_view.specs.Named.{word_of, event_of};
 
 use crate::reading::read;
 use crate::writing::write;
-use core_setup::deed::Deed;
-use core_setup::setup::Setup;
-use core_setup::word::Word;
-use core_turns::{page, turn};
+use core_steps::{page, turn};
+use core_view::deed::Deed;
+use core_view::setup::Setup;
 use core_view::view::View;
+use core_view::word::Word;
 use std::alloc::{AllocError, Global};
 
 /// Makes the event, where it found this in its word. A view whose counts of found words or of

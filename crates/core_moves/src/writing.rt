@@ -5,14 +5,14 @@ ghost use Rattle.dude_base.specs.declared.limits.TheConstants.{MAX_NUMBER};
 ghost use Rattle.core_events.specs.Events.{take, draw, decide, store, release, restore, name, view_after};
 ghost use Rattle.core_events.specs.Telling.{WordTold};
 ghost use Rattle.core_events.specs.Conditions.{May};
-ghost use Rattle.core_setup.specs.Named.{word_of, of_write};
+ghost use Rattle.core_view.specs.Named.{word_of, of_write};
 
-use core_setup::about::About;
-use core_setup::deed::WriteDeed;
-use core_setup::setup::Setup;
-use core_setup::word::Word;
+use core_view::about::About;
+use core_view::deed::WriteDeed;
 use core_view::entry::Entry;
+use core_view::setup::Setup;
 use core_view::view::View;
+use core_view::word::Word;
 use dude_base::write_list::WriteList;
 use std::alloc::{AllocError, Global};
 

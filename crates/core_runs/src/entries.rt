@@ -1,15 +1,29 @@
 //! The entries of views.
 
 use crate::events::{reading, updating};
-use crate::output::{print_pair, print_pairs};
-use core_setup::about::About;
+use crate::output::{print_numbers, print_pair, print_pairs};
+use crate::stage::Stage;
 use core_view::entry::Entry;
 use core_view::view::View;
 use std::io;
 use tatp_model::reply::Reply;
 
+/// No script has more views.
+const VIEWS: u64 = 16;
+
+/// Prints the entries of all views, view by view, and how many there are.
+pub fn print_all_entries(rt: &HostRuntime, stage: &Stage) -> io::Result<()> {
+    let mut count = 0_u64;
+    for who in 0..VIEWS {
+        if let Some(view) = stage.core.view(who) {
+            count = count.saturating_add(print_entries(rt, who, view)?);
+        }
+    }
+    print_numbers(rt, "entries", &[count])
+}
+
 /// Prints the entries of a view in their order, and counts them.
-pub fn print_entries(rt: &HostRuntime, who: u64, view: &View) -> io::Result<u64> {
+fn print_entries(rt: &HostRuntime, who: u64, view: &View) -> io::Result<u64> {
     let mut count = 0_u64;
     for entry in &view.entries {
         print_entry(rt, who, entry)?;
@@ -29,32 +43,28 @@ fn print_entry(rt: &HostRuntime, who: u64, entry: &Entry) -> io::Result<()> {
 }
 
 fn print_writes(rt: &HostRuntime, entry: &Entry) -> io::Result<()> {
+    if entry.writes.len() == 0 {
+        return rt.print(", writes none");
+    }
     rt.print(", writes")?;
     for k in 0..entry.writes.len() {
         let write = entry.writes.get(k);
         print_pair(rt, write.at, write.value)?;
-    }
-    if entry.writes.len() == 0 {
-        rt.print(" none")?;
     }
     Ok(())
 }
 
 /// Whether it is of the update of its place in file 0, and wrote, or of the request there that only reads, and didn't.
 fn kind_of(entry: &Entry) -> &'static str {
-    if entry.wrote && is_update(&entry.about) {
-        "update"
-    } else if !entry.wrote && is_read(&entry.about) {
-        "request"
+    let about = &entry.about;
+    let (request, reply, kind) = if entry.wrote {
+        (updating(about.index), Reply::Changed, "update")
+    } else {
+        (reading(about.index), Reply::Missing, "request")
+    };
+    if about.file == 0 && about.request == request && about.reply == reply {
+        kind
     } else {
         "another entry"
     }
-}
-
-fn is_update(about: &About) -> bool {
-    about.file == 0 && about.request == updating(about.index) && about.reply == Reply::Changed
-}
-
-fn is_read(about: &About) -> bool {
-    about.file == 0 && about.request == reading(about.index) && about.reply == Reply::Missing
 }

@@ -1,39 +1,24 @@
 //! The events of the machine, by their names in a script.
 
+use crate::parts::{cut, numbers_in};
 use dude_base::redo::Redo;
 use dude_base::write::Write;
 use dude_core::Event;
-use script_words::{number_of, pair_of};
+use script_words::pair_of;
+use std::alloc::{AllocError, Global};
 use tatp_model::reply::Reply;
 use tatp_model::request::Request;
 
-/// The event of these words.
-pub fn event_of(words: &[&str]) -> Option<Event> {
-    match words {
-        [name] => plain_event(*name),
-        [name, number] => numbered_event(*name, number_of(*number)?),
-        ["Draw", place, "writes", writes @ ..] => draw(number_of(*place)?, writes),
-        [name, first, number, second, other] => {
-            let at = (number_of(*number)?, number_of(*other)?);
-            double_event((*name, *first, *second), at)
-        }
-        [
-            "Fill",
-            "page",
-            page,
-            "frame",
-            frame,
-            "word",
-            at,
-            "value",
-            value,
-        ] => Some(Event::Fill {
-            page: number_of(*page)?,
-            frame: number_of(*frame)?,
-            at: number_of(*at)?,
-            value: number_of(*value)?,
-        }),
-        _ => None,
+/// The event that a text names, with its numbers.
+pub fn event_of(alloc: Global, text: &str) -> Result<Option<Event>, AllocError> {
+    let (name, rest) = cut(text);
+    let numbers = numbers_in(alloc, rest)?;
+    match numbers.as_slice() {
+        [] => Ok(plain_event(name)),
+        [number] => Ok(numbered_event(name, *number, rest)),
+        [first, second] => Ok(double_event(name, *first, *second)),
+        [page, frame, at, value] => Ok(fill_event(name, (*page, *frame), *at, *value)),
+        _ => Ok(None),
     }
 }
 
@@ -52,8 +37,9 @@ fn plain_event(name: &str) -> Option<Event> {
     }
 }
 
-fn numbered_event(name: &str, number: u64) -> Option<Event> {
+fn numbered_event(name: &str, number: u64, rest: &str) -> Option<Event> {
     match name {
+        "Draw" => draw(number, rest),
         "Split" => Some(Event::Split { draws: number }),
         "Join" => Some(Event::Join { other: number }),
         "Finish" => Some(finish(number)),
@@ -91,19 +77,31 @@ fn page_event(name: &str, page: u64) -> Option<Event> {
     }
 }
 
-fn double_event(names: (&str, &str, &str), at: (u64, u64)) -> Option<Event> {
-    match names {
-        ("SeeFull", "thread", "place") => Some(Event::SeeFull {
-            thread: at.0,
-            place: at.1,
+fn double_event(name: &str, first: u64, second: u64) -> Option<Event> {
+    match name {
+        "SeeFull" => Some(Event::SeeFull {
+            thread: first,
+            place: second,
         }),
-        ("EmptyBox", "thread", "place") => Some(Event::EmptyBox {
-            thread: at.0,
-            place: at.1,
+        "EmptyBox" => Some(Event::EmptyBox {
+            thread: first,
+            place: second,
         }),
-        ("Show", "page", "frame") => Some(Event::Show {
-            page: at.0,
-            frame: at.1,
+        "Show" => Some(Event::Show {
+            page: first,
+            frame: second,
+        }),
+        _ => None,
+    }
+}
+
+fn fill_event(name: &str, place: (u64, u64), at: u64, value: u64) -> Option<Event> {
+    match name {
+        "Fill" => Some(Event::Fill {
+            page: place.0,
+            frame: place.1,
+            at,
+            value,
         }),
         _ => None,
     }
@@ -118,11 +116,13 @@ fn finish(index: u64) -> Event {
     }
 }
 
-fn draw(index: u64, pairs: &[&str]) -> Option<Event> {
+/// A draw for the writes among these words.
+fn draw(index: u64, words: &str) -> Option<Event> {
     let mut writes = Redo::new(0);
-    for word in pairs {
-        let (at, value) = pair_of(*word)?;
-        writes.push(Write { at, value }).ok()?;
+    for word in words.split_whitespace() {
+        if let Some((at, value)) = pair_of(word) {
+            writes.push(Write { at, value }).ok()?;
+        }
     }
     Some(Event::Draw {
         file: 0,

@@ -7,6 +7,7 @@ mod events;
 mod facts;
 mod output;
 mod pages;
+mod parts;
 mod play;
 mod stage;
 mod steps;
@@ -14,13 +15,13 @@ mod words;
 
 use play::Play;
 use script_words::is_remark;
-use std::io::{self, BufRead, BufReader};
+use std::io;
 
 fn main(rt: HostRuntime) -> io::Result<()> {
+    let script = io::read_to_string(rt.alloc(), rt.reader())?;
     let mut play = Play::new();
-    for line in BufReader::new(rt.alloc(), rt.reader())?.lines(rt.alloc()) {
-        let line = line?;
-        take_line(&rt, &mut play, line.as_str())?;
+    for line in script.as_str().lines() {
+        take_line(&rt, &mut play, line)?;
     }
     Ok(())
 }

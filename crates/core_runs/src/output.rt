@@ -1,4 +1,4 @@
-//! What is printed: names with numbers behind them.
+//! What is printed: words with numbers behind them.
 
 use std::io;
 
@@ -7,39 +7,29 @@ pub fn print_no_command(rt: &HostRuntime) -> io::Result<()> {
     rt.println("no command")
 }
 
-/// A name and a number.
-pub fn print_number(rt: &HostRuntime, name: &str, number: u64) -> io::Result<()> {
-    println!(rt; "{name} {number}")
-}
-
-/// A name and a word.
-pub fn print_word(rt: &HostRuntime, name: &str, word: &str) -> io::Result<()> {
-    println!(rt; "{name} {word}")
-}
-
-/// A name and a number, or `none`.
-pub fn print_maybe(rt: &HostRuntime, name: &str, number: Option<u64>) -> io::Result<()> {
-    match number {
-        Some(number) => print_number(rt, name, number),
-        None => print_word(rt, name, "none"),
-    }
-}
-
-/// A name and numbers, or `none`.
-pub fn print_numbers(rt: &HostRuntime, name: &str, numbers: &[u64]) -> io::Result<()> {
+/// Words, and numbers behind them, or `none`.
+pub fn print_numbers(rt: &HostRuntime, words: &str, numbers: &[u64]) -> io::Result<()> {
+    rt.print(words)?;
     if numbers.is_empty() {
-        return print_word(rt, name, "none");
+        return rt.println(" none");
     }
-    print!(rt; "{name}")?;
     for number in numbers {
         print!(rt; " {number}")?;
     }
     rt.println("")
 }
 
-/// A name and places with their values, or `none`, and no end of the line.
-pub fn print_pairs(rt: &HostRuntime, name: &str, pairs: &[(u64, u64)]) -> io::Result<()> {
-    rt.print(name)?;
+/// Words, and a number behind them, or `none`.
+pub fn print_maybe(rt: &HostRuntime, words: &str, number: Option<u64>) -> io::Result<()> {
+    match number {
+        Some(number) => print_numbers(rt, words, &[number]),
+        None => print_numbers(rt, words, &[]),
+    }
+}
+
+/// Words, and places with their values behind them, or `none`, and no end of the line.
+pub fn print_pairs(rt: &HostRuntime, words: &str, pairs: &[(u64, u64)]) -> io::Result<()> {
+    rt.print(words)?;
     if pairs.is_empty() {
         return rt.print(" none");
     }

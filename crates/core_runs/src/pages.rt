@@ -3,7 +3,6 @@
 ghost use Rattle.std.specs.Prelude.{◌≡◌};
 
 use crate::output::{print_maybe, print_no_command};
-use script_words::number_of;
 use shadow_pages::pager::Pager;
 use std::alloc::{AllocError, Global};
 use std::io;
@@ -28,15 +27,18 @@ impl Pages {
         }
     }
 
-    /// Carries out a command on the map.
-    pub fn carry_out(&mut self, rt: &HostRuntime, words: &[&str]) -> io::Result<()> {
-        match words {
-            ["victim"] => print_maybe(rt, "page", self.pager.victim()),
-            ["free"] => print_maybe(rt, "frame", self.pager.free()),
-            [name, page] => match number_of(*page) {
-                Some(page) => self.with_page(rt, *name, page),
-                None => print_no_command(rt),
-            },
+    /// Carries out a command on the map, of a page or of none.
+    pub fn carry_out(&mut self, rt: &HostRuntime, name: &str, page: Option<u64>) -> io::Result<()> {
+        match page {
+            Some(page) => self.with_page(rt, name, page),
+            None => self.without_page(rt, name),
+        }
+    }
+
+    fn without_page(&mut self, rt: &HostRuntime, name: &str) -> io::Result<()> {
+        match name {
+            "victim" => print_maybe(rt, "page", self.pager.victim()),
+            "free" => print_maybe(rt, "frame", self.pager.free()),
             _ => print_no_command(rt),
         }
     }

@@ -1,13 +1,11 @@
 //! The commands of a script, carried out.
 
-use crate::output::{print_maybe, print_no_command};
+use crate::output::{print_no_command, print_numbers};
 use crate::pages::Pages;
+use crate::parts::{cut, numbers_in};
 use crate::stage::Stage;
-use crate::steps::{ask_view, print_all_entries, print_frame};
-use crate::words::word_of;
+use crate::steps::{ask_stage, ask_view};
 use dude_base::sizes::Sizes;
-use script_words::{number_of, numbers_of, words_of};
-use std::alloc::{AllocError, Global};
 use std::io;
 
 /// What a script has set up.
@@ -32,67 +30,40 @@ impl Play {
 
     /// Carries out a command, and prints what happened or is found.
     pub fn carry_out(&mut self, rt: &HostRuntime, command: &str) -> io::Result<()> {
-        match command.split_once(": ") {
-            Some((head, rest)) => {
-                let head = words_of(rt.alloc(), head)?;
-                match &mut self.stage {
-                    Some(stage) => ask_view(rt, stage, head.as_slice(), rest),
-                    None => print_no_command(rt),
-                }
-            }
-            None => {
-                let words = words_of(rt.alloc(), command)?;
-                self.carry_out_words(rt, words.as_slice())
-            }
-        }
-    }
-
-    fn carry_out_words(&mut self, rt: &HostRuntime, words: &[&str]) -> io::Result<()> {
-        match words {
-            [
-                "database",
-                "subscribers",
-                subscribers,
-                "calls",
-                calls,
-                "words",
-                word,
-            ] => { self.set_database(rt, [*subscribers, *calls, *word]) }
-            ["machine", numbers @ ..] => self.set_machine(rt, numbers),
-            ["map", "pages", pages, "frames", frames] => self.set_up_map(rt, *pages, *frames),
-            ["map", words @ ..] => match &mut self.pages {
-                Some(map) => map.carry_out(rt, words),
-                None => print_no_command(rt),
-            },
-            _ => match &self.stage {
-                Some(stage) => ask_stage(rt, stage, words),
-                None => print_no_command(rt),
-            },
+        let (head, rest) = match command.split_once(": ") {
+            Some(parts) => parts,
+            None => (command, ""),
+        };
+        let (verb, name) = cut(head);
+        let numbers = numbers_in(rt.alloc(), name)?;
+        match verb {
+            "database" => self.set_database(rt, numbers.as_slice()),
+            "machine" => self.set_machine(rt, numbers.as_slice()),
+            "map" => self.ask_map(rt, cut(name).0, numbers.as_slice()),
+            _ => self.ask_machine(rt, (verb, name, rest), numbers.as_slice()),
         }
     }
 
     /// Takes the sizes of a database and its first word, and prints how many pages it has.
-    fn set_database(&mut self, rt: &HostRuntime, words: [&str; 3]) -> io::Result<()> {
-        let numbers = (
-            number_of(words[0]),
-            number_of(words[1]),
-            number_of(words[2]),
-        );
-        let (Some(subscribers), Some(calls), Some(first_word)) = numbers else {
+    fn set_database(&mut self, rt: &HostRuntime, numbers: &[u64]) -> io::Result<()> {
+        let [subscribers, calls, first_word] = numbers else {
             return print_no_command(rt);
         };
-        self.first_word = first_word;
-        self.sizes = Sizes::of(subscribers, calls, 1, 16).ok();
-        print_maybe(rt, "pages", self.sizes.map(|sizes| sizes.pages))
+        self.first_word = *first_word;
+        self.sizes = sizes_of(*subscribers, *calls);
+        match self.sizes {
+            Some(sizes) => print_numbers(rt, "pages", &[sizes.pages]),
+            None => rt.println("pages none"),
+        }
     }
 
     /// Sets a machine up over the last database.
-    fn set_machine(&mut self, rt: &HostRuntime, words: &[&str]) -> io::Result<()> {
-        let (Some(sizes), Some(numbers)) = (self.sizes, machine_numbers(rt.alloc(), words)?) else {
+    fn set_machine(&mut self, rt: &HostRuntime, numbers: &[u64]) -> io::Result<()> {
+        let Some(sizes) = self.sizes else {
             return print_no_command(rt);
         };
         self.stage = None;
-        match Stage::open(rt.alloc(), sizes, self.first_word, numbers.as_slice()) {
+        match Stage::open(rt.alloc(), sizes, self.first_word, numbers) {
             Ok(stage) => {
                 self.stage = stage;
                 print_set_up(rt, self.stage.is_some())
@@ -101,49 +72,38 @@ impl Play {
         }
     }
 
-    fn set_up_map(&mut self, rt: &HostRuntime, pages: &str, frames: &str) -> io::Result<()> {
-        let (Some(pages), Some(frames)) = (number_of(pages), number_of(frames)) else {
-            return print_no_command(rt);
-        };
-        self.pages = Pages::new(rt.alloc(), pages, frames)?;
-        print_set_up(rt, self.pages.is_some())
+    /// Sets a map up, or carries out a command on the last one.
+    fn ask_map(&mut self, rt: &HostRuntime, name: &str, numbers: &[u64]) -> io::Result<()> {
+        if let [pages, frames] = numbers {
+            self.pages = Pages::new(rt.alloc(), *pages, *frames)?;
+            return print_set_up(rt, self.pages.is_some());
+        }
+        match &mut self.pages {
+            Some(map) => map.carry_out(rt, name, numbers.first().copied()),
+            None => print_no_command(rt),
+        }
+    }
+
+    /// Carries out a command on the last machine: a verb, what it is about, and what stands behind a colon.
+    fn ask_machine(
+        &mut self,
+        rt: &HostRuntime,
+        words: (&str, &str, &str),
+        numbers: &[u64],
+    ) -> io::Result<()> {
+        match (&mut self.stage, numbers, words.2) {
+            (Some(stage), _, "") => ask_stage(rt, stage, words.0, words.1, numbers),
+            (Some(stage), [who], events) => ask_view(rt, stage, words.0, *who, events),
+            _ => print_no_command(rt),
+        }
     }
 }
 
-/// How many threads, frames, locks and boxes a machine has, and its number at the start.
-fn machine_numbers(alloc: Global, words: &[&str]) -> Result<Option<Vec<u64>>, AllocError> {
-    match words {
-        [
-            "threads",
-            threads,
-            "frames",
-            frames,
-            "locks",
-            locks,
-            "boxes",
-            boxes,
-            "number",
-            number,
-        ] => { numbers_of(alloc, &[*threads, *frames, *locks, *boxes, *number]) }
-        _ => Ok(None),
-    }
+/// The sizes of a database with one ring, if there are such.
+fn sizes_of(subscribers: u64, calls: u64) -> Option<Sizes> {
+    Sizes::of(subscribers, calls, 1, 16).ok()
 }
 
 fn print_set_up(rt: &HostRuntime, is_set_up: bool) -> io::Result<()> {
     rt.println(if is_set_up { "set up" } else { "not set up" })
-}
-
-fn ask_stage(rt: &HostRuntime, stage: &Stage, words: &[&str]) -> io::Result<()> {
-    match words {
-        ["entries"] => print_all_entries(rt, stage),
-        ["holds", name @ ..] => match word_of(name) {
-            Some(word) => print_maybe(rt, "holds", stage.found(word)),
-            None => print_no_command(rt),
-        },
-        ["frame", frame, "page", page] => match (number_of(*frame), number_of(*page)) {
-            (Some(frame), Some(page)) => print_frame(rt, stage, frame, page),
-            _ => print_no_command(rt),
-        },
-        _ => print_no_command(rt),
-    }
 }

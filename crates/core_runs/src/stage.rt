@@ -1,7 +1,6 @@
 //! The machine on which a script is played.
 
-ghost use Rattle.std.specs.Prelude.{◌≡◌, IsTrue, length};
-ghost use Rattle.dude_core.specs.CoreWords.{HasWord};
+ghost use Rattle.std.specs.Prelude.{◌≡◌, length};
 
 use dude_base::limits::{MAX_NUMBER, PAGE};
 use dude_base::run::Run;
@@ -9,20 +8,12 @@ use dude_base::sizes::Sizes;
 use dude_core::{Core, CoreFault, CoreRefusal, CoreWord, Event, core_step};
 use std::alloc::Global;
 
-/// A machine, and what it was set up with.
+/// A machine, and what its first home word was.
 #[derive(Drop)]
 pub struct Stage {
     pub alloc: Global,
     pub core: Core,
-    sizes: Sizes,
     first_word: u64,
-    threads: u64,
-    run: Run,
-    ghost home: { core.setup.pages ≡ sizes.pages },
-    ghost seats: { core.setup.threads ≡ threads },
-    ghost frames: { core.setup.frames ≡ run.frames },
-    ghost locks: { core.setup.locks ≡ run.locks },
-    ghost boxes: { core.setup.boxes ≡ run.boxes },
 }
 
 impl Stage {
@@ -52,10 +43,7 @@ impl Stage {
             Ok(core) => Ok(Some(Stage {
                 alloc,
                 core,
-                sizes,
                 first_word,
-                threads,
-                run,
             })),
             Err(fault) => Err(fault),
         }
@@ -77,25 +65,10 @@ impl Stage {
 
     /// What the word holds, if there is such a word.
     pub fn found(&self, word: CoreWord) -> Option<u64> {
-        if self.has_word(word) {
+        if self.core.has_word(word) {
             Some(self.core.word(word))
         } else {
             None
-        }
-    }
-
-    fn has_word(&self, word: CoreWord) -> bool
-        ensures { IsTrue result → HasWord self.now.core.setup word }
-    {
-        match word {
-            CoreWord::Lock(lock) => lock < self.run.locks,
-            CoreWord::Entry(page) => page < self.sizes.pages,
-            CoreWord::Touch(page) => page < self.sizes.pages,
-            CoreWord::FrameWord(at) => at / PAGE < self.run.frames,
-            CoreWord::BoxWord { thread, place } => {
-                thread < self.threads && place < self.run.boxes
-            }
-            _ => true,
         }
     }
 }
@@ -105,10 +78,11 @@ pub fn place_in(page: u64, offset: u64) -> u64 {
     page.saturating_mul(PAGE).saturating_add(offset)
 }
 
+/// Puts the opening values into home words.
 fn put_opening(first_word: u64, words: &mut [u64])
     ensures { length words.new ≡ length words.old }
 {
-    for (at, word) in words.iter_mut().enumerate() {
-        *word = first_word.saturating_add(at as u64);
+    for at in 0..words.len() {
+        words[at] = first_word.saturating_add(at as u64);
     }
 }

@@ -1,30 +1,45 @@
-//! The events of views, and what views and frames have.
+//! The events of views, and what views, words and frames have.
 
-use crate::entries::print_entries;
+use crate::entries::print_all_entries;
 use crate::events::event_of;
 use crate::facts::print_fact;
-use crate::output::{print_no_command, print_pair};
+use crate::output::{print_maybe, print_no_command, print_numbers, print_pair};
+use crate::parts::{cut, numbers_in};
 use crate::stage::{Stage, place_in};
+use crate::words::word_of;
 use dude_base::limits::PAGE;
 use dude_core::{CoreWord, Event};
-use script_words::{number_of, words_of};
 use std::io;
 
-/// No script has more views.
-const VIEWS: u64 = 16;
+/// Prints what a word or a frame has, or all entries.
+pub fn ask_stage(
+    rt: &HostRuntime,
+    stage: &Stage,
+    verb: &str,
+    name: &str,
+    numbers: &[u64],
+) -> io::Result<()> {
+    match verb {
+        "entries" => print_all_entries(rt, stage),
+        "holds" => match word_of(cut(name).0, numbers) {
+            Some(word) => print_maybe(rt, "holds", stage.found(word)),
+            None => print_no_command(rt),
+        },
+        "frame" => print_frame(rt, stage, numbers),
+        _ => print_no_command(rt),
+    }
+}
 
 /// Carries out what a view does, or is asked.
-pub fn ask_view(rt: &HostRuntime, stage: &mut Stage, head: &[&str], rest: &str) -> io::Result<()> {
-    let (verb, who) = match head {
-        ["view", who] => ("makes", *who),
-        [verb, "view", who] => (*verb, *who),
-        _ => return print_no_command(rt),
-    };
-    let Some(who) = number_of(who) else {
-        return print_no_command(rt);
-    };
+pub fn ask_view(
+    rt: &HostRuntime,
+    stage: &mut Stage,
+    verb: &str,
+    who: u64,
+    rest: &str,
+) -> io::Result<()> {
     match verb {
-        "makes" => make_each(rt, stage, who, rest, "allowed"),
+        "view" => make_each(rt, stage, who, rest, "allowed"),
         "off" => make_each(rt, stage, who, rest, "off"),
         "fills" => fill(rt, stage, who, rest),
         "shows" => match stage.core.view(who) {
@@ -47,16 +62,17 @@ fn make_each(
     for event in events.split("; ") {
         let word = make(rt, stage, who, event)?;
         if word != wanted {
-            return println!(rt; "{word}: {event}");
+            rt.print(word)?;
+            rt.print(": ")?;
+            return rt.println(event);
         }
         count = count.saturating_add(1);
     }
-    println!(rt; "{count} {wanted}")
+    print_numbers(rt, wanted, &[count])
 }
 
 fn make(rt: &HostRuntime, stage: &mut Stage, who: u64, event: &str) -> io::Result<&'static str> {
-    let words = words_of(rt.alloc(), event)?;
-    match event_of(words.as_slice()) {
+    match event_of(rt.alloc(), event)? {
         Some(event) => Ok(stage.make(who, &event)),
         None => Ok("no command"),
     }
@@ -64,46 +80,37 @@ fn make(rt: &HostRuntime, stage: &mut Stage, who: u64, event: &str) -> io::Resul
 
 /// Fills home words of a page, in a row, with their opening values.
 fn fill(rt: &HostRuntime, stage: &mut Stage, who: u64, words: &str) -> io::Result<()> {
-    let words = words_of(rt.alloc(), words)?;
-    let ["page", page, "frame", frame, "words", first, "to", last] = words.as_slice() else {
+    let numbers = numbers_in(rt.alloc(), words)?;
+    let [page, frame, first, last] = numbers.as_slice() else {
         return print_no_command(rt);
     };
-    let place = (number_of(*page), number_of(*frame));
-    let range = (number_of(*first), number_of(*last));
-    match (place, range) {
-        ((Some(page), Some(frame)), (Some(first), Some(last))) => {
-            fill_range(rt, stage, who, (page, frame), (first, last))
-        }
-        _ => print_no_command(rt),
-    }
-}
-
-fn fill_range(
-    rt: &HostRuntime,
-    stage: &mut Stage,
-    who: u64,
-    place: (u64, u64),
-    range: (u64, u64),
-) -> io::Result<()> {
+    let (page, frame) = (*page, *frame);
     let mut count = 0_u64;
-    for at in range.0..=range.1 {
-        let event = Event::Fill {
-            page: place.0,
-            frame: place.1,
-            at,
-            value: stage.opening_word(at),
-        };
-        let word = stage.make(who, &event);
+    for at in *first..=*last {
+        let value = stage.opening_word(at);
+        let word = stage.make(
+            who,
+            &Event::Fill {
+                page,
+                frame,
+                at,
+                value,
+            },
+        );
         if word != "allowed" {
-            return println!(rt; "{word}: word {at}");
+            return print_numbers(rt, word, &[at]);
         }
         count = count.saturating_add(1);
     }
-    println!(rt; "{count} allowed")
+    print_numbers(rt, "allowed", &[count])
 }
 
 /// Prints the words of a frame that aren't the opening words of the page.
-pub fn print_frame(rt: &HostRuntime, stage: &Stage, frame: u64, page: u64) -> io::Result<()> {
+fn print_frame(rt: &HostRuntime, stage: &Stage, numbers: &[u64]) -> io::Result<()> {
+    let [frame, page] = numbers else {
+        return print_no_command(rt);
+    };
+    let (frame, page) = (*frame, *page);
     print!(rt; "frame {frame} holds page {page}")?;
     let mut comma = " but";
     for offset in 0..PAGE {
@@ -116,15 +123,4 @@ pub fn print_frame(rt: &HostRuntime, stage: &Stage, frame: u64, page: u64) -> io
         }
     }
     rt.println("")
-}
-
-/// Prints the entries of all views, view by view.
-pub fn print_all_entries(rt: &HostRuntime, stage: &Stage) -> io::Result<()> {
-    let mut count = 0_u64;
-    for who in 0..VIEWS {
-        if let Some(view) = stage.core.view(who) {
-            count = count.saturating_add(print_entries(rt, who, view)?);
-        }
-    }
-    println!(rt; "{count} entries")
 }

@@ -1,23 +1,19 @@
 //! The words of the machine, by their names in a script.
 
 use dude_core::CoreWord;
-use script_words::number_of;
 
-/// The word of this name.
-pub fn word_of(name: &[&str]) -> Option<CoreWord> {
-    match name {
-        [kind] => plain_word(*kind),
-        [kind, number] => numbered_word(*kind, number_of(*number)?),
-        ["Box", "thread", thread, "place", place] => Some(CoreWord::BoxWord {
-            thread: number_of(*thread)?,
-            place: number_of(*place)?,
-        }),
+/// The word of this name and these numbers.
+pub fn word_of(name: &str, numbers: &[u64]) -> Option<CoreWord> {
+    match numbers {
+        [] => plain_word(name),
+        [number] => numbered_word(name, *number),
+        [thread, place] => box_word(name, *thread, *place),
         _ => None,
     }
 }
 
-fn plain_word(kind: &str) -> Option<CoreWord> {
-    match kind {
+fn plain_word(name: &str) -> Option<CoreWord> {
+    match name {
         "Threads" => Some(CoreWord::Threads),
         "Clock" => Some(CoreWord::Clock),
         "Turn" => Some(CoreWord::Turn),
@@ -27,11 +23,18 @@ fn plain_word(kind: &str) -> Option<CoreWord> {
     }
 }
 
-fn numbered_word(kind: &str, number: u64) -> Option<CoreWord> {
-    match kind {
+fn numbered_word(name: &str, number: u64) -> Option<CoreWord> {
+    match name {
         "Lock" => Some(CoreWord::Lock(number)),
         "Entry" => Some(CoreWord::Entry(number)),
         "Touch" => Some(CoreWord::Touch(number)),
+        _ => None,
+    }
+}
+
+fn box_word(name: &str, thread: u64, place: u64) -> Option<CoreWord> {
+    match name {
+        "Box" => Some(CoreWord::BoxWord { thread, place }),
         _ => None,
     }
 }

@@ -14,13 +14,13 @@ use Rattle.core_events.specs.Partings.{Leads, event}
 use Rattle.core_events.specs.Telling.{IsSeated, WordTold}
 use Rattle.core_events.specs.Kept.{Kept}
 use Rattle.core_events.proofs.Telling.{kept_seated, tells}
-use Rattle.core_setup.specs.declared.deed.ReadDeed.{ReadDeed}
-use Rattle.core_setup.specs.declared.deed.ReadDeed.TheVariants.{Number, Begin, Extend, Look, Load, Check, Finish}
-use Rattle.core_setup.specs.declared.deed.WriteDeed.{WriteDeed}
-use Rattle.core_setup.specs.declared.deed.WriteDeed.TheVariants.{Take, Draw, Decide, Store, Release, Restore}
-use Rattle.core_setup.specs.declared.deed.PageDeed.{PageDeed}
-use Rattle.core_setup.specs.declared.deed.PageDeed.TheVariants.{Entry, Pin, Unpin, Touch, LoadTouch, Evict, Fill, Show}
-use Rattle.core_setup.specs.Named.{of_read, of_write, of_page}
+use Rattle.core_view.specs.declared.deed.ReadDeed.{ReadDeed}
+use Rattle.core_view.specs.declared.deed.ReadDeed.TheVariants.{Number, Begin, Extend, Look, Load, Check, Finish}
+use Rattle.core_view.specs.declared.deed.WriteDeed.{WriteDeed}
+use Rattle.core_view.specs.declared.deed.WriteDeed.TheVariants.{Take, Draw, Decide, Store, Release, Restore}
+use Rattle.core_view.specs.declared.deed.PageDeed.{PageDeed}
+use Rattle.core_view.specs.declared.deed.PageDeed.TheVariants.{Entry, Pin, Unpin, Touch, LoadTouch, Evict, Fill, Show}
+use Rattle.core_view.specs.Named.{of_read, of_write, of_page}
 use Rattle.core_state.specs.Steps.{IsReady, IsMoved, moved}
 use Rattle.core_state.specs.BoxEvents.{IsPlain}
 

@@ -13,7 +13,7 @@ use Rattle.core_events.specs.Partings.{MaySplit, MayJoin}
 use Rattle.core_events.specs.Kept.{Kept}
 use Rattle.core_events.proofs.Lists.{there, at_map}
 use Rattle.core_events.proofs.Telling.{kept_seated, kept_sized}
-use Rattle.core_setup.specs.Named.{Tells}
+use Rattle.core_view.specs.Named.{Tells}
 use Rattle.state_lists.specs.Small.{AreSmall}
 
 -- ---- where the tests say so

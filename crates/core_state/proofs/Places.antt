@@ -8,7 +8,7 @@ use Rattle.core_events.specs.Words.{State, found, put}
 use Rattle.core_events.specs.Events.{Event, name, word_after, view_after}
 use Rattle.core_events.specs.Conditions.{May, Fits, IsAllowed}
 use Rattle.core_events.proofs.Lists.{there}
-use Rattle.core_setup.specs.Named.{Tells}
+use Rattle.core_view.specs.Named.{Tells}
 use Rattle.core_state.specs.Steps.{moved}
 use Rattle.state_lists.proofs.Places.{at_index}
 

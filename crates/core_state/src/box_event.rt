@@ -1,9 +1,9 @@
 //! What an event does with the record of a box.
 
-ghost use Rattle.core_setup.specs.Named.{event_of, of_turn};
+ghost use Rattle.core_view.specs.Named.{event_of, of_turn};
 ghost use Rattle.core_state.specs.BoxEvents.{IsBoxEvent};
 
-use core_setup::deed::{Deed, TurnDeed};
+use core_view::deed::{Deed, TurnDeed};
 
 /// What an event does with the record of a box.
 #[derive(Drop)]

@@ -3,10 +3,10 @@
 ghost use Rattle.std.specs.Prelude.{◌≡◌};
 ghost use Rattle.core_events.specs.Entries.{value_at, all_entries};
 ghost use Rattle.core_events.specs.Conditions.{IsFree, IsPersistedUpTo};
-ghost use Rattle.core_setup.specs.Named.{Tells};
+ghost use Rattle.core_view.specs.Named.{Tells};
 
 use crate::state::State;
-use core_setup::setup::Setup;
+use core_view::setup::Setup;
 use state_lists::scans::{are_persisted, none_names, value_at};
 
 impl State {

@@ -8,17 +8,16 @@ ghost use Rattle.core_events.specs.Words.{found as found_in};
 ghost use Rattle.core_events.specs.Entries.{value_at, all_entries};
 ghost use Rattle.core_events.specs.Events.{name, word_after, view_after};
 ghost use Rattle.core_events.specs.Conditions.{May, Fits, IsAllowed, IsPersistedUpTo};
-ghost use Rattle.core_setup.specs.Named.{Tells, word_of, event_of, of_turn, of_page};
+ghost use Rattle.core_view.specs.Named.{Tells, word_of, event_of, of_turn, of_page};
 ghost use Rattle.core_state.specs.Steps.{IsReady, IsMoved};
 
 use crate::state::State;
-use core_conditions::may;
 use core_moves::advance;
-use core_setup::deed::{Deed, PageDeed, TurnDeed};
-use core_setup::setup::Setup;
-use core_setup::word::Word;
+use core_steps::{may, name, word_after};
+use core_view::deed::{Deed, PageDeed, TurnDeed};
+use core_view::setup::Setup;
 use core_view::view::View;
-use core_words::{name, word_after};
+use core_view::word::Word;
 use state_lists::words::load;
 use std::alloc::{AllocError, Global};
 

@@ -4,12 +4,12 @@ ghost use Rattle.std.specs.Prelude.{◌≡◌, ◌↔◌, OnOk, OnErr, IsErrOf};
 ghost use Rattle.core_events.specs.Views.{View as Seen};
 ghost use Rattle.core_events.specs.Partings.{MaySplit, MayJoin, Leads, parting, joining};
 ghost use Rattle.core_events.specs.Kept.{Kept};
-ghost use Rattle.core_setup.specs.Named.{Tells};
+ghost use Rattle.core_view.specs.Named.{Tells};
 ghost use Rattle.core_state.specs.Steps.{IsOffAt};
 
 use crate::core_refusal::CoreRefusal;
 use crate::state::State;
-use core_setup::setup::Setup;
+use core_view::setup::Setup;
 use state_lists::partings::{join_into, split_off};
 use std::alloc::{AllocError, Global};
 

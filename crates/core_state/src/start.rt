@@ -5,7 +5,7 @@ ghost use Rattle.core_events.specs.Setups.{IsSetup};
 ghost use Rattle.core_events.specs.Partings.{start};
 
 use crate::state::State;
-use core_setup::setup::Setup;
+use core_view::setup::Setup;
 use state_lists::start::{empty_records, first_cells, first_entries, first_views};
 use std::alloc::{AllocError, Global};
 

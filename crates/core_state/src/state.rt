@@ -2,10 +2,10 @@
 
 ghost use Rattle.std.specs.Prelude.{◌≡◌, slice_index_or};
 ghost use Rattle.core_events.specs.Words.{found, put};
-ghost use Rattle.core_setup.specs.Named.{word_of};
+ghost use Rattle.core_view.specs.Named.{word_of};
 
-use core_setup::word::Word;
 use core_view::view::View;
+use core_view::word::Word;
 use dude_base::redo::Redo;
 use state_lists::words::{load, store};
 use std::marker::Model;

@@ -8,14 +8,14 @@ ghost use Rattle.core_events.specs.Events.{next_box, thread_of};
 ghost use Rattle.core_events.specs.Conditions.{IsAllowed, record_of, no_record};
 ghost use Rattle.core_events.specs.Partings.{Leads, event as step_event};
 ghost use Rattle.core_events.specs.Kept.{Kept};
-ghost use Rattle.core_setup.specs.Named.{event_of};
+ghost use Rattle.core_view.specs.Named.{event_of};
 ghost use Rattle.core_state.specs.Steps.{IsOffAt};
 
 use crate::box_event::BoxEvent;
 use crate::core_refusal::CoreRefusal;
 use crate::state::State;
-use core_setup::deed::Deed;
-use core_setup::setup::Setup;
+use core_view::deed::Deed;
+use core_view::setup::Setup;
 use dude_base::redo::Redo;
 use state_lists::records::record_at;
 use std::alloc::{AllocError, Global};

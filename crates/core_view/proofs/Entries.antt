@@ -3,7 +3,7 @@ use Rattle.std.proofs.Common.{◌≡◌, ◌⊎◌, inl, inr, ◌==◌, ◌&&◌
 use Rattle.std.specs.List.{Contains}
 use Rattle.core_events.specs.Views.{Entry}
 use Rattle.core_events.specs.Entries.{writes_of}
-use Rattle.core_lists.proofs.Walks.{rest_cons, rest_all}
+use Rattle.core_view.proofs.Walks.{rest_cons, rest_all}
 
 -- the entry didn't write with the number: the others say what it wrote
 pub passes : (e : Entry) (es : List Entry) (n : ℕ) → (e.wrote && (e.number == n)) ≡ false → writes_of (e ∷ es) n ≡ writes_of es n

@@ -2,7 +2,7 @@
 use Rattle.std.proofs.Common.{◌≡◌, ◌*◌, ◌/◌, ◌%◌, ◌≤◌, ℕ, leb, arith}
 use Rattle.std.proofs.lemmas.Bool.{cases_from_iff}
 use Rattle.std.proofs.lemmas.Bool.Decides.{nat_tests}
-use Rattle.core_setup.specs.Named.{Tells}
+use Rattle.core_view.specs.Named.{Tells}
 
 pub version_tells : (n s : ℕ) → n % 2 ≡ 0 → Tells (leb (n / 2) s) ((u : ℕ) × (n ≡ 2 * u) × (u ≤ s))
 version_tells n s even = cases_from_iff {P = (u : ℕ) × (n ≡ 2 * u) × (u ≤ s)}

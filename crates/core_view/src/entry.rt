@@ -3,8 +3,8 @@
 ghost use Rattle.std.specs.Prelude.{◌≡◌, ◌⊎◌, ◌==◌, ◌&&◌, ◌≤◌, true};
 ghost use Rattle.dude_base.specs.Writes.{written};
 
-use core_lists::pairs::Pairs;
-use core_setup::about::About;
+use crate::about::About;
+use crate::pairs::Pairs;
 use dude_base::write_list::WriteList;
 use std::marker::Model;
 

@@ -1,7 +1,7 @@
 //! The number that a view drew and hasn't posted.
 
-use core_lists::numbers::Numbers;
-use core_setup::about::About;
+use crate::about::About;
+use crate::numbers::Numbers;
 use dude_base::write_list::WriteList;
 use std::marker::Model;
 

@@ -2,10 +2,10 @@
 
 ghost use Rattle.std.specs.Prelude.{◌≡◌, ◌<◌, ◌-◌, ◌^◌};
 ghost use Rattle.core_events.specs.Events.{noticed, dropped};
-ghost use Rattle.core_setup.specs.Named.{word_of};
+ghost use Rattle.core_view.specs.Named.{word_of};
 
 use crate::view::View;
-use core_setup::word::Word;
+use crate::word::Word;
 
 impl View {
     /// The word was found to hold this.

@@ -1,7 +1,7 @@
 //! The part of a view that is about pages.
 
-use core_lists::numbers::Numbers;
-use core_lists::pairs::Pairs;
+use crate::numbers::Numbers;
+use crate::pairs::Pairs;
 use std::marker::Model;
 
 /// What the view keeps of pages.

@@ -1,6 +1,6 @@
 //! The part of a view that says whose it is.
 
-use core_lists::numbers::Numbers;
+use crate::numbers::Numbers;
 use std::marker::Model;
 
 /// Whose view it is.

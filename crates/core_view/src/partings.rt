@@ -4,19 +4,19 @@ ghost use Rattle.std.specs.Prelude.{◌≡◌, ◌+◌, ◌<◌, ◌≤◌, ◌^
 ghost use Rattle.core_events.specs.Events.{next_box};
 ghost use Rattle.core_events.specs.Conditions.{IsIdle, record_of};
 ghost use Rattle.core_events.specs.Partings.{newcomer, spent, left_of, both_of, both_parts, thread_list};
-ghost use Rattle.core_setup.specs.Named.{Tells};
+ghost use Rattle.core_view.specs.Named.{Tells};
 
+use crate::about::About;
 use crate::boxes::Boxes;
 use crate::hand::Hand;
+use crate::numbers::Numbers;
 use crate::paging::Paging;
+use crate::pairs::Pairs;
 use crate::part::Part;
+use crate::setup::Setup;
 use crate::transaction::Transaction;
 use crate::turn::Turn;
 use crate::view::View;
-use core_lists::numbers::Numbers;
-use core_lists::pairs::Pairs;
-use core_setup::about::About;
-use core_setup::setup::Setup;
 use dude_base::redo::Redo;
 use dude_base::write_list::WriteList;
 use std::alloc::{AllocError, Global};

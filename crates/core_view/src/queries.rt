@@ -6,10 +6,10 @@ ghost use Rattle.core_events.specs.Setups.{without_pins};
 ghost use Rattle.core_events.specs.Keyed.{find, or_else};
 ghost use Rattle.core_events.specs.Events.{is_good, looked_word, thread_of, next_box, pinned_frame, kept_entry};
 ghost use Rattle.core_events.specs.Conditions.{IsIdle, IsUndrawn, IsSteady, IsUndecided, HasThread, LooksGood, LooksUnowned, Owns, Pins, Writes, KeepsFrame};
-ghost use Rattle.core_setup.specs.Named.{Tells};
+ghost use Rattle.core_view.specs.Named.{Tells};
 
+use crate::setup::{Setup, without_pins};
 use crate::view::View;
-use core_setup::setup::{Setup, without_pins};
 
 impl View {
     /// Whether the view isn't spent and has a thread's number.

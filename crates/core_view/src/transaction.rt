@@ -1,8 +1,8 @@
 //! The part of a view that is about its transaction.
 
 use crate::hand::Hand;
-use core_lists::numbers::Numbers;
-use core_lists::pairs::Pairs;
+use crate::numbers::Numbers;
+use crate::pairs::Pairs;
 use std::marker::Model;
 
 /// The transaction of a view.

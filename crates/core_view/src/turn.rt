@@ -1,6 +1,6 @@
 //! The part of a view that is about the turn.
 
-use core_lists::pairs::Pairs;
+use crate::pairs::Pairs;
 use std::marker::Model;
 
 /// What the view keeps of the turn.

@@ -2,12 +2,12 @@
 
 use crate::boxes::Boxes;
 use crate::entry::Entry;
+use crate::numbers::Numbers;
 use crate::paging::Paging;
 use crate::part::Part;
 use crate::transaction::Transaction;
 use crate::turn::Turn;
-use core_lists::numbers::Numbers;
-use core_setup::word::Word;
+use crate::word::Word;
 use std::marker::Model;
 
 /// What the thread with a seat at the table knows of its own steps.
@@ -37,7 +37,7 @@ pub struct View {
 
 impl Model for View {
     ghost use Rattle.core_events.specs.Views.{View};
-    ghost use Rattle.core_setup.specs.Named.{found_of};
+    ghost use Rattle.core_view.specs.Named.{found_of};
 
     ghost Value = { View };
 

@@ -5,7 +5,7 @@ use std::error::Error;
 use std::fmt;
 
 /// Why no core was made.
-#[derive(Clone, Copy, Debug, PartialEq, Eq)]
+#[derive(Clone, Copy, Debug)]
 pub enum CoreFault {
     /// The run, or the number of threads, is out of its limits. These are the frames that were
     /// asked for, and the pages that there are.

@@ -1,7 +1,7 @@
 //! The words of a core, by name.
 
 /// A word of the core.
-#[derive(Clone, Copy, Debug, PartialEq, Eq)]
+#[derive(Clone, Copy)]
 pub enum CoreWord {
     /// How many threads' numbers were drawn.
     Threads,

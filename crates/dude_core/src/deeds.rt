@@ -2,12 +2,12 @@
 
 ghost use Rattle.std.specs.Prelude.{◌≡◌, ◌≢◌, ℕ, IfSome, IfNone};
 ghost use Rattle.core_events.specs.Partings.{event as step_event};
-ghost use Rattle.core_setup.specs.Named.{event_of, of_read, of_write, of_turn, of_page};
+ghost use Rattle.core_view.specs.Named.{event_of, of_read, of_write, of_turn, of_page};
 ghost use Rattle.dude_core.specs.Steps.{step_of, group_of, parting_group, reading, writing, turning, paging};
 
 use crate::event::Event;
-use core_setup::about::About;
-use core_setup::deed::{Deed, PageDeed, ReadDeed, TurnDeed, WriteDeed};
+use core_view::about::About;
+use core_view::deed::{Deed, PageDeed, ReadDeed, TurnDeed, WriteDeed};
 use dude_base::redo::Redo;
 use dude_base::write_list::WriteList;
 
@@ -37,8 +37,13 @@ fn read_deed(event: &Event) -> Option<ReadDeed>
 {
     match event {
         Event::Number => Some(ReadDeed::Number),
-        Event::Clock { extend: true } => Some(ReadDeed::Extend),
-        Event::Clock { extend: false } => Some(ReadDeed::Begin),
+        Event::Clock { extend } => {
+            if *extend {
+                Some(ReadDeed::Extend)
+            } else {
+                Some(ReadDeed::Begin)
+            }
+        }
         Event::Look { lock } => Some(ReadDeed::Look { lock: *lock }),
         Event::Load { at } => Some(ReadDeed::Load { at: *at }),
         Event::Check { lock } => Some(ReadDeed::Check { lock: *lock }),

@@ -8,6 +8,7 @@ ghost use Rattle.core_events.specs.Setups.{IsSetup};
 ghost use Rattle.core_events.specs.Words.{found};
 ghost use Rattle.core_events.specs.Partings.{Leads};
 ghost use Rattle.core_events.specs.Kept.{Kept};
+ghost use Rattle.core_view.specs.Named.{Tells};
 ghost use Rattle.core_state.specs.Steps.{IsOffAt};
 ghost use Rattle.dude_core.specs.declared.core_fault.CoreFault.TheVariants.{Size, NoMemory};
 ghost use Rattle.dude_core.specs.CoreWords.{HasWord, word_at};
@@ -19,10 +20,11 @@ use crate::core_word::CoreWord;
 use crate::event::Event;
 use crate::named::word_of;
 use crate::steps::step;
-use core_setup::setup::Setup;
 use core_state::core_refusal::CoreRefusal;
 use core_state::state::State;
+use core_view::setup::Setup;
 use core_view::view::View;
+use dude_base::limits::PAGE;
 use dude_base::run::Run;
 use dude_base::sizes::Sizes;
 use std::alloc::Global;
@@ -85,6 +87,22 @@ impl Core {
         ensures { result ≡ found self.now.state (word_at self.now.setup word) }
     {
         self.state.found(word_of(&self.setup, word))
+    }
+
+    /// Whether there is such a word.
+    pub fn has_word(&self, word: CoreWord) -> bool
+        ensures { Tells result (HasWord self.now.setup word) }
+    {
+        match word {
+            CoreWord::Lock(lock) => lock < self.setup.locks(),
+            CoreWord::Entry(page) => page < self.setup.pages(),
+            CoreWord::Touch(page) => page < self.setup.pages(),
+            CoreWord::FrameWord(at) => at / PAGE < self.setup.frames(),
+            CoreWord::BoxWord { thread, place } => {
+                thread < self.setup.threads() && place < self.setup.boxes()
+            }
+            _ => true,
+        }
     }
 
     /// The view `who`, if it is there. The first view is 0, and the others follow in the order in

@@ -8,9 +8,9 @@ ghost use Rattle.dude_core.specs.Steps.{step_of};
 
 use crate::deeds::deed_of;
 use crate::event::Event;
-use core_setup::setup::Setup;
 use core_state::core_refusal::CoreRefusal;
 use core_state::state::State;
+use core_view::setup::Setup;
 use std::alloc::Global;
 
 pub(crate) fn step(

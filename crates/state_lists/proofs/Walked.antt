@@ -8,7 +8,7 @@ use Rattle.dude_base.specs.Writes.{written}
 use Rattle.core_events.specs.Keyed.{has}
 use Rattle.core_events.specs.Views.{View}
 use Rattle.core_events.specs.Entries.{History, value, all_entries}
-use Rattle.core_lists.proofs.Walks.{rest_cons, rest_all}
+use Rattle.core_view.proofs.Walks.{rest_cons, rest_all}
 
 -- where the numbers over m and up to n wrote nothing, the value is that at m
 pub value_down : (opening : List ℕ) (hist : History) (i m n : ℕ) → m ≤ n → ((k : ℕ) → m < k → k ≤ n → hist k ≡ []) → value opening hist n i ≡ value opening hist m i

@@ -7,7 +7,7 @@ ghost use Rattle.core_events.specs.Views.{View as Seen};
 ghost use Rattle.core_events.specs.Partings.{newcomer, spent, left_of, both_of};
 ghost use Rattle.state_lists.specs.Small.{AreSmall};
 
-use core_setup::setup::Setup;
+use core_view::setup::Setup;
 use core_view::view::View;
 use std::alloc::{AllocError, Global};
 use std::mem;

@@ -6,10 +6,10 @@ ghost use Rattle.core_events.specs.Setups.{frame_in};
 ghost use Rattle.core_events.specs.Keyed.{has};
 ghost use Rattle.core_events.specs.Entries.{value_at, writes_of, all_entries};
 ghost use Rattle.core_events.specs.Conditions.{IsPersistedUpTo};
-ghost use Rattle.core_setup.specs.Named.{Tells};
+ghost use Rattle.core_view.specs.Named.{Tells};
 
 use crate::words::load;
-use core_setup::setup::{Setup, names_frame};
+use core_view::setup::{Setup, names_frame};
 use core_view::view::View;
 use dude_base::redo::Redo;
 

@@ -6,7 +6,7 @@ ghost use Rattle.core_events.specs.Setups.{entry_with};
 ghost use Rattle.core_events.specs.Conditions.{no_record};
 ghost use Rattle.core_events.specs.Partings.{newcomer, first_entries};
 
-use core_setup::setup::Setup;
+use core_view::setup::Setup;
 use core_view::view::View;
 use dude_base::limits::{MAX_NUMBER, PAGE};
 use dude_base::redo::Redo;

@@ -1,6 +1,6 @@
 use Rattle.std.proofs.Common.{sym, subst}
-use Rattle.core_setup.specs.declared.deed.Deed.{Deed}
-use Rattle.core_setup.specs.Named.{event_of}
+use Rattle.core_view.specs.declared.deed.Deed.{Deed}
+use Rattle.core_view.specs.Named.{event_of}
 use Rattle.core_state.specs.BoxEvents.{IsPlain}
 use Rattle.core_state.proofs.Made.{read_plain, write_plain, page_plain}
 use Rattle.core_state.proofs.box_event.BoxEvent.of.Goals as goal

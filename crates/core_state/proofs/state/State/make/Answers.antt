@@ -1,7 +1,7 @@
 use Rattle.std.proofs.Common.{refl}
 use Rattle.core_events.specs.Conditions.{after}
 use Rattle.core_events.specs.Partings.{event}
-use Rattle.core_setup.specs.Named.{event_of}
+use Rattle.core_view.specs.Named.{event_of}
 use Rattle.core_state.proofs.Refused.{never_off}
 use Rattle.core_state.proofs.state.State.make.Goals as goal
 

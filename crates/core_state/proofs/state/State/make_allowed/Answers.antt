@@ -1,6 +1,6 @@
 use Rattle.std.proofs.Common.{◌∷◌, subst}
 use Rattle.std.specs.Prelude.{slice_index_or}
-use Rattle.core_setup.specs.Named.{event_of}
+use Rattle.core_view.specs.Named.{event_of}
 use Rattle.core_events.specs.Conditions.{no_record}
 use Rattle.core_events.specs.Events.{Event}
 use Rattle.core_events.specs.Conditions.{Threaded}

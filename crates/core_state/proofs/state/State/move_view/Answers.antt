@@ -1,4 +1,4 @@
-use Rattle.core_setup.specs.Named.{event_of, word_of}
+use Rattle.core_view.specs.Named.{event_of, word_of}
 use Rattle.core_state.proofs.Places.{moved_is}
 use Rattle.core_state.proofs.state.State.move_view.Goals as goal
 

@@ -4,7 +4,7 @@ use Rattle.core_events.specs.Words.{State}
 use Rattle.core_events.specs.Events.{name}
 use Rattle.core_events.specs.Conditions.{May}
 use Rattle.core_events.specs.Telling.{IsSeated}
-use Rattle.core_setup.specs.Named.{event_of}
+use Rattle.core_view.specs.Named.{event_of}
 use Rattle.core_state.proofs.Places.{inside_there, same_there}
 use Rattle.core_state.proofs.state.State.name_of.Goals as goal
 

@@ -4,7 +4,7 @@ use Rattle.core_events.specs.Words.{State}
 use Rattle.core_events.specs.Events.{word_after}
 use Rattle.core_events.specs.Conditions.{May}
 use Rattle.core_events.specs.Telling.{IsSeated, WordTold}
-use Rattle.core_setup.specs.Named.{event_of}
+use Rattle.core_view.specs.Named.{event_of}
 use Rattle.core_state.proofs.Places.{inside_there, same_there}
 use Rattle.core_state.proofs.state.State.word_after.Goals as goal
 
