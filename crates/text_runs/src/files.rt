@@ -1,53 +1,43 @@
 //! The files of a command, read by their names.
 
-use crate::faults::show_fault;
-use crate::requests::show_requests;
+ghost use Rattle.std.specs.Prelude.{All, IfOk};
+ghost use Rattle.command_files.specs.Files.{requests_in};
+ghost use Rattle.tatp_model.specs.Request.{IsInRange};
+
+use crate::page::push_count;
+use crate::requests::push_requests;
 use crate::stop::Stop;
-use crate::text::{numbers_among, text_of};
-use crate::view;
+use crate::words::shared_words;
 use command_files::read_files;
-use command_output::Fault;
+use command_output::{Fault, fault_text};
 use dude_io::{MemFile, MemFiles};
-use std::alloc::Global;
-use std::rc::RcStr;
+use std::alloc::AllocError;
 use tatp_model::Request;
 
 /// How many bytes a read gives at most. A file that is shorter takes two reads: its bytes, and its end.
 const MOST: u64 = 4096;
 
-/// Adds a file of this name with this text, and prints how many bytes it has.
-pub fn file(rt: &HostRuntime, files: &mut Vec<MemFile>, words: &[&str]) -> Result<(), Stop> {
-    let Some((name, text)) = words.split_first() else {
-        return Err(Stop::NoCommand);
-    };
-    let name = String::from_str(rt.alloc(), name)?;
-    let bytes = text_of(rt.alloc(), text)?;
-    let count = bytes.len() as u64;
-    files.push(MemFile { name, bytes })?;
-    view::count(rt, "bytes", count)
+/// The requests of the files of these names, of which the calls `fail` fail.
+pub fn files(
+    files: &[MemFile],
+    names: &[&str],
+    fail: &[u64],
+    out: &mut Vec<u8>,
+) -> Result<(), Stop> {
+    let mut world = world_of(files, fail, out)?;
+    Ok(push_lists(read_files(*out.allocator(), names, &mut world), out)?)
 }
 
-/// Reads the files of these names, of which the calls behind `failing` fail.
-pub fn files(rt: &HostRuntime, files: &[MemFile], words: &[&str]) -> Result<(), Stop> {
-    let mut parts = words.split(|word| *word == "failing");
-    let names = parts.next().unwrap_or(&[]);
-    let fail = parts.next().unwrap_or(&[]);
-    let mut world = world_of(rt.alloc(), files, numbers_among(rt.alloc(), fail)?)?;
-    show_lists(rt, read_files(rt.alloc(), names, &mut world))
+/// The requests of the files of these names, which are shared texts.
+pub fn shared(files: &[MemFile], names: &[&str], out: &mut Vec<u8>) -> Result<(), Stop> {
+    let names = shared_words(*out.allocator(), names)?;
+    let mut world = world_of(files, &[], out)?;
+    Ok(push_lists(read_files(*out.allocator(), &names, &mut world), out)?)
 }
 
-/// Reads the files of these names, which are shared texts.
-pub fn shared(rt: &HostRuntime, files: &[MemFile], words: &[&str]) -> Result<(), Stop> {
-    let mut names = Vec::new(rt.alloc());
-    for word in words {
-        names.push(RcStr::from_str(rt.alloc(), word)?)?;
-    }
-    let mut world = world_of(rt.alloc(), files, Vec::new(rt.alloc()))?;
-    show_lists(rt, read_files(rt.alloc(), &names, &mut world))
-}
-
-/// Files in memory, of which chosen calls fail.
-fn world_of(alloc: Global, files: &[MemFile], fail: Vec<u64>) -> Result<MemFiles, Stop> {
+/// Files in memory, of which chosen calls fail. `out` says where memory comes from.
+fn world_of(files: &[MemFile], fail: &[u64], out: &Vec<u8>) -> Result<MemFiles, Stop> {
+    let alloc = *out.allocator();
     let mut copies = Vec::new(alloc);
     for file in files {
         copies.push(MemFile {
@@ -55,19 +45,21 @@ fn world_of(alloc: Global, files: &[MemFile], fail: Vec<u64>) -> Result<MemFiles
             bytes: file.bytes.to_vec(alloc)?,
         })?;
     }
-    Ok(MemFiles::new(copies, MOST, fail)?)
+    Ok(MemFiles::new(copies, MOST, fail.to_vec(alloc)?)?)
 }
 
 /// The requests of each file, or the fault.
-fn show_lists(rt: &HostRuntime, lists: Result<Vec<Vec<Request>>, Fault>) -> Result<(), Stop> {
+fn push_lists(lists: Result<Vec<Vec<Request>>, Fault>, out: &mut Vec<u8>) -> Result<(), AllocError>
+    requires { IfOk lists (λ lists. All (All IsInRange) (requests_in lists.items)) }
+{
     match lists {
         Ok(lists) => {
-            view::count(rt, "files", lists.len() as u64)?;
+            push_count("files", lists.len() as u64, out)?;
             for requests in &lists {
-                show_requests(rt, requests)?;
+                push_requests(requests, out)?;
             }
+            Ok(())
         }
-        Err(fault) => show_fault(rt, &fault)?,
+        Err(fault) => fault_text(&fault, out),
     }
-    Ok(())
 }

@@ -1,95 +1,196 @@
 //! What a script remembers from one command to the next.
 
-use crate::answers::reply_of;
-use crate::output::write_line;
+use crate::faults::faults;
+use crate::files::{files, shared};
+use crate::numbers::{dump, last, load};
+use crate::page::{page_of, push_count};
+use crate::replies::done_of;
+use crate::requests::read;
 use crate::stop::Stop;
 use crate::text::{numbers_among, text_of};
-use crate::view;
+use crate::words::words;
+use command_output::{Fault, fault_text, print_lines, print_text};
 use dude_io::{MemFile, MemSink};
-use request_reader::read_requests;
-use script_words::number_of;
+use script_words::{is_remark, words_of};
 use std::alloc::{AllocError, Global};
 use tatp_model::Done;
+use tatp_text::{MAX_BYTES, MAX_RECORDS, write_done, write_summary};
 
 /// What a script remembers from one command to the next.
 #[derive(Drop)]
 pub struct Session {
+    alloc: Global,
     /// The requests that were served, with their replies.
-    pub served: Vec<Done>,
+    served: Vec<Done>,
     /// The files of a command.
-    pub files: Vec<MemFile>,
+    files: Vec<MemFile>,
     /// What output goes to.
-    pub sink: MemSink,
+    sink: MemSink,
 }
 
 impl Session {
     /// A session in which nothing was done, with a sink that has no room.
     pub fn new(alloc: Global) -> Result<Session, AllocError> {
         Ok(Session {
+            alloc,
             served: Vec::new(alloc),
             files: Vec::new(alloc),
             sink: MemSink::new(alloc, 0, 1, Vec::new(alloc))?,
         })
     }
 
-    /// Forgets the requests and the files.
-    pub fn forget(&mut self, rt: &HostRuntime) -> Result<(), Stop> {
-        self.served.clear();
-        self.files.clear();
-        view::line(rt, "nothing is served and no file is there")
+    /// What is printed for a line: a remark as it stands, or what a command gave.
+    pub fn answer(&mut self, line: &str) -> Result<String, AllocError> {
+        if is_remark(line) {
+            return format!(in self.alloc; "{line}\n");
+        }
+        let mut out = Vec::from_slice(self.alloc, b"> ")?;
+        match self.carry_out(&words_of(self.alloc, line)?, &mut out) {
+            Ok(()) => page_of(self.alloc, &out),
+            Err(Stop::NoCommand) => String::from_str(self.alloc, "no command\n"),
+            Err(Stop::NoMemory) => Err(AllocError),
+        }
     }
 
-    /// Adds a request with its number and its reply, and prints its line.
-    pub fn serve(&mut self, rt: &HostRuntime, words: &[&str]) -> Result<(), Stop> {
-        let done = done_of(rt.alloc(), words)?;
+    /// Carries out a command, of which the first word is the name, and appends what it gave.
+    fn carry_out(&mut self, line: &[&str], out: &mut Vec<u8>) -> Result<(), Stop> {
+        let [name, behind @ ..] = line else {
+            return Err(Stop::NoCommand);
+        };
+        let numbers = numbers_among(self.alloc, behind)?;
+        match *name {
+            "read" => read(&text_of(self.alloc, behind)?, out),
+            "load" => load(&numbers, out),
+            "dump" => dump(&numbers, out),
+            "last" => last(&numbers, out),
+            "words" => words(behind, out),
+            "faults" => Ok(faults(out)?),
+            "limits" => limits(out),
+            _ => self.carry_on(name, behind, &numbers, out),
+        }
+    }
+
+    /// Carries out a command that the session remembers something of.
+    fn carry_on(
+        &mut self,
+        name: &str,
+        words: &[&str],
+        numbers: &[u64],
+        out: &mut Vec<u8>,
+    ) -> Result<(), Stop> {
+        match name {
+            "forget" => self.forget(out),
+            "served" => self.serve(words, numbers, out),
+            "again" => self.serve_again(numbers, out),
+            "summary" => Ok(write_summary(&self.served, out)?),
+            "file" => self.add_file(words, out),
+            "files" => files(&self.files, &names_among(self.alloc, words)?, numbers, out),
+            "shared" => shared(&self.files, words, out),
+            "sink" => self.open_sink(numbers, out),
+            "print" => self.print(numbers, out),
+            "text" => self.print_text(words, out),
+            _ => Err(Stop::NoCommand),
+        }
+    }
+
+    /// Forgets the requests and the files.
+    fn forget(&mut self, out: &mut Vec<u8>) -> Result<(), Stop> {
+        self.served = Vec::new(self.alloc);
+        self.files = Vec::new(self.alloc);
+        out.extend_from_slice(b"nothing is served and no file is there\n")?;
+        Ok(())
+    }
+
+    /// Adds a request with its number and its reply, and appends its line.
+    fn serve(&mut self, words: &[&str], numbers: &[u64], out: &mut Vec<u8>) -> Result<(), Stop> {
+        let done = done_of(self.alloc, words, numbers)?;
         self.served.push(done)?;
-        write_line(rt, &done)
+        write_done(&done, out)?;
+        Ok(())
     }
 
     /// Adds the last request so many times more.
-    pub fn serve_again(&mut self, rt: &HostRuntime, words: &[&str]) -> Result<(), Stop> {
-        let [times] = words else {
+    fn serve_again(&mut self, numbers: &[u64], out: &mut Vec<u8>) -> Result<(), Stop> {
+        let ([times], [.., done]) = (numbers, self.served.as_slice()) else {
             return Err(Stop::NoCommand);
         };
-        let times = number_of(times).ok_or(Stop::NoCommand)?;
-        let done = *self.served.last().ok_or(Stop::NoCommand)?;
-        for _more in 0..times {
+        let done = *done;
+        for _more in 0..*times {
             self.served.push(done)?;
         }
-        view::count(rt, "served", self.served.len() as u64)
+        push_count("served", self.served.len() as u64, out)?;
+        Ok(())
+    }
+
+    /// Adds a file of this name with this text, and appends how many bytes it has.
+    fn add_file(&mut self, words: &[&str], out: &mut Vec<u8>) -> Result<(), Stop> {
+        let [name, text @ ..] = words else {
+            return Err(Stop::NoCommand);
+        };
+        let name = String::from_str(self.alloc, name)?;
+        let bytes = text_of(self.alloc, text)?;
+        push_count("bytes", bytes.len() as u64, out)?;
+        self.files.push(MemFile { name, bytes })?;
+        Ok(())
     }
 
     /// Makes a sink, with its bytes of room, the most bytes that it takes in a call, and the calls that fail.
-    pub fn open_sink(&mut self, rt: &HostRuntime, words: &[&str]) -> Result<(), Stop> {
-        let numbers = numbers_among(rt.alloc(), words)?;
-        let [room, most, fail @ ..] = numbers.as_slice() else {
+    fn open_sink(&mut self, numbers: &[u64], out: &mut Vec<u8>) -> Result<(), Stop> {
+        let [room, most, fail @ ..] = numbers else {
             return Err(Stop::NoCommand);
         };
         if *most == 0 {
             return Err(Stop::NoCommand);
         }
-        self.sink = MemSink::new(rt.alloc(), *room, *most, fail.to_vec(rt.alloc())?)?;
-        view::text(rt, self.sink.bytes())
+        self.sink = MemSink::new(self.alloc, *room, *most, fail.to_vec(self.alloc)?)?;
+        out.extend_from_slice(self.sink.bytes())?;
+        Ok(())
+    }
+
+    /// Hands the sink the line of each request and the last line.
+    fn print(&mut self, numbers: &[u64], out: &mut Vec<u8>) -> Result<(), Stop> {
+        let [last] = numbers else {
+            return Err(Stop::NoCommand);
+        };
+        let printed = print_lines(self.alloc, &self.served, *last, &mut self.sink);
+        Ok(self.push_printed(printed, out)?)
+    }
+
+    /// Hands the sink a text.
+    fn print_text(&mut self, words: &[&str], out: &mut Vec<u8>) -> Result<(), Stop> {
+        let printed = print_text(&text_of(self.alloc, words)?, &mut self.sink);
+        Ok(self.push_printed(printed, out)?)
+    }
+
+    /// Appends whether all was printed, and what the sink has.
+    fn push_printed(
+        &self,
+        printed: Result<(), Fault>,
+        out: &mut Vec<u8>,
+    ) -> Result<(), AllocError> {
+        match printed {
+            Ok(()) => out.extend_from_slice(b"whole\n")?,
+            Err(fault) => fault_text(&fault, out)?,
+        }
+        out.extend_from_slice(self.sink.bytes())
     }
 }
 
-/// A number, the record of a request, and a reply.
-fn done_of(alloc: Global, words: &[&str]) -> Result<Done, Stop> {
-    let [number, record, reply, fields @ ..] = words else {
-        return Err(Stop::NoCommand);
-    };
-    let number = number_of(number).ok_or(Stop::NoCommand)?;
-    let text = text_of(alloc, &[record])?;
-    let Ok(requests) = read_requests(alloc, &text) else {
-        return Err(Stop::NoCommand);
-    };
-    let request = requests.first().ok_or(Stop::NoCommand)?;
-    Ok(Done {
-        file: 0,
-        index: 0,
-        number,
-        wrote: false,
-        request: *request,
-        reply: reply_of(alloc, reply, fields)?,
-    })
+/// Appends how large a request file may be.
+fn limits(out: &mut Vec<u8>) -> Result<(), Stop> {
+    push_count("bytes", MAX_BYTES as u64, out)?;
+    push_count("records", MAX_RECORDS, out)?;
+    Ok(())
+}
+
+/// The words in front of `failing`.
+fn names_among<'a>(alloc: Global, words: &[&'a str]) -> Result<Vec<&'a str>, AllocError> {
+    let mut names = Vec::new(alloc);
+    for word in words {
+        if *word == "failing" {
+            break;
+        }
+        names.push(*word)?;
+    }
+    Ok(names)
 }

@@ -1,7 +1,5 @@
 //! Texts and numbers of a script.
 
-ghost use Rattle.std.specs.Prelude.{◌<◌, IfSome};
-
 use crate::stop::Stop;
 use script_words::number_of;
 use std::alloc::{AllocError, Global};
@@ -17,35 +15,24 @@ pub fn numbers_among(alloc: Global, words: &[&str]) -> Result<Vec<u64>, AllocErr
     Ok(numbers)
 }
 
-/// The bytes that these words say, joined.
+/// The bytes that these words say, joined. Behind a number a word stands so many times.
 pub fn text_of(alloc: Global, words: &[&str]) -> Result<Vec<u8>, Stop> {
     let mut text = Vec::new(alloc);
+    let mut times = 1;
     for word in words {
-        let piece = piece_of(alloc, word)?;
-        text.extend_from_slice(&piece)?;
+        if let Some(number) = number_of(word) {
+            times = number;
+        } else {
+            let piece = unquoted(alloc, word.as_bytes())?;
+            text.extend_from_slice(&piece.repeat(alloc, times as usize)?)?;
+            times = 1;
+        }
     }
     Ok(text)
 }
 
-/// The bytes that a word says: with a number and `*` in front of them so many times.
-fn piece_of(alloc: Global, word: &str) -> Result<Vec<u8>, Stop> {
-    match repeated(word) {
-        Some((times, piece)) => {
-            let piece = unquoted(alloc, piece.as_bytes())?;
-            Ok(piece.repeat(alloc, times as usize)?)
-        }
-        None => unquoted(alloc, word.as_bytes()),
-    }
-}
-
-/// How often a word says what stands behind its `*`, and that.
-fn repeated(word: &str) -> Option<(u64, &str)> {
-    let (times, piece) = word.split_once('*')?;
-    Some((number_of(times)?, piece))
-}
-
 /// The bytes of a word, without the quotes round it.
-fn unquoted(alloc: Global, word: &[u8]) -> Result<Vec<u8>, Stop> {
+pub fn unquoted(alloc: Global, word: &[u8]) -> Result<Vec<u8>, Stop> {
     let inner = match word {
         [b'"', inner @ .., b'"'] => inner,
         [b'"', ..] => return Err(Stop::NoCommand),
@@ -56,32 +43,26 @@ fn unquoted(alloc: Global, word: &[u8]) -> Result<Vec<u8>, Stop> {
         if index == 0 {
             text.extend_from_slice(part)?;
         } else {
-            let (byte, rest) = escaped(part).ok_or(Stop::NoCommand)?;
-            text.push(byte)?;
+            let Some((meant, rest)) = escaped(part) else {
+                return Err(Stop::NoCommand);
+            };
+            text.extend_from_slice(meant)?;
             text.extend_from_slice(rest)?;
         }
     }
     Ok(text)
 }
 
-/// The byte that is meant behind a backslash, and the rest.
-fn escaped(part: &[u8]) -> Option<(u8, &[u8])> {
+/// The bytes that are meant behind a backslash, and the rest.
+fn escaped(part: &[u8]) -> Option<(&'static [u8], &[u8])> {
     match part {
-        [b'n', rest @ ..] => Some((b'\n', rest)),
-        [b'r', rest @ ..] => Some((b'\r', rest)),
-        [b'"', rest @ ..] => Some((b'"', rest)),
-        [b'x', high, low, rest @ ..] => Some((16 * digit_of(*high)? + digit_of(*low)?, rest)),
-        _ => None,
-    }
-}
-
-/// The value of a digit of base sixteen.
-fn digit_of(letter: u8) -> Option<u8>
-    ensures { IfSome result (λ digit. digit < 16) }
-{
-    match letter {
-        b'0'..=b'9' => Some(letter - b'0'),
-        b'a'..=b'f' => Some(letter - b'a' + 10),
+        [b'n', rest @ ..] => Some((b"\n", rest)),
+        [b'r', rest @ ..] => Some((b"\r", rest)),
+        [b'"', rest @ ..] => Some((b"\"", rest)),
+        [b's', rest @ ..] => Some((b" ", rest)),
+        [b'0', rest @ ..] => Some((b"\0", rest)),
+        [b'f', rest @ ..] => Some((b"\xff", rest)),
+        [b'm', rest @ ..] => Some((b"\xef\xbb\xbf", rest)),
         _ => None,
     }
 }
