@@ -7,7 +7,7 @@ use pmem_trait::Failed;
 use std::alloc::AllocError;
 
 /// Why a file has no text.
-#[derive(Clone, Copy, Debug, PartialEq, Eq)]
+#[derive(Clone, Copy)]
 pub enum FileFault {
     /// A read failed, as one of a file that isn't there does.
     Failed,

@@ -1,7 +1,7 @@
 //! What reading a file up to a limit of bytes found.
 
 /// What reading a file up to a limit of bytes found.
-#[derive(Debug, Drop)]
+#[derive(Drop)]
 pub enum FileText {
     /// All bytes of the file, no more than the limit.
     Whole(Vec<u8>),

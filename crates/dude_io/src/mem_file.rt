@@ -1,7 +1,7 @@
 //! One file in memory, by its name.
 
 /// A file in memory.
-#[derive(Debug, Drop)]
+#[derive(Drop)]
 pub struct MemFile {
     pub name: String,
     pub bytes: Vec<u8>,

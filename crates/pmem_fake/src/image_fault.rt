@@ -7,7 +7,7 @@ use std::alloc::AllocError;
 use std::fmt;
 
 /// Why there is no image.
-#[derive(Clone, Copy, Debug, PartialEq, Eq)]
+#[derive(Clone, Copy)]
 pub enum ImageFault {
     /// The moment hasn't come yet.
     Later { moment: u64, now: u64 },
@@ -23,8 +23,6 @@ impl fmt::Display for ImageFault {
         }
     }
 }
-
-impl std::error::Error for ImageFault {}
 
 impl From<AllocError> for ImageFault {
     ghost from_gives = { λ _ fault. fault ≡ NoMemory };

@@ -1,7 +1,7 @@
 //! The calls on a medium.
 
 /// One call on a medium. Words and lines are counted from 0; a line is eight words.
-#[derive(Clone, Copy)]
+#[derive(Clone, Copy, PartialEq, Eq)]
 pub enum Call {
     /// A look at this word.
     Read(u64),
