@@ -1,4 +1,4 @@
-use Rattle.std.proofs.Common.{ℕ, ◌∷◌, [], ◌++◌, sym, ap, ◌∙◌}
+use Rattle.std.proofs.Common.{ℕ, ◌∷◌, [], ◌++◌, refl, sym, ap, ◌∙◌}
 use Rattle.dude_base.specs.declared.sizes.Sizes.{Sizes}
 use Rattle.pmem_trait.specs.Sights.{state_now}
 use Rattle.back_store.specs.Back.{BackState, idle}
@@ -43,3 +43,12 @@ pub returns-in-Err-clause-moments : goal.returns-in-Err-clause-moments
 returns-in-Err-clause-moments g c opening before own holds =
     rw c.into_medium.ensures (announced_moments (state_of c.args.opened.back) c.args.opened.number c.args.opened.words.items _ _ opening before (c.requires.opened.idle ∙ ap (λ (z : Sizes). idle z c.args.opened.number) (sym own.sizes)) (sym own.number)
     (rw own.sizes own.stands) (rw own.sizes holds) c.in-Err.ensures.moments)
+
+pub returns-in-Ok-clause-same : goal.returns-in-Ok-clause-same
+returns-in-Ok-clause-same g c = (refl, refl, refl)
+
+pub returns-in-Ok-clause-ran : goal.returns-in-Ok-clause-ran
+returns-in-Ok-clause-ran g c = (_, (c.in-Ok.ensures.calls (ap (λ (v : BackState). v.dead) c.requires.opened.idle)).made)
+
+pub returns-in-Err-clause-fault : goal.returns-in-Err-clause-fault
+returns-in-Err-clause-fault g c = refl
