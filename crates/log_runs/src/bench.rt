@@ -10,7 +10,7 @@ use crate::trial::{Step, Trial};
 use dude_base::redo::Redo;
 use dude_io::{FilePmem, MemSink, RealFiles, read_file};
 use pmem_fake::MemPmem;
-use script_words::{number_of, numbers_of, pairs_of, words_of};
+use script_words::{is_remark, number_of, numbers_of, pairs_of, words_of};
 use std::{io, mem};
 
 /// What a script's lines are carried out on.
@@ -56,26 +56,43 @@ impl Bench {
         }
     }
 
-    /// Carries out a line: a name, numbers, and then pairs or other words.
-    pub fn carry_out(&mut self, line: &str) -> io::Result<()> {
-        let alloc = self.rt.alloc();
-        let words = words_of(alloc, line)?;
-        let Some((name, rest)) = words.split_first() else {
-            return self.rt.println("no command");
-        };
-        let (numbers, rest) = rest.split_at(count_numbers(rest).min(rest.len()));
-        let Some(numbers) = numbers_of(alloc, numbers)? else {
-            return self.rt.println("no numbers");
-        };
-        match (pairs_of(alloc, rest)?, rest) {
-            (None, [file, lines @ ..]) => self.by_words(name, &numbers, file, lines),
-            (Some(pairs), _) => self.by_numbers(name, &numbers, &pairs),
-            _ => self.rt.println("no command"),
+    /// Follows a script.
+    pub fn follow(&mut self, script: &str) -> io::Result<()> {
+        for line in script.lines() {
+            self.take_line(line)?;
+        }
+        Ok(())
+    }
+
+    /// Prints a remark again, and carries out another line.
+    fn take_line(&mut self, line: &str) -> io::Result<()> {
+        if is_remark(line) {
+            return self.rt.println(line);
+        }
+        let words = words_of(self.rt.alloc(), line)?;
+        match words.as_slice() {
+            [name, rest @ ..] => self.carry_out(name, rest),
+            [] => self.rt.println("no command"),
         }
     }
 
-    /// Carries out a command that has numbers, and maybe pairs behind them.
-    fn by_numbers(&mut self, name: &str, numbers: &[u64], pairs: &[(u64, u64)]) -> io::Result<()> {
+    /// Carries out a command: a name, numbers, and then pairs or other words.
+    fn carry_out(&mut self, name: &str, words: &[&str]) -> io::Result<()> {
+        let (numbers, rest) = words.split_at(count_numbers(words).min(words.len()));
+        let Some(numbers) = numbers_of(self.rt.alloc(), numbers)? else {
+            return self.rt.println("no numbers");
+        };
+        match (name, rest) {
+            ("encode" | "append" | "persist" | "combine", _) => {
+                self.by_pairs(name, &numbers, rest)
+            }
+            (_, []) => self.by_numbers(name, &numbers),
+            (_, [file, lines @ ..]) => self.by_words(name, &numbers, file, lines),
+        }
+    }
+
+    /// Carries out a command that has only numbers.
+    fn by_numbers(&mut self, name: &str, numbers: &[u64]) -> io::Result<()> {
         match (name, numbers) {
             ("words", &[count, value]) => {
                 self.words = vec![in self.rt.alloc(); value; count as usize]?;
@@ -91,9 +108,18 @@ impl Bench {
             ("announce", &[]) => self.step(Step::Announce),
             ("reproduce", &[most]) => self.step(Step::Reproduce(most)),
             ("each", &[calls]) => say_failures(self.rt, &self.words, &self.steps, calls),
-            ("combine", &[count]) => say_combined(self.rt, count, pairs),
-            ("encode" | "append" | "persist", _) => self.with_record(name, numbers, pairs),
             _ => self.subject.carry_out(self.rt, name, numbers),
+        }
+    }
+
+    /// Carries out a command that has numbers, and then the writes of records.
+    fn by_pairs(&mut self, name: &str, numbers: &[u64], words: &[&str]) -> io::Result<()> {
+        let Some(writes) = pairs_of(self.rt.alloc(), words)? else {
+            return self.rt.println("no pairs");
+        };
+        match (name, numbers) {
+            ("combine", &[count]) => say_combined(self.rt, count, &writes),
+            _ => self.with_record(name, numbers, &writes),
         }
     }
 

@@ -58,14 +58,9 @@ fn goes_well(
     let stays = stays_dead(&mut trial)?;
     let least = trial.back.durable();
     let medium = trial.back.into_medium();
-    let ones = vec![in alloc; 1; WORDS]?;
-    Ok(
-        ends && stays
-            && medium.now() == call
-            && medium.faults() == 1
-            && survives(alloc, &medium.crash(alloc, &[])?, steps, least, most)?
-            && survives(alloc, &medium.crash(alloc, &ones)?, steps, least, most)?,
-    )
+    let early = survives(alloc, &medium, &[], steps, least, most)?;
+    let late = survives(alloc, &medium, &[1; WORDS], steps, least, most)?;
+    Ok(ends & stays & early & late & (medium.now() == call) & (medium.faults() == 1))
 }
 
 /// The first answer that is none or a fault; none where each step was done.
@@ -88,24 +83,25 @@ fn stays_dead(trial: &mut Trial) -> Result<bool, AllocError> {
     let Ok(redo) = record_of(9, &[(5, 90), (576, 109)]) else {
         return Ok(false);
     };
-    Ok(
-        trial.back.is_dead()
-            && trial.take(&Step::Announce)? == dead
-            && trial.take(&Step::Reproduce(9))? == dead
-            && trial.take(&Step::Persist(0, redo))? == dead
-            && trial.page(0) == Err(BackFault::Dead),
-    )
+    let announced = trial.take(&Step::Announce)? == dead;
+    let reproduced = trial.take(&Step::Reproduce(9))? == dead;
+    let persisted = trial.take(&Step::Persist(0, redo))? == dead;
+    let read = trial.page(0) == Err(BackFault::Dead);
+    Ok(trial.back.is_dead() & announced & reproduced & persisted & read)
 }
 
-/// Whether an image recovers to a number from `least` to `most`, and to the home after the records up to it.
+/// Whether a crash now leaves an image that recovers to a number from `least` to `most`, and to the home after the records
+/// up to it.
 fn survives(
     alloc: Global,
-    image: &[u64],
+    medium: &MemPmem,
+    picks: &[u64],
     steps: &[Step],
     least: u64,
     most: u64,
 ) -> Result<bool, AllocError> {
-    let Replay::Recovered { number, home } = recover(alloc, image, VERSION)? else {
+    let image = medium.crash(alloc, picks)?;
+    let Replay::Recovered { number, home } = recover(alloc, &image, VERSION)? else {
         return Ok(false);
     };
     let mut wanted = vec![in alloc; 0; home.len()]?;
@@ -116,5 +112,5 @@ fn survives(
             apply(redo, &mut wanted);
         }
     }
-    Ok(least <= number && number <= most && home == wanted)
+    Ok((least <= number) & (number <= most) & (home == wanted))
 }

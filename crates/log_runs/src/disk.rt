@@ -51,15 +51,22 @@ pub fn change(
     file: &str,
     lines: &[&str],
 ) -> io::Result<()> {
-    match (name, numbers) {
-        ("fill", &[len, byte]) => write_bytes(rt, file, len, byte)?,
-        ("store", &[]) => fs::write(&rt, file, text_of(rt.alloc(), lines)?.as_bytes())?,
-        ("folder", &[]) => fs::create_dir(&rt, file)?,
-        ("remove", &[]) => fs::remove_file(&rt, file)?,
-        ("remove_empty", &[]) => fs::remove_dir(&rt, file)?,
+    let done = match (name, numbers) {
+        ("fill", &[len, byte]) => write_bytes(rt, file, len, byte),
+        ("store", &[]) => write_lines(rt, file, lines),
+        ("folder", &[]) => fs::create_dir(&rt, file),
+        ("remove", &[]) => fs::remove_file(&rt, file),
+        ("remove_empty", &[]) => fs::remove_dir(&rt, file),
         _ => return rt.println("no command"),
-    }
+    };
+    done?;
     rt.println("ok")
+}
+
+/// Makes a file of these lines.
+fn write_lines(rt: HostRuntime, name: &str, lines: &[&str]) -> io::Result<()> {
+    let text = text_of(rt.alloc(), lines)?;
+    fs::write(&rt, name, text.as_bytes())
 }
 
 /// Makes a file of so many bytes, each this one.

@@ -18,22 +18,10 @@ mod say;
 mod trial;
 
 use bench::Bench;
-use script_words::is_remark;
-use std::io::{self, BufRead, BufReader};
+use std::io;
 
 fn main(rt: HostRuntime) -> io::Result<()> {
+    let script = io::read_to_string(rt.alloc(), rt.reader())?;
     let mut bench = Bench::new(rt);
-    for line in BufReader::new(rt.alloc(), rt.reader())?.lines(rt.alloc()) {
-        take_line(rt, &mut bench, line?.as_str())?;
-    }
-    Ok(())
-}
-
-/// Prints a remark again, and carries out another line.
-fn take_line(rt: HostRuntime, bench: &mut Bench, line: &str) -> io::Result<()> {
-    if is_remark(line) {
-        rt.println(line)
-    } else {
-        bench.carry_out(line)
-    }
+    bench.follow(script.as_str())
 }
