@@ -86,12 +86,14 @@ impl Outcome {
         if only_reads(self.medium.made()) {
             return Ok("the medium only read");
         }
+        if self.medium.content() != self.before.as_slice() {
+            return Ok("other words");
+        }
         let left = crash_at(alloc, &self.medium, self.medium.now(), true)?;
-        let same = self.medium.content() == self.before.as_slice() && left == self.before;
-        Ok(if same {
+        Ok(if left == self.before {
             "the same words"
         } else {
-            "other words"
+            "the same words, but not after a crash"
         })
     }
 }

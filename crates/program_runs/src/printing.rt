@@ -83,10 +83,12 @@ pub fn print_calls(rt: &HostRuntime, made: &[Made]) -> io::Result<()> {
 
 /// Whether a second call is of the kind of the first, on the next place; reads follow each other on any place.
 fn goes_on(first: Call, second: Call) -> bool {
-    match (first, second) {
-        (Call::Put { at, .. }, Call::Put { at: next, .. }) => next == at.saturating_add(1),
-        (Call::Flush(line), Call::Flush(next)) => next == line.saturating_add(1),
-        (Call::Read(_), Call::Read(_)) => true,
+    match first {
+        Call::Put { at, .. } => {
+            matches!(second, Call::Put { at: next, .. } if next == at.saturating_add(1))
+        }
+        Call::Flush(line) => matches!(second, Call::Flush(next) if next == line.saturating_add(1)),
+        Call::Read(_) => matches!(second, Call::Read(_)),
         _ => false,
     }
 }

@@ -133,11 +133,11 @@ pub fn next_file(alloc: Global, first: &str, rest: &[&str]) -> Result<Option<Mem
         name: String::from_str(alloc, name)?,
         bytes: Vec::new(alloc),
     };
-    let byte = line.parse::<u8>();
+    let byte = number_of(line);
     for _ in 0..count {
-        match &byte {
-            Ok(byte) => add_line(&mut file.bytes, &[*byte])?,
-            Err(_) => add_line(&mut file.bytes, line.as_bytes())?,
+        match byte {
+            Some(byte) => add_line(&mut file.bytes, &[byte.min(255) as u8])?,
+            None => add_line(&mut file.bytes, line.as_bytes())?,
         }
     }
     Ok(Some(file))

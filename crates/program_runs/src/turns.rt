@@ -23,10 +23,9 @@ pub fn each(rt: &HostRuntime, scene: &Scene, rest: &[&str]) -> io::Result<bool> 
     print_ending(rt, &whole)?;
     let began = recovered(rt.alloc(), scene.image);
     let wanted = Wanted { began, most };
-    let calls = if is_on_medium(turn) {
-        whole.medium.now()
-    } else {
-        most
+    let calls = match *turn {
+        "read" | "write" => most,
+        _ => whole.medium.now(),
     };
     let mut last = String::new(rt.alloc());
     for call in 1..=calls {
@@ -68,11 +67,6 @@ pub fn after(
     Ok(Some(outcome))
 }
 
-/// Whether the calls of a turn are those on the medium.
-fn is_on_medium(turn: &str) -> bool {
-    turn != "read" && turn != "write"
-}
-
 /// What a command leaves where this call fails, or the budget ends before it.
 fn failed(
     alloc: Global,
@@ -97,7 +91,7 @@ fn report(
     call: u64,
 ) -> Result<String, AllocError> {
     let mut text = outcome.answer.clone()?;
-    if !is_on_medium(turn) {
+    if outcome.medium.faults() == 0 {
         text.push_str(&outcome.ending(alloc)?)?;
         text.push_str(output_line(turn, whole, outcome, call))?;
         return Ok(text);
@@ -127,8 +121,8 @@ fn output_line(turn: &str, whole: &Outcome, outcome: &Outcome, call: u64) -> &'s
             "told nothing\n"
         };
     };
-    let before = whole.get(..call.saturating_sub(1) as usize);
-    if turn == "write" && before == Some(printed.as_slice()) {
+    let is_up_to_call = printed.len() as u64 == call.saturating_sub(1);
+    if turn == "write" && is_up_to_call && whole.starts_with(printed) {
         "printed the bytes before this write\n"
     } else if printed.is_empty() {
         "printed nothing\n"
