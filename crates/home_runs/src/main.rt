@@ -17,15 +17,15 @@ mod words;
 
 use page::Page;
 use play::Play;
-use std::io::{self, BufRead, BufReader, ErrorKind, Write};
+use std::io::{self, ErrorKind, Write};
 
 fn main(rt: HostRuntime) -> io::Result<()> {
+    let script = io::read_to_string(rt.alloc(), rt.reader())?;
     let mut play = Play::new(rt.alloc());
     let mut writer = io::writer(&rt);
-    for line in BufReader::new(rt.alloc(), rt.reader())?.lines(rt.alloc()) {
-        let line = line?;
+    for line in script.lines() {
         let mut page = Page::new(rt.alloc());
-        play.take_line(rt.alloc(), line.as_str(), &mut page);
+        play.take_line(rt.alloc(), line, &mut page);
         match page.text() {
             Some(text) => writer.write_all(text)?,
             None => return Err(io::Error::from(ErrorKind::OutOfMemory)),

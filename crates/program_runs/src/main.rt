@@ -15,13 +15,13 @@ mod setup;
 mod turns;
 
 use session::Session;
-use std::io::{self, BufRead, BufReader};
+use std::io;
 
 fn main(rt: HostRuntime) -> io::Result<()> {
+    let script = io::read_to_string(rt.alloc(), rt.reader())?;
     let mut session = Session::new(rt.alloc())?;
-    for line in BufReader::new(rt.alloc(), rt.reader())?.lines(rt.alloc()) {
-        let line = line?;
-        session.take_line(&rt, line.as_str())?;
+    for line in script.lines() {
+        session.take_line(&rt, line)?;
     }
     Ok(())
 }

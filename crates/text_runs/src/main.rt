@@ -15,12 +15,13 @@ mod text;
 mod words;
 
 use session::Session;
-use std::io::{self, BufRead, BufReader};
+use std::io;
 
 fn main(rt: HostRuntime) -> io::Result<()> {
+    let script = io::read_to_string(rt.alloc(), rt.reader())?;
     let mut session = Session::new(rt.alloc())?;
-    for line in BufReader::new(rt.alloc(), rt.reader())?.lines(rt.alloc()) {
-        let text = session.answer(line?.as_str())?;
+    for line in script.lines() {
+        let text = session.answer(line)?;
         print!(rt; "{text}")?;
     }
     Ok(())
