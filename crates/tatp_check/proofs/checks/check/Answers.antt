@@ -18,6 +18,9 @@ returns-in-Some-clause-fault c =
     let walked = c.in_ok-walked.ensures.walked in
     not_db c.args.lay.now c.args.a.now c.in-Some.word (inr (record { records = records_of_kind c.in_ok-walked.walked; whole = λ kind. (walked.each kind).whole; wrong = c.in-Some.ensures }))
 
+pub returns-in-Some-clause-ok : goal.returns-in-Some-clause-ok
+returns-in-Some-clause-ok c = tt
+
 pub returns-clause-ok : goal.returns-clause-ok
 returns-clause-ok c =
     (database_in c.args.a.now c.in_ok-walked.walked, stands c.args.lay.now c.args.a.now c.in_ok-walked.walked c.in_ok-walked.ensures.walked c.in-None.ensures c.requires.size)
