@@ -13,6 +13,9 @@ returns-in_err-walked-clause-fault c =
     subst (λ r. IfErr r (IsCause (IsNotDb c.args.lay.now c.args.a.now))) (sym was)
     (cause_of _ _ (λ word first. not_db c.args.lay.now c.args.a.now word (inl first)) c.in_err-walked.field-0.0 c.in_err-walked.ensures.fault)
 
+pub returns-in-Some-clause-ok : goal.returns-in-Some-clause-ok
+returns-in-Some-clause-ok c = tt
+
 pub returns-in-Some-clause-fault : goal.returns-in-Some-clause-fault
 returns-in-Some-clause-fault c =
     let walked = c.in_ok-walked.ensures.walked in
