@@ -55,6 +55,7 @@ pub fn say_call(words: &mut Stopping, name: &str, numbers: &[u64], page: &mut Pa
     }
 }
 
+/// Reads a word, or 0 where there is none.
 fn read(words: &mut Stopping, at: u64) -> Result<u64, Stop> {
     if at < words.len() {
         words.read(at)
@@ -63,6 +64,7 @@ fn read(words: &mut Stopping, at: u64) -> Result<u64, Stop> {
     }
 }
 
+/// Writes a word, if there is one.
 fn write(words: &mut Stopping, at: u64, value: u64) -> Result<(), Stop> {
     if at < words.len() {
         words.write(at, value)
@@ -71,6 +73,7 @@ fn write(words: &mut Stopping, at: u64, value: u64) -> Result<(), Stop> {
     }
 }
 
+/// Exchanges two words.
 fn exchange(words: &mut Stopping, first: u64, second: u64) -> Result<Answer, Stop> {
     let x = read(words, first)?;
     let y = read(words, second)?;
@@ -79,6 +82,7 @@ fn exchange(words: &mut Stopping, first: u64, second: u64) -> Result<Answer, Sto
     Ok(("exchanged", None))
 }
 
+/// Makes a call of the pool, or of the table.
 fn take_pool_call(words: &mut Stopping, name: &str, numbers: &[u64]) -> Result<Answer, Stop>
     requires { FitsTable TABLE (stopping_sight words.old).count }
 {
@@ -95,6 +99,7 @@ fn take_pool_call(words: &mut Stopping, name: &str, numbers: &[u64]) -> Result<A
     }
 }
 
+/// Makes a call of the table with a key.
 fn take_table_call(words: &mut Stopping, name: &str, key: u64) -> Result<Answer, Stop>
     requires { FitsTable TABLE (stopping_sight words.old).count }
 {
@@ -109,6 +114,7 @@ fn take_table_call(words: &mut Stopping, name: &str, key: u64) -> Result<Answer,
     }
 }
 
+/// What became of a key.
 fn put_answer(put: Put) -> Answer {
     match put {
         Put::There(record) => ("there in", Some(record)),
@@ -117,6 +123,7 @@ fn put_answer(put: Put) -> Answer {
     }
 }
 
+/// The record, if there is one.
 fn record_or_none(record: Option<u64>) -> Answer {
     match record {
         Some(at) => ("record", Some(at)),

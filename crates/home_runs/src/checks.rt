@@ -55,13 +55,7 @@ fn tables_with(
 
 /// Performs requests one after another on the tables for which the home stands, of each prints how many call rows stand then
 /// and the reply, and prints the rows that are left.
-pub fn say_steps(
-    alloc: Global,
-    lay: &Layout,
-    words: &[u64],
-    requests: &[Request],
-    page: &mut Page,
-)
+pub fn say_steps(alloc: Global, lay: &Layout, words: &[u64], requests: &[Request], page: &mut Page)
     requires { All IsInRange requests.now }
 {
     let Ok(mut tables) = tables_with(alloc, lay, words, &[]) else {
@@ -100,6 +94,7 @@ pub fn say_accepted(alloc: Global, lay: &Layout, words: &[u64], numbers: &[u64],
     }
 }
 
+/// Whether the check accepts the home with this word changed.
 fn is_accepted(alloc: Global, lay: &Layout, words: &[u64], change: &[u64]) -> bool {
     match changed(alloc, words, change) {
         Ok(words) => is_home(lay, words.len() as u64) && check(alloc, lay, &words).is_ok(),

@@ -46,6 +46,7 @@ pub fn new_home(alloc: Global, numbers: &[u64], page: &mut Page) -> Option<(Layo
     }
 }
 
+/// The places in the home of these sizes.
 fn layout_of(numbers: &[u64]) -> Result<Layout, SizeFault> {
     let sizes = match *numbers {
         [subscribers, calls, rings, cells] => Sizes::of(subscribers, calls, rings, cells)?,
@@ -61,6 +62,7 @@ fn layout_of(numbers: &[u64]) -> Result<Layout, SizeFault> {
     Layout::of(&sizes)
 }
 
+/// Prints which size is out of its limits.
 fn say_fault(fault: SizeFault, page: &mut Page) {
     page.line(match fault.field {
         Field::Subscribers => "no such number of subscribers",
@@ -84,8 +86,7 @@ pub fn say_in_image(lay: &Layout, numbers: &[u64], page: &mut Page) {
     let place = Place::of(&sizes);
     match *numbers {
         [ring, cell, word]
-            if ring < sizes.rings && cell < sizes.cells && word / PAGE < sizes.pages =>
-        {
+            if ring < sizes.rings && cell < sizes.cells && word / PAGE < sizes.pages => {
             let places = [place.cell(ring, cell), place.home(word), place.words()];
             page.numbers("cell, word and length", &places);
         }
@@ -102,6 +103,7 @@ pub fn say_places(lay: &Layout, page: &mut Page) {
     say_place("calls", &lay.calls(), page);
 }
 
+/// Prints where a table stands.
 fn say_place(name: &str, table: &Table, page: &mut Page) {
     let pool = &table.pool;
     page.numbers(name, &[pool.base, table.at, pool.first, pool.size]);
@@ -133,6 +135,7 @@ pub fn serve_each(lay: &Layout, flat: &mut Flat, requests: &[Request], page: &mu
     }
 }
 
+/// Serves a request, and prints how many words it wrote and its reply.
 fn serve(lay: &Layout, flat: &mut Flat, request: &Request, page: &mut Page)
     requires in_range { IsInRange request.now }
     requires size { (flat_sight flat.old).count ≡ lay.now.pages * PAGE }

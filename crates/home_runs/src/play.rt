@@ -58,6 +58,7 @@ impl Play {
         }
     }
 
+    /// Commands that make words or a home, and those that need neither.
     fn take_command(&mut self, alloc: Global, name: &str, numbers: &[u64], page: &mut Page) {
         match (name, numbers) {
             ("home", sizes) => {
@@ -82,6 +83,7 @@ impl Play {
         }
     }
 
+    /// Takes these words, changed at some places, for its own.
     fn set(&mut self, alloc: Global, words: &[u64], changes: &[u64], page: &mut Page) {
         match changed(alloc, words, changes) {
             Ok(words) => self.words = unstopped(words),
@@ -89,6 +91,7 @@ impl Play {
         }
     }
 
+    /// Commands on the words, whatever they are.
     fn take_on_words(&mut self, alloc: Global, name: &str, numbers: &[u64], page: &mut Page) {
         let flat = &mut self.words.flat;
         match (name, numbers) {
@@ -110,6 +113,7 @@ impl Play {
         }
     }
 
+    /// Commands on a home, and requests.
     fn take_at_home(
         &mut self,
         alloc: Global,
@@ -128,8 +132,12 @@ impl Play {
             "accepted" => say_accepted(alloc, lay, flat.words(), numbers, page),
             "records" => say_records(lay, flat, numbers, page),
             "run" => self.files.say_run(alloc, lay, flat.words(), page),
-            "images" => self.files.say_images(alloc, lay, flat.words(), numbers, page),
-            "failing" => self.files.say_failing(alloc, lay, flat.words(), numbers, page),
+            "images" => self
+                .files
+                .say_images(alloc, lay, flat.words(), numbers, page),
+            "failing" => self
+                .files
+                .say_failing(alloc, lay, flat.words(), numbers, page),
             "steps" => match read_requests(alloc, &self.files.first) {
                 Ok(requests) => say_steps(alloc, lay, flat.words(), &requests, page),
                 Err(_) => page.line("no command"),
@@ -141,6 +149,7 @@ impl Play {
         }
     }
 
+    /// Makes a call on the words, or each of its stops in turn.
     fn call(&mut self, alloc: Global, name: &str, numbers: &[u64], page: &mut Page) {
         match name.strip_prefix("each-") {
             Some(name) => say_stops(alloc, self.words.flat.words(), name, numbers, page),

@@ -26,6 +26,7 @@ pub fn say_records(lay: &Layout, flat: &mut Flat, numbers: &[u64], page: &mut Pa
     }
 }
 
+/// Prints the row in the record of a facility or of a call row.
 fn say_record_at(lay: &Layout, flat: &mut Flat, at: u64, page: &mut Page)
     requires { (flat_sight flat.old).count ≡ lay.now.pages * PAGE }
 {
@@ -93,10 +94,17 @@ fn say_facility(row: &FacRow, page: &mut Page) {
 
 /// Prints a call row: its subscriber, the type of its facility, its two hours and its number.
 fn say_call(row: &CallRow, page: &mut Page) {
-    let fields = [row.s_id, row.sf_type, row.start_time, row.end_time, row.numberx];
+    let fields = [
+        row.s_id,
+        row.sf_type,
+        row.start_time,
+        row.end_time,
+        row.numberx,
+    ];
     page.numbers("call", &fields);
 }
 
+/// Appends small numbers, each behind a space.
 fn put_bytes(numbers: &[u8], page: &mut Page) {
     for number in numbers {
         page.put_numbers(&[u64::from(*number)]);

@@ -205,13 +205,7 @@ fn files_for(
 
 /// Whether the image that a crash may leave at a moment recovers to what updates of subscriber 1 leave, the k-th to location k:
 /// the number has to be at most the last one, and the location its.
-fn is_of_updates(
-    alloc: Global,
-    medium: &MemPmem,
-    moment: u64,
-    picks: &[u64],
-    last: u64,
-) -> bool {
+fn is_of_updates(alloc: Global, medium: &MemPmem, moment: u64, picks: &[u64], last: u64) -> bool {
     let Ok(image) = medium.images_at(alloc, moment, picks) else {
         return false;
     };
@@ -230,7 +224,9 @@ pub fn say_in_files(alloc: Global, numbers: &[u64], page: &mut Page) {
     let mut done = Vec::new(alloc);
     for place in numbers.chunks(3) {
         if let [file, index, number] = *place
-            && done.push(done_at(file, index, number, Reply::Durable)).is_err()
+            && done
+                .push(done_at(file, index, number, Reply::Durable))
+                .is_err()
         {
             page.cut();
         }

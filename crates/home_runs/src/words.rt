@@ -28,6 +28,7 @@ pub fn say_words(words: &[u64], places: &[u64], page: &mut Page) {
     page.line("");
 }
 
+/// Prints all words, eight to a line.
 fn say_all(words: &[u64], page: &mut Page) {
     for (place, word) in words.iter().enumerate() {
         if place % 8 == 0 {
