@@ -1,5 +1,6 @@
 //! The commands of a script, carried out.
 
+use crate::histories::print_history;
 use crate::output::{print_no_command, print_numbers};
 use crate::pages::Pages;
 use crate::parts::{cut, numbers_in};
@@ -39,6 +40,7 @@ impl Play {
         match verb {
             "database" => self.set_database(rt, numbers.as_slice()),
             "machine" => self.set_machine(rt, numbers.as_slice()),
+            "history" => print_history(rt, name),
             "map" => self.ask_map(rt, cut(name).0, numbers.as_slice()),
             _ => self.ask_machine(rt, (verb, name, rest), numbers.as_slice()),
         }

@@ -1,21 +1,38 @@
-//! The whole history, from a new table on.
+//! Histories of steps of running transactions, from a new table on.
 
 ghost use Rattle.std.specs.Prelude.{◌≡◌, IfOk, OnOk};
-ghost use Rattle.stm_tests.specs.Views.{two, one_write};
+ghost use Rattle.core_runs.specs.Views.{two, one_write};
 
 use crate::history::{Small, own, publish, read, read_again, settle};
-use crate::odd::expect;
 use crate::others::{drop_page, give_back};
-use crate::trouble::Trouble;
+use crate::output::{print_no_command, print_numbers};
+use crate::trouble::{Trouble, expect};
 use core_table::terms::Terms;
 use dude_base::write::Write;
 use dude_base::write_list::WriteList;
 use std::alloc::{AllocError, Global};
+use std::io;
 use tiny_stm::stm::Stm;
+
+/// Carries out the history of this name, and prints whether it came to its end.
+pub fn print_history(rt: &HostRuntime, name: &str) -> io::Result<()> {
+    let ended = match name {
+        "write" => whole(rt.alloc()),
+        "drop" => others(rt.alloc()),
+        _ => return print_no_command(rt),
+    };
+    match ended {
+        Ok(()) => rt.println("as expected"),
+        Err(Trouble::Odd { found, wanted }) => {
+            print_numbers(rt, "found, and wanted", &[found, wanted])
+        }
+        Err(Trouble::NoMemory) => rt.println("no memory"),
+    }
+}
 
 /// A second seat is split off, which draws nothing, and is joined again behind the first one's
 /// transactions.
-pub fn whole(alloc: Global) -> Result<(), Trouble> {
+fn whole(alloc: Global) -> Result<(), Trouble> {
     let terms = smallest(alloc)?;
     let writes = one_write();
     let (stm, mut seat): (Small, _) = Stm::new(alloc, &terms, Vec::new(alloc))?;
@@ -32,7 +49,7 @@ pub fn whole(alloc: Global) -> Result<(), Trouble> {
 }
 
 /// One seat gives a lock back, and drops a page.
-pub fn others(alloc: Global) -> Result<(), Trouble> {
+fn others(alloc: Global) -> Result<(), Trouble> {
     let terms = smallest(alloc)?;
     let (stm, mut seat): (Small, _) = Stm::new(alloc, &terms, Vec::new(alloc))?;
     expect(stm.number(&mut seat), 0)?;
@@ -41,7 +58,7 @@ pub fn others(alloc: Global) -> Result<(), Trouble> {
     Ok(())
 }
 
-// Two threads, and one of each other thing.
+/// Two threads, and one of each other thing.
 fn smallest(alloc: Global) -> Result<Terms, AllocError>
     ensures { IfOk result (λ terms. terms ≡ two) }
 {
@@ -58,7 +75,7 @@ fn smallest(alloc: Global) -> Result<Terms, AllocError>
     })
 }
 
-// The value 7 for the word 3.
+/// The value 7 for the word 3.
 fn one_write() -> WriteList
     ensures { result ≡ one_write }
 {

@@ -1,5 +1,5 @@
-use Rattle.stm_tests.proofs.Steps.{can_store, can_touch}
-use Rattle.stm_tests.proofs.history.publish.Goals as goal
+use Rattle.core_runs.proofs.HistorySteps.{can_store, can_touch}
+use Rattle.core_runs.proofs.history.publish.Goals as goal
 
 pub store-requires-clause-may : goal.store-requires-clause-may
 store-requires-clause-may c = rw (c.requires.setup, c.requires.view) can_store

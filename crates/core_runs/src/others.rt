@@ -3,16 +3,16 @@
 
 ghost use Rattle.std.specs.Prelude.{◌≡◌, OnOk};
 ghost use Rattle.core_table.specs.Steps.{BelongsTo};
-ghost use Rattle.stm_tests.specs.Views.{two, alone, given_back, dropped};
+ghost use Rattle.core_runs.specs.Views.{two, alone, given_back, dropped};
 
 use crate::history::Small;
-use crate::odd::{Odd, expect};
+use crate::trouble::{Trouble, expect};
 use core_table::event_table::Seat;
 use tatp_model::reply::Reply;
 use tatp_model::request::Request;
 
 /// A transaction extends its snapshot, takes a lock and gives it back.
-pub fn give_back(stm: &Small, seat: &mut Seat<(), ()>) -> Result<(), Odd>
+pub fn give_back(stm: &Small, seat: &mut Seat<(), ()>) -> Result<(), Trouble>
     requires setup { stm.now.events.setup ≡ two }
     requires seat { BelongsTo stm.now.events seat.old }
     requires view { seat.old.me.0.view ≡ alone }
@@ -28,7 +28,7 @@ pub fn give_back(stm: &Small, seat: &mut Seat<(), ()>) -> Result<(), Odd>
 }
 
 /// The thread takes the turn and makes a page absent.
-pub fn drop_page(stm: &Small, seat: &mut Seat<(), ()>) -> Result<(), Odd>
+pub fn drop_page(stm: &Small, seat: &mut Seat<(), ()>) -> Result<(), Trouble>
     requires setup { stm.now.events.setup ≡ two }
     requires seat { BelongsTo stm.now.events seat.old }
     requires view { seat.old.me.0.view ≡ given_back }

@@ -1,9 +1,9 @@
 use Rattle.std.proofs.Common.{◌≡◌, refl}
 use Rattle.core_events.specs.Views.{View}
 use Rattle.core_events.specs.Events.{take_turn, see_full, empty_box, see_box, raise_durable, view_after}
-use Rattle.stm_tests.specs.Views.{two, posted}
-use Rattle.stm_tests.proofs.Steps.{turn_taken, box_seen, durable_one, next_view, empty_fits, durable_fits, reproduced_fits}
-use Rattle.stm_tests.proofs.history.settle.Goals as goal
+use Rattle.core_runs.specs.Views.{two, posted}
+use Rattle.core_runs.proofs.HistorySteps.{turn_taken, box_seen, durable_one, next_view, empty_fits, durable_fits, reproduced_fits}
+use Rattle.core_runs.proofs.history.settle.Goals as goal
 
 pub empty_box-requires-clause-fits : goal.empty_box-requires-clause-fits
 empty_box-requires-clause-fits c =

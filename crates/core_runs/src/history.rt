@@ -2,9 +2,9 @@
 
 ghost use Rattle.std.specs.Prelude.{◌≡◌, [], OnOk};
 ghost use Rattle.core_table.specs.Steps.{BelongsTo};
-ghost use Rattle.stm_tests.specs.Views.{two, one_write, entered, read_out, decided, posted, settled, joined, read_back};
+ghost use Rattle.core_runs.specs.Views.{two, one_write, entered, read_out, decided, posted, settled, joined, read_back};
 
-use crate::odd::{Odd, expect};
+use crate::trouble::{Trouble, expect};
 use core_table::event_table::Seat;
 use core_table::slot_rule::AnySlots;
 use dude_base::write_list::WriteList;
@@ -15,7 +15,7 @@ use tiny_stm::stm::Stm;
 pub type Small = Stm<(), (), AnySlots>;
 
 /// A transaction that reads the word 3.
-pub fn read(stm: &Small, seat: &mut Seat<(), ()>) -> Result<(), Odd>
+pub fn read(stm: &Small, seat: &mut Seat<(), ()>) -> Result<(), Trouble>
     requires setup { stm.now.events.setup ≡ two }
     requires seat { BelongsTo stm.now.events seat.old }
     requires view { seat.old.me.0.view ≡ entered }
@@ -33,7 +33,7 @@ pub fn read(stm: &Small, seat: &mut Seat<(), ()>) -> Result<(), Odd>
 }
 
 /// Another transaction takes the lock, draws a number for the writes and decides it.
-pub fn own(stm: &Small, seat: &mut Seat<(), ()>, writes: &WriteList) -> Result<(), Odd>
+pub fn own(stm: &Small, seat: &mut Seat<(), ()>, writes: &WriteList) -> Result<(), Trouble>
     requires setup { stm.now.events.setup ≡ two }
     requires seat { BelongsTo stm.now.events seat.old }
     requires view { seat.old.me.0.view ≡ read_out }
@@ -55,7 +55,7 @@ pub fn own(stm: &Small, seat: &mut Seat<(), ()>, writes: &WriteList) -> Result<(
 }
 
 /// It stores its value and posts its record.
-pub fn publish(stm: &Small, seat: &mut Seat<(), ()>) -> Result<(), Odd>
+pub fn publish(stm: &Small, seat: &mut Seat<(), ()>) -> Result<(), Trouble>
     requires setup { stm.now.events.setup ≡ two }
     requires seat { BelongsTo stm.now.events seat.old }
     requires view { seat.old.me.0.view ≡ decided }
@@ -71,7 +71,7 @@ pub fn publish(stm: &Small, seat: &mut Seat<(), ()>) -> Result<(), Odd>
 }
 
 /// The thread takes the turn, empties its box and raises both numbers.
-pub fn settle(stm: &Small, seat: &mut Seat<(), ()>) -> Result<(), Odd>
+pub fn settle(stm: &Small, seat: &mut Seat<(), ()>) -> Result<(), Trouble>
     requires setup { stm.now.events.setup ≡ two }
     requires seat { BelongsTo stm.now.events seat.old }
     requires view { seat.old.me.0.view ≡ posted }
@@ -89,7 +89,7 @@ pub fn settle(stm: &Small, seat: &mut Seat<(), ()>) -> Result<(), Odd>
 }
 
 /// A later transaction finds the value.
-pub fn read_again(stm: &Small, seat: &mut Seat<(), ()>) -> Result<(), Odd>
+pub fn read_again(stm: &Small, seat: &mut Seat<(), ()>) -> Result<(), Trouble>
     requires setup { stm.now.events.setup ≡ two }
     requires seat { BelongsTo stm.now.events seat.old }
     requires view { seat.old.me.0.view ≡ joined }

@@ -13,7 +13,7 @@ use Rattle.core_events.specs.KeptNumbers.{numbers_of}
 use Rattle.core_table.specs.Known.{Known}
 use Rattle.core_table.specs.Rules.{Foreseen}
 use Rattle.core_table.proofs.Foreseen.{box_full, clock_upto, durable_drawn, durable_raised, drawn_persisted}
-use Rattle.stm_tests.specs.Views.{two, decided, posted, after_all}
+use Rattle.core_runs.specs.Views.{two, decided, posted, after_all}
 
 pub can_store : May two (store 3) decided
 can_store = record { live = refl; threaded = (0, refl); named = omega arith; can = (refl, (7, refl), (0, refl), (0, refl)) }
