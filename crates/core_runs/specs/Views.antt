@@ -32,13 +32,21 @@ entered = view_after two number (left_of 0 (opener two)) 0
 abbrev pub entered_too : View
 entered_too = view_after two number (newcomer two 0 0) 1
 
+-- it has begun a transaction, pinned the page and looked at its lock
+abbrev pub looked : View
+looked = after_all ((begin, 0) ∷ (entry 0, 65_536) ∷ (pin 0, 65_536) ∷ (look 0, 0) ∷ []) entered
+
 -- it has read word 3 and answered that it only read
 abbrev pub read_out : View
-read_out = after_all ((begin, 0) ∷ (entry 0, 65_536) ∷ (pin 0, 65_536) ∷ (look 0, 0) ∷ (load 3, 0) ∷ (check 0, 0) ∷ (unpin 0, 65_537) ∷ (finish (about 0 0 Sync Durable), 2) ∷ []) entered
+read_out = after_all ((load 3, 0) ∷ (check 0, 0) ∷ (unpin 0, 65_537) ∷ (finish (about 0 0 Sync Durable), 2) ∷ []) looked
+
+-- it has seen its box empty, begun another one and pinned the page
+abbrev pub ready : View
+ready = after_all ((see_box, 0) ∷ (begin, 0) ∷ (entry 0, 65_536) ∷ (pin 0, 65_536) ∷ []) read_out
 
 -- it has drawn number 1, and decided it
 abbrev pub decided : View
-decided = after_all ((see_box, 0) ∷ (begin, 0) ∷ (entry 0, 65_536) ∷ (pin 0, 65_536) ∷ (look 0, 0) ∷ (take 0, 0) ∷ (draw (about 0 1 Sync Durable) one_write, 0) ∷ (decide, 1) ∷ []) read_out
+decided = after_all ((look 0, 0) ∷ (take 0, 0) ∷ (draw (about 0 1 Sync Durable) one_write, 0) ∷ (decide, 1) ∷ []) ready
 
 -- it has stored, shown and posted number 1
 abbrev pub posted : View

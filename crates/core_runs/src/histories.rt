@@ -3,7 +3,7 @@
 ghost use Rattle.std.specs.Prelude.{◌≡◌, IfOk, OnOk};
 ghost use Rattle.core_runs.specs.Views.{two, one_write};
 
-use crate::history::{Small, own, publish, read, read_again, settle};
+use crate::history::{Small, begin, begin_again, own, publish, read, read_again, settle};
 use crate::others::{drop_page, give_back};
 use crate::output::{print_no_command, print_numbers};
 use crate::trouble::{Trouble, expect};
@@ -39,7 +39,9 @@ fn whole(alloc: Global) -> Result<(), Trouble> {
     let mut other = stm.split(&mut seat, 0);
     expect(stm.number(&mut seat), 0)?;
     expect(stm.number(&mut other), 1)?;
+    begin(&stm, &mut seat)?;
     read(&stm, &mut seat)?;
+    begin_again(&stm, &mut seat)?;
     own(&stm, &mut seat, &writes)?;
     publish(&stm, &mut seat)?;
     settle(&stm, &mut seat)?;

@@ -2,7 +2,7 @@
 
 ghost use Rattle.std.specs.Prelude.{◌≡◌, [], OnOk};
 ghost use Rattle.core_table.specs.Steps.{BelongsTo};
-ghost use Rattle.core_runs.specs.Views.{two, one_write, entered, read_out, decided, posted, settled, joined, read_back};
+ghost use Rattle.core_runs.specs.Views.{two, one_write, entered, looked, read_out, ready, decided, posted, settled, joined, read_back};
 
 use crate::trouble::{Trouble, expect};
 use core_table::event_table::Seat;
@@ -14,37 +14,57 @@ use tiny_stm::stm::Stm;
 
 pub type Small = Stm<(), (), AnySlots>;
 
-/// A transaction that reads the word 3.
-pub fn read(stm: &Small, seat: &mut Seat<(), ()>) -> Result<(), Trouble>
+/// A transaction begins, pins the page of the word 3 and looks at its lock.
+pub fn begin(stm: &Small, seat: &mut Seat<(), ()>) -> Result<(), Trouble>
     requires setup { stm.now.events.setup ≡ two }
     requires seat { BelongsTo stm.now.events seat.old }
     requires view { seat.old.me.0.view ≡ entered }
     ensures seat { OnOk result (BelongsTo stm.now.events seat.new) }
-    ensures view { OnOk result (seat.new.me.0.view ≡ read_out) }
+    ensures view { OnOk result (seat.new.me.0.view ≡ looked) }
 {
     expect(stm.clock(seat), 0)?;
     expect(stm.entry(seat, 0), 65_536)?;
     expect(stm.pin(seat, 0, 65_536), 65_536)?;
-    expect(stm.look(seat, 0), 0)?;
+    expect(stm.look(seat, 0), 0)
+}
+
+/// It loads the word, confirms it and ends.
+pub fn read(stm: &Small, seat: &mut Seat<(), ()>) -> Result<(), Trouble>
+    requires setup { stm.now.events.setup ≡ two }
+    requires seat { BelongsTo stm.now.events seat.old }
+    requires view { seat.old.me.0.view ≡ looked }
+    ensures seat { OnOk result (BelongsTo stm.now.events seat.new) }
+    ensures view { OnOk result (seat.new.me.0.view ≡ read_out) }
+{
     expect(stm.load(seat, 3, 0), 0)?;
     expect(stm.check(seat, 0), 0)?;
     expect(stm.unpin(seat, 0), 65_537)?;
     expect(stm.finish(seat, 0, 0, &Request::Sync, &Reply::Durable), 2)
 }
 
-/// Another transaction takes the lock, draws a number for the writes and decides it.
-pub fn own(stm: &Small, seat: &mut Seat<(), ()>, writes: &WriteList) -> Result<(), Trouble>
+/// Another transaction sees an empty box and pins the page.
+pub fn begin_again(stm: &Small, seat: &mut Seat<(), ()>) -> Result<(), Trouble>
     requires setup { stm.now.events.setup ≡ two }
     requires seat { BelongsTo stm.now.events seat.old }
     requires view { seat.old.me.0.view ≡ read_out }
-    requires writes { writes.now ≡ one_write }
     ensures seat { OnOk result (BelongsTo stm.now.events seat.new) }
-    ensures view { OnOk result (seat.new.me.0.view ≡ decided) }
+    ensures view { OnOk result (seat.new.me.0.view ≡ ready) }
 {
     expect(stm.see_box(seat, 0, 0), 0)?;
     expect(stm.clock(seat), 0)?;
     expect(stm.entry(seat, 0), 65_536)?;
-    expect(stm.pin(seat, 0, 65_536), 65_536)?;
+    expect(stm.pin(seat, 0, 65_536), 65_536)
+}
+
+/// It takes the lock, draws a number for the writes and decides it.
+pub fn own(stm: &Small, seat: &mut Seat<(), ()>, writes: &WriteList) -> Result<(), Trouble>
+    requires setup { stm.now.events.setup ≡ two }
+    requires seat { BelongsTo stm.now.events seat.old }
+    requires view { seat.old.me.0.view ≡ ready }
+    requires writes { writes.now ≡ one_write }
+    ensures seat { OnOk result (BelongsTo stm.now.events seat.new) }
+    ensures view { OnOk result (seat.new.me.0.view ≡ decided) }
+{
     expect(stm.look(seat, 0), 0)?;
     expect(stm.take(seat, 0, 0, 0), 0)?;
     expect(
