@@ -3,7 +3,7 @@
 use crate::edges::text_of;
 use crate::faulty_host::FaultyHost;
 use crate::medium::{Subject, say_size};
-use dude_io::FilePmem;
+use dude_io::{EdgeFault, FilePmem};
 use std::{fs, io};
 
 /// Prints how many bytes a file has, and those at some places, each behind its place; without places all that aren't 0.
@@ -36,8 +36,12 @@ pub fn open(rt: HostRuntime, name: &str, failing: Option<u64>) -> io::Result<Sub
             say_size(rt, &medium)?;
             Ok(Subject::File(medium))
         }
-        Err(fault) => {
-            println!(rt; "{fault:?}")?;
+        Err(EdgeFault::Failed) => {
+            rt.println("failed")?;
+            Ok(Subject::Nothing)
+        }
+        Err(EdgeFault::NoMemory) => {
+            rt.println("no memory")?;
             Ok(Subject::Nothing)
         }
     }

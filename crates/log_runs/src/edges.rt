@@ -21,7 +21,8 @@ pub fn say_read(rt: HostRuntime, found: Result<FileText, FileFault>) -> io::Resu
     match found {
         Ok(FileText::Whole(bytes)) => say_bytes(rt, &bytes),
         Ok(FileText::TooLong) => rt.println("too long"),
-        Err(fault) => println!(rt; "{fault:?}"),
+        Err(FileFault::Failed) => rt.println("failed"),
+        Err(FileFault::NoMemory) => rt.println("no memory"),
     }
 }
 

@@ -7,7 +7,7 @@ use crate::say::{say_done, say_words};
 use crate::trial::Trial;
 use dude_io::FilePmem;
 use pmem_fake::MemPmem;
-use pmem_trait::{Failed, Medium};
+use pmem_trait::{Call, Failed, Medium};
 use std::io;
 
 /// What the calls of a script are made on.
@@ -55,7 +55,14 @@ fn on_memory(rt: HostRuntime, medium: &mut MemPmem, name: &str, numbers: &[u64])
 /// Prints the calls made, and which of them failed.
 fn say_made(rt: HostRuntime, medium: &MemPmem) -> io::Result<()> {
     for made in medium.made() {
-        println!(rt; "{made:?}")?;
+        match made.call {
+            Call::Read(at) => print!(rt; "read {at}")?,
+            Call::Put { at, value } => print!(rt; "put {at} {value}")?,
+            Call::Flush(line) => print!(rt; "flush {line}")?,
+            Call::Fence => rt.print("fence")?,
+            Call::Tell(number) => print!(rt; "tell {number}")?,
+        }
+        rt.println(if made.failed { " failed" } else { "" })?;
     }
     Ok(())
 }
