@@ -19,7 +19,7 @@ OUT = f"{TOP}/out/book"
 TOWERS = [
     ("Program", ["dude", "dude_program", "command_words command_files command_output command_openings"]),
     ("Runs", ["dude_engine", "run_log run_order"]),
-    ("Images", ["image_format image_opening dude_recover", "image_recovery", "image_replay"]),
+    ("Images", ["image_format image_opening dude_recover", "image_recovery"]),
     ("Log", ["back_store", "backlog", "log_ring", "redo_record group_combine"]),
     ("Home", ["tatp_core", "tatp_read tatp_check tatp_population tatp_rows", "tatp_layout row_content", "table_check hash_table", "record_heap", "word_space"]),
     ("Texts", ["request_reader", "tatp_text"]),

@@ -1,27 +1,43 @@
 #!/usr/bin/env bash
-# Times `drive 1 10000 F` with 1 and with 4 files, on a new image of 1,000 subscribers with room for 12,000 call rows
-# and F rings of 256 cells, in a folder on a disk and in memory: requests and fences per second, beside the rate at
-# which that medium takes single lines of 64 bytes, each synced, and the peak memory. Outside the gate. Needs the built
-# program, with the commands `format`, `recover` and `drive`.
+# Times generated loads, on new images with room for 12 call rows a subscriber and a ring of 256 cells for each file, in a
+# folder on a disk and in memory: `drive 1 10000` with 1 and with 4 files, `drive 1 80000 1` and `drive 1 20000 4` on 1,000
+# subscribers, and the last one on 100 and on 10,000, beside the rate at which that medium takes single lines of 64 bytes,
+# each synced. Of each load: requests a second, syncs a change and a second, and the peak memory. A change is a request whose
+# update got a number. Outside the gate. Needs programs that are built, with the commands `format`, `recover` and `drive`.
 #
-#     bench/drive.sh [FOLDER [MEMORY]]     a folder on a disk, or here; one in memory, or /dev/shm
+#     bench/drive.sh [--csv FILE] [--rounds N] [FOLDER [MEMORY [PROGRAM..]]]
+#         FOLDER on a disk, or here; MEMORY one in memory, or /dev/shm
+#         PROGRAM one or several, each a path or NAME=PATH, or crates/dude/out/dude
+#         --csv appends a line for each figure to FILE; bench/figures.sh has its fields
 #
-# The time is that of `drive` less that of `recover` on the same image, the median of five runs, each on an image of its
-# own. A fence is one fdatasync: those are counted in a run of its own, since strace makes it slow. With one thread every
-# run makes the same; with more threads their number may differ from run to run.
+# The time is that of `drive` less that of `recover` on the same image, the median of five runs, or of N, each on an image
+# of its own, with the least and the greatest; where a run came out no slower than its recovery there is no figure. A round
+# takes each program and each size in turn. A sync is an fdatasync or its like: those are counted in a run of their own,
+# since strace makes it slow. With one thread every run makes the same; with more threads their number may differ from run to
+# run. Programs that don't all answer a load alike are refused.
 set -euo pipefail
 shopt -s inherit_errexit
 top=$(cd "$(dirname "$0")/.." && pwd)
-program=$top/crates/dude/out/dude
-rounds=5 count=10000
-[ -x "$program" ] || { echo "build it first: ./dude --version" >&2; exit 1; }
+. "$top/bench/figures.sh"
+read_options "$@"
+# As the script `dude` does. An opening differs less from run to run so.
+export GLIBC_TUNABLES=${GLIBC_TUNABLES:+$GLIBC_TUNABLES:}glibc.malloc.hugetlb=1
+folder=${words[0]:-.} memory=${words[1]:-/dev/shm}
+[ "${#words[@]}" -gt 2 ] || words=("$folder" "$memory" "yelmsker=$top/crates/dude/out/dude")
+names=() programs=()
+for word in "${words[@]:2}"; do
+  name=${word//,/_} path=$word
+  if [[ $word =~ $named ]]; then name=${word%%=*} path=${word#*=}; fi
+  if ! [[ -f $path && -x $path ]]; then echo "no program: $path; ./dude --version builds this one's" >&2; exit 1; fi
+  names+=("$name") programs+=("$(readlink -f "$path")")
+done
 room=
 trap 'rm -rf ${room:+"$room"}' EXIT
 
-# Runs the program on an image with these command words, its output going to $room/out. Prints microseconds and the
-# peak resident kilobytes. What is below some 15,000 KB isn't told apart from the interpreter that starts it.
+# Runs a command, its output going to $room/out and what it told to $room/told. Prints microseconds and the peak resident
+# kilobytes. What is below some 15,000 KB isn't told apart from the interpreter that starts it.
 measure() {
-  python3 - "$room" "$program" "$@" << 'RUN'
+  python3 - "$room" "$@" << 'RUN'
 import os, subprocess, sys, time
 room, words = sys.argv[1], sys.argv[2:]
 with open(room + "/out", "wb") as out, open(room + "/told", "wb") as told:
@@ -35,12 +51,6 @@ if status != 0:
         sys.exit("%s: status %d\n%s" % (" ".join(words), status, "".join(told.readlines()[-3:])))
 print(micros, usage.ru_maxrss)
 RUN
-}
-
-# How many fdatasyncs a command makes.
-syncs() {
-  strace -f -qq -e trace=fdatasync -e signal=none -o "$room/calls" "$program" "$@" > "$room/out" 2> "$room/told"
-  grep -c 'fdatasync(' "$room/calls" || true
 }
 
 # How many lines of 64 bytes a file takes in a second, each written in its place and synced.
@@ -59,65 +69,119 @@ print(int(done / (time.perf_counter() - start)))
 RUN
 }
 
-# The middle one of the numbers in a file.
-median() { sort -n "$1" | sed -n "$(($(wc -l < "$1") / 2 + 1))p"; }
-
-# Makes tatp.img the new image once more, recovered once, so that nothing of the copy is left to sync.
+# Makes tatp.img the new image of a case once more, recovered once, so that nothing of the copy is left to sync.
 renew() {
-  cp "$room/new.img" "$room/tatp.img"
-  measure "$room/tatp.img" recover > /dev/null
+  cp "$room/new.$1" "$room/tatp.img"
+  measure "${programs[${1%.*}]}" "$room/tatp.img" recover > /dev/null
 }
 
-# Whether the last output is the summary of so many files, each served whole.
+# Whether the last output is the summary of a load, each file of it served whole, and as by the programs before.
 expect_whole() {
-  awk -v files="$1" -v count="$count" '{ all += $2 } $1 == "SYNC" { syncs = $2 }
+  local count=$1 files=$2 summary=$room/summary.$1.$2.$3
+  awk -v files="$files" -v count="$count" '{ all += $2 } $1 == "SYNC" { syncs = $2 }
     END { exit !(NR == 8 && all == files * (count + 1) && syncs == files) }' "$room/out" ||
-    { echo "this is no summary of $1 files of $count requests:" >&2; cat "$room/out" >&2; exit 1; }
+    { echo "this is no summary of $files files of $count requests:" >&2; cat "$room/out" >&2; exit 1; }
+  [ -e "$summary" ] || cp "$room/out" "$summary"
+  cmp -s "$summary" "$room/out" ||
+    { echo "the programs answer the load otherwise:" >&2; diff "$summary" "$room/out" >&2; exit 1; }
 }
+
+# How many changes the last drive made: the last number told less the first one, that of the opening.
+changes() { awk '$1 == "durable" { last = $2; if (!told++) first = $2 } END { print last - first }' "$room/told"; }
 
 # How many syncs a drive makes beyond those of a recovery, or nothing where they can't be counted.
 fences() {
-  command -v strace > /dev/null || return 0
-  local opening all
-  renew
-  opening=$(syncs "$room/tatp.img" recover)
-  all=$(syncs "$room/tatp.img" drive 1 "$count" "$1")
-  expect_whole "$1"
+  local key=$1 count=$2 files=$3 opening all
+  local program=${programs[${key%.*}]}
+  can_count || return 0
+  renew "$key"
+  opening=$(count_syncs "$room" "$program" "$room/tatp.img" recover)
+  all=$(count_syncs "$room" "$program" "$room/tatp.img" drive 1 "$count" "$files")
+  expect_whole "$count" "$files" "${key#*.}"
   echo $((all - opening))
 }
 
-# Times the drive of so many files, and prints a line.
-drive() {
-  local files=$1 round base all peak most=0 micros made told
-  measure "$room/new.img" format 1000 12000 "$files" 256 > /dev/null
-  : > "$room/times"
-  for ((round = 0; round < rounds; round++)); do
-    renew
-    base=$(measure "$room/tatp.img" recover)
-    all=$(measure "$room/tatp.img" drive 1 "$count" "$files")
-    expect_whole "$files"
-    peak=${all#* }
-    echo $((${all% *} - ${base% *})) >> "$room/times"
-    if [ "$peak" -gt "$most" ]; then most=$peak; fi
-  done
-  micros=$(median "$room/times")
-  if [ "$micros" -le 0 ]; then
-    echo "  files $files: no slower than a recovery, too short to tell"
-    return
-  fi
-  made=$(fences "$files")
-  told="fences not counted, for want of strace"
-  if [ -n "$made" ]; then told="$made fences, $((made * 1000000 / micros)) a second"; fi
-  echo "  files $files: $((micros / 1000)) ms beyond a recovery, $((files * count * 1000000 / micros)) requests a second," \
-    "$told, peak $most KB"
+# One round of a case, which is a program's index, a dot and a number of subscribers.
+declare -A most times made
+round() {
+  local key=$1 count=$2 files=$3 base all
+  local program=${programs[${key%.*}]}
+  renew "$key"
+  base=$(measure "$program" "$room/tatp.img" recover)
+  all=$(measure "$program" "$room/tatp.img" drive 1 "$count" "$files")
+  expect_whole "$count" "$files" "${key#*.}"
+  made[$key]=$(changes)
+  echo $((${all% *} - ${base% *})) >> "$room/times.$key"
+  [ "${all#* }" -le "${most[$key]}" ] || most[$key]=${all#* }
 }
 
-for folder in "${1:-.}" "${2:-/dev/shm}"; do
-  room=$(mktemp -d "$folder/bench.XXXXXX")
-  echo "$folder ($(stat -f -c %T "$folder")):"
-  drive 1
-  drive 4
-  cp "$room/new.img" "$room/tatp.img"
+milliseconds() { awk -v micros="$1" 'BEGIN { printf "%.1f", micros / 1000 }'; }
+
+# Prints what the rounds of a case gave.
+tell() {
+  local key=$1 count=$2 files=$3 micros range syncs rate told="syncs not counted, for want of strace"
+  local name=${names[${key%.*}]} subscribers=${key#*.}
+  micros=$(median "$room/times.$key")
+  sort -n -o "$room/times.$key" "$room/times.$key"
+  range="$(milliseconds "$(sed -n 1p "$room/times.$key")") to $(milliseconds "$(sed -n '$p' "$room/times.$key")")"
+  times[$key]=
+  printf '  %s, %d subscribers, files %d, requests %d: ' "$name" "$subscribers" "$files" "$((files * count))"
+  if [ "${range:0:1}" = - ] || [ "$micros" -le 0 ]; then
+    echo "$range ms beyond a recovery, too short to tell"
+    return
+  fi
+  times[$key]=$micros
+  rate=$((files * count * 1000000 / micros))
+  syncs=$(fences "$key" "$count" "$files")
+  if [ -n "$syncs" ]; then
+    told="$(ratio "$syncs" "${made[$key]}") syncs a change ($syncs of ${made[$key]}),"
+    told+=" $((syncs * 1000000 / micros)) syncs a second"
+  fi
+  echo "$(milliseconds "$micros") ms ($range) beyond a recovery, $rate requests a second, $told, peak ${most[$key]} KB"
+  add_figures "$csv" "$where" "$name" "$subscribers" "$files" "$count" "" "$rate" "$(ratio "$syncs" "${made[$key]}")"
+}
+
+# Times the drive of so many requests a file and files on images of these numbers of subscribers, by all programs in turn,
+# and prints a line for each.
+drive() {
+  local count=$1 files=$2 keys=() key size program turn
+  for program in "${!programs[@]}"; do
+    for size in "${@:3}"; do
+      key=$program.$size
+      most[$key]=0
+      keys+=("$key")
+      measure "${programs[program]}" "$room/new.$key" format "$size" "$((12 * size))" "$files" 256 > /dev/null
+      : > "$room/times.$key"
+    done
+  done
+  for ((turn = 0; turn < rounds; turn++)); do
+    for key in "${keys[@]}"; do round "$key" "$count" "$files"; done
+  done
+  for key in "${keys[@]}"; do tell "$key" "$count" "$files"; done
+}
+
+# How much longer the last drive took with the greatest database than with the least one, where both times were told.
+growth() {
+  local program more
+  for program in "${!programs[@]}"; do
+    more=$(ratio "${times[$program.$2]}" "${times[$program.$1]}")
+    [ -z "$more" ] || echo "  ${names[program]}: with $2 subscribers the load takes $more times as long as with $1"
+  done
+}
+
+begin_figures "$csv" "$folder" "$memory"
+for where in disk memory; do
+  place=$folder
+  [ "$where" = disk ] || place=$memory
+  room=$(mktemp -d "$place/bench.XXXXXX")
+  echo "$place ($(file_system "$place")), load $(cut -d ' ' -f 1 /proc/loadavg):"
+  drive 10000 1 1000
+  drive 10000 4 1000
+  drive 80000 1 1000
+  drive 20000 4 1000
+  drive 20000 4 100 10000
+  growth 100 10000
+  cp "$room/new.0.100" "$room/tatp.img"
   echo "  the medium itself: $(lines_per_second "$room/tatp.img") synced lines of 64 bytes a second"
   rm -rf "$room"
   room=

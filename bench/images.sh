@@ -56,7 +56,7 @@ time_rounds() {
 import os, statistics, subprocess, sys, time
 
 tools, room, program, size = sys.argv[1], sys.argv[2], sys.argv[3], int(sys.argv[4])
-subscribers, calls, rings, cells, rounds = 10000, 120000, 8, 4096, 7
+subscribers, calls, rings, cells, rounds = 10000, 120000, 16, 4096, 7
 image, raw = room + "/tatp.img", room + "/raw.img"
 home = 16 + 8 * rings * cells
 words = home + 1140096

@@ -14,9 +14,10 @@ import struct
 import sys
 
 MAGIC = 0x4D454D5445445544
-VERSION = 1
+MOST_RINGS = {1: 8, 2: 16}  # by the version of the image
 MOST_NUMBER = 2**48 - 1
-MOST_WRITES = 24
+MOST_WRITES, MOST_SPAN = 96, 255
+MOST_IN_VERSION_1 = 24
 HEADER_WORDS = 16
 HEAD, CONTINUATION = 1, 2
 
@@ -67,9 +68,10 @@ class Image:
             header = read_words(file, HEADER_WORDS)
             self.subscribers, self.calls, self.rings, self.cells, self.pages = header[2:7]
             self.mark = header[8]
-            if header[0] != MAGIC or header[1] != VERSION or header[7] != 0:
+            self.version = header[1]
+            if header[0] != MAGIC or self.version not in MOST_RINGS or header[7] != 0:
                 raise Wrong("the image isn't formatted")
-            if not (1 <= self.subscribers <= 10_000 and 1 <= self.calls <= 120_000 and 1 <= self.rings <= 8):
+            if not (1 <= self.subscribers <= 10_000 and 1 <= self.calls <= 120_000 and 1 <= self.rings <= MOST_RINGS[self.version]):
                 raise Wrong("a size is out of its limits")
             self.pools = list(pools_for(self.subscribers, self.calls))
             if not (16 <= self.cells <= 4_096 and self.pages == -(-self.pools[-1].end // 64)):
@@ -79,11 +81,13 @@ class Image:
         self.cell_words = [words[first : first + 8] for first in range(0, len(words), 8)]
 
     def record_at(self, ring, slot):
-        """The writes of the record whose head stands in this slot."""
+        """The first and the last number of the record whose head stands in this slot, and its writes."""
         head = self.cell_words[ring * self.cells + slot]
-        number, count = head[0] % 2**62, head[1]
-        if not (1 <= number <= MOST_NUMBER and count <= MOST_WRITES):
-            raise Wrong(f"ring {ring}, slot {slot}: no number of a record, or too many writes")
+        number, (span, count) = head[0] % 2**62, divmod(head[1], 256)
+        if not (number <= MOST_NUMBER and span <= MOST_SPAN and self.mark < number - span):
+            raise Wrong(f"ring {ring}, slot {slot}: no numbers of a record over the mark")
+        if count > MOST_WRITES or -(-count // 3) > self.cells or (self.version == 1 and head[1] > MOST_IN_VERSION_1):
+            raise Wrong(f"ring {ring}, slot {slot}: too many writes")
         pairs = head[2:]
         for index in range(1, -(-count // 3)):
             cell = self.cell_words[ring * self.cells + (slot + index) % self.cells]
@@ -94,19 +98,21 @@ class Image:
         places = [at for at, _ in writes]
         if len(set(places)) < len(places) or any(at >= self.pages * 64 for at in places):
             raise Wrong(f"ring {ring}, slot {slot}: a write of no home word, or two of one")
-        return writes
+        return number - span, number, writes
 
     def records(self):
-        """The writes of each record over the mark, by its number."""
-        found = {}
+        """Each record over the mark: its last number and its writes, by its first number."""
+        found, covered = {}, set()
         for ring in range(self.rings):
             for slot in range(self.cells):
                 kind, number = divmod(self.cell_words[ring * self.cells + slot][0], 2**62)
                 if kind == HEAD and number > self.mark:
-                    writes = self.record_at(ring, slot)
-                    if number in found:
-                        raise Wrong(f"ring {ring}, slot {slot}: a second record of {number}")
-                    found[number] = writes
+                    first, last, writes = self.record_at(ring, slot)
+                    numbers = range(first, last + 1)
+                    if not covered.isdisjoint(numbers):
+                        raise Wrong(f"ring {ring}, slot {slot}: a second record of a number of {first} to {last}")
+                    covered.update(numbers)
+                    found[first] = last, writes
         return found
 
     def recovered(self):
@@ -115,8 +121,8 @@ class Image:
             raise Wrong("the mark is too great")
         records, number, home = self.records(), self.mark, list(self.home)
         while number + 1 in records:
-            number += 1
-            for at, value in records[number]:
+            number, writes = records[number + 1]
+            for at, value in writes:
                 home[at] = value
         return number, Tables(self.calls, *(rows_of(home, pool) for pool in self.pools))
 
@@ -250,15 +256,19 @@ class Generator:
 
 
 def load_of(seed, file, files, subscribers, count):
-    """The requests of a file of a load, of which only those that may write are told apart."""
+    """The requests of a file of a load."""
     generator = Generator(seed, file)
     for _ in range(count):
         w = [generator.draw() for _ in range(7)]
         kind = w[0] % 100
         s, kind_of_row = 1 + file + files * (w[1] % (subscribers // files)), 1 + w[2] % 4
         start, end = 8 * (w[3] % 3), 1 + w[4] % 24
-        if kind < 80:
-            yield ("GET",)
+        if kind < 35:
+            yield ("GET_SUBSCRIBER_DATA", s)
+        elif kind < 45:
+            yield ("GET_NEW_DESTINATION", s, kind_of_row, start, end)
+        elif kind < 80:
+            yield ("GET_ACCESS_DATA", s, kind_of_row)
         elif kind < 82:
             yield ("UPDATE_SUBSCRIBER_DATA", s, w[6] % 2, kind_of_row, w[5] % 256)
         elif kind < 96:

@@ -29,6 +29,11 @@ echo "which it read. SYNC waits until all before it is durable."
 show tour.img run "$here/every.csv"
 
 echo
+echo "Nine updates, three with a SYNC behind each and six without. Five lines are told: the number that the image is opened"
+echo "with, one at each SYNC, and one at the end. The six updates are one bundle of the log."
+show tour.img run "$here/bundles.csv"
+
+echo
 echo "The first subscriber's rows now. The dump has all tables as CSV, and the number that it stands for at the end."
 "$dude" tour.img dump 2> /dev/null | awk -F , '$2 == 1 || $1 == "LAST"'
 

@@ -5,9 +5,9 @@ use Rattle.dude_base.specs.declared.limits.TheConstants.{VERSION}
 use Rattle.dude_base.specs.Image.{image_words}
 use Rattle.pmem_trait.specs.declared.call.Call.{Call}
 use Rattle.pmem_trait.specs.Words.{State, AtLeast, EveryImage, AfterEachCall, after_all}
-use Rattle.pmem_trait.specs.Sights.{Sight, state_now, Risen, CallsMade, AtEveryMoment}
+use Rattle.pmem_trait.specs.Sights.{Sight, state_now, Risen, Extends, CallsMade, AtEveryMoment}
 use Rattle.pmem_trait.proofs.Laws.{made_keep, every_moment_here, after_each_here}
-use Rattle.pmem_trait.proofs.Runs.{made_here, made_later, made_cause}
+use Rattle.pmem_trait.proofs.Runs.{made_here, made_later, made_cause, later_here}
 use Rattle.redo_record.specs.LogState.{HoldsLog, RecoversAmong}
 use Rattle.redo_record.proofs.HeldLog.{held_log_law}
 use Rattle.redo_record.proofs.WaitingRecords.{end_reached, waiting_law}
@@ -21,7 +21,7 @@ use Rattle.back_store.proofs.RestingHome.{home_in, home_is}
 
 -- the end is no less than the durable number
 pub durable_upto : (v : BackState) (end : ℕ) → IsLawful v.log → IsEnd v end → v.log.durable ≤ end
-durable_upto v end lawful is = end_reached (λ r waits. waits) is lawful.led.lead
+durable_upto v end lawful is = end_reached lawful.lanes.distinct (λ r waits. waits) is lawful.led.lead
 
 -- nothing greater than the end was told
 pub told_upto : (before : ℕ) (v : BackState) (end : ℕ) (s : Sight) → IsLawful v.log → v.dead ≡ false → Keeps before v s → IsTrue s.is_visible → IsEnd v end → AtLeast before (state_now s).told end
@@ -63,8 +63,8 @@ images_here before low v s lawful room alive keeps end visible =
     held_log_law (log_of v.log (home_now v.log.sizes s)) (state_now s) s.len before low (keeps.holds alive visible) room end (told_upto before v low s lawful alive keeps visible end)
 
 -- where a call leaves the waiting records, both ends are one
-pub ends_same : (P : ℕ → Type 0) (v : BackState) (low high : ℕ) → IsEnd v low → IsEnd v high → P low → P high
-ends_same P v low high one other here = subst P (waiting_law.one_end (waiting_now v) v.log.reproduced low high one other) here
+pub ends_same : (P : ℕ → Type 0) (v : BackState) (low high : ℕ) → IsLawful v.log → IsEnd v low → IsEnd v high → P low → P high
+ends_same P v low high lawful one other here = subst P (waiting_law.one_end (waiting_now v) v.log.reproduced low high lawful.lanes.distinct one other) here
 
 pub alive_from : (dead : Bool) → (dead ≡ true → ⊥) → dead ≡ false
 alive_from true not_dead = absurd (not_dead refl)
@@ -96,3 +96,10 @@ cause_answered (Err (RingFull used need)) cs s t still is = cc
 -- of a dead back nothing is said
 pub keeps_alive : (before : ℕ) (w : BackState) (t : Sight) → (w.dead ≡ false → Keeps before w t) → Keeps before w t
 keeps_alive before w t keeps = record { holds = λ alive. (keeps alive).holds alive; told = λ alive. (keeps alive).told alive }
+
+-- what stays of the medium
+pub answered_later : {X : Type 0} (result : Result X BackFault) (cs : List Call) {s t : Sight} → CallsAnswered result cs s t → Extends s t
+answered_later (Ok x) cs made = made_later made
+answered_later (Err Device) cs made = made_later made
+answered_later (Err Dead) cs {s = s} still = subst (λ u. Extends s u) (sym still) (later_here s)
+answered_later (Err (RingFull used need)) cs {s = s} still = subst (λ u. Extends s u) (sym still) (later_here s)

@@ -1,5 +1,6 @@
 pub mod AnsweredCalls
 pub mod Announced
+pub mod Causes
 pub mod Ends
 pub mod KeptLogs
 pub mod PageReads
@@ -7,4 +8,4 @@ pub mod Persisted
 pub mod ReadPages
 pub mod Reproduction
 pub mod RestingHome
-pub mod Successes
+pub mod ToldNumbers

@@ -3,21 +3,23 @@ use Rattle.std.proofs.Common.{◌≡◌, ℕ, ◌<◌, ◌≤◌, Bool, true, fa
 use Rattle.std.specs.Prelude.{◌↔◌, IsErrOf, OnOk}
 use Rattle.std.proofs.lemmas.Bool.{cases_eq}
 use Rattle.dude_base.specs.Image.{image_words}
-use Rattle.dude_base.specs.Records.{RedoRecord}
+use Rattle.dude_base.specs.Records.{RedoBundle}
 use Rattle.pmem_trait.specs.Words.{AtLeast, after_all}
 use Rattle.pmem_trait.specs.Sights.{Sight, state_now, CallsMade, AtEveryMoment}
 use Rattle.pmem_trait.proofs.Laws.{made_keep, every_moment_here}
 use Rattle.redo_record.specs.BackLaws.{AddsLogged, CanPersist, with_last}
 use Rattle.redo_record.specs.AppendLaw.{logged_as}
 use Rattle.redo_record.specs.LogState.{HoldsLog, RecoversAmong, RingRecords}
-use Rattle.redo_record.specs.Waiting.{AddsWaiting}
+use Rattle.std.specs.List.{Contains}
+use Rattle.dude_base.specs.Records.{Covers}
+use Rattle.redo_record.specs.Waiting.{AddsWaiting, AreDisjoint, Waiting}
 use Rattle.redo_record.proofs.Persisting.{persist_law}
 use Rattle.redo_record.proofs.WaitingRecords.{waiting_law}
 use Rattle.log_ring.specs.Ring.{next_head}
 use Rattle.backlog.specs.Lane.{LaneState, with_redo}
 use Rattle.backlog.specs.Lanes.{lane_at, no_lane, rings_of, waiting_in, waiting_of}
 use Rattle.backlog.specs.Backlog.{IsLawful, log_of}
-use Rattle.backlog.proofs.AddedRecords.{added_waiting}
+use Rattle.backlog.proofs.AddedRecords.{added_distinct, added_waiting}
 use Rattle.back_store.specs.Back.{BackState, IsEnd, IsRingFull, home_now, ring_full}
 use Rattle.back_store.specs.Answers.{CallsAnswered, answered, persist_calls, with_record}
 use Rattle.back_store.specs.Images.{HomeStays, Keeps, KeepsOn, RecoversOnTheWay}
@@ -28,7 +30,7 @@ use Rattle.back_store.proofs.KeptLogs.{told_upto, keeps_behind, home_behind, kee
 abbrev ring_records : LaneState → RingRecords
 ring_records u = record { logged = u.ring.logged; released = u.ring.released }
 
-module _ (v : BackState) (ring : ℕ) (r : RedoRecord) (lawful : IsLawful v.log) (below : ring < v.log.sizes.rings) where
+module _ (v : BackState) (ring : ℕ) (r : RedoBundle) (lawful : IsLawful v.log) (below : ring < v.log.sizes.rings) where
   inside : ring < length v.log.lanes
   inside = let count = lawful.lanes.count in omega arith
 
@@ -57,9 +59,9 @@ module _ (v : BackState) (ring : ℕ) (r : RedoRecord) (lawful : IsLawful v.log)
 
   -- an image that recovers without the record does so beside it
   recovers_beside : (before low high : ℕ) (home : List ℕ) (told image : List ℕ) → IsEnd v low → IsEnd (with_record ring r v) high → RecoversAmong (log_of v.log home) before low low told image
-      → RecoversAmong (log_of (with_record ring r v).log home) before low high told image
-  recovers_beside before low high home told image one other is =
-      let up = waiting_law.added_end (record { ring = (lane_at v.log.lanes ring).ring.ring; redo = r }) (waiting_of v.log.lanes) (waiting_of (with_record ring r v).log.lanes) v.log.reproduced low high adds one other in
+      → AreDisjoint (waiting_of (with_record ring r v).log.lanes) → RecoversAmong (log_of (with_record ring r v).log home) before low high told image
+  recovers_beside before low high home told image one other is distinct =
+      let up = waiting_law.added_end (record { ring = (lane_at v.log.lanes ring).ring.ring; redo = r }) (waiting_of v.log.lanes) (waiting_of (with_record ring r v).log.lanes) v.log.reproduced low high distinct adds one other in
       record {
         number = is.number;
         array = is.array;
@@ -99,19 +101,22 @@ module _ (v : BackState) (ring : ℕ) (r : RedoRecord) (lawful : IsLawful v.log)
   abbrev Can : Type 0
   Can = v.dead ≡ false → (home : List ℕ) → (IsRingFull v ring r → ⊥) → CanPersist (log_of v.log home) (next_head lane.ring) r
 
+  abbrev Fresh : Type 0
+  Fresh = (w : Waiting) (number : ℕ) → Contains (waiting_of v.log.lanes) w → Covers w.redo number → Covers r number → ⊥
+
   -- at each moment of a persist, by its answer
-  pub persist_moments : (result : Result (Unit {0}) BackFault) (s t : Sight) → image_words v.log.sizes ≤ s.len → CallsAnswered result (persist_calls v ring r) s t → Full result → (IsErrOf result Dead ↔ (v.dead ≡ true)) → Can
+  pub persist_moments : (result : Result (Unit {0}) BackFault) (s t : Sight) → Fresh → image_words v.log.sizes ≤ s.len → CallsAnswered result (persist_calls v ring r) s t → Full result → (IsErrOf result Dead ↔ (v.dead ≡ true)) → Can
       → RecoversOnTheWay v (with_record ring r v) s t
-  persist_moments (Ok done) s t room calls full dead can before low high alive keeps one other =
+  persist_moments (Ok done) s t fresh room calls full dead can before low high alive keeps one other =
       moments_made s t room alive (λ home. can alive home (λ is. let bad = full.1 (alive, is) in cc)) calls before low high keeps one other
-  persist_moments (Err Device) s t room calls full dead can before low high alive keeps one other =
+  persist_moments (Err Device) s t fresh room calls full dead can before low high alive keeps one other =
       moments_made s t room alive (λ home. can alive home (λ is. let bad = full.1 (alive, is) in cc)) calls before low high keeps one other
-  persist_moments (Err Dead) s t room calls full dead can before low high alive keeps one other = absurd (let was = dead.0 refl in let both = sym was ∙ alive in cc)
-  persist_moments (Err (RingFull used need)) s t room calls full dead can before low high alive keeps one other =
+  persist_moments (Err Dead) s t fresh room calls full dead can before low high alive keeps one other = absurd (let was = dead.0 refl in let both = sym was ∙ alive in cc)
+  persist_moments (Err (RingFull used need)) s t fresh room calls full dead can before low high alive keeps one other =
       let P : List ℕ → List ℕ → Type 0 = RecoversAmong (log_of (with_record ring r v).log (home_now v.log.sizes s)) before low high in
       subst (λ u. AtEveryMoment P s u) (sym calls) (every_moment_here P (λ visible.
       let here = images_here before low v s lawful room alive keeps one visible in
-      record { each = λ image is. recovers_beside before low high (home_now v.log.sizes s) (state_now s).told image one other (here.each image is) }))
+      record { each = λ image is. recovers_beside before low high (home_now v.log.sizes s) (state_now s).told image one other (here.each image is) (added_distinct v.log.lanes ring r inside lawful.lanes.distinct fresh) }))
 
   -- behind it
   pub persist_keeps : (result : Result (Unit {0}) BackFault) (s t : Sight) → image_words v.log.sizes ≤ s.len → CallsAnswered result (persist_calls v ring r) s t → Full result → (IsErrOf result Dead ↔ (v.dead ≡ true)) → Can

@@ -25,7 +25,7 @@ module _ (v : BackState) (lawful : IsLawful v.log) (page : ℕ) (inside : page <
   pub read_moments : {X : Type 0} (result : Result X BackFault) (s t : Sight) → image_words v.log.sizes ≤ s.len → CallsAnswered result (read_page_calls v.log.sizes page) s t → RecoversOnTheWay v v s t
   read_moments result s t room calls before low high alive keeps one other =
       let P : List ℕ → List ℕ → Type 0 = RecoversAmong (log_of v.log (home_now v.log.sizes s)) before low low in
-      ends_same (λ n. AtEveryMoment (RecoversAmong (log_of v.log (home_now v.log.sizes s)) before low n) s t) v low high one other
+      ends_same (λ n. AtEveryMoment (RecoversAmong (log_of v.log (home_now v.log.sizes s)) before low n) s t) v low high lawful one other
       (moments_answered P result calls (λ visible.
       let here = images_here before low v s lawful room alive keeps one visible in
       after_each_weaker (λ q same. subst (EveryImage s.len P) (sym same) here)

@@ -3,12 +3,13 @@ use Rattle.std.proofs.Common.{◌≡◌, ◌⊎◌, ℕ, ◌≤◌, true, false,
 use Rattle.std.specs.Prelude.{◌↔◌, IsErrOf, IfOk}
 use Rattle.dude_base.specs.declared.limits.TheConstants.{MARK}
 use Rattle.dude_base.specs.declared.write.Write.{Write}
-use Rattle.dude_base.specs.Records.{RedoRecord}
+use Rattle.dude_base.specs.Records.{RedoBundle}
 use Rattle.dude_base.specs.Writes.{overwritten}
 use Rattle.dude_base.specs.Image.{image_words}
 use Rattle.pmem_trait.specs.declared.call.Call.{Call}
 use Rattle.pmem_trait.specs.Words.{State, AtLeast, EveryImage, AfterEachCall, AfterEachCall.end, after_all}
-use Rattle.pmem_trait.specs.Sights.{Sight, state_now, Risen, CallsMade, CallsMade.none, AtEveryMoment}
+use Rattle.pmem_trait.specs.Sights.{Sight, state_now, CallsMade, CallsMade.none, AtEveryMoment}
+use Rattle.pmem_trait.proofs.Laws.{every_moment_here}
 use Rattle.pmem_trait.proofs.Runs.{made_here}
 use Rattle.redo_record.specs.LogState.{HoldsLog, RecoversAmong, RingRecords}
 use Rattle.redo_record.specs.Waiting.{IsArrayAt}
@@ -19,14 +20,14 @@ use Rattle.redo_record.proofs.Reproducing.{reproduce_law, reproduced_law}
 use Rattle.redo_record.proofs.WaitingRecords.{waiting_law}
 use Rattle.backlog.specs.Lane.{LaneState}
 use Rattle.backlog.specs.Lanes.{no_lane, rings_of, waiting_of}
-use Rattle.backlog.specs.Backlog.{IsLawful, log_of, without_records_to}
+use Rattle.backlog.specs.Backlog.{IsLawful, StopsAfter, log_of, without_records_to}
 use Rattle.backlog.proofs.ReleasedRecords.{lane_released, released_waiting}
 use Rattle.back_store.specs.Back.{BackState, IsEnd, home_now, waiting_now}
-use Rattle.back_store.specs.Answers.{ReproducedBy, Reproduces, answered, reproduced}
+use Rattle.back_store.specs.Answers.{CallsAnswered, ReproducedBy, Reproduces, ReproducesUnlessDead, answered, reproduced}
 use Rattle.back_store.specs.Images.{HasReproduced, IsReproduced, Keeps, KeepsOn, RecoversOnTheWay}
 use Rattle.back_store.specs.declared.back_fault.BackFault.{BackFault}
 use Rattle.back_store.specs.declared.back_fault.BackFault.TheVariants.{RingFull, Device, Dead}
-use Rattle.back_store.proofs.KeptLogs.{told_upto, keeps_behind, home_behind, keeps_dead, keeps_same, keeps_alive, moments_answered, images_here, ends_same, alive_from, cause_answered}
+use Rattle.back_store.proofs.KeptLogs.{told_upto, keeps_behind, home_behind, keeps_dead, keeps_same, moments_answered, images_here, ends_same, alive_from}
 
 abbrev ring_records : LaneState → RingRecords
 ring_records u = record { logged = u.ring.logged; released = u.ring.released }
@@ -38,7 +39,7 @@ module _ (v : BackState) (lawful : IsLawful v.log) (number : ℕ) where
   released_rings : HaveReleased v.log.sizes number (rings_of v.log.lanes) (rings_of after_them.log.lanes)
   released_rings ring lt = ap ring_records (lane_released number v.log.lanes ring no_lane no_lane (let count = lawful.lanes.count in omega arith))
 
-  module _ (records : List RedoRecord) (ws : List Write) (home : List ℕ) (can : CanReproduce (log_of v.log home) records ws number) (p : State) (holds : HoldsLog (log_of v.log home) p) where
+  module _ (records : List RedoBundle) (ws : List Write) (home : List ℕ) (can : CanReproduce (log_of v.log home) records ws number) (p : State) (holds : HoldsLog (log_of v.log home) p) where
     -- behind the calls the medium holds the log without these records
     held : HoldsLog (log_of after_them.log (overwritten ws home)) (after_all (reproduce_calls v.log.sizes ws number) p)
     held = released_rings_law (reproduced_to (log_of v.log home) ws number (waiting_of after_them.log.lanes)) number (rings_of after_them.log.lanes) (after_all (reproduce_calls v.log.sizes ws number) p)
@@ -51,10 +52,9 @@ module _ (v : BackState) (lawful : IsLawful v.log) (number : ℕ) where
   can_by : {calls : List Call} (home : List ℕ) → (by : ReproducedBy v number calls) → CanReproduce (log_of v.log home) by.records by.writes number
   can_by home by = record { lead = by.lead; rising = by.stand.rising; effect = λ array _. by.stand.effect array }
 
-  pub reproduce_moments : (result : Result ℕ BackFault) (s t : Sight) → image_words v.log.sizes ≤ s.len → (v.dead ≡ false → Reproduces v number result s t) → RecoversOnTheWay v v s t
-  reproduce_moments result s t room reproduces before low high alive keeps one other =
-      let r = reproduces alive in
-      ends_same (λ n. AtEveryMoment (RecoversAmong (log_of v.log (home_now v.log.sizes s)) before low n) s t) v low high one other
+  pub reproduce_moments : (result : Result ℕ BackFault) (s t : Sight) → image_words v.log.sizes ≤ s.len → Reproduces v number result s t → RecoversOnTheWay v v s t
+  reproduce_moments result s t room r before low high alive keeps one other =
+      ends_same (λ n. AtEveryMoment (RecoversAmong (log_of v.log (home_now v.log.sizes s)) before low n) s t) v low high lawful one other
       (moments_answered (RecoversAmong (log_of v.log (home_now v.log.sizes s)) before low low) result r.made (λ visible. along before low s r.calls room alive keeps one visible r.by))
     where
       along : (before low : ℕ) (s : Sight) (calls : List Call) → image_words v.log.sizes ≤ s.len → v.dead ≡ false → Keeps before v s → IsEnd v low → IsTrue s.is_visible
@@ -85,15 +85,11 @@ module _ (v : BackState) (lawful : IsLawful v.log) (number : ℕ) where
       (λ visible. held by.records by.writes home (can_by home by) (state_now s) (keeps.holds alive visible))
       (λ visible. subst (λ ns. AtLeast before ns v.log.durable) (sym (same_told by.records by.writes home (can_by home by) (state_now s) (keeps.holds alive visible))) (keeps.told alive visible)))
 
-  pub reproduce_keeps : (result : Result ℕ BackFault) (s t : Sight) → (v.dead ≡ false → Reproduces v number result s t) → (IsErrOf result Dead ↔ (v.dead ≡ true)) → KeepsOn v (answered result (reproduced v) v) s t
-  reproduce_keeps (Ok x) s t reproduces dead before keeps = let alive = alive_at (Ok x) x refl dead in let r = reproduces alive in keeps_by before x s t r.calls alive r.answer r.made r.by keeps
-  reproduce_keeps (Err Device) s t reproduces dead before keeps = keeps_dead before (record v { dead = true }) t refl
-  reproduce_keeps (Err Dead) s t reproduces dead before keeps = keeps_alive before v t (λ alive. keeps_same before v v s t refl (reproduces alive).made keeps)
-  reproduce_keeps (Err (RingFull used need)) s t reproduces dead before keeps = keeps_alive before v t (λ alive. keeps_same before v v s t refl (reproduces alive).made keeps)
-
-  pub reproduce_answer : (result : Result ℕ BackFault) (s t : Sight) → (v.dead ≡ false → Reproduces v number result s t) → (IsErrOf result Dead ↔ (v.dead ≡ true)) → IfOk result (λ x. x ≡ number)
-  reproduce_answer (Ok x) s t reproduces dead = (reproduces (alive_at (Ok x) x refl dead)).answer
-  reproduce_answer (Err fault) s t reproduces dead = tt
+  pub reproduce_keeps : (result : Result ℕ BackFault) (s t : Sight) → Reproduces v number result s t → (IsErrOf result Dead ↔ (v.dead ≡ true)) → KeepsOn v (answered result (reproduced v) v) s t
+  reproduce_keeps (Ok x) s t r dead before keeps = keeps_by before x s t r.calls (alive_at (Ok x) x refl dead) r.answer r.made r.by keeps
+  reproduce_keeps (Err Device) s t r dead before keeps = keeps_dead before (record v { dead = true }) t refl
+  reproduce_keeps (Err Dead) s t r dead before keeps = keeps_same before v v s t refl r.made keeps
+  reproduce_keeps (Err (RingFull used need)) s t r dead before keeps = keeps_same before v v s t refl r.made keeps
 
   home_by : (before x : ℕ) (s t : Sight) (calls : List Call) → v.dead ≡ false → x ≡ number → CallsMade calls true s t → ((number ≡ v.log.reproduced) × (calls ≡ [])) ⊎ ReproducedBy v number calls → Keeps before v s → IsTrue s.is_visible
       → IsReproduced v (reproduced v x) x s t
@@ -120,13 +116,45 @@ module _ (v : BackState) (lawful : IsLawful v.log) (number : ℕ) where
       } in
       subst (λ w. IsReproduced v w x s t) (sym (them_left x is by.some)) (subst (λ n. IsReproduced v after_them n s t) (sym is) done)
 
-  pub reproduce_home : (result : Result ℕ BackFault) (w : BackState) (s t : Sight) → w ≡ answered result (reproduced v) v → (v.dead ≡ false → Reproduces v number result s t) → IfOk result (λ x. HasReproduced v w x s t)
-  reproduce_home (Ok x) w s t is reproduces = λ before keeps alive visible.
-      let r = reproduces alive in
+  pub reproduce_home : (result : Result ℕ BackFault) (w : BackState) (s t : Sight) → w ≡ answered result (reproduced v) v → Reproduces v number result s t → IfOk result (λ x. HasReproduced v w x s t)
+  reproduce_home (Ok x) w s t is r = λ before keeps alive visible.
       subst (λ u. IsReproduced v u x s t) (sym is) (home_by before x s t r.calls alive r.answer r.made r.by keeps visible)
-  reproduce_home (Err fault) w s t is reproduces = tt
+  reproduce_home (Err fault) w s t is r = tt
 
-  pub reproduce_cause : (result : Result ℕ BackFault) (s t : Sight) → (v.dead ≡ false → Reproduces v number result s t) → (IsErrOf result Dead ↔ (v.dead ≡ true)) → IsErrOf result Device → Risen s.faults t.faults
-  reproduce_cause result s t reproduces dead is =
-      let r = reproduces (alive_from v.dead (λ was. let bad = dead.1 was in cc)) in
-      cause_answered result r.calls s t r.made is
+-- ---- the same where the number is the one at which the reproduction stops
+
+-- the calls that were made
+pub stop_calls : (v : BackState) (most : ℕ) (result : Result ℕ BackFault) (s t : Sight) → ReproducesUnlessDead v most result s t → (calls : List Call) × CallsAnswered result calls s t
+stop_calls v most (Ok x) s t up = (up.made.calls, up.made.made)
+stop_calls v most (Err Device) s t up = (up.made.calls, up.made.made)
+stop_calls v most (Err Dead) s t still = ([], still)
+stop_calls v most (Err (RingFull used need)) s t still = ([], still)
+
+pub stop_answer : (v : BackState) (most : ℕ) (result : Result ℕ BackFault) (s t : Sight) → ReproducesUnlessDead v most result s t → IfOk result (StopsAfter v.log most)
+stop_answer v most (Ok x) s t up = subst (StopsAfter v.log most) (sym up.made.answer) up.stops
+stop_answer v most (Err fault) s t up = tt
+
+module _ (v : BackState) (lawful : IsLawful v.log) (most : ℕ) (s t : Sight) where
+  -- no call was made
+  moments_still : image_words v.log.sizes ≤ s.len → t ≡ s → RecoversOnTheWay v v s t
+  moments_still room still before low high alive keeps one other =
+      let P : List ℕ → List ℕ → Type 0 = RecoversAmong (log_of v.log (home_now v.log.sizes s)) before low high in
+      subst (λ u. AtEveryMoment P s u) (sym still) (every_moment_here P (λ visible.
+      ends_same (λ n. EveryImage s.len (RecoversAmong (log_of v.log (home_now v.log.sizes s)) before low n) (state_now s)) v low high lawful one other
+      (images_here before low v s lawful room alive keeps one visible)))
+
+  pub stop_moments : (result : Result ℕ BackFault) → image_words v.log.sizes ≤ s.len → ReproducesUnlessDead v most result s t → RecoversOnTheWay v v s t
+  stop_moments (Ok x) room up = reproduce_moments v lawful up.stop (Ok x) s t room up.made
+  stop_moments (Err Device) room up = reproduce_moments v lawful up.stop (Err Device) s t room up.made
+  stop_moments (Err Dead) room still = moments_still room still
+  stop_moments (Err (RingFull used need)) room still = moments_still room still
+
+  pub stop_keeps : (result : Result ℕ BackFault) → (IsErrOf result Dead ↔ (v.dead ≡ true)) → ReproducesUnlessDead v most result s t → KeepsOn v (answered result (reproduced v) v) s t
+  stop_keeps (Ok x) dead up = reproduce_keeps v lawful up.stop (Ok x) s t up.made dead
+  stop_keeps (Err Device) dead up = reproduce_keeps v lawful up.stop (Err Device) s t up.made dead
+  stop_keeps (Err Dead) dead still = λ before keeps. keeps_same before v v s t refl still keeps
+  stop_keeps (Err (RingFull used need)) dead still = λ before keeps. keeps_same before v v s t refl still keeps
+
+  pub stop_home : (result : Result ℕ BackFault) (w : BackState) → w ≡ answered result (reproduced v) v → ReproducesUnlessDead v most result s t → IfOk result (λ x. HasReproduced v w x s t)
+  stop_home (Ok x) w is up = reproduce_home v lawful up.stop (Ok x) w s t is up.made
+  stop_home (Err fault) w is up = tt

@@ -41,8 +41,8 @@ idle_keeps before s number home t accepted small idle_medium = record {
       let medium = idle_medium told in
       let same : home ≡ home_now s t = sym (home_is VERSION s number home (state_now t) medium.rest) in
       let none : [] ≡ waiting_from 0 (map (empty_lane s) (range_with_len 0 s.rings)) = sym (none_in_empty s 0 (range_with_len 0 s.rings)) in
-      subst (λ waiting. HoldsLog (record { version = VERSION; sizes = s; reproduced = number; home = home_now s t; rings = rings_of (map (empty_lane s) (range_with_len 0 s.rings)); waiting = waiting }) (state_now t)) none
-      (empty_log_law VERSION s number (home_now s t) (rings_of (map (empty_lane s) (range_with_len 0 s.rings))) (state_now t) accepted small (subst (λ h. RestsAt VERSION s number h (state_now t)) same medium.rest) medium.heads
+      subst (λ waiting. HoldsLog (record { sizes = s; reproduced = number; home = home_now s t; rings = rings_of (map (empty_lane s) (range_with_len 0 s.rings)); waiting = waiting }) (state_now t)) none
+      (empty_log_law s number (home_now s t) (rings_of (map (empty_lane s) (range_with_len 0 s.rings))) (state_now t) accepted small (subst (λ h. RestsAt VERSION s number h (state_now t)) same medium.rest) medium.heads
       (λ ring lt. ap (λ (v : LaneState). record { logged = v.ring.logged; released = v.ring.released }) (lane_empty s ring no_lane lt)));
   told = λ alive told. (idle_medium told).told;
 }

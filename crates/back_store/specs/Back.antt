@@ -1,10 +1,10 @@
 -- What contracts see of a back, beside its medium.
-use Rattle.std.specs.Prelude.{ℕ, ◌*◌, ◌≤◌, Bool, false, List, length, map}
-use Rattle.std.specs.List.{range_with_len}
+use Rattle.std.specs.Prelude.{ℕ, ◌*◌, ◌<◌, ◌≤◌, Bool, false, All, List, length, map}
+use Rattle.std.specs.List.{Contains, range_with_len}
 use Rattle.dude_base.specs.declared.limits.TheConstants.{PAGE}
 use Rattle.dude_base.specs.declared.sizes.Sizes.{Sizes}
 use Rattle.dude_base.specs.Image.{home_word}
-use Rattle.dude_base.specs.Records.{RedoRecord}
+use Rattle.dude_base.specs.Records.{Covers, HasNumbers, RedoBundle, first_of}
 use Rattle.pmem_trait.specs.Words.{value_of}
 use Rattle.pmem_trait.specs.Sights.{Sight, state_now}
 use Rattle.redo_record.specs.Record.{cells_for}
@@ -29,7 +29,7 @@ abbrev pub waiting_now : BackState → List Waiting
 waiting_now v = waiting_of v.log.lanes
 
 -- the records that wait in a ring, the oldest first
-abbrev pub waiting_of_ring : BackState → ℕ → List RedoRecord
+abbrev pub waiting_of_ring : BackState → ℕ → List RedoBundle
 waiting_of_ring v ring = (lane_at v.log.lanes ring).waiting
 
 -- the number to which waiting records lead from the reproduced one
@@ -42,12 +42,27 @@ pub record EndsFrom (v : BackState) (least : ℕ) : Type 0 where
   pub is_end : IsEnd v end
   pub up : least ≤ end
 
+-- A bundle may be persisted in this ring.
+pub record MayPersist (v : BackState) (ring : ℕ) (b : RedoBundle) : Type 0 where
+  -- there is such a ring
+  pub exists : ring < v.log.sizes.rings
+  -- the bundle's numbers are from 1 to MAX_NUMBER
+  pub numbers : HasNumbers b
+  -- they are over those that wait in the ring
+  pub newest : All (λ q. q.last < first_of b) (waiting_of_ring v ring)
+  -- over the durable number
+  pub over : v.log.durable < first_of b
+  -- and no waiting bundle covers one of them
+  pub new : (w : Waiting) (number : ℕ) → Contains (waiting_now v) w → Covers w.redo number → Covers b number → ⊥
+  -- each write is of a home word
+  pub home : All (λ w. w.at < v.log.sizes.pages * PAGE) b.writes
+
 -- the record needs more cells than those that wait in its ring leave
-abbrev pub IsRingFull : BackState → ℕ → RedoRecord → Type 0
+abbrev pub IsRingFull : BackState → ℕ → RedoBundle → Type 0
 IsRingFull v ring r = IsLaneFull (lane_at v.log.lanes ring) r
 
 -- the fault that says so
-abbrev pub ring_full : BackState → ℕ → RedoRecord → BackFault
+abbrev pub ring_full : BackState → ℕ → RedoBundle → BackFault
 ring_full v ring r = RingFull (used_by (waiting_of_ring v ring)) (cells_for (length r.writes))
 
 -- a back where nothing waits, and all up to this number is durable and in the home

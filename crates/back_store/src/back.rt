@@ -1,29 +1,27 @@
-ghost use Rattle.std.specs.Prelude.{◌≡◌, ◌≢◌, ◌⊎◌, ◌↔◌, ℕ, ◌+◌, ◌*◌, ◌<◌, ◌≤◌, [], ◌∷◌, ◌++◌, All, IfOk, IfErr, IsErrOf, IsOk, IsTrue, MatchResult, OnOk, List, false, true, is_ok, min, slice_index};
-ghost use Rattle.std.specs.List.{Contains};
-ghost use Rattle.dude_base.specs.declared.limits.TheConstants.{MAX_NUMBER, PAGE, VERSION};
+//! The back of the store, over any medium.
+
+ghost use Rattle.std.specs.Prelude.{◌≡◌, ◌⊎◌, ◌↔◌, ℕ, ◌+◌, ◌*◌, ◌<◌, ◌≤◌, IfOk, IfErr, IsErrOf, IsTrue, MatchResult, OnOk, List, false, true, slice_index};
+ghost use Rattle.dude_base.specs.declared.limits.TheConstants.{MAX_NUMBER, PAGE};
 ghost use Rattle.dude_base.specs.Sizes.{IsAccepted};
 ghost use Rattle.dude_base.specs.Image.{home_word, image_words};
 ghost use Rattle.pmem_trait.specs.Words.{value_of};
-ghost use Rattle.pmem_trait.specs.Sights.{state_now, Risen};
-ghost use Rattle.redo_record.specs.Tags.{IsNumber};
-ghost use Rattle.redo_record.specs.Calls.{append_calls};
+ghost use Rattle.pmem_trait.specs.Sights.{Extends, state_now};
 ghost use Rattle.redo_record.specs.BackCalls.{read_page_calls};
-ghost use Rattle.redo_record.specs.Waiting.{Waiting};
 ghost use Rattle.redo_record.specs.BackLaws.{CanPersist};
 ghost use Rattle.log_ring.specs.Ring.{next_head};
 ghost use Rattle.backlog.specs.Lanes.{lane_at};
-ghost use Rattle.backlog.specs.Backlog.{log_of};
-ghost use Rattle.back_store.specs.Back.{EndsFrom, IsEnd, IsRingFull, home_now, idle, ring_full, waiting_now, waiting_of_ring};
-ghost use Rattle.back_store.specs.Answers.{Announces, CallsAnswered, Reproduces, announced, answered, persist_calls, reproduced, stop_after, with_record};
-ghost use Rattle.back_store.specs.Images.{HasReproduced, HomeStays, IsIdleMedium, Keeps, KeepsOn, RecoversOnTheWay};
+ghost use Rattle.backlog.specs.Backlog.{IsLawful, StopsAfter, log_of};
+ghost use Rattle.back_store.specs.Back.{EndsFrom, IsRingFull, MayPersist, idle, ring_full};
+ghost use Rattle.back_store.specs.Answers.{CallsAnswered, SparesMedium, after_announce, after_persist, after_read, after_reproduce, with_record};
+ghost use Rattle.back_store.specs.Images.{IsIdleMedium, Keeps};
 ghost use Rattle.back_store.specs.declared.back_fault.BackFault.TheVariants.{Device, Dead};
 
 use crate::back_fault::BackFault;
 use crate::page_reads::read_words;
 use backlog::Backlog;
+use dude_base::bundle::Bundle;
 use dude_base::limits::PAGE;
 use dude_base::place::Place;
-use dude_base::redo::Redo;
 use dude_base::sizes::Sizes;
 use log_ring::RingFault;
 use pmem_trait::{Failed, Medium};
@@ -40,7 +38,7 @@ pub struct Back<M: Medium> {
 }
 
 impl<M: Medium> Back<M> {
-    ghost use Rattle.back_store.specs.BackView.{medium_of, state_of};
+    ghost use Rattle.back_store.specs.BackView.{AnnouncesEnd, HasCause, HasPersistCause, IsCrashSafe, LeavesHome, PersistsBy, RaisesHome, ReadsPage, ReproducesNext, TellsEnd, medium_of, sight_of, state_of};
 
     /// A back over a medium with an image of these sizes, where nothing waits and all up to this number is durable and in
     /// the home. Room for all records that may wait, and for one group of them, is taken here. On want of memory the medium
@@ -55,10 +53,13 @@ impl<M: Medium> Back<M> {
         requires room { image_words sizes.now ≤ (M.sight medium).len }
         requires small { number ≤ MAX_NUMBER }
         ensures made { IfOk result (λ back. state_of back ≡ idle sizes.now number) }
-        ensures medium { MatchResult result (λ back. medium_of back ≡ medium) (λ refused. refused.1 ≡ medium) }
+        ensures medium { MatchResult result (λ back. medium_of back ≡ medium)
+            (λ refused. refused.1 ≡ medium) }
         // Where the medium is settled at an image of these sizes, with the mark at the number and no head over it.
         ensures keeps { IfOk result (λ back. (before : ℕ) (home : List ℕ)
-            → (IsTrue (M.sight medium).is_visible → IsIdleMedium before sizes.now number home (state_now (M.sight medium))) → Keeps before (state_of back) (M.sight medium)) }
+            → (IsTrue (M.sight medium).is_visible
+            → IsIdleMedium before sizes.now number home (state_now (M.sight medium)))
+            → Keeps before (state_of back) (M.sight medium)) }
     {
         match Backlog::new(alloc, Place::of(sizes), number) {
             Ok(log) => Ok(Back {
@@ -80,22 +81,21 @@ impl<M: Medium> Back<M> {
         Err(BackFault::Device)
     }
 
-    // Persists a record.
-    fn persist_record(&mut self, ring: u64, r: &Redo) -> Result<(), BackFault>
-        requires ring { ring < (state_of self.old).log.sizes.rings }
-        requires number { IsNumber r.now.number }
-        requires newest { All (λ q. q.number < r.now.number) (waiting_of_ring (state_of self.old) ring) }
-        requires new { (w : Waiting) → Contains (waiting_now (state_of self.old)) w → w.redo.number ≢ r.now.number }
-        requires over { (state_of self.old).log.durable < r.now.number }
-        requires home { All (λ w. w.at < (state_of self.old).log.sizes.pages * PAGE) r.now.writes }
-        ensures len { (M.sight (medium_of self.new)).len ≡ (M.sight (medium_of self.old)).len }
-        ensures calls { CallsAnswered result (persist_calls (state_of self.old) ring r.now) (M.sight (medium_of self.old)) (M.sight (medium_of self.new)) }
-        ensures state { state_of self.new ≡ answered result (λ done. with_record ring r.now (state_of self.old)) (state_of self.old) }
-        ensures full { IsErrOf result (ring_full (state_of self.old) ring r.now) ↔ ((state_of self.old).dead ≡ false) × IsRingFull (state_of self.old) ring r.now }
+    // Persists a bundle.
+    fn persist_record(&mut self, ring: u64, r: &Bundle) -> Result<(), BackFault>
+        requires may { MayPersist (state_of self.old) ring r.now }
+        ensures untouched { SparesMedium result (medium_of self.old) (medium_of self.new) }
+        ensures state { state_of self.new ≡ after_persist result ring r.now (state_of self.old) }
+        ensures calls { PersistsBy ring r.now result self.old self.new }
+        ensures full { IsErrOf result (ring_full (state_of self.old) ring r.now)
+            ↔ ((state_of self.old).dead ≡ false) × IsRingFull (state_of self.old) ring r.now }
         ensures dead { IsErrOf result Dead ↔ ((state_of self.old).dead ≡ true) }
-        ensures fault { IfErr result (λ fault. (fault ≡ ring_full (state_of self.old) ring r.now) ⊎ (fault ≡ Device) ⊎ (fault ≡ Dead)) }
-        ensures cause { IsErrOf result Device → Risen (M.sight (medium_of self.old)).faults (M.sight (medium_of self.new)).faults }
-        ensures can { (state_of self.old).dead ≡ false → (home : List ℕ) → (IsRingFull (state_of self.old) ring r.now → ⊥) → CanPersist (log_of (state_of self.old).log home) (next_head (lane_at (state_of self.old).log.lanes ring).ring) r.now }
+        ensures fault { IfErr result (λ fault.
+            (fault ≡ ring_full (state_of self.old) ring r.now) ⊎ (fault ≡ Device) ⊎ (fault ≡ Dead)) }
+        ensures can { (state_of self.old).dead ≡ false → (home : List ℕ)
+            → (IsRingFull (state_of self.old) ring r.now → ⊥)
+            → CanPersist (log_of (state_of self.old).log home)
+            (next_head (lane_at (state_of self.old).log.lanes ring).ring) r.now }
     {
         if self.dead {
             return Err(BackFault::Dead);
@@ -107,19 +107,18 @@ impl<M: Medium> Back<M> {
         }
     }
 
-    // Announces the number to which waiting records lead.
+    // Announces the number to which waiting bundles lead.
     fn announce_end(&mut self) -> Result<u64, BackFault>
-        ensures len { (M.sight (medium_of self.new)).len ≡ (M.sight (medium_of self.old)).len }
-        ensures untouched { IsErrOf result Dead → medium_of self.new ≡ medium_of self.old }
-        ensures announces { (state_of self.old).dead ≡ false → Announces (state_of self.old) result (M.sight (medium_of self.old)) (M.sight (medium_of self.new)) }
-        ensures state { state_of self.new ≡ answered result (announced (state_of self.old)) (state_of self.old) }
+        ensures untouched { SparesMedium result (medium_of self.old) (medium_of self.new) }
+        ensures state { state_of self.new ≡ after_announce result (state_of self.old) }
+        ensures calls { AnnouncesEnd result self.old self.new }
         ensures dead { IsErrOf result Dead ↔ ((state_of self.old).dead ≡ true) }
         ensures fault { IfErr result (λ fault. (fault ≡ Device) ⊎ (fault ≡ Dead)) }
     {
+        let end = self.log.contiguous_end();
         if self.dead {
             return Err(BackFault::Dead);
         }
-        let end = self.log.contiguous_end();
         match self.medium.tell(end) {
             Ok(()) => {
                 self.log.announce(end);
@@ -129,12 +128,11 @@ impl<M: Medium> Back<M> {
         }
     }
 
-    // Reproduces the next at most `most` durable records.
+    // Reproduces the next durable records, up to where a reproduction of at most `most` numbers stops.
     fn reproduce_next(&mut self, most: u64) -> Result<u64, BackFault>
-        ensures len { (M.sight (medium_of self.new)).len ≡ (M.sight (medium_of self.old)).len }
-        ensures untouched { IsErrOf result Dead → medium_of self.new ≡ medium_of self.old }
-        ensures reproduces { (state_of self.old).dead ≡ false → Reproduces (state_of self.old) (stop_after (state_of self.old) most) result (M.sight (medium_of self.old)) (M.sight (medium_of self.new)) }
-        ensures state { state_of self.new ≡ answered result (reproduced (state_of self.old)) (state_of self.old) }
+        ensures untouched { SparesMedium result (medium_of self.old) (medium_of self.new) }
+        ensures state { state_of self.new ≡ after_reproduce result (state_of self.old) }
+        ensures calls { ReproducesNext most result self.old self.new }
         ensures dead { IsErrOf result Dead ↔ ((state_of self.old).dead ≡ true) }
         ensures fault { IfErr result (λ fault. (fault ≡ Device) ⊎ (fault ≡ Dead)) }
     {
@@ -154,11 +152,13 @@ impl<M: Medium> Back<M> {
     // Reads a page of the home.
     fn read_into(&mut self, page: u64, into: &mut [u64; PAGE as usize]) -> Result<(), BackFault>
         requires { page < (state_of self.old).log.sizes.pages }
-        ensures len { (M.sight (medium_of self.new)).len ≡ (M.sight (medium_of self.old)).len }
-        ensures calls { CallsAnswered result (read_page_calls (state_of self.old).log.sizes page) (M.sight (medium_of self.old)) (M.sight (medium_of self.new)) }
-        ensures words { OnOk result (IsTrue (M.sight (medium_of self.old)).is_visible
-            → (i : ℕ) → i < PAGE → slice_index into.new i ≡ value_of ((state_now (M.sight (medium_of self.old))).word (home_word (state_of self.old).log.sizes (page * PAGE) + i))) }
-        ensures state { state_of self.new ≡ answered result (λ done. state_of self.old) (state_of self.old) }
+        ensures untouched { SparesMedium result (medium_of self.old) (medium_of self.new) }
+        ensures state { state_of self.new ≡ after_read result (state_of self.old) }
+        ensures calls { CallsAnswered result (read_page_calls (state_of self.old).log.sizes page)
+            (sight_of self.old) (sight_of self.new) }
+        ensures words { OnOk result (IsTrue (sight_of self.old).is_visible → (i : ℕ) → i < PAGE
+            → slice_index into.new i ≡ value_of ((state_now (sight_of self.old)).word
+            (home_word (state_of self.old).log.sizes (page * PAGE) + i))) }
         ensures dead { IsErrOf result Dead ↔ ((state_of self.old).dead ≡ true) }
         ensures fault { IfErr result (λ fault. (fault ≡ Device) ⊎ (fault ≡ Dead)) }
     {
@@ -172,118 +172,73 @@ impl<M: Medium> Back<M> {
         }
     }
 
-    /// Persists a record: it is durable in its ring, and waits for the home to have its writes.
-    ///
-    /// The number is from 1 to `MAX_NUMBER`, and each write is of a home word. After `RingFull` announce, reproduce, and
-    /// try again.
-    pub fn persist(&mut self, ring: u64, r: &Redo) -> Result<(), BackFault>
-        requires ring { ring < (state_of self.old).log.sizes.rings }
-        requires number { IsNumber r.now.number }
-        requires newest { All (λ q. q.number < r.now.number) (waiting_of_ring (state_of self.old) ring) }
-        requires new { (w : Waiting) → Contains (waiting_now (state_of self.old)) w → w.redo.number ≢ r.now.number }
-        requires over { (state_of self.old).log.durable < r.now.number }
-        requires home { All (λ w. w.at < (state_of self.old).log.sizes.pages * PAGE) r.now.writes }
-        ensures len { (M.sight (medium_of self.new)).len ≡ (M.sight (medium_of self.old)).len }
-
-        // At `Ok` the record waits behind those of its ring, and nothing else changes.
-        ensures state { state_of self.new ≡ answered result (λ done. with_record ring r.now (state_of self.old)) (state_of self.old) }
-        ensures calls { CallsAnswered result (persist_calls (state_of self.old) ring r.now) (M.sight (medium_of self.old)) (M.sight (medium_of self.new)) }
-
-        // Which fault comes.
-        ensures full { IsErrOf result (ring_full (state_of self.old) ring r.now) ↔ ((state_of self.old).dead ≡ false) × IsRingFull (state_of self.old) ring r.now }
-        ensures dead { IsErrOf result Dead ↔ ((state_of self.old).dead ≡ true) }
-        ensures fault { IfErr result (λ fault. (fault ≡ ring_full (state_of self.old) ring r.now) ⊎ (fault ≡ Device) ⊎ (fault ≡ Dead)) }
-        ensures cause { IsErrOf result Device → Risen (M.sight (medium_of self.old)).faults (M.sight (medium_of self.new)).faults }
-        ensures succeeds { (state_of self.old).dead ≡ false → (Risen (M.sight (medium_of self.old)).faults (M.sight (medium_of self.new)).faults → ⊥) → IsOk result ⊎ IsErrOf result (ring_full (state_of self.old) ring r.now) }
-
-        // At each moment every image recovers to a number from the end without the record to the end with it.
-        ensures moments { RecoversOnTheWay (state_of self.old) (with_record ring r.now (state_of self.old)) (M.sight (medium_of self.old)) (M.sight (medium_of self.new)) }
-        ensures keeps { KeepsOn (state_of self.old) (state_of self.new) (M.sight (medium_of self.old)) (M.sight (medium_of self.new)) }
-        ensures home_stays { OnOk result (HomeStays (state_of self.old) (M.sight (medium_of self.old)) (M.sight (medium_of self.new))) }
+    /// Persists a bundle: it is durable in its ring, and waits for the home to have its writes. After `RingFull` announce,
+    /// reproduce, and try again.
+    pub fn persist(&mut self, ring: u64, r: &Bundle) -> Result<(), BackFault>
+        requires may { MayPersist (state_of self.old) ring r.now }
+        ensures extends { Extends (sight_of self.old) (sight_of self.new) }
+        ensures untouched { SparesMedium result (medium_of self.old) (medium_of self.new) }
+        // At `Ok` the bundle waits behind those of its ring, and nothing else changes.
+        ensures state { state_of self.new ≡ after_persist result ring r.now (state_of self.old) }
+        ensures calls { PersistsBy ring r.now result self.old self.new }
+        ensures cause { HasPersistCause ring r.now result self.old self.new }
+        ensures crash { IsCrashSafe (with_record ring r.now (state_of self.old)) self.old self.new }
+        ensures home_stays { LeavesHome result self.old self.new }
     {
-        // Read for the proof alone: what the log keeps.
+        // The log is lawful, whatever the medium.
         let _place = self.log.place();
         self.persist_record(ring, r)
     }
 
-    /// Announces the number to which waiting records lead: tells it to the medium, and answers it.
+    /// Announces the number to which waiting bundles lead: tells it to the medium, and answers it.
     pub fn announce(&mut self) -> Result<u64, BackFault>
-        ensures len { (M.sight (medium_of self.new)).len ≡ (M.sight (medium_of self.old)).len }
-        ensures answer { IfOk result (IsEnd (state_of self.old)) }
-
+        ensures extends { Extends (sight_of self.old) (sight_of self.new) }
+        ensures untouched { SparesMedium result (medium_of self.old) (medium_of self.new) }
         // At `Ok` the durable number is the answer, and nothing else changes.
-        ensures state { state_of self.new ≡ answered result (announced (state_of self.old)) (state_of self.old) }
-        ensures calls { (state_of self.old).dead ≡ false → Announces (state_of self.old) result (M.sight (medium_of self.old)) (M.sight (medium_of self.new)) }
-        ensures told { IfOk result (λ end. IsTrue (M.sight (medium_of self.old)).is_visible
-            → (state_now (M.sight (medium_of self.new))).told ≡ (state_now (M.sight (medium_of self.old))).told ++ end ∷ []) }
-
-        // Which fault comes.
-        ensures dead { IsErrOf result Dead ↔ ((state_of self.old).dead ≡ true) }
-        ensures untouched { IsErrOf result Dead → medium_of self.new ≡ medium_of self.old }
-        ensures fault { IfErr result (λ fault. (fault ≡ Device) ⊎ (fault ≡ Dead)) }
-        ensures cause { IsErrOf result Device → Risen (M.sight (medium_of self.old)).faults (M.sight (medium_of self.new)).faults }
-        ensures succeeds { (state_of self.old).dead ≡ false → (Risen (M.sight (medium_of self.old)).faults (M.sight (medium_of self.new)).faults → ⊥) → IsOk result }
-
-        // At each moment every image recovers to the end.
-        ensures moments { RecoversOnTheWay (state_of self.old) (state_of self.old) (M.sight (medium_of self.old)) (M.sight (medium_of self.new)) }
-        ensures keeps { KeepsOn (state_of self.old) (state_of self.new) (M.sight (medium_of self.old)) (M.sight (medium_of self.new)) }
-        ensures home_stays { OnOk result (HomeStays (state_of self.old) (M.sight (medium_of self.old)) (M.sight (medium_of self.new))) }
+        ensures state { state_of self.new ≡ after_announce result (state_of self.old) }
+        ensures calls { AnnouncesEnd result self.old self.new }
+        ensures told { TellsEnd result self.old self.new }
+        ensures cause { HasCause result self.old self.new }
+        ensures crash { IsCrashSafe (state_of self.old) self.old self.new }
+        ensures home_stays { LeavesHome result self.old self.new }
     {
-        // Read for the proof alone: what the log keeps.
+        // The log is lawful, whatever the medium.
         let _place = self.log.place();
         self.announce_end()
     }
 
-    /// Reproduces the next at most `most` durable records: puts the last write of each of their words into the home, then
-    /// the mark, and frees their cells. Answers the number up to which the home then has all writes.
+    /// Reproduces the next durable records, of at most `most` numbers, but one record at least where there is one and `most`
+    /// isn't 0: puts the last write of each of their words into the home, then the mark, and frees their cells. Answers the
+    /// number up to which the home then has all writes.
     pub fn reproduce(&mut self, most: u64) -> Result<u64, BackFault>
-        ensures len { (M.sight (medium_of self.new)).len ≡ (M.sight (medium_of self.old)).len }
-        ensures answer { IfOk result (λ number. number ≡ stop_after (state_of self.old) most) }
-
-        // At `Ok` just the records over the answer wait, and the durable number is as it was. Where there was nothing to
+        ensures extends { Extends (sight_of self.old) (sight_of self.new) }
+        ensures untouched { SparesMedium result (medium_of self.old) (medium_of self.new) }
+        ensures answer { IfOk result (StopsAfter (state_of self.old).log most) }
+        // At `Ok` just the bundles over the answer wait, and the durable number is as it was. Where there was nothing to
         // do nothing changes, and no call is made.
-        ensures state { state_of self.new ≡ answered result (reproduced (state_of self.old)) (state_of self.old) }
-        ensures calls { (state_of self.old).dead ≡ false → Reproduces (state_of self.old) (stop_after (state_of self.old) most) result (M.sight (medium_of self.old)) (M.sight (medium_of self.new)) }
-
-        // Which fault comes.
-        ensures dead { IsErrOf result Dead ↔ ((state_of self.old).dead ≡ true) }
-        ensures untouched { IsErrOf result Dead → medium_of self.new ≡ medium_of self.old }
-        ensures fault { IfErr result (λ fault. (fault ≡ Device) ⊎ (fault ≡ Dead)) }
-        ensures cause { IsErrOf result Device → Risen (M.sight (medium_of self.old)).faults (M.sight (medium_of self.new)).faults }
-        ensures succeeds { (state_of self.old).dead ≡ false → (Risen (M.sight (medium_of self.old)).faults (M.sight (medium_of self.new)).faults → ⊥) → IsOk result }
-
-        // At each moment every image recovers to the end.
-        ensures moments { RecoversOnTheWay (state_of self.old) (state_of self.old) (M.sight (medium_of self.old)) (M.sight (medium_of self.new)) }
-        ensures keeps { KeepsOn (state_of self.old) (state_of self.new) (M.sight (medium_of self.old)) (M.sight (medium_of self.new)) }
-        // The home is then the array at the answer, at which the mark is settled; from there on the arrays stay.
-        ensures home { IfOk result (λ number. HasReproduced (state_of self.old) (state_of self.new) number (M.sight (medium_of self.old)) (M.sight (medium_of self.new))) }
+        ensures state { state_of self.new ≡ after_reproduce result (state_of self.old) }
+        ensures calls { ReproducesNext most result self.old self.new }
+        ensures cause { HasCause result self.old self.new }
+        ensures crash { IsCrashSafe (state_of self.old) self.old self.new }
+        ensures home { RaisesHome result self.old self.new }
     {
-        // Read for the proof alone: what the log keeps.
+        // The log is lawful, whatever the medium.
         let _place = self.log.place();
         self.reproduce_next(most)
     }
 
     /// Gives a page of the home: that of the array at the reproduced number.
     pub fn read_page(&mut self, page: u64, into: &mut [u64; PAGE as usize]) -> Result<(), BackFault>
-        requires { page < (state_of self.old).log.sizes.pages }
-        ensures len { (M.sight (medium_of self.new)).len ≡ (M.sight (medium_of self.old)).len }
-        ensures state { state_of self.new ≡ answered result (λ done. state_of self.old) (state_of self.old) }
-        ensures calls { CallsAnswered result (read_page_calls (state_of self.old).log.sizes page) (M.sight (medium_of self.old)) (M.sight (medium_of self.new)) }
-        ensures page { OnOk result (IsTrue (M.sight (medium_of self.old)).is_visible
-            → (i : ℕ) → i < PAGE → slice_index into.new i ≡ slice_index (home_now (state_of self.old).log.sizes (M.sight (medium_of self.old))) (page * PAGE + i)) }
-
-        // Which fault comes.
-        ensures dead { IsErrOf result Dead ↔ ((state_of self.old).dead ≡ true) }
-        ensures fault { IfErr result (λ fault. (fault ≡ Device) ⊎ (fault ≡ Dead)) }
-        ensures cause { IsErrOf result Device → Risen (M.sight (medium_of self.old)).faults (M.sight (medium_of self.new)).faults }
-        ensures succeeds { (state_of self.old).dead ≡ false → (Risen (M.sight (medium_of self.old)).faults (M.sight (medium_of self.new)).faults → ⊥) → IsOk result }
-
-        // At each moment every image recovers to the end.
-        ensures moments { RecoversOnTheWay (state_of self.old) (state_of self.old) (M.sight (medium_of self.old)) (M.sight (medium_of self.new)) }
-        ensures keeps { KeepsOn (state_of self.old) (state_of self.new) (M.sight (medium_of self.old)) (M.sight (medium_of self.new)) }
-        ensures home_stays { OnOk result (HomeStays (state_of self.old) (M.sight (medium_of self.old)) (M.sight (medium_of self.new))) }
+        requires inside { page < (state_of self.old).log.sizes.pages }
+        ensures extends { Extends (sight_of self.old) (sight_of self.new) }
+        ensures untouched { SparesMedium result (medium_of self.old) (medium_of self.new) }
+        ensures state { state_of self.new ≡ after_read result (state_of self.old) }
+        ensures reads { ReadsPage page result self.old self.new into.new }
+        ensures cause { HasCause result self.old self.new }
+        ensures crash { IsCrashSafe (state_of self.old) self.old self.new }
+        ensures home_stays { LeavesHome result self.old self.new }
     {
-        // Read for the proof alone: what the log keeps.
+        // The log is lawful, whatever the medium.
         let _place = self.log.place();
         self.read_into(page, into)
     }
@@ -291,18 +246,24 @@ impl<M: Medium> Back<M> {
     /// The number up to which it was announced that all is durable.
     pub fn durable(&self) -> u64
         ensures number { result ≡ (state_of self.now).log.durable }
-        // There is an end to which waiting records lead, and it is no less.
+        // Whatever the medium: the bundles that wait are over the reproduced number, lead to this one, cover no number twice,
+        // and take no more cells than there are.
+        ensures lawful { IsLawful (state_of self.now).log }
+        // There is an end to which waiting bundles lead, and it is no less.
         ensures end { EndsFrom (state_of self.now) result }
     {
-        // Read for the proof alone: what the log keeps.
+        // The log is lawful, whatever the medium.
         let _place = self.log.place();
         self.log.durable()
     }
 
     /// The number up to which the home has all writes.
     pub fn reproduced(&self) -> u64
-        ensures { result ≡ (state_of self.now).log.reproduced }
+        ensures number { result ≡ (state_of self.now).log.reproduced }
+        ensures lawful { IsLawful (state_of self.now).log }
     {
+        // The log is lawful, whatever the medium.
+        let _place = self.log.place();
         self.log.reproduced()
     }
 

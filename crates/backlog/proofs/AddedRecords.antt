@@ -6,12 +6,11 @@ use Rattle.std.proofs.lemmas.Bool.{cases_eq, cases_lt}
 use Rattle.std.proofs.lemmas.List.{set-get_or}
 use Rattle.std.proofs.lemmas.List.Elements.{All-push, Contains-push, Contains-push_cases, Contains-append_left}
 use Rattle.dude_base.specs.declared.sizes.Sizes.{Sizes}
-use Rattle.dude_base.specs.Records.{RedoRecord}
+use Rattle.dude_base.specs.Records.{RedoBundle, Covers, HasNumbers, first_of}
 use Rattle.redo_record.specs.AppendLaw.{CanAppend}
 use Rattle.redo_record.specs.BackLaws.{CanPersist}
 use Rattle.redo_record.specs.Record.{cells_for}
-use Rattle.redo_record.specs.Tags.{IsNumber}
-use Rattle.redo_record.specs.Waiting.{Waiting, AddsWaiting, HaveDistinctNumbers}
+use Rattle.redo_record.specs.Waiting.{Waiting, AddsWaiting, AreDisjoint}
 use Rattle.redo_record.proofs.WaitingRecords.{consecutive_up, lead_more}
 use Rattle.log_ring.specs.Ring.{next_head}
 use Rattle.log_ring.specs.declared.ring_fault.RingFault.{RingFault}
@@ -21,7 +20,7 @@ use Rattle.backlog.specs.Backlog.{BacklogState, IsLawful, log_of, with_record_in
 use Rattle.backlog.proofs.TakenCells.{used_push}
 use Rattle.backlog.proofs.WaitingLanes.{waits_in, waits_on}
 
-module _ (lanes : List LaneState) (ring : ℕ) (r : RedoRecord) (inside : ring < length lanes) where
+module _ (lanes : List LaneState) (ring : ℕ) (r : RedoBundle) (inside : ring < length lanes) where
   abbrev new_lanes : List LaneState
   new_lanes = set lanes ring (with_redo r (lane_at lanes ring))
 
@@ -59,15 +58,15 @@ module _ (lanes : List LaneState) (ring : ℕ) (r : RedoRecord) (inside : ring <
   }
 
   -- numbers stay distinct
-  pub added_distinct : HaveDistinctNumbers (waiting_of lanes) → ((w : Waiting) → Contains (waiting_of lanes) w → w.redo.number ≡ r.number → ⊥) → HaveDistinctNumbers (waiting_of new_lanes)
-  added_distinct distinct new v w one other same =
+  pub added_distinct : AreDisjoint (waiting_of lanes) → ((w : Waiting) (number : ℕ) → Contains (waiting_of lanes) w → Covers w.redo number → Covers r number → ⊥) → AreDisjoint (waiting_of new_lanes)
+  added_distinct distinct new v w number one other covers too =
       ⊎_elim
-      (λ old_v. ⊎_elim (λ old_w. distinct v w old_v old_w same) (λ is_w. absurd (new v old_v (same ∙ ap (λ (u : Waiting). u.redo.number) is_w))) (added_waiting.only w other))
-      (λ is_v. ⊎_elim (λ old_w. absurd (new w old_w (sym same ∙ ap (λ (u : Waiting). u.redo.number) is_v))) (λ is_w. is_v ∙ sym is_w) (added_waiting.only w other))
+      (λ old_v. ⊎_elim (λ old_w. distinct v w number old_v old_w covers too) (λ is_w. absurd (new v number old_v covers (subst (λ (u : Waiting). Covers u.redo number) is_w too))) (added_waiting.only w other))
+      (λ is_v. ⊎_elim (λ old_w. absurd (new w number old_w too (subst (λ (u : Waiting). Covers u.redo number) is_v covers))) (λ is_w. is_v ∙ sym is_w) (added_waiting.only w other))
       (added_waiting.only v one)
 
-  module _ (s : Sizes) (are : AreLanes s lanes) (left : IsLaneFull (lane_at lanes ring) r → ⊥) (number : IsNumber r.number) (home : All (λ w. w.at < s.pages * 64) r.writes)
-      (new : (w : Waiting) → Contains (waiting_of lanes) w → w.redo.number ≡ r.number → ⊥) where
+  module _ (s : Sizes) (are : AreLanes s lanes) (left : IsLaneFull (lane_at lanes ring) r → ⊥) (number : HasNumbers r) (home : All (λ w. w.at < s.pages * 64) r.writes)
+      (new : (w : Waiting) (number : ℕ) → Contains (waiting_of lanes) w → Covers w.redo number → Covers r number → ⊥) where
     added_lane : IsLaneOf s ring (with_redo r (lane_at lanes ring))
     added_lane =
         let old : IsLaneOf s ring (lane_at lanes ring) = are.each ring no_lane inside in
@@ -75,8 +74,8 @@ module _ (lanes : List LaneState) (ring : ℕ) (r : RedoRecord) (inside : ring <
           sizes = old.sizes;
           ring_is = old.ring_is;
           used = (let u = used_push (lane_at lanes ring).waiting r in let cells : (lane_at lanes ring).ring.sizes.cells ≡ s.cells = ap (λ (t : Sizes). t.cells) old.sizes in elim (cases_lt (lane_at lanes ring).ring.sizes.cells (used_by (lane_at lanes ring).waiting + cells_for (length r.writes))) [ inl full ↦ absurd (left full) | inr le ↦ omega arith ]);
-          numbers = All-push (λ (q : RedoRecord). IsNumber q.number) (lane_at lanes ring).waiting r old.numbers number;
-          home = All-push (λ (q : RedoRecord). All (λ w. w.at < s.pages * 64) q.writes) (lane_at lanes ring).waiting r old.home home;
+          numbers = All-push HasNumbers (lane_at lanes ring).waiting r old.numbers number;
+          home = All-push (λ (q : RedoBundle). All (λ w. w.at < s.pages * 64) q.writes) (lane_at lanes ring).waiting r old.home home;
         }
 
     pub added_lanes : AreLanes s new_lanes
@@ -89,15 +88,15 @@ module _ (lanes : List LaneState) (ring : ℕ) (r : RedoRecord) (inside : ring <
       distinct = added_distinct are.distinct new;
     }
 
-  pub added_over : (least : ℕ) → All (λ u. All (λ q. least < q.number) u.waiting) lanes → least < r.number → All (λ u. All (λ q. least < q.number) u.waiting) new_lanes
+  pub added_over : (least : ℕ) → All (λ u. All (λ q. least < first_of q) u.waiting) lanes → least < first_of r → All (λ u. All (λ q. least < first_of q) u.waiting) new_lanes
   added_over least over up k d lt = elim (cases_eq k ring) [
-    | inl same ↦ rw (same, lane_new d) (All-push (λ (q : RedoRecord). least < q.number) (lane_at lanes ring).waiting r (over ring no_lane inside) up)
+    | inl same ↦ rw (same, lane_new d) (All-push (λ (q : RedoBundle). least < first_of q) (lane_at lanes ring).waiting r (over ring no_lane inside) up)
     | inr apart ↦ rw (lane_old k d apart) (over k d (omega (arith, long)))
   ]
 
 -- the backlog with the record is lawful
-pub added_lawful : (v : BacklogState) (ring : ℕ) (r : RedoRecord) → IsLawful v → ring < v.sizes.rings → (IsLaneFull (lane_at v.lanes ring) r → ⊥) → IsNumber r.number → All (λ w. w.at < v.sizes.pages * 64) r.writes
-    → ((w : Waiting) → Contains (waiting_of v.lanes) w → w.redo.number ≡ r.number → ⊥) → v.durable < r.number → IsLawful (with_record_in ring r v)
+pub added_lawful : (v : BacklogState) (ring : ℕ) (r : RedoBundle) → IsLawful v → ring < v.sizes.rings → (IsLaneFull (lane_at v.lanes ring) r → ⊥) → HasNumbers r → All (λ w. w.at < v.sizes.pages * 64) r.writes
+    → ((w : Waiting) (number : ℕ) → Contains (waiting_of v.lanes) w → Covers w.redo number → Covers r number → ⊥) → v.durable < first_of r → IsLawful (with_record_in ring r v)
 added_lawful v ring r lawful below left number home new over =
     let inside : ring < length v.lanes = let count = lawful.lanes.count in omega arith in
     let adds = added_waiting v.lanes ring r inside in
@@ -116,16 +115,16 @@ ok_not_full (Ok done) fault P ok full is = let bad = full.1 is in cc
 ok_not_full (Err other) fault P ok full is = cc
 
 -- the backlog is lawful with the lane that an append leaves
-pub lawful_after : (v : BacklogState) (ring : ℕ) (r : RedoRecord) (ok : Bool) (lane : LaneState) → IsLawful v → ring < v.sizes.rings → (ok ≡ true → IsLaneFull (lane_at v.lanes ring) r → ⊥) → IsNumber r.number
-    → All (λ w. w.at < v.sizes.pages * 64) r.writes → ((w : Waiting) → Contains (waiting_of v.lanes) w → w.redo.number ≡ r.number → ⊥) → v.durable < r.number
+pub lawful_after : (v : BacklogState) (ring : ℕ) (r : RedoBundle) (ok : Bool) (lane : LaneState) → IsLawful v → ring < v.sizes.rings → (ok ≡ true → IsLaneFull (lane_at v.lanes ring) r → ⊥) → HasNumbers r
+    → All (λ w. w.at < v.sizes.pages * 64) r.writes → ((w : Waiting) (number : ℕ) → Contains (waiting_of v.lanes) w → Covers w.redo number → Covers r number → ⊥) → v.durable < first_of r
     → lane ≡ (if ok then with_redo r (lane_at v.lanes ring) else lane_at v.lanes ring) → IsLawful (record v { lanes = set v.lanes ring lane })
 lawful_after v ring r true lane lawful below left number home new over is = rw is (added_lawful v ring r lawful below (left refl) number home new over)
 lawful_after v ring r false lane lawful below left number home new over is = rw (is, set-get_or v.lanes ring no_lane) lawful
 
 -- the record may be persisted where its lane isn't full
-pub can_persist : (v : BacklogState) (ring : ℕ) (r : RedoRecord) (home : List ℕ) → IsLawful v → ring < v.sizes.rings
+pub can_persist : (v : BacklogState) (ring : ℕ) (r : RedoBundle) (home : List ℕ) → IsLawful v → ring < v.sizes.rings
     → CanAppend (lane_at v.lanes ring).ring.sizes v.reproduced (lane_at v.lanes ring).ring.logged (next_head (lane_at v.lanes ring).ring) r
-    → All (λ l. l.number < r.number) (lane_at v.lanes ring).ring.logged → v.durable < r.number → ((w : Waiting) → Contains (waiting_of v.lanes) w → w.redo.number ≡ r.number → ⊥)
+    → All (λ l. l.last < first_of r) (lane_at v.lanes ring).ring.logged → v.durable < first_of r → ((w : Waiting) (number : ℕ) → Contains (waiting_of v.lanes) w → Covers w.redo number → Covers r number → ⊥)
     → CanPersist (log_of v home) (next_head (lane_at v.lanes ring).ring) r
 can_persist v ring r home lawful below can newest over new =
     let lane : LaneState = lane_at v.lanes ring in

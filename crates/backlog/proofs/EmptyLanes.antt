@@ -5,9 +5,8 @@ use Rattle.std.proofs.lemmas.List.Elements.{All-nil}
 use Rattle.std.proofs.lemmas.List.FromFn.{length-map-range_with_len, get_or-map-range_with_len}
 use Rattle.dude_base.specs.declared.limits.TheConstants.{MAX_NUMBER}
 use Rattle.dude_base.specs.declared.sizes.Sizes.{Sizes}
-use Rattle.dude_base.specs.Records.{RedoRecord}
+use Rattle.dude_base.specs.Records.{RedoBundle, HasNumbers, first_of}
 use Rattle.dude_base.specs.Sizes.{IsAccepted}
-use Rattle.redo_record.specs.Tags.{IsNumber}
 use Rattle.redo_record.specs.Waiting.{Waiting}
 use Rattle.redo_record.proofs.WaitingRecords.{waiting_law}
 use Rattle.backlog.specs.Lane.{LaneState, empty_lane}
@@ -15,7 +14,7 @@ use Rattle.backlog.specs.Lanes.{no_lane, waiting_of}
 use Rattle.backlog.specs.Backlog.{IsLawful}
 use Rattle.backlog.proofs.WaitingLanes.{waits_in}
 
-no_element : (r : RedoRecord) → Contains [] r → ⊥
+no_element : (r : RedoBundle) → Contains [] r → ⊥
 no_element r (k, lt, is) = absurd (omega arith)
 
 module _ (s : Sizes) where
@@ -43,12 +42,12 @@ module _ (s : Sizes) where
         sizes = refl;
         ring_is = refl;
         used = omega arith;
-        numbers = All-nil (λ (r : RedoRecord). IsNumber r.number);
-        home = All-nil (λ (r : RedoRecord). All (λ w. w.at < s.pages * 64) r.writes);
+        numbers = All-nil HasNumbers;
+        home = All-nil (λ (r : RedoBundle). All (λ w. w.at < s.pages * 64) r.writes);
       });
-      distinct = λ v w one other same. absurd (none_waiting v one);
+      distinct = λ v w number one other covers too. absurd (none_waiting v one);
     };
-    over = λ k d lt. rw (lane_empty k d (omega (arith, long))) (All-nil (λ (r : RedoRecord). number < r.number));
+    over = λ k d lt. rw (lane_empty k d (omega (arith, long))) (All-nil (λ (r : RedoBundle). number < first_of r));
     led = record { records = []; lead = waiting_law.here (waiting_of empty_lanes) number };
     small = small;
   }

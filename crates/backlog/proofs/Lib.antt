@@ -1,10 +1,13 @@
 pub mod AddedRecords
 pub mod EmptyLanes
 pub mod HomeWrites
+pub mod KeptLanes
 pub mod LaneRecords
+pub mod LaneWrites
 pub mod MappedLanes
 pub mod Merging
 pub mod PutLinesLemmas
 pub mod ReleasedRecords
+pub mod Stops
 pub mod TakenCells
 pub mod WaitingLanes

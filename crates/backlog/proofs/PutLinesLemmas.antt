@@ -1,36 +1,10 @@
 -- The puts and the lines of one write more.
-use Rattle.std.proofs.Common.{◌≡◌, ◌≢◌, ℕ, zero, suc, ◌+◌, ◌-◌, ◌/◌, ◌<◌, List, [], ◌∷◌, ◌++◌, length, map, take, get_or, sym, ap, ◌∙◌, subst, inl, inr, arith, eq-eqb, ne_eqb, not, ◌==◌}
+use Rattle.std.proofs.Common.{◌≡◌, ℕ, zero, suc, ◌+◌, ◌-◌, ◌/◌, ◌<◌, List, length, get_or, sym, ap, ◌∙◌, subst, inl, inr, arith, eq-eqb, ne_eqb, not, ◌==◌}
 use Rattle.std.specs.Prelude.{MatchBool}
 use Rattle.std.proofs.lemmas.Bool.{cases_eq}
-use Rattle.std.proofs.lemmas.List.{take_more, map_push, get_or_default}
-use Rattle.redo_record.specs.BackCalls.{without_repeats, lines_touched}
+use Rattle.std.proofs.lemmas.List.{get_or_default}
+use Rattle.redo_record.proofs.TouchedLines.{line_at, lines_first, lines_other, lines_same}
 use Rattle.backlog.specs.PutLines.{StartsLine, SharesLine}
-use Rattle.redo_record.proofs.HomeWrites.{repeats_same, repeats_other}
-
-abbrev pub line_at : List (ℕ × ℕ) → ℕ → ℕ × ℕ → ℕ
-line_at puts k d = (get_or puts k d).0 / 8
-
-more : (puts : List (ℕ × ℕ)) (k : ℕ) (d : ℕ × ℕ) → k < length puts → map (λ (w : ℕ × ℕ). w.0 / 8) (take (k + 1) puts) ≡ map (λ (w : ℕ × ℕ). w.0 / 8) (take k puts) ++ line_at puts k d ∷ []
-more puts k d lt = ap (map (λ (w : ℕ × ℕ). w.0 / 8)) (take_more puts k d lt) ∙ map_push (λ (w : ℕ × ℕ). w.0 / 8) (take k puts) (get_or puts k d)
-
-lines_first : (puts : List (ℕ × ℕ)) (d : ℕ × ℕ) → 0 < length puts → lines_touched (take 1 puts) ≡ line_at puts 0 d ∷ []
-lines_first puts d lt = ap without_repeats (more puts 0 d lt)
-
-lines_other : (puts : List (ℕ × ℕ)) (k : ℕ) (d : ℕ × ℕ) → k + 1 < length puts → line_at puts k d ≢ line_at puts (k + 1) d → lines_touched (take (k + 1 + 1) puts) ≡ lines_touched (take (k + 1) puts) ++ line_at puts (k + 1) d ∷ []
-lines_other puts k d lt apart =
-    let before : List ℕ = map (λ (w : ℕ × ℕ). w.0 / 8) (take k puts) in
-    let so_far = more puts k d (omega arith) in
-    ap without_repeats (more puts (k + 1) d lt ∙ ap (λ l. l ++ line_at puts (k + 1) d ∷ []) so_far)
-    ∙ repeats_other before (line_at puts k d) (line_at puts (k + 1) d) apart
-    ∙ ap (λ l. without_repeats l ++ line_at puts (k + 1) d ∷ []) (sym so_far)
-
-lines_same : (puts : List (ℕ × ℕ)) (k : ℕ) (d : ℕ × ℕ) → k + 1 < length puts → line_at puts k d ≡ line_at puts (k + 1) d → lines_touched (take (k + 1 + 1) puts) ≡ lines_touched (take (k + 1) puts)
-lines_same puts k d lt same =
-    let before : List ℕ = map (λ (w : ℕ × ℕ). w.0 / 8) (take k puts) in
-    let so_far = more puts k d (omega arith) in
-    ap without_repeats (more puts (k + 1) d lt ∙ ap (λ l. l ++ line_at puts (k + 1) d ∷ []) so_far ∙ ap (λ x. (before ++ line_at puts k d ∷ []) ++ x ∷ []) (sym same))
-    ∙ repeats_same before (line_at puts k d)
-    ∙ ap without_repeats (sym so_far)
 
 pub starts_first : (puts : List (ℕ × ℕ)) (k : ℕ) → k ≡ 0 → k < length puts → StartsLine puts k
 starts_first puts k first lt d = rw first (lines_first puts d (omega arith))

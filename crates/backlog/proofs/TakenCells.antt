@@ -1,9 +1,9 @@
 -- How many cells the records that are taken from lanes have.
-use Rattle.std.proofs.Common.{◌≡◌, ℕ, zero, suc, ◌+◌, ◌*◌, ◌<◌, ◌≤◌, List, [], ◌∷◌, ◌++◌, length, take, get_or, set, sum_by, refl, sym, ap, ◌∙◌, arith, get_or-set_same, get_or-set_other, suc-mul}
+use Rattle.std.proofs.Common.{◌≡◌, ℕ, zero, suc, ◌+◌, ◌*◌, ◌<◌, ◌≤◌, List, [], ◌∷◌, ◌++◌, length, take, get_or, set, refl, sym, ap, ◌∙◌, arith, get_or-set_same, get_or-set_other, suc-mul}
 use Rattle.std.specs.Prelude.{slice_index}
 use Rattle.std.proofs.lemmas.List.{take_more}
 use Rattle.std.proofs.lemmas.List.Sums.{sum_by-append, sum_by-take-le}
-use Rattle.dude_base.specs.Records.{RedoRecord}
+use Rattle.dude_base.specs.Records.{RedoBundle}
 use Rattle.redo_record.specs.Record.{cells_for}
 use Rattle.backlog.specs.Lane.{LaneState, used_by}
 
@@ -12,8 +12,8 @@ abbrev pub taken_cells : ℕ → List LaneState → List ℕ → ℕ
 taken_cells n [] fronts = 0
 taken_cells n (v ∷ vs) fronts = used_by (take (slice_index fronts n) v.waiting) + taken_cells (n + 1) vs fronts
 
-pub used_push : (rs : List RedoRecord) (r : RedoRecord) → used_by (rs ++ r ∷ []) ≡ used_by rs + cells_for (length r.writes)
-used_push rs r = sum_by-append (λ (r : RedoRecord). cells_for (length r.writes)) rs (r ∷ []) ∙ omega arith
+pub used_push : (rs : List RedoBundle) (r : RedoBundle) → used_by (rs ++ r ∷ []) ≡ used_by rs + cells_for (length r.writes)
+used_push rs r = sum_by-append (λ (r : RedoBundle). cells_for (length r.writes)) rs (r ∷ []) ∙ omega arith
 
 -- another lane's front
 taken_other : (n : ℕ) (lanes : List LaneState) (fronts : List ℕ) (k x : ℕ) → k < n → taken_cells n lanes (set fronts k x) ≡ taken_cells n lanes fronts
@@ -24,7 +24,7 @@ taken_other n (v ∷ vs) fronts k x lt =
     ap (λ t. used_by (take t v.waiting) + taken_cells (n + 1) vs (set fronts k x)) here ∙ ap (λ c. used_by (take (slice_index fronts n) v.waiting) + c) rest
 
 -- one record more is taken from a lane
-pub taken_next : (n : ℕ) (lanes : List LaneState) (fronts : List ℕ) (m k : ℕ) (d : LaneState) (r : RedoRecord) → m ≡ n + k → k < length lanes → m < length fronts
+pub taken_next : (n : ℕ) (lanes : List LaneState) (fronts : List ℕ) (m k : ℕ) (d : LaneState) (r : RedoBundle) → m ≡ n + k → k < length lanes → m < length fronts
     → slice_index fronts m < length (get_or lanes k d).waiting → get_or (get_or lanes k d).waiting (slice_index fronts m) r ≡ r
     → taken_cells n lanes (set fronts m (slice_index fronts m + 1)) ≡ taken_cells n lanes fronts + cells_for (length r.writes)
 taken_next n [] fronts m k d r same lt long within is = absurd (omega arith)
@@ -51,16 +51,7 @@ pub taken_few : (n : ℕ) (lanes : List LaneState) (fronts : List ℕ) (cells : 
 taken_few n [] fronts cells few = omega arith
 taken_few n (v ∷ vs) fronts cells few =
     let rest = taken_few (n + 1) vs fronts cells (λ k d lt. few (suc k) d (omega arith)) in
-    let here = sum_by-take-le (λ (r : RedoRecord). cells_for (length r.writes)) v.waiting (slice_index fronts n) in
+    let here = sum_by-take-le (λ (r : RedoBundle). cells_for (length r.writes)) v.waiting (slice_index fronts n) in
     let whole : used_by v.waiting ≤ cells = few 0 v (omega arith) in
     let product : length (v ∷ vs) * cells ≡ length vs * cells + cells = suc-mul (length vs) cells in
-    omega arith
-
--- three writes take a cell
-pub writes_few : (rs : List RedoRecord) → sum_by (λ (r : RedoRecord). length r.writes) rs ≤ 3 * used_by rs
-writes_few [] = omega arith
-writes_few (r ∷ rs) =
-    let rest = writes_few rs in
-    let cells = sum_by-append (λ (r : RedoRecord). cells_for (length r.writes)) (r ∷ []) rs in
-    let writes = sum_by-append (λ (r : RedoRecord). length r.writes) (r ∷ []) rs in
     omega arith

@@ -4,17 +4,17 @@ use Rattle.std.specs.List.{Contains}
 use Rattle.std.proofs.lemmas.Bool.{cases_lt}
 use Rattle.std.proofs.lemmas.List.{get_or-map, get_or_past, length-map}
 use Rattle.std.proofs.lemmas.List.Elements.{Contains-append_left, Contains-append_right, Contains-append_cases, All-contains}
-use Rattle.dude_base.specs.Records.{RedoRecord}
+use Rattle.dude_base.specs.Records.{RedoBundle, first_of}
 use Rattle.redo_record.specs.Waiting.{Waiting, Waits}
 use Rattle.backlog.specs.Lane.{LaneState}
 use Rattle.backlog.specs.Lanes.{lane_at, no_lane, waiting_in, waiting_from, waiting_of}
 use Rattle.backlog.specs.Fronts.{NoneHas}
 
-contains_map : (ring : ℕ) (rs : List RedoRecord) (r : RedoRecord) → Contains rs r → Contains (map (waiting_in ring) rs) (waiting_in ring r)
+contains_map : (ring : ℕ) (rs : List RedoBundle) (r : RedoBundle) → Contains rs r → Contains (map (waiting_in ring) rs) (waiting_in ring r)
 contains_map ring rs r (k, lt, is) = (k, omega (arith, length-map rs (waiting_in ring)), get_or-map (waiting_in ring) rs k r (waiting_in ring r) lt ∙ ap (waiting_in ring) is)
 
 -- a record of a lane waits
-pub in_lane : (ring : ℕ) (lanes : List LaneState) (k : ℕ) (d : LaneState) (r : RedoRecord) → k < length lanes → Contains (get_or lanes k d).waiting r → Contains (waiting_from ring lanes) (waiting_in (ring + k) r)
+pub in_lane : (ring : ℕ) (lanes : List LaneState) (k : ℕ) (d : LaneState) (r : RedoBundle) → k < length lanes → Contains (get_or lanes k d).waiting r → Contains (waiting_from ring lanes) (waiting_in (ring + k) r)
 in_lane ring [] k d r lt among = absurd (omega arith)
 in_lane ring (v ∷ vs) zero d r lt among =
     subst (λ n. Contains (waiting_from ring (v ∷ vs)) (waiting_in n r)) (omega arith)
@@ -30,7 +30,7 @@ pub record WaitsIn (ring : ℕ) (lanes : List LaneState) (w : Waiting) : Type 0 
   pub ring_is : w.ring ≡ ring + lane
   pub among : (d : LaneState) → Contains (get_or lanes lane d).waiting w.redo
 
-from_map : (ring : ℕ) (rs : List RedoRecord) (w : Waiting) → Contains (map (waiting_in ring) rs) w → (w.ring ≡ ring) × Contains rs w.redo
+from_map : (ring : ℕ) (rs : List RedoBundle) (w : Waiting) → Contains (map (waiting_in ring) rs) w → (w.ring ≡ ring) × Contains rs w.redo
 from_map ring rs w (k, lt, is) =
     let within : k < length rs = omega (arith, length-map rs (waiting_in ring)) in
     let at : w ≡ waiting_in ring (get_or rs k w.redo) = sym is ∙ get_or-map (waiting_in ring) rs k w.redo w within in
@@ -46,25 +46,25 @@ waits_in ring (v ∷ vs) w among = ⊎_elim
     (Contains-append_cases (map (waiting_in ring) v.waiting) (waiting_from (ring + 1) vs) w among)
 
 -- a record of a lane is one of those that wait
-pub waits_at : (lanes : List LaneState) (k : ℕ) (d : LaneState) (r : RedoRecord) → k < length lanes → Contains (get_or lanes k d).waiting r → Waits (waiting_of lanes) r
+pub waits_at : (lanes : List LaneState) (k : ℕ) (d : LaneState) (r : RedoBundle) → k < length lanes → Contains (get_or lanes k d).waiting r → Waits (waiting_of lanes) r
 waits_at lanes k d r lt among = record { ring = 0 + k; is_one = in_lane 0 lanes k d r lt among }
 
 -- where no lane has a record of this number none waits
-pub none_waits : (lanes : List LaneState) (number : ℕ) → NoneHas lanes number → (w : Waiting) → Contains (waiting_of lanes) w → w.redo.number ≡ number → ⊥
+pub none_waits : (lanes : List LaneState) (number : ℕ) → NoneHas lanes number → (w : Waiting) → Contains (waiting_of lanes) w → first_of w.redo ≡ number → ⊥
 none_waits lanes number none w among =
     let at = waits_in 0 lanes w among in
-    All-contains (λ (r : RedoRecord). r.number ≡ number → ⊥) (get_or lanes at.lane no_lane).waiting w.redo (none at.lane no_lane at.within) (at.among no_lane)
+    All-contains (λ (r : RedoBundle). first_of r ≡ number → ⊥) (get_or lanes at.lane no_lane).waiting w.redo (none at.lane no_lane at.within) (at.among no_lane)
 
 -- a record of the lane of its ring waits
 pub waits_on : (lanes : List LaneState) (w : Waiting) (k : ℕ) (d : LaneState) → k < length lanes → w.ring ≡ 0 + k → Contains (get_or lanes k d).waiting w.redo → Contains (waiting_of lanes) w
 waits_on lanes w k d lt ring_is among = subst (λ n. Contains (waiting_of lanes) (waiting_in n w.redo)) (sym ring_is) (in_lane 0 lanes k d w.redo lt among)
 
 -- a record of a ring waits
-pub waits_of_ring : (lanes : List LaneState) (ring : ℕ) (r : RedoRecord) → Contains (lane_at lanes ring).waiting r → Contains (waiting_of lanes) (waiting_in ring r)
+pub waits_of_ring : (lanes : List LaneState) (ring : ℕ) (r : RedoBundle) → Contains (lane_at lanes ring).waiting r → Contains (waiting_of lanes) (waiting_in ring r)
 waits_of_ring lanes ring r among = elim (cases_lt ring (length lanes)) [
   | inl lt ↦ waits_on lanes (waiting_in ring r) ring no_lane lt (omega arith) among
   | inr past ↦ absurd (no_element r (subst (λ (v : LaneState). Contains v.waiting r) (get_or_past lanes ring no_lane past) among))
 ]
   where
-    no_element : (r : RedoRecord) → Contains [] r → ⊥
+    no_element : (r : RedoBundle) → Contains [] r → ⊥
     no_element r (k, lt, is) = absurd (omega arith)

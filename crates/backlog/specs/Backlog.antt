@@ -1,12 +1,12 @@
 -- What contracts see of a backlog, and the log and its home that it stands for.
-use Rattle.std.specs.Prelude.{ℕ, ◌<◌, ◌≤◌, Bool, List, All, map, slice_set}
-use Rattle.dude_base.specs.declared.limits.TheConstants.{MAX_NUMBER, VERSION}
+use Rattle.std.specs.Prelude.{◌≡◌, ◌⊎◌, ℕ, ◌+◌, ◌<◌, ◌≤◌, Bool, List, All, map, slice_set}
+use Rattle.dude_base.specs.declared.limits.TheConstants.{MAX_NUMBER}
 use Rattle.dude_base.specs.declared.sizes.Sizes.{Sizes}
 use Rattle.dude_base.specs.declared.write.Write.{Write}
 use Rattle.dude_base.specs.Sizes.{IsAccepted}
-use Rattle.dude_base.specs.Records.{RedoRecord}
+use Rattle.dude_base.specs.Records.{RedoBundle, first_of}
 use Rattle.pmem_trait.specs.Sights.{Sight, CallsMade}
-use Rattle.redo_record.specs.Waiting.{Lead}
+use Rattle.redo_record.specs.Waiting.{Lead, IsEnd}
 use Rattle.redo_record.specs.LogState.{LogState}
 use Rattle.redo_record.specs.BackCalls.{reproduce_calls}
 use Rattle.backlog.specs.Lane.{LaneState, with_redo, released_lane}
@@ -26,16 +26,16 @@ pub record BacklogState : Type 0 where
 pub record IsLawful (v : BacklogState) : Type 0 where
   pub accepted : IsAccepted v.sizes
   pub lanes : AreLanes v.sizes v.lanes
-  pub over : All (λ u. All (λ r. v.reproduced < r.number) u.waiting) v.lanes
+  pub over : All (λ u. All (λ r. v.reproduced < first_of r) u.waiting) v.lanes
   pub led : AreLed v.lanes v.reproduced v.durable
   pub small : v.durable ≤ MAX_NUMBER
 
 -- the log, with this home
 abbrev pub log_of : BacklogState → List ℕ → LogState
-log_of v home = record { version = VERSION; sizes = v.sizes; reproduced = v.reproduced; home = home; rings = rings_of v.lanes; waiting = waiting_of v.lanes }
+log_of v home = record { sizes = v.sizes; reproduced = v.reproduced; home = home; rings = rings_of v.lanes; waiting = waiting_of v.lanes }
 
 -- the backlog with this record behind those of its ring
-abbrev pub with_record_in : ℕ → RedoRecord → BacklogState → BacklogState
+abbrev pub with_record_in : ℕ → RedoBundle → BacklogState → BacklogState
 with_record_in ring r v = record v { lanes = slice_set v.lanes ring (with_redo r (lane_at v.lanes ring)) }
 
 -- the backlog, where all up to this number is announced
@@ -49,8 +49,27 @@ without_records_to number v = record v { lanes = map (released_lane number) v.la
 -- The records up to this number are reproduced: the writes that stand for them are put, and then the mark; or, where ok is
 -- false, a prefix of these calls was made, whose last one failed.
 pub record Reproduces (v : BacklogState) (to : ℕ) (ok : Bool) (s t : Sight) : Type 0 where
-  pub records : List RedoRecord
+  pub records : List RedoBundle
   pub writes : List Write
   pub lead : Lead (waiting_of v.lanes) v.reproduced records to
   pub stand : StandFor v.sizes records writes
   pub made : CallsMade (reproduce_calls v.sizes writes to) ok s t
+
+-- the greatest end up to the durable number and up to so many numbers on
+pub record IsLastEnd (v : BacklogState) (most number : ℕ) : Type 0 where
+  pub end : IsEnd (waiting_of v.lanes) v.reproduced number
+  pub announced : number ≤ v.durable
+  pub near : number ≤ v.reproduced + most
+  pub last : (n : ℕ) → IsEnd (waiting_of v.lanes) v.reproduced n → n ≤ v.durable → n ≤ v.reproduced + most → n ≤ number
+
+-- the least end over the reproduced number
+pub record IsNextEnd (v : BacklogState) (number : ℕ) : Type 0 where
+  pub end : IsEnd (waiting_of v.lanes) v.reproduced number
+  pub over : v.reproduced < number
+  pub least : (n : ℕ) → IsEnd (waiting_of v.lanes) v.reproduced n → v.reproduced < n → number ≤ n
+
+-- Where a reproduction of at most so many numbers stops: behind one bundle at least, where there is one to do.
+abbrev pub StopsAfter : BacklogState → ℕ → ℕ → Type 0
+StopsAfter v most number =
+    (IsLastEnd v most number × ((v.reproduced < number) ⊎ (v.durable ≡ v.reproduced) ⊎ (most ≡ 0)))
+    ⊎ ((1 ≤ most) × (v.reproduced < v.durable) × IsLastEnd v most v.reproduced × IsNextEnd v number)

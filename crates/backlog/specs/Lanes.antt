@@ -2,14 +2,13 @@
 use Rattle.std.specs.Prelude.{◌≡◌, ℕ, ◌+◌, ◌*◌, ◌<◌, ◌≤◌, List, [], ◌∷◌, ◌++◌, All, length, map, slice_index_or}
 use Rattle.dude_base.specs.declared.limits.TheConstants.{PAGE}
 use Rattle.dude_base.specs.declared.sizes.Sizes.{Sizes}
-use Rattle.dude_base.specs.Records.{RedoRecord}
-use Rattle.redo_record.specs.Tags.{IsNumber}
-use Rattle.redo_record.specs.Waiting.{Waiting, Lead, HaveDistinctNumbers}
+use Rattle.dude_base.specs.Records.{RedoBundle, HasNumbers}
+use Rattle.redo_record.specs.Waiting.{Waiting, Lead, AreDisjoint}
 use Rattle.redo_record.specs.LogState.{RingRecords}
 use Rattle.backlog.specs.Lane.{LaneState, empty_lane, used_by}
 
 -- a record that waits in this ring
-abbrev pub waiting_in : ℕ → RedoRecord → Waiting
+abbrev pub waiting_in : ℕ → RedoBundle → Waiting
 waiting_in ring r = record { ring = ring; redo = r }
 
 -- the records that wait in these lanes, the first of which has this number
@@ -38,16 +37,16 @@ pub record IsLaneOf (s : Sizes) (ring : ℕ) (v : LaneState) : Type 0 where
   pub sizes : v.ring.sizes ≡ s
   pub ring_is : v.ring.ring ≡ ring
   pub used : used_by v.waiting ≤ s.cells
-  pub numbers : All (λ r. IsNumber r.number) v.waiting
+  pub numbers : All HasNumbers v.waiting
   pub home : All (λ r. All (λ w. w.at < s.pages * PAGE) r.writes) v.waiting
 
--- There is a lane for each ring, and no two waiting records have one number.
+-- There is a lane for each ring, and no two waiting bundles cover one number.
 pub record AreLanes (s : Sizes) (lanes : List LaneState) : Type 0 where
   pub count : length lanes ≡ s.rings
   pub each : (k : ℕ) (d : LaneState) → k < length lanes → IsLaneOf s k (slice_index_or lanes k d)
-  pub distinct : HaveDistinctNumbers (waiting_of lanes)
+  pub distinct : AreDisjoint (waiting_of lanes)
 
 -- Waiting records lead from one number to another.
 pub record AreLed (lanes : List LaneState) (from to : ℕ) : Type 0 where
-  pub records : List RedoRecord
+  pub records : List RedoBundle
   pub lead : Lead (waiting_of lanes) from records to

@@ -1,4 +1,5 @@
 pub mod Backlog
+pub mod Entries
 pub mod Fronts
 pub mod HomeGroup
 pub mod KeptBacklog

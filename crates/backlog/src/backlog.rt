@@ -4,7 +4,7 @@ ghost use Rattle.dude_base.specs.declared.limits.TheConstants.{MAX_NUMBER, PAGE}
 ghost use Rattle.dude_base.specs.Sizes.{IsAccepted};
 ghost use Rattle.dude_base.specs.Image.{image_words};
 ghost use Rattle.pmem_trait.specs.Sights.{Risen};
-ghost use Rattle.redo_record.specs.Tags.{IsNumber};
+ghost use Rattle.dude_base.specs.Records.{Covers, HasNumbers, first_of};
 ghost use Rattle.redo_record.specs.Calls.{append_calls};
 ghost use Rattle.redo_record.specs.Waiting.{Waiting, IsContiguousEnd};
 ghost use Rattle.redo_record.specs.BackLaws.{CanPersist};
@@ -12,14 +12,14 @@ ghost use Rattle.log_ring.specs.Ring.{next_head};
 ghost use Rattle.log_ring.specs.Appends.{AppendCalls};
 ghost use Rattle.log_ring.specs.declared.ring_fault.RingFault.TheVariants.{Device};
 ghost use Rattle.backlog.specs.Lane.{IsLaneFull, empty_lane, full_lane, released_lane};
-ghost use Rattle.backlog.specs.Lanes.{lane_at, waiting_of};
-ghost use Rattle.backlog.specs.Backlog.{IsLawful, Reproduces, announced_to, log_of, with_record_in, without_records_to};
+ghost use Rattle.backlog.specs.Lanes.{AreLed, lane_at, waiting_of};
+ghost use Rattle.backlog.specs.Backlog.{IsLawful, Reproduces, StopsAfter, announced_to, log_of, with_record_in, without_records_to};
 
 use crate::home_group::HomeGroup;
 use crate::lane::Lane;
-use crate::merge::contiguous_end;
+use crate::merge::{contiguous_end, last_end, next_end};
+use dude_base::bundle::Bundle;
 use dude_base::place::Place;
-use dude_base::redo::Redo;
 use log_ring::RingFault;
 use pmem_trait::{Failed, Medium};
 use std::alloc::{AllocError, Global};
@@ -110,12 +110,12 @@ impl Backlog {
     /// Appends a record to a ring, to wait behind those that wait there.
     ///
     /// After `Device` the backlog is as before, and the medium may hold the record's head: append nothing more.
-    pub fn append<M: Medium>(&mut self, m: &mut M, ring: u64, r: &Redo) -> Result<(), RingFault>
+    pub fn append<M: Medium>(&mut self, m: &mut M, ring: u64, r: &Bundle) -> Result<(), RingFault>
         requires ring { ring < self.old.sizes.rings }
-        requires number { IsNumber r.now.number }
-        requires newest { All (λ q. q.number < r.now.number) (lane_at self.old.lanes ring).waiting }
-        requires new { (w : Waiting) → Contains (waiting_of self.old.lanes) w → w.redo.number ≢ r.now.number }
-        requires over { self.old.durable < r.now.number }
+        requires numbers { HasNumbers r.now }
+        requires newest { All (λ q. q.last < first_of r.now) (lane_at self.old.lanes ring).waiting }
+        requires new { (w : Waiting) (number : ℕ) → Contains (waiting_of self.old.lanes) w → Covers w.redo number → Covers r.now number → ⊥ }
+        requires over { self.old.durable < first_of r.now }
         requires home { All (λ w. w.at < self.old.sizes.pages * PAGE) r.now.writes }
         requires room { image_words self.old.sizes ≤ (M.sight m.old).len }
         ensures len { (M.sight m.new).len ≡ (M.sight m.old).len }
@@ -149,18 +149,25 @@ impl Backlog {
         self.durable = end;
     }
 
-    /// The number up to which the next at most `most` durable records lead.
+    /// The end at which a reproduction of at most `most` durable numbers stops: behind one bundle at least, where there
+    /// is one to do.
     pub fn next_stop(&self, most: u64) -> u64
-        ensures stop { result ≡ min self.now.durable (self.now.reproduced + most) }
-        ensures from { self.now.reproduced ≤ result }
+        ensures stop { StopsAfter self.now most result }
+        ensures led { AreLed self.now.lanes self.now.reproduced result }
+        ensures upto { result ≤ self.now.durable }
     {
-        self.durable.min(self.reproduced.saturating_add(most))
+        let near = self.durable.min(self.reproduced.saturating_add(most));
+        let stop = last_end(&self.place, &self.lanes, self.reproduced, near);
+        if stop == self.reproduced && most > 0 && self.durable > stop {
+            return next_end(&self.place, &self.lanes, stop, self.durable);
+        }
+        stop
     }
 
     /// Reproduces the records up to a durable number: puts their words into the home, then the mark, and frees their
     /// cells. After an `Err` they still wait.
     pub fn reproduce<M: Medium>(&mut self, m: &mut M, to: u64) -> Result<(), Failed>
-        requires from { self.old.reproduced ≤ to }
+        requires led { AreLed self.old.lanes self.old.reproduced to }
         requires to { to ≤ self.old.durable }
         requires room { image_words self.old.sizes ≤ (M.sight m.old).len }
         ensures len { (M.sight m.new).len ≡ (M.sight m.old).len }

@@ -23,7 +23,7 @@ pub fn fronts_at(lanes: &[Lane], number: u64) -> Fronts
     fronts
 }
 
-/// The lane whose next record has the number behind this one.
+/// The lane whose next record begins with the number behind this one.
 pub fn next_lane(lanes: &[Lane], fronts: &Fronts, number: u64) -> Option<usize>
     requires few { length lanes.now ≤ MAX_RINGS }
     requires fronts { AreFronts lanes.now fronts.now number }

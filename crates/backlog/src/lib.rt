@@ -3,10 +3,12 @@
 #![tactic(auto)]
 
 mod backlog;
+mod entry;
 mod fronts;
 mod home_group;
 mod home_puts;
 mod lane;
+mod lane_writes;
 mod merge;
 
 pub use backlog::Backlog;

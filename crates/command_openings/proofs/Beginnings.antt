@@ -2,7 +2,6 @@
 use Rattle.std.proofs.Common.{◌≡◌, ℕ, Bool, true, false, IsTrue, List, [], ◌∷◌, ◌++◌, length, refl, sym, ap, ◌∙◌, subst, inl, inr, arith, Err}
 use Rattle.dude_base.specs.declared.sizes.Sizes.{Sizes}
 use Rattle.dude_base.specs.Sizes.{IsAccepted}
-use Rattle.dude_base.specs.declared.limits.TheConstants.{VERSION}
 use Rattle.pmem_trait.specs.Sights.{Sight, state_now, AtEveryMoment, Extends, Risen, SomeCalls}
 use Rattle.pmem_trait.specs.Reads.{ContentHas}
 use Rattle.pmem_trait.proofs.Laws.{every_moment_then, every_moment_weaker}
@@ -75,8 +74,8 @@ on_content sizes number words opening s numbers same stands recovered visible co
 
 -- why an image couldn't be opened
 pub open_fault : (fault : OpenFault) (s t : Sight) → LeftBy fault s t
-    → (fault ≡ opening.Unformatted → ContentHas (λ content. ¬ IsFormatted VERSION content) s)
-    → ((line : ℕ) → fault ≡ opening.Damaged line → ContentHas (λ content. IsFormatted VERSION content × IsDamaged content line) s)
+    → (fault ≡ opening.Unformatted → ContentHas (λ content. ¬ IsFormatted content) s)
+    → ((line : ℕ) → fault ≡ opening.Damaged line → ContentHas (λ content. IsFormatted content × IsDamaged content line) s)
     → ((word : ℕ) → fault ≡ opening.NotDb word → ContentHas (IsNoDatabase word) s)
     → (fault ≡ opening.Device → Risen s.faults t.faults) → HasOpenFault s t (fault_of_opening fault)
 open_fault opening.Unformatted s t left unformatted damaged not_db device = (unformatted refl, left)

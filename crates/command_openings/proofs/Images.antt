@@ -12,7 +12,7 @@ use Rattle.tatp_layout.specs.Layout.{call_table}
 use Rattle.tatp_layout.specs.StandsFor.{StandsFor}
 use Rattle.hash_table.specs.Table.{records_in}
 use Rattle.record_heap.specs.Pool.{records_of}
-use Rattle.redo_record.specs.Waiting.{IsArrayAt}
+use Rattle.redo_record.specs.Waiting.{AreDisjoint, IsArrayAt}
 use Rattle.redo_record.specs.LogState.{RecoversAmong}
 use Rattle.redo_record.proofs.WaitingRecords.{waiting_law}
 use Rattle.backlog.specs.Backlog.{log_of}
@@ -70,6 +70,10 @@ pub made_shows : (sizes : Sizes) (before told image : List ℕ) → RecoversOnce
 made_shows sizes before told image (inl same) = inl (refl, ap (drop (length before)) same ∙ drop-length before)
 made_shows sizes before told image (inr shown) = inr (one_behind before told 0 shown.0, shown.1)
 
+-- where nothing waits, no two bundles cover one number
+idle_disjoint : (s : Sizes) (number : ℕ) → AreDisjoint (waiting_now (idle s number))
+idle_disjoint s number v w covered among other low high = absurd (none_waiting s v among)
+
 -- the end of a back where nothing waits is its number
 pub idle_end : (s : Sizes) (number : ℕ) → IsEnd (idle s number) number
 idle_end s number = record {
@@ -79,12 +83,12 @@ idle_end s number = record {
 }
 
 pub idle_ends : (s : Sizes) (number end : ℕ) → IsEnd (idle s number) end → end ≡ number
-idle_ends s number end is = waiting_law.one_end (waiting_now (idle s number)) number end number is (idle_end s number)
+idle_ends s number end is = waiting_law.one_end (waiting_now (idle s number)) number end number (idle_disjoint s number) is (idle_end s number)
 
 -- the array of such a back is its home
 idle_array : (s : Sizes) (number : ℕ) (home array : List ℕ) → IsArrayAt (waiting_now (idle s number)) number home number array → array ≡ home
 idle_array s number home array is =
-    waiting_law.one_array (waiting_now (idle s number)) number number home array home (λ v w among other same. absurd (none_waiting s v among)) is
+    waiting_law.one_array (waiting_now (idle s number)) number number home array home (idle_disjoint s number) is
     (waiting_law.at_home (waiting_now (idle s number)) number home)
 
 -- while such a back announces

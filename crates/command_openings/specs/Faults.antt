@@ -1,6 +1,5 @@
 -- Why no image was begun, and what is left of the medium then.
 use Rattle.std.specs.Prelude.{◌≡◌, ◌<◌, ◌≤◌, ⊤, true, false}
-use Rattle.dude_base.specs.declared.limits.TheConstants.{VERSION}
 use Rattle.dude_base.specs.declared.sizes.Sizes.{Sizes}
 use Rattle.dude_base.specs.Image.{image_words}
 use Rattle.pmem_trait.specs.Sights.{Sight, Risen, SomeCalls}
@@ -29,8 +28,8 @@ HasFormatFault sizes s t _ = ⊥
 -- Why the image isn't open: its content says why, and the medium was only read; or the last call failed, or there was no
 -- memory.
 abbrev pub HasOpenFault : Sight → Sight → Fault → Type 0
-HasOpenFault s t Unformatted = ContentHas (λ content. ¬ IsFormatted VERSION content) s × OnlyReads true s t
-HasOpenFault s t (Damaged line) = ContentHas (λ content. IsFormatted VERSION content × IsDamaged content line) s × OnlyReads true s t
+HasOpenFault s t Unformatted = ContentHas (λ content. ¬ IsFormatted content) s × OnlyReads true s t
+HasOpenFault s t (Damaged line) = ContentHas (λ content. IsFormatted content × IsDamaged content line) s × OnlyReads true s t
 HasOpenFault s t (NotDb word) = ContentHas (IsNoDatabase word) s × OnlyReads true s t
 HasOpenFault s t Device = Risen s.faults t.faults × SomeCalls false s t
 HasOpenFault s t Memory = SomeCalls true s t

@@ -70,7 +70,7 @@ fault-walk a s b c d n na nb nd =
 -- each number passes its parser
 abbrev drive_passes : Text → Text → Text → Bool
 drive_passes s c n =
-    accepts false (vp.Unsigned 0 (2 ^ 64 - 1)) s && accepts false (vp.Unsigned 0 99_999) c && accepts false (vp.Unsigned 1 8) n
+    accepts false (vp.Unsigned 0 (2 ^ 64 - 1)) s && accepts false (vp.Unsigned 0 99_999) c && accepts false (vp.Unsigned 1 16) n
 
 -- it fails only where a number doesn't pass
 fault_of-drive : (name : Text) (a : ℕ) (s : Text) (b : ℕ) (c : Text) (d : ℕ) (n : Text)
@@ -83,7 +83,7 @@ fault_of-drive name a s b c d n na nb nd =
       | inr bad ↦ rw bad refl
       | inl one ↦ elim (cases_Bool (accepts false (vp.Unsigned 0 99_999) (b ∷ c))) [
         | inr bad ↦ rw (one, bad) refl
-        | inl two ↦ elim (cases_Bool (accepts false (vp.Unsigned 1 8) (d ∷ n))) [
+        | inl two ↦ elim (cases_Bool (accepts false (vp.Unsigned 1 16) (d ∷ n))) [
           | inr bad ↦ rw (one, two, bad) refl
           | inl three ↦ rw (one, two, three) refl
         ]
@@ -111,8 +111,8 @@ all-pass true true false s c n = none-last s c
 drive_of-parsed : (s c n : Text) → is_number s ≡ true → is_number c ≡ true → is_number n ≡ true
     → drive_of (s ∷ c ∷ n ∷ []) ≡ (if drive_passes s c n then drive_in (drive_rows s c n) else None)
 drive_of-parsed s c n one two three =
-    rw (word_number-parsed 0 (2 ^ 64 - 1) s (omega arith) one, word_number-parsed 0 99_999 c (omega arith) two, word_number-parsed 1 8 n (omega arith) three)
-    (all-pass (accepts false (vp.Unsigned 0 (2 ^ 64 - 1)) s) (accepts false (vp.Unsigned 0 99_999) c) (accepts false (vp.Unsigned 1 8) n)
+    rw (word_number-parsed 0 (2 ^ 64 - 1) s (omega arith) one, word_number-parsed 0 99_999 c (omega arith) two, word_number-parsed 1 16 n (omega arith) three)
+    (all-pass (accepts false (vp.Unsigned 0 (2 ^ 64 - 1)) s) (accepts false (vp.Unsigned 0 99_999) c) (accepts false (vp.Unsigned 1 16) n)
     (parsed_number s) (parsed_number c) (parsed_number n))
 
 three-numbers : (name : Text) (a : ℕ) (s : Text) (b : ℕ) (c : Text) (d : ℕ) (n : Text)

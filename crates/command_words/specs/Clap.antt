@@ -45,7 +45,7 @@ format_app =
     with_rule (with_rule (with_rule (with_rule (new_app (codes "format"))
     (number_rule (codes "subscribers") 1 10_000))
     (number_rule (codes "calls") 1 120_000))
-    (number_rule (codes "rings") 1 8))
+    (number_rule (codes "rings") 1 16))
     (number_rule (codes "cells") 16 4_096)
 
 -- `run`: an option for the frames, one for the locks, and one or more files
@@ -59,7 +59,7 @@ drive_app =
     with_rule (with_rule (with_rule (new_app (codes "drive"))
     (number_rule (codes "seed") 0 (2 ^ 64 - 1)))
     (number_rule (codes "count") 0 99_999))
-    (number_rule (codes "files") 1 8)
+    (number_rule (codes "files") 1 16)
 
 -- ---- the form of the words that `clap` is given: the program's name, then these
 

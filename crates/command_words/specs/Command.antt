@@ -55,7 +55,7 @@ format_with _ _ _ _ = None
 -- `format S C N CELLS`
 abbrev pub format_of : List (List ℕ) → Option Meaning
 format_of (subscribers ∷ calls ∷ rings ∷ cells ∷ []) =
-    format_with (word_number 1 10_000 subscribers) (word_number 1 120_000 calls) (word_number 1 8 rings) (word_number 16 4_096 cells)
+    format_with (word_number 1 10_000 subscribers) (word_number 1 120_000 calls) (word_number 1 16 rings) (word_number 16 4_096 cells)
 format_of _ = None
 
 -- what `run` is given: the words of its options' numbers, where they stand, and its files
@@ -117,7 +117,7 @@ drive_with _ _ _ = None
 -- `drive SEED COUNT FILES`
 abbrev pub drive_of : List (List ℕ) → Option Meaning
 drive_of (seed ∷ count ∷ files ∷ []) =
-    drive_with (word_number 0 (2 ^ 64 - 1) seed) (word_number 0 99_999 count) (word_number 1 8 files)
+    drive_with (word_number 0 (2 ^ 64 - 1) seed) (word_number 0 99_999 count) (word_number 1 16 files)
 drive_of _ = None
 
 -- ---- all commands
@@ -151,9 +151,9 @@ IsBetween least greatest number = (least ≤ number) × (number ≤ greatest)
 abbrev pub IsInLimits : Command → Type 0
 IsInLimits (Fresh subscribers file) = IsBetween 1 10_000 subscribers
 IsInLimits (Format subscribers calls rings cells) =
-    IsBetween 1 10_000 subscribers × IsBetween 1 120_000 calls × IsBetween 1 8 rings × IsBetween 16 4_096 cells
+    IsBetween 1 10_000 subscribers × IsBetween 1 120_000 calls × IsBetween 1 16 rings × IsBetween 16 4_096 cells
 IsInLimits (Run frames locks files) =
     IfSome frames (IsBetween 1 32_768) × IfSome locks (IsBetween 1 65_536) × (0 < length files.now)
 IsInLimits Recover = ⊤
 IsInLimits Dump = ⊤
-IsInLimits (Drive seed count files) = (seed < 2 ^ 64) × (count ≤ 99_999) × IsBetween 1 8 files
+IsInLimits (Drive seed count files) = (seed < 2 ^ 64) × (count ≤ 99_999) × IsBetween 1 16 files

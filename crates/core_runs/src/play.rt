@@ -6,6 +6,7 @@ use crate::pages::Pages;
 use crate::parts::{cut, numbers_in};
 use crate::stage::Stage;
 use crate::steps::{ask_stage, ask_view};
+use dude_base::limits::MAX_RINGS;
 use dude_base::sizes::Sizes;
 use std::io;
 
@@ -101,9 +102,9 @@ impl Play {
     }
 }
 
-/// The sizes of a database with one ring, if there are such.
+/// The sizes of a database with as many rings as there may be threads, if there are such.
 fn sizes_of(subscribers: u64, calls: u64) -> Option<Sizes> {
-    Sizes::of(subscribers, calls, 1, 16).ok()
+    Sizes::of(subscribers, calls, MAX_RINGS, 16).ok()
 }
 
 fn print_set_up(rt: &HostRuntime, is_set_up: bool) -> io::Result<()> {

@@ -23,7 +23,7 @@ fresh S FILE
   10000), then carries out the requests of FILE.
 format S C N CELLS
   Overwrites IMAGE with a new image for S subscribers, with room for C call
-  forwardings (1 to 120000), and with N log rings (1 to 8) of so many CELLS
+  forwardings (1 to 120000), and with N log rings (1 to 16) of so many CELLS
   (16 to 4096). The new tables have up to 12 call forwardings a subscriber.
 run [--frames F] [--locks L] FILE..
   Opens IMAGE, and carries out the requests of the files, at most one file for
@@ -35,7 +35,7 @@ dump
   Opens IMAGE, and prints its tables and its last number.
 drive SEED COUNT FILES
   Opens IMAGE, carries out COUNT random requests (0 to 99999) of each of so many
-  FILES (1 to 8), and prints how they were answered.
+  FILES (1 to 16), and prints how they were answered.
 
 fresh and run print each request's number and reply, and the last number. Each
 command tells on standard error the numbers up to which all is durable.

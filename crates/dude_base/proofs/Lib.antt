@@ -1,2 +1,3 @@
 pub mod Overwriting
+pub mod Joining
 pub mod WriteLists

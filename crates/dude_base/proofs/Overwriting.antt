@@ -6,7 +6,7 @@ use Rattle.std.proofs.lemmas.Option.{slice_get_within, get_or_from_slice_get}
 use Rattle.std.proofs.lemmas.Grind.{common_steps}
 use Rattle.dude_base.specs.declared.write.Write.{Write}
 use Rattle.dude_base.proofs.WriteLists.{None-from_is_some, written_absent}
-use Rattle.dude_base.specs.Records.{RedoRecord, overwritten_by_all}
+use Rattle.dude_base.specs.Records.{RedoBundle, overwritten_by_all}
 use Rattle.dude_base.specs.Writes.{written, put_write, overwritten, HasDistinctPlaces}
 
 pub length-overwritten : (ws : List Write) (array : List ℕ) → length (overwritten ws array) ≡ length array
@@ -86,18 +86,24 @@ written-put ws w i = elim (cases_Bool (is_some (written ws w.at))) [
   | inr new ↦ rw new (written-new w ws i (None-from_is_some _ new))
 ]
 
--- the first k + 1 writes, where the writes are of different words
-pub overwritten-more : (ws : List Write) (array : List ℕ) (k : ℕ) (w : Write) → HasDistinctPlaces ws → slice_get ws k ≡ Some w → overwritten (take (k + 1) ws) array ≡ slice_set (overwritten (take k ws) array) w.at w.value
-overwritten-more ws array k w distinct there =
+-- the first k + 1 writes of a list: the first k, and one of another word
+pub copied_more : (ws : List Write) (k : ℕ) (w : Write) → HasDistinctPlaces ws → slice_get ws k ≡ Some w
+    → (length (take k ws) ≡ k) × (k < length ws) × All (λ v. v.at ≢ w.at) (take k ws) × (take (k + 1) ws ≡ take k ws ++ w ∷ [])
+copied_more ws k w distinct there =
     let lt : k < length ws = slice_get_within ws k w there in
     let is : get_or ws k w ≡ w = get_or_from_slice_get ws k w w there in
     let long : length (take k ws) ≡ k = length-take-le k ws (omega arith) in
     let apart : All (λ v. v.at ≢ w.at) (take k ws) = λ i d below.
     let small : i < k = omega arith in
     λ same. distinct i k d small lt (sym (ap (λ (v : Write). v.at) (get_or-take k ws i d small)) ∙ same ∙ sym (ap (λ (v : Write). v.at) (get_or_default ws k d w lt ∙ is))) in
-    let prefix : take (k + 1) ws ≡ take k ws ++ w ∷ [] = take_more ws k w lt ∙ ap (λ v. take k ws ++ v ∷ []) is in
-    ap (λ vs. overwritten vs array) prefix ∙ overwritten-new w (take k ws) array (written_absent (take k ws) w.at apart)
+    (long, lt, apart, take_more ws k w lt ∙ ap (λ v. take k ws ++ v ∷ []) is)
 
-pub length-overwritten_by_all : (rs : List RedoRecord) (array : List ℕ) → length (overwritten_by_all rs array) ≡ length array
+-- the first k + 1 writes, where the writes are of different words
+pub overwritten-more : (ws : List Write) (array : List ℕ) (k : ℕ) (w : Write) → HasDistinctPlaces ws → slice_get ws k ≡ Some w → overwritten (take (k + 1) ws) array ≡ slice_set (overwritten (take k ws) array) w.at w.value
+overwritten-more ws array k w distinct there =
+    let more = copied_more ws k w distinct there in
+    ap (λ vs. overwritten vs array) more.3 ∙ overwritten-new w (take k ws) array (written_absent (take k ws) w.at more.2)
+
+pub length-overwritten_by_all : (rs : List RedoBundle) (array : List ℕ) → length (overwritten_by_all rs array) ≡ length array
 length-overwritten_by_all [] array = refl
 length-overwritten_by_all (r ∷ rs) array = length-overwritten_by_all rs (overwritten r.writes array) ∙ length-overwritten r.writes array

@@ -1,5 +1,6 @@
 pub mod Home
 pub mod Image
+pub mod Joins
 pub mod Limits
 pub mod Place
 pub mod Records

@@ -1,6 +1,8 @@
 -- What the faults of the base print.
 use Rattle.std.specs.Prelude.{ℕ, List, codes}
 use Rattle.dude_base.specs.declared.field.Field.{Field}
+use Rattle.dude_base.specs.declared.no_join.NoJoin.{NoJoin}
+use Rattle.dude_base.specs.declared.no_join.NoJoin.TheVariants.{Gap, Long, Broad}
 use Rattle.dude_base.specs.declared.field.Field.TheVariants.{Subscribers, Calls, Rings, Cells, Pages}
 
 -- a field that is out of its limits
@@ -14,3 +16,9 @@ field_words Pages = codes "the number of pages isn't the one that the tables nee
 -- one write too many
 abbrev pub wide_words : List ℕ
 wide_words = codes "too many different words are written"
+
+-- a record that a bundle doesn't take
+abbrev pub no_join_words : NoJoin → List ℕ
+no_join_words (Gap last number) = codes "the number isn't the next one"
+no_join_words (Long span) = codes "the bundle covers too many numbers"
+no_join_words (Broad places) = codes "the bundle would write too many different words"

@@ -12,19 +12,32 @@ written (w ∷ ws) i = if w.at == i then Some w.value else written ws i
 abbrev pub HasDistinctPlaces : List Write → Type 0
 HasDistinctPlaces ws = AllPairs (λ v w. v.at ≢ w.at) ws
 
--- at most MAX_WRITES writes of different words
-pub record IsWriteList (ws : List Write) : Type 0 where
-  pub few : length ws ≤ MAX_WRITES
+-- at most so many writes of different words
+pub record AreWrites (most : ℕ) (ws : List Write) : Type 0 where
+  pub few : length ws ≤ most
   pub distinct : HasDistinctPlaces ws
+
+-- those of one transaction
+abbrev pub IsWriteList : List Write → Type 0
+IsWriteList ws = AreWrites MAX_WRITES ws
 
 -- w replaces the write of the same word; where there is none, it comes last
 abbrev pub put_write : List Write → Write → List Write
 put_write ws w = if is_some (written ws w.at) then map (λ v. if v.at == w.at then w else v) ws else ws ++ w ∷ []
 
--- one more write of the word i would be too many
-pub record IsWide (ws : List Write) (i : ℕ) : Type 0 where
-  pub full : length ws ≡ MAX_WRITES
+-- the writes of a second list, put one after another
+abbrev pub put_all : List Write → List Write → List Write
+put_all ws [] = ws
+put_all ws (v ∷ vs) = put_all (put_write ws v) vs
+
+-- where at most so many writes are allowed, one more write of the word i would be too many
+pub record IsTooMany (most : ℕ) (ws : List Write) (i : ℕ) : Type 0 where
+  pub full : length ws ≡ most
   pub new : written ws i ≡ None
+
+-- the same for one transaction
+abbrev pub IsWide : List Write → ℕ → Type 0
+IsWide ws i = IsTooMany MAX_WRITES ws i
 
 -- the array with each written word overwritten; the words differ, so that the order does not matter
 abbrev pub overwritten : List Write → List ℕ → List ℕ

@@ -1,8 +1,10 @@
-//! The base of the store: its sizes and places, and the redo record of a transaction.
+//! The base of the store: its sizes and places, the redo record of a transaction, and bundles of such records.
 #![tactic(auto)]
 
+pub mod bundle;
 pub mod field;
 pub mod limits;
+pub mod no_join;
 pub mod place;
 pub mod redo;
 pub mod run;

@@ -11,6 +11,12 @@ pub const PAGE: u64 = 64;
 /// How many different words one transaction may write.
 pub const MAX_WRITES: u64 = 24;
 
+/// How many different words one bundle may write.
+pub const MAX_BUNDLE_WRITES: u64 = 96;
+
+/// How many numbers before its last one a bundle may cover.
+pub const MAX_SPAN: u64 = 255;
+
 /// The most subscribers; there is at least one.
 pub const MAX_SUBSCRIBERS: u64 = 10_000;
 
@@ -27,7 +33,10 @@ pub const SUBSCRIBER_WORDS: u64 = 8;
 pub const ROW_WORDS: u64 = 4;
 
 /// The most log rings; there is at least one.
-pub const MAX_RINGS: u64 = 8;
+pub const MAX_RINGS: u64 = 16;
+
+/// The most log rings of an image of version 1.
+pub const MAX_RINGS_ONE: u64 = 8;
 
 /// The fewest cells of a log ring.
 pub const MIN_CELLS: u64 = 16;
@@ -59,8 +68,14 @@ pub const HEADER: u64 = 16;
 /// The first word of an image: the bytes `DUDETMEM`, the least first.
 pub const MAGIC: u64 = 0x4D45_4D54_4544_5544;
 
-/// The second word of an image.
-pub const VERSION: u64 = 1;
+/// The second word of a new image.
+pub const VERSION: u64 = 2;
+
+/// The second word of an image whose records cover one number each, and have at most `MAX_WRITES` writes.
+pub const VERSION_ONE: u64 = 1;
+
+/// The word of an image that has its version.
+pub const VERSION_WORD: u64 = 1;
 
 /// The word of an image that has its mark.
 pub const MARK: u64 = 8;

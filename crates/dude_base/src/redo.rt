@@ -49,7 +49,7 @@ impl Redo {
         }
     }
 
-    /// The number of the transaction. Recovery replays records in the order of their numbers.
+    /// The number of the transaction.
     pub fn number(&self) -> u64
         ensures { result ≡ self.now.number }
     {

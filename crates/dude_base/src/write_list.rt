@@ -1,40 +1,50 @@
 ghost use Rattle.std.specs.Prelude.{◌≡◌, ◌≢◌, ◌<◌, ◌↔◌, [], ◌∷◌, ◌++◌, length, slice_get, slice_set, All, OnOk, OnErr, IsErr, IfSome, IfNone};
 ghost use Rattle.std.specs.List.{HoldsAt};
-ghost use Rattle.dude_base.specs.Writes.{written, put_write, overwritten, IsWide, IsWriteList};
+ghost use Rattle.dude_base.specs.Writes.{written, put_write, overwritten, IsTooMany, AreWrites};
 
-use crate::limits::MAX_WRITES;
+use crate::limits::{MAX_BUNDLE_WRITES, MAX_WRITES};
 use crate::wide::Wide;
 use crate::write::Write;
 use std::marker::Model;
 
-/// At most `MAX_WRITES` writes of different words, in the order in which these words were first
+/// At most `MOST` writes of different words, in the order in which these words were first
 /// written. It takes no memory: the writes stand in an array of their own.
 #[derive(Drop)]
-pub struct WriteList {
-    slots: [Write; MAX_WRITES as usize],
+pub struct Writes<const MOST: usize> {
+    slots: [Write; MOST],
     len: u64,
 }
 
-impl Model for WriteList {
+const TRANSACTION_WRITES: usize = MAX_WRITES as usize;
+
+const BUNDLE_WRITES: usize = MAX_BUNDLE_WRITES as usize;
+
+/// The writes of one transaction.
+pub type WriteList = Writes<TRANSACTION_WRITES>;
+
+/// The writes of a bundle.
+pub type BundleWrites = Writes<BUNDLE_WRITES>;
+
+impl<const MOST: usize> Model for Writes<MOST> {
     ghost use Rattle.std.specs.Prelude.{List, take};
     ghost use Rattle.dude_base.specs.declared.write.Write.{Write};
 
     ghost Value = { List Write };
 
-    ghost use Rattle.dude_base.specs.WriteList.{IsKeptWriteList};
+    ghost use Rattle.dude_base.specs.WriteList.{IsKept};
 
     ghost view = { λ a. take a.len a.slots };
 
-    ghost invariant = { IsKeptWriteList };
+    ghost invariant = { λ a. IsKept MOST a.len a.slots };
 }
 
-impl WriteList {
+impl<const MOST: usize> Writes<MOST> {
     /// No writes yet.
     pub fn new() -> Self
         ensures { result ≡ [] }
     {
-        WriteList {
-            slots: [Write { at: 0, value: 0 }; MAX_WRITES as usize],
+        Writes {
+            slots: [Write { at: 0, value: 0 }; MOST],
             len: 0,
         }
     }
@@ -43,7 +53,7 @@ impl WriteList {
     pub fn copy(&self) -> Self
         ensures { result ≡ self.now }
     {
-        WriteList {
+        Writes {
             slots: self.slots,
             len: self.len,
         }
@@ -52,8 +62,10 @@ impl WriteList {
     /// How many different words are written.
     pub fn len(&self) -> u64
         ensures len { result ≡ length self.now }
-        ensures writes { IsWriteList self.now }
+        ensures writes { AreWrites MOST self.now }
     {
+        let slots = &self.slots;
+        let _ = slots.len();
         self.len
     }
 
@@ -80,11 +92,11 @@ impl WriteList {
     pub fn put(&mut self, w: Write) -> Result<(), Wide>
         ensures ok { OnOk result (self.new ≡ put_write self.old w) }
         ensures err { OnErr result (self.new ≡ self.old) }
-        ensures wide { IsErr result ↔ IsWide self.old w.at }
+        ensures wide { IsErr result ↔ IsTooMany MOST self.old w.at }
     {
         match self.index_of(w.at) {
             Some(k) => self.replace(k, w),
-            None if self.len() < MAX_WRITES => self.append(w),
+            None if self.len() < MOST as u64 => self.append(w),
             None => return Err(Wide),
         }
         Ok(())
@@ -104,7 +116,7 @@ impl WriteList {
     fn index_of(&self, at: u64) -> Option<u64>
         ensures some { IfSome result (λ k. (k < length self.now) × HoldsAt (λ w. w.at ≡ at) self.now k) }
         ensures none { IfNone result (All (λ w. w.at ≢ at) self.now) }
-        ensures writes { IsWriteList self.now }
+        ensures writes { AreWrites MOST self.now }
     {
         for k in 0..self.len {
             if self.slots[k as usize].at == at {
@@ -123,8 +135,8 @@ impl WriteList {
         slots[k as usize] = w;
     }
 
-    fn append(&mut self, w: Write)
-        requires room { length self.old < MAX_WRITES }
+    pub(crate) fn append(&mut self, w: Write)
+        requires room { length self.old < MOST }
         requires new_word { All (λ v. v.at ≢ w.at) self.old }
         ensures { self.new ≡ self.old ++ w ∷ [] }
     {

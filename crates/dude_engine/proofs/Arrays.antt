@@ -3,7 +3,6 @@ use Rattle.std.proofs.Common.{◌≡◌, ℕ, ◌+◌, ◌-◌, ◌≤◌, ◌<�
 use Rattle.std.proofs.lemmas.Bool.{cases_lt}
 use Rattle.std.proofs.lemmas.List.{get_or_append_left}
 use Rattle.std.proofs.Math.Seq.{get_or-append_seam}
-use Rattle.dude_base.specs.declared.limits.TheConstants.{VERSION}
 use Rattle.dude_base.specs.declared.write.Write.{Write}
 use Rattle.dude_base.specs.Writes.{overwritten}
 use Rattle.dude_base.specs.Image.{image_words}
@@ -11,19 +10,14 @@ use Rattle.pmem_trait.specs.declared.medium.Medium.{Ghosts}
 use Rattle.pmem_trait.specs.Words.{EveryImage}
 use Rattle.pmem_trait.specs.Sights.{Sight, state_now, AtEveryMoment}
 use Rattle.pmem_trait.proofs.Laws.{every_moment_then, every_moment_weaker}
-use Rattle.redo_record.specs.LogState.{RecoversAmong}
-use Rattle.redo_record.specs.Recovery.{Recovers}
-use Rattle.redo_record.proofs.WaitingRecords.{waiting_law}
-use Rattle.backlog.specs.Backlog.{log_of}
-use Rattle.back_store.specs.Back.{home_now, waiting_now}
-use Rattle.back_store.proofs.KeptLogs.{images_here}
 use Rattle.tatp_model.specs.declared.done.Done.{Done}
 use Rattle.tatp_model.specs.Database.{Database}
 use Rattle.tatp_model.specs.OneThread.{after_number}
 use Rattle.tatp_layout.specs.StandsFor.{StandsFor}
 use Rattle.run_log.specs.declared.run_log.RunLog.{RunLog}
 use Rattle.run_log.specs.Arrays.{RunArrays, RecoversIn, array_at, last_number, with_writes}
-use Rattle.run_log.specs.RunLog.{Follows, IsAlive, RecoversOn, log_back, log_last, log_sizes}
+use Rattle.run_log.specs.RunLog.{Follows, IsAlive, RecoversOn, log_back, log_end, log_sizes}
+use Rattle.run_log.proofs.GoingOn.{recovers_here}
 use Rattle.dude_engine.specs.Opening.{Opening}
 use Rattle.dude_engine.specs.Running.{AreAnswered, HasArrays, FollowsRun, RecoversSoFar, last_performed, tables_after}
 use Rattle.dude_engine.proofs.Numbering.{IsNext, last_push, last_rises, tables_at_last, tables_kept, number_unwritten, number_written, answered_push}
@@ -131,36 +125,19 @@ so_far_push before opening performed d told image next so_far =
 
 -- along one call more
 pub moments_on : {M : Type 0} {ghosts : Ghosts M} (before : ℕ) (opening : Opening) (performed later : List Done) (words new : List ℕ) (more : RunArrays → RunArrays) (l : RunLog M ghosts) (s t u : Sight)
-    → log_sizes l ≡ opening.sizes → opening.number ≤ log_last l
+    → log_sizes l ≡ opening.sizes
     → ((told image : List ℕ) → RecoversSoFar before opening performed told image → RecoversSoFar before opening later told image)
     → ((a : RunArrays) → HasArrays opening performed words a → HasArrays opening later new (more a))
     → AtEveryMoment (RecoversSoFar before opening performed) s t → FollowsRun before opening performed words l t → RecoversOn more l t u → AtEveryMoment (RecoversSoFar before opening later) s u
-moments_on before opening performed later words new more l s t u sizes low grows arrays moments follows recovers =
+moments_on before opening performed later words new more l s t u sizes grows arrays moments follows recovers =
+    let low : opening.number ≤ log_end l = (let from = follows.follows.carried.from in let first = follows.has.first in omega arith) in
     every_moment_then (every_moment_weaker (λ told image size so_far. grows told image so_far) moments)
-    (every_moment_weaker (λ told image size among. so_far_among before (log_last l) opening later new (more follows.arrays) told image (arrays follows.arrays follows.has) low
-    (subst (λ z. RecoversIn z (more follows.arrays) (log_last l) before told image) sizes among)) (recovers before follows.arrays follows.follows))
+    (every_moment_weaker (λ told image size among. so_far_among before (log_end l) opening later new (more follows.arrays) told image (arrays follows.arrays follows.has) low
+    (subst (λ z. RecoversIn z (more follows.arrays) (log_end l) before told image) sizes among)) (recovers before follows.arrays follows.follows))
 
-recovers_last : {M : Type 0} {ghosts : Ghosts M} (before : ℕ) (a : RunArrays) (l : RunLog M ghosts) (s : Sight) {told image : List ℕ} → IsAlive l → Follows before a l s → IsTrue s.is_visible
-    → RecoversAmong (log_of (log_back l).log (home_now (log_sizes l) s)) before (log_last l) (log_last l) told image → RecoversIn (log_sizes l) a (log_last l) before told image
-recovers_last before a l s {told} {image} alive follows visible r =
-    let same : r.number ≡ log_last l = omega (arith, r.least, r.most) in
-    let end : log_last l ≡ last_number a = follows.last in
-    let home = home_now (log_sizes l) s in
-    let within = waiting_law.within (waiting_now (log_back l)) (log_back l).log.reproduced (log_last l) r.number home r.array alive.end r.is_array in
-    let array : r.array ≡ array_at a r.number = waiting_law.one_array (waiting_now (log_back l)) (log_back l).log.reproduced r.number home r.array (array_at a r.number)
-    (follows.keeps.holds alive.alive visible).distinct r.is_array ((follows.holds visible).arrays r.number within.0 (omega (arith, same, end))) in
-    record {
-      number = r.number;
-      from = r.least;
-      most = omega (arith, same, end);
-      recovered = subst (λ (words : List ℕ). Recovers VERSION image r.number words) array r.recovered;
-      same_sizes = r.same_sizes;
-      floor = r.floor;
-    }
-
--- a log at rest: every image recovers to the last array
+-- a log at rest: every image recovers to an array from the last one persisted on
 pub images_rest : {M : Type 0} {ghosts : Ghosts M} (before : ℕ) (a : RunArrays) (l : RunLog M ghosts) (s : Sight) → image_words (log_sizes l) ≤ s.len → IsAlive l → Follows before a l s → IsTrue s.is_visible
-    → EveryImage s.len (RecoversIn (log_sizes l) a (log_last l) before) (state_now s)
-images_rest before a l s room alive follows visible = record {
-  each = λ image is. recovers_last before a l s alive follows visible ((images_here before (log_last l) (log_back l) s alive.lawful room alive.alive follows.keeps alive.end visible).each image is);
-}
+    → EveryImage s.len (RecoversIn (log_sizes l) a (log_end l) before) (state_now s)
+images_rest before a l s room alive follows visible =
+    let moments = recovers_here (log_back l) (log_end l) s room alive.leads before a tt follows.carried in
+    moments.each visible s.now (omega arith) (omega arith)

@@ -25,7 +25,8 @@ use Rattle.back_store.specs.BackView.{state_of}
 use Rattle.image_opening.specs.declared.opened.Opened.{Opened}
 use Rattle.image_opening.specs.Opened.{HoldsOpened, IsOpened}
 use Rattle.run_log.specs.declared.run_log.RunLog.{RunLog}
-use Rattle.run_log.specs.RunLog.{Follows, IsAlive, Tells, log_durable, log_last, log_sizes}
+use Rattle.back_store.specs.Told.{WereTold}
+use Rattle.run_log.specs.RunLog.{Follows, IsAlive, log_durable, log_end, log_last, log_sizes}
 use Rattle.dude_engine.specs.declared.run.Run.{Run}
 use Rattle.dude_engine.specs.declared.run_fault.RunFault.{RunFault}
 use Rattle.dude_engine.specs.declared.run_fault.RunFault.TheVariants.{Device, NoMemory}
@@ -43,7 +44,7 @@ pub record Ended (ok : Bool) (opening : Opening) (words : List ℕ) (durable : �
   pub answered : AreAnswered opening performed
   pub len : t.len ≡ s.len
   pub ran : SomeCalls ok s t
-  pub tells : IsTrue s.is_visible → Tells ok opening.number durable (state_now s).told (state_now t).told
+  pub tells : IsTrue s.is_visible → WereTold ok opening.number durable (state_now s).told (state_now t).told
   pub syncs : IsTrue s.is_visible → AreSyncsTold performed s t
   pub moments : (before : ℕ) → HoldsOpened before opening.sizes opening.number words s → AtEveryMoment (RecoversSoFar before opening performed) s t
 
@@ -175,12 +176,12 @@ on_whole (Err Device) whole holds = absurd (let no : ⊥ = cc in no)
 -- a run over an opened image begins at each of its openings
 pub begins : {M : Type 0} {ghosts : Ghosts M} (o : Opened M ghosts) (opening : Opening) (lay : Sizes) (l : RunLog M ghosts) (current : List ℕ) (performed : List Done) (s t : Sight)
     → IsOpened o → IsOpeningOf o opening → lay ≡ o.lay → current ≡ o.words.items → performed ≡ [] → t ≡ s
-    → IsAlive l → log_sizes l ≡ (state_of o.back).log.sizes → log_last l ≡ o.number → log_durable l ≡ o.number → image_words (state_of o.back).log.sizes ≤ s.len
+    → IsAlive l → log_sizes l ≡ (state_of o.back).log.sizes → log_last l ≡ o.number → log_end l ≡ o.number → log_durable l ≡ o.number → image_words (state_of o.back).log.sizes ≤ s.len
     → ((before : ℕ) (words : List ℕ) → HoldsOpened before (state_of o.back).log.sizes o.number words s → Follows before (record { first = o.number; opening = words; others = [] }) l s)
     → IsRunning opening o.words.items lay l current performed s t
-begins o opening lay l current performed s t opened is lay_is current_is none still alive sizes last durable room follows =
+begins o opening lay l current performed s t opened is lay_is current_is none still alive sizes last end durable room follows =
     let back : (state_of o.back).log.sizes ≡ opening.sizes = ap (λ (v : BackState). v.log.sizes) opened.idle ∙ sym is.sizes in
-    let start = running_start opening o.words.items lay l s (is.sizes ∙ sym opened.layout ∙ sym lay_is) (sizes ∙ back) (last ∙ sym is.number) (durable ∙ sym is.number) alive
+    let start = running_start opening o.words.items lay l s (is.sizes ∙ sym opened.layout ∙ sym lay_is) (sizes ∙ back) (last ∙ sym is.number) (end ∙ sym is.number) (durable ∙ sym is.number) alive
     (subst (λ (z : Sizes). image_words z ≤ s.len) back room) (subst (λ (z : Sizes). StandsFor z o.words.items opening.database) (sym is.sizes) is.stands)
     (λ before held. subst (λ (n : ℕ). Follows before (record { first = n; opening = o.words.items; others = [] }) l s) (sym is.number)
     (follows before o.words.items (subst (λ (z : Sizes). HoldsOpened before z o.number o.words.items s) (sym back) (subst (λ (n : ℕ). HoldsOpened before opening.sizes n o.words.items s) is.number held)))) in

@@ -1,5 +1,5 @@
 -- What each request leaves of a run.
-use Rattle.std.proofs.Common.{◌≡◌, ◌≢◌, Result, Err, ℕ, ◌+◌, ◌*◌, ◌≤◌, true, false, IsTrue, List, [], ◌∷◌, ◌++◌, length, refl, sym, ap, ◌∙◌, subst, arith}
+use Rattle.std.proofs.Common.{◌≡◌, ◌≢◌, Result, Err, ℕ, ◌+◌, ◌*◌, ◌≤◌, true, false, IsTrue, List, [], ◌∷◌, ◌++◌, length, length-append, refl, sym, ap, ◌∙◌, subst, arith}
 use Rattle.std.specs.Prelude.{if◌then◌else◌}
 use Rattle.std.proofs.lemmas.List.Elements.{All-nil}
 use Rattle.dude_base.specs.declared.limits.TheConstants.{PAGE}
@@ -24,7 +24,10 @@ use Rattle.word_space.specs.Flats.{words_of, flat_sight, fresh}
 use Rattle.image_opening.specs.Opened.{HoldsOpened}
 use Rattle.run_log.specs.declared.run_log.RunLog.{RunLog}
 use Rattle.run_log.specs.Arrays.{RunArrays, RecoversIn, array_at, with_writes}
-use Rattle.run_log.specs.RunLog.{Follows, FollowsOn, GoesOn, IsAlive, RecoversOn, Tells, log_durable, log_last, log_sizes}
+use Rattle.back_store.specs.Told.{WereTold}
+use Rattle.back_store.proofs.ToldNumbers.{tells_none, tells_then}
+use Rattle.run_log.specs.Backs.{GoesOn}
+use Rattle.run_log.specs.RunLog.{EndsAtLast, Follows, FollowsOn, IsAlive, RecoversOn, log_back, log_durable, log_end, log_last, log_sizes}
 use Rattle.dude_engine.specs.declared.run.Run.{Run}
 use Rattle.dude_engine.specs.declared.run_fault.RunFault.{RunFault}
 use Rattle.dude_engine.specs.declared.run_fault.RunFault.TheVariants.{Device, NoMemory}
@@ -33,18 +36,18 @@ use Rattle.dude_engine.specs.Endings.{AreSyncsTold, WasToldLast}
 use Rattle.dude_engine.specs.Running.{AreAnswered, AreSyncsUpTo, HasArrays, HasFailed, IsLeft, IsReady, IsRunning, IsSettledRun, RecoversSoFar, Runs, last_performed, tables_after}
 use Rattle.dude_engine.proofs.Arrays.{arrays_start, arrays_read, arrays_write, images_rest, moments_on, so_far_among, so_far_push}
 use Rattle.dude_engine.proofs.Numbering.{IsNext, answered_push, answered_start, first_upto, last_push, number_unwritten, number_written, tables_push, tables_unwritten}
-use Rattle.dude_engine.proofs.Tellings.{syncs_last, syncs_on, syncs_other, syncs_push, syncs_told_other, tells_here, tells_then, told_longer}
+use Rattle.dude_engine.proofs.Tellings.{syncs_last, syncs_on, syncs_other, syncs_push, syncs_told_other, told_longer}
 
 -- the medium is visible all along
 visible_on : {s t : Sight} → SomeCalls true s t → IsTrue s.is_visible → IsTrue t.is_visible
 visible_on ran visible = (made_later ran.1).is_visible ∙ visible
 
 module _ {M : Type 0} {ghosts : Ghosts M} (opening : Opening) (words : List ℕ) where
-  pub running_start : (lay : Sizes) (l : RunLog M ghosts) (s : Sight) → opening.sizes ≡ lay → log_sizes l ≡ opening.sizes → log_last l ≡ opening.number → log_durable l ≡ opening.number → IsAlive l
+  pub running_start : (lay : Sizes) (l : RunLog M ghosts) (s : Sight) → opening.sizes ≡ lay → log_sizes l ≡ opening.sizes → log_last l ≡ opening.number → log_end l ≡ opening.number → log_durable l ≡ opening.number → IsAlive l
       → image_words opening.sizes ≤ s.len → StandsFor opening.sizes words opening.database
       → ((before : ℕ) → HoldsOpened before opening.sizes opening.number words s → Follows before (record { first = opening.number; opening = words; others = [] }) l s)
       → IsRunning opening words lay l words [] s s
-  running_start lay l s layout sizes last durable alive room stands follows =
+  running_start lay l s layout sizes last end durable alive room stands follows =
       let a : RunArrays = record { first = opening.number; opening = words; others = [] } in
       let has : HasArrays opening [] words a = arrays_start opening words stands in
       record {
@@ -55,12 +58,12 @@ module _ {M : Type 0} {ghosts : Ghosts M} (opening : Opening) (words : List ℕ)
         stands = stands;
         len = refl;
         ran = ran_here s;
-        tells = λ visible. subst (λ (n : ℕ). Tells true opening.number n (state_now s).told (state_now s).told) (sym durable) (tells_here opening.number (state_now s).told);
+        tells = λ visible. subst (λ (n : ℕ). WereTold true opening.number n (state_now s).told (state_now s).told) (sym durable) (tells_none true opening.number opening.number (state_now s).told (state_now s).told refl refl);
         syncs = λ visible. All-nil (λ d. IsTrue (is_sync d.request) → WasToldLast (log_durable l) s s × (d.number ≤ log_durable l));
         follows = λ before held. record { arrays = a; has = has; follows = follows before held };
         moments = λ before held. every_moment_here (RecoversSoFar before opening []) (λ visible. record {
-          each = λ image is. so_far_among before (log_last l) opening [] words a (state_now s).told image has (omega (arith, last))
-              (subst (λ (z : Sizes). RecoversIn z a (log_last l) before (state_now s).told image) sizes
+          each = λ image is. so_far_among before (log_end l) opening [] words a (state_now s).told image has (omega (arith, end))
+              (subst (λ (z : Sizes). RecoversIn z a (log_end l) before (state_now s).told image) sizes
               ((images_rest before a l s (subst (λ (z : Sizes). image_words z ≤ s.len) (sym sizes) room) alive (follows before held) visible).each image is));
         });
       }
@@ -91,7 +94,7 @@ module _ {M : Type 0} {ghosts : Ghosts M} (opening : Opening) (words : List ℕ)
       → (IsTrue s.is_visible → AreSyncsUpTo (log_durable later) done s u)
       → ((before : ℕ) (told image : List ℕ) → RecoversSoFar before opening performed told image → RecoversSoFar before opening done told image)
       → ((a : RunArrays) → HasArrays opening performed current a → HasArrays opening done new (more a))
-      → GoesOn true l t later u → FollowsOn more l t later u → RecoversOn more l t u
+      → GoesOn true (log_back l) t (log_back later) u → FollowsOn more l t later u → RecoversOn more l t u
       → IsRunning opening words lay l current performed s t → IsRunning opening words lay later new done s u
   running_call lay l later current new performed done more s t u answered last stands syncs grows arrays goes follows recovers run = record {
     layout = run.layout;
@@ -104,7 +107,7 @@ module _ {M : Type 0} {ghosts : Ghosts M} (opening : Opening) (words : List ℕ)
     tells = λ visible. tells_then true opening.number (log_durable l) (log_durable later) (state_now s).told (state_now t).told (state_now u).told (run.tells visible) (goes.tells (visible_on run.ran visible));
     syncs = syncs;
     follows = λ before held. let f = run.follows before held in record { arrays = more f.arrays; has = arrays f.arrays f.has; follows = follows before f.arrays f.follows };
-    moments = λ before held. moments_on before opening performed done current new more l s t u run.sizes (omega (arith, run.last, first_upto opening performed run.answered)) (grows before) arrays (run.moments before held) (run.follows before held) recovers;
+    moments = λ before held. moments_on before opening performed done current new more l s t u run.sizes (grows before) arrays (run.moments before held) (run.follows before held) recovers;
   }
 
   -- a call that failed
@@ -112,7 +115,7 @@ module _ {M : Type 0} {ghosts : Ghosts M} (opening : Opening) (words : List ℕ)
       → AreAnswered opening done → (AreSyncsTold performed s u → AreSyncsTold done s u)
       → ((before : ℕ) (told image : List ℕ) → RecoversSoFar before opening performed told image → RecoversSoFar before opening done told image)
       → ((a : RunArrays) → HasArrays opening performed current a → HasArrays opening done new (more a))
-      → GoesOn false l t later u → RecoversOn more l t u
+      → GoesOn false (log_back l) t (log_back later) u → RecoversOn more l t u
       → IsRunning opening words lay l current performed s t → HasFailed opening words (log_durable later) done s u
   failed_call lay l later current new performed done more s t u answered syncs grows arrays goes recovers run = record {
     answered = answered;
@@ -121,29 +124,30 @@ module _ {M : Type 0} {ghosts : Ghosts M} (opening : Opening) (words : List ℕ)
     cause = risen_later s.faults t.faults u.faults u.faults (made_later run.ran.1).faults (goes.cause refl) (omega arith);
     tells = λ visible. tells_then false opening.number (log_durable l) (log_durable later) (state_now s).told (state_now t).told (state_now u).told (run.tells visible) (goes.tells (visible_on run.ran visible));
     syncs = λ visible. syncs (syncs_last false (log_durable l) (log_durable later) performed s t u goes.rises (run.syncs visible) (goes.tells (visible_on run.ran visible)));
-    moments = λ before held. moments_on before opening performed done current new more l s t u run.sizes (omega (arith, run.last, first_upto opening performed run.answered)) (grows before) arrays (run.moments before held) (run.follows before held) recovers;
+    moments = λ before held. moments_on before opening performed done current new more l s t u run.sizes (grows before) arrays (run.moments before held) (run.follows before held) recovers;
   }
 
   -- an announcement or a settlement that failed
-  pub failed_same : (lay : Sizes) (l later : RunLog M ghosts) (current : List ℕ) (performed : List Done) (s t u : Sight) → GoesOn false l t later u → RecoversOn (λ a. a) l t u
+  pub failed_same : (lay : Sizes) (l later : RunLog M ghosts) (current : List ℕ) (performed : List Done) (s t u : Sight) → GoesOn false (log_back l) t (log_back later) u → RecoversOn (λ a. a) l t u
       → IsRunning opening words lay l current performed s t → HasFailed opening words (log_durable later) performed s u
   failed_same lay l later current performed s t u goes recovers run =
       failed_call lay l later current current performed performed (λ a. a) s t u run.answered (λ syncs. syncs) (λ before told image so_far. so_far) (λ a has. has) goes recovers run
 
   -- the last number was told last
   told_last_one : (lay : Sizes) (l later : RunLog M ghosts) (current : List ℕ) (performed : List Done) (s t u : Sight) → log_durable later ≡ log_last l
-      → (IsTrue t.is_visible → (state_now u).told ≡ (state_now t).told ++ log_last l ∷ [])
+      → (IsTrue t.is_visible → (earlier : List ℕ) × ((state_now u).told ≡ (state_now t).told ++ earlier ++ log_last l ∷ []))
       → IsRunning opening words lay l current performed s t → IsTrue s.is_visible → WasToldLast (log_durable later) s u
-  told_last_one lay l later current performed s t u durable told run visible = (
-    (state_now t).told,
-    told (visible_on run.ran visible) ∙ ap (λ (n : ℕ). (state_now t).told ++ n ∷ []) (sym durable),
-    told_longer true opening.number (log_durable l) (state_now s).told (state_now t).told (run.tells visible),
-  )
+  told_last_one lay l later current performed s t u durable told run visible =
+      let new = told (visible_on run.ran visible) in (
+        (state_now t).told ++ new.0,
+        new.1 ∙ ap (λ (n : ℕ). (state_now t).told ++ new.0 ++ n ∷ []) (sym durable),
+        omega (arith, told_longer true opening.number (log_durable l) (state_now s).told (state_now t).told (run.tells visible), length-append (state_now t).told new.0),
+      )
 
   -- a `SYNC`
   pub running_sync : (lay : Sizes) (l later : RunLog M ghosts) (current : List ℕ) (performed : List Done) (d : Done) (s t u : Sight) → IsNext opening performed d → d.wrote ≡ false → d.number ≡ log_last l
-      → log_last later ≡ log_last l → log_durable later ≡ log_last l → (IsTrue t.is_visible → (state_now u).told ≡ (state_now t).told ++ log_last l ∷ [])
-      → GoesOn true l t later u → FollowsOn (λ a. a) l t later u → RecoversOn (λ a. a) l t u
+      → log_last later ≡ log_last l → log_durable later ≡ log_last l → (IsTrue t.is_visible → (earlier : List ℕ) × ((state_now u).told ≡ (state_now t).told ++ earlier ++ log_last l ∷ []))
+      → GoesOn true (log_back l) t (log_back later) u → FollowsOn (λ a. a) l t later u → RecoversOn (λ a. a) l t u
       → IsRunning opening words lay l current performed s t → IsRunning opening words lay later current (performed ++ d ∷ []) s u
   running_sync lay l later current performed d s t u next unwritten number last durable told goes follows recovers run =
       running_call lay l later current current performed (performed ++ d ∷ []) (λ a. a) s t u (answered_push opening performed d run.answered next)
@@ -157,7 +161,7 @@ module _ {M : Type 0} {ghosts : Ghosts M} (opening : Opening) (words : List ℕ)
   -- a request that wrote
   module _ (lay : Sizes) (l later : RunLog M ghosts) (current new : List ℕ) (performed : List Done) (d : Done) (writes : List Write) (s t u : Sight) (next : IsNext opening performed d) (written : d.wrote ≡ true) (other : is_sync d.request ≡ false)
       (is : new ≡ overwritten writes current) (stands : StandsFor opening.sizes new (tables_after opening (performed ++ d ∷ []))) (recovers : RecoversOn (with_writes writes) l t u) (run : IsRunning opening words lay l current performed s t) where
-    pub running_write : log_last later ≡ log_last l + 1 → GoesOn true l t later u → FollowsOn (with_writes writes) l t later u → IsRunning opening words lay later new (performed ++ d ∷ []) s u
+    pub running_write : log_last later ≡ log_last l + 1 → GoesOn true (log_back l) t (log_back later) u → FollowsOn (with_writes writes) l t later u → IsRunning opening words lay later new (performed ++ d ∷ []) s u
     running_write last goes follows =
         running_call lay l later current new performed (performed ++ d ∷ []) (with_writes writes) s t u (answered_push opening performed d run.answered next)
         (omega (arith, last, run.last, number_written opening performed d next written, last_push opening.number performed d)) stands
@@ -165,7 +169,7 @@ module _ {M : Type 0} {ghosts : Ghosts M} (opening : Opening) (words : List ℕ)
         (λ before told image so_far. so_far_push before opening performed d told image next so_far)
         (λ a has. arrays_write opening performed d writes current new a run.answered next written is stands has) goes follows recovers run
 
-    pub failed_write : GoesOn false l t later u → HasFailed opening words (log_durable later) (performed ++ d ∷ []) s u
+    pub failed_write : GoesOn false (log_back l) t (log_back later) u → HasFailed opening words (log_durable later) (performed ++ d ∷ []) s u
     failed_write goes =
         failed_call lay l later current new performed (performed ++ d ∷ []) (with_writes writes) s t u (answered_push opening performed d run.answered next)
         (λ syncs. syncs_told_other performed d s u other syncs)
@@ -174,7 +178,7 @@ module _ {M : Type 0} {ghosts : Ghosts M} (opening : Opening) (words : List ℕ)
 
   -- ---- the end
 
-  module _ (lay : Sizes) (l later : RunLog M ghosts) (current : List ℕ) (performed : List Done) (s t u : Sight) (durable : log_durable later ≡ log_last l) (goes : GoesOn true l t later u)
+  module _ (lay : Sizes) (l later : RunLog M ghosts) (current : List ℕ) (performed : List Done) (s t u : Sight) (durable : log_durable later ≡ log_last l) (goes : GoesOn true (log_back l) t (log_back later) u)
       (recovers : RecoversOn (λ a. a) l t u) (run : IsRunning opening words lay l current performed s t) where
     pub running_settled : log_last later ≡ log_last l → FollowsOn (λ a. a) l t later u → IsRunning opening words lay later current performed s u
     running_settled last follows =
@@ -182,18 +186,16 @@ module _ {M : Type 0} {ghosts : Ghosts M} (opening : Opening) (words : List ℕ)
         (λ visible. syncs_on (log_durable l) (log_durable later) performed s t u goes.rises (run.syncs visible) (goes.tells (visible_on run.ran visible)))
         (λ before told image so_far. so_far) (λ a has. has) goes follows recovers run
 
-    pub settled_run : (IsTrue t.is_visible → (state_now u).told ≡ (state_now t).told ++ log_last l ∷ []) → IsSettledRun opening words (log_durable later) performed s u
-    settled_run told = record {
+    pub settled_run : EndsAtLast l t u → (IsTrue t.is_visible → (earlier : List ℕ) × ((state_now u).told ≡ (state_now t).told ++ earlier ++ log_last l ∷ [])) → IsSettledRun opening words (log_durable later) performed s u
+    settled_run ends told = record {
       durable_is = durable ∙ run.last;
       told = told_last_one lay l later current performed s t u durable told run;
       images = λ before held visible.
           let f = run.follows before held in
-          let moments = recovers before f.arrays f.follows in
-          let at = moments.each (visible_on run.ran visible) u.now moments.later.now (omega arith) in
+          let at = ends before f.arrays f.follows (visible_on run.ran visible) in
           record {
             each = λ image is.
-                let among : RecoversIn opening.sizes f.arrays (log_last l) before (state_now u).told image =
-                subst (λ (z : Sizes). RecoversIn z f.arrays (log_last l) before (state_now u).told image) run.sizes (at.each image (subst (λ (k : ℕ). IsImage k (state_now u) image) goes.len is)) in
+                let among : RecoversIn opening.sizes f.arrays (log_last l) before (state_now u).told image = subst (λ (z : Sizes). RecoversIn z f.arrays (log_last l) before (state_now u).told image) run.sizes (at.each image is) in
                 let number : among.number ≡ log_durable later = omega (arith, durable, among.from, among.most, f.follows.last) in
                 let recovers_at : RecoversAt opening performed image among.number = record {
                   array = array_at f.arrays among.number;

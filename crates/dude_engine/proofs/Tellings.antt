@@ -1,42 +1,17 @@
 -- What several calls told, one after another, and up to which number a `SYNC` is told.
-use Rattle.std.proofs.Common.{◌≡◌, ℕ, ◌≤◌, Bool, true, false, IsTrue, List, [], ◌∷◌, ◌++◌, length, length-append, refl, sym, ap, ◌∙◌, subst, arith, inl, inr, ⊎_elim, append_assoc}
+use Rattle.std.proofs.Common.{◌≡◌, ℕ, ◌≤◌, Bool, true, false, IsTrue, List, [], ◌∷◌, ◌++◌, length, length-append, refl, sym, ap, ◌∙◌, arith, ⊎_elim, append_assoc}
 use Rattle.std.proofs.lemmas.Bool.{both_ways}
 use Rattle.std.proofs.lemmas.List.{append-nil}
-use Rattle.std.proofs.lemmas.List.Elements.{All-nil, All-push, All-head, All-weaker}
+use Rattle.std.proofs.lemmas.List.Elements.{All-push, All-head, All-weaker}
 use Rattle.pmem_trait.specs.Sights.{Sight, state_now}
 use Rattle.tatp_model.specs.declared.done.Done.{Done}
 use Rattle.tatp_model.specs.OneThread.{is_sync}
-use Rattle.run_log.specs.RunLog.{Tells}
+use Rattle.back_store.specs.Told.{WereTold}
 use Rattle.dude_engine.specs.Endings.{AreSyncsTold, WasToldLast}
 use Rattle.dude_engine.specs.Running.{AreSyncsUpTo}
 
--- no call tells nothing
-pub tells_here : (n : ℕ) (told : List ℕ) → Tells true n n told told
-tells_here n told = ([], (λ ok. refl), omega arith, All-nil (λ x. n ≤ x), inl (sym (append-nil told), refl))
-
--- calls behind calls of which none failed
-pub tells_then : (ok : Bool) (a b c : ℕ) (x y z : List ℕ) → Tells true a b x y → Tells ok b c y z → Tells ok a c x z
-tells_then ok a b c x y z (more, none, few, least, how) (others, nothing, one, over, what) =
-    let all : y ≡ x ++ more → y ≡ x = λ is. is ∙ ap (λ (l : List ℕ). x ++ l) (none refl) ∙ append-nil x in
-    ⊎_elim
-    (λ (was : (y ≡ x ++ more) × (b ≡ a)). ⊎_elim
-    (λ (then : (z ≡ y ++ others) × (c ≡ b)). (others, nothing, one, over, inl (then.0 ∙ ap (λ (l : List ℕ). l ++ others) (all was.0), then.1 ∙ was.1)))
-    (λ (then : (earlier : List ℕ) × (z ≡ y ++ earlier ++ c ∷ others)). (others, nothing, one, over, inr (then.0, then.1 ∙ ap (λ (l : List ℕ). l ++ then.0 ++ c ∷ others) (all was.0)))) what)
-    (λ (was : (earlier : List ℕ) × (y ≡ x ++ earlier ++ b ∷ more)). ⊎_elim
-    (λ (then : (z ≡ y ++ others) × (c ≡ b)). (others, nothing, one, over, inr (was.0, subst (λ (n : ℕ). z ≡ x ++ was.0 ++ n ∷ others) (sym then.1) (then.0 ∙ ap (λ (l : List ℕ). l ++ others) (was.1 ∙ ap (λ (l : List ℕ). x ++ was.0 ++ b ∷ l) (none refl)) ∙ append_assoc (x ++ was.0) (b ∷ []) others))))
-    (λ (then : (earlier : List ℕ) × (z ≡ y ++ earlier ++ c ∷ others)). (
-      others,
-      nothing,
-      one,
-      over,
-      inr (
-        was.0 ++ b ∷ more ++ then.0,
-        then.1 ∙ ap (λ (l : List ℕ). l ++ then.0 ++ c ∷ others) was.1 ∙ simp append_assoc,
-      ),
-    )) what) how
-
 -- where no call failed, a number that was told last is followed by the durable one
-pub told_on : (b c : ℕ) (s t u : Sight) → WasToldLast b s t → Tells true b c (state_now t).told (state_now u).told → WasToldLast c s u
+pub told_on : (b c : ℕ) (s t u : Sight) → WasToldLast b s t → WereTold true b c (state_now t).told (state_now u).told → WasToldLast c s u
 told_on b c s t u (earlier, is, some) (more, none, few, least, how) =
     ⊎_elim
     (λ (was : ((state_now u).told ≡ (state_now t).told ++ more) × (c ≡ b)). (
@@ -51,9 +26,9 @@ told_on b c s t u (earlier, is, some) (more, none, few, least, how) =
     )) how
 
 -- a failed call may have told one more, which is no less
-pub told_last : (ok : Bool) (b c : ℕ) (s t u : Sight) → WasToldLast b s t → Tells ok b c (state_now t).told (state_now u).told → (n : ℕ) × WasToldLast n s u × (c ≤ n)
+pub told_last : (ok : Bool) (b c : ℕ) (s t u : Sight) → WasToldLast b s t → WereTold ok b c (state_now t).told (state_now u).told → (n : ℕ) × WasToldLast n s u × (c ≤ n)
 told_last ok b c s t u told ([], none, few, least, how) =
-    let on : Tells true b c (state_now t).told (state_now u).told = ([], (λ yes. refl), few, least, how) in
+    let on : WereTold true b c (state_now t).told (state_now u).told = ([], (λ yes. refl), few, least, how) in
     (c, told_on b c s t u told on, omega arith)
 told_last ok b c s t u (earlier, is, some) (x ∷ [], none, few, least, how) =
     let up : c ≤ x = All-head (λ n. c ≤ n) x [] least in
@@ -72,12 +47,12 @@ told_last ok b c s t u told (x ∷ y ∷ more, none, few, least, how) = absurd (
 
 -- ---- the number of each `SYNC` is told
 
-pub syncs_on : (b c : ℕ) (performed : List Done) (s t u : Sight) → b ≤ c → AreSyncsUpTo b performed s t → Tells true b c (state_now t).told (state_now u).told → AreSyncsUpTo c performed s u
+pub syncs_on : (b c : ℕ) (performed : List Done) (s t u : Sight) → b ≤ c → AreSyncsUpTo b performed s t → WereTold true b c (state_now t).told (state_now u).told → AreSyncsUpTo c performed s u
 syncs_on b c performed s t u up syncs tells =
     All-weaker (λ d. IsTrue (is_sync d.request) → WasToldLast b s t × (d.number ≤ b)) (λ d. IsTrue (is_sync d.request) → WasToldLast c s u × (d.number ≤ c))
     (λ d h sync. let was = h sync in (told_on b c s t u was.0 tells, omega (arith, was.1, up))) performed syncs
 
-pub syncs_last : (ok : Bool) (b c : ℕ) (performed : List Done) (s t u : Sight) → b ≤ c → AreSyncsUpTo b performed s t → Tells ok b c (state_now t).told (state_now u).told → AreSyncsTold performed s u
+pub syncs_last : (ok : Bool) (b c : ℕ) (performed : List Done) (s t u : Sight) → b ≤ c → AreSyncsUpTo b performed s t → WereTold ok b c (state_now t).told (state_now u).told → AreSyncsTold performed s u
 syncs_last ok b c performed s t u up syncs tells =
     All-weaker (λ d. IsTrue (is_sync d.request) → WasToldLast b s t × (d.number ≤ b)) (λ d. IsTrue (is_sync d.request) → (n : ℕ) × WasToldLast n s u × (d.number ≤ n))
     (λ d h sync. let was = h sync in let last = told_last ok b c s t u was.0 tells in (last.0, last.1, omega (arith, was.1, up, last.2))) performed syncs
@@ -101,7 +76,7 @@ pub syncs_push : (b : ℕ) (performed : List Done) (d : Done) (s t : Sight) → 
 syncs_push b performed d s t told within syncs =
     All-push (λ e. IsTrue (is_sync e.request) → WasToldLast b s t × (e.number ≤ b)) performed d syncs (λ sync. (told, within))
 
-pub told_longer : (ok : Bool) (a b : ℕ) (x y : List ℕ) → Tells ok a b x y → length x ≤ length y
+pub told_longer : (ok : Bool) (a b : ℕ) (x y : List ℕ) → WereTold ok a b x y → length x ≤ length y
 told_longer ok a b x y (more, none, few, least, how) =
     ⊎_elim (λ (was : (y ≡ x ++ more) × (b ≡ a)). omega (arith, ap length was.0, length-append x more))
     (λ (was : (earlier : List ℕ) × (y ≡ x ++ earlier ++ b ∷ more)). omega (arith, ap length was.1, length-append (x ++ was.0) (b ∷ more), length-append x was.0)) how

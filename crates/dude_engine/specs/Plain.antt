@@ -9,7 +9,7 @@ use Rattle.pmem_trait.specs.declared.medium.Medium.{Ghosts}
 use Rattle.run_order.specs.Runs.{Performs, Collects}
 use Rattle.image_opening.specs.declared.opened.Opened.{Opened}
 use Rattle.image_opening.specs.Opened.{HoldsOpened}
-use Rattle.run_log.specs.RunLog.{Tells}
+use Rattle.back_store.specs.Told.{WereTold}
 use Rattle.dude_engine.specs.declared.ran.RanEnd.{RanEnd}
 use Rattle.dude_engine.specs.declared.ran.RanEnd.TheVariants.{Device}
 use Rattle.dude_engine.specs.Opening.{Opening, last_of, RecoversFrom}
@@ -49,7 +49,7 @@ ran_well _ = true
 -- This number is the last that was told in this call, or the opening number where none was. The call that failed may have told
 -- one more, which is no less.
 abbrev pub IsLastTold : RanEnd → Opening → ℕ → Sight → Sight → Type 0
-IsLastTold end opening last s t = Tells (ran_well end) opening.number last (state_now s).told (state_now t).told
+IsLastTold end opening last s t = WereTold (ran_well end) opening.number last (state_now s).told (state_now t).told
 
 -- A call on the medium failed, the last one, exactly where the run says so.
 abbrev pub RanUnlessDevice : RanEnd → Sight → Sight → Type 0

@@ -19,7 +19,8 @@ use Rattle.image_opening.specs.Opened.{HoldsOpened}
 use Rattle.run_log.specs.declared.run_log.RunLog.{RunLog}
 use Rattle.run_log.specs.Arrays.{RunArrays, array_at, last_number}
 use Rattle.run_log.specs.LogCalls.{Makes}
-use Rattle.run_log.specs.RunLog.{Follows, IsAlive, Tells, log_back, log_durable, log_last, log_sizes}
+use Rattle.back_store.specs.Told.{WereTold}
+use Rattle.run_log.specs.RunLog.{Follows, IsAlive, log_durable, log_last, log_parts, log_sizes}
 use Rattle.dude_engine.specs.declared.ran.RanEnd.{RanEnd}
 use Rattle.dude_engine.specs.declared.ran.RanEnd.TheVariants.{Whole, Device as EndsOnDevice, NoMemory as EndsOnNoMemory}
 use Rattle.dude_engine.specs.declared.run.Run.{Run}
@@ -86,7 +87,7 @@ pub record IsRunning {M : Type 0} {ghosts : Ghosts M} (opening : Opening) (words
   pub stands : StandsFor opening.sizes current (tables_after opening performed)
   pub len : t.len ≡ s.len
   pub ran : SomeCalls true s t
-  pub tells : IsTrue s.is_visible → Tells true opening.number (log_durable l) (state_now s).told (state_now t).told
+  pub tells : IsTrue s.is_visible → WereTold true opening.number (log_durable l) (state_now s).told (state_now t).told
   pub syncs : IsTrue s.is_visible → AreSyncsUpTo (log_durable l) performed s t
   pub follows : (before : ℕ) → HoldsOpened before opening.sizes opening.number words s → FollowsRun before opening performed current l t
   pub moments : (before : ℕ) → HoldsOpened before opening.sizes opening.number words s → AtEveryMoment (RecoversSoFar before opening performed) s t
@@ -101,7 +102,7 @@ pub record HasFailed (opening : Opening) (words : List ℕ) (durable : ℕ) (per
   pub len : t.len ≡ s.len
   pub ran : SomeCalls false s t
   pub cause : Risen s.faults t.faults
-  pub tells : IsTrue s.is_visible → Tells false opening.number durable (state_now s).told (state_now t).told
+  pub tells : IsTrue s.is_visible → WereTold false opening.number durable (state_now s).told (state_now t).told
   pub syncs : IsTrue s.is_visible → AreSyncsTold performed s t
   pub moments : (before : ℕ) → HoldsOpened before opening.sizes opening.number words s → AtEveryMoment (RecoversSoFar before opening performed) s t
 
@@ -149,7 +150,7 @@ AddsTurn (Err fault) file index requests old new =
 pub record ServesMore {M : Type 0} {ghosts : Ghosts M} (k : Run M ghosts) (s : Sight) (l : Run M ghosts) (t : Sight) : Type 0 where
   pub more : List Done
   pub done : l.done.items ≡ k.done.items ++ more
-  pub makes : Makes (ServedInTurn more (log_back k.log) (log_back l.log)) s t
+  pub makes : Makes (ServedInTurn more (log_parts k.log) (log_parts l.log)) s t
 
 -- how a run ended, by its answer
 abbrev pub end_by : Result (Unit {0}) RunFault → RanEnd

@@ -27,8 +27,9 @@ use tatp_model::Request;
 use word_space::flat::Flat;
 
 /// Runs the requests of files on one thread: request 0 of each file in the files' order, then request 1 of each, and so on.
-/// An update is durable in the ring of its file before the next request; a `SYNC` announces. At the end all is announced and
-/// reproduced.
+/// Updates are persisted in bundles of at most 256 numbers, each in the ring of the file of its first one; a `SYNC` persists
+/// the open bundle and announces. At the end all is persisted, announced and reproduced. Where the medium failed or there was
+/// no memory, the records of the open bundle aren't persisted.
 pub fn plain<M: Medium>(alloc: Global, opened: Opened<M>, files: &[Vec<Request>]) -> Ran<M>
     requires opened { IsOpened opened }
     requires rings { length files.now ≤ opened.sizes.rings }

@@ -16,8 +16,8 @@ pub enum RanEnd {
 /// What became of a run.
 #[derive(Drop)]
 pub struct Ran<M> {
-    /// The requests done, in order of file and index. At `Device` the last one may be the request on which the medium
-    /// failed, since its record may be durable.
+    /// The requests done, in order of file and index. At `Device` and `NoMemory` those that wrote last may be in no record on
+    /// the medium: at most the 256 of an open bundle and, at `Device`, the one that it didn't take.
     pub done: Vec<Done>,
     pub medium: M,
     pub end: RanEnd,

@@ -10,7 +10,7 @@ ghost use Rattle.tatp_model.specs.OneThread.{HoldsAll, PrecedesInFiles, is_chang
 ghost use Rattle.tatp_model.specs.Request.{IsInRange};
 ghost use Rattle.run_order.specs.Runs.{Collects, PrecedesInRounds};
 ghost use Rattle.run_log.specs.LogCalls.{Makes};
-ghost use Rattle.run_log.specs.RunLog.{log_back, log_durable, log_last, log_medium};
+ghost use Rattle.run_log.specs.RunLog.{log_durable, log_last, log_medium, log_parts};
 ghost use Rattle.dude_engine.specs.Opening.{Opening};
 ghost use Rattle.dude_engine.specs.Requests.{AreInRange, request_count};
 ghost use Rattle.dude_engine.specs.RunCalls.{RunBy};
@@ -48,7 +48,7 @@ impl<M: Medium> Run<M> {
         ensures rounds { AllPairs PrecedesInRounds self.new.done.items }
         ensures collects { (done : List Done) → IsPermutation self.new.done.items done → AllPairs PrecedesInFiles done → Collects (map (λ f. f.items) files.now) self.new.done.items done }
         ensures all { OnOk result ((done : List Done) → IsPermutation self.new.done.items done → AllPairs PrecedesInFiles done → HoldsAll (map (λ f. f.items) files.now) done) }
-        ensures calls { OnOk result (Makes (RunBy (log_back self.old.log) self.new.done.items (log_durable self.new.log)) (M.sight (log_medium self.old.log)) (M.sight (log_medium self.new.log))) }
+        ensures calls { OnOk result (Makes (RunBy (log_parts self.old.log) self.new.done.items (log_durable self.new.log)) (M.sight (log_medium self.old.log)) (M.sight (log_medium self.new.log))) }
         ensures settled { OnOk result ((opening : Opening) (words : List ℕ) (s : Sight) → Runs opening words self.old s (M.sight (log_medium self.old.log))
             → IsSettledRun opening words (log_durable self.new.log) self.new.done.items s (M.sight (log_medium self.new.log))) }
     {
@@ -106,7 +106,7 @@ impl<M: Medium> Run<M> {
         }
     }
 
-    /// Serves one request. Where the medium fails at its record, it is noted as done too, since the record may be durable.
+    /// Serves one request. Where the medium fails as the bundle before its record is persisted, it is noted as done too.
     fn serve(&mut self, file: u64, index: u64, request: &Request) -> Result<(), RunFault>
         requires ready { IsReady self.old }
         requires room { vec_len self.old.done < vec_capacity self.old.done }

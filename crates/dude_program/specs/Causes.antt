@@ -1,6 +1,6 @@
 -- With which fault a command ends, and where; and what stays then.
 use Rattle.std.specs.Prelude.{◌≡◌, ◌⊎◌, ◌↔◌, ℕ, ◌+◌, ◌*◌, ◌<◌, ◌≤◌, ⊤, Bool, true, false, Option, Some, None, IsTrue, List, [], ◌∷◌, ◌++◌, length, min, All}
-use Rattle.dude_base.specs.declared.limits.TheConstants.{MAX_NUMBER, MIN_FRAMES, VERSION}
+use Rattle.dude_base.specs.declared.limits.TheConstants.{MAX_NUMBER, MIN_FRAMES}
 use Rattle.dude_base.specs.declared.sizes.Sizes.{Sizes}
 use Rattle.dude_base.specs.Sizes.{IsFrom, sizes_for}
 use Rattle.dude_base.specs.Image.{image_words}
@@ -77,8 +77,8 @@ RefusesFormat meaning len _ = ⊥
 
 -- Why the content can't be opened: the first of these that fits.
 abbrev pub RefusesContent : List ℕ → Fault → Type 0
-RefusesContent content Unformatted = ¬ IsFormatted VERSION content
-RefusesContent content (Damaged line) = IsFormatted VERSION content × IsDamaged content line
+RefusesContent content Unformatted = ¬ IsFormatted content
+RefusesContent content (Damaged line) = IsFormatted content × IsDamaged content line
 RefusesContent content (NotDb word) = IsNoDatabase word content
 RefusesContent content _ = ⊥
 

@@ -42,10 +42,10 @@ pub fn check_frames(frames: Option<u64>, pages: u64) -> Result<(), Fault>
 
 // How many requests there are in all.
 fn count_requests(files: &[Vec<Request>]) -> u64
-    requires files { length files.now ≤ 8 }
+    requires files { length files.now ≤ 16 }
     requires few { All (λ list. length list ≤ 100000) (requests_in files.now) }
     ensures total { result ≡ request_count (requests_in files.now) }
-    ensures small { result ≤ 800000 }
+    ensures small { result ≤ 1600000 }
 {
     let mut count = 0;
     for file in files {
@@ -57,7 +57,7 @@ fn count_requests(files: &[Vec<Request>]) -> u64
 /// Refuses requests for which the numbers may not be enough.
 pub fn check_numbers(number: u64, files: &[Vec<Request>]) -> Result<(), Fault>
     requires small { number ≤ MAX_NUMBER }
-    requires files { length files.now ≤ 8 }
+    requires files { length files.now ≤ 16 }
     requires few { All (λ list. length list ≤ 100000) (requests_in files.now) }
     ensures ok { OnOk result (number + 65 * request_count (requests_in files.now) ≤ MAX_NUMBER) }
     ensures err { IfErr result (HasFewNumbers number (requests_in files.now)) }

@@ -71,7 +71,7 @@ pub fn format<M: Medium, K: Sink>(
     requires settled { IsTrue (M.sight medium).is_visible → IsSettled (M.sight medium).len (state_now (M.sight medium)) }
     requires subscribers { IsBetween 1 10_000 counts.subscribers }
     requires calls { IsBetween 1 120_000 counts.calls }
-    requires rings { IsBetween 1 8 counts.rings }
+    requires rings { IsBetween 1 16 counts.rings }
     requires cells { IsBetween 16 4_096 counts.cells }
     ensures status { result.status ≡ status_of result.fault }
     ensures ends { (f : FilesSight) → Ends (FormatImage counts.subscribers counts.calls counts.rings counts.cells) (world_of (M.sight medium) f (K.sight out.old))
@@ -145,7 +145,7 @@ pub fn dump<M: Medium, K: Sink>(alloc: Global, medium: M, out: &mut K) -> Ended<
 pub fn drive<M: Medium, K: Sink>(alloc: Global, load: Load, medium: M, out: &mut K) -> Ended<M>
     requires settled { IsTrue (M.sight medium).is_visible → IsSettled (M.sight medium).len (state_now (M.sight medium)) }
     requires count { load.count ≤ 99_999 }
-    requires files { IsBetween 1 8 load.files }
+    requires files { IsBetween 1 16 load.files }
     ensures status { result.status ≡ status_of result.fault }
     ensures ends { (f : FilesSight) → Ends (DriveLoad load.seed load.count load.files) (world_of (M.sight medium) f (K.sight out.old))
         (world_of (M.sight result.medium) f (K.sight out.new)) result.done.items result.fault }

@@ -15,8 +15,8 @@ pub struct Ended<M> {
     pub fault: Option<Fault>,
     /// The medium that was handed in.
     pub medium: M,
-    /// The requests done, in order of file and index. At status 6 the last one may be the request on which the medium
-    /// failed, since its record may be durable.
+    /// The requests done, in order of file and index. At status 6 and 8 those that wrote last may be in no record on the
+    /// medium: at most the 256 of an open bundle and, at 6, the one that it didn't take.
     pub done: Vec<Done>,
 }
 

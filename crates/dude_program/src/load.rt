@@ -50,7 +50,7 @@ pub fn make_load<M: Medium>(
 ) -> Result<Vec<Vec<Request>>, Fault>
     requires opened { IsOpened opened.now }
     requires count { load.now.count ≤ 99999 }
-    requires files { load.now.files ≤ 8 }
+    requires files { load.now.files ≤ 16 }
     ensures load { IfOk result (λ lists. requests_in lists.items ≡ load_of opened.now.sizes.subscribers load.now.seed load.now.count load.now.files) }
     ensures rings { IfOk result (λ lists. length lists.items ≤ opened.now.sizes.rings) }
     ensures files { OnOk result (load.now.files ≤ opened.now.sizes.rings) }

@@ -1,5 +1,5 @@
 -- The last write of each word: in a row that goes on, in another order of it, and of records.
-use Rattle.std.proofs.Common.{◌≡◌, ◌≢◌, ◌==◌, ℕ, ◌+◌, ◌<◌, ◌≤◌, zero, suc, false, List, [], ◌∷◌, ◌++◌, Option, Some, None, if◌then◌else◌, All, AllPairs, length, map, flat_map, get_or, refl, sym, ap, ◌∙◌, inl, inr, arith, eq-eqb, ne_eqb, append_assoc, append-nil, sum_by}
+use Rattle.std.proofs.Common.{◌≡◌, ◌≢◌, ◌==◌, ℕ, ◌+◌, ◌<◌, ◌≤◌, zero, suc, false, List, [], ◌∷◌, ◌++◌, Option, Some, None, if◌then◌else◌, All, AllPairs, length, map, flat_map, get_or, refl, sym, ap, ◌∙◌, inl, inr, arith, eq-eqb, ne_eqb, append_assoc, append-nil}
 use Rattle.std.specs.Option.{option_or}
 use Rattle.std.specs.Ordering.{nat_cmp, ordering_then, is_lt}
 use Rattle.std.specs.Cmp.{IsTotalOrder}
@@ -10,12 +10,11 @@ use Rattle.std.proofs.lemmas.Bool.{cases_eq, cases_lt}
 use Rattle.std.proofs.lemmas.Bool.Decides.{nat_tests}
 use Rattle.std.proofs.lemmas.Cmp.{then_total, on_total, nat_cmp_total}
 use Rattle.std.proofs.lemmas.List.{get_or_default}
-use Rattle.std.proofs.lemmas.List.Concat.{length-flat_map}
 use Rattle.std.proofs.lemmas.List.Elements.{All-contains, All-cons, All-weaker, Contains-append_right}
 use Rattle.std.proofs.lemmas.List.Sorted.{ranks_by, sorted_far, All-permutation, Contains-permutation, IsPermutation-sym}
 use Rattle.std.proofs.lemmas.Grind.{common_steps, flat_map-append}
 use Rattle.dude_base.specs.declared.write.Write.{Write}
-use Rattle.dude_base.specs.Records.{RedoRecord}
+use Rattle.dude_base.specs.Records.{RedoBundle}
 use Rattle.dude_base.specs.Writes.{written, HasDistinctPlaces}
 use Rattle.dude_base.proofs.WriteLists.{written_absent}
 use Rattle.group_combine.specs.declared.numbered.Numbered.{Numbered}
@@ -53,12 +52,12 @@ last_of-distinct (w ∷ ws) i distinct =
     ]
 
 -- the writes of records in order
-pub last_of-records : (rs : List RedoRecord) (i : ℕ) → All (λ r. HasDistinctPlaces r.writes) rs → last_of (flat_map (λ (r : RedoRecord). r.writes) rs) i ≡ last_written rs i
+pub last_of-records : (rs : List RedoBundle) (i : ℕ) → All (λ r. HasDistinctPlaces r.writes) rs → last_of (flat_map (λ (r : RedoBundle). r.writes) rs) i ≡ last_written rs i
 last_of-records [] i distinct = refl
 last_of-records (r ∷ rs) i distinct =
     let here : last_of r.writes i ≡ written r.writes i = last_of-distinct r.writes i (distinct 0 r (omega arith)) in
     let rest = last_of-records rs i (λ k d lt. distinct (suc k) d (omega arith)) in
-    last_of-append r.writes (flat_map (λ (r : RedoRecord). r.writes) rs) i ∙ ap (λ o. option_or o (last_of r.writes i)) rest ∙ ap (option_or (last_written rs i)) here
+    last_of-append r.writes (flat_map (λ (r : RedoBundle). r.writes) rs) i ∙ ap (λ o. option_or o (last_of r.writes i)) rest ∙ ap (option_or (last_written rs i)) here
 
 pub numbered_from-append : (n : ℕ) (vs ws : List Write) → numbered_from n (vs ++ ws) ≡ numbered_from n vs ++ numbered_from (n + length vs) ws
 numbered_from-append n [] ws = ap (λ k. numbered_from k ws) (omega arith)
@@ -207,10 +206,5 @@ numbered_from-push row n ws w order is {all} so_far =
     ∙ ap (λ l. row ++ l) (ap (λ k. numbered_from n ws ++ numbered_from k (w ∷ [])) is ∙ sym (numbered_from-append n ws (w ∷ [])))
 
 -- the writes of one record more, behind others
-pub numbered_more : (rs : List RedoRecord) (r : RedoRecord) (n : ℕ) {row : List Numbered} → row ≡ numbered_from 0 (flat_map (λ (r : RedoRecord). r.writes) rs)
-    → n ≡ sum_by (λ (r : RedoRecord). length r.writes) rs → row ++ numbered_from n r.writes ≡ numbered_from 0 (flat_map (λ (r : RedoRecord). r.writes) (rs ++ r ∷ []))
-numbered_more rs r n {row} so_far is =
-    let ws : List Write = flat_map (λ (r : RedoRecord). r.writes) rs in
-    let at_end : n ≡ 0 + length ws = is ∙ sym (length-flat_map (λ (r : RedoRecord). r.writes) rs) ∙ omega arith in
-    ap (λ (l : List Numbered). l ++ numbered_from n r.writes) so_far ∙ ap (λ k. numbered_from 0 ws ++ numbered_from k r.writes) at_end
-    ∙ sym (numbered_from-append 0 ws r.writes) ∙ ap (numbered_from 0) (ap (λ l. ws ++ l) (sym (append-nil r.writes)) ∙ sym (flat_map-append (λ (r : RedoRecord). r.writes) rs (r ∷ [])))
+pub writes_more : (rs : List RedoBundle) (r : RedoBundle) → flat_map (λ (r : RedoBundle). r.writes) rs ++ r.writes ≡ flat_map (λ (r : RedoBundle). r.writes) (rs ++ r ∷ [])
+writes_more rs r = ap (λ l. flat_map (λ (r : RedoBundle). r.writes) rs ++ l) (sym (append-nil r.writes)) ∙ sym (flat_map-append (λ (r : RedoBundle). r.writes) rs (r ∷ []))

@@ -3,21 +3,22 @@ use Rattle.std.specs.Prelude.{◌≡◌, ℕ, List, [], ◌∷◌, Option, Some,
 use Rattle.std.specs.Option.{option_or}
 use Rattle.std.specs.List.{Contains}
 use Rattle.dude_base.specs.declared.write.Write.{Write}
-use Rattle.dude_base.specs.Records.{RedoRecord}
+use Rattle.dude_base.specs.Records.{RedoBundle}
 use Rattle.dude_base.specs.Writes.{written}
 
--- The writes of a group, and for how many it has room.
+-- The writes of a group, those taken for the next ones, and for how many it has room.
 pub record GroupState : Type 0 where
   pub writes : List Write
+  pub taken : List Write
   pub room : ℕ
 
 -- what the last of these records that writes word i puts into it, or None where none of them does
-abbrev pub last_written : List RedoRecord → ℕ → Option ℕ
+abbrev pub last_written : List RedoBundle → ℕ → Option ℕ
 last_written [] i = None
 last_written (r ∷ rs) i = option_or (last_written rs i) (written r.writes i)
 
 -- One of these records makes the write.
-pub record IsWrittenBy (rs : List RedoRecord) (w : Write) : Type 0 where
-  pub writer : RedoRecord
+pub record IsWrittenBy (rs : List RedoBundle) (w : Write) : Type 0 where
+  pub writer : RedoBundle
   pub among : Contains rs writer
   pub writes : written writer.writes w.at ≡ Some w.value

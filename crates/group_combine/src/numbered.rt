@@ -1,12 +1,10 @@
-//! The writes of a row of records, numbered in order, and the last one of each word among them.
+//! Writes numbered in order, and the last one of each word among them.
 
-ghost use Rattle.std.specs.Prelude.{◌≡◌, ◌+◌, ◌≤◌, ◌<◌, ◌++◌, All, MatchBool, sum_by, flat_map, length, vec_len};
+ghost use Rattle.std.specs.Prelude.{◌≡◌, ◌≤◌, ◌<◌, MatchBool, length, vec_len};
 ghost use Rattle.std.specs.Vec.{vec_capacity};
 ghost use Rattle.std.specs.List.Sorted.{IsPermutation};
-ghost use Rattle.dude_base.specs.Writes.{HasDistinctPlaces};
-ghost use Rattle.group_combine.specs.Numbered.{numbered_from, AreInOrder, EndsWord, GoesOn, IsKept};
+ghost use Rattle.group_combine.specs.Numbered.{AreInOrder, EndsWord, GoesOn, IsKept};
 
-use dude_base::redo::Redo;
 use dude_base::write::Write;
 
 /// A write, and how many come before it in the row.
@@ -15,38 +13,6 @@ pub struct Numbered {
     pub at: u64,
     pub order: u64,
     pub value: u64,
-}
-
-// Adds the writes of a record.
-fn add_record(r: &Redo, row: &mut Vec<Numbered>)
-    requires { vec_len row.old + length r.now.writes ≤ vec_capacity row.old }
-    ensures added { row.new.items ≡ row.old.items ++ numbered_from (vec_len row.old) r.now.writes }
-    ensures len { vec_len row.new ≡ vec_len row.old + length r.now.writes }
-    ensures capacity { vec_capacity row.new ≡ vec_capacity row.old }
-    ensures distinct { HasDistinctPlaces r.now.writes }
-{
-    for k in 0..r.len() {
-        let w = r.write_at(k);
-        row.push_reserved(Numbered {
-            at: w.at,
-            order: row.len() as u64,
-            value: w.value,
-        });
-    }
-}
-
-/// Makes the row that of these records' writes.
-pub fn number_writes(list: &[Redo], row: &mut Vec<Numbered>)
-    requires { sum_by (λ r. length r.writes) list.now ≤ vec_capacity row.old }
-    ensures numbered { row.new.items ≡ numbered_from 0 (flat_map (λ r. r.writes) list.now) }
-    ensures len { vec_len row.new ≡ sum_by (λ r. length r.writes) list.now }
-    ensures capacity { vec_capacity row.new ≡ vec_capacity row.old }
-    ensures distinct { All (λ r. HasDistinctPlaces r.writes) list.now }
-{
-    row.clear();
-    for r in list {
-        add_record(r, row);
-    }
 }
 
 /// Puts the row in rising order of word, and the writes of a word in their order.

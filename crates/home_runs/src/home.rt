@@ -20,6 +20,9 @@ use tatp_population::{PopFault, populate};
 use word_space::flat::Flat;
 use word_space::words::Words;
 
+/// The word of subscriber 1's location in the home for 8 subscribers.
+pub const LOCATION: usize = 22;
+
 /// The home of a new database of these sizes, the subscribers, the call rows, the rings, the cells of a ring, and the pages where
 /// they are given. `None` where there is none; what it is, or why there is none, is printed.
 pub fn new_home(alloc: Global, numbers: &[u64], page: &mut Page) -> Option<(Layout, Vec<u64>)> {

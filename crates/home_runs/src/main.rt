@@ -6,6 +6,7 @@
 mod calls;
 mod checks;
 mod home;
+mod images;
 mod page;
 mod play;
 mod records;

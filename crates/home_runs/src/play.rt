@@ -3,6 +3,7 @@
 use crate::calls::say_call;
 use crate::checks::{say_accepted, say_check, say_steps};
 use crate::home::{new_home, say_changes, say_in_image, say_places, serve_each};
+use crate::images::say_open;
 use crate::page::Page;
 use crate::records::{say_reads, say_record, say_redo};
 use crate::rows::say_records;
@@ -78,6 +79,8 @@ impl Play {
                 Err(_) => page.cut(),
             },
             ("files", []) => self.files = Files::new(alloc),
+            ("locations", &[first, last]) => self.files.append_updates(first, last, false, page),
+            ("subscribers", &[first, last]) => self.files.append_updates(first, last, true, page),
             ("order", done) => say_in_files(alloc, done, page),
             _ => self.take_on_words(alloc, name, numbers, page),
         }
@@ -132,6 +135,8 @@ impl Play {
             "accepted" => say_accepted(alloc, lay, flat.words(), numbers, page),
             "records" => say_records(lay, flat, numbers, page),
             "run" => self.files.say_run(alloc, lay, flat.words(), page),
+            "bundles" => self.files.say_bundles(alloc, lay, flat.words(), page),
+            "open" => say_open(alloc, lay, flat.words(), numbers, page),
             "images" => self
                 .files
                 .say_images(alloc, lay, flat.words(), numbers, page),

@@ -1,18 +1,15 @@
 //! Runs of request files over the image of a home on a medium in memory.
 
-ghost use Rattle.std.specs.Prelude.{◌≡◌, ◌≤◌, ◌+◌, ◌*◌, All, IfOk, IsTrue, length, map};
+ghost use Rattle.std.specs.Prelude.{◌≡◌, ◌≤◌, ◌+◌, ◌*◌, All, length, map};
 ghost use Rattle.dude_base.specs.declared.limits.TheConstants.{MAX_NUMBER};
-ghost use Rattle.pmem_trait.specs.Words.{IsSettled};
-ghost use Rattle.pmem_trait.specs.Sights.{state_now};
-ghost use Rattle.pmem_fake.specs.Fakes.{sight};
 ghost use Rattle.tatp_model.specs.Request.{IsInRange};
 ghost use Rattle.image_opening.specs.Opened.{IsOpened};
 ghost use Rattle.dude_engine.specs.Requests.{AreInRange, request_count};
 
-use crate::home::done_at;
+use crate::home::{LOCATION, done_at};
+use crate::images::{image_with, medium_of, say_heads};
 use crate::page::Page;
-use dude_base::limits::{MAGIC, VERSION};
-use dude_base::place::Place;
+use dude_base::limits::VERSION;
 use dude_engine::{Ran, RanEnd, plain};
 use image_opening::{Opened, open};
 use image_recovery::image_of;
@@ -20,13 +17,12 @@ use pmem_fake::MemPmem;
 use pmem_trait::Medium;
 use request_reader::read_requests;
 use run_order::put_in_files;
-use std::alloc::{AllocError, Global};
+use std::alloc::Global;
 use tatp_layout::Layout;
 use tatp_model::{Reply, Request};
+use tatp_text::write_request;
 
-/// The home word of subscriber 1's location, and what a new database has there.
-const LOCATION: usize = 22;
-
+/// The location of subscriber 1 in a new database.
 const NEW_LOCATION: u64 = 1_000_001;
 
 /// The texts of two request files.
@@ -43,6 +39,17 @@ impl Files {
         Files {
             first: Vec::new(alloc),
             second: Vec::new(alloc),
+        }
+    }
+
+    /// Appends updates of locations to the first file, one for each number from `first` to `last`: of subscriber 1 to that
+    /// location, or, where `of_all` says so, of that subscriber to location 7.
+    pub fn append_updates(&mut self, first: u64, last: u64, of_all: bool, page: &mut Page) {
+        for number in first..last.saturating_add(1).min(100_000) {
+            let (sub_nbr, vlr) = if of_all { (number, 7) } else { (1, number) };
+            if write_request(&Request::UpdateLocation { sub_nbr, vlr }, &mut self.first).is_err() {
+                page.cut();
+            }
         }
     }
 
@@ -69,7 +76,10 @@ impl Files {
         let Ok(second) = read_requests(alloc, &self.second) else {
             return None;
         };
-        let Ok(medium) = medium(alloc, lay, words, fail) else {
+        let Ok(image) = image_with(alloc, lay, words, VERSION, &[]) else {
+            return None;
+        };
+        let Ok(medium) = medium_of(alloc, image, fail) else {
             return None;
         };
         match open(alloc, medium) {
@@ -127,6 +137,25 @@ impl Files {
         page.line("each image recovers");
     }
 
+    /// Runs the files, and prints how many calls on the medium the run made, its last number, and the bundles whose heads stand in
+    /// the rings then: of each the ring and the cell, its first number and its last, and how many writes it has.
+    pub fn say_bundles(&self, alloc: Global, lay: &Layout, words: &[u64], page: &mut Page) {
+        let (Some(ran), Some(idle)) = (
+            self.run(alloc, lay, words, 0),
+            Files::new(alloc).run(alloc, lay, words, 0),
+        ) else {
+            return page.line("not run");
+        };
+        // A run without requests makes one call: it tells its number.
+        let calls = ran
+            .medium
+            .now()
+            .saturating_sub(idle.medium.now())
+            .saturating_add(1);
+        page.numbers("calls and last", &[calls, ran.last]);
+        say_heads(lay, ran.medium.content(), page);
+    }
+
     /// Runs the files once for every so many of the last calls, each of which fails in turn, and prints how many of these runs
     /// end there and leave the image of a run of updates up to the last number. The numbers are how many calls are the last
     /// ones, the count of calls, and the last number.
@@ -143,7 +172,8 @@ impl Files {
         };
         let end = whole.medium.now();
         let mut ended = 0u64;
-        for fail in (end.saturating_sub(*before)..end).step_by((*every).max(1) as usize) {
+        for left in (0..*before).rev().step_by((*every).max(1) as usize) {
+            let fail = end.saturating_sub(left);
             if let Some(ran) = self.run(alloc, lay, words, fail)
                 && ran.end == RanEnd::Device
                 && ran.medium.now() == fail
@@ -156,26 +186,6 @@ impl Files {
         }
         page.numbers("runs that end where a call fails", &[ended]);
     }
-}
-
-/// A medium with the image of a home, of which the call of this count fails.
-fn medium(alloc: Global, lay: &Layout, words: &[u64], fail: u64) -> Result<MemPmem, AllocError>
-    ensures { IfOk result (λ medium. IsTrue (sight medium).is_visible → IsSettled (sight medium).len (state_now (sight medium))) }
-{
-    let sizes = lay.sizes();
-    let mut image = vec![in alloc;
-        MAGIC,
-        VERSION,
-        sizes.subscribers,
-        sizes.calls,
-        sizes.rings,
-        sizes.cells,
-        sizes.pages,
-    ]?;
-    image.resize(Place::of(&sizes).home(0) as usize, 0)?;
-    image.extend_from_slice(words)?;
-    let medium = MemPmem::new(alloc, image, 1_000_000, vec![in alloc; fail]?)?;
-    Ok(medium)
 }
 
 /// The two files, or none where they can't be run.

@@ -24,7 +24,7 @@ use Rattle.redo_record.specs.Images.{sizes_of, tag_of, IsNewHead}
 use Rattle.redo_record.specs.Recovery.{HasRecord, Recovers}
 use Rattle.redo_record.specs.Rest.{RestsAt}
 use Rattle.redo_record.specs.BackLaws.{HasNoHeads}
-use Rattle.redo_record.proofs.HeldLog.{in_cells}
+use Rattle.redo_record.proofs.HeldLog.{in_cells, newest_version}
 use Rattle.redo_record.proofs.Recovered.{recovery_law, images_at_rest_law}
 use Rattle.image_format.specs.FormatCalls.{empty_cells, content_writes, content_lines, header_writes, format_calls}
 use Rattle.image_format.proofs.Writes.{Within, left, stays_settled, IsIn-range, within-enumerate, length-empty_cells, cell_value, home_value}
@@ -168,13 +168,13 @@ module _ (s : Sizes) (home : List ℕ) where
 
     -- what each image recovers to then
     pub record RecoversNew (image : List ℕ) : Type 0 where
-      pub recovered : Recovers VERSION image 0 home
+      pub recovered : Recovers image 0 home
       pub same_sizes : sizes_of image ≡ s
 
     marked_images : (p : State) (len : ℕ) (image : List ℕ) → IsAccepted s → image_words s ≤ len → IsImage len (marked p) image → RecoversNew image
     marked_images p len image accepted long is =
-        let both = recovery_law VERSION s 0 home image 0 [] accepted (omega arith) (images_at_rest_law VERSION s 0 home (marked p) len image long (marked_rests p) is)
-        (record { complete = λ c new. absurd (none c new); single = λ c d new other same. absurd (none c new) })
+        let both = recovery_law VERSION s 0 home image 0 [] accepted (newest_version s) (omega arith) (images_at_rest_law VERSION s 0 home (marked p) len image long (marked_rests p) is)
+        (record { complete = λ c new. absurd (none c new); single = λ c d n new other covered too. absurd (none c new) })
         (All-nil (HasRecord s 0 image)) refl (λ c new same. none c new) in
         record { same_sizes = both.0; recovered = both.1 }
       where

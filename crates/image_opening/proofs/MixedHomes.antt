@@ -1,7 +1,7 @@
 -- A home of which some words are already those that recovery gives them recovers to the same array.
 use Rattle.std.proofs.Common.{◌≡◌, ◌⊎◌, inl, inr, ⊎_elim, ℕ, ◌<◌, List, [], ◌∷◌, length, slice_index, Option, Some, None, unwrap_or, sym, ap, ◌∙◌, arith, refl}
 use Rattle.std.proofs.lemmas.Grind.{same_number_lists}
-use Rattle.dude_base.specs.Records.{RedoRecord, overwritten_by_all}
+use Rattle.dude_base.specs.Records.{RedoBundle, overwritten_by_all}
 use Rattle.dude_base.specs.Writes.{written, overwritten}
 use Rattle.dude_base.proofs.Overwriting.{length-overwritten, index-overwritten}
 
@@ -9,7 +9,7 @@ use Rattle.dude_base.proofs.Overwriting.{length-overwritten, index-overwritten}
 abbrev pub IsMixed : List ℕ → List ℕ → List ℕ → Type 0
 IsMixed one other mixed = (i : ℕ) → i < length one → (slice_index mixed i ≡ slice_index one i) ⊎ (slice_index mixed i ≡ slice_index other i)
 
-pub mixed_home : (rs : List RedoRecord) (home mixed : List ℕ) → length mixed ≡ length home → IsMixed home (overwritten_by_all rs home) mixed → overwritten_by_all rs mixed ≡ overwritten_by_all rs home
+pub mixed_home : (rs : List RedoBundle) (home mixed : List ℕ) → length mixed ≡ length home → IsMixed home (overwritten_by_all rs home) mixed → overwritten_by_all rs mixed ≡ overwritten_by_all rs home
 mixed_home [] home mixed long each = same_number_lists mixed home long (λ i lt. ⊎_elim (λ e. e) (λ e. e) (each i (omega arith)))
 mixed_home (r ∷ rs) home mixed long each =
     mixed_home rs (overwritten r.writes home) (overwritten r.writes mixed)

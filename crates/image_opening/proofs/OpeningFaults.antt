@@ -28,6 +28,10 @@ stops_again {X} {Y} r q fault s t u r_is q_is before made =
     by Device made = inl (reads_then before made)
     by NoMemory made = reads_then before made
 
+-- a read failed
+pub stops_at_read : {X : Type 0} (r : Result X OpenFault) {s t : Sight} → r ≡ Err Device → OnlyReads false s t → IfErr r (λ fault. StopsBy fault s t)
+stops_at_read {X} r {s} {t} is reads = subst (λ (r : Result X OpenFault). IfErr r (λ fault. StopsBy fault s t)) (sym is) (inl reads)
+
 -- a call that opens the image failed
 pub stops_on_the_way : {X : Type 0} (r : Result X OpenFault) {s t : Sight} → r ≡ Err Device → StopsOnTheWay s t → IfErr r (λ fault. StopsBy fault s t)
 stops_on_the_way {X} r {s} {t} is way = subst (λ (r : Result X OpenFault). IfErr r (λ fault. StopsBy fault s t)) (sym is) (inr way)

@@ -11,6 +11,7 @@ use Rattle.pmem_trait.specs.Reads.{OnlyReads, IsSameState, ContentHas}
 use Rattle.pmem_trait.proofs.Laws.{every_moment_on}
 use Rattle.pmem_trait.proofs.ReadRuns.{reads_same}
 use Rattle.pmem_trait.proofs.Runs.{made_cause, made_here, made_later, made_then}
+use Rattle.redo_record.specs.Images.{version_of}
 use Rattle.tatp_model.specs.Database.{Database}
 use Rattle.tatp_layout.specs.StandsFor.{StandsFor, IsLawful}
 use Rattle.back_store.specs.Images.{IsIdleMedium}
@@ -60,8 +61,8 @@ module _ {ok : Bool} {sizes : Sizes} {number : ℕ} {words : List ℕ} {s t : Si
   abbrev Kept : List ℕ → List ℕ → Type 0
   Kept = StillRecoversArray (state_now s).told sizes number words
 
-  law : IsTrue s.is_visible → AfterEachCall (EveryImage s.len Kept) (state_now opens.read) (opening_calls sizes number words opens.stale)
-      × IsOpenedState sizes number words (state_now opens.read) (after_all (opening_calls sizes number words opens.stale) (state_now opens.read))
+  law : IsTrue s.is_visible → AfterEachCall (EveryImage s.len Kept) (state_now opens.read) (opening_calls opens.version sizes number words opens.stale)
+      × IsOpenedState sizes number words (state_now opens.read) (after_all (opening_calls opens.version sizes number words opens.stale) (state_now opens.read))
   law visible =
       let same = same_state visible in
       let p = state_now opens.read in
@@ -70,9 +71,10 @@ module _ {ok : Bool} {sizes : Sizes} {number : ℕ} {words : List ℕ} {s t : Si
       let is : IsContent s.len p content = record { size = own.size; each = λ k lt. own.each k lt ∙ ap value_of (sym (same.word k)) } in
       let still : IsSettled s.len p = λ k lt. subst IsSettledWord (sym (same.word k)) (settled visible k lt) in
       let both = opening_law sizes number words content s.len p is still (recovered visible content own) small in
-      subst (λ (ls : List ℕ). AfterEachCall (EveryImage s.len Kept) p (opening_calls sizes number words ls) × IsOpenedState sizes number words p (after_all (opening_calls sizes number words ls) p))
-      (sym (opens.heads visible content own))
-      (subst (λ (told : List ℕ). AfterEachCall (EveryImage s.len (StillRecoversArray told sizes number words)) p (opening_calls sizes number words (stale_lines sizes number content))) same.told both.0, both.1)
+      let Law : ℕ → List ℕ → Type 0 = λ v ls. AfterEachCall (EveryImage s.len Kept) p (opening_calls v sizes number words ls)
+      × IsOpenedState sizes number words p (after_all (opening_calls v sizes number words ls) p) in
+      let told = subst (λ (told : List ℕ). AfterEachCall (EveryImage s.len (StillRecoversArray told sizes number words)) p (opening_calls (version_of content) sizes number words (stale_lines sizes number content))) same.told both.0 in
+      subst (λ (v : ℕ). Law v opens.stale) (sym (opens.named visible content own)) (subst (Law (version_of content)) (sym (opens.heads visible content own)) (told, both.1))
 
   -- the entry recovers so too
   at_entry : IsTrue s.is_visible → EveryImage s.len Kept (state_now s)
@@ -90,14 +92,14 @@ module _ {ok : Bool} {sizes : Sizes} {number : ℕ} {words : List ℕ} {s t : Si
   }
 
 pub opens_calls : {ok : Bool} {sizes : Sizes} {number : ℕ} {words : List ℕ} {s t : Sight} → Opens ok sizes number words s t → SomeCalls ok s t
-opens_calls {sizes = sizes} {number = number} {words = words} opens = (map Read opens.reads.words ++ opening_calls sizes number words opens.stale, made_then opens.reads.made opens.made)
+opens_calls {sizes = sizes} {number = number} {words = words} opens = (map Read opens.reads.words ++ opening_calls opens.version sizes number words opens.stale, made_then opens.reads.made opens.made)
 
 -- where no call failed, the medium rests at the image
 pub opens_rests : {sizes : Sizes} {number : ℕ} {words : List ℕ} {s t : Sight} → (IsTrue s.is_visible → IsSettled s.len (state_now s)) → number ≤ MAX_NUMBER
     → ContentHas (RecoversArray sizes number words) s → Opens true sizes number words s t → (before : ℕ) → HasToldNoMore before number s → IsTrue s.is_visible → IsIdleMedium before sizes number words (state_now t)
 opens_rests {sizes} {number} {words} {s} {t} settled small recovered opens before no_more visible =
     let end = (law settled small recovered opens visible).1 in
-    let there : state_now t ≡ after_all (opening_calls sizes number words opens.stale) (state_now opens.read) = made_here opens.made ((made_later opens.reads.made).is_visible ∙ visible) in
+    let there : state_now t ≡ after_all (opening_calls opens.version sizes number words opens.stale) (state_now opens.read) = made_here opens.made ((made_later opens.reads.made).is_visible ∙ visible) in
     let same = same_state settled small recovered opens visible in
     subst (λ (q : State). IsIdleMedium before sizes number words q) (sym there) (record {
       rest = end.rest;

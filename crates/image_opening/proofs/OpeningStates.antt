@@ -1,31 +1,44 @@
--- The law of opening: the whole home is put, the mark is raised, and the heads over the number are cleared.
-use Rattle.std.proofs.Common.{◌≡◌, ◌≢◌, ◌⊎◌, inl, inr, ⊎_elim, ℕ, ◌*◌, ◌/◌, ◌<◌, ◌≤◌, List, [], ◌∷◌, ◌++◌, length, slice_index, refl, sym, ap, ◌∙◌, subst, arith}
-use Rattle.dude_base.specs.declared.limits.TheConstants.{MAX_NUMBER, VERSION}
+-- The law of opening: the whole home is put, the mark is raised, the heads over the number are cleared, and an image of the
+-- first version is raised.
+use Rattle.std.proofs.Common.{◌≡◌, ◌≢◌, ◌⊎◌, inl, inr, ⊎_elim, ℕ, zero, suc, ◌*◌, ◌/◌, ◌<◌, ◌≤◌, List, [], ◌∷◌, ◌++◌, length, slice_index, refl, sym, ap, ◌∙◌, subst, arith, ne_eqb}
+use Rattle.std.proofs.lemmas.Bool.{cases_eq}
+use Rattle.dude_base.specs.declared.limits.TheConstants.{MAX_NUMBER, VERSION, VERSION_ONE}
 use Rattle.dude_base.specs.declared.sizes.Sizes.{Sizes}
-use Rattle.dude_base.specs.Image.{Cell, cell_at, cell_start, home_word, image_words}
+use Rattle.dude_base.specs.Image.{Cell, cell_at, cell_start, header_words, home_word, image_words}
 use Rattle.pmem_trait.specs.Words.{IsIn, State, newest, value_of, MayHold, IsContent, IsSettled, EveryImage, AfterEachCall, AfterEachCall.end, after_all, settled_at}
 use Rattle.pmem_trait.specs.Groups.{group_calls, values_put, final, OldOrNew}
 use Rattle.pmem_trait.proofs.Images.{may_still}
-use Rattle.pmem_trait.proofs.GroupLaw.{group_law, group_word, group_told, left_word, kept_word}
+use Rattle.pmem_trait.proofs.GroupLaw.{group_law, group_word, group_told, left_word, kept_word, mix_may, unwritten_may}
 use Rattle.pmem_trait.proofs.GroupLists.{words_outside, words_inside}
 use Rattle.pmem_trait.proofs.GroupWords.{group_may}
 use Rattle.pmem_trait.proofs.Laws.{after_all_then, after_each_then}
 use Rattle.redo_record.specs.Tags.{kind_of, IsHeadOver}
 use Rattle.redo_record.specs.Cells.{IsCell, line_of}
-use Rattle.redo_record.specs.Images.{sizes_of}
-use Rattle.redo_record.specs.Recovery.{Recovers}
+use Rattle.redo_record.specs.Images.{sizes_of, version_of, tag_of, IsNewHead}
+use Rattle.redo_record.specs.Recovery.{IsVersion, Recovers}
 use Rattle.redo_record.specs.BackCalls.{mark_writes}
 use Rattle.redo_record.specs.BackLaws.{HasNoHeads}
 use Rattle.redo_record.proofs.HomeWrites.{put_beside_mark}
+use Rattle.redo_record.proofs.HeldLog.{newest_version}
 use Rattle.redo_record.proofs.RingHeads.{over_or_not}
-use Rattle.image_opening.specs.OpeningCalls.{home_puts, home_lines, stale_lines, clear_puts, clear_calls, opening_calls}
+use Rattle.image_opening.specs.OpeningCalls.{home_puts, home_lines, stale_lines, clear_puts, clear_calls, raise_puts, raise_calls, opening_calls}
 use Rattle.image_opening.specs.OpeningLaw.{StillRecoversArray, IsOpenedState, LawOfOpening}
-use Rattle.image_opening.proofs.OpeningImages.{IsUnmarked, IsMarked, IsHeadWord, header_is, words_count, unmarked_recovers, marked_recovers, cell_start_in}
+use Rattle.image_opening.proofs.OpeningImages.{IsUnmarked, IsMarked, IsReady, IsHeadWord, header_is, words_count, unmarked_recovers, marked_recovers, ready_recovers, cell_start_in}
 use Rattle.image_opening.proofs.ClearedHeads.{in_range, stale_head, head_stale, cleared_value, not_cleared, cleared_last}
 
 -- a settled word of the content
 pub content_word : {len : ℕ} {p : State} {content : List ℕ} → IsContent len p content → IsSettled len p → (k : ℕ) → k < len → p.word k ≡ settled_at (slice_index content k)
 content_word {p = p} is settled k lt = settled k lt ∙ ap settled_at (sym (ap value_of (settled k lt)) ∙ sym (is.each k lt))
+
+-- a word beside the version isn't put where that is raised
+unraised : (k : ℕ) → k ≢ 1 → values_put raise_puts k ≡ []
+unraised k other = rw (ne_eqb k 1 other) refl
+
+-- headers of two versions differ in one word
+other_words : (s : Sizes) (before version i : ℕ) → i < 8 → i ≢ 1 → slice_index (header_words before s) i ≡ slice_index (header_words version s) i
+other_words s before version zero below other = refl
+other_words s before version (suc zero) below other = absurd (other refl)
+other_words s before version (suc (suc i)) below other = refl
 
 -- 0 is no head
 no_head : (number tag : ℕ) → tag ≡ 0 → IsHeadOver number tag → ⊥
@@ -33,7 +46,7 @@ no_head number tag is over =
     let kind : kind_of 0 ≡ 1 = subst (λ (t : ℕ). kind_of t ≡ 1) is over.kind in
     cc
 
-module _ {content words : List ℕ} {number len : ℕ} {p : State} (is : IsContent len p content) (settled : IsSettled len p) (recovers : Recovers VERSION content number words) (small : number ≤ MAX_NUMBER) where
+module _ {content words : List ℕ} {number len : ℕ} {p : State} (is : IsContent len p content) (settled : IsSettled len p) (recovers : Recovers content number words) (small : number ≤ MAX_NUMBER) where
   abbrev s : Sizes
   s = sizes_of content
 
@@ -157,11 +170,11 @@ module _ {content words : List ℕ} {number len : ℕ} {p : State} (is : IsConte
   cells2 : (k : ℕ) → 16 ≤ k → k < home_word s 0 → p2.word k ≡ settled_at (slice_index content k)
   cells2 k low below = stay2 k _ (λ same. omega arith) (before1 k below)
 
-  -- the end, where no head over the number is left
-  opened_state : (q : State) → RestsMarked q → HasNoHeads s number q → IsOpenedState s number words p q
-  opened_state q marked none = record {
+  -- the end of an image of the newest version, where no head over the number is left
+  opened_state : (q : State) → version_of content ≡ VERSION → RestsMarked q → HasNoHeads s number q → IsOpenedState s number words p q
+  opened_state q newest marked none = record {
     rest = record {
-      header = λ i below. marked.header i below ∙ ap settled_at (header_is recovers i below);
+      header = λ i below. marked.header i below ∙ ap settled_at (header_is recovers i below ∙ ap (λ (v : ℕ). slice_index (header_words v s) i) newest);
       mark = marked.mark;
       count = size_is;
       words = λ i below. marked.home i (let count = size_is in omega arith);
@@ -169,6 +182,98 @@ module _ {content words : List ℕ} {number len : ℕ} {p : State} (is : IsConte
     heads = none;
     told = marked.told;
   }
+
+  -- the header of an image with this version, where the other words are the content's
+  header_with : (version : ℕ) (image : List ℕ) → slice_index image 1 ≡ version → ((i : ℕ) → i < 8 → i ≢ 1 → slice_index image i ≡ slice_index content i)
+      → (i : ℕ) → i < 8 → slice_index image i ≡ slice_index (header_words version s) i
+  header_with version image one others i below = by (cases_eq i 1)
+    where
+      by : (i ≡ 1) ⊎ (i ≢ 1) → slice_index image i ≡ slice_index (header_words version s) i
+      by (inl same) = subst (λ (k : ℕ). slice_index image k ≡ slice_index (header_words version s) k) (sym same) one
+      by (inr other) = others i below other ∙ (header_is recovers i below ∙ other_words s (version_of content) version i below other)
+
+  -- an image of a medium where no head over the number is left, with this version
+  kept_ready : {told image : List ℕ} (version : ℕ) → told ≡ p.told → IsVersion version s → IsReady version number s words image → Kept told image
+  kept_ready version same fits ready = let both = ready_recovers recovers.formatted.sizes fits small ready in (same, record { recovered = both.1; same_sizes = both.0 })
+
+  module _ (q : State) (marked : RestsMarked q) (none : HasNoHeads s number q) where
+    -- no image has such a head
+    no_heads : (image : List ℕ) → ((k : ℕ) → 16 ≤ k → k < home_word s 0 → MayHold (q.word k) (slice_index image k)) → (head : Cell) → IsNewHead s number image head → ⊥
+    no_heads image may head new =
+        let at = cell_start_in s head new.cell in
+        none head.ring head.slot (tag_of s image head) new.cell.ring_is new.cell.slot_is (may (cell_start s head) at.0 at.1) new.new
+
+    raise_mix : (image : List ℕ) → OldOrNew len q raise_puts image → Kept q.told image
+    raise_mix image mix = by (mix.each 1 (omega arith))
+      where
+        rest : (version : ℕ) → slice_index image 1 ≡ version → IsReady version number s words image
+        rest version one = record {
+          has = record {
+            header = header_with version image one (λ i below other. kept_word mix i _ (omega arith) (unraised i other) (marked.header i below));
+            mark = kept_word mix 8 _ (omega arith) (unraised 8 (λ same. omega arith)) marked.mark;
+            count = size_is;
+            words = λ i below. kept_word mix (home_word s i) _ (let count = size_is in omega arith) (unraised (home_word s i) (λ same. omega arith)) (marked.home i (let count = size_is in omega arith));
+            whole = let size = mix.size in let whole = long in omega arith;
+          };
+          none = no_heads image (λ k low below. mix_may mix k (omega arith) (unraised k (λ same. omega arith)));
+        }
+
+        by : MayHold (q.word 1) (slice_index image 1) ⊎ IsIn (slice_index image 1) (VERSION ∷ []) → Kept q.told image
+        by (inl may) = kept_ready (version_of content) marked.told recovers.formatted.version (rest (version_of content) (may_still _ _ _ (marked.header 1 (omega arith)) may))
+        by (inr (inl new)) = kept_ready VERSION marked.told (newest_version s) (rest VERSION new)
+        by (inr (inr none)) = absurd none
+
+    abbrev raised : State
+    raised = after_all (group_calls raise_puts (0 ∷ [])) q
+
+    raised_state : IsOpenedState s number words p raised
+    raised_state = record {
+      rest = record {
+        header = λ i below. raised_header i below;
+        mark = left_word raise_puts (0 ∷ []) q 8 _ (unraised 8 (λ same. omega arith)) marked.mark;
+        count = size_is;
+        words = λ i below. left_word raise_puts (0 ∷ []) q (home_word s i) _ (unraised (home_word s i) (λ same. omega arith)) (marked.home i (let count = size_is in omega arith));
+      };
+      heads = λ ring slot tag ring_is slot_is may over.
+          let at = cell_start_in s (cell_at ring slot) record { ring_is = ring_is; slot_is = slot_is } in
+          let low = at.0 in
+          none ring slot tag ring_is slot_is (unwritten_may raise_puts (0 ∷ []) q (cell_start s (cell_at ring slot)) tag (unraised (cell_start s (cell_at ring slot)) (λ same. omega arith)) may) over;
+      told = group_told raise_puts (0 ∷ []) q ∙ marked.told;
+    }
+      where
+        raised_header : (i : ℕ) → i < 8 → raised.word i ≡ settled_at (slice_index (header_words VERSION s) i)
+        raised_header i below = by (cases_eq i 1)
+          where
+            by : (i ≡ 1) ⊎ (i ≢ 1) → raised.word i ≡ settled_at (slice_index (header_words VERSION s) i)
+            by (inl same) = subst (λ (k : ℕ). raised.word k ≡ settled_at (slice_index (header_words VERSION s) k)) (sym same)
+                (group_word raise_puts (0 ∷ []) q 1 (slice_index content 1) (marked.header 1 (omega arith)) (inr (inl refl)))
+            by (inr other) = left_word raise_puts (0 ∷ []) q i _ (unraised i other) (marked.header i below)
+                ∙ ap settled_at (header_is recovers i below ∙ other_words s (version_of content) VERSION i below other)
+
+    -- the last group, or no call
+    raise_law : AfterEachCall (EveryImage len Kept) q (raise_calls (version_of content)) × IsOpenedState s number words p (after_all (raise_calls (version_of content)) q)
+    raise_law = by recovers.formatted.version.known
+      where
+        Law : ℕ → Type 0
+        Law version = AfterEachCall (EveryImage len Kept) q (raise_calls version) × IsOpenedState s number words p (after_all (raise_calls version) q)
+
+        by : (version_of content ≡ VERSION_ONE) ⊎ (version_of content ≡ VERSION) → Law (version_of content)
+        by (inl one) = subst Law (sym one) (group_law raise_puts raise_mix (0 ∷ []), raised_state)
+        by (inr newest) = subst Law (sym newest) (
+          end (record {
+            each = λ image image_is. kept_ready (version_of content) marked.told recovers.formatted.version (record {
+              has = record {
+                header = λ i below. may_still _ _ _ (marked.header i below) (image_is.each i (omega arith)) ∙ header_is recovers i below;
+                mark = may_still _ _ _ marked.mark (image_is.each 8 (omega arith));
+                count = size_is;
+                words = λ i below. may_still _ _ _ (marked.home i (let count = size_is in omega arith)) (image_is.each (home_word s i) (let count = size_is in omega arith));
+                whole = let size = image_is.size in let whole = long in omega arith;
+              };
+              none = no_heads image (λ k low below. image_is.each k (omega arith));
+            });
+          }),
+          opened_state q newest marked none,
+        )
 
   -- where these lines are cleared, among which are those of all heads over the number
   module _ (ls : List ℕ) (only : (line : ℕ) → IsIn line ls → (16 ≤ 8 * line) × (8 * line < home_word s 0) × IsHeadWord content (8 * line)) where
@@ -229,7 +334,7 @@ module _ {content words : List ℕ} {number len : ℕ} {p : State} (is : IsConte
   -- the last group, or no call
   clear_law : (ls : List ℕ) → ((line : ℕ) → IsIn line ls → (16 ≤ 8 * line) × (8 * line < home_word s 0) × IsHeadWord content (8 * line))
       → ((cell : Cell) → IsCell s cell → IsHeadOver number (slice_index content (cell_start s cell)) → IsIn (line_of s cell) ls)
-      → AfterEachCall (EveryImage len Kept) p2 (clear_calls ls) × IsOpenedState s number words p (after_all (clear_calls ls) p2)
+      → AfterEachCall (EveryImage len Kept) p2 (clear_calls ls) × RestsMarked (after_all (clear_calls ls) p2) × HasNoHeads s number (after_all (clear_calls ls) p2)
   clear_law [] only every = (
     end (record {
       each = λ image image_is. kept_marked told2 (record {
@@ -240,27 +345,33 @@ module _ {content words : List ℕ} {number len : ℕ} {p : State} (is : IsConte
         home = λ i below. may_still _ _ _ (marked2.home i below) (image_is.each (home_word s i) (omega arith));
       });
     }),
-    opened_state p2 marked2 (λ ring slot tag ring_is slot_is may over.
+    marked2,
+    (λ ring slot tag ring_is slot_is may over.
         let is_cell : IsCell s (cell_at ring slot) = record { ring_is = ring_is; slot_is = slot_is } in
         let at = cell_start_in s (cell_at ring slot) is_cell in
         every (cell_at ring slot) is_cell (subst (IsHeadOver number) (may_still _ _ tag (cells2 (cell_start s (cell_at ring slot)) at.0 at.1) may) over)),
   )
   clear_law (l ∷ ls) only every = (
     group_law (clear_puts (l ∷ ls)) (clear_mix (l ∷ ls) only) (l ∷ ls),
-    opened_state _ (marked3 (l ∷ ls) only) (heads3 (l ∷ ls) only every),
+    marked3 (l ∷ ls) only,
+    heads3 (l ∷ ls) only every,
   )
 
-  pub opening_at_own : AfterEachCall (EveryImage len Kept) p (opening_calls s number words stale) × IsOpenedState s number words p (after_all (opening_calls s number words stale) p)
+  pub opening_at_own : AfterEachCall (EveryImage len Kept) p (opening_calls (version_of content) s number words stale)
+      × IsOpenedState s number words p (after_all (opening_calls (version_of content) s number words stale) p)
   unfolding opening_calls
   opening_at_own =
       let last = clear_law stale (λ line among. let three = stale_head s number content line among in three) (λ cell is_cell over. head_stale s number content cell is_cell over) in
-      let behind : after_all (group_calls puts lines ++ (group_calls (mark_writes number) (1 ∷ []) ++ clear_calls stale)) p ≡ after_all (clear_calls stale) p2 =
-      after_all_then (group_calls puts lines) (group_calls (mark_writes number) (1 ∷ []) ++ clear_calls stale) p ∙ after_all_then (group_calls (mark_writes number) (1 ∷ [])) (clear_calls stale) p1 in (
-        after_each_then (group_law puts home_mix lines) (after_each_then (group_law (mark_writes number) mark_mix (1 ∷ [])) last.0),
-        subst (λ (q : State). IsOpenedState s number words p q) (sym behind) last.1,
+      let raise = raise_calls (version_of content) in
+      let end_law = raise_law (after_all (clear_calls stale) p2) last.1 last.2 in
+      let behind : after_all (group_calls puts lines ++ (group_calls (mark_writes number) (1 ∷ []) ++ (clear_calls stale ++ raise))) p ≡ after_all raise (after_all (clear_calls stale) p2) =
+      after_all_then (group_calls puts lines) (group_calls (mark_writes number) (1 ∷ []) ++ (clear_calls stale ++ raise)) p
+      ∙ (after_all_then (group_calls (mark_writes number) (1 ∷ [])) (clear_calls stale ++ raise) p1 ∙ after_all_then (clear_calls stale) raise p2) in (
+        after_each_then (group_law puts home_mix lines) (after_each_then (group_law (mark_writes number) mark_mix (1 ∷ [])) (after_each_then last.0 end_law.0)),
+        subst (λ (q : State). IsOpenedState s number words p q) (sym behind) end_law.1,
       )
 
 pub opening_law : LawOfOpening
 opening_law s number words content len p is settled recovers small =
-    subst (λ (t : Sizes). AfterEachCall (EveryImage len (StillRecoversArray p.told t number words)) p (opening_calls t number words (stale_lines t number content))
-    × IsOpenedState t number words p (after_all (opening_calls t number words (stale_lines t number content)) p)) recovers.same_sizes (opening_at_own is settled recovers.recovered small)
+    subst (λ (t : Sizes). AfterEachCall (EveryImage len (StillRecoversArray p.told t number words)) p (opening_calls (version_of content) t number words (stale_lines t number content))
+    × IsOpenedState t number words p (after_all (opening_calls (version_of content) t number words (stale_lines t number content)) p)) recovers.same_sizes (opening_at_own is settled recovers.recovered small)

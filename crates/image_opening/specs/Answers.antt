@@ -3,6 +3,7 @@ use Rattle.std.specs.Prelude.{◌≡◌, ◌⊎◌, ℕ, true, false, List, Bool
 use Rattle.dude_base.specs.declared.sizes.Sizes.{Sizes}
 use Rattle.pmem_trait.specs.Sights.{Sight, CallsMade, SomeCalls}
 use Rattle.pmem_trait.specs.Reads.{OnlyReads, ContentHas}
+use Rattle.redo_record.specs.Images.{version_of}
 use Rattle.tatp_model.specs.Database.{Database}
 use Rattle.image_recovery.specs.declared.open_fault.OpenFault.{OpenFault}
 use Rattle.image_recovery.specs.declared.open_fault.OpenFault.TheVariants.{Unformatted, Damaged, NotDb, Device, NoMemory}
@@ -16,7 +17,9 @@ pub record Opens (ok : Bool) (sizes : Sizes) (number : ℕ) (words : List ℕ) (
   pub reads : OnlyReads true s read
   pub stale : List ℕ
   pub heads : ContentHas (λ content. stale ≡ stale_lines sizes number content) s
-  pub made : CallsMade (opening_calls sizes number words stale) ok read t
+  pub version : ℕ
+  pub named : ContentHas (λ content. version ≡ version_of content) s
+  pub made : CallsMade (opening_calls version sizes number words stale) ok read t
 
 -- Where an image can't be opened, the medium was only read. Where a call failed, it was the last one. There may be no memory
 -- before the first put or behind the last.

@@ -1,7 +1,7 @@
 -- The calls on the medium that open an image, behind the reads that recovered it.
-use Rattle.std.specs.Prelude.{ℕ, ◌*◌, ◌/◌, ◌==◌, nat_lt, ◌&&◌, Bool, List, [], ◌∷◌, ◌++◌, map, slice_index}
+use Rattle.std.specs.Prelude.{ℕ, ◌*◌, ◌/◌, ◌==◌, nat_lt, ◌&&◌, Bool, if◌then◌else◌, List, [], ◌∷◌, ◌++◌, map, slice_index}
 use Rattle.std.specs.List.{range_with_len, enumerate_from, filter}
-use Rattle.dude_base.specs.declared.limits.TheConstants.{HEADER, LINE, MARK, PAGE}
+use Rattle.dude_base.specs.declared.limits.TheConstants.{HEADER, LINE, MARK, PAGE, VERSION, VERSION_ONE, VERSION_WORD}
 use Rattle.dude_base.specs.declared.sizes.Sizes.{Sizes}
 use Rattle.dude_base.specs.Image.{home_word}
 use Rattle.pmem_trait.specs.declared.call.Call.{Call}
@@ -34,7 +34,16 @@ abbrev pub clear_calls : List ℕ → List Call
 clear_calls [] = []
 clear_calls (line ∷ lines) = group_calls (clear_puts (line ∷ lines)) (line ∷ lines)
 
--- the home words are made durable, then the mark, and then the heads over the number are cleared
-unfoldable pub opening_calls : Sizes → ℕ → List ℕ → List ℕ → List Call
-opening_calls s number words stale =
-    group_calls (home_puts s words) (home_lines s) ++ (group_calls (mark_writes number) (MARK / LINE ∷ []) ++ clear_calls stale)
+-- the newest version is put in the place of the first one
+abbrev pub raise_puts : List (ℕ × ℕ)
+raise_puts = (VERSION_WORD, VERSION) ∷ []
+
+-- an image of the first version is raised to the newest one; of the newest one, no call is made
+abbrev pub raise_calls : ℕ → List Call
+raise_calls version = if version == VERSION_ONE then group_calls raise_puts (VERSION_WORD / LINE ∷ []) else []
+
+-- The home words are made durable, then the mark; then the heads over the number are cleared; and then an image of this
+-- version is raised.
+unfoldable pub opening_calls : ℕ → Sizes → ℕ → List ℕ → List ℕ → List Call
+opening_calls version s number words stale =
+    group_calls (home_puts s words) (home_lines s) ++ (group_calls (mark_writes number) (MARK / LINE ∷ []) ++ (clear_calls stale ++ raise_calls version))

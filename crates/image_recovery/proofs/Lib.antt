@@ -1,4 +1,9 @@
 pub mod Accepted
+pub mod Applied
+pub mod Headers
+pub mod Homes
 pub mod OneRecovery
 pub mod PlainContent
 pub mod Reading
+pub mod ReplayReading
+pub mod ReplayedContent

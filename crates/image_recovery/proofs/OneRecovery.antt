@@ -1,6 +1,5 @@
 -- Recovery gives one answer for each image.
 use Rattle.std.proofs.Common.{◌≡◌, ℕ, List, refl, sym, ap, ◌∙◌, subst}
-use Rattle.dude_base.specs.declared.limits.TheConstants.{VERSION}
 use Rattle.dude_base.specs.declared.sizes.Sizes.{Sizes}
 use Rattle.tatp_model.specs.Database.{Database}
 use Rattle.redo_record.specs.Images.{sizes_of}
@@ -15,22 +14,22 @@ use Rattle.image_recovery.specs.Recovered.{RecoversTo, IsNoDatabase, Unformatted
 
 module _ (image : List ℕ) where
   -- an image that was replayed was replayed to one number and one array
-  pub same_replay : (n m : ℕ) (a b : List ℕ) → Recovers VERSION image n a → Recovers VERSION image m b → (n ≡ m) × (a ≡ b)
+  pub same_replay : (n m : ℕ) (a b : List ℕ) → Recovers image n a → Recovers image m b → (n ≡ m) × (a ≡ b)
   same_replay n m a b one other =
-      let same : replays.Recovered n a ≡ replays.Recovered m b = replay_law VERSION image (replays.Recovered n a) (replays.Recovered m b) one other in
+      let same : replays.Recovered n a ≡ replays.Recovered m b = replay_law image (replays.Recovered n a) (replays.Recovered m b) one other in
       let numbers : n ≡ m = cc in
       let arrays : a ≡ b = cc in
       (numbers, arrays)
 
   -- and isn't damaged
-  undamaged : (n line : ℕ) (a : List ℕ) → Recovers VERSION image n a → IsFormatted VERSION image × IsDamaged image line → ⊥
+  undamaged : (n line : ℕ) (a : List ℕ) → Recovers image n a → IsFormatted image × IsDamaged image line → ⊥
   undamaged n line a one damaged =
-      let same : replays.Recovered n a ≡ replays.Damaged line = replay_law VERSION image (replays.Recovered n a) (replays.Damaged line) one damaged in
+      let same : replays.Recovered n a ≡ replays.Damaged line = replay_law image (replays.Recovered n a) (replays.Damaged line) one damaged in
       cc
 
-  same_line : (k l : ℕ) → IsFormatted VERSION image × IsDamaged image k → IsFormatted VERSION image × IsDamaged image l → Damaged k ≡ Damaged l
+  same_line : (k l : ℕ) → IsFormatted image × IsDamaged image k → IsFormatted image × IsDamaged image l → Damaged k ≡ Damaged l
   same_line k l a b =
-      let same : replays.Damaged k ≡ replays.Damaged l = replay_law VERSION image (replays.Damaged k) (replays.Damaged l) a b in
+      let same : replays.Damaged k ≡ replays.Damaged l = replay_law image (replays.Damaged k) (replays.Damaged l) a b in
       let lines : k ≡ l = cc in
       ap Damaged lines
 

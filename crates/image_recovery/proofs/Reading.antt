@@ -2,8 +2,8 @@
 use Rattle.std.proofs.Common.{◌≡◌, ℕ, ap, refl}
 use Rattle.table_check.specs.declared.check_fault.CheckFault.{CheckFault}
 use Rattle.table_check.specs.declared.check_fault.CheckFault.TheVariants as check
-use Rattle.image_replay.specs.declared.replay_fault.ReplayFault.{ReplayFault}
-use Rattle.image_replay.specs.declared.replay_fault.ReplayFault.TheVariants as replay
+use Rattle.image_recovery.specs.declared.replay_fault.ReplayFault.{ReplayFault}
+use Rattle.image_recovery.specs.declared.replay_fault.ReplayFault.TheVariants as replay
 use Rattle.image_recovery.specs.declared.open_fault.OpenFault.{OpenFault}
 use Rattle.image_recovery.specs.declared.open_fault.OpenFault.TheVariants.{Unformatted, Damaged, NotDb, Device, NoMemory}
 use Rattle.image_recovery.specs.Faults.{fault_of_replay, fault_of_check, in_memory}

@@ -4,8 +4,8 @@ use Rattle.pmem_trait.specs.Sights.{Sight}
 use Rattle.pmem_trait.specs.Reads.{OnlyReads}
 use Rattle.table_check.specs.declared.check_fault.CheckFault.{CheckFault}
 use Rattle.table_check.specs.declared.check_fault.CheckFault.TheVariants as check
-use Rattle.image_replay.specs.declared.replay_fault.ReplayFault.{ReplayFault}
-use Rattle.image_replay.specs.declared.replay_fault.ReplayFault.TheVariants as replay
+use Rattle.image_recovery.specs.declared.replay_fault.ReplayFault.{ReplayFault}
+use Rattle.image_recovery.specs.declared.replay_fault.ReplayFault.TheVariants as replay
 use Rattle.image_recovery.specs.declared.open_fault.OpenFault.{OpenFault}
 use Rattle.image_recovery.specs.declared.open_fault.OpenFault.TheVariants.{Unformatted, Damaged, NotDb, Device, NoMemory}
 

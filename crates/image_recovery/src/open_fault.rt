@@ -1,6 +1,6 @@
 //! Why an image can't be opened.
 
-use image_replay::ReplayFault;
+use crate::replay_fault::ReplayFault;
 use pmem_trait::Failed;
 use std::alloc::AllocError;
 use std::error::Error;
@@ -10,7 +10,7 @@ use tatp_check::CheckFault;
 /// Why an image can't be opened.
 #[derive(Clone, Copy, Debug, PartialEq, Eq)]
 pub enum OpenFault {
-    /// There is no image of this version, or it is cut off.
+    /// There is no image of a version that is read, or it is cut off.
     Unformatted,
     /// The mark is too great, at line 1, or the log is damaged at this line.
     Damaged { line: u64 },

@@ -3,7 +3,7 @@ use Rattle.std.proofs.Common.{◌≡◌, ℕ, ◌+◌, ◌*◌, ◌<◌, ◌≤�
 use Rattle.dude_base.specs.declared.limits.TheConstants.{PAGE}
 use Rattle.dude_base.specs.Sizes.{IsAccepted}
 use Rattle.dude_base.specs.Image.{image_words}
-use Rattle.dude_base.specs.Records.{RedoRecord}
+use Rattle.dude_base.specs.Records.{RedoBundle}
 use Rattle.pmem_trait.specs.declared.call.Call.{Call}
 use Rattle.pmem_trait.specs.Words.{State, EveryImage, AfterEachCall}
 use Rattle.pmem_trait.specs.Sights.{Sight, state_now, Risen, AtEveryMoment}
@@ -16,7 +16,7 @@ use Rattle.redo_record.specs.Fits.{settled_mark, cells_used}
 use Rattle.redo_record.specs.AppendLaw.{CanAppend, HeadsHold, Appended}
 use Rattle.redo_record.specs.Calls.{append_calls}
 use Rattle.redo_record.proofs.AppendedRecord.{append_law}
-use Rattle.redo_record.proofs.AppendingImages.{append_images, appending_here, appending_law}
+use Rattle.redo_record.proofs.AppendingImages.{append_images, heads_here}
 use Rattle.log_ring.specs.declared.ring_fault.RingFault.{RingFault}
 use Rattle.log_ring.specs.declared.ring_fault.RingFault.TheVariants.{Full, Device}
 use Rattle.log_ring.specs.Laid.{AreLaid}
@@ -31,14 +31,14 @@ device_cause (Err Device) cs s t made is = made_cause made
 device_cause (Err (Full used need)) cs s t made is = absurd (search rules)
 
 -- what the record needs to be appended, but for room
-pub record Wants (v : RingState) (r : RedoRecord) : Type 0 where
+pub record Wants (v : RingState) (r : RedoBundle) : Type 0 where
   pub sizes : IsAccepted v.sizes
   pub cell : IsCell v.sizes (next_head v)
   pub laid : AreLaid v.sizes v.next v.logged
   pub encodable : IsEncodable r
   pub home : All (λ w. w.at < v.sizes.pages * PAGE) r.writes
 
-pub can_append : (v : RingState) (r : RedoRecord) (mark : ℕ) → Wants v r → (IsOverfull v r → ⊥) → CanAppend v.sizes mark v.logged (next_head v) r
+pub can_append : (v : RingState) (r : RedoBundle) (mark : ℕ) → Wants v r → (IsOverfull v r → ⊥) → CanAppend v.sizes mark v.logged (next_head v) r
 can_append v r mark wants room =
     let few : cells_used v.logged + cells_for (length r.writes) ≤ v.sizes.cells = grind (arith, room) in
     record {
@@ -46,18 +46,19 @@ can_append v r mark wants room =
       cell = wants.cell;
       encodable = wants.encodable;
       home = wants.home;
+      room = omega arith;
       free = laid_free v.sizes v.next (cells_for (length r.writes)) mark v.logged wants.laid few;
     }
 
-along : (v : RingState) (r : RedoRecord) (p : State) (len : ℕ) → Wants v r → (IsOverfull v r → ⊥) → image_words v.sizes ≤ len → FitsMedium v p
+along : (v : RingState) (r : RedoBundle) (p : State) (len : ℕ) → Wants v r → (IsOverfull v r → ⊥) → image_words v.sizes ≤ len → FitsMedium v p
     → AfterEachCall (EveryImage len (HeadsHold v.sizes v.logged (next_head v) r p)) p (append_calls v.sizes (next_head v) r)
 along v r p len wants room long fits = append_images v.sizes v.logged v.released (next_head v) r p len long fits (can_append v r (settled_mark p) wants room)
 
 -- not Full, so there is room
-roomy : (v : RingState) (r : RedoRecord) (res : Result (Unit {0}) RingFault) → IsErrOf res (full_for v r) ↔ IsOverfull v r → (res ≡ Err (full_for v r) → ⊥) → IsOverfull v r → ⊥
+roomy : (v : RingState) (r : RedoBundle) (res : Result (Unit {0}) RingFault) → IsErrOf res (full_for v r) ↔ IsOverfull v r → (res ≡ Err (full_for v r) → ⊥) → IsOverfull v r → ⊥
 roomy v r res full other over = other (full.1 over)
 
-pub heads_kept : (v : RingState) (r : RedoRecord) (res : Result (Unit {0}) RingFault) (s t : Sight) → Wants v r → image_words v.sizes ≤ s.len
+pub heads_kept : (v : RingState) (r : RedoBundle) (res : Result (Unit {0}) RingFault) (s t : Sight) → Wants v r → image_words v.sizes ≤ s.len
     → AppendCalls res (append_calls v.sizes (next_head v) r) s t → IsErrOf res (full_for v r) ↔ IsOverfull v r → (IsTrue s.is_visible → FitsMedium v (state_now s))
     → AtEveryMoment (HeadsHold v.sizes v.logged (next_head v) r (state_now s)) s t
 heads_kept v r (Ok done) s t wants long made full fits =
@@ -66,10 +67,9 @@ heads_kept v r (Err Device) s t wants long made full fits =
     made_keep _ made (λ told. along v r (state_now s) s.len wants (roomy v r (Err Device) full (λ is. absurd (search rules))) long (fits told))
 heads_kept v r (Err (Full used need)) s t wants long made full fits =
     subst (λ (u : Sight). AtEveryMoment (HeadsHold v.sizes v.logged (next_head v) r (state_now s)) s u) (sym made)
-    (every_moment_here _ (λ told. (appending_law v.sizes v.logged (next_head v) r (state_now s) (state_now s) wants.cell wants.encodable wants.home (fits told).mark
-    (appending_here v.sizes v.logged v.released (next_head v) r (state_now s) (fits told))).0 s.len long))
+    (every_moment_here _ (λ told. heads_here v.sizes v.logged v.released (next_head v) r (state_now s) (fits told) s.len long))
 
-pub ends_appended : (v : RingState) (r : RedoRecord) (res : Result (Unit {0}) RingFault) (s t : Sight) → Wants v r → image_words v.sizes ≤ s.len
+pub ends_appended : (v : RingState) (r : RedoBundle) (res : Result (Unit {0}) RingFault) (s t : Sight) → Wants v r → image_words v.sizes ≤ s.len
     → AppendCalls res (append_calls v.sizes (next_head v) r) s t → IsErrOf res (full_for v r) ↔ IsOverfull v r
     → OnOk res (IsTrue s.is_visible → FitsMedium v (state_now s) → Appended v.sizes v.logged v.released (next_head v) r (state_now s) (state_now t))
 ends_appended v r (Ok done) s t wants long made full = λ told fits.

@@ -1,5 +1,5 @@
 -- Records that follow one another round a ring, up to the next slot.
-use Rattle.std.proofs.Common.{◌≡◌, ◌⊎◌, inl, inr, ℕ, suc, ◌+◌, ◌%◌, ◌<◌, ◌≤◌, max, Bool, true, false, List, [], ◌∷◌, ◌++◌, length, refl, sym, ap, ◌∙◌, subst, arith, rules, All, Some, nat_lt}
+use Rattle.std.proofs.Common.{◌≡◌, ◌⊎◌, inl, inr, ℕ, suc, ◌+◌, ◌%◌, ◌<◌, ◌≤◌, max, Bool, true, false, List, [], ◌∷◌, ◌++◌, length, get_or, refl, sym, ap, ◌∙◌, subst, arith, rules, All, Some, nat_lt}
 use Rattle.std.specs.List.{filter, slice_get, AllPairs}
 use Rattle.std.proofs.lemmas.List.Elements.{All-nil, All-cons, All-append, All-filter}
 use Rattle.std.proofs.lemmas.List.Kept.{AllPairs-filter}
@@ -7,7 +7,7 @@ use Rattle.std.proofs.lemmas.List.Quantifiers.{all_pairs_push}
 use Rattle.std.proofs.lemmas.List.Sums.{sum_by-append}
 use Rattle.dude_base.specs.declared.sizes.Sizes.{Sizes}
 use Rattle.pmem_trait.specs.Words.{State}
-use Rattle.redo_record.specs.Fits.{Logged, AreFree, FollowFrom, FitsRing, cells_used, settled_mark}
+use Rattle.redo_record.specs.Fits.{Logged, first_logged, AreFree, FollowFrom, FitsRing, cells_used, settled_mark}
 use Rattle.redo_record.specs.RingLaws.{slot_after}
 use Rattle.redo_record.proofs.CellPlaces.{wrapped, steps_more}
 use Rattle.redo_record.proofs.RingRoom.{used_more, room_law, following_law, release_law}
@@ -34,19 +34,19 @@ laid_few (l ∷ ls) some =
     omega (arith, used_more l ls)
 
 -- One more record in the next slot.
-module _ (s : Sizes) (next : ℕ) (l : Logged) (first : l.first ≡ next) (below : next < s.cells) where
+module _ (s : Sizes) (next : ℕ) (l : Logged) (first : l.slot ≡ next) (below : next < s.cells) where
   oldest-push : (ls : List Logged) (last : ℕ) → oldest_slot last (ls ++ l ∷ []) ≡ oldest_slot next ls
   oldest-push [] last = first
   oldest-push (k ∷ ls) last = refl
 
-  pub laid_more : (ls : List Logged) → 1 ≤ l.cells → cells_used ls + l.cells ≤ s.cells → All (λ k. k.number < l.number) ls
+  pub laid_more : (ls : List Logged) → 1 ≤ l.cells → cells_used ls + l.cells ≤ s.cells → All (λ k. k.last < first_logged l) ls
       → AreLaid s next ls → AreLaid s (slot_after s next l.cells) (ls ++ l ∷ [])
   laid_more ls some few newest laid =
       let oldest = oldest-push ls (slot_after s next l.cells) in
       let used : cells_used (ls ++ l ∷ []) ≡ cells_used ls + l.cells = used-append ls (l ∷ []) ∙ ap (λ n. cells_used ls + n) (used-one l) in
       record {
         some = All-append (λ (k : Logged). 1 ≤ k.cells) ls (l ∷ []) laid.some (All-cons (λ (k : Logged). 1 ≤ k.cells) l [] some (All-nil (λ (k : Logged). 1 ≤ k.cells)));
-        rising = all_pairs_push (λ (k m : Logged). k.number < m.number) ls l laid.rising newest;
+        rising = all_pairs_push (λ (k m : Logged). k.last < first_logged m) ls l laid.rising newest;
         oldest = subst (λ (slot : ℕ). slot < s.cells) (sym oldest) laid.oldest;
         follow = subst (λ (slot : ℕ). FollowFrom s slot (ls ++ l ∷ [])) (sym oldest) ((following_law s (oldest_slot next ls) laid.oldest).0 ls l laid.follow (first ∙ sym laid.ends));
         ends =
@@ -59,40 +59,40 @@ module _ (s : Sizes) (next : ℕ) (l : Logged) (first : l.first ≡ next) (below
 -- Rising records are those up to a number, and then those over it.
 record Parts (n : ℕ) (ls : List Logged) : Type 0 where
   gone : List Logged
-  old : All (λ l. l.number ≤ n) gone
-  whole : ls ≡ gone ++ filter (λ l. nat_lt n l.number) ls
+  old : All (λ l. l.last ≤ n) gone
+  whole : ls ≡ gone ++ filter (λ l. nat_lt n l.last) ls
 
 -- where all pass, a filter changes nothing
 filter_all : (p : Logged → Bool) (ls : List Logged) → All (λ l. p l ≡ true) ls → filter p ls ≡ ls
 filter_all p [] all = refl
 filter_all p (l ∷ ls) all = rw (all 0 l (omega arith)) (ap (λ (r : List Logged). l ∷ r) (filter_all p ls (λ k d lt. all (suc k) d (omega arith))))
 
-parts : (n : ℕ) (ls : List Logged) → AllPairs (λ l m. l.number < m.number) ls → Parts n ls
-parts n [] rising = record { gone = []; old = All-nil (λ (l : Logged). l.number ≤ n); whole = refl }
-parts n (l ∷ ls) rising = by (parts n ls (λ i j d lt inside. rising (suc i) (suc j) d (omega arith) (omega arith))) (nat_lt n l.number) refl
+parts : (n : ℕ) (ls : List Logged) → AllPairs (λ l m. l.last < first_logged m) ls → Parts n ls
+parts n [] rising = record { gone = []; old = All-nil (λ (l : Logged). l.last ≤ n); whole = refl }
+parts n (l ∷ ls) rising = by (parts n ls (λ i j d lt inside. rising (suc i) (suc j) d (omega arith) (omega arith))) (nat_lt n l.last) refl
   where
-    by : Parts n ls → (b : Bool) → nat_lt n l.number ≡ b → Parts n (l ∷ ls)
+    by : Parts n ls → (b : Bool) → nat_lt n l.last ≡ b → Parts n (l ∷ ls)
     by rest true over = record {
       gone = [];
-      old = All-nil (λ (l : Logged). l.number ≤ n);
-      whole = sym (filter_all (λ (m : Logged). nat_lt n m.number) (l ∷ ls) (All-cons (λ (m : Logged). nat_lt n m.number ≡ true) l ls over later));
+      old = All-nil (λ (l : Logged). l.last ≤ n);
+      whole = sym (filter_all (λ (m : Logged). nat_lt n m.last) (l ∷ ls) (All-cons (λ (m : Logged). nat_lt n m.last ≡ true) l ls over later));
     }
       where
-        later : All (λ (m : Logged). nat_lt n m.number ≡ true) ls
-        later k d lt = let more = rising 0 (suc k) d (omega arith) (omega arith) in grind (arith, over, more)
+        later : All (λ (m : Logged). nat_lt n m.last ≡ true) ls
+        later k d lt = let more = rising 0 (suc k) d (omega arith) (omega arith) in let up : l.last < (get_or ls k d).last = omega arith in grind (arith, over, up)
     by rest false under =
-        let old : l.number ≤ n = grind (arith, under) in
+        let old : l.last ≤ n = grind (arith, under) in
         record {
           gone = l ∷ rest.gone;
-          old = All-cons (λ (m : Logged). m.number ≤ n) l rest.gone old rest.old;
+          old = All-cons (λ (m : Logged). m.last ≤ n) l rest.gone old rest.old;
           whole = ap (λ (r : List Logged). l ∷ r) rest.whole ∙ rw under refl;
         }
 
 -- Without the records up to n.
-pub laid_less : (s : Sizes) (next n : ℕ) (ls : List Logged) → next < s.cells → AreLaid s next ls → AreLaid s next (filter (λ l. nat_lt n l.number) ls)
+pub laid_less : (s : Sizes) (next n : ℕ) (ls : List Logged) → next < s.cells → AreLaid s next ls → AreLaid s next (filter (λ l. nat_lt n l.last) ls)
 laid_less s next n ls inside laid = record {
-  some = All-filter (λ (l : Logged). nat_lt n l.number) (λ (l : Logged). 1 ≤ l.cells) ls laid.some;
-  rising = AllPairs-filter (λ (l m : Logged). l.number < m.number) (λ (l : Logged). nat_lt n l.number) ls laid.rising;
+  some = All-filter (λ (l : Logged). nat_lt n l.last) (λ (l : Logged). 1 ≤ l.cells) ls laid.some;
+  rising = AllPairs-filter (λ (l m : Logged). l.last < first_logged m) (λ (l : Logged). nat_lt n l.last) ls laid.rising;
   oldest = below kept follow;
   follow = subst (λ (slot : ℕ). FollowFrom s slot kept) (sym (start_is kept follow ends)) follow;
   ends = ap (λ (slot : ℕ). (slot + cells_used kept) % s.cells) (start_is kept follow ends) ∙ ends;
@@ -100,7 +100,7 @@ laid_less s next n ls inside laid = record {
 }
   where
     kept : List Logged
-    kept = filter (λ l. nat_lt n l.number) ls
+    kept = filter (λ l. nat_lt n l.last) ls
 
     split : Parts n ls
     split = parts n ls laid.rising
@@ -126,14 +126,14 @@ laid_less s next n ls inside laid = record {
 
     below : (ks : List Logged) → FollowFrom s start ks → oldest_slot next ks < s.cells
     below [] from = inside
-    below (k ∷ ks) from = let at : k.first ≡ start = from.0 in omega arith
+    below (k ∷ ks) from = let at : k.slot ≡ start = from.0 in omega arith
 
 -- The ring still fits then.
 pub fits_less : (s : Sizes) (ring next n : ℕ) (ls : List Logged) (released : ℕ) (p : State) → AreLaid s next ls → FitsRing s ring ls released p → n ≤ settled_mark p
-    → FitsRing s ring (filter (λ l. nat_lt n l.number) ls) (max released n) p
+    → FitsRing s ring (filter (λ l. nat_lt n l.last) ls) (max released n) p
 fits_less s ring next n ls released p laid fits upto =
     let split = parts n ls laid.rising in
-    release_law s ring split.gone (filter (λ l. nat_lt n l.number) ls) released n p (subst (λ (l : List Logged). FitsRing s ring l released p) split.whole fits) split.old upto
+    release_law s ring split.gone (filter (λ l. nat_lt n l.last) ls) released n p (subst (λ (l : List Logged). FitsRing s ring l released p) split.whole fits) split.old upto
 
 -- The way from the oldest head to the next slot is what the records take.
 used_is : (c next first used d : ℕ) → first < c → 1 ≤ used → used ≤ c → (first + used) % c ≡ next
@@ -145,9 +145,9 @@ used_is c next first used d below some few ends up around = by (wrapped c first 
     by (inr u) = let is = u.1 in let before : next ≤ first = omega arith in omega (arith, around before)
 
 pub used_first : (s : Sizes) (next d : ℕ) (ls : List Logged) (o : Logged) → slice_get ls 0 ≡ Some o → AreLaid s next ls
-    → (o.first < next → o.first + d ≡ next) → (next ≤ o.first → o.first + d ≡ s.cells + next) → d ≡ cells_used ls
+    → (o.slot < next → o.slot + d ≡ next) → (next ≤ o.slot → o.slot + d ≡ s.cells + next) → d ≡ cells_used ls
 used_first s next d [] o is laid up around = absurd (search rules)
 used_first s next d (l ∷ ls) o is laid up around =
     let same : l ≡ o = cc in
     let some : 1 ≤ l.cells = laid.some 0 l (omega arith) in
-    used_is s.cells next l.first (cells_used (l ∷ ls)) d laid.oldest (omega (arith, used_more l ls)) laid.few laid.ends (rw same up) (rw same around)
+    used_is s.cells next l.slot (cells_used (l ∷ ls)) d laid.oldest (omega (arith, used_more l ls)) laid.few laid.ends (rw same up) (rw same around)

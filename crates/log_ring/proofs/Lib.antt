@@ -1,6 +1,6 @@
 pub mod AppendMakes
+pub mod KeptBundles
 pub mod Laid
-pub mod RecordPairs
 pub mod RecordReads
 pub mod Replayable
 pub mod ScanReads

@@ -2,11 +2,11 @@
 use Rattle.std.proofs.Common.{◌≡◌, ◌≢◌, ⊎_elim, ℕ, ◌+◌, ◌*◌, ◌/◌, ◌%◌, ◌^◌, ◌<◌, ◌≤◌, List, length, length-take-le, take, get_or-take, slice_index, slice_set, Option, Some, None, sym, ap, ◌∙◌, subst, arith, get_or-set_same, get_or-set_other}
 use Rattle.std.proofs.lemmas.Bool.{cases_eq}
 use Rattle.dude_base.specs.declared.sizes.Sizes.{Sizes}
-use Rattle.dude_base.specs.Records.{RedoRecord}
+use Rattle.dude_base.specs.Records.{RedoBundle}
 use Rattle.redo_record.specs.Tags.{IsHeadOver}
 use Rattle.dude_base.specs.Image.{Cell, cell_start}
 use Rattle.redo_record.specs.Cells.{IsCell}
-use Rattle.redo_record.specs.Record.{cells_for, count_of}
+use Rattle.redo_record.specs.Record.{cells_for, count_of, FitsVersion}
 use Rattle.redo_record.specs.Encoding.{word_in_slice}
 use Rattle.redo_record.specs.Images.{tag_of, word_in_image, IsComplete, IsNewHead}
 use Rattle.redo_record.proofs.CellPlaces.{first_cell}
@@ -32,7 +32,7 @@ new_head s above content head start tag is_cell at is kind over =
     let tag_is : tag_of s content head ≡ tag = ap (slice_index content) (sym at) ∙ is in
     record { cell = is_cell; new = subst (IsHeadOver above) (sym tag_is) (record { kind = kind; over = over }) }
 
-module _ (s : Sizes) (content words : List ℕ) (head : Cell) (count cells : ℕ) (needs : cells ≡ cells_for count) (few : cells ≤ 8) (long : length words ≡ 64)
+module _ (s : Sizes) (content words : List ℕ) (head : Cell) (count cells : ℕ) (needs : cells ≡ cells_for count) (few : cells ≤ 32) (room : cells ≤ s.cells) (long : length words ≡ 256) (version : ℕ) (fits : FitsVersion version (word_in_image s content head))
     (counted : count_of (word_in_image s content head) ≡ count) (is : (k j : ℕ) → k < cells → j < 8 → slice_index words (8 * k + j) ≡ word_in_image s content head k j) where
   abbrev pub slice : List ℕ
   slice = take (8 * cells) words
@@ -58,13 +58,15 @@ module _ (s : Sizes) (content words : List ℕ) (head : Cell) (count cells : ℕ
   holds_home : IsComplete s content head → HoldsHome s slice
   holds_home held = record {
     slice = record { whole = holds_same same held.whole; size = size ∙ ap (λ n. 8 * n) (needs ∙ ap cells_for (sym slice_counted)) };
+    room = (complete_same same held).room;
     home = (complete_same same held).home;
   }
 
   -- what was decoded is the record of the content's cells
-  pub record_is : (found : Option RedoRecord) → IsHomeRecord s slice found → IsRecordAt s content head found
-  record_is None none = λ held. none (holds_home held)
+  pub record_is : (found : Option RedoBundle) → IsHomeRecord s slice found → IsRecordAt s version content head found
+  record_is None none = λ held ok. none (holds_home held)
   record_is (Some r) some = (
-    complete_same back (record { whole = some.0.slice.whole; home = some.0.home }),
+    complete_same back (record { whole = some.0.slice.whole; room = some.0.room; home = some.0.home }),
+    fits,
     record_same back ∙ sym some.1,
   )

@@ -3,7 +3,7 @@ use Rattle.std.proofs.Common.{◌≡◌, ◌≢◌, true, false, Result, Ok, Err
 use Rattle.pmem_trait.specs.Sights.{Sight, Risen}
 use Rattle.pmem_trait.specs.Reads.{OnlyReads}
 use Rattle.pmem_trait.proofs.Runs.{made_cause}
-use Rattle.pmem_trait.proofs.ReadRuns.{reads_then}
+use Rattle.pmem_trait.proofs.ReadRuns.{reads_here, reads_then}
 use Rattle.log_ring.specs.declared.scan_fault.ScanFault.{ScanFault}
 use Rattle.log_ring.specs.declared.scan_fault.ScanFault.TheVariants.{Damaged, Device, NoMemory}
 use Rattle.log_ring.specs.Scan.{ReadsMade}
@@ -29,9 +29,20 @@ made_again {X} {Y} r q fault s t u r_is q_is before made =
     by Device made = reads_then before made
     by NoMemory made = reads_then before made
 
+-- the same fault with another type of answer
+pub made_same : {X Y : Type 0} (r : Result X ScanFault) (q : Result Y ScanFault) (fault : ScanFault) (s t : Sight) → r ≡ Err fault → q ≡ Err fault → ReadsMade q s t → ReadsMade r s t
+made_same r q fault s t r_is q_is made = made_again r q fault s s t r_is q_is (reads_here s) made
+
 -- at Device the count of faults rose
 pub read_cause : {X : Type 0} (r : Result X ScanFault) (s t : Sight) → ReadsMade r s t → IsErrOf r Device → Risen s.faults t.faults
 read_cause (Ok found) s t made is = absurd (search rules)
 read_cause (Err (Damaged line)) s t made is = absurd (search rules)
 read_cause (Err NoMemory) s t made is = absurd (search rules)
 read_cause (Err Device) s t made is = made_cause made.made
+
+-- reads before others
+pub made_behind : {X : Type 0} (r : Result X ScanFault) (s t u : Sight) → OnlyReads true s t → ReadsMade r t u → ReadsMade r s u
+made_behind (Ok found) s t u before made = reads_then before made
+made_behind (Err (Damaged line)) s t u before made = reads_then before made
+made_behind (Err NoMemory) s t u before made = reads_then before made
+made_behind (Err Device) s t u before made = reads_then before made

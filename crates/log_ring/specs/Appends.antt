@@ -1,6 +1,6 @@
 -- What an append leaves of the medium.
 use Rattle.std.specs.Prelude.{◌≡◌, ◌+◌, ◌<◌, true, false, List, length, Result, Ok, Err}
-use Rattle.dude_base.specs.Records.{RedoRecord}
+use Rattle.dude_base.specs.Records.{RedoBundle}
 use Rattle.pmem_trait.specs.declared.call.Call.{Call}
 use Rattle.pmem_trait.specs.Sights.{Sight, CallsMade}
 use Rattle.redo_record.specs.Record.{cells_for}
@@ -16,9 +16,9 @@ AppendCalls (Err Device) calls s t = CallsMade calls false s t
 AppendCalls (Err (Full used need)) calls s t = t ≡ s
 
 -- the record needs more cells than are free
-abbrev pub IsOverfull : RingState → RedoRecord → Type 0
+abbrev pub IsOverfull : RingState → RedoBundle → Type 0
 IsOverfull v r = v.sizes.cells < cells_used v.logged + cells_for (length r.writes)
 
 -- the fault that says so
-abbrev pub full_for : RingState → RedoRecord → RingFault
+abbrev pub full_for : RingState → RedoBundle → RingFault
 full_for v r = Full (cells_used v.logged) (cells_for (length r.writes))

@@ -3,7 +3,7 @@ use Rattle.std.specs.Prelude.{ℕ, ◌<◌, max, nat_lt, List, [], ◌∷◌, �
 use Rattle.std.specs.List.{filter}
 use Rattle.dude_base.specs.declared.limits.TheConstants.{MARK}
 use Rattle.dude_base.specs.declared.sizes.Sizes.{Sizes}
-use Rattle.dude_base.specs.Records.{RedoRecord}
+use Rattle.dude_base.specs.Records.{RedoBundle}
 use Rattle.pmem_trait.specs.Words.{State, MayHold, IsSettledWord}
 use Rattle.redo_record.specs.Tags.{IsHeadOver}
 use Rattle.dude_base.specs.Image.{Cell, cell_at, cell_start}
@@ -30,7 +30,7 @@ abbrev pub FitsMedium : RingState → State → Type 0
 FitsMedium v p = FitsRing v.sizes v.ring v.logged v.released p
 
 -- the ring with this record behind its others
-abbrev pub with_record : RedoRecord → RingState → RingState
+abbrev pub with_record : RedoBundle → RingState → RingState
 with_record r v = record v {
   logged = v.logged ++ logged_as (next_head v) r ∷ [];
   next = slot_after v.sizes v.next (cells_for (length r.writes));
@@ -38,7 +38,7 @@ with_record r v = record v {
 
 -- the ring with no record numbered up to n
 abbrev pub released_to : ℕ → RingState → RingState
-released_to n v = record v { logged = filter (λ l. nat_lt n l.number) v.logged; released = max v.released n }
+released_to n v = record v { logged = filter (λ l. nat_lt n l.last) v.logged; released = max v.released n }
 
 -- The mark is settled, and a crash leaves no head over it in this ring.
 pub record HasNoNewHead (s : Sizes) (ring : ℕ) (p : State) : Type 0 where

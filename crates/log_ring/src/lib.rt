@@ -2,7 +2,8 @@
 #![tactic(auto)]
 
 mod append;
-mod cells;
+mod bundles;
+mod head;
 mod logged;
 mod reads;
 mod ring;
@@ -11,7 +12,9 @@ mod scan_fault;
 mod scan_state;
 mod scanning;
 
+pub use bundles::{read_bundle, scan};
+pub use head::Head;
 pub use ring::Ring;
 pub use ring_fault::RingFault;
 pub use scan_fault::ScanFault;
-pub use scanning::scan;
+pub use scanning::heads;

@@ -1,10 +1,12 @@
 use std::marker::Model;
 
-/// A record in a ring: its number, the slot of its head, and how many cells it takes.
+/// A bundle in a ring: its last number, how many before it are covered too, the slot of its head, and how many cells it
+/// takes.
 #[derive(Clone, Copy, Debug)]
 pub struct Logged {
-    pub number: u64,
-    pub first: u64,
+    pub last: u64,
+    pub span: u64,
+    pub slot: u64,
     pub cells: u64,
 }
 
@@ -13,7 +15,7 @@ impl Model for Logged {
 
     ghost Value = { Fits.Logged };
 
-    ghost view = { λ l. record { number = l.number; first = l.first; cells = l.cells } };
+    ghost view = { λ l. record { last = l.last; span = l.span; slot = l.slot; cells = l.cells } };
 
-    ghost inverse = { λ l. record { number = l.number; first = l.first; cells = l.cells } };
+    ghost inverse = { λ l. record { last = l.last; span = l.span; slot = l.slot; cells = l.cells } };
 }

@@ -1,6 +1,6 @@
 //! The reads that fetch one record from its ring.
 
-ghost use Rattle.std.specs.Prelude.{◌≡◌, ℕ, ◌+◌, ◌*◌, ◌<◌, ◌≤◌, Decides, All, is_ok, slice_index, IfOk, IfSome, OnOk};
+ghost use Rattle.std.specs.Prelude.{◌≡◌, ℕ, ◌+◌, ◌%◌, ◌*◌, ◌<◌, ◌≤◌, length, Decides, All, is_ok, slice_index, IfOk, IfSome, IfNone, OnOk};
 ghost use Rattle.dude_base.specs.declared.limits.TheConstants.{LINE, PAGE};
 ghost use Rattle.dude_base.specs.Image.{image_words, cell_at};
 ghost use Rattle.pmem_trait.specs.Reads.{OnlyReads, ContentHas};
@@ -8,12 +8,11 @@ ghost use Rattle.redo_record.specs.Images.{word_in_image};
 ghost use Rattle.log_ring.specs.Scan.{IsReplayable, record_reads};
 ghost use Rattle.log_ring.specs.Scanning.{IsRecordAt, IsHomeRecord};
 
-use crate::cells::start_after;
-use dude_base::limits::{LINE, MAX_WRITES, PAGE};
+use dude_base::bundle::Bundle;
+use dude_base::limits::{LINE, MAX_BUNDLE_WRITES, MAX_WRITES, PAGE, VERSION_ONE};
 use dude_base::place::Place;
-use dude_base::redo::Redo;
 use pmem_trait::{Failed, Medium};
-use redo_record::{RECORD_CELLS, cells_for, decode};
+use redo_record::{RECORD_CELLS, SPAN_UNIT, cells_for, decode, start_after};
 
 /// How many words the cells of a record have at most.
 const RECORD_WORDS: u64 = LINE * RECORD_CELLS;
@@ -34,7 +33,7 @@ fn read_cells<M: Medium>(
     requires room { image_words place.now ≤ (M.sight m.old).len }
     ensures len { (M.sight m.new).len ≡ (M.sight m.old).len }
     ensures reads { OnlyReads (is_ok result) (M.sight m.old) (M.sight m.new) }
-    ensures few { (M.sight m.new).now ≤ (M.sight m.old).now + 64 }
+    ensures few { (M.sight m.new).now ≤ (M.sight m.old).now + 256 }
     ensures words { OnOk result (ContentHas (λ content. (k j : ℕ) → k < cells → j < LINE → slice_index words.new (LINE * k + j) ≡ word_in_image place.now content (cell_at ring head) k j) (M.sight m.old)) }
 {
     for i in 0..LINE * cells {
@@ -44,38 +43,56 @@ fn read_cells<M: Medium>(
 }
 
 // Whether each write is one of a home word.
-fn is_home(place: &Place, r: &Redo) -> bool
-    ensures { Decides result (All (λ w. w.at < place.now.pages * PAGE) r.now.writes) }
+fn is_home(place: &Place, b: &Bundle) -> bool
+    ensures { Decides result (All (λ w. w.at < place.now.pages * PAGE) b.now.writes) }
 {
     let words = place.sizes().pages * PAGE;
-    for k in 0..r.len() {
-        if r.write_at(k).at >= words {
+    for k in 0..b.len() {
+        if b.write_at(k).at >= words {
             return false;
         }
     }
     true
 }
 
-// The record of a slice of cells, where they are just a record's and its writes are those of home words.
-fn home_record(place: &Place, cells: &[u64]) -> Option<Redo>
+// The bundle of a slice of cells, no more than a ring has, where they are just a bundle's and its writes are those of home
+// words.
+fn home_record(place: &Place, cells: &[u64]) -> Option<Bundle>
+    requires { length cells.now ≤ LINE * place.now.cells }
     ensures { IsHomeRecord place.now cells.now result }
 {
-    let redo = decode(cells).ok()?;
-    if is_home(place, &redo) {
-        Some(redo)
+    let bundle = decode(cells).ok()?;
+    if is_home(place, &bundle) {
+        Some(bundle)
     } else {
         None
     }
 }
 
-/// The record whose head stands in this slot of a ring, where it is complete.
+// How many writes a head with this word 1 counts, where it may have so many in an image of this version.
+fn count_in(word: u64, version: u64) -> Option<u64>
+    ensures some { IfSome result (λ count. (count ≡ word % SPAN_UNIT) × (count ≤ MAX_BUNDLE_WRITES) × (version ≡ VERSION_ONE → word ≤ MAX_WRITES)) }
+    ensures none { IfNone result (word % SPAN_UNIT ≤ MAX_BUNDLE_WRITES → (version ≡ VERSION_ONE → word ≤ MAX_WRITES) → ⊥) }
+{
+    let count = word % SPAN_UNIT;
+    if count > MAX_BUNDLE_WRITES {
+        return None;
+    }
+    if version == VERSION_ONE && word > MAX_WRITES {
+        return None;
+    }
+    Some(count)
+}
+
+/// The bundle whose head stands in this slot of a ring, where it is complete in an image of this version.
 #[tactic(auto, using(pmem_trait::proofs::ReadRuns::reading))]
 pub fn read_record<M: Medium>(
     m: &mut M,
     place: &Place,
     ring: u64,
     head: u64,
-) -> Result<Option<Redo>, Failed>
+    version: u64,
+) -> Result<Option<Bundle>, Failed>
     requires ring { ring < place.now.rings }
     requires head { head < place.now.cells }
     requires room { image_words place.now ≤ (M.sight m.old).len }
@@ -83,13 +100,16 @@ pub fn read_record<M: Medium>(
     ensures reads { OnlyReads (is_ok result) (M.sight m.old) (M.sight m.new) }
     ensures few { (M.sight m.new).now ≤ (M.sight m.old).now + record_reads }
     ensures replayable { IfOk result (λ found. IfSome found (IsReplayable place.now)) }
-    ensures record { IfOk result (λ found. ContentHas (λ content. IsRecordAt place.now content (cell_at ring head) found) (M.sight m.old)) }
+    ensures record { IfOk result (λ found. ContentHas (λ content. IsRecordAt place.now version content (cell_at ring head) found) (M.sight m.old)) }
 {
-    let count = m.read(place.cell(ring, head) + 1)?;
-    if count > MAX_WRITES {
+    let word = m.read(place.cell(ring, head) + 1)?;
+    let Some(count) = count_in(word, version) else {
+        return Ok(None);
+    };
+    let cells = cells_for(count);
+    if cells > place.sizes().cells {
         return Ok(None);
     }
-    let cells = cells_for(count);
     let mut words = [0; RECORD_WORDS as usize];
     read_cells(m, place, ring, head, cells, &mut words)?;
     Ok(home_record(place, &words[..(LINE * cells) as usize]))

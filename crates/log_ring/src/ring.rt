@@ -1,9 +1,10 @@
 ghost use Rattle.std.specs.Prelude.{◌≡◌, ◌⊎◌, ◌↔◌, ℕ, ◌+◌, ◌<◌, ◌≤◌, ◌*◌, [], All, length, is_ok, if◌then◌else◌, IfOk, IfErr, OnOk, OnErr, IsErrOf, IsTrue};
 ghost use Rattle.dude_base.specs.declared.limits.TheConstants.{PAGE};
 ghost use Rattle.dude_base.specs.Image.{image_words};
+ghost use Rattle.dude_base.specs.Sizes.{IsAccepted};
+ghost use Rattle.dude_base.specs.Records.{HasNumbers, first_of};
 ghost use Rattle.pmem_trait.specs.Words.{State};
 ghost use Rattle.pmem_trait.specs.Sights.{state_now, Risen, AtEveryMoment};
-ghost use Rattle.redo_record.specs.Tags.{IsNumber};
 ghost use Rattle.redo_record.specs.Calls.{append_calls};
 ghost use Rattle.redo_record.specs.Record.{cells_for};
 ghost use Rattle.redo_record.specs.Fits.{settled_mark, cells_used};
@@ -13,13 +14,12 @@ ghost use Rattle.log_ring.specs.Appends.{AppendCalls, IsOverfull, full_for};
 ghost use Rattle.log_ring.specs.declared.ring_fault.RingFault.TheVariants.{Device};
 
 use crate::append::append_record;
-use crate::cells::slot_after;
 use crate::logged::Logged;
 use crate::ring_fault::RingFault;
+use dude_base::bundle::Bundle;
 use dude_base::place::Place;
-use dude_base::redo::Redo;
 use pmem_trait::Medium;
-use redo_record::cells_of;
+use redo_record::{cells_of, slot_after};
 use std::alloc::{AllocError, Global};
 use std::marker::Model;
 
@@ -61,6 +61,24 @@ impl Ring {
         })
     }
 
+    /// Where the parts of the image stand.
+    pub fn place(&self) -> Place
+        ensures sizes { result ≡ self.now.sizes }
+        ensures accepted { IsAccepted self.now.sizes }
+    {
+        // Read for the proof alone: the sizes are accepted.
+        let _sizes = self.place.sizes();
+        self.place
+    }
+
+    /// The slot in which the next record's head will stand.
+    pub fn next(&self) -> u64
+        ensures next { result ≡ self.now.next }
+        ensures inside { result < self.now.sizes.cells }
+    {
+        self.next
+    }
+
     // How many cells the records take: from the oldest one's head to the next slot.
     fn used(&self) -> u64
         ensures used { result ≡ cells_used self.now.logged }
@@ -68,77 +86,80 @@ impl Ring {
     {
         match self.records.first() {
             None => 0,
-            Some(oldest) => distance(&self.place, oldest.first, self.next),
+            Some(oldest) => distance(&self.place, oldest.slot, self.next),
         }
     }
 
-    // Takes up a record whose cells begin in the next slot.
-    fn note(&mut self, r: &Redo)
-        requires room { cells_used self.old.logged + cells_for (length r.now.writes) ≤ self.old.sizes.cells }
-        requires newest { All (λ l. l.number < r.now.number) self.old.logged }
-        ensures { self.new ≡ with_record r.now self.old }
+    // Takes up a bundle whose cells begin in the next slot.
+    fn note(&mut self, b: &Bundle)
+        requires room { cells_used self.old.logged + cells_for (length b.now.writes) ≤ self.old.sizes.cells }
+        requires newest { All (λ l. l.last < first_of b.now) self.old.logged }
+        ensures { self.new ≡ with_record b.now self.old }
     {
-        let first = self.next;
-        let cells = cells_of(r);
+        // Read for the proof alone: what a bundle keeps.
+        let _len = b.len();
+        let slot = self.next;
+        let cells = cells_of(b);
         self.records.push_reserved(Logged {
-            number: r.number(),
-            first,
+            last: b.last(),
+            span: b.last() - b.first(),
+            slot,
             cells,
         });
-        self.next = slot_after(&self.place, first, cells);
+        self.next = slot_after(&self.place, slot, cells);
     }
 
     // Appends a record where there is room.
-    fn lay<M: Medium>(&mut self, m: &mut M, r: &Redo) -> Result<(), RingFault>
-        requires number { IsNumber r.now.number }
-        requires newest { All (λ l. l.number < r.now.number) self.old.logged }
+    fn lay<M: Medium>(&mut self, m: &mut M, b: &Bundle) -> Result<(), RingFault>
+        requires numbers { HasNumbers b.now }
+        requires newest { All (λ l. l.last < first_of b.now) self.old.logged }
         requires room { image_words self.old.sizes ≤ (M.sight m.old).len }
         ensures len { (M.sight m.new).len ≡ (M.sight m.old).len }
-        ensures calls { AppendCalls result (append_calls self.old.sizes (next_head self.old) r.now) (M.sight m.old) (M.sight m.new) }
-        ensures full { IsErrOf result (full_for self.old r.now) ↔ IsOverfull self.old r.now }
-        ensures fault { IfErr result (λ fault. (fault ≡ full_for self.old r.now) ⊎ (fault ≡ Device)) }
-        ensures untouched { IsOverfull self.old r.now → m.new ≡ m.old }
-        ensures ring { self.new ≡ (if is_ok result then with_record r.now self.old else self.old) }
+        ensures calls { AppendCalls result (append_calls self.old.sizes (next_head self.old) b.now) (M.sight m.old) (M.sight m.new) }
+        ensures full { IsErrOf result (full_for self.old b.now) ↔ IsOverfull self.old b.now }
+        ensures fault { IfErr result (λ fault. (fault ≡ full_for self.old b.now) ⊎ (fault ≡ Device)) }
+        ensures untouched { IsOverfull self.old b.now → m.new ≡ m.old }
+        ensures ring { self.new ≡ (if is_ok result then with_record b.now self.old else self.old) }
     {
         let used = self.used();
-        let need = cells_of(r);
+        let need = cells_of(b);
         if used + need > self.place.sizes().cells {
             return Err(RingFault::Full { used, need });
         }
-        append_record(m, &self.place, self.ring, self.next, r)?;
-        self.note(r);
+        append_record(m, &self.place, self.ring, self.next, b)?;
+        self.note(b);
         Ok(())
     }
 
     /// Appends a record behind the others: its body is made durable, and then its head's tag.
     ///
     /// After `Device` the ring is as before, and the medium may hold the record's head: append nothing more.
-    pub fn append<M: Medium>(&mut self, m: &mut M, r: &Redo) -> Result<(), RingFault>
-        requires number { IsNumber r.now.number }
-        requires newest { All (λ l. l.number < r.now.number) self.old.logged }
-        requires home { All (λ w. w.at < self.old.sizes.pages * PAGE) r.now.writes }
+    pub fn append<M: Medium>(&mut self, m: &mut M, b: &Bundle) -> Result<(), RingFault>
+        requires numbers { HasNumbers b.now }
+        requires newest { All (λ l. l.last < first_of b.now) self.old.logged }
+        requires home { All (λ w. w.at < self.old.sizes.pages * PAGE) b.now.writes }
         requires room { image_words self.old.sizes ≤ (M.sight m.old).len }
         ensures len { (M.sight m.new).len ≡ (M.sight m.old).len }
-        ensures calls { AppendCalls result (append_calls self.old.sizes (next_head self.old) r.now) (M.sight m.old) (M.sight m.new) }
-        ensures full { IsErrOf result (full_for self.old r.now) ↔ IsOverfull self.old r.now }
-        ensures fault { IfErr result (λ fault. (fault ≡ full_for self.old r.now) ⊎ (fault ≡ Device)) }
+        ensures calls { AppendCalls result (append_calls self.old.sizes (next_head self.old) b.now) (M.sight m.old) (M.sight m.new) }
+        ensures full { IsErrOf result (full_for self.old b.now) ↔ IsOverfull self.old b.now }
+        ensures fault { IfErr result (λ fault. (fault ≡ full_for self.old b.now) ⊎ (fault ≡ Device)) }
         ensures cause { IsErrOf result Device → Risen (M.sight m.old).faults (M.sight m.new).faults }
-        ensures untouched { IsOverfull self.old r.now → m.new ≡ m.old }
-        ensures ring { self.new ≡ (if is_ok result then with_record r.now self.old else self.old) }
+        ensures untouched { IsOverfull self.old b.now → m.new ≡ m.old }
+        ensures ring { self.new ≡ (if is_ok result then with_record b.now self.old else self.old) }
         // Where there is room, the next cells are free, and the record may be appended to them whatever the mark is.
-        ensures can { (mark : ℕ) → (IsOverfull self.old r.now → ⊥) → CanAppend self.old.sizes mark self.old.logged (next_head self.old) r.now }
+        ensures can { (mark : ℕ) → (IsOverfull self.old b.now → ⊥) → CanAppend self.old.sizes mark self.old.logged (next_head self.old) b.now }
         // Where the ring fits the medium, each head of this ring over the mark has its complete record at each moment,
         // and is that of one of the ring's records or that of r.
         ensures heads { (IsTrue (M.sight m.old).is_visible → FitsMedium self.old (state_now (M.sight m.old)))
-            → AtEveryMoment (HeadsHold self.old.sizes self.old.logged (next_head self.old) r.now (state_now (M.sight m.old))) (M.sight m.old) (M.sight m.new) }
+            → AtEveryMoment (HeadsHold self.old.sizes self.old.logged (next_head self.old) b.now (state_now (M.sight m.old))) (M.sight m.old) (M.sight m.new) }
         // At `Ok` the record's cells are settled, and the ring fits again.
         ensures appended { OnOk result (IsTrue (M.sight m.old).is_visible → FitsMedium self.old (state_now (M.sight m.old))
-            → Appended self.old.sizes self.old.logged self.old.released (next_head self.old) r.now (state_now (M.sight m.old)) (state_now (M.sight m.new))) }
+            → Appended self.old.sizes self.old.logged self.old.released (next_head self.old) b.now (state_now (M.sight m.old)) (state_now (M.sight m.new))) }
     {
         // Read for the proof alone: what the ring keeps of its sizes, and that a record's writes are few and distinct.
         let _kept = &self.place;
-        let _count = r.len();
-        self.lay(m, r)
+        let _count = b.len();
+        self.lay(m, b)
     }
 
     /// Frees the cells of the records numbered up to `reproduced`.
@@ -147,7 +168,7 @@ impl Ring {
         // The ring still fits where the mark is settled at that number or more.
         ensures fits { (p : State) → FitsMedium self.old p → reproduced ≤ settled_mark p → FitsMedium self.new p }
     {
-        self.records.retain(|record| record.number > reproduced);
+        self.records.retain(|logged| logged.last > reproduced);
         self.released = self.released.max(reproduced);
     }
 }

@@ -2,59 +2,71 @@ ghost use Rattle.std.specs.Ordering.{nat_cmp};
 ghost use Rattle.std.specs.BTreeMap.{IsOrdered};
 ghost use Rattle.std.proofs.Props.{props};
 
+use crate::head::Head;
 use crate::scan_fault::ScanFault;
-use dude_base::redo::Redo;
 use std::alloc::{AllocError, Global};
 use std::collections::BTreeMap;
 
-/// What a scan has found: of each number the record whose head comes first, and the first line at which another head of
-/// such a number stands.
+/// What a scan has found: the heads of which none that was found before covers a number, by their last numbers, and the
+/// first line at which another one stands.
 #[derive(Drop)]
 pub struct ScanState {
-    records: BTreeMap<u64, Redo>,
+    heads: BTreeMap<u64, Head>,
     duplicate: Option<u64>,
-    ghost ordered: { IsOrdered nat_cmp records } by { Prim.hlevel props },
+    ghost ordered: { IsOrdered nat_cmp heads } by { Prim.hlevel props },
 }
 
 impl ScanState {
-    ghost use Rattle.std.specs.Prelude.{◌≡◌, ◌≢◌, ℕ, [], Some, None, IfOk, IfErr, OnOk, IsErrOf};
-    ghost use Rattle.std.specs.BTreeMap.{values};
+    ghost use Rattle.std.specs.Prelude.{◌≡◌, ◌≢◌, ℕ, ◌+◌, ◌≤◌, [], true, false, Some, None, IfOk, IfErr, OnOk, IsErrOf};
+    ghost use Rattle.std.specs.BTreeMap.{btree_map_len, values};
     ghost use Rattle.log_ring.specs.declared.scan_fault.ScanFault.TheVariants.{Damaged, Device};
-    ghost use Rattle.log_ring.specs.Scanning.{TakesRecord};
+    ghost use Rattle.log_ring.specs.Scanning.{AreKept, MeetsKept, MissesKept, TakesHead};
 
     /// Nothing was found yet.
     pub fn new(alloc: Global) -> ScanState
-        ensures records { result.records.entries ≡ [] }
+        ensures heads { result.heads.entries ≡ [] }
         ensures duplicate { result.duplicate ≡ None }
     {
         ScanState {
-            records: BTreeMap::new(alloc),
+            heads: BTreeMap::new(alloc),
             duplicate: None,
         }
     }
 
-    /// Takes in the record whose head stands at this line.
-    pub fn take(&mut self, line: u64, redo: Redo) -> Result<(), AllocError>
-        ensures { OnOk result (TakesRecord line redo self.old self.new) }
+    // Whether a head that was taken in covers a number of this one. Of those whose last number isn't below its first one
+    // the first decides, since they have no number in common.
+    fn meets(&self, head: &Head) -> bool
+        ensures meets { result ≡ true → MeetsKept self.now head.now }
+        ensures misses { result ≡ false → AreKept self.now → MissesKept self.now head.now }
     {
-        let number = redo.number();
-        if self.records.contains_key(&number) {
+        match self.heads.range(head.first()..).next() {
+            Some((_, other)) => other.first() <= head.last && head.first() <= other.last,
+            None => false,
+        }
+    }
+
+    /// Takes in a head that stands at this line.
+    pub fn take(&mut self, line: u64, head: Head) -> Result<(), AllocError>
+        ensures takes { OnOk result (TakesHead line head self.old self.new) }
+        ensures few { OnOk result (btree_map_len self.new.heads ≤ btree_map_len self.old.heads + 1) }
+    {
+        if self.meets(&head) {
             self.duplicate = self.duplicate.or(Some(line));
         } else {
-            self.records.insert(number, redo)?;
+            self.heads.insert(head.last, head)?;
         }
         Ok(())
     }
 
-    /// The records in the order of their numbers, where each number has one head.
-    pub fn into_records(self, alloc: Global) -> Result<Vec<Redo>, ScanFault>
-        ensures single { IfOk result (λ rs. (rs.items ≡ values self.records) × (self.duplicate ≡ None)) }
+    /// The heads in the order of their numbers, where no two cover one number.
+    pub fn into_heads(self, alloc: Global) -> Result<Vec<Head>, ScanFault>
+        ensures single { IfOk result (λ hs. (hs.items ≡ values self.heads) × (self.duplicate ≡ None)) }
         ensures damaged { (line : ℕ) → IsErrOf result (Damaged line) → self.duplicate ≡ Some line }
         ensures fault { IfErr result (λ fault. fault ≢ Device) }
     {
         if let Some(line) = self.duplicate {
             return Err(ScanFault::Damaged { line });
         }
-        Ok(self.records.into_values().collect(alloc)?)
+        Ok(self.heads.into_values().collect(alloc)?)
     }
 }

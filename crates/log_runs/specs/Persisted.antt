@@ -1,7 +1,14 @@
--- Numbers that were persisted, each behind its ring.
-use Rattle.std.specs.Prelude.{◌==◌, ◌&&◌, ◌||◌, ℕ, Bool, false, List, [], ◌∷◌}
+-- The numbers of bundles that were persisted.
+use Rattle.std.specs.Prelude.{◌==◌, ◌&&◌, ◌||◌, Bool, false, List, [], ◌∷◌}
+use Rattle.dude_base.specs.Records.{first_of}
+use Rattle.redo_record.specs.Waiting.{Waiting}
+use Rattle.log_runs.specs.declared.persisted.Persisted.{Persisted}
 
--- this number was persisted in this ring
-abbrev pub is_listed : List (ℕ × ℕ) → ℕ → ℕ → Bool
-is_listed [] ring number = false
-is_listed (p ∷ ps) ring number = ((p.0 == ring) && (p.1 == number)) || is_listed ps ring number
+-- the ring of a waiting bundle, its first number and its last
+abbrev pub numbers_of : Waiting → Persisted
+numbers_of w = record { ring = w.ring; first = first_of w.redo; last = w.redo.last }
+
+-- a bundle of these numbers was persisted
+abbrev pub is_listed : List Persisted → Persisted → Bool
+is_listed [] q = false
+is_listed (p ∷ ps) q = ((p.ring == q.ring) && ((p.first == q.first) && (p.last == q.last))) || is_listed ps q

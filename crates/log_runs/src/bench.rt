@@ -5,8 +5,11 @@ use crate::disk::{change, open, say_file};
 use crate::edges::{files_of, say_output, say_read, say_sink, text_of};
 use crate::log::Log;
 use crate::medium::Subject;
-use crate::records::{record_of, say_cells, say_combined, say_decoded};
+use crate::records::{
+    record_of, say_added, say_bundle, say_cells, say_combined, say_decoded, say_joined,
+};
 use crate::trial::{Step, Trial};
+use dude_base::bundle::Bundle;
 use dude_base::redo::Redo;
 use dude_io::{FilePmem, MemSink, RealFiles, read_file};
 use pmem_fake::MemPmem;
@@ -21,6 +24,8 @@ pub struct Bench {
     words: Vec<u64>,
     subject: Subject,
     ring: Option<Log>,
+    /// The bundle at hand.
+    bundle: Bundle,
     /// The calls on the back so far.
     steps: Vec<Step>,
     /// The names and texts of the files in memory.
@@ -51,6 +56,7 @@ impl Bench {
             words: Vec::new(rt.alloc()),
             subject: Subject::Nothing,
             ring: None,
+            bundle: Bundle::one(&Redo::new(0)),
             steps: Vec::new(rt.alloc()),
             texts: Vec::new(rt.alloc()),
         }
@@ -83,7 +89,7 @@ impl Bench {
             return self.rt.println("no numbers");
         };
         match (name, rest) {
-            ("encode" | "append" | "persist" | "combine", _) => {
+            ("one" | "add" | "encode" | "append" | "persist" | "combine", _) => {
                 self.by_pairs(name, &numbers, rest)
             }
             (_, []) => self.by_numbers(name, &numbers),
@@ -101,6 +107,8 @@ impl Bench {
             ("set", [at, values @ ..]) => self.set(*at, values),
             ("memory", [late, budget, fail @ ..]) => self.start(*late != 0, *budget, fail),
             ("decode", words) => say_decoded(self.rt, words),
+            ("join", &[count]) => say_joined(self.rt, &mut self.bundle, count),
+            ("cells", &[]) => say_cells(self.rt, &self.bundle),
             ("ring", &[ring]) => self.begin_ring(ring),
             ("release", &[number]) => self.release(number),
             ("back", &[]) => self.begin_back(),
@@ -119,8 +127,21 @@ impl Bench {
         };
         match (name, numbers) {
             ("combine", &[count]) => say_combined(self.rt, count, &writes),
+            ("append", &[]) => {
+                let bundle = self.copied_bundle();
+                self.append(&bundle)
+            }
+            ("persist", &[ring]) => {
+                let bundle = self.copied_bundle();
+                self.step(Step::Persist(ring, bundle))
+            }
             _ => self.with_record(name, numbers, &writes),
         }
+    }
+
+    /// The bundle at hand once more.
+    fn copied_bundle(&self) -> Bundle {
+        self.bundle.copy()
     }
 
     /// Carries out a command on a record of these writes, of which the last number is that of the record.
@@ -136,9 +157,14 @@ impl Bench {
             Err(fault) => return self.rt.println(fault),
         };
         match (name, numbers) {
-            ("encode", &[_]) => say_cells(self.rt, &redo),
-            ("append", &[_]) => self.append(&redo),
-            ("persist", &[ring, _]) => self.step(Step::Persist(ring, redo)),
+            ("one", &[_]) => {
+                self.bundle = Bundle::one(&redo);
+                say_bundle(self.rt, &self.bundle)
+            }
+            ("add", &[_]) => say_added(self.rt, &mut self.bundle, &redo),
+            ("encode", &[_]) => say_cells(self.rt, &Bundle::one(&redo)),
+            ("append", &[_]) => self.append(&Bundle::one(&redo)),
+            ("persist", &[ring, _]) => self.step(Step::Persist(ring, Bundle::one(&redo))),
             _ => self.rt.println("no command"),
         }
     }
@@ -204,7 +230,7 @@ impl Bench {
         self.rt.println("ok")
     }
 
-    /// Releases records of the ring.
+    /// Releases bundles of the ring.
     fn release(&mut self, number: u64) -> io::Result<()> {
         if let Some(log) = &mut self.ring {
             log.release(number);
@@ -212,12 +238,12 @@ impl Bench {
         self.rt.println("ok")
     }
 
-    /// Appends a record to the ring, and prints the answer.
-    fn append(&mut self, redo: &Redo) -> io::Result<()> {
+    /// Appends a bundle to the ring, and prints the answer.
+    fn append(&mut self, bundle: &Bundle) -> io::Result<()> {
         let (Some(log), Subject::Memory(medium)) = (&mut self.ring, &mut self.subject) else {
             return self.rt.println("no ring, or no medium");
         };
-        match log.append(medium, redo) {
+        match log.append(medium, bundle) {
             Some(Ok(())) => self.rt.println("ok"),
             Some(Err(fault)) => self.rt.println(fault),
             None => self.rt.println("not allowed"),

@@ -3,7 +3,7 @@
 use crate::records::{WORDS, apply, record_of};
 use crate::trial::{Step, Trial};
 use back_store::BackFault;
-use dude_base::limits::VERSION;
+use dude_base::bundle::Bundle;
 use pmem_fake::MemPmem;
 use pmem_trait::Medium;
 use slow_recovery::{Replay, recover};
@@ -54,7 +54,7 @@ fn goes_well(
         return Ok(false);
     };
     let ends = first_fault(&mut trial, steps)? == Some(Err(BackFault::Device));
-    let most = trial.persisted.len() as u64;
+    let most = trial.persisted.last().map_or(0, |bundle| bundle.last);
     let stays = stays_dead(&mut trial)?;
     let least = trial.back.durable();
     let medium = trial.back.into_medium();
@@ -85,12 +85,12 @@ fn stays_dead(trial: &mut Trial) -> Result<bool, AllocError> {
     };
     let announced = trial.take(&Step::Announce)? == dead;
     let reproduced = trial.take(&Step::Reproduce(9))? == dead;
-    let persisted = trial.take(&Step::Persist(0, redo))? == dead;
+    let persisted = trial.take(&Step::Persist(0, Bundle::one(&redo)))? == dead;
     let read = trial.page(0) == Err(BackFault::Dead);
     Ok(trial.back.is_dead() & announced & reproduced & persisted & read)
 }
 
-/// Whether a crash now leaves an image that recovers to a number from `least` to `most`, and to the home after the records
+/// Whether a crash now leaves an image that recovers to a number from `least` to `most`, and to the home after the bundles
 /// up to it.
 fn survives(
     alloc: Global,
@@ -101,15 +101,15 @@ fn survives(
     most: u64,
 ) -> Result<bool, AllocError> {
     let image = medium.crash(alloc, picks)?;
-    let Replay::Recovered { number, home } = recover(alloc, &image, VERSION)? else {
+    let Replay::Recovered { number, home } = recover(alloc, &image)? else {
         return Ok(false);
     };
     let mut wanted = vec![in alloc; 0; home.len()]?;
     for step in steps {
-        if let Step::Persist(_, redo) = step
-            && redo.number() <= number
+        if let Step::Persist(_, bundle) = step
+            && bundle.last() <= number
         {
-            apply(redo, &mut wanted);
+            apply(bundle, &mut wanted);
         }
     }
     Ok((least <= number) & (number <= most) & (home == wanted))

@@ -3,21 +3,21 @@ ghost use Rattle.std.specs.Prelude.{◌≡◌, ◌≤◌, All};
 ghost use Rattle.dude_base.specs.Sizes.{sizes_for};
 
 use crate::records::{is_home, small_sizes};
+use dude_base::bundle::Bundle;
 use dude_base::limits::MAX_NUMBER;
 use dude_base::place::Place;
-use dude_base::redo::Redo;
 use log_ring::{Ring, RingFault};
 use pmem_fake::MemPmem;
 use pmem_trait::Medium;
 use std::alloc::{AllocError, Global};
 
-/// A ring of the small image. It takes only records that it may.
+/// A ring of the small image. It takes only bundles that it may.
 #[derive(Drop)]
 pub struct Log {
     ring: Ring,
     last: u64,
     ghost sizes: { ring.sizes ≡ sizes_for 8 96 2 16 },
-    ghost newest: { All (λ l. l.number ≤ last) ring.logged },
+    ghost newest: { All (λ l. l.last ≤ last) ring.logged },
 }
 
 impl Log {
@@ -32,22 +32,25 @@ impl Log {
         }
     }
 
-    /// Appends a record; `None` where the ring doesn't take it.
-    pub fn append(&mut self, medium: &mut MemPmem, redo: &Redo) -> Option<Result<(), RingFault>> {
+    /// Appends a bundle; `None` where the ring doesn't take it.
+    pub fn append(
+        &mut self,
+        medium: &mut MemPmem,
+        bundle: &Bundle,
+    ) -> Option<Result<(), RingFault>> {
         let place = Place::of(&small_sizes()?);
-        let number = redo.number();
-        let is_next = self.last < number && number <= MAX_NUMBER;
-        if !is_next || !is_home(redo) || medium.len() < place.words() {
+        let is_next = self.last < bundle.first() && bundle.last() <= MAX_NUMBER;
+        if !is_next || !is_home(bundle) || medium.len() < place.words() {
             return None;
         }
-        let appended = self.ring.append(medium, redo);
+        let appended = self.ring.append(medium, bundle);
         if appended.is_ok() {
-            self.last = number;
+            self.last = bundle.last();
         }
         Some(appended)
     }
 
-    /// Releases the records up to a number.
+    /// Releases the bundles up to a number.
     pub fn release(&mut self, number: u64) {
         self.ring.release(number);
     }

@@ -11,6 +11,7 @@ mod edges;
 mod faulty_host;
 mod log;
 mod medium;
+mod persisted;
 mod records;
 mod replays;
 mod save;

@@ -1,7 +1,8 @@
-//! Redo records as a script says them.
+//! Redo records and bundles as a script says them.
 ghost use Rattle.std.specs.Prelude.{◌≡◌, ◌<◌, All, IsTrue, IfSome};
 ghost use Rattle.dude_base.specs.Sizes.{IsAccepted, sizes_for};
 
+use dude_base::bundle::Bundle;
 use dude_base::limits::MAX_NUMBER;
 use dude_base::redo::Redo;
 use dude_base::sizes::Sizes;
@@ -34,21 +35,21 @@ pub fn record_of(number: u64, writes: &[(u64, u64)]) -> Result<Redo, Wide> {
 }
 
 /// Whether each write is one of a home word of the small image.
-pub fn is_home(redo: &Redo) -> bool
-    ensures { IsTrue result → All (λ w. w.at < HOME) redo.now.writes }
+pub fn is_home(bundle: &Bundle) -> bool
+    ensures { IsTrue result → All (λ w. w.at < HOME) bundle.now.writes }
 {
-    for k in 0..redo.len() {
-        if redo.write_at(k).at >= HOME {
+    for k in 0..bundle.len() {
+        if bundle.write_at(k).at >= HOME {
             return false;
         }
     }
     true
 }
 
-/// Overwrites the home by a record.
-pub fn apply(redo: &Redo, home: &mut [u64]) {
-    for k in 0..redo.len() {
-        let write = redo.write_at(k);
+/// Overwrites the home by a bundle.
+pub fn apply(bundle: &Bundle, home: &mut [u64]) {
+    for k in 0..bundle.len() {
+        let write = bundle.write_at(k);
         let at = write.at as usize;
         if at < home.len() {
             home[at] = write.value;
@@ -56,12 +57,12 @@ pub fn apply(redo: &Redo, home: &mut [u64]) {
     }
 }
 
-/// Prints the writes of a record, behind its number.
-pub fn say_record(rt: HostRuntime, redo: &Redo) -> io::Result<()> {
-    let number = redo.number();
-    print!(rt; "record {number}:")?;
-    for k in 0..redo.len() {
-        say_write(rt, redo.write_at(k))?;
+/// Prints the writes of a bundle, behind its first number and its last.
+pub fn say_bundle(rt: HostRuntime, bundle: &Bundle) -> io::Result<()> {
+    let (first, last) = (bundle.first(), bundle.last());
+    print!(rt; "{first} to {last}:")?;
+    for k in 0..bundle.len() {
+        say_write(rt, bundle.write_at(k))?;
     }
     println!(rt)
 }
@@ -72,25 +73,44 @@ fn say_write(rt: HostRuntime, write: Write) -> io::Result<()> {
     print!(rt; " {at}={value}")
 }
 
-/// Prints how many cells a record has, and the words of each.
-pub fn say_cells(rt: HostRuntime, redo: &Redo) -> io::Result<()> {
-    let count = cells_of(redo);
+/// Adds a record to a bundle, and prints the bundle, or why it doesn't take the record.
+pub fn say_added(rt: HostRuntime, bundle: &mut Bundle, redo: &Redo) -> io::Result<()> {
+    match bundle.add(redo) {
+        Ok(()) => say_bundle(rt, bundle),
+        Err(fault) => println!(rt; "{fault:?}"),
+    }
+}
+
+/// Adds so many records without writes, of the numbers that follow, up to one that isn't taken, and prints what is made of it.
+pub fn say_joined(rt: HostRuntime, bundle: &mut Bundle, count: u64) -> io::Result<()> {
+    for _ in 0..count {
+        let redo = Redo::new(bundle.last().saturating_add(1));
+        if let Err(fault) = bundle.add(&redo) {
+            return println!(rt; "{fault:?}");
+        }
+    }
+    say_bundle(rt, bundle)
+}
+
+/// Prints how many cells a bundle has, and the words of each.
+pub fn say_cells(rt: HostRuntime, bundle: &Bundle) -> io::Result<()> {
+    let count = cells_of(bundle);
     println!(rt; "{count} cells")?;
-    if redo.number() < 1 || redo.number() > MAX_NUMBER {
+    if bundle.first() < 1 || bundle.last() > MAX_NUMBER {
         return Ok(());
     }
     for cell in 0..count {
         let mut words = [9; 8];
-        encode(redo, cell, &mut words);
+        encode(bundle, cell, &mut words);
         println!(rt; "{words:?}")?;
     }
     Ok(())
 }
 
-/// Prints the record that these words hold.
+/// Prints the bundle that these words hold.
 pub fn say_decoded(rt: HostRuntime, words: &[u64]) -> io::Result<()> {
     match decode(words) {
-        Ok(redo) => say_record(rt, &redo),
+        Ok(bundle) => say_bundle(rt, &bundle),
         Err(fault) => rt.println(fault),
     }
 }
@@ -102,7 +122,7 @@ pub fn say_combined(rt: HostRuntime, count: u64, writes: &[(u64, u64)]) -> io::R
         return rt.println("too many writes");
     };
     let mut group = Group::new(rt.alloc(), first.len() + second.len())?;
-    combine(&[first, second], &mut group);
+    combine(&[Bundle::one(&first), Bundle::one(&second)], &mut group);
     rt.print("writes")?;
     for k in 0..group.len() {
         say_write(rt, group.get(k))?;

@@ -1,10 +1,9 @@
 //! Images that a crash leaves, replayed by a scan of their rings and by the slow replay.
 
-use crate::records::{WORDS, apply, say_record, small_sizes};
+use crate::records::{WORDS, apply, say_bundle, small_sizes};
 use crate::say::say_words;
-use dude_base::limits::VERSION;
+use dude_base::bundle::Bundle;
 use dude_base::place::Place;
-use dude_base::redo::Redo;
 use log_ring::{ScanFault, scan};
 use pmem_fake::MemPmem;
 use pmem_trait::Medium;
@@ -18,7 +17,7 @@ const FIRST_HOME: usize = 272;
 /// Prints what the slow replay makes of the image that a crash leaves now, where each word takes its settled value.
 pub fn say_replay(rt: HostRuntime, medium: &MemPmem) -> io::Result<()> {
     let image = medium.crash(rt.alloc(), &[])?;
-    match recover(rt.alloc(), &image, VERSION)? {
+    match recover(rt.alloc(), &image)? {
         Replay::Recovered { number, home } => {
             println!(rt; "recovers to {number}")?;
             say_words(rt, &home)
@@ -27,8 +26,8 @@ pub fn say_replay(rt: HostRuntime, medium: &MemPmem) -> io::Result<()> {
     }
 }
 
-/// The records over a number of the small image on a medium. A medium that is too short fails.
-fn records_over(alloc: Global, medium: &mut MemPmem, above: u64) -> Result<Vec<Redo>, ScanFault> {
+/// The bundles over a number of the small image on a medium. A medium that is too short fails.
+fn bundles_over(alloc: Global, medium: &mut MemPmem, above: u64) -> Result<Vec<Bundle>, ScanFault> {
     let Some(sizes) = small_sizes() else {
         return Err(ScanFault::Device);
     };
@@ -39,12 +38,12 @@ fn records_over(alloc: Global, medium: &mut MemPmem, above: u64) -> Result<Vec<R
     scan(alloc, medium, &place, above)
 }
 
-/// Prints the records over a number.
+/// Prints the bundles over a number.
 pub fn say_scan(rt: HostRuntime, medium: &mut MemPmem, above: u64) -> io::Result<()> {
-    match records_over(rt.alloc(), medium, above) {
-        Ok(records) => {
-            for redo in &records {
-                say_record(rt, redo)?;
+    match bundles_over(rt.alloc(), medium, above) {
+        Ok(bundles) => {
+            for bundle in &bundles {
+                say_bundle(rt, bundle)?;
             }
             Ok(())
         }
@@ -73,24 +72,24 @@ pub fn say_moments(rt: HostRuntime, medium: &MemPmem) -> io::Result<()> {
 fn agrees(alloc: Global, image: &[u64]) -> Result<bool, AllocError> {
     let mark = image.get(8).copied().unwrap_or(0);
     let mut medium = MemPmem::new(alloc, image.to_vec(alloc)?, 1_000, Vec::new(alloc))?;
-    let found = records_over(alloc, &mut medium, mark);
-    match (recover(alloc, image, VERSION)?, found) {
-        (Replay::Recovered { number, home }, Ok(records)) => {
+    let found = bundles_over(alloc, &mut medium, mark);
+    match (recover(alloc, image)?, found) {
+        (Replay::Recovered { number, home }, Ok(bundles)) => {
             let mut own = image.get(FIRST_HOME..).unwrap_or_default().to_vec(alloc)?;
-            Ok(number == apply_all(&records, mark, &mut own) && home == own)
+            Ok(number == apply_all(&bundles, mark, &mut own) && home == own)
         }
         (Replay::Damaged { line }, Err(fault)) => Ok(fault == ScanFault::Damaged { line }),
         _ => Ok(false),
     }
 }
 
-/// Overwrites the home by the records that follow one another over the mark, and answers the last number.
-fn apply_all(records: &[Redo], mark: u64, home: &mut [u64]) -> u64 {
+/// Overwrites the home by the bundles that follow one another over the mark, and answers the last number.
+fn apply_all(bundles: &[Bundle], mark: u64, home: &mut [u64]) -> u64 {
     let mut number = mark;
-    for redo in records {
-        if redo.number() == number.saturating_add(1) {
-            apply(redo, home);
-            number = redo.number();
+    for bundle in bundles {
+        if bundle.first() == number.saturating_add(1) {
+            apply(bundle, home);
+            number = bundle.last();
         }
     }
     number

@@ -1,17 +1,18 @@
 //! A back over a medium in memory, with what was persisted on it: it persists only what it may.
-ghost use Rattle.std.specs.Prelude.{◌≡◌, ◌≢◌, ◌<◌, All, IsTrue};
+ghost use Rattle.std.specs.Prelude.{◌≡◌, ◌≢◌, ◌⊎◌, ◌<◌, All, IsTrue};
 ghost use Rattle.std.specs.List.{Contains};
 ghost use Rattle.dude_base.specs.Sizes.{sizes_for};
 ghost use Rattle.redo_record.specs.Waiting.{Waiting};
 ghost use Rattle.back_store.specs.Back.{waiting_now};
 ghost use Rattle.back_store.specs.BackView.{state_of};
-ghost use Rattle.log_runs.specs.Persisted.{is_listed};
+ghost use Rattle.log_runs.specs.Persisted.{is_listed, numbers_of};
 
+use crate::persisted::Persisted;
 use crate::records::{is_home, small_sizes};
 use back_store::{Back, BackFault};
+use dude_base::bundle::Bundle;
 use dude_base::limits::MAX_NUMBER;
 use dude_base::place::Place;
-use dude_base::redo::Redo;
 use pmem_fake::MemPmem;
 use pmem_trait::Medium;
 use std::alloc::{AllocError, Global};
@@ -19,27 +20,27 @@ use std::alloc::{AllocError, Global};
 /// A call on the back of the store.
 #[derive(Drop)]
 pub enum Step {
-    Persist(u64, Redo),
+    Persist(u64, Bundle),
     Announce,
     Reproduce(u64),
 }
 
-/// A back over the small image, and the numbers persisted, each behind its ring.
+/// A back over the small image, and the numbers of the bundles persisted.
 #[derive(Drop)]
 pub struct Trial {
     pub back: Back<MemPmem>,
-    pub persisted: Vec<(u64, u64)>,
+    pub persisted: Vec<Persisted>,
     ghost sizes: { (state_of back).log.sizes ≡ sizes_for 8 96 2 16 },
-    ghost listed: { (w : Waiting) → Contains (waiting_now (state_of back)) w → IsTrue (is_listed persisted.items w.ring w.redo.number) },
+    ghost listed: { (w : Waiting) → Contains (waiting_now (state_of back)) w → IsTrue (is_listed persisted.items (numbers_of w)) },
 }
 
-// Whether a record of this number may be persisted in this ring behind these.
-fn may_follow(persisted: &[(u64, u64)], ring: u64, number: u64) -> bool
-    ensures { IsTrue result → All (λ p. (p.1 ≢ number) × (p.0 ≡ ring → p.1 < number)) persisted.now }
+// Whether a bundle of these numbers may be persisted in this ring behind these.
+fn may_follow(persisted: &[Persisted], ring: u64, first: u64, last: u64) -> bool
+    ensures { IsTrue result → All (λ p. (p.last < first) ⊎ ((last < p.first) × (p.ring ≢ ring))) persisted.now }
 {
     for k in 0..persisted.len() {
-        let (other, before) = persisted[k];
-        if before == number || other == ring && before > number {
+        let before = persisted[k];
+        if before.last >= first && (before.first <= last || before.ring == ring) {
             return false;
         }
     }
@@ -62,11 +63,11 @@ impl Trial {
         }
     }
 
-    /// Makes a call; `None` where the back doesn't take it. One that persists answers the number.
+    /// Makes a call; `None` where the back doesn't take it. One that persists answers the last number.
     pub fn take(&mut self, step: &Step) -> Result<Option<Result<u64, BackFault>>, AllocError> {
         match step {
-            Step::Persist(ring, redo) => match self.persist(*ring, redo)? {
-                Some(Ok(())) => Ok(Some(Ok(redo.number()))),
+            Step::Persist(ring, bundle) => match self.persist(*ring, bundle)? {
+                Some(Ok(())) => Ok(Some(Ok(bundle.last()))),
                 Some(Err(fault)) => Ok(Some(Err(fault))),
                 None => Ok(None),
             },
@@ -78,19 +79,19 @@ impl Trial {
     fn persist(
         &mut self,
         ring: u64,
-        redo: &Redo,
+        bundle: &Bundle,
     ) -> Result<Option<Result<(), BackFault>>, AllocError> {
-        let number = redo.number();
-        let in_range = ring < 2 && 1 <= number && number <= MAX_NUMBER;
+        let (first, last) = (bundle.first(), bundle.last());
+        let in_range = ring < 2 && 1 <= first && last <= MAX_NUMBER;
         if !in_range
-            || number <= self.back.durable()
-            || !is_home(redo)
-            || !may_follow(&self.persisted, ring, number)
+            || first <= self.back.durable()
+            || !is_home(bundle)
+            || !may_follow(&self.persisted, ring, first, last)
         {
             return Ok(None);
         }
-        self.persisted.push((ring, number))?;
-        Ok(Some(self.back.persist(ring, redo)))
+        self.persisted.push(Persisted { ring, first, last })?;
+        Ok(Some(self.back.persist(ring, bundle)))
     }
 
     fn announce(&mut self) -> Result<u64, BackFault> {

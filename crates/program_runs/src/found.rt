@@ -15,6 +15,9 @@ pub type Found = Result<(u64, Vec<u64>), OpenFault>;
 /// The home word with the location of subscriber 1, where there are eight.
 const LOCATION: usize = 22;
 
+/// How many numbers a crash takes back at most: those of a bundle that is open, and the one that closed it.
+const MOST_LOST: u64 = 257;
+
 /// What an image recovers to.
 pub fn recovered(alloc: Global, image: &[u64]) -> Found {
     let recovered = image_of(alloc, image)?;
@@ -73,7 +76,7 @@ fn add_changes(text: &mut String, before: &[u64], after: &[u64]) -> Result<(), A
 
 /// Whether the slow replay of an image gives this.
 fn is_replayed(alloc: Global, image: &[u64], wanted: &Found) -> Result<bool, AllocError> {
-    Ok(match recover(alloc, image, 1)? {
+    Ok(match recover(alloc, image)? {
         Replay::Unformatted => *wanted == Err(OpenFault::Unformatted),
         Replay::Damaged { line } => *wanted == Err(OpenFault::Damaged { line }),
         Replay::Recovered { number, home } => *wanted == Ok((number, home)),
@@ -90,16 +93,17 @@ pub struct Wanted {
 }
 
 impl Wanted {
-    /// Whether an image is right where this was told last.
+    /// Whether an image is right where this was told last, and this was the last number done, where that is known.
     fn is_right(
         &self,
         alloc: Global,
         image: &[u64],
         told: Option<u64>,
+        done: Option<u64>,
     ) -> Result<bool, AllocError> {
         let found = recovered(alloc, image);
         let is_wanted = match &found {
-            Ok((number, home)) => self.has(told, *number, home),
+            Ok((number, home)) => self.has(told, *number, home) && is_near(*number, told, done),
             Err(_) => told.is_none() && found == self.began,
         };
         Ok(is_wanted && is_replayed(alloc, image, &found)?)
@@ -126,12 +130,13 @@ impl Wanted {
     pub fn both_survive(&self, alloc: Global, outcome: &Outcome) -> Result<bool, AllocError> {
         let medium = &outcome.medium;
         let told = medium.told();
+        let done = outcome.last_done();
         if told.is_none() && self.began.is_err() {
             return Ok(true);
         }
         for later in [false, true] {
             let image = crash_at(alloc, medium, medium.now(), later)?;
-            if !self.is_right(alloc, &image, told)? || !is_recovered(alloc, &image)? {
+            if !self.is_right(alloc, &image, told, done)? || !is_recovered(alloc, &image)? {
                 return Ok(false);
             }
         }
@@ -148,13 +153,23 @@ impl Wanted {
         for moment in 0..=medium.now() {
             for later in [false, true] {
                 let image = crash_at(alloc, medium, moment, later)?;
-                if !self.is_right(alloc, &image, told)? {
+                if !self.is_right(alloc, &image, told, None)? {
                     return Ok(Some((moment, later)));
                 }
             }
             told = told_by(medium, moment, told);
         }
         Ok(None)
+    }
+}
+
+/// Whether an image may recover to this number where this was told last, and this was the last number done.
+fn is_near(number: u64, told: Option<u64>, done: Option<u64>) -> bool {
+    match done {
+        None => true,
+        Some(last) => {
+            told.unwrap_or(0) <= last && number <= last && last <= number.saturating_add(MOST_LOST)
+        }
     }
 }
 

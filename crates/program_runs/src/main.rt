@@ -12,6 +12,7 @@ mod printing;
 mod scene;
 mod session;
 mod setup;
+mod stored;
 mod turns;
 
 use session::Session;

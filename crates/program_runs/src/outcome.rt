@@ -39,6 +39,15 @@ impl Outcome {
         })
     }
 
+    /// The greatest number of a request done.
+    pub fn last_done(&self) -> Option<u64> {
+        let mut last = None;
+        for done in &self.done {
+            last = Some(done.number.max(last.unwrap_or(0)));
+        }
+        last
+    }
+
     /// How many calls on the medium were made up to this one, with it.
     pub fn calls_to(&self, call: Call) -> Option<u64> {
         let made = self.medium.made();

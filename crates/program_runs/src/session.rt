@@ -6,6 +6,7 @@ use crate::outcome::Outcome;
 use crate::printing::{print_ending, print_output};
 use crate::scene::{Scene, Settings, medium_of};
 use crate::setup::{add_line, next_file, next_image};
+use crate::stored::stored_image;
 use crate::turns::{after, each};
 use dude_io::MemFile;
 use script_words::{is_remark, number_of, words_of};
@@ -86,6 +87,10 @@ impl Session {
         };
         match *first {
             "start" => *self = Session::new(rt.alloc())?,
+            "load" => match rest {
+                [name] => self.image = stored_image(rt, name)?,
+                _ => return Ok(false),
+            },
             "dude" | "open" | "format" | "make" => self.outcome = self.carried_out(rt, words)?,
             "aside" => {
                 self.carried_out(rt, words)?;

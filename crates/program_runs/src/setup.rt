@@ -116,8 +116,8 @@ fn resized(
     Ok(Some(image))
 }
 
-/// `file NAME`: a file, whose lines follow. `file NAME COUNT LINE`: one that has this line so many times; empty lines where
-/// none is given, and lines of one byte where it is the number of a byte.
+/// `file NAME`: a file, whose lines follow. `file NAME COUNT LINE`: one that has this line so many times, with the number of the
+/// line in the place of a `*`; empty lines where none is given, and lines of one byte where it is the number of a byte.
 pub fn next_file(alloc: Global, first: &str, rest: &[&str]) -> Result<Option<MemFile>, AllocError> {
     let (name, count, line) = match rest {
         _ if first != "file" => return Ok(None),
@@ -134,13 +134,25 @@ pub fn next_file(alloc: Global, first: &str, rest: &[&str]) -> Result<Option<Mem
         bytes: Vec::new(alloc),
     };
     let byte = number_of(line);
-    for _ in 0..count {
+    for number in 1..=count {
         match byte {
             Some(byte) => add_line(&mut file.bytes, &[byte.min(255) as u8])?,
-            None => add_line(&mut file.bytes, line.as_bytes())?,
+            None => add_numbered(&mut file.bytes, line, number)?,
         }
     }
     Ok(Some(file))
+}
+
+/// Adds a line with this number in the place of a `*`.
+fn add_numbered(bytes: &mut Vec<u8>, line: &str, number: u64) -> Result<(), AllocError> {
+    let alloc = *bytes.allocator();
+    match line.split_once('*') {
+        None => add_line(bytes, line.as_bytes()),
+        Some((front, behind)) => {
+            let line = format!(in alloc; "{front}{number}{behind}")?;
+            add_line(bytes, line.as_bytes())
+        }
+    }
 }
 
 /// Adds a line and its end.

@@ -5,7 +5,7 @@ use Rattle.std.proofs.lemmas.List.Elements.{All-cons, All-nil, All-append}
 use Rattle.dude_base.specs.declared.sizes.Sizes.{Sizes}
 use Rattle.dude_base.specs.declared.write.Write.{Write}
 use Rattle.dude_base.specs.Image.{Cell, cell_at, cell_start}
-use Rattle.dude_base.specs.Records.{RedoRecord}
+use Rattle.dude_base.specs.Records.{RedoBundle}
 use Rattle.pmem_trait.specs.Words.{Word, State, IsIn, AfterEachCall, settled_at, newest, value_of, after_all}
 use Rattle.pmem_trait.specs.Groups.{group_calls, values_put}
 use Rattle.pmem_trait.proofs.GroupLaw.{group_told, left_word}
@@ -14,29 +14,27 @@ use Rattle.pmem_trait.proofs.GroupStates.{OnTheWay, group_way}
 use Rattle.pmem_trait.proofs.Laws.{after_each_last, after_each_then, after_each_weaker, after_all_then}
 use Rattle.redo_record.specs.Tags.{number_of, head_tag, continuation_tag, IsHeadOver}
 use Rattle.redo_record.specs.Cells.{line_of, word_at}
-use Rattle.redo_record.specs.Record.{cells_for, HoldComplete}
+use Rattle.redo_record.specs.Record.{cells_for, count_of, HoldComplete}
 use Rattle.redo_record.specs.Encoding.{encoded}
 use Rattle.redo_record.specs.Fits.{Logged, FitsRing, IsIntact, settled_mark, settled_word}
 use Rattle.redo_record.specs.Calls.{body_writes, lines_from, tag_write, append_calls}
 use Rattle.redo_record.specs.AppendLaw.{CanAppend, IsElsewhere, Appending, Appended, logged_as, LawOfAppend}
-use Rattle.redo_record.proofs.HeldRecords.{AreSame, complete_same, count_same, tag_same}
-use Rattle.redo_record.proofs.EncodedCells.{cells_of_record, encoded_holds, encoded_writes, encoded_continuation}
+use Rattle.redo_record.proofs.HeldRecords.{AreSame, complete_same, count_same, span_same, tag_same}
+use Rattle.redo_record.proofs.EncodedCells.{cells_of_record, encoded_holds, encoded_count, encoded_span, encoded_writes, encoded_continuation, counted}
 use Rattle.redo_record.proofs.CellPlaces.{among, first_cell, head_line, line_in, places_same, word_line}
 use Rattle.redo_record.proofs.RecordWrites.{body_elsewhere, body_word, body_tag, tag_elsewhere, tag_there}
 use Rattle.redo_record.proofs.RingHeads.{is_settled, intact_by, head_before, head_last, header_elsewhere, cells_elsewhere}
 
-module _ (s : Sizes) (logged : List Logged) (released : ℕ) (head : Cell) (r : RedoRecord) where
+module _ (s : Sizes) (logged : List Logged) (released : ℕ) (head : Cell) (r : RedoBundle) where
   few_cells : {mark : ℕ} → CanAppend s mark logged head r → cells_for (length r.writes) ≤ s.cells
-  few_cells can =
-      let least = can.sizes.cells.low in
-      let few = can.encodable.writes_are.few in
-      omega arith
+  few_cells can = can.room
 
   -- the record's own cells hold it completely
   pub encoded_complete : {mark : ℕ} → CanAppend s mark logged head r → HoldComplete s (cells_of_record r)
   encoded_complete can = record {
     whole = encoded_holds r can.encodable;
-    home = subst (λ (ws : List Write). All (λ w. w.at < s.pages * 64) ws) (sym (encoded_writes r)) can.home;
+    room = subst (λ (n : ℕ). cells_for n ≤ s.cells) (sym (encoded_count r can.encodable.writes_are.few)) can.room;
+    home = subst (λ (ws : List Write). All (λ w. w.at < s.pages * 64) ws) (sym (encoded_writes r can.encodable.writes_are.few)) can.home;
   }
 
   -- the body puts no head into a cell's first word
@@ -53,7 +51,7 @@ module _ (s : Sizes) (logged : List Logged) (released : ℕ) (head : Cell) (r : 
 
       no_head : (k : ℕ) → 1 ≤ k → IsIn tag (slice_index (encoded r k) 0 ∷ []) → ⊥
       no_head k low (inl t) =
-          let is : tag ≡ continuation_tag r.number = t ∙ (encoded_continuation r k low).0 in
+          let is : tag ≡ continuation_tag r.last = t ∙ (encoded_continuation r k low).0 in
           let high = can.encodable.number_is.high in
           let kind = over.kind in
           omega arith
@@ -65,14 +63,14 @@ module _ (s : Sizes) (logged : List Logged) (released : ℕ) (head : Cell) (r : 
           (subst (IsIn tag) (ap (values_put (body_writes s head r)) (start_is (suc k) same) ∙ body_word s head can.cell r (few_cells can) (suc k) 0 lt (omega arith) (inl (omega arith))) is)
 
   -- a tag that the second group writes is that of the head
-  tag_is_own : (slot tag : ℕ) → IsIn tag (values_put (tag_write s head r) (cell_start s (cell_at head.ring slot))) → (slot ≡ head.slot) × (tag ≡ head_tag r.number)
+  tag_is_own : (slot tag : ℕ) → IsIn tag (values_put (tag_write s head r) (cell_start s (cell_at head.ring slot))) → (slot ≡ head.slot) × (tag ≡ head_tag r.last)
   tag_is_own slot tag is = ⊎_elim
       (λ (same : cell_start s (cell_at head.ring slot) ≡ cell_start s head).
       (omega arith, single (subst (IsIn tag) (tag_there s head r _ same) is)))
       (λ (ne : cell_start s (cell_at head.ring slot) ≢ cell_start s head). absurd (subst (IsIn tag) (tag_elsewhere s head r _ ne) is))
       (cases_eq (cell_start s (cell_at head.ring slot)) (cell_start s head))
     where
-      single : IsIn tag (head_tag r.number ∷ []) → tag ≡ head_tag r.number
+      single : IsIn tag (head_tag r.last ∷ []) → tag ≡ head_tag r.last
       single (inl e) = e
       single (inr none) = absurd none
 
@@ -116,10 +114,10 @@ module _ (s : Sizes) (logged : List Logged) (released : ℕ) (head : Cell) (r : 
         ∙ ap (λ (vs : List ℕ). settled_at (newest (value_of (p.word (word_at s head k j))) vs)) (body_word s head can.cell r (few_cells can) k j lt small other)
 
     -- the ring's records stay intact where the settled words elsewhere stay
-    stay_intact : (q : State) → ((i x : ℕ) → IsElsewhere s head r i → p.word i ≡ settled_at x → q.word i ≡ settled_at x) → All (λ l. settled_mark p < l.number → IsIntact s head.ring q l) logged
+    stay_intact : (q : State) → ((i x : ℕ) → IsElsewhere s head r i → p.word i ≡ settled_at x → q.word i ≡ settled_at x) → All (λ l. settled_mark p < l.last → IsIntact s head.ring q l) logged
     stay_intact q stays k d lt over =
         let intact = fits.records k d lt over in
-        intact_by intact (λ i j below small. stays _ _ (cells_elsewhere s head (cell_at head.ring (get_or logged k d).first) r (get_or logged k d).cells refl (can.free k d lt over) i j below small) (intact.settled_words i j below small))
+        intact_by intact (λ i j below small. stays _ _ (cells_elsewhere s head (cell_at head.ring (get_or logged k d).slot) r (get_or logged k d).cells refl (can.free k d lt over) i j below small) (intact.settled_words i j below small))
 
     way_body : (q : State) → OnTheWay p body q → Appending s logged head r p q
     way_body q way = record {
@@ -175,15 +173,17 @@ module _ (s : Sizes) (logged : List Logged) (released : ℕ) (head : Cell) (r : 
 
     new_intact : IsIntact s head.ring with_tag (logged_as head r)
     new_intact =
-        let same : AreSame (cells_of_record r) (settled_word s with_tag head) (cells_for (length r.writes)) = record {
+        let few = can.encodable.writes_are.few in
+        let same : AreSame (cells_of_record r) (settled_word s with_tag head) (cells_for (count_of (cells_of_record r))) = counted r few (record {
           word = λ k j lt small. ap (λ (w : Word). w.settled) (settled_tag k j lt small);
-        } in
+        }) in
         let high = can.encodable.number_is.high in
         record {
           settled_words = λ k j lt small. is_settled (settled_tag k j lt small);
           complete = complete_same same (encoded_complete can);
-          same_number = ap number_of (tag_same same) ∙ omega arith;
-          same_cells = ap cells_for (count_same same);
+          same_last = ap number_of (tag_same same) ∙ omega arith;
+          same_span = span_same same ∙ encoded_span r few;
+          same_cells = ap cells_for (count_same same ∙ encoded_count r few);
         }
 
     at_end : Appending s logged head r p with_tag
@@ -202,13 +202,13 @@ module _ (s : Sizes) (logged : List Logged) (released : ℕ) (head : Cell) (r : 
       heads = λ slot t below may over. ⊎_elim
           (λ has. head_before (number_of t) slot logged (logged_as head r ∷ []) has)
           (λ own. let high = can.encodable.number_is.high in
-          let number : r.number ≡ number_of t = omega (arith, own.1) in
+          let number : r.last ≡ number_of t = omega (arith, own.1) in
           head_last logged (logged_as head r) (number_of t) slot number (sym own.0))
           (at_end.heads slot t below may (subst (λ (m : ℕ). IsHeadOver m t) same_mark over));
-      records = All-append (λ (l : Logged). settled_mark with_tag < l.number → IsIntact s head.ring with_tag l) logged (logged_as head r ∷ [])
-          (λ k d lt over. at_end.records k d lt (subst (λ (m : ℕ). m < (get_or logged k d).number) same_mark over))
-          (All-cons (λ (l : Logged). settled_mark with_tag < l.number → IsIntact s head.ring with_tag l) (logged_as head r) [] (λ over. new_intact)
-          (All-nil (λ (l : Logged). settled_mark with_tag < l.number → IsIntact s head.ring with_tag l)));
+      records = All-append (λ (l : Logged). settled_mark with_tag < l.last → IsIntact s head.ring with_tag l) logged (logged_as head r ∷ [])
+          (λ k d lt over. at_end.records k d lt (subst (λ (m : ℕ). m < (get_or logged k d).last) same_mark over))
+          (All-cons (λ (l : Logged). settled_mark with_tag < l.last → IsIntact s head.ring with_tag l) (logged_as head r) [] (λ over. new_intact)
+          (All-nil (λ (l : Logged). settled_mark with_tag < l.last → IsIntact s head.ring with_tag l)));
     }
 
     appended : Appended s logged released head r p with_tag

@@ -1,23 +1,23 @@
 -- The cells that `encode` gives hold their record, and hold nothing else.
-use Rattle.std.proofs.Common.{◌≡◌, ◌≢◌, ℕ, zero, suc, ◌+◌, ◌*◌, ◌/◌, ◌%◌, ◌<◌, ◌≤◌, List, ◌++◌, length, length-append, get_or, slice_index, flat_map, refl, sym, ap, ◌∙◌, subst, arith, ne_eqb}
+use Rattle.std.proofs.Common.{◌≡◌, ◌≢◌, ℕ, zero, suc, ◌+◌, ◌*◌, ◌/◌, ◌%◌, ◌<◌, ◌≤◌, List, ◌++◌, length, length-append, get_or, slice_index, map, flat_map, refl, sym, ap, ◌∙◌, subst, arith, ne_eqb}
 use Rattle.std.specs.List.{range_with_len}
 use Rattle.std.proofs.Math.ListN.{get_or-append}
 use Rattle.std.proofs.lemmas.List.{get_or_default, get_or-append_right}
 use Rattle.std.proofs.lemmas.List.FromFn.{length-map-range_with_len, get_or-map-range_with_len}
 use Rattle.dude_base.specs.declared.write.Write.{Write}
-use Rattle.dude_base.specs.Records.{RedoRecord}
+use Rattle.dude_base.specs.Records.{RedoBundle}
 use Rattle.dude_base.specs.Writes.{HasDistinctPlaces}
 use Rattle.redo_record.specs.Tags.{kind_of, number_of, head_tag, continuation_tag}
-use Rattle.redo_record.specs.Record.{cells_for, count_of, write_of, writes_of, record_of, HoldRecord}
+use Rattle.redo_record.specs.Record.{cells_for, count_of, span_of, write_of, writes_of, record_of, HoldRecord}
 use Rattle.redo_record.specs.Encoding.{IsEncodable, write_or_zeros, encoded, encoded_cells, word_in_slice, IsRead, LawOfEncoding, LawOfDecoding}
 use Rattle.redo_record.proofs.HeldRecords.{map_range, AreSame, holds_same, record_same, count_same}
 
 -- word j of the record's k-th cell
-abbrev pub cells_of_record : RedoRecord → ℕ → ℕ → ℕ
+abbrev pub cells_of_record : RedoBundle → ℕ → ℕ → ℕ
 cells_of_record r k j = slice_index (encoded r k) j
 
 -- the pair of write 3 k + m in the k-th cell
-pub encoded_pair : (r : RedoRecord) (k m : ℕ) → m < 3
+pub encoded_pair : (r : RedoBundle) (k m : ℕ) → m < 3
     → (slice_index (encoded r k) (2 + 2 * m) ≡ (write_or_zeros r.writes (3 * k + m)).at) × (slice_index (encoded r k) (3 + 2 * m) ≡ (write_or_zeros r.writes (3 * k + m)).value)
 encoded_pair r k zero lt =
     let same : 3 * k ≡ 3 * k + 0 = omega arith in
@@ -26,7 +26,7 @@ encoded_pair r k (suc zero) lt = (refl, refl)
 encoded_pair r k (suc (suc zero)) lt = (refl, refl)
 encoded_pair r k (suc (suc (suc m))) lt = absurd (omega arith)
 
-encoded_write : (r : RedoRecord) (i : ℕ) (d : Write) → i < length r.writes → write_of (cells_of_record r) i ≡ get_or r.writes i d
+encoded_write : (r : RedoBundle) (i : ℕ) (d : Write) → i < length r.writes → write_of (cells_of_record r) i ≡ get_or r.writes i d
 encoded_write r i d lt =
     let pair = encoded_pair r (i / 3) (i % 3) (omega arith) in
     let same : 3 * (i / 3) + i % 3 ≡ i = omega arith in
@@ -41,41 +41,57 @@ encoded_write r i d lt =
         let by_value : ℕ → Write = λ x. record { at = w.at; value = x } in
         ap by_at p ∙ ap by_value q
 
-pub encoded_writes : (r : RedoRecord) → writes_of (cells_of_record r) ≡ r.writes
-encoded_writes r = map_range (write_of (cells_of_record r)) 0 r.writes (λ i d lt. let same : 0 + i ≡ i = omega arith in ap (write_of (cells_of_record r)) same ∙ encoded_write r i d lt)
+-- the parts of the head's word 1
+pub encoded_count : (r : RedoBundle) → length r.writes ≤ 96 → count_of (cells_of_record r) ≡ length r.writes
+encoded_count r few = omega arith
+
+pub encoded_span : (r : RedoBundle) → length r.writes ≤ 96 → span_of (cells_of_record r) ≡ r.span
+encoded_span r few = omega arith
+
+pub encoded_writes : (r : RedoBundle) → length r.writes ≤ 96 → writes_of (cells_of_record r) ≡ r.writes
+encoded_writes r few = ap (λ (n : ℕ). map (write_of (cells_of_record r)) (range_with_len 0 n)) (encoded_count r few) ∙ map_range (write_of (cells_of_record r)) 0 r.writes (λ i d lt. let same : 0 + i ≡ i = omega arith in ap (write_of (cells_of_record r)) same ∙ encoded_write r i d lt)
 
 -- the tag and the index of a continuation
-pub encoded_continuation : (r : RedoRecord) (k : ℕ) → 1 ≤ k → (slice_index (encoded r k) 0 ≡ continuation_tag r.number) × (slice_index (encoded r k) 1 ≡ k)
+pub encoded_continuation : (r : RedoBundle) (k : ℕ) → 1 ≤ k → (slice_index (encoded r k) 0 ≡ continuation_tag r.last) × (slice_index (encoded r k) 1 ≡ k)
 encoded_continuation r k low =
     let ne : k ≢ 0 = omega arith in
     rw (ne_eqb k 0 ne) (refl, refl)
 
-pub encoded_holds : (r : RedoRecord) → IsEncodable r → HoldRecord (cells_of_record r)
+pub encoded_holds : (r : RedoBundle) → IsEncodable r → HoldRecord (cells_of_record r)
 encoded_holds r fine =
+    let few = fine.writes_are.few in
     let low = fine.number_is.low in
     let high = fine.number_is.high in
     record {
       head = omega arith;
       number = record { low = omega arith; high = omega arith };
-      count = fine.writes_are.few;
-      continued = λ k above below. let next = encoded_continuation r k above in
+      span = subst (λ (n : ℕ). n ≤ 255) (sym (encoded_span r few)) fine.span_is;
+      first = (let span = encoded_span r few in let first = fine.first_is in omega arith);
+      count = subst (λ (n : ℕ). n ≤ 96) (sym (encoded_count r few)) few;
+      continued = λ k above below.
+          let next = encoded_continuation r k above in
           record { kind = ap kind_of next.0 ∙ omega arith; same_number = ap number_of next.0 ∙ omega arith; same_index = next.1 };
-      distinct = subst HasDistinctPlaces (sym (encoded_writes r)) fine.writes_are.distinct;
+      distinct = subst HasDistinctPlaces (sym (encoded_writes r few)) fine.writes_are.distinct;
     }
 
-pub encoded_record : (r : RedoRecord) → IsEncodable r → record_of (cells_of_record r) ≡ r
+pub encoded_record : (r : RedoBundle) → IsEncodable r → record_of (cells_of_record r) ≡ r
 encoded_record r fine =
     let low = fine.number_is.low in
     let high = fine.number_is.high in
-    let number : number_of (head_tag r.number) ≡ r.number = omega arith in
-    let writes = encoded_writes r in
-    of_parts number writes
+    let few = fine.writes_are.few in
+    let last : number_of (head_tag r.last) ≡ r.last = omega arith in
+    of_parts last (encoded_span r few) (encoded_writes r few)
   where
-    of_parts : {n : ℕ} {ws : List Write} → n ≡ r.number → ws ≡ r.writes → ◌≡◌ {A = RedoRecord} (record { number = n; writes = ws }) r
-    of_parts {ws = ws} p q =
-        let by_number : ℕ → RedoRecord = λ x. record { number = x; writes = ws } in
-        let by_writes : List Write → RedoRecord = λ x. record { number = r.number; writes = x } in
-        ap by_number p ∙ ap by_writes q
+    of_parts : {n m : ℕ} {ws : List Write} → n ≡ r.last → m ≡ r.span → ws ≡ r.writes → ◌≡◌ {A = RedoBundle} (record { last = n; span = m; writes = ws }) r
+    of_parts {n} {m} {ws} p o q =
+        let by_last : ℕ → RedoBundle = λ x. record { last = x; span = m; writes = ws } in
+        let by_span : ℕ → RedoBundle = λ x. record { last = r.last; span = x; writes = ws } in
+        let by_writes : List Write → RedoBundle = λ x. record { last = r.last; span = r.span; writes = x } in
+        ap by_last p ∙ (ap by_span o ∙ ap by_writes q)
+
+-- the record's cells, as many as its head counts
+pub counted : (r : RedoBundle) {others : ℕ → ℕ → ℕ} → length r.writes ≤ 96 → AreSame (cells_of_record r) others (cells_for (length r.writes)) → AreSame (cells_of_record r) others (cells_for (count_of (cells_of_record r)))
+counted r {others} few same = subst (λ (n : ℕ). AreSame (cells_of_record r) others (cells_for n)) (sym (encoded_count r few)) same
 
 -- Cells of eight words, one after another in a list.
 module _ (f : ℕ → List ℕ) (eight : (k : ℕ) → length (f k) ≡ 8) where
@@ -93,19 +109,20 @@ module _ (f : ℕ → List ℕ) (eight : (k : ℕ) → length (f k) ≡ 8) where
       ∙ (ap (slice_index (flat_map f (range_with_len (a + 1) n))) (omega arith)
       ∙ (word_of_cells (a + 1) n k j (omega arith) below ∙ ap (λ i. slice_index (f i) j) (omega arith)))
 
-slice_same : (r : RedoRecord) → AreSame (cells_of_record r) (word_in_slice (encoded_cells r)) (cells_for (length r.writes))
+slice_same : (r : RedoBundle) → AreSame (cells_of_record r) (word_in_slice (encoded_cells r)) (cells_for (length r.writes))
 slice_same r = record {
   word = λ k j lt below. word_of_cells (encoded r) (λ k. refl) 0 (cells_for (length r.writes)) k j lt below ∙ ap (λ i. slice_index (encoded r i) j) (omega arith);
 }
 
 pub encoding_law : LawOfEncoding
 encoding_law r fine =
-    let same = slice_same r in (
+    let few = fine.writes_are.few in
+    let same = counted r few (slice_same r) in (
       encoded_holds r fine,
       encoded_record r fine,
       record {
         whole = holds_same same (encoded_holds r fine);
-        size = length_of_cells (encoded r) (λ k. refl) 0 (cells_for (length r.writes)) ∙ ap (λ n. 8 * cells_for n) (sym (count_same same));
+        size = length_of_cells (encoded r) (λ k. refl) 0 (cells_for (length r.writes)) ∙ ap (λ n. 8 * cells_for n) (sym (count_same same ∙ encoded_count r few));
       },
       record_same same ∙ encoded_record r fine,
     )
@@ -122,7 +139,7 @@ module _ (cells : ℕ → ℕ → ℕ) (held : HoldRecord cells) where
       tag ∙ sym (encoded_continuation (record_of cells) (suc k) (omega arith)).0
 
   read_index : (k : ℕ) → k < cells_for (count_of cells) → cells k 1 ≡ slice_index (encoded (record_of cells) k) 1
-  read_index zero lt = sym (length-map-range_with_len (write_of cells) 0 (count_of cells))
+  read_index zero lt = let count = length-map-range_with_len (write_of cells) 0 (count_of cells) in omega arith
   read_index (suc k) lt = (held.continued (suc k) (omega arith) lt).same_index ∙ sym (encoded_continuation (record_of cells) (suc k) (omega arith)).1
 
   read_pair : (k m : ℕ) → m < 3 → 3 * k + m < count_of cells

@@ -5,7 +5,7 @@ use Rattle.dude_base.specs.declared.sizes.Sizes.{Sizes}
 use Rattle.dude_base.specs.declared.write.Write.{Write}
 use Rattle.dude_base.specs.Writes.{HasDistinctPlaces}
 use Rattle.redo_record.specs.Tags.{kind_of, number_of, IsNumber}
-use Rattle.redo_record.specs.Record.{cells_for, count_of, write_of, writes_of, record_of, IsContinuation, HoldRecord, HoldComplete}
+use Rattle.redo_record.specs.Record.{cells_for, count_of, span_of, write_of, writes_of, record_of, IsContinuation, HoldRecord, HoldComplete}
 
 -- two functions that agree on a range
 pub map_same : {X : Type 0} (f g : ℕ → X) (a n : ℕ) → ((i : ℕ) → a ≤ i → i < a + n → f i ≡ g i) → map f (range_with_len a n) ≡ map g (range_with_len a n)
@@ -31,8 +31,14 @@ module _ {cells others : ℕ → ℕ → ℕ} (same : AreSame cells others (cell
   pub tag_same : others 0 0 ≡ cells 0 0
   tag_same = same.word 0 0 (omega arith) (omega arith)
 
+  pub word_one_same : others 0 1 ≡ cells 0 1
+  word_one_same = same.word 0 1 (omega arith) (omega arith)
+
   pub count_same : count_of others ≡ count_of cells
-  count_same = same.word 0 1 (omega arith) (omega arith)
+  count_same = ap (λ (x : ℕ). x % 256) word_one_same
+
+  pub span_same : span_of others ≡ span_of cells
+  span_same = ap (λ (x : ℕ). x / 256) word_one_same
 
   write_same : (i : ℕ) → i < count_of cells → write_of others i ≡ write_of cells i
   write_same i lt =
@@ -45,7 +51,8 @@ module _ {cells others : ℕ → ℕ → ℕ} (same : AreSame cells others (cell
 
   pub record_same : record_of others ≡ record_of cells
   record_same =
-      let number : number_of (others 0 0) ≡ number_of (cells 0 0) = ap number_of tag_same in
+      let last : number_of (others 0 0) ≡ number_of (cells 0 0) = ap number_of tag_same in
+      let span = span_same in
       let writes = writes_same in
       cc
 
@@ -62,7 +69,9 @@ module _ {cells others : ℕ → ℕ → ℕ} (same : AreSame cells others (cell
   holds_same held = record {
     head = ap kind_of tag_same ∙ held.head;
     number = subst (λ (t : ℕ). IsNumber (number_of t)) (sym tag_same) held.number;
-    count = subst (λ (n : ℕ). n ≤ 24) (sym count_same) held.count;
+    span = subst (λ (n : ℕ). n ≤ 255) (sym span_same) held.span;
+    first = (let first = held.first in let tag = tag_same in let span = span_same in omega arith);
+    count = subst (λ (n : ℕ). n ≤ 96) (sym count_same) held.count;
     continued = λ k low high. continues_same held k low (subst (λ (n : ℕ). k < cells_for n) count_same high);
     distinct = subst HasDistinctPlaces (sym writes_same) held.distinct;
   }
@@ -70,5 +79,6 @@ module _ {cells others : ℕ → ℕ → ℕ} (same : AreSame cells others (cell
   pub complete_same : {s : Sizes} → HoldComplete s cells → HoldComplete s others
   complete_same {s} held = record {
     whole = holds_same held.whole;
+    room = subst (λ (n : ℕ). cells_for n ≤ s.cells) (sym count_same) held.room;
     home = subst (λ (ws : List Write). All (λ w. w.at < s.pages * 64) ws) (sym writes_same) held.home;
   }

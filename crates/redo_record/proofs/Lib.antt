@@ -1,10 +1,14 @@
 pub mod AppendedRecord
 pub mod AppendingImages
 pub mod CellPlaces
+pub mod Covering
 pub mod EncodedCells
 pub mod HeldRecords
 pub mod ReadCells
+pub mod GroupCalls
 pub mod Recovered
+pub mod RecordPairs
+pub mod TouchedLines
 pub mod RecordWrites
 pub mod RingHeads
 pub mod RingRoom

@@ -4,7 +4,7 @@ use Rattle.std.specs.List.{range_with_len}
 use Rattle.std.proofs.lemmas.List.FromFn.{length-map-range_with_len, get_or-map-range_with_len, map-range_with_len_more}
 use Rattle.std.proofs.lemmas.List.Quantifiers.{all_pairs_push}
 use Rattle.dude_base.specs.declared.write.Write.{Write}
-use Rattle.dude_base.specs.Records.{RedoRecord}
+use Rattle.dude_base.specs.Records.{RedoBundle}
 use Rattle.dude_base.specs.Writes.{written, put_write, HasDistinctPlaces}
 use Rattle.dude_base.proofs.WriteLists.{written_absent, absent_written, put_absent}
 use Rattle.redo_record.specs.Record.{cells_for, write_of, record_of}
@@ -61,7 +61,9 @@ slice_is_record words count head continues distinct =
       whole = record {
         head = head.head;
         number = head.number;
-        count = subst (λ (n : ℕ). n ≤ 24) back head.few;
+        span = head.span;
+        first = head.first;
+        count = subst (λ (n : ℕ). n ≤ 96) back head.few;
         continued = λ k low high. continues k low (subst (λ (n : ℕ). k < cells_for n) head.count_is high);
         distinct = subst (λ (n : ℕ). HasDistinctPlaces (map (write_of (word_in_slice words)) (range_with_len 0 n))) back distinct;
       };
@@ -73,7 +75,7 @@ pub slice_distinct : (words : List ℕ) (count : ℕ) → HasHeadFor words count
 slice_distinct words count head slice = subst (λ (n : ℕ). HasDistinctPlaces (map (write_of (word_in_slice words)) (range_with_len 0 n))) head.count_is slice.whole.distinct
 
 -- what is read from the cells that a record has is this record
-pub decodes_back : {words : List ℕ} (answer : Result RedoRecord BadRecord) → IfOk answer (λ r. IsRecordSlice words × (r ≡ record_of (word_in_slice words))) → OnErr answer (¬ IsRecordSlice words)
-    → (r : RedoRecord) → IsEncodable r → words ≡ encoded_cells r → answer ≡ Ok r
-decodes_back (Ok found) ok bad r fine is = ap (λ (x : RedoRecord). let it : Result RedoRecord BadRecord = Ok x in it) (ok.1 ∙ (ap (λ (l : List ℕ). record_of (word_in_slice l)) is ∙ (encoding_law r fine).3))
+pub decodes_back : {words : List ℕ} (answer : Result RedoBundle BadRecord) → IfOk answer (λ r. IsRecordSlice words × (r ≡ record_of (word_in_slice words))) → OnErr answer (¬ IsRecordSlice words)
+    → (r : RedoBundle) → IsEncodable r → words ≡ encoded_cells r → answer ≡ Ok r
+decodes_back (Ok found) ok bad r fine is = ap (λ (x : RedoBundle). let it : Result RedoBundle BadRecord = Ok x in it) (ok.1 ∙ (ap (λ (l : List ℕ). record_of (word_in_slice l)) is ∙ (encoding_law r fine).3))
 decodes_back (Err e) ok bad r fine is = absurd (bad (subst IsRecordSlice (sym is) (encoding_law r fine).2))

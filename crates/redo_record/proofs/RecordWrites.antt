@@ -3,7 +3,7 @@ use Rattle.std.proofs.Common.{◌≡◌, ◌≢◌, ◌⊎◌, inl, inr, ⊎_eli
 use Rattle.std.specs.List.{range_with_len}
 use Rattle.std.proofs.lemmas.Bool.{cases_eq}
 use Rattle.dude_base.specs.declared.sizes.Sizes.{Sizes}
-use Rattle.dude_base.specs.Records.{RedoRecord}
+use Rattle.dude_base.specs.Records.{RedoBundle}
 use Rattle.pmem_trait.specs.Groups.{values_put}
 use Rattle.pmem_trait.proofs.GroupLists.{written-append, words_outside, words_inside}
 use Rattle.redo_record.specs.Tags.{head_tag}
@@ -37,17 +37,17 @@ module _ (f : ℕ → List (ℕ × ℕ)) (i : ℕ) where
       (cases_eq a k)
 
 -- the writes of a record
-module _ (s : Sizes) (head : Cell) (is_cell : IsCell s head) (r : RedoRecord) where
+module _ (s : Sizes) (head : Cell) (is_cell : IsCell s head) (r : RedoBundle) where
   -- the first is that of the tag
-  pub record_writes_first : record_writes s head r ≡ (cell_start s head, head_tag r.number) ∷ body_writes s head r
+  pub record_writes_first : record_writes s head r ≡ (cell_start s head, head_tag r.last) ∷ body_writes s head r
   record_writes_first = by (cells_for (length r.writes)) (omega arith)
     where
       at : cell_start s (cell_after s head 0) ≡ cell_start s head
       at = let first = first_cell s head is_cell 0 in omega arith
 
-      by : (n : ℕ) → 1 ≤ n → flat_map (cell_writes s head r) (range_with_len 0 n) ≡ (cell_start s head, head_tag r.number) ∷ drop 1 (flat_map (cell_writes s head r) (range_with_len 0 n))
+      by : (n : ℕ) → 1 ≤ n → flat_map (cell_writes s head r) (range_with_len 0 n) ≡ (cell_start s head, head_tag r.last) ∷ drop 1 (flat_map (cell_writes s head r) (range_with_len 0 n))
       by zero some = absurd (omega arith)
-      by (suc n) some = ap (λ (i : ℕ). (i, head_tag r.number) ∷ drop 1 (flat_map (cell_writes s head r) (range_with_len 0 (suc n)))) at
+      by (suc n) some = ap (λ (i : ℕ). (i, head_tag r.last) ∷ drop 1 (flat_map (cell_writes s head r) (range_with_len 0 (suc n)))) at
 
   -- at another word than the tag's the body writes what the record does
   body_skip : (i : ℕ) → i ≢ cell_start s head → values_put (body_writes s head r) i ≡ values_put (record_writes s head r) i
@@ -80,15 +80,15 @@ module _ (s : Sizes) (head : Cell) (is_cell : IsCell s head) (r : RedoRecord) wh
     pub body_tag : values_put (body_writes s head r) (cell_start s head) ≡ []
     body_tag =
         let at : word_at s head 0 0 ≡ cell_start s head = first_cell s head is_cell 0 ∙ omega arith in
-        let whole : values_put (record_writes s head r) (cell_start s head) ≡ head_tag r.number ∷ [] =
+        let whole : values_put (record_writes s head r) (cell_start s head) ≡ head_tag r.last ∷ [] =
         ap (values_put (record_writes s head r)) (sym at) ∙ record_word 0 0 (omega arith) (omega arith) in
-        let first : values_put (record_writes s head r) (cell_start s head) ≡ head_tag r.number ∷ values_put (body_writes s head r) (cell_start s head) =
+        let first : values_put (record_writes s head r) (cell_start s head) ≡ head_tag r.last ∷ values_put (body_writes s head r) (cell_start s head) =
         ap (λ (l : List (ℕ × ℕ)). values_put l (cell_start s head)) record_writes_first ∙ rw (eq-eqb (cell_start s head) (cell_start s head) refl) refl in
         cc
 
 -- the group of the tag writes the head's tag and nothing else
-pub tag_elsewhere : (s : Sizes) (head : Cell) (r : RedoRecord) (i : ℕ) → i ≢ cell_start s head → values_put (tag_write s head r) i ≡ []
+pub tag_elsewhere : (s : Sizes) (head : Cell) (r : RedoBundle) (i : ℕ) → i ≢ cell_start s head → values_put (tag_write s head r) i ≡ []
 tag_elsewhere s head r i ne = rw (ne_eqb i (cell_start s head) ne) refl
 
-pub tag_there : (s : Sizes) (head : Cell) (r : RedoRecord) (i : ℕ) → i ≡ cell_start s head → values_put (tag_write s head r) i ≡ head_tag r.number ∷ []
+pub tag_there : (s : Sizes) (head : Cell) (r : RedoBundle) (i : ℕ) → i ≡ cell_start s head → values_put (tag_write s head r) i ≡ head_tag r.last ∷ []
 tag_there s head r i is = rw (eq-eqb i (cell_start s head) is) refl

@@ -6,13 +6,13 @@ use Rattle.dude_base.specs.declared.limits.TheConstants.{MAX_NUMBER}
 use Rattle.dude_base.specs.declared.sizes.Sizes.{Sizes}
 use Rattle.dude_base.specs.Sizes.{IsAccepted}
 use Rattle.dude_base.specs.Image.{header_words, home_word, image_words, Cell}
+use Rattle.dude_base.specs.Records.{first_of}
 use Rattle.pmem_trait.specs.Words.{settled_at}
 use Rattle.pmem_trait.proofs.Images.{may_still}
-use Rattle.redo_record.specs.Tags.{number_of}
-use Rattle.redo_record.specs.Images.{sizes_of, mark_of, home_of, tag_of, IsNewHead}
+use Rattle.redo_record.specs.Images.{sizes_of, version_of, mark_of, home_of, bundle_at, IsNewHead}
 use Rattle.redo_record.specs.Damage.{IsUndamaged}
 use Rattle.redo_record.specs.Rest.{HasHome, LawOfImagesAtRest}
-use Rattle.redo_record.specs.Recovery.{IsFormatted, HasRecord, AreConsecutive, overwritten_by_all, Recovers, LawOfRecovery}
+use Rattle.redo_record.specs.Recovery.{IsFormatted, IsVersion, HasRecord, AreConsecutive, overwritten_by_all, Recovers, LawOfRecovery}
 
 -- sizes by their fields
 sizes_is : {s : Sizes} {subscribers calls rings cells pages : ℕ} → subscribers ≡ s.subscribers → calls ≡ s.calls → rings ≡ s.rings → cells ≡ s.cells → pages ≡ s.pages
@@ -38,10 +38,14 @@ module _ {version : ℕ} {s : Sizes} {mark : ℕ} {home image : List ℕ} (has :
       same : (i : ℕ) → i < length (take 8 image) → slice_index (take 8 image) i ≡ slice_index (header_words version s) i
       same i below = let small : i < 8 = omega (arith, count) in get_or-take 8 image i 0 small ∙ has.header i small
 
-  pub home_formatted : IsAccepted s → IsFormatted version image
-  home_formatted accepted = record {
+  pub home_version : version_of image ≡ version
+  home_version = has.header 1 (omega arith)
+
+  pub home_formatted : IsAccepted s → IsVersion version s → IsFormatted image
+  home_formatted accepted fits = record {
     long = (let long = has.whole in omega arith);
-    header = home_header ∙ ap (header_words version) (sym home_sizes);
+    header = home_header ∙ (ap (header_words version) (sym home_sizes) ∙ ap (λ (v : ℕ). header_words v (sizes_of image)) (sym home_version));
+    version = subst (λ (v : ℕ). IsVersion v (sizes_of image)) (sym home_version) (subst (IsVersion version) (sym home_sizes) fits);
     sizes = subst IsAccepted (sym home_sizes) accepted;
     whole = subst (λ (s : Sizes). image_words s ≤ length image) (sym home_sizes) has.whole;
   }
@@ -59,20 +63,20 @@ module _ {version : ℕ} {s : Sizes} {mark : ℕ} {home image : List ℕ} (has :
           get_or-take (image_words s - home_word s 0) (drop (home_word s 0) image) i 0 (omega arith) ∙ (get_or-drop (home_word s 0) image i 0 ∙ (ap (slice_index image) (omega arith) ∙ has.words i small))
 
 pub recovery_law : LawOfRecovery
-recovery_law version s mark home image number records accepted small has undamaged logged consecutive greatest = (home_sizes has, recovered)
+recovery_law version s mark home image number records accepted fits small has undamaged logged consecutive greatest = (home_sizes has, recovered)
   where
     at_image : (P : Sizes → ℕ → Type 0) → P s mark → P (sizes_of image) (mark_of image)
     at_image P holds = subst (λ (m : ℕ). P (sizes_of image) m) (sym has.mark) (subst (λ (s : Sizes). P s mark) (sym (home_sizes has)) holds)
 
-    recovered : Recovers version image number (overwritten_by_all records home)
+    recovered : Recovers image number (overwritten_by_all records home)
     recovered = record {
-      formatted = home_formatted has accepted;
+      formatted = home_formatted has accepted fits;
       small = subst (λ (m : ℕ). m ≤ MAX_NUMBER) (sym has.mark) small;
       undamaged = at_image (λ s m. IsUndamaged s m image) undamaged;
       records = records;
       logged = at_image (λ s m. All (HasRecord s m image) records) logged;
       consecutive = subst (λ (m : ℕ). AreConsecutive m records number) (sym has.mark) consecutive;
-      greatest = at_image (λ s m. (head : Cell) → IsNewHead s m image head → number_of (tag_of s image head) ≢ number + 1) greatest;
+      greatest = at_image (λ s m. (head : Cell) → IsNewHead s m image head → first_of (bundle_at s image head) ≢ number + 1) greatest;
       result = ap (overwritten_by_all records) (sym (home_is has) ∙ ap (λ (s : Sizes). home_of s image) (sym (home_sizes has)));
     }
 

@@ -1,15 +1,15 @@
 -- The law of reproduce: the writes of records go home, and then the mark is raised.
-use Rattle.std.proofs.Common.{◌≡◌, ◌≢◌, ◌⊎◌, inl, inr, ℕ, ◌+◌, ◌-◌, ◌*◌, ◌/◌, ◌<◌, ◌≤◌, List, [], ◌∷◌, ◌++◌, length, drop, slice_index, Option, Some, None, unwrap_or, refl, sym, ap, ◌∙◌, subst, arith, All, ⊎_elim, nat_lt}
+use Rattle.std.proofs.Common.{◌≡◌, ◌≢◌, ◌⊎◌, inl, inr, ℕ, ◌+◌, ◌-◌, ◌*◌, ◌/◌, ◌<◌, ◌≤◌, List, [], ◌∷◌, ◌++◌, length, get_or, drop, slice_index, Option, Some, None, unwrap_or, refl, sym, ap, ◌∙◌, subst, arith, All, ⊎_elim, nat_lt}
 use Rattle.std.specs.List.{filter}
 use Rattle.std.specs.Option.{option_to_list}
 use Rattle.std.proofs.lemmas.Grind.{same_number_lists}
 use Rattle.std.proofs.lemmas.List.{get_or-take, get_or-drop, length-take, length-drop}
 use Rattle.std.proofs.lemmas.List.Elements.{All-head, All-tail, All-weaker, All-same}
-use Rattle.dude_base.specs.declared.limits.TheConstants.{MARK, MAX_NUMBER, PAGE}
+use Rattle.dude_base.specs.declared.limits.TheConstants.{MARK, MAX_NUMBER, PAGE, VERSION}
 use Rattle.dude_base.specs.declared.sizes.Sizes.{Sizes}
 use Rattle.dude_base.specs.declared.write.Write.{Write}
 use Rattle.dude_base.specs.Image.{cell_at, cell_start, home_word, image_words, header_words}
-use Rattle.dude_base.specs.Records.{RedoRecord}
+use Rattle.dude_base.specs.Records.{RedoBundle}
 use Rattle.dude_base.specs.Writes.{written, overwritten, HasDistinctPlaces}
 use Rattle.dude_base.proofs.Overwriting.{length-overwritten, index-overwritten}
 use Rattle.pmem_trait.specs.Words.{State, IsIn, MayHold, AtLeast, AfterEachCall, settled_at, after_all, IsImage}
@@ -18,21 +18,23 @@ use Rattle.pmem_trait.proofs.Images.{may_still}
 use Rattle.pmem_trait.proofs.GroupLaw.{group_word, group_told, left_word, unwritten_may}
 use Rattle.pmem_trait.proofs.GroupStates.{OnTheWay, group_way}
 use Rattle.pmem_trait.proofs.Laws.{after_all_then, after_each_then, after_each_weaker}
-use Rattle.redo_record.specs.Tags.{IsNumber}
+use Rattle.redo_record.specs.Tags.{IsNumber, IsHeadOver}
+use Rattle.redo_record.specs.Fits.{head_of, settled_mark}
 use Rattle.redo_record.specs.Images.{sizes_of, home_of}
 use Rattle.redo_record.specs.Rest.{RestsAt}
 use Rattle.redo_record.specs.Recovery.{AreConsecutive, overwritten_by_all, Recovers}
-use Rattle.redo_record.specs.Waiting.{Waiting, Waits, Lead, IsContiguousEnd, HaveDistinctNumbers, KeepsOver}
+use Rattle.redo_record.specs.Waiting.{Waiting, Waits, Lead, IsContiguousEnd, AreDisjoint, KeepsOver}
 use Rattle.redo_record.specs.LogState.{LogState, KeepsCells, HoldsLog, RecoversAmong}
 use Rattle.redo_record.specs.BackCalls.{home_writes, lines_touched, mark_writes, reproduce_calls}
-use Rattle.redo_record.specs.BackLaws.{CanReproduce, reproduced_to, LawOfReproduced, LawOfReproduce, HasSettledHome, Reproducing, LawOfReproducing}
+use Rattle.redo_record.specs.BackLaws.{CanReproduce, reproduced_to, LawOfReproduced, LawOfReproduce, HasSettledHome, Reproducing, LawOfReproducing, LawOfLogWhileReproducing}
 use Rattle.redo_record.proofs.RingRoom.{all_rest}
 use Rattle.redo_record.proofs.WaitingRecords.{consecutive_up, consecutive_over, end_reached, split, keeps_filter}
 use Rattle.redo_record.proofs.HomeWrites.{rising_distinct, put_before_home, put_in_home, final_in_home, line_touched, put_beside_mark, reproduce_length}
-use Rattle.redo_record.proofs.HeldLog.{settled_state, settled_state_keeps, settled_state_recovers, held_by, in_cells, keeps_all, stands_in, keeps_then}
+use Rattle.redo_record.proofs.SettledRecords.{settled_records_law}
+use Rattle.redo_record.proofs.HeldLog.{settled_mark_is, settled_state, settled_state_keeps, settled_state_recovers, held_by, leads_here, in_cells, keeps_all, stands_in, keeps_then}
 
 -- records one after another
-pub overwritten-append : (rs ts : List RedoRecord) (array : List ℕ) → overwritten_by_all (rs ++ ts) array ≡ overwritten_by_all ts (overwritten_by_all rs array)
+pub overwritten-append : (rs ts : List RedoBundle) (array : List ℕ) → overwritten_by_all (rs ++ ts) array ≡ overwritten_by_all ts (overwritten_by_all rs array)
 overwritten-append [] ts array = refl
 overwritten-append (r ∷ rs) ts array = overwritten-append rs ts (overwritten r.writes array)
 
@@ -51,14 +53,14 @@ overwritten_same ws a b long same = same_number_lists (overwritten ws a) (overwr
         index-overwritten ws a i below ∙ (at i other (written ws i) refl ∙ sym (index-overwritten ws b i other))
 
 -- The records of a list that leads on past those that are reproduced: the others wait still.
-pub record Remaining (records : List RedoRecord) (waiting : List Waiting) (number : ℕ) (ts : List RedoRecord) (to : ℕ) : Type 0 where
-  pub rest : List RedoRecord
+pub record Remaining (records : List RedoBundle) (waiting : List Waiting) (number : ℕ) (ts : List RedoBundle) (to : ℕ) : Type 0 where
+  pub rest : List RedoBundle
   pub lead : Lead waiting number rest to
   pub whole : ts ≡ records ++ rest
 
-module _ {l : LogState} {records : List RedoRecord} {ws : List Write} {number : ℕ} {waiting : List Waiting} (distinct : HaveDistinctNumbers l.waiting)
+module _ {l : LogState} {records : List RedoBundle} {ws : List Write} {number : ℕ} {waiting : List Waiting} (distinct : AreDisjoint l.waiting)
     (can : CanReproduce l records ws number) (over : KeepsOver number l.waiting waiting) where
-  pub remaining : (ts : List RedoRecord) (to : ℕ) → Lead l.waiting l.reproduced ts to → number ≤ to → Remaining records waiting number ts to
+  pub remaining : (ts : List RedoBundle) (to : ℕ) → Lead l.waiting l.reproduced ts to → number ≤ to → Remaining records waiting number ts to
   remaining ts to lead upto =
       let both = split distinct l.reproduced number to records ts can.lead.wait lead.wait can.lead.consecutive lead.consecutive upto in
       let others : All (Waits l.waiting) both.rest = all_rest (Waits l.waiting) records both.rest (All-same (Waits l.waiting) (records ++ both.rest) ts (sym both.whole) lead.wait) in
@@ -72,16 +74,16 @@ module _ {l : LogState} {records : List RedoRecord} {ws : List Write} {number : 
       }
 
   pub number_upto : (end : ℕ) → IsContiguousEnd l.waiting l.reproduced end → number ≤ end
-  number_upto end is = end_reached (λ r waits. waits) is can.lead
+  number_upto end is = end_reached distinct (λ r waits. waits) is can.lead
 
   pub remaining_end : (end : ℕ) (is : IsContiguousEnd l.waiting l.reproduced end) → Remaining records waiting number is.records end → IsContiguousEnd waiting number end
   remaining_end end is rest = record { records = rest.rest; lead = rest.lead; greatest = λ w has. is.greatest w (over.only w has).0 }
 
   -- the array behind these records is that behind the others, from where the writes were made
-  pub array_behind : {ts : List RedoRecord} {to : ℕ} (home : List ℕ) → length home ≡ l.sizes.pages * PAGE → (rest : Remaining records waiting number ts to)
+  pub array_behind : {ts : List RedoBundle} {to : ℕ} (home : List ℕ) → length home ≡ l.sizes.pages * PAGE → (rest : Remaining records waiting number ts to)
       → overwritten_by_all ts home ≡ overwritten_by_all rest.rest (overwritten ws home)
   array_behind home count rest =
-      ap (λ (rs : List RedoRecord). overwritten_by_all rs home) rest.whole ∙ (overwritten-append records rest.rest home
+      ap (λ (rs : List RedoBundle). overwritten_by_all rs home) rest.whole ∙ (overwritten-append records rest.rest home
       ∙ ap (λ (array : List ℕ). overwritten_by_all rest.rest array) (sym (can.effect home count)))
 
 pub reproduced_law : LawOfReproduced
@@ -108,15 +110,15 @@ home_reads s image long = (
     count = simp (length-take, length-drop) (omega arith)
 
 -- the mark is one that an image may have
-upto_most : (from to : ℕ) (rs : List RedoRecord) → All (λ r. r.number ≤ MAX_NUMBER) rs → AreConsecutive from rs to → from ≤ MAX_NUMBER → to ≤ MAX_NUMBER
+upto_most : (from to : ℕ) (rs : List RedoBundle) → All (λ r. r.last ≤ MAX_NUMBER) rs → AreConsecutive from rs to → from ≤ MAX_NUMBER → to ≤ MAX_NUMBER
 upto_most from to [] all is small = omega arith
-upto_most from to (r ∷ rs) all is small = upto_most r.number to rs (All-tail (λ (r : RedoRecord). r.number ≤ MAX_NUMBER) r rs all) is.1 (All-head (λ (r : RedoRecord). r.number ≤ MAX_NUMBER) r rs all)
+upto_most from to (r ∷ rs) all is small = upto_most r.last to rs (All-tail (λ (r : RedoBundle). r.last ≤ MAX_NUMBER) r rs all) is.1 (All-head (λ (r : RedoBundle). r.last ≤ MAX_NUMBER) r rs all)
 
 -- the state once these writes of home words are durable
 abbrev after_home : LogState → List Write → State → State
 after_home l ws p = after_all (group_calls (home_writes l.sizes ws) (lines_touched (home_writes l.sizes ws))) p
 
-module _ {l : LogState} {records : List RedoRecord} {ws : List Write} {number : ℕ} {waiting : List Waiting} {p : State} (holds : HoldsLog l p)
+module _ {l : LogState} {records : List RedoBundle} {ws : List Write} {number : ℕ} {waiting : List Waiting} {p : State} (holds : HoldsLog l p)
     (can : CanReproduce l records ws number) (over : KeepsOver number l.waiting waiting) where
   distinct : HasDistinctPlaces ws
   distinct = rising_distinct ws can.rising
@@ -126,9 +128,9 @@ module _ {l : LogState} {records : List RedoRecord} {ws : List Write} {number : 
 
   small : number ≤ MAX_NUMBER
   small = upto_most l.reproduced number records
-      (All-weaker (Waits l.waiting) (λ (r : RedoRecord). r.number ≤ MAX_NUMBER) (λ r waits.
+      (All-weaker (Waits l.waiting) (λ (r : RedoBundle). r.last ≤ MAX_NUMBER) (λ r waits.
       let held = (stands_in holds _ waits.is_one).held in
-      let is : IsNumber r.number = subst IsNumber (ap (λ (r : RedoRecord). r.number) held.same) held.complete.whole.number in
+      let is : IsNumber r.last = subst IsNumber (ap (λ (r : RedoBundle). r.last) held.same) held.complete.whole.number in
       is.high) records can.lead.wait) can.lead.consecutive holds.small
 
   -- the log with another home
@@ -151,7 +153,7 @@ module _ {l : LogState} {records : List RedoRecord} {ws : List Write} {number : 
         (put_before_home l.sizes ws (cell_start l.sizes (cell_at ring slot) + j) at.1) is;
   }
 
-  home_rests : RestsAt l.version l.sizes l.reproduced (overwritten ws l.home) (after_home l ws p)
+  home_rests : RestsAt VERSION l.sizes l.reproduced (overwritten ws l.home) (after_home l ws p)
   home_rests = record {
     header = λ i below. left_word (home_writes l.sizes ws) (lines_touched (home_writes l.sizes ws)) p i _ (put_before_home l.sizes ws i (omega arith)) (holds.rest.header i below);
     mark = left_word (home_writes l.sizes ws) (lines_touched (home_writes l.sizes ws)) p 8 _ (put_before_home l.sizes ws 8 (omega arith)) holds.rest.mark;
@@ -167,7 +169,7 @@ module _ {l : LogState} {records : List RedoRecord} {ws : List Write} {number : 
 
   -- once the home words are durable
   home_log : HoldsLog (at_home (overwritten ws l.home)) (after_home l ws p)
-  home_log = held_by l.reproduced (overwritten ws l.home) l.waiting holds (omega arith) holds.small home_rests home_keeps (keeps_all holds)
+  home_log = held_by l.reproduced (overwritten ws l.home) l.waiting holds (leads_here l) holds.small home_rests home_keeps (keeps_all holds)
 
   module _ {end : ℕ} (is : IsContiguousEnd l.waiting l.reproduced end) where
     rest_is : Remaining records waiting number is.records end
@@ -247,7 +249,7 @@ module _ {l : LogState} {records : List RedoRecord} {ws : List Write} {number : 
   module _ {q : State} {len before end : ℕ} (way : Reproducing l ws number p q) (long : image_words l.sizes ≤ len) (is : IsContiguousEnd l.waiting l.reproduced end)
       (floor : AtLeast before p.told end) where
     -- an image recovers so where its number and its array are these
-    among : {image : List ℕ} (array : List ℕ) → array ≡ overwritten_by_all is.records l.home → (sizes_of image ≡ l.sizes) × Recovers l.version image end array
+    among : {image : List ℕ} (array : List ℕ) → array ≡ overwritten_by_all is.records l.home → (sizes_of image ≡ l.sizes) × Recovers image end array
         → RecoversAmong l before end end q.told image
     among array array_is both = record {
       number = end;
@@ -272,7 +274,7 @@ module _ {l : LogState} {records : List RedoRecord} {ws : List Write} {number : 
         reads : (length home ≡ l.sizes.pages * PAGE) × ((i : ℕ) → i < l.sizes.pages * PAGE → slice_index image (home_word l.sizes i) ≡ slice_index home i)
         reads = home_reads l.sizes image long_image
 
-        header : (i : ℕ) → i < MARK → (settled_state image).word i ≡ settled_at (slice_index (header_words l.version l.sizes) i)
+        header : (i : ℕ) → i < MARK → (settled_state image).word i ≡ settled_at (slice_index (header_words VERSION l.sizes) i)
         header i below = ap settled_at (may_still _ _ _ (way.header i below) (image_is.each i (omega arith)))
 
         keeps : KeepsCells l.sizes p (settled_state image)
@@ -289,16 +291,16 @@ module _ {l : LogState} {records : List RedoRecord} {ws : List Write} {number : 
 
         by : (slice_index image 8 ≡ l.reproduced) ⊎ ((slice_index image 8 ≡ number) × HasSettledHome l.sizes (overwritten ws l.home) q) → RecoversAmong l before end end q.told image
         by (inl old) =
-            let rests : RestsAt l.version l.sizes l.reproduced home (settled_state image) = record {
+            let rests : RestsAt VERSION l.sizes l.reproduced home (settled_state image) = record {
               header = header;
               mark = ap settled_at old;
               count = reads.0;
               words = λ i below. ap settled_at (reads.1 i (let count = reads.0 in omega arith));
             } in
             among _ (array_same is home reads.0 (overwritten_same ws home l.home (reads.0 ∙ sym holds.rest.count) same))
-            (settled_state_recovers (held_by l.reproduced home l.waiting holds (omega arith) holds.small rests keeps (keeps_all holds)) long_image is)
+            (settled_state_recovers (held_by l.reproduced home l.waiting holds (leads_here l) holds.small rests keeps (keeps_all holds)) long_image is)
         by (inr new) =
-            let rests : RestsAt l.version l.sizes number (overwritten ws l.home) (settled_state image) = record {
+            let rests : RestsAt VERSION l.sizes number (overwritten ws l.home) (settled_state image) = record {
               header = header;
               mark = ap settled_at new.0;
               count = home_rests.count;
@@ -306,13 +308,13 @@ module _ {l : LogState} {records : List RedoRecord} {ws : List Write} {number : 
             } in
             let others : IsContiguousEnd waiting number end = record { records = (rest_is is).rest; lead = (rest_is is).lead; greatest = λ w has. is.greatest w (over.only w has).0 } in
             among _ (sym (array_behind holds.distinct can over l.home holds.rest.count (rest_is is)))
-            (settled_state_recovers (held_by number (overwritten ws l.home) waiting holds up small rests keeps over) long_image others)
+            (settled_state_recovers (held_by number (overwritten ws l.home) waiting holds can.lead small rests keeps over) long_image others)
 
   -- once the mark is durable
   mark_log : HoldsLog (reproduced_to l ws number waiting) (after_all (reproduce_calls l.sizes ws number) p) × ((after_all (reproduce_calls l.sizes ws number) p).told ≡ p.told)
   unfolding reproduce_calls
   mark_log = subst (λ (q : State). HoldsLog (reproduced_to l ws number waiting) q × (q.told ≡ p.told)) (sym (after_all_then (group_calls (home_writes l.sizes ws) (lines_touched (home_writes l.sizes ws))) (group_calls (mark_writes number) (1 ∷ [])) p)) (
-    held_by number (overwritten ws l.home) waiting home_log up small rests keeps over,
+    held_by number (overwritten ws l.home) waiting home_log can.lead small rests keeps over,
     group_told (mark_writes number) (1 ∷ []) (after_home l ws p) ∙ told_home,
   )
     where
@@ -322,7 +324,7 @@ module _ {l : LogState} {records : List RedoRecord} {ws : List Write} {number : 
       stay : (k x : ℕ) → k ≢ 8 → (after_home l ws p).word k ≡ settled_at x → q.word k ≡ settled_at x
       stay k x other is = left_word (mark_writes number) (1 ∷ []) (after_home l ws p) k x (put_beside_mark number k other) is
 
-      rests : RestsAt l.version l.sizes number (overwritten ws l.home) q
+      rests : RestsAt VERSION l.sizes number (overwritten ws l.home) q
       rests = record {
         header = λ i below. stay i _ (λ same. omega arith) (home_rests.header i below);
         mark = group_word (mark_writes number) (1 ∷ []) (after_home l ws p) 8 l.reproduced home_rests.mark (inr (inl refl));
@@ -346,7 +348,7 @@ reproducing_law l records ws number p holds can = (
   λ q len before end way long is floor. record { each = state_images holds can over way long is floor },
 )
   where
-    over : KeepsOver number l.waiting (filter (λ w. nat_lt number w.redo.number) l.waiting)
+    over : KeepsOver number l.waiting (filter (λ w. nat_lt number w.redo.last) l.waiting)
     over = keeps_filter number l.waiting
 
 pub reproduce_law : LawOfReproduce
@@ -354,3 +356,18 @@ reproduce_law l records ws number waiting p holds can over =
     let ends = mark_log holds can over in
     let way = reproducing_law l records ws number p holds can in
     (λ len before end long is floor. after_each_weaker (λ q on. way.1 q len before end on long is floor) way.0, ends.0, ends.1, reproduce_length l.sizes ws number)
+
+pub log_while_reproducing_law : LawOfLogWhileReproducing
+log_while_reproducing_law l ws number p q holds way = (
+  λ ring slot tag below lt may over. (holds.fits ring below).heads slot tag lt (way.cells.tags ring slot tag below lt may) (subst (λ (m : ℕ). IsHeadOver m tag) (sym (settled_mark_is holds)) over),
+  λ ring below k d lt over.
+      let is = holds.logged ring below k d lt over in
+      record {
+        slot_is = is.slot_is;
+        redo = is.redo;
+        waits = is.waits;
+        held = settled_records_law.rest l.sizes (head_of ring (get_or (l.rings ring).logged k d)) is.redo p q (record { ring_is = below; slot_is = is.slot_is })
+            (λ slot j x low small at. way.cells.stay ring slot j x below low small at) is.held;
+      },
+  way.mark (settled_mark q) (inl refl),
+)

@@ -4,14 +4,14 @@ use Rattle.std.proofs.Math.Nat.{mod-lt}
 use Rattle.std.proofs.lemmas.Bool.{cases_eq, cases_order}
 use Rattle.dude_base.specs.declared.sizes.Sizes.{Sizes}
 use Rattle.dude_base.specs.Image.{Cell, cell_at, cell_start}
-use Rattle.dude_base.specs.Records.{RedoRecord}
+use Rattle.dude_base.specs.Records.{RedoBundle}
 use Rattle.pmem_trait.specs.Words.{Word, State, IsSettledWord, settled_at}
 use Rattle.redo_record.specs.Tags.{kind_of, number_of, IsHeadOver}
 use Rattle.redo_record.specs.Cells.{IsCell, word_at}
 use Rattle.redo_record.specs.Record.{cells_for, count_of}
 use Rattle.redo_record.specs.Fits.{Logged, head_of, HasHead, settled_word, IsIntact}
 use Rattle.redo_record.specs.AppendLaw.{IsElsewhere}
-use Rattle.redo_record.proofs.HeldRecords.{AreSame, complete_same, count_same, tag_same}
+use Rattle.redo_record.proofs.HeldRecords.{AreSame, complete_same, count_same, span_same, tag_same}
 use Rattle.redo_record.proofs.CellPlaces.{words_same, rings_same}
 
 -- a tag is that of a head over a number, or isn't
@@ -38,12 +38,13 @@ intact_by {s} {ring} {p} {q} {l} intact stay =
     record {
       settled_words = λ k j lt small. is_settled (stay k j lt small);
       complete = complete_same same intact.complete;
-      same_number = ap number_of (tag_same same) ∙ intact.same_number;
+      same_last = ap number_of (tag_same same) ∙ intact.same_last;
+      same_span = span_same same ∙ intact.same_span;
       same_cells = ap cells_for (count_same same) ∙ intact.same_cells;
     }
 
 -- the record whose head this is
-pub find_head : {P : Logged → Type 0} (number slot : ℕ) (ls : List Logged) → All P ls → HasHead number slot ls → (l : Logged) × (l.number ≡ number) × (l.first ≡ slot) × P l
+pub find_head : {P : Logged → Type 0} (number slot : ℕ) (ls : List Logged) → All P ls → HasHead number slot ls → (l : Logged) × (l.last ≡ number) × (l.slot ≡ slot) × P l
 find_head number slot [] all has = absurd has
 find_head number slot (l ∷ ls) all (inl is) = (l, is.0, is.1, all 0 l (omega arith))
 find_head {P} number slot (l ∷ ls) all (inr has) = find_head {P = P} number slot ls (λ k d lt. all (suc k) d (omega arith)) has
@@ -54,7 +55,7 @@ head_before number slot [] more has = absurd has
 head_before number slot (l ∷ ls) more (inl is) = inl is
 head_before number slot (l ∷ ls) more (inr has) = inr (head_before number slot ls more has)
 
-pub head_last : (ls : List Logged) (l : Logged) (number slot : ℕ) → l.number ≡ number → l.first ≡ slot → HasHead number slot (ls ++ l ∷ [])
+pub head_last : (ls : List Logged) (l : Logged) (number slot : ℕ) → l.last ≡ number → l.slot ≡ slot → HasHead number slot (ls ++ l ∷ [])
 head_last [] l number slot same at = inl (same, at)
 head_last (k ∷ ls) l number slot same at = inr (head_last ls l number slot same at)
 
@@ -65,11 +66,11 @@ cell_is a b ring slot =
     ap by_ring ring ∙ ap by_place slot
 
 -- the words before the rings are elsewhere
-pub header_elsewhere : (s : Sizes) (head : Cell) (r : RedoRecord) (i : ℕ) → i < 16 → IsElsewhere s head r i
+pub header_elsewhere : (s : Sizes) (head : Cell) (r : RedoBundle) (i : ℕ) → i < 16 → IsElsewhere s head r i
 header_elsewhere s head r i low k j lt small is = omega arith
 
 -- so are those of other cells of the ring
-pub cells_elsewhere : (s : Sizes) (head other : Cell) (r : RedoRecord) (n : ℕ) → other.ring ≡ head.ring
+pub cells_elsewhere : (s : Sizes) (head other : Cell) (r : RedoBundle) (n : ℕ) → other.ring ≡ head.ring
     → ((i k : ℕ) → i < n → k < cells_for (length r.writes) → (other.slot + i) % s.cells ≡ (head.slot + k) % s.cells → ⊥)
     → (i j : ℕ) → i < n → j < 8 → IsElsewhere s head r (word_at s other i j)
 cells_elsewhere s head other r n ring apart i j lt small k m below tiny same =
@@ -77,7 +78,7 @@ cells_elsewhere s head other r n ring apart i j lt small k m below tiny same =
     apart i k lt below (words_same (head.ring * s.cells) ((other.slot + i) % s.cells) ((head.slot + k) % s.cells) j m small tiny here).0
 
 -- and those of another ring
-pub ring_elsewhere : (s : Sizes) (head : Cell) (r : RedoRecord) (ring : ℕ) → IsCell s head → ring ≢ head.ring
+pub ring_elsewhere : (s : Sizes) (head : Cell) (r : RedoBundle) (ring : ℕ) → IsCell s head → ring ≢ head.ring
     → (slot j : ℕ) → slot < s.cells → j < 8 → IsElsewhere s head r (cell_start s (cell_at ring slot) + j)
 ring_elsewhere s head r ring is_cell other slot j below small k m lt tiny same =
     other (rings_same s.cells ring head.ring slot ((head.slot + k) % s.cells) below (mod-lt (head.slot + k) (let some = is_cell.slot_is in omega arith)) (omega arith))

@@ -17,12 +17,12 @@ used_more l ls = sum_by-cons (λ (l : Logged). l.cells) l ls
 module _ (s : Sizes) (slot : ℕ) (below : slot < s.cells) where
   module _ (n mark total : ℕ) (room : total + n ≤ s.cells) where
     free_from : (at offset : ℕ) (ls : List Logged) → at ≡ (slot + offset) % s.cells → offset + cells_used ls ≡ total → FollowFrom s at ls → AreFree s mark ((slot + total) % s.cells) n ls
-    free_from at offset [] is sum follow = All-nil (λ (l : Logged). mark < l.number → (i k : ℕ) → i < l.cells → k < n → (l.first + i) % s.cells ≡ ((slot + total) % s.cells + k) % s.cells → ⊥)
+    free_from at offset [] is sum follow = All-nil (λ (l : Logged). mark < l.last → (i k : ℕ) → i < l.cells → k < n → (l.slot + i) % s.cells ≡ ((slot + total) % s.cells + k) % s.cells → ⊥)
     free_from at offset (l ∷ ls) is sum follow =
         let used = used_more l ls in
-        All-cons (λ (l : Logged). mark < l.number → (i k : ℕ) → i < l.cells → k < n → (l.first + i) % s.cells ≡ ((slot + total) % s.cells + k) % s.cells → ⊥) l ls
+        All-cons (λ (l : Logged). mark < l.last → (i k : ℕ) → i < l.cells → k < n → (l.slot + i) % s.cells ≡ ((slot + total) % s.cells + k) % s.cells → ⊥) l ls
         (λ over i k lt small same.
-        let first : (l.first + i) % s.cells ≡ (slot + (offset + i)) % s.cells = ap (λ x. (x + i) % s.cells) (follow.0 ∙ is) ∙ steps_more s.cells slot offset i in
+        let first : (l.slot + i) % s.cells ≡ (slot + (offset + i)) % s.cells = ap (λ x. (x + i) % s.cells) (follow.0 ∙ is) ∙ steps_more s.cells slot offset i in
         let last : ((slot + total) % s.cells + k) % s.cells ≡ (slot + (total + k)) % s.cells = steps_more s.cells slot total k in
         let one = steps_same s.cells slot (offset + i) (total + k) below (omega arith) (omega arith) (sym first ∙ (same ∙ last)) in
         omega arith)
@@ -35,7 +35,7 @@ module _ (s : Sizes) (slot : ℕ) (below : slot < s.cells) where
 pub room_law : LawOfRoom
 room_law s slot n mark logged below follow room = room_is_free s slot below n mark logged follow room
 
-pub follow_more : (s : Sizes) (slot : ℕ) → slot < s.cells → (logged : List Logged) (next : Logged) → FollowFrom s slot logged → next.first ≡ (slot + cells_used logged) % s.cells → FollowFrom s slot (logged ++ next ∷ [])
+pub follow_more : (s : Sizes) (slot : ℕ) → slot < s.cells → (logged : List Logged) (next : Logged) → FollowFrom s slot logged → next.slot ≡ (slot + cells_used logged) % s.cells → FollowFrom s slot (logged ++ next ∷ [])
 follow_more s slot below [] next follow at = (at ∙ (ap (λ x. x % s.cells) (omega arith) ∙ mod-eq_of_lt below), tt)
 follow_more s slot below (l ∷ ls) next follow at =
     let used = used_more l ls in (
@@ -55,10 +55,10 @@ pub following_law : LawOfFollowing
 following_law s slot below = (follow_more s slot below, follow_rest s slot below)
 
 -- a head over the number isn't one of the released records
-head_of_rest : (number slot bound : ℕ) (gone rest : List Logged) → All (λ l. l.number ≤ bound) gone → bound < number → HasHead number slot (gone ++ rest) → HasHead number slot rest
+head_of_rest : (number slot bound : ℕ) (gone rest : List Logged) → All (λ l. l.last ≤ bound) gone → bound < number → HasHead number slot (gone ++ rest) → HasHead number slot rest
 head_of_rest number slot bound [] rest old over has = has
-head_of_rest number slot bound (l ∷ ls) rest old over (inl is) = absurd (let small = All-head (λ (l : Logged). l.number ≤ bound) l ls old in let same = is.0 in omega arith)
-head_of_rest number slot bound (l ∷ ls) rest old over (inr has) = head_of_rest number slot bound ls rest (All-tail (λ (l : Logged). l.number ≤ bound) l ls old) over has
+head_of_rest number slot bound (l ∷ ls) rest old over (inl is) = absurd (let small = All-head (λ (l : Logged). l.last ≤ bound) l ls old in let same = is.0 in omega arith)
+head_of_rest number slot bound (l ∷ ls) rest old over (inr has) = head_of_rest number slot bound ls rest (All-tail (λ (l : Logged). l.last ≤ bound) l ls old) over has
 
 pub all_rest : {X : Type 0} (P : X → Type 0) (gone rest : List X) → All P (gone ++ rest) → All P rest
 all_rest P [] rest all = all
@@ -71,7 +71,7 @@ release_law s ring gone rest released number p fits old upto =
       mark = fits.mark;
       reproduced = omega arith;
       heads = λ slot tag below may over. let high = over.over in head_of_rest (number_of tag) slot number gone rest old (omega arith) (fits.heads slot tag below may over);
-      records = all_rest (λ l. settled_mark p < l.number → IsIntact s ring p l) gone rest fits.records;
+      records = all_rest (λ l. settled_mark p < l.last → IsIntact s ring p l) gone rest fits.records;
     }
 
 pub rest_law : LawOfRest
@@ -82,5 +82,5 @@ rest_law s ring logged released p q positive fits mark more tags words =
       reproduced = omega arith;
       heads = λ slot tag below may over. let high = over.over in fits.heads slot tag below (tags slot tag below may) (record { kind = over.kind; over = omega arith });
       records = λ k d lt over. let intact = fits.records k d lt (omega arith) in
-          intact_by intact (λ i j small tiny. words (((get_or logged k d).first + i) % s.cells) j _ (mod-lt ((get_or logged k d).first + i) positive) tiny (intact.settled_words i j small tiny));
+          intact_by intact (λ i j small tiny. words (((get_or logged k d).slot + i) % s.cells) j _ (mod-lt ((get_or logged k d).slot + i) positive) tiny (intact.settled_words i j small tiny));
     }

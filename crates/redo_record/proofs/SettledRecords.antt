@@ -5,7 +5,7 @@ use Rattle.std.proofs.lemmas.Bool.{cases_eq}
 use Rattle.std.proofs.lemmas.List.FromFn.{length-map-range_with_len}
 use Rattle.dude_base.specs.declared.sizes.Sizes.{Sizes}
 use Rattle.dude_base.specs.Image.{image_words, Cell}
-use Rattle.dude_base.specs.Records.{RedoRecord}
+use Rattle.dude_base.specs.Records.{RedoBundle}
 use Rattle.pmem_trait.specs.Words.{Word, State, IsImage, settled_at}
 use Rattle.pmem_trait.proofs.Images.{may_still}
 use Rattle.redo_record.specs.Cells.{IsCell, word_at}
@@ -15,15 +15,15 @@ use Rattle.redo_record.specs.Fits.{IsIntact, settled_word}
 use Rattle.redo_record.specs.AppendLaw.{IsElsewhere, logged_as}
 use Rattle.redo_record.specs.SettledRecords.{HoldSettled, AreInOtherCells, LawOfSettledRecords}
 use Rattle.redo_record.proofs.HeldRecords.{AreSame, complete_same, record_same}
-use Rattle.redo_record.proofs.EncodedCells.{cells_of_record, encoded_record}
+use Rattle.redo_record.proofs.EncodedCells.{cells_of_record, encoded_record, counted}
 use Rattle.redo_record.proofs.CellPlaces.{word_inside}
 use Rattle.redo_record.proofs.RingHeads.{is_settled, cells_elsewhere, ring_elsewhere}
 use Rattle.redo_record.proofs.AppendedRecord.{encoded_complete}
 
-module _ {s : Sizes} {head : Cell} {r : RedoRecord} {p : State} (held : HoldSettled s head r p) where
+module _ {s : Sizes} {head : Cell} {r : RedoBundle} {p : State} (held : HoldSettled s head r p) where
   -- the count that the head has is that of the record's writes
   pub held_count : count_of (settled_word s p head) ≡ length r.writes
-  held_count = sym (length-map-range_with_len (write_of (settled_word s p head)) 0 (count_of (settled_word s p head))) ∙ ap (λ (t : RedoRecord). length t.writes) held.same
+  held_count = sym (length-map-range_with_len (write_of (settled_word s p head)) 0 (count_of (settled_word s p head))) ∙ ap (λ (t : RedoBundle). length t.writes) held.same
 
   pub held_below : (k : ℕ) → k < cells_for (count_of (settled_word s p head)) → k < cells_for (length r.writes)
   held_below k lt = subst (λ (n : ℕ). k < cells_for n) held_count lt
@@ -44,7 +44,8 @@ module _ {s : Sizes} {head : Cell} {r : RedoRecord} {p : State} (held : HoldSett
   held_intact = record {
     settled_words = held.settled_words;
     complete = held.complete;
-    same_number = ap (λ (t : RedoRecord). t.number) held.same;
+    same_last = ap (λ (t : RedoBundle). t.last) held.same;
+    same_span = ap (λ (t : RedoBundle). t.span) held.same;
     same_cells = ap cells_for held_count;
   }
 
@@ -60,9 +61,9 @@ module _ {s : Sizes} {head : Cell} {r : RedoRecord} {p : State} (held : HoldSett
 pub settled_records_law : LawOfSettledRecords
 settled_records_law = record {
   appended = λ s logged released head r p q can done.
-      let same : AreSame (cells_of_record r) (settled_word s q head) (cells_for (length r.writes)) = record {
+      let same : AreSame (cells_of_record r) (settled_word s q head) (cells_for (count_of (cells_of_record r))) = counted r can.encodable.writes_are.few (record {
         word = λ k j lt small. ap (λ (w : Word). w.settled) (done.settled k j lt small);
-      } in
+      }) in
       record {
         settled_words = λ k j lt small. is_settled (done.settled k j lt small);
         complete = complete_same same (encoded_complete s logged released head r can);
@@ -76,7 +77,7 @@ settled_records_law = record {
   images = λ s head r p len image is_cell long held is. held_images held len image is_cell long is;
 }
   where
-    elsewhere : (s : Sizes) (head other : Cell) (r t : RedoRecord) → IsCell s head → IsCell s other → AreInOtherCells s head r other t
+    elsewhere : (s : Sizes) (head other : Cell) (r t : RedoBundle) → IsCell s head → IsCell s other → AreInOtherCells s head r other t
         → (k j : ℕ) → k < cells_for (length t.writes) → j < 8 → IsElsewhere s head r (word_at s other k j)
     elsewhere s head other r t is_cell is_other apart k j lt small = ⊎_elim
         (λ (ring : other.ring ≡ head.ring). cells_elsewhere s head other r (cells_for (length t.writes)) ring (apart ring) k j lt small)

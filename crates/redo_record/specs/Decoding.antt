@@ -1,14 +1,16 @@
 -- The parts of a slice of cells that `decode` looks at, one after the other.
-use Rattle.std.specs.Prelude.{◌≡◌, ◌*◌, ℕ, ◌<◌, ◌≤◌, List, length, slice_index}
-use Rattle.dude_base.specs.declared.limits.TheConstants.{LINE, MAX_WRITES}
+use Rattle.std.specs.Prelude.{◌≡◌, ◌*◌, ◌/◌, ◌%◌, ℕ, ◌<◌, ◌≤◌, List, length, slice_index}
+use Rattle.dude_base.specs.declared.limits.TheConstants.{LINE, MAX_BUNDLE_WRITES, MAX_SPAN}
 use Rattle.redo_record.specs.Tags.{kind_of, number_of, IsNumber}
 use Rattle.redo_record.specs.Record.{cells_for, IsContinuation}
 use Rattle.redo_record.specs.Encoding.{word_in_slice}
 
 -- The slice begins with a head that counts so many writes, and has just the cells that they need.
 pub record HasHeadFor (words : List ℕ) (count : ℕ) : Type 0 where
-  pub count_is : slice_index words 1 ≡ count
-  pub few : count ≤ MAX_WRITES
+  pub count_is : slice_index words 1 % 256 ≡ count
+  pub few : count ≤ MAX_BUNDLE_WRITES
+  pub span : slice_index words 1 / 256 ≤ MAX_SPAN
+  pub first : slice_index words 1 / 256 < number_of (slice_index words 0)
   pub head : kind_of (slice_index words 0) ≡ 1
   pub number : IsNumber (number_of (slice_index words 0))
   pub size : length words ≡ LINE * cells_for count

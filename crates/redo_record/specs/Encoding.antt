@@ -1,17 +1,19 @@
 -- The words of a record's cells.
-use Rattle.std.specs.Prelude.{◌≡◌, ◌==◌, ℕ, ◌+◌, ◌*◌, ◌-◌, ◌<◌, List, [], ◌∷◌, length, slice_index, slice_index_or, flat_map, if◌then◌else◌}
+use Rattle.std.specs.Prelude.{◌≡◌, ◌==◌, ℕ, ◌+◌, ◌*◌, ◌-◌, ◌<◌, ◌≤◌, List, [], ◌∷◌, length, slice_index, slice_index_or, flat_map, if◌then◌else◌}
 use Rattle.std.specs.List.{range_with_len}
-use Rattle.dude_base.specs.declared.limits.TheConstants.{LINE}
+use Rattle.dude_base.specs.declared.limits.TheConstants.{LINE, MAX_BUNDLE_WRITES, MAX_SPAN}
 use Rattle.dude_base.specs.declared.write.Write.{Write}
-use Rattle.dude_base.specs.Records.{RedoRecord}
-use Rattle.dude_base.specs.Writes.{IsWriteList}
+use Rattle.dude_base.specs.Records.{RedoBundle}
+use Rattle.dude_base.specs.Writes.{AreWrites}
 use Rattle.redo_record.specs.Tags.{head_tag, continuation_tag, IsNumber}
 use Rattle.redo_record.specs.Record.{cells_for, count_of, record_of, HoldRecord}
 
--- A record that cells can hold.
-pub record IsEncodable (r : RedoRecord) : Type 0 where
-  pub number_is : IsNumber r.number
-  pub writes_are : IsWriteList r.writes
+-- A bundle that cells can hold.
+pub record IsEncodable (r : RedoBundle) : Type 0 where
+  pub number_is : IsNumber r.last
+  pub span_is : r.span ≤ MAX_SPAN
+  pub first_is : r.span < r.last
+  pub writes_are : AreWrites MAX_BUNDLE_WRITES r.writes
 
 -- write i, or zeros where there is none
 abbrev pub write_or_zeros : List Write → ℕ → Write
@@ -25,14 +27,14 @@ three_writes ws i =
     ∷ (write_or_zeros ws (i + 2)).at ∷ (write_or_zeros ws (i + 2)).value ∷ []
 
 -- the eight words of the record's k-th cell
-abbrev pub encoded : RedoRecord → ℕ → List ℕ
+abbrev pub encoded : RedoBundle → ℕ → List ℕ
 encoded r k =
-    (if k == 0 then head_tag r.number else continuation_tag r.number)
-    ∷ (if k == 0 then length r.writes else k)
+    (if k == 0 then head_tag r.last else continuation_tag r.last)
+    ∷ (if k == 0 then length r.writes + 256 * r.span else k)
     ∷ three_writes r.writes (3 * k)
 
 -- all its cells, one after another
-abbrev pub encoded_cells : RedoRecord → List ℕ
+abbrev pub encoded_cells : RedoBundle → List ℕ
 encoded_cells r = flat_map (encoded r) (range_with_len 0 (cells_for (length r.writes)))
 
 -- word j of the k-th cell of a slice of cells
@@ -46,7 +48,7 @@ pub record IsRecordSlice (words : List ℕ) : Type 0 where
 
 -- The cells that `encode` gives hold the record, one by one and as a slice.
 abbrev pub LawOfEncoding : Type 0
-LawOfEncoding = (r : RedoRecord) → IsEncodable r
+LawOfEncoding = (r : RedoBundle) → IsEncodable r
     → HoldRecord (λ k j. slice_index (encoded r k) j) × (record_of (λ k j. slice_index (encoded r k) j) ≡ r)
     × IsRecordSlice (encoded_cells r) × (record_of (word_in_slice (encoded_cells r)) ≡ r)
 

@@ -1,6 +1,7 @@
 pub mod AppendLaw
 pub mod BackCalls
 pub mod BackLaws
+pub mod CallLists
 pub mod Calls
 pub mod Cells
 pub mod Damage

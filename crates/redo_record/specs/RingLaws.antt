@@ -18,13 +18,13 @@ LawOfRoom = (s : Sizes) (slot n mark : ℕ) (logged : List Logged) → slot < s.
 -- Records follow one another also with one more after the last, and without the first ones.
 abbrev pub LawOfFollowing : Type 0
 LawOfFollowing = (s : Sizes) (slot : ℕ) → slot < s.cells
-    → ((logged : List Logged) (next : Logged) → FollowFrom s slot logged → next.first ≡ slot_after s slot (cells_used logged) → FollowFrom s slot (logged ++ next ∷ []))
+    → ((logged : List Logged) (next : Logged) → FollowFrom s slot logged → next.slot ≡ slot_after s slot (cells_used logged) → FollowFrom s slot (logged ++ next ∷ []))
     × ((gone rest : List Logged) → FollowFrom s slot (gone ++ rest) → FollowFrom s (slot_after s slot (cells_used gone)) rest)
 
 -- A ring fits without records up to a number that is no more than the mark.
 abbrev pub LawOfRelease : Type 0
 LawOfRelease = (s : Sizes) (ring : ℕ) (gone rest : List Logged) (released number : ℕ) (p : State) → FitsRing s ring (gone ++ rest) released p
-    → All (λ l. l.number ≤ number) gone → number ≤ settled_mark p → FitsRing s ring rest (max released number) p
+    → All (λ l. l.last ≤ number) gone → number ≤ settled_mark p → FitsRing s ring rest (max released number) p
 
 -- A ring fits in a state where the mark is settled at no less, no tag in its cells may be another, and the settled words
 -- of its cells are as they were.

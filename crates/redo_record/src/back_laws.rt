@@ -1,9 +1,9 @@
 //! The crash laws of the back of the store, each as the contract of a function that does nothing.
 
 ghost use Rattle.redo_record.specs.Waiting.{LawOfWaiting};
-ghost use Rattle.redo_record.specs.BackLaws.{LawOfEmptyLog, LawOfHeldLog, LawOfPersist, LawOfPersisting, LawOfAnnounce, LawOfReproduce, LawOfReproducing, LawOfReproduced, LawOfReleasedRings, LawOfReadPage};
+ghost use Rattle.redo_record.specs.BackLaws.{LawOfEmptyLog, LawOfHeldLog, LawOfPersist, LawOfPersisting, LawOfLogOnTheWay, LawOfLogWhileReproducing, LawOfAnnounce, LawOfReproduce, LawOfReproducing, LawOfReproduced, LawOfReleasedRings, LawOfReadPage};
 
-/// Waiting records have one contiguous end and one array at each number up to it, which stay where a record is added.
+/// Waiting records have one contiguous end and one array at each end up to it, which stay where a record is added.
 pub fn law_of_waiting()
     ensures { LawOfWaiting }
 {}
@@ -56,4 +56,14 @@ pub fn law_of_released_rings()
 /// The reads of a page leave the medium as it is, and give the page of the home.
 pub fn law_of_read_page()
     ensures { LawOfReadPage }
+{}
+
+/// In each state on the way of an append the log's other bundles stand as before.
+pub fn law_of_log_on_the_way()
+    ensures { LawOfLogOnTheWay }
+{}
+
+/// In each state on the way of a reproduction the log's bundles stand as before.
+pub fn law_of_log_while_reproducing()
+    ensures { LawOfLogWhileReproducing }
 {}

@@ -1,40 +1,40 @@
 ghost use Rattle.std.specs.Prelude.{◌≡◌, ◌+◌, ◌<◌, ◌*◌, ◌/◌, ◌%◌, length, map, IfOk, OnOk, OnErr};
 ghost use Rattle.std.specs.List.{range_with_len};
-ghost use Rattle.dude_base.specs.Records.{RedoRecord};
+ghost use Rattle.dude_base.specs.Records.{RedoBundle};
 ghost use Rattle.dude_base.specs.Writes.{HasDistinctPlaces};
 ghost use Rattle.redo_record.specs.Record.{cells_for, write_of, record_of};
 ghost use Rattle.redo_record.specs.Encoding.{word_in_slice, encoded_cells, IsEncodable, IsRecordSlice};
 ghost use Rattle.redo_record.specs.Decoding.{HasHeadFor, Continues};
 
 use crate::bad_record::BadRecord;
-use crate::encoding::cells_for;
+use crate::encoding::{SPAN_UNIT, cells_for};
 use crate::tag::{CONTINUATION_KIND, HEAD_KIND, KIND};
-use dude_base::limits::{LINE, MAX_NUMBER, MAX_WRITES};
-use dude_base::redo::Redo;
+use dude_base::bundle::Bundle;
+use dude_base::limits::{LINE, MAX_BUNDLE_WRITES, MAX_NUMBER, MAX_SPAN};
 use dude_base::write::Write;
-use dude_base::write_list::WriteList;
+use dude_base::write_list::BundleWrites;
 
-/// Reads a record from its cells, 8 words each.
+/// Reads a bundle from its cells, 8 words each.
 ///
-/// The first cell has to be the head of a number from 1 to `MAX_NUMBER` with at most `MAX_WRITES` writes of distinct
-/// words, and the others just the continuations that these writes need. Whether these are home words isn't looked at,
-/// and pairs that hold no write aren't read.
-pub fn decode(cells: &[u64]) -> Result<Redo, BadRecord>
+/// The first cell has to be the head of numbers from 1 to `MAX_NUMBER`, at most `MAX_SPAN + 1` of them, with at most
+/// `MAX_BUNDLE_WRITES` writes of distinct words, and the others just the continuations that these writes need. Whether
+/// these are home words isn't looked at, nor how many cells a ring has, and pairs that hold no write aren't read.
+pub fn decode(cells: &[u64]) -> Result<Bundle, BadRecord>
     ensures ok { IfOk result (λ r. IsRecordSlice cells.now × (r ≡ record_of (word_in_slice cells.now))) }
     ensures bad { OnErr result (¬ IsRecordSlice cells.now) }
-    ensures back { (r : RedoRecord) → IsEncodable r → cells.now ≡ encoded_cells r → result ≡ Ok r }
+    ensures back { (r : RedoBundle) → IsEncodable r → cells.now ≡ encoded_cells r → result ≡ Ok r }
 {
     read_record(cells)
 }
 
-fn read_record(cells: &[u64]) -> Result<Redo, BadRecord>
+fn read_record(cells: &[u64]) -> Result<Bundle, BadRecord>
     ensures ok { IfOk result (λ r. IsRecordSlice cells.now × (r ≡ record_of (word_in_slice cells.now))) }
     ensures bad { OnErr result (¬ IsRecordSlice cells.now) }
 {
     let count = check_head(cells)?;
     check_continuations(cells, count)?;
     let writes = read_writes(cells, count)?;
-    Ok(Redo::of(cells[0] % KIND, writes))
+    Ok(Bundle::of(cells[0] % KIND, cells[1] / SPAN_UNIT, writes))
 }
 
 // The count of writes, where the head is one and there are just its cells.
@@ -46,8 +46,12 @@ fn check_head(cells: &[u64]) -> Result<u64, BadRecord>
         return Err(BadRecord);
     }
     let tag = cells[0];
-    let count = cells[1];
-    if tag <= HEAD_KIND || tag > HEAD_KIND + MAX_NUMBER || count > MAX_WRITES {
+    if tag <= HEAD_KIND || tag > HEAD_KIND + MAX_NUMBER {
+        return Err(BadRecord);
+    }
+    let count = cells[1] % SPAN_UNIT;
+    let span = cells[1] / SPAN_UNIT;
+    if count > MAX_BUNDLE_WRITES || span > MAX_SPAN || span >= tag % KIND {
         return Err(BadRecord);
     }
     if cells.len() as u64 != LINE * cells_for(count) {
@@ -71,12 +75,12 @@ fn check_continuations(cells: &[u64], count: u64) -> Result<(), BadRecord>
 }
 
 // The writes, where their words differ.
-fn read_writes(cells: &[u64], count: u64) -> Result<WriteList, BadRecord>
+fn read_writes(cells: &[u64], count: u64) -> Result<BundleWrites, BadRecord>
     requires { HasHeadFor cells.now count }
     ensures ok { IfOk result (λ ws. (ws ≡ map (write_of (word_in_slice cells.now)) (range_with_len 0 count)) × HasDistinctPlaces ws) }
     ensures bad { OnErr result (¬ IsRecordSlice cells.now) }
 {
-    let mut writes = WriteList::new();
+    let mut writes = BundleWrites::new();
     for i in 0..count {
         let w = write_in(cells, i);
         if writes.find(w.at).is_some() {

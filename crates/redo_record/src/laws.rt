@@ -2,7 +2,7 @@
 
 ghost use Rattle.redo_record.specs.Encoding.{LawOfEncoding, LawOfDecoding};
 ghost use Rattle.redo_record.specs.AppendLaw.{LawOfAppend, LawOfAppending};
-ghost use Rattle.redo_record.specs.Recovery.{LawOfRecovery, LawOfReplay};
+ghost use Rattle.redo_record.specs.Recovery.{LawOfCovering, LawOfRecovery, LawOfReplay};
 ghost use Rattle.redo_record.specs.Rest.{LawOfImagesAtRest};
 ghost use Rattle.redo_record.specs.RingLaws.{LawOfRoom, LawOfFollowing, LawOfRelease, LawOfRest};
 ghost use Rattle.redo_record.specs.SettledRecords.{LawOfSettledRecords};
@@ -68,4 +68,9 @@ pub fn law_of_images_at_rest()
 /// overwritten by them.
 pub fn law_of_recovery()
     ensures { LawOfRecovery }
+{}
+
+/// The number to which an image recovers is the greatest up to which complete records over the mark cover each number.
+pub fn law_of_covering()
+    ensures { LawOfCovering }
 {}

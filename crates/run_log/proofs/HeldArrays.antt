@@ -1,91 +1,160 @@
 -- The arrays that a medium holds, behind a call and at each moment of it.
-use Rattle.std.proofs.Common.{◌≡◌, ℕ, ◌+◌, ◌*◌, ◌<◌, ◌≤◌, IsTrue, List, [], ◌∷◌, ◌++◌, length, sym, ap, ◌∙◌, subst, inl, inr, arith}
+use Rattle.std.proofs.Common.{◌≡◌, ℕ, ◌+◌, ◌*◌, ◌<◌, ◌≤◌, All, IsTrue, List, [], ◌∷◌, ◌++◌, length, sym, ap, ◌∙◌, subst, inl, inr, ⊎_elim, arith}
+use Rattle.std.specs.List.{Contains}
 use Rattle.std.proofs.lemmas.Bool.{cases_lt}
+use Rattle.std.proofs.lemmas.List.Elements.{All-cons, All-head, All-nil, All-tail}
 use Rattle.std.proofs.lemmas.List.FromFn.{length-map-range_with_len}
-use Rattle.dude_base.specs.declared.limits.TheConstants.{VERSION}
 use Rattle.dude_base.specs.declared.sizes.Sizes.{Sizes}
 use Rattle.dude_base.specs.Image.{home_word}
-use Rattle.dude_base.specs.Records.{RedoRecord}
+use Rattle.dude_base.specs.Records.{RedoBundle, first_of}
 use Rattle.dude_base.specs.declared.write.Write.{Write}
 use Rattle.dude_base.specs.Writes.{overwritten}
 use Rattle.pmem_trait.specs.Words.{value_of}
 use Rattle.pmem_trait.specs.Sights.{Sight, state_now, AtEveryMoment}
-use Rattle.redo_record.specs.Recovery.{Recovers}
-use Rattle.redo_record.specs.Waiting.{HaveDistinctNumbers, IsArrayAt}
+use Rattle.redo_record.specs.Recovery.{AreConsecutive, Recovers, overwritten_by_all}
+use Rattle.redo_record.specs.Waiting.{AddsWaiting, IsArrayAt, Lead, Waiting, Waits}
 use Rattle.redo_record.specs.LogState.{RecoversAmong}
 use Rattle.redo_record.proofs.Reproducing.{overwritten-append}
-use Rattle.redo_record.proofs.WaitingRecords.{lead_more, waiting_law}
+use Rattle.redo_record.proofs.WaitingRecords.{consecutive_up, lead_more, waiting_law}
 use Rattle.backlog.specs.Lanes.{waiting_in}
-use Rattle.backlog.specs.Backlog.{IsLawful, log_of}
-use Rattle.backlog.proofs.AddedRecords.{added_waiting}
+use Rattle.backlog.specs.Backlog.{log_of}
 use Rattle.back_store.specs.Back.{BackState, home_now, waiting_now}
 use Rattle.back_store.specs.Answers.{with_record}
 use Rattle.back_store.specs.Images.{IsReproduced}
 use Rattle.run_log.specs.Arrays.{RecoversIn, RunArrays, array_at, last_number, with_writes}
-use Rattle.run_log.specs.RunLog.{HoldsArrays}
-use Rattle.run_log.proofs.ArraysOfRuns.{array_added, array_stays, one_more}
+use Rattle.run_log.specs.Backs.{Carries, HoldsArrays, LeadsUpTo}
+use Rattle.run_log.proofs.ArraysOfRuns.{array_stays, one_more}
+use Rattle.run_log.proofs.LedLogs.{adds, disjoint_added, durable_least, end_added, reproduced_least}
 
 -- a home has as many words as the sizes say
 home_length : (s : Sizes) (t : Sight) → length (home_now s t) ≡ s.pages * 64
 home_length s t = length-map-range_with_len (λ i. value_of ((state_now t).word (home_word s i))) 0 (s.pages * 64)
 
--- the record behind those that lead to the number before it
-array_with : (v : BackState) (ring : ℕ) (r : RedoRecord) (number : ℕ) (home array : List ℕ) → ring < length v.log.lanes → r.number ≡ number + 1
-    → IsArrayAt (waiting_now v) v.log.reproduced home number array → IsArrayAt (waiting_now (with_record ring r v)) v.log.reproduced home (number + 1) (overwritten r.writes array)
-array_with v ring r number home array inside next is =
-    let adds = added_waiting v.log.lanes ring r inside in
-    record {
-      records = is.records ++ r ∷ [];
-      lead = waiting_law.next (waiting_now (with_record ring r v)) v.log.reproduced number is.records r (lead_more adds is.lead) (record { ring = ring; is_one = adds.one }) next;
-      result = ap (overwritten r.writes) is.result ∙ sym (overwritten-append is.records (r ∷ []) home);
-    }
+-- bundles that lead to a number are up to it
+upto_number : (from to : ℕ) (bs : List RedoBundle) → AreConsecutive from bs to → All (λ b. b.last ≤ to) bs
+upto_number from to [] lead = All-nil (λ (b : RedoBundle). b.last ≤ to)
+upto_number from to (b ∷ bs) lead = All-cons (λ (c : RedoBundle). c.last ≤ to) b bs (consecutive_up b.last to bs lead.1) (upto_number b.last to bs lead.1)
 
--- with a record more
-pub holds_added : (v : BackState) (ring : ℕ) (r : RedoRecord) (a : RunArrays) (s t : Sight) → ring < length v.log.lanes → r.number ≡ last_number a + 1 → v.log.reproduced ≤ last_number a
-    → home_now v.log.sizes t ≡ home_now v.log.sizes s → HoldsArrays a v s → HoldsArrays (with_writes r.writes a) (with_record ring r v) t
-holds_added v ring r a s t inside next low same holds = record {
-  from = holds.from;
-  size = holds.size ∙ ap length (sym same);
-  arrays = λ n from upto. subst (λ h. IsArrayAt (waiting_now (with_record ring r v)) v.log.reproduced h n (array_at (with_writes r.writes a) n)) (sym same)
-      (elim (cases_lt (last_number a) n) [
-        | inl over ↦
-            let is : n ≡ last_number a + 1 = (let more = one_more r.writes a in omega arith) in
-            subst (λ m. IsArrayAt (waiting_now (with_record ring r v)) v.log.reproduced (home_now v.log.sizes s) m (array_at (with_writes r.writes a) n)) (sym is)
-            (subst (λ b. IsArrayAt (waiting_now (with_record ring r v)) v.log.reproduced (home_now v.log.sizes s) (last_number a + 1) b) (sym (array_added r.writes a n is))
-            (array_with v ring r (last_number a) (home_now v.log.sizes s) (array_at a (last_number a)) inside next (holds.arrays (last_number a) low (omega arith))))
-        | inr le ↦
-            subst (λ b. IsArrayAt (waiting_now (with_record ring r v)) v.log.reproduced (home_now v.log.sizes s) n b) (sym (array_stays r.writes a n le))
-            (waiting_law.added_arrays (waiting_in ring r) (waiting_now v) (waiting_now (with_record ring r v)) v.log.reproduced n (home_now v.log.sizes s) (array_at a n) (added_waiting v.log.lanes ring r inside) (holds.arrays n from le))
-      ]);
-}
+-- those that lead to a number under the new bundle's last waited before it
+waited : (w : Waiting) (old new : List Waiting) (to : ℕ) (bs : List RedoBundle) → AddsWaiting w old new → to < w.redo.last → All (λ b. b.last ≤ to) bs → All (Waits new) bs → All (Waits old) bs
+waited w old new to [] adds over upto all = All-nil (Waits old)
+waited w old new to (b ∷ bs) adds over upto all =
+    let here = All-head (Waits new) b bs all in
+    let low : b.last ≤ to = All-head (λ (c : RedoBundle). c.last ≤ to) b bs upto in
+    All-cons (Waits old) b bs
+    (⊎_elim
+    (λ was. record { ring = here.ring; is_one = was })
+    (λ is. let same : b.last ≡ w.redo.last = ap (λ (u : Waiting). u.redo.last) is in absurd (omega arith))
+    (adds.only _ here.is_one))
+    (waited w old new to bs adds over (All-tail (λ (c : RedoBundle). c.last ≤ to) b bs upto) (All-tail (Waits new) b bs all))
 
--- where records were reproduced
-pub holds_reproduced : (v w : BackState) (number : ℕ) (a : RunArrays) (s t : Sight) → w.log.sizes ≡ v.log.sizes → w.log.reproduced ≡ number → v.log.reproduced ≤ number → IsReproduced v w number s t
+-- where nothing waits the one array is the home
+pub array_alone : {waiting : List Waiting} {from n : ℕ} {home array : List ℕ} → ((w : Waiting) → Contains waiting w → ⊥) → IsArrayAt waiting from home n array → (n ≡ from) × (array ≡ home)
+array_alone {waiting} {from} {n} {home} {array} none is = alone is.records is.lead is.result
+  where
+    alone : (bs : List RedoBundle) → Lead waiting from bs n → array ≡ overwritten_by_all bs home → (n ≡ from) × (array ≡ home)
+    alone [] lead result = (sym lead.consecutive, result)
+    alone (b ∷ bs) lead result = let here = All-head (Waits waiting) b bs lead.wait in absurd (none _ here.is_one)
+
+-- ---- a bundle more
+
+module _ (v : BackState) (last : ℕ) (leads : LeadsUpTo v last) (ring : ℕ) (b : RedoBundle) (below : ring < v.log.sizes.rings) (next : first_of b ≡ last + 1) where
+  low : v.log.reproduced ≤ last
+  low = let d = durable_least v last leads in let e = reproduced_least v last leads in omega arith
+
+  -- behind those that lead to the number before it
+  array_with : (home array : List ℕ) → IsArrayAt (waiting_now v) v.log.reproduced home last array → IsArrayAt (waiting_now (with_record ring b v)) v.log.reproduced home b.last (overwritten b.writes array)
+  array_with home array is = record {
+    records = is.records ++ b ∷ [];
+    lead = waiting_law.next (waiting_now (with_record ring b v)) v.log.reproduced last is.records b (lead_more (adds v last leads ring b below next) is.lead) (record { ring = ring; is_one = (adds v last leads ring b below next).one }) next;
+    result = ap (overwritten b.writes) is.result ∙ sym (overwritten-append is.records (b ∷ []) home);
+  }
+
+  -- an array up to the old end was there before
+  array_before : (home array : List ℕ) (n : ℕ) → n ≤ last → IsArrayAt (waiting_now (with_record ring b v)) v.log.reproduced home n array → IsArrayAt (waiting_now v) v.log.reproduced home n array
+  array_before home array n upto is = record {
+    records = is.records;
+    lead = record {
+      wait = waited (waiting_in ring b) (waiting_now v) (waiting_now (with_record ring b v)) n is.records (adds v last leads ring b below next) (omega arith) (upto_number v.log.reproduced n is.records is.lead.consecutive) is.lead.wait;
+      consecutive = is.lead.consecutive;
+    };
+    result = is.result;
+  }
+
+  -- one over it is that at the bundle's last number
+  at_last : (home array : List ℕ) (n : ℕ) → last < n → IsArrayAt (waiting_now (with_record ring b v)) v.log.reproduced home n array → n ≡ b.last
+  at_last home array n over is =
+      let new : List Waiting = waiting_now (with_record ring b v) in
+      let upto = (waiting_law.within new v.log.reproduced b.last n home array (disjoint_added v last leads ring b below next) (end_added v last leads ring b below next) is).1 in
+      let from = low in
+      let at = waiting_law.covered new v.log.reproduced n (last + 1) is.records is.lead (omega arith) (omega arith) in
+      let high = at.2.high in
+      ⊎_elim
+      (λ old. let le = leads.none_over at.0 old in absurd (omega arith))
+      (λ is_new. let same : at.0.redo.last ≡ b.last = ap (λ (u : Waiting). u.redo.last) is_new in let most = at.3 in omega arith)
+      ((adds v last leads ring b below next).only at.0 at.1)
+
+  pub holds_added : (a : RunArrays) (s t : Sight) → overwritten b.writes (array_at a last) ≡ array_at a b.last → home_now v.log.sizes t ≡ home_now v.log.sizes s → HoldsArrays a v s → HoldsArrays a (with_record ring b v) t
+  holds_added a s t array same holds = record {
+    from = holds.from;
+    size = holds.size ∙ ap length (sym same);
+    arrays = λ n other there.
+        let home : List ℕ = home_now v.log.sizes s in
+        let is : IsArrayAt (waiting_now (with_record ring b v)) v.log.reproduced home n other = subst (λ h. IsArrayAt (waiting_now (with_record ring b v)) v.log.reproduced h n other) same there in
+        elim (cases_lt last n) [
+          | inl over ↦
+              let old = waiting_law.arrays (waiting_now v) v.log.reproduced last home (record { records = leads.end.records; lead = leads.end.lead }) in
+              let new : IsArrayAt (waiting_now (with_record ring b v)) v.log.reproduced home b.last (overwritten b.writes old.0) = array_with home old.0 old.1 in
+              let at : n ≡ b.last = at_last home other n over is in
+              waiting_law.one_array (waiting_now (with_record ring b v)) v.log.reproduced b.last home other (overwritten b.writes old.0) (disjoint_added v last leads ring b below next)
+              (subst (λ m. IsArrayAt (waiting_now (with_record ring b v)) v.log.reproduced home m other) at is) new
+              ∙ ap (overwritten b.writes) (holds.arrays last old.0 old.1) ∙ array ∙ ap (array_at a) (sym at)
+          | inr upto ↦ holds.arrays n other (array_before home other n upto is)
+        ];
+  }
+
+-- ---- the others
+
+-- where all was reproduced
+pub holds_reproduced : (v w : BackState) (number : ℕ) (a : RunArrays) (s t : Sight) → w.log.sizes ≡ v.log.sizes → w.log.reproduced ≡ number → v.log.reproduced ≤ number → ((u : Waiting) → Contains (waiting_now w) u → ⊥) → IsReproduced v w number s t
     → HoldsArrays a v s → HoldsArrays a w t
-holds_reproduced v w number a s t sizes is up done holds = record {
+holds_reproduced v w number a s t sizes is up none done holds = record {
   from = (let from = holds.from in omega arith);
   size = holds.size ∙ (home_length v.log.sizes s ∙ sym (ap (λ (z : Sizes). length (home_now z t)) sizes ∙ home_length v.log.sizes t));
-  arrays = λ n from upto. subst (λ (z : Sizes). IsArrayAt (waiting_now w) w.log.reproduced (home_now z t) n (array_at a n)) (sym sizes)
-      (done.arrays n (array_at a n) (omega arith) (holds.arrays n (omega arith) upto));
+  arrays = λ n array there.
+      let alone = array_alone none there in
+      alone.1 ∙ ap (λ (z : Sizes). home_now z t) sizes ∙ holds.arrays number (home_now v.log.sizes t) done.home ∙ ap (array_at a) (sym (alone.0 ∙ is));
 }
 
--- the home is then the array at that number
-pub home_is_array : (v : BackState) (home new : List ℕ) (number : ℕ) (array : List ℕ) → IsLawful v.log → IsArrayAt (waiting_now v) v.log.reproduced home number new → IsArrayAt (waiting_now v) v.log.reproduced home number array → new ≡ array
-home_is_array v home new number array lawful one other = waiting_law.one_array (waiting_now v) v.log.reproduced number home new array lawful.lanes.distinct one other
+-- one array more, behind the end
+pub holds_more : (v : BackState) (last : ℕ) (a : RunArrays) (ws : List Write) (s : Sight) → LeadsUpTo v last → last ≤ last_number a → HoldsArrays a v s → HoldsArrays (with_writes ws a) v s
+holds_more v last a ws s leads upto holds = record {
+  from = holds.from;
+  size = holds.size;
+  arrays = λ n array is.
+      let within = (waiting_law.within (waiting_now v) v.log.reproduced last n (home_now v.log.sizes s) array leads.lawful.lanes.distinct leads.end is).1 in
+      holds.arrays n array is ∙ sym (array_stays ws a n (omega arith));
+}
+
+-- the back carries the arrays where there is one more
+pub carries_more : (before : ℕ) (v : BackState) (end : ℕ) (a : RunArrays) (ws : List Write) (s : Sight) → LeadsUpTo v end → Carries before a v end s → Carries before (with_writes ws a) v end s
+carries_more before v end a ws s leads is = record {
+  from = is.from;
+  upto = (let upto = is.upto in let more = one_more ws a in omega arith);
+  keeps = is.keeps;
+  holds = λ visible. holds_more v end a ws s leads is.upto (is.holds visible);
+}
 
 -- an image that recovers to one of the waiting records' arrays does so to one of the run's
-pub recovers_in : (w : BackState) (a : RunArrays) (s : Sight) (before low high : ℕ) (told image : List ℕ) → HaveDistinctNumbers (waiting_now w) → HoldsArrays a w s → w.log.reproduced ≤ low → high ≤ last_number a
+pub recovers_in : (w : BackState) (a : RunArrays) (s : Sight) (before low high : ℕ) (told image : List ℕ) → HoldsArrays a w s → high ≤ last_number a
     → RecoversAmong (log_of w.log (home_now w.log.sizes s)) before low high told image → RecoversIn w.log.sizes a low before told image
-recovers_in w a s before low high told image distinct holds from upto is =
+recovers_in w a s before low high told image holds upto is =
     let most : is.number ≤ last_number a = (let most = is.most in omega arith) in
-    let least : w.log.reproduced ≤ is.number = (let least = is.least in omega arith) in
     record {
       number = is.number;
       from = is.least;
       most = most;
-      recovered = subst (Recovers VERSION image is.number)
-          (waiting_law.one_array (waiting_now w) w.log.reproduced is.number (home_now w.log.sizes s) is.array (array_at a is.number) distinct is.is_array (holds.arrays is.number least most))
-          is.recovered;
+      recovered = subst (Recovers image is.number) (holds.arrays is.number is.array is.is_array) is.recovered;
       same_sizes = is.same_sizes;
       floor = is.floor;
     }
@@ -96,7 +165,7 @@ recovers_more ws sizes a least before told image is = record {
   number = is.number;
   from = is.from;
   most = (let most = is.most in let more = one_more ws a in omega arith);
-  recovered = subst (Recovers VERSION image is.number) (sym (array_stays ws a is.number is.most)) is.recovered;
+  recovered = subst (Recovers image is.number) (sym (array_stays ws a is.number is.most)) is.recovered;
   same_sizes = is.same_sizes;
   floor = is.floor;
 }

@@ -1,11 +1,13 @@
 pub mod Announcing
+pub mod Appending
 pub mod ArraysOfRuns
+pub mod Closing
 pub mod GoingOn
 pub mod HeldArrays
+pub mod Joining
 pub mod LedLogs
 pub mod LoggedCalls
 pub mod NoTells
 pub mod OpenedLogs
 pub mod Persisting
 pub mod Reproducing
-pub mod ToldNumbers

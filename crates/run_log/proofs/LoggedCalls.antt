@@ -1,27 +1,29 @@
 -- The calls by which a log announces, settles and appends.
-use Rattle.std.proofs.Common.{◌≡◌, ℕ, ◌+◌, true, IsTrue, ◌++◌, Result, Ok, Err, refl, ap, ◌∙◌, subst, inr}
+use Rattle.std.proofs.Common.{◌≡◌, ℕ, ◌+◌, true, IsTrue, ◌++◌, Option, Some, None, Result, Ok, Err, refl, ap, ◌∙◌, subst, inr}
 use Rattle.std.specs.Prelude.{OnOk}
-use Rattle.dude_base.specs.Records.{RedoRecord}
+use Rattle.dude_base.specs.Records.{RedoBundle, RedoRecord, bundle_of, first_of}
 use Rattle.pmem_trait.specs.Sights.{Sight, state_now, CallsMade}
 use Rattle.pmem_trait.proofs.Runs.{made_then}
 use Rattle.redo_record.specs.BackCalls.{announce_calls}
 use Rattle.redo_record.proofs.WaitingRecords.{waiting_law}
 use Rattle.log_ring.specs.Ring.{next_head}
 use Rattle.backlog.specs.Lanes.{lane_at}
+use Rattle.backlog.specs.Backlog.{IsLawful}
 use Rattle.back_store.specs.Back.{BackState, IsEnd, IsRingFull, waiting_now}
 use Rattle.back_store.specs.Answers.{Announces, Reproduces, announced, reproduced}
-use Rattle.run_log.specs.LogCalls.{AppendedBy, BroughtHomeBy, Makes, PersistedBy, SettledBy, settled}
+use Rattle.run_log.specs.declared.open_bundle.OpenBundle.{OpenBundle}
+use Rattle.run_log.specs.LogCalls.{AnnouncedBy, AppendedBy, BroughtHomeBy, BundlePersistedBy, CheckpointedBy, ClosedBy, Joins, LogParts, Makes, PersistedBy, SettledBy, settled}
 use Rattle.run_log.proofs.NoTells.{append_tells_nothing, told_same}
 
 -- the number announced is the one to which the records lead
-pub announced_by : (v : BackState) (number last : ℕ) (s t : Sight) → IsEnd v last → Announces v (Ok number) s t → CallsMade (announce_calls last) true s t
-announced_by v number last s t end a =
-    let same : a.end ≡ last = waiting_law.one_end (waiting_now v) v.log.reproduced a.end last a.is_end end in
+pub announced_by : (v : BackState) (number last : ℕ) (s t : Sight) → IsLawful v.log → IsEnd v last → Announces v (Ok number) s t → CallsMade (announce_calls last) true s t
+announced_by v number last s t lawful end a =
+    let same : a.end ≡ last = waiting_law.one_end (waiting_now v) v.log.reproduced a.end last lawful.lanes.distinct a.is_end end in
     subst (λ n. CallsMade (announce_calls n) true s t) same a.made
 
 -- the records up to this number are reproduced
-pub reproduced_by : (v : BackState) (stop last number : ℕ) (s t : Sight) → stop ≡ last → Reproduces v stop (Ok number) s t → Makes (BroughtHomeBy v last) s t
-reproduced_by v stop last number s t same r = (r.calls, subst (λ n. BroughtHomeBy v n r.calls) same r.by, r.made)
+pub reproduced_by : (v : BackState) (last number : ℕ) (s t : Sight) (stop : ℕ) → stop ≡ last → Reproduces v stop (Ok number) s t → Makes (BroughtHomeBy v last) s t
+reproduced_by v last number s t stop same r = (r.calls, subst (λ n. BroughtHomeBy v n r.calls) same r.by, r.made)
 
 -- an announcement, and then a reproduction
 pub settled_by : (v w : BackState) (last reached : ℕ) (s t u : Sight) → IsEnd v last → CallsMade (announce_calls last) true s t → w ≡ announced v last → reached ≡ last → Makes (BroughtHomeBy w reached) t u → Makes (SettledBy v last) s u
@@ -45,8 +47,8 @@ settled_same w v reached last t s u is same sight makes =
     (makes.0, subst (λ x. SettledBy x last makes.0) is (subst (λ n. SettledBy w n makes.0) same makes.1), subst (λ x. CallsMade makes.0 true x u) sight makes.2)
 
 -- a record put in its ring, behind a settlement, by the answer
-pub appended_behind : {X E : Type 0} (result : Result X E) (ring : ℕ) (r : RedoRecord) (v m w : BackState) (last : ℕ) (s t u : Sight) → IsRingFull v ring r → r.number ≡ last + 1 → m ≡ settled v last → Makes (SettledBy v last) s t
-    → OnOk result (Makes (PersistedBy ring r m w) t u) → OnOk result (Makes (AppendedBy ring r v w) s u)
+pub appended_behind : {X E : Type 0} (result : Result X E) (ring : ℕ) (r : RedoBundle) (v m w : BackState) (last : ℕ) (s t u : Sight) → IsRingFull v ring r → first_of r ≡ last + 1 → m ≡ settled v last → Makes (SettledBy v last) s t
+    → OnOk result (Makes (PersistedBy ring r m w) t u) → OnOk result (Makes (BundlePersistedBy ring r v w) s u)
 appended_behind (Ok x) ring r v m w last s t u full next is settling persisting = (
   settling.0 ++ persisting.0,
   inr (record {
@@ -64,11 +66,54 @@ appended_behind (Ok x) ring r v m w last s t u full next is settling persisting 
 appended_behind (Err e) ring r v m w last s t u full next is settling persisting = tt
 
 -- where the ring has room nothing is told
-pub persisted_untold : (ring : ℕ) (r : RedoRecord) (v w : BackState) (s t : Sight) → Makes (PersistedBy ring r v w) s t → IsTrue s.is_visible → (state_now t).told ≡ (state_now s).told
+pub persisted_untold : (ring : ℕ) (r : RedoBundle) (v w : BackState) (s t : Sight) → Makes (PersistedBy ring r v w) s t → IsTrue s.is_visible → (state_now t).told ≡ (state_now s).told
 persisted_untold ring r v w s t makes visible =
     told_same (subst (λ calls. CallsMade calls true s t) makes.1.calls_are makes.2) (append_tells_nothing v.log.sizes (next_head (lane_at v.log.lanes ring).ring) r) visible
 
 -- and of a full ring there is nothing to show
-pub full_untold : {X E : Type 0} (result : Result X E) (ring : ℕ) (r : RedoRecord) (v : BackState) (s t : Sight) → IsRingFull v ring r → OnOk result ((IsRingFull v ring r → ⊥) → IsTrue s.is_visible → (state_now t).told ≡ (state_now s).told)
+pub full_untold : {X E : Type 0} (result : Result X E) (ring : ℕ) (r : RedoBundle) (v : BackState) (s t : Sight) → IsRingFull v ring r → OnOk result ((IsRingFull v ring r → ⊥) → IsTrue s.is_visible → (state_now t).told ≡ (state_now s).told)
 full_untold (Ok x) ring r v s t full = λ room visible. absurd (room full)
 full_untold (Err e) ring r v s t full = tt
+
+-- ---- behind the closing of an open bundle
+
+abbrev pub parts : BackState → Option OpenBundle → LogParts
+parts back current = record { back = back; current = current }
+
+pub parts_are : (v w : BackState) (x y : Option OpenBundle) → v ≡ w → x ≡ y → parts v x ≡ parts w y
+parts_are v w x y back current = ap (λ (u : BackState). parts u x) back ∙ ap (λ (z : Option OpenBundle). parts w z) current
+
+pub announced_behind : (k l : LogParts) (m : BackState) (end last : ℕ) (s t u : Sight) → end ≡ last → Makes (ClosedBy k.current k.back m) s t → l ≡ parts (announced m end) None → CallsMade (announce_calls end) true t u
+    → Makes (AnnouncedBy k last l) s u
+announced_behind k l m end last s t u same closing now made = (
+  closing.0 ++ announce_calls last,
+  record {
+    back = m;
+    closing = closing.0;
+    closed_by = closing.1;
+    now = now ∙ ap (λ (n : ℕ). parts (announced m n) None) same;
+    calls_are = refl;
+  },
+  made_then closing.2 (subst (λ (n : ℕ). CallsMade (announce_calls n) true t u) same made),
+)
+
+pub checkpointed_behind : (k l : LogParts) (m : BackState) (end last : ℕ) (s t u : Sight) → end ≡ last → Makes (ClosedBy k.current k.back m) s t → l ≡ parts (settled m end) None → Makes (SettledBy m end) t u
+    → Makes (CheckpointedBy k last l) s u
+checkpointed_behind k l m end last s t u same closing now settling = (
+  closing.0 ++ settling.0,
+  record {
+    back = m;
+    closing = closing.0;
+    closed_by = closing.1;
+    settling = settling.0;
+    settled_by = subst (λ (n : ℕ). SettledBy m n settling.0) same settling.1;
+    now = now ∙ ap (λ (n : ℕ). parts (settled m n) None) same;
+    calls_are = refl;
+  },
+  made_then closing.2 settling.2,
+)
+
+-- a record begins a bundle
+pub begun_calls : (ring : ℕ) (r : RedoRecord) (k l : LogParts) (s t : Sight) → ((o : OpenBundle) → k.current ≡ Some o → Joins k.back.log.sizes.cells o r → ⊥) → Makes (ClosedBy k.current k.back l.back) s t
+    → l.current ≡ Some (record { ring = ring; bundle = bundle_of r }) → Makes (AppendedBy ring r k l) s t
+begun_calls ring r k l s t apart closing now = (closing.0, inr (record { apart = apart; closed_by = closing.1; now = now }), closing.2)

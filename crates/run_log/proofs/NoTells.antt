@@ -1,32 +1,22 @@
 -- Calls that tell nothing.
-use Rattle.std.proofs.Common.{◌≡◌, ◌⊎◌, ℕ, Bool, true, false, IsTrue, List, [], ◌∷◌, ◌++◌, All, refl, ap, ◌∙◌, inl, inr, ⊎_elim, arith}
+use Rattle.std.proofs.Common.{◌≡◌, ℕ, Bool, IsTrue, List, [], ◌∷◌, ◌++◌, All, refl, ◌∙◌, ⊎_elim}
 use Rattle.std.proofs.lemmas.List.Elements.{All-append, All-cons, All-head, All-nil, All-tail}
 use Rattle.dude_base.specs.declared.sizes.Sizes.{Sizes}
 use Rattle.dude_base.specs.declared.write.Write.{Write}
 use Rattle.dude_base.specs.Image.{Cell}
-use Rattle.dude_base.specs.Records.{RedoRecord}
+use Rattle.dude_base.specs.Records.{RedoBundle}
 use Rattle.pmem_trait.specs.declared.call.Call.{Call}
 use Rattle.pmem_trait.specs.declared.call.Call.TheVariants.{Put, Flush, Fence}
-use Rattle.pmem_trait.specs.Words.{State, told_after}
-use Rattle.pmem_trait.specs.Sights.{Sight, state_now, CallEffect, OneCall, CallsMade, CallsMade.none, CallsMade.stop, CallsMade.step}
+use Rattle.pmem_trait.specs.Words.{told_after}
+use Rattle.pmem_trait.specs.Sights.{Sight, state_now, OneCall, CallsMade, CallsMade.none, CallsMade.stop, CallsMade.step}
 use Rattle.pmem_trait.specs.Groups.{flush_lines, group_calls, put_pairs}
 use Rattle.redo_record.specs.Calls.{append_calls}
-use Rattle.redo_record.specs.BackCalls.{announce_calls, reproduce_calls}
+use Rattle.redo_record.specs.BackCalls.{reproduce_calls}
+use Rattle.back_store.proofs.ToldNumbers.{one_told}
 
 -- the call tells nothing
 abbrev pub TellsNothing : Call → Type 0
 TellsNothing c = (told : List ℕ) → told_after c told ≡ told
-
-effect_told : (c : Call) (ok : Bool) (p q : State) → CallEffect c ok p q → (q.told ≡ p.told) ⊎ (q.told ≡ told_after c p.told)
-effect_told c true p q does = inr (ap (λ (x : State). x.told) does)
-effect_told c false p q half = half.told
-
--- a call has told what it tells, or nothing
-pub one_told : {c : Call} {ok : Bool} {s t : Sight} → OneCall c ok s t → IsTrue s.is_visible → ((state_now t).told ≡ (state_now s).told) ⊎ ((state_now t).told ≡ told_after c (state_now s).told)
-one_told {c} {ok} {s} {t} call visible = elim call.time [
-  | inl next ↦ effect_told c ok (state_now s) (state_now t) (call.does visible next)
-  | inr full ↦ inl (ap (λ (m : ℕ). (t.state m).told) full.1 ∙ ap (λ (x : State). x.told) (call.later.past visible s.now (omega arith)))
-]
 
 one_same : {c : Call} {ok : Bool} {s t : Sight} → TellsNothing c → OneCall c ok s t → IsTrue s.is_visible → (state_now t).told ≡ (state_now s).told
 one_same {s = s} nothing call visible = ⊎_elim (λ same. same) (λ more. more ∙ nothing (state_now s).told) (one_told call visible)
@@ -50,18 +40,10 @@ group_tells_nothing ws ls =
     All-append TellsNothing (put_pairs ws) (flush_lines ls ++ Fence ∷ []) (puts_tell_nothing ws)
     (All-append TellsNothing (flush_lines ls) (Fence ∷ []) (flushes_tell_nothing ls) (All-cons TellsNothing Fence [] (λ told. refl) (All-nil TellsNothing)))
 
-pub append_tells_nothing : (s : Sizes) (head : Cell) (r : RedoRecord) → All TellsNothing (append_calls s head r)
+pub append_tells_nothing : (s : Sizes) (head : Cell) (r : RedoBundle) → All TellsNothing (append_calls s head r)
 unfolding append_calls
 append_tells_nothing s head r = All-append TellsNothing _ _ (group_tells_nothing _ _) (group_tells_nothing _ _)
 
 pub reproduce_tells_nothing : (s : Sizes) (ws : List Write) (number : ℕ) → All TellsNothing (reproduce_calls s ws number)
 unfolding reproduce_calls
 reproduce_tells_nothing s ws number = All-append TellsNothing _ _ (group_tells_nothing _ _) (group_tells_nothing _ _)
-
--- a tell that failed
-pub half_tell : {number : ℕ} {s t : Sight} → CallsMade (announce_calls number) false s t → IsTrue s.is_visible → ((state_now t).told ≡ (state_now s).told) ⊎ ((state_now t).told ≡ (state_now s).told ++ number ∷ [])
-half_tell (stop call) visible = one_told call visible
-half_tell (step call rest) visible = absurd (not_none rest)
-  where
-    not_none : {s t : Sight} → CallsMade [] false s t → ⊥
-    not_none made = elim made [ ]

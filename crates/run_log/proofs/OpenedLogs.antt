@@ -1,12 +1,12 @@
 -- A run that starts on an opened image.
-use Rattle.std.proofs.Common.{◌≡◌, ℕ, ◌-◌, List, [], ◌∷◌, get_or, length, sym, ap, ◌∙◌, subst, arith}
+use Rattle.std.proofs.Common.{◌≡◌, ℕ, ◌-◌, List, [], ◌∷◌, get_or, length, sym, ap, ◌∙◌, arith}
 use Rattle.dude_base.specs.declared.sizes.Sizes.{Sizes}
 use Rattle.pmem_trait.specs.Sights.{Sight}
-use Rattle.redo_record.specs.Waiting.{IsArrayAt}
-use Rattle.redo_record.proofs.WaitingRecords.{waiting_law}
-use Rattle.back_store.specs.Back.{home_now, idle, waiting_now}
+use Rattle.backlog.proofs.EmptyLanes.{none_waiting}
+use Rattle.back_store.specs.Back.{home_now, idle}
 use Rattle.run_log.specs.Arrays.{RunArrays, array_at, last_number}
-use Rattle.run_log.specs.RunLog.{HoldsArrays}
+use Rattle.run_log.specs.Backs.{HoldsArrays}
+use Rattle.run_log.proofs.HeldArrays.{array_alone}
 
 -- the one array of a run without records
 abbrev pub first_array : ℕ → List ℕ → RunArrays
@@ -22,9 +22,5 @@ pub holds_first : (sizes : Sizes) (number : ℕ) (words : List ℕ) (s : Sight) 
 holds_first sizes number words s same = record {
   from = omega arith;
   size = ap length (sym same);
-  arrays = λ n from upto.
-      let is : n ≡ number = omega arith in
-      subst (λ m. IsArrayAt (waiting_now (idle sizes number)) number (home_now sizes s) m (array_at (first_array number words) n)) (sym is)
-      (subst (λ b. IsArrayAt (waiting_now (idle sizes number)) number (home_now sizes s) number b) (same ∙ sym (array_first number n words is))
-      (waiting_law.at_home (waiting_now (idle sizes number)) number (home_now sizes s)));
+  arrays = λ n array is. let alone = array_alone (none_waiting sizes) is in alone.1 ∙ same ∙ sym (array_first number n words alone.0);
 }

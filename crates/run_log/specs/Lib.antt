@@ -1,3 +1,5 @@
 pub mod Arrays
+pub mod Backs
+pub mod BundleLog
 pub mod LogCalls
 pub mod RunLog

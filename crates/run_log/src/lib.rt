@@ -1,7 +1,10 @@
-//! The log of a run on one thread: each record gets the next number, and where its ring is full the records that wait are
-//! announced and reproduced first.
+//! The log of a run on one thread: each record gets the next number, and joins an open bundle. A bundle is persisted when it
+//! is full or the run needs it on the medium; where its ring has no room, the bundles that wait are announced and reproduced
+//! first.
 #![tactic(auto)]
 
+mod bundle_log;
+mod open_bundle;
 mod run_log;
 
 pub use run_log::RunLog;

@@ -2,14 +2,14 @@
 
 ghost use Rattle.std.specs.Prelude.{◌<◌};
 
-use crate::log::{count, damaged_line, head_of, word_at, write};
+use crate::log::{count, damaged_line, head_of, last_number, word_at, write};
 use crate::shape::Shape;
 use std::alloc::{AllocError, Global};
 
 /// What the replay of an image gives.
 #[derive(Debug, PartialEq, Eq, Drop)]
 pub enum Replay {
-    /// The image is no image of this version, or too short for its sizes.
+    /// The image is no image of a version that is read, or too short for its sizes.
     Unformatted,
     /// The mark is too great (line 1), or the log is damaged at this line.
     Damaged { line: u64 },
@@ -17,10 +17,10 @@ pub enum Replay {
     Recovered { number: u64, home: Vec<u64> },
 }
 
-/// Replays an image, given by its words: the home is overwritten by the records of the numbers that follow one another
-/// over the mark. Whether the home words stand for a database isn't looked at.
-pub fn recover(alloc: Global, image: &[u64], version: u64) -> Result<Replay, AllocError> {
-    let Some(shape) = Shape::of(image, version) else {
+/// Replays an image, given by its words: the home is overwritten by the records that cover the numbers which follow one
+/// another over the mark. Whether the home words stand for a database isn't looked at.
+pub fn recover(alloc: Global, image: &[u64]) -> Result<Replay, AllocError> {
+    let Some(shape) = Shape::of(image) else {
         return Ok(Replay::Unformatted);
     };
     let mark = word_at(image, 8);
@@ -36,20 +36,20 @@ pub fn recover(alloc: Global, image: &[u64], version: u64) -> Result<Replay, All
     }
     let mut number = mark;
     for _ in 0..shape.all_cells {
-        let Some(head) = head_of(image, &shape, number.saturating_add(1)) else {
+        let Some(head) = head_of(image, &shape, mark, number.saturating_add(1)) else {
             break;
         };
         apply(image, &shape, head, &mut home);
-        number = number.saturating_add(1);
+        number = last_number(image, &shape, head);
     }
     Ok(Replay::Recovered { number, home })
 }
 
 // Overwrites the home by the writes of a record.
 fn apply(image: &[u64], shape: &Shape, head: u64, home: &mut [u64])
-    requires { head < 32768 }
+    requires { head < 65536 }
 {
-    for k in 0..count(image, shape, head).min(24) {
+    for k in 0..count(image, shape, head).min(96) {
         let (at, value) = write(image, shape, head, k);
         if let Some(word) = home.get_mut(at as usize) {
             *word = value;

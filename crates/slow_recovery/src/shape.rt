@@ -5,40 +5,55 @@ ghost use Rattle.std.specs.Prelude.{◌+◌, ◌≤◌};
 /// How the words of a formatted image are shared out.
 #[derive(Clone, Copy)]
 pub struct Shape {
+    /// The version that the image names, 1 or 2.
+    pub version: u64,
     /// How many cells the rings have together.
     pub all_cells: u64,
     /// How many cells each ring has.
     pub cells: u64,
     /// How many home words there are.
     pub home: u64,
-    ghost few_cells: { all_cells ≤ 32768 },
+    ghost few_cells: { all_cells ≤ 65536 },
     ghost some: { 16 ≤ cells },
     ghost few: { cells ≤ 4096 },
     ghost small: { home ≤ 2000000 },
 }
 
 impl Shape {
-    /// The shape that an image names, where it is formatted in this version.
-    pub fn of(image: &[u64], version: u64) -> Option<Shape> {
+    /// The shape that an image names, where it is formatted.
+    pub fn of(image: &[u64]) -> Option<Shape> {
         let word = |at: usize| image.get(at).copied().unwrap_or(0);
-        let known = word(0) == 0x4D45_4D54_4544_5544 && word(1) == version && word(7) == 0;
-        let shape = Shape::of_sizes(word(2), word(3), word(4), word(5), word(6))?;
+        let known = word(0) == 0x4D45_4D54_4544_5544 && word(7) == 0;
+        let rings = match word(1) {
+            1 => 8,
+            2 => 16,
+            _ => return None,
+        };
+        let shape = Shape::of_sizes(word(1), word(2), word(3), word(4), word(5), word(6))?;
         let whole = image.len() as u64 >= shape.home_start() + shape.home;
-        (known && whole).then_some(shape)
+        (known && word(4) <= rings && whole).then_some(shape)
     }
 
     // The shape of these sizes, where they are accepted.
-    fn of_sizes(subscribers: u64, calls: u64, rings: u64, cells: u64, pages: u64) -> Option<Shape> {
+    fn of_sizes(
+        version: u64,
+        subscribers: u64,
+        calls: u64,
+        rings: u64,
+        cells: u64,
+        pages: u64,
+    ) -> Option<Shape> {
         if subscribers < 1 || subscribers > 10_000 || calls < 1 || calls > 120_000 {
             return None;
         }
-        if rings < 1 || rings > 8 || cells < 16 || cells > 4_096 {
+        if rings < 1 || rings > 16 || cells < 16 || cells > 4_096 {
             return None;
         }
         if pages != pages_for(subscribers, calls) {
             return None;
         }
         Some(Shape {
+            version,
             all_cells: rings * cells,
             cells,
             home: 64 * pages,
@@ -47,7 +62,7 @@ impl Shape {
 
     /// The first home word.
     pub fn home_start(&self) -> u64
-        ensures { result ≤ 262160 }
+        ensures { result ≤ 524304 }
     {
         16 + 8 * self.all_cells
     }

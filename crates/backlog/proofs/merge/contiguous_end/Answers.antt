@@ -1,9 +1,8 @@
-use Rattle.std.proofs.Common.{ℕ, ◌+◌, ◌++◌, [], ◌∷◌, List, ◌∙◌, get_or, arith, length-set}
-use Rattle.std.proofs.lemmas.List.{get_or_default}
-use Rattle.dude_base.specs.Records.{RedoRecord}
-use Rattle.backlog.specs.Lane.{LaneState}
-use Rattle.backlog.specs.Lanes.{no_lane}
-use Rattle.backlog.proofs.Merging.{no_record, fronts_next, lead_next, number_next, front_small, few_rings}
+use Rattle.std.proofs.Common.{◌+◌, ◌++◌, [], ◌∷◌, ◌∙◌, get_or, sym, ap, subst, arith, length-set}
+use Rattle.dude_base.specs.Records.{RedoBundle}
+use Rattle.redo_record.specs.Waiting.{Lead}
+use Rattle.backlog.specs.Lanes.{waiting_of}
+use Rattle.backlog.proofs.Merging.{front_is, front_of, no_record, at_front, fronts_next, taken_last, taken_leads, front_small, few_rings}
 use Rattle.backlog.proofs.WaitingLanes.{none_waits}
 use Rattle.backlog.proofs.merge.contiguous_end.Goals as goal
 
@@ -11,27 +10,26 @@ pub overflow_add-fronts : goal.overflow_add-fronts
 overflow_add-fronts c = let small = front_small c.args.place.now c.sizes-sizes.ensures.accepted c.args.lanes.now c.requires.lanes c.merge.fronts (c.merge.end + 1) c.in-Some.k c.in-Some.ensures.some in omega arith
 
 pub merge-smaller : goal.merge-smaller
-merge-smaller c = let small = number_next c.args.place.now c.sizes-sizes.ensures.accepted c.args.lanes.now c.requires.lanes c.merge.fronts (c.merge.end + 1) c.in-Some.k c.in-Some.ensures.some in omega arith
+merge-smaller c =
+    let both = taken_last c.args.place.now c.sizes-sizes.ensures.accepted c.args.lanes.now c.requires.lanes c.merge.fronts c.merge.end c.in-Some.k c.index-lanes-k.result (front_of c.index-lanes-k.result c.merge.fronts c.in-Some.k) c.in-Some.ensures.some c.index-lanes-k.is (front_is c.args.lanes.now c.merge.fronts (c.merge.end + 1) c.in-Some.k c.index-lanes-k.result c.in-Some.ensures.some c.index-lanes-k.is) in
+    let high = both.0 in
+    let low = both.1 in
+    let last = (c.last-end.ensures no_record) in
+    omega arith
 
 pub merge-preserved : goal.merge-preserved
 merge-preserved c =
-    let lanes : List LaneState = c.args.lanes.now in
-    let are = c.requires.lanes in
-    let accepted = c.sizes-sizes.ensures.accepted in
-    let next = c.in-Some.ensures.some in
-    let rings = few_rings c.args.place.now accepted lanes are in
-    let at = next.1 no_lane in
-    let ws : List RedoRecord = (get_or lanes c.in-Some.k no_lane).waiting in
-    let t : ℕ = get_or c.merge.fronts c.in-Some.k 0 in
-    let r : RedoRecord = get_or ws t no_record in
+    let both = taken_last c.args.place.now c.sizes-sizes.ensures.accepted c.args.lanes.now c.requires.lanes c.merge.fronts c.merge.end c.in-Some.k c.index-lanes-k.result (front_of c.index-lanes-k.result c.merge.fronts c.in-Some.k) c.in-Some.ensures.some c.index-lanes-k.is (front_is c.args.lanes.now c.merge.fronts (c.merge.end + 1) c.in-Some.k c.index-lanes-k.result c.in-Some.ensures.some c.index-lanes-k.is) in
+    let on = taken_leads c.args.lanes.now c.requires.lanes.distinct c.merge.fronts c.args.from c.merge.end c.in-Some.k c.index-lanes-k.result (front_of c.index-lanes-k.result c.merge.fronts c.in-Some.k) c.merge.invariant.led.records c.in-Some.ensures.some c.index-lanes-k.is (front_is c.args.lanes.now c.merge.fronts (c.merge.end + 1) c.in-Some.k c.index-lanes-k.result c.in-Some.ensures.some c.index-lanes-k.is) c.merge.invariant.led.lead in
     record {
-      len = length-set c.merge.fronts c.in-Some.k (t + 1) ∙ c.merge.invariant.len;
-      fronts = fronts_next lanes are.distinct c.merge.fronts c.merge.end c.in-Some.k (omega (arith, c.merge.invariant.len)) c.merge.invariant.fronts next;
+      len = length-set c.merge.fronts c.in-Some.k (get_or c.merge.fronts c.in-Some.k 0 + 1) ∙ c.merge.invariant.len;
+      fronts = fronts_next c.args.lanes.now c.requires.lanes.distinct c.merge.fronts c.merge.end c.in-Some.k c.last-end.result (let rings = few_rings c.args.place.now c.sizes-sizes.ensures.accepted c.args.lanes.now c.requires.lanes in omega (arith, c.merge.invariant.len)) c.merge.invariant.fronts c.in-Some.ensures.some
+          (λ d q. ap (λ (b : RedoBundle). b.last) (at_front c.args.lanes.now c.in-Some.k (get_or c.merge.fronts c.in-Some.k 0) c.index-lanes-k.result (front_of c.index-lanes-k.result c.merge.fronts c.in-Some.k) c.in-Some.ensures.some.0 c.index-lanes-k.is (front_is c.args.lanes.now c.merge.fronts (c.merge.end + 1) c.in-Some.k c.index-lanes-k.result c.in-Some.ensures.some c.index-lanes-k.is) d q) ∙ sym (c.last-end.ensures no_record));
       led = record {
-        records = c.merge.invariant.led.records ++ r ∷ [];
-        lead = lead_next lanes are.distinct c.merge.fronts c.args.from c.merge.end c.in-Some.k c.merge.invariant.led.records no_lane r c.merge.invariant.led.lead next (get_or_default ws t r no_record at.within);
+        records = c.merge.invariant.led.records ++ (front_of c.index-lanes-k.result c.merge.fronts c.in-Some.k) ∷ [];
+        lead = subst (Lead (waiting_of c.args.lanes.now) c.args.from (c.merge.invariant.led.records ++ (front_of c.index-lanes-k.result c.merge.fronts c.in-Some.k) ∷ [])) (sym (c.last-end.ensures no_record)) on.0;
       };
-      small = number_next c.args.place.now accepted lanes are c.merge.fronts (c.merge.end + 1) c.in-Some.k next;
+      small = let high = both.0 in let last = (c.last-end.ensures no_record) in omega arith;
     }
 
 pub returns-clause-end : goal.returns-clause-end

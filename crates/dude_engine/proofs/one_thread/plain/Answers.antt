@@ -1,4 +1,4 @@
-use Rattle.std.proofs.Common.{◌≡◌, ◌↔◌, ◌∙◌, ℕ, Bool, false, ap, sym, refl, subst, map}
+use Rattle.std.proofs.Common.{◌≡◌, ◌↔◌, ◌∙◌, ℕ, Bool, None, false, ap, sym, refl, subst, map}
 use Rattle.std.specs.List.{AllPairs}
 use Rattle.std.specs.Prelude.{IsPermutation}
 use Rattle.pmem_trait.specs.Sights.{Sight, Risen, state_now}
@@ -8,7 +8,9 @@ use Rattle.run_order.proofs.Apart.{rounds_apart}
 use Rattle.back_store.specs.BackView.{medium_of, state_of}
 use Rattle.word_space.specs.Flats.{words_of}
 use Rattle.run_log.specs.LogCalls.{Makes}
-use Rattle.run_log.specs.RunLog.{Tells, log_back, log_durable, log_medium}
+use Rattle.back_store.specs.Told.{WereTold}
+use Rattle.run_log.specs.RunLog.{log_back, log_durable, log_medium, log_open, log_parts}
+use Rattle.run_log.proofs.LoggedCalls.{parts_are}
 use Rattle.dude_engine.specs.declared.ran.RanEnd.{RanEnd}
 use Rattle.dude_engine.specs.declared.ran.RanEnd.TheVariants.{Device}
 use Rattle.dude_engine.specs.Opening.{Opening}
@@ -33,7 +35,7 @@ returns g c =
     let still : u ≡ t = ap (λ m. g.M.Medium.sight m) c.into_medium.ensures in
     let running : (opening : Opening) → IsOpeningOf o opening → IsRunning opening o.words.items o.lay c.new.result (words_of c.new-2.result) c.new-3.result.items s (g.M.Medium.sight (log_medium c.new.result)) =
     λ opening is. begins o opening o.lay c.new.result (words_of c.new-2.result) c.new-3.result.items s (g.M.Medium.sight (log_medium c.new.result)) c.requires.opened is refl
-    c.new-2.ensures.words c.new-3.ensures.items (ap (λ m. g.M.Medium.sight m) c.new.ensures.medium) c.new.ensures.alive c.new.ensures.sizes c.new.ensures.numbers.0 c.new.ensures.numbers.1 o.back.room c.new.ensures.follows in
+    c.new-2.ensures.words c.new-3.ensures.items (ap (λ m. g.M.Medium.sight m) c.new.ensures.medium) c.new.ensures.alive c.new.ensures.sizes c.new.ensures.numbers.0 c.new.ensures.numbers.1 c.new.ensures.numbers.2 o.back.room c.new.ensures.follows in
     let left : (opening : Opening) → IsOpeningOf o opening → IsLeft served opening o.words.items run s t = λ opening is. c.run_all-served.ensures.left opening o.words.items s (running opening is) in
     let at : (opening : Opening) → IsOpeningOf o opening → Ended (went_well served) opening o.words.items (log_durable run.log) performed s u =
     λ opening is. subst (λ (v : Sight). Ended (went_well served) opening o.words.items (log_durable run.log) performed s v) (sym still) (ended_by opening o.words.items run s t served (left opening is)) in
@@ -59,13 +61,13 @@ returns g c =
           (subst (λ (v : Sight). IsSettledRun opening o.words.items c.durable-last.result performed s v) (sym still)
           (subst (λ (n : ℕ). IsSettledRun opening o.words.items n performed s t) (sym c.durable-last.ensures) settled));
       calls = λ whole.
-          let makes : Makes (RunBy (log_back c.new.result) performed (log_durable run.log)) (g.M.Medium.sight (log_medium c.new.result)) t = on_whole served (sym c.end_of.ensures ∙ whole) c.run_all-served.ensures.calls in
-          makes_its_calls (log_back c.new.result) (state_of o.back) performed done (log_durable run.log) c.durable-last.result (g.M.Medium.sight (log_medium c.new.result)) s t u c.new.ensures.back
+          let makes : Makes (RunBy (log_parts c.new.result) performed (log_durable run.log)) (g.M.Medium.sight (log_medium c.new.result)) t = on_whole served (sym c.end_of.ensures ∙ whole) c.run_all-served.ensures.calls in
+          makes_its_calls (log_parts c.new.result) (state_of o.back) performed done (log_durable run.log) c.durable-last.result (g.M.Medium.sight (log_medium c.new.result)) s t u (parts_are (log_back c.new.result) (state_of o.back) (log_open c.new.result) None c.new.ensures.back c.new.ensures.none_open)
           (ap (λ m. g.M.Medium.sight m) c.new.ensures.medium) still c.durable-last.ensures same rounds makes;
       last_told = λ visible opening is.
           subst (λ (e : RanEnd). IsLastTold e opening c.durable-last.result s u) (sym c.end_of.ensures)
           (subst (λ (n : ℕ). IsLastTold (end_by served) opening n s u) (sym c.durable-last.ensures)
-          (subst (λ (ok : Bool). Tells ok opening.number (log_durable run.log) (state_now s).told (state_now u).told) (well_by served) ((at opening is).tells visible)));
+          (subst (λ (ok : Bool). WereTold ok opening.number (log_durable run.log) (state_now s).told (state_now u).told) (well_by served) ((at opening is).tells visible)));
       ran = (went_well served, (at lawful lawful_is).ran, subst (λ (e : RanEnd). (went_well served ≡ false) ↔ (e ≡ Device)) (sym c.end_of.ensures) (device_by served));
       cause = λ device.
           subst (λ (v : Sight). Risen s.faults v.faults) (sym still) (cause_by lawful o.words.items run s t served (left lawful lawful_is) (sym c.end_of.ensures ∙ device));

@@ -1,33 +1,65 @@
-use Rattle.std.proofs.Common.{◌≡◌, ℕ, ◌∙◌, List, flat_map, length, map, ap, subst, arith}
-use Rattle.std.specs.List.Sorted.{IsPermutation}
-use Rattle.std.proofs.lemmas.List.{take_all}
-use Rattle.dude_base.specs.Records.{RedoRecord}
+use Rattle.std.proofs.Common.{◌≡◌, ◌+◌, ◌++◌, [], ◌∷◌, ℕ, List, All, ap, sym, subst, ◌∙◌, arith, take, length, flat_map, sum_by}
+use Rattle.std.proofs.lemmas.List.{take_all, take_more}
+use Rattle.std.proofs.lemmas.List.Concat.{length-flat_map}
+use Rattle.std.proofs.lemmas.List.Elements.{All-more}
+use Rattle.std.proofs.lemmas.List.Sums.{sum_by-append, sum_by-take-le}
 use Rattle.dude_base.specs.declared.write.Write.{Write}
-use Rattle.dude_base.specs.Writes.{written}
+use Rattle.dude_base.specs.Records.{RedoBundle}
+use Rattle.dude_base.specs.Writes.{HasDistinctPlaces, written}
 use Rattle.group_combine.specs.Group.{last_written}
-use Rattle.group_combine.specs.declared.numbered.Numbered.{Numbered}
-use Rattle.group_combine.specs.Numbered.{numbered_from, write_of, last_of}
+use Rattle.group_combine.specs.Numbered.{last_of}
 use Rattle.group_combine.proofs.Effects.{overwritten-last, written_by_records}
-use Rattle.group_combine.proofs.LastWrites.{last_of-sorted, last_of-records}
+use Rattle.group_combine.proofs.LastWrites.{last_of-records, writes_more}
 use Rattle.group_combine.proofs.group.combine.Goals as goal
 
+next : (c : goal.After-take_record-arg-1) → take (c.loop-r.r-index + 1) c.args.list.now ≡ take c.loop-r.r-index c.args.list.now ++ c.r-item.result ∷ []
+next c =
+    let list : List RedoBundle = c.args.list.now in
+    take_more list c.loop-r.r-index c.r-item.result c.loop-r-test.true ∙ ap (λ r. take c.loop-r.r-index list ++ r ∷ []) (sym c.r-item.is)
+
+pub take_record-requires : goal.take_record-requires
+take_record-requires c =
+    let f : RedoBundle → ℕ = λ r. length r.writes in
+    let list : List RedoBundle = c.args.list.now in
+    let more : sum_by f (take (c.loop-r.r-index + 1) list) ≡ sum_by f (take c.loop-r.r-index list) + length c.r-item.result.writes =
+    ap (sum_by f) (next c) ∙ sum_by-append f (take c.loop-r.r-index list) (c.r-item.result ∷ []) ∙ omega arith in
+    let bound = sum_by-take-le f list (c.loop-r.r-index + 1) in
+    let long : length c.loop-r.out.taken ≡ sum_by f (take c.loop-r.r-index list) = ap (λ (l : List Write). length l) c.loop-r.invariant.taken ∙ length-flat_map (λ (r : RedoBundle). r.writes) (take c.loop-r.r-index list) in
+    omega (arith, c.loop-r.invariant.room, c.requires)
+
+pub loop-r-preserved : goal.loop-r-preserved
+loop-r-preserved c =
+    let list : List RedoBundle = c.args.list.now in
+    let inv = c.loop-r.invariant in
+    record {
+      taken = c.take_record.ensures.taken ∙ ap (λ (l : List Write). l ++ c.r-item.result.writes) inv.taken ∙ writes_more (take c.loop-r.r-index list) c.r-item.result
+          ∙ ap (λ (rs : List RedoBundle). flat_map (λ (r : RedoBundle). r.writes) rs) (sym (next c.before));
+      room = c.take_record.ensures.room ∙ inv.room;
+      distinct = All-more (λ (r : RedoBundle). HasDistinctPlaces r.writes) list c.loop-r.r-index c.r-item.result c.loop-r-test.true inv.distinct
+          (subst (λ (r : RedoBundle). HasDistinctPlaces r.writes) c.r-item.is c.take_record.ensures.distinct);
+    }
+
+-- all were taken
+taken : (c : goal.After-finish) → c.loop-r.out.taken ≡ flat_map (λ (r : RedoBundle). r.writes) c.args.list.now
+taken c = c.loop-r.invariant.taken ∙ ap (λ (rs : List RedoBundle). flat_map (λ (r : RedoBundle). r.writes) rs) (take_all c.loop-r.r-index c.args.list.now (omega arith))
+
 -- each word is left as the last record leaves it
-last : (c : goal.After-keep_last) (i : ℕ) → written c.keep_last.new.writes.items i ≡ last_written c.args.list.now i
+last : (c : goal.After-finish) (i : ℕ) → written c.finish.new.self.writes i ≡ last_written c.args.list.now i
 last c i =
-    let row : List Numbered = c.deref.result.now in
-    let ws : List Write = flat_map (λ (r : RedoRecord). r.writes) c.args.list.now in
-    let same : row ≡ c.sort_by_word.new.row.items = c.deref.ensures.value in
-    let sorted : IsPermutation (numbered_from 0 ws) c.sort_by_word.new.row.items = subst (λ (l : List Numbered). IsPermutation l c.sort_by_word.new.row.items) c.number_writes.ensures.numbered c.sort_by_word.ensures.same in
-    c.keep_last.ensures.kept.last i (λ d lt. absurd (omega arith))
-    ∙ ap (λ (l : List Numbered). last_of (map write_of l) i) (take_all (length row) row (omega arith) ∙ same)
-    ∙ last_of-sorted ws c.sort_by_word.new.row.items i sorted c.sort_by_word.ensures.in_order
-    ∙ last_of-records c.args.list.now i c.number_writes.ensures.distinct
+    c.finish.ensures.last i ∙ ap (λ (l : List Write). last_of l i) (taken c)
+    ∙ last_of-records c.args.list.now i (subst (All (λ (r : RedoBundle). HasDistinctPlaces r.writes)) (take_all c.loop-r.r-index c.args.list.now (omega arith)) c.loop-r.invariant.distinct)
 
 pub returns-clause-last : goal.returns-clause-last
 returns-clause-last c = last c
 
 pub returns-clause-each : goal.returns-clause-each
-returns-clause-each c = written_by_records c.args.list.now c.keep_last.new.writes.items c.keep_last.ensures.kept.rising (last c)
+returns-clause-each c = written_by_records c.args.list.now c.finish.new.self.writes c.finish.ensures.rising (last c)
 
 pub returns-clause-effect : goal.returns-clause-effect
-returns-clause-effect c array = overwritten-last c.args.list.now c.keep_last.new.writes.items array (last c)
+returns-clause-effect c array = overwritten-last c.args.list.now c.finish.new.self.writes array (last c)
+
+pub returns-clause-few : goal.returns-clause-few
+returns-clause-few c =
+    let long : length c.loop-r.out.taken ≡ sum_by (λ (r : RedoBundle). length r.writes) c.args.list.now = ap (λ (l : List Write). length l) (taken c) ∙ length-flat_map (λ (r : RedoBundle). r.writes) c.args.list.now in
+    let few = c.finish.ensures.few in
+    omega arith

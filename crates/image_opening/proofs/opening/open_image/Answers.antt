@@ -1,8 +1,9 @@
-use Rattle.std.proofs.Common.{◌≡◌, Err, ap, ◌∙◌, rules}
+use Rattle.std.proofs.Common.{◌≡◌, Err, sym, ap, ◌∙◌, arith, rules}
 use Rattle.dude_base.specs.declared.sizes.Sizes.{Sizes}
-use Rattle.pmem_trait.proofs.ReadRuns.{reads_then, content_before}
+use Rattle.pmem_trait.proofs.ReadRuns.{reads_then, read_alone, read_content, content_before}
+use Rattle.redo_record.specs.Images.{version_of}
 use Rattle.image_opening.specs.OpeningCalls.{stale_lines}
-use Rattle.image_opening.proofs.OpeningFaults.{stops_again, stops_on_the_way}
+use Rattle.image_opening.proofs.OpeningFaults.{stops_again, stops_at_read, stops_on_the_way}
 use Rattle.image_opening.proofs.opening.open_image.Goals as goal
 
 pub returns-in_err-lay-clause-damaged : goal.returns-in_err-lay-clause-damaged
@@ -11,6 +12,10 @@ returns-in_err-lay-clause-damaged g c = λ line is. c.recover.ensures.damaged li
 pub returns-in_err-stale-clause-stopped : goal.returns-in_err-stale-clause-stopped
 returns-in_err-stale-clause-stopped g c =
     stops_again c.from_residual-in_err-stale.result c.stale_lines.result c.in_err-stale.field-0.0 _ _ _ (search rules) c.in_err-stale.was c.in_ok-lay.ensures.reads c.stale_lines.ensures.reads
+
+pub returns-in_err-version-clause-stopped : goal.returns-in_err-version-clause-stopped
+returns-in_err-version-clause-stopped g c =
+    stops_at_read c.from_residual-in_err-version.result (search rules) (reads_then (reads_then c.in_ok-lay.ensures.reads c.in_ok-stale.ensures.reads) (read_alone c.in_err-version.ensures.one_call))
 
 -- the image was recovered, the stale heads were found, and the calls were made
 pub returns-in_err-settle_image-clause-stopped : goal.returns-in_err-settle_image-clause-stopped
@@ -23,11 +28,13 @@ returns-in_err-settle_image-clause-stopped g c =
       is = c.in_ok-lay.ensures.lawful;
       recovered = c.in_ok-lay.ensures.recovered;
       opens = record {
-        read = g.M.Medium.sight c.stale_lines.new.m;
-        reads = reads_then c.in_ok-lay.ensures.reads c.in_ok-stale.ensures.reads;
+        read = g.M.Medium.sight c.read.new.self;
+        reads = reads_then (reads_then c.in_ok-lay.ensures.reads c.in_ok-stale.ensures.reads) (read_alone c.in_ok-version.ensures.one_call);
         stale = c.in_ok-stale.stale.items;
         heads = content_before {P = λ content. c.in_ok-stale.stale.items ≡ stale_lines c.in_ok-lay.lay c.in_ok-lay.recovered.number content} c.in_ok-lay.ensures.reads
             (λ told content is. c.in_ok-stale.ensures.lines told content is ∙ ap (λ (s : Sizes). stale_lines s c.in_ok-lay.recovered.number content) same);
+        version = c.in_ok-version.version;
+        named = λ told content is. sym (read_content 1 (reads_then c.in_ok-lay.ensures.reads c.in_ok-stale.ensures.reads) (omega (arith, c.in_ok-lay.ensures.lawful.room)) c.in_ok-version.ensures.value told content is);
         made = rw (← same, ← c.deref.ensures.value, ← c.deref-2.ensures.value) c.in_err-settle_image.ensures.made;
       };
     })
@@ -36,10 +43,12 @@ pub returns-clause-made : goal.returns-clause-made
 returns-clause-made g c =
     let same = c.of-place.ensures ∙ c.sizes.ensures.sizes in
     record {
-      read = g.M.Medium.sight c.stale_lines.new.m;
-      reads = reads_then c.in_ok-lay.ensures.reads c.in_ok-stale.ensures.reads;
+      read = g.M.Medium.sight c.read.new.self;
+      reads = reads_then (reads_then c.in_ok-lay.ensures.reads c.in_ok-stale.ensures.reads) (read_alone c.in_ok-version.ensures.one_call);
       stale = c.in_ok-stale.stale.items;
       heads = content_before {P = λ content. c.in_ok-stale.stale.items ≡ stale_lines c.in_ok-lay.lay c.in_ok-lay.recovered.number content} c.in_ok-lay.ensures.reads
           (λ told content is. c.in_ok-stale.ensures.lines told content is ∙ ap (λ (s : Sizes). stale_lines s c.in_ok-lay.recovered.number content) same);
+      version = c.in_ok-version.version;
+      named = λ told content is. sym (read_content 1 (reads_then c.in_ok-lay.ensures.reads c.in_ok-stale.ensures.reads) (omega (arith, c.in_ok-lay.ensures.lawful.room)) c.in_ok-version.ensures.value told content is);
       made = rw (← same, ← c.deref.ensures.value, ← c.deref-2.ensures.value) c.in_ok-settle_image.ensures.made;
     }

@@ -4,4 +4,4 @@ use Rattle.dude_base.specs.declared.write.Write.{Write}
 use Rattle.log_ring.proofs.reads.is_home.Given as goal
 
 abbrev pub invariant-loop-k : goal.invariant-loop-k
-invariant-loop-k l = (j : ℕ) (d : Write) → j < l.k → (get_or l.r.writes j d).at < l.words
+invariant-loop-k l = (j : ℕ) (d : Write) → j < l.k → (get_or l.b.writes j d).at < l.words

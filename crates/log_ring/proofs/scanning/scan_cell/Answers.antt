@@ -1,7 +1,9 @@
-use Rattle.std.proofs.Common.{◌≡◌, ◌/◌, true, arith, rules, subst}
+use Rattle.std.proofs.Common.{◌≡◌, ℕ, ◌/◌, true, arith, rules, subst}
 use Rattle.pmem_trait.proofs.ReadRuns.{reads_here, reads_then, read_alone, read_content, content_before}
 use Rattle.redo_record.specs.Cells.{line_of}
 use Rattle.dude_base.specs.Image.{cell_at}
+use Rattle.redo_record.specs.Record.{FitsVersion}
+use Rattle.redo_record.specs.Images.{word_in_image}
 use Rattle.log_ring.specs.Scanning.{IsRecordAt}
 use Rattle.log_ring.proofs.RecordReads.{new_head}
 use Rattle.log_ring.proofs.ScanReads.{made_at_device}
@@ -11,14 +13,14 @@ use Rattle.log_ring.proofs.scanning.scan_cell.Goals as goal
 pub returns-in_err-tag-clause-reads : goal.returns-in_err-tag-clause-reads
 returns-in_err-tag-clause-reads g c = made_at_device c.from_residual.result (search rules) (read_alone c.in_err-tag.ensures.one_call)
 
-pub returns-in_err-redo-clause-reads : goal.returns-in_err-redo-clause-reads
-returns-in_err-redo-clause-reads g c = made_at_device c.from_residual-in_err-redo.result (search rules) (reads_then (read_alone c.in_ok-tag.ensures.one_call) c.in_err-redo.ensures.reads)
+pub returns-in_err-bundle-clause-reads : goal.returns-in_err-bundle-clause-reads
+returns-in_err-bundle-clause-reads g c = made_at_device c.from_residual-in_err-bundle.result (search rules) (reads_then (read_alone c.in_ok-tag.ensures.one_call) c.in_err-bundle.ensures.reads)
 
 pub returns-in_err-tag-clause-few : goal.returns-in_err-tag-clause-few
 returns-in_err-tag-clause-few g c = let one = one_moment c.in_err-tag.ensures.one_call in omega arith
 
-pub returns-in_err-redo-clause-few : goal.returns-in_err-redo-clause-few
-returns-in_err-redo-clause-few g c = let one = one_moment c.in_ok-tag.ensures.one_call in omega arith
+pub returns-in_err-bundle-clause-few : goal.returns-in_err-bundle-clause-few
+returns-in_err-bundle-clause-few g c = let one = one_moment c.in_ok-tag.ensures.one_call in omega arith
 
 pub returns-clause-few : goal.returns-clause-few
 returns-clause-few g c = let one = one_moment c.in_ok-tag.ensures.one_call in omega arith
@@ -28,11 +30,12 @@ returns-in_default-clause-torn g c line is =
     let at : line ≡ c.cell-start.result / 8 = search rules in
     let on : line ≡ line_of c.args.place.now (cell_at c.args.ring c.args.cell) = omega (arith, at) in (
       on,
-      λ told content holds. record {
+      λ told content holds version. record {
         head = new_head c.args.place.now c.args.above content (cell_at c.args.ring c.args.cell) c.cell-start.result c.in_ok-tag.tag (record { ring_is = c.requires.ring; slot_is = c.requires.cell }) c.cell-start.ensures.place
             (read_content c.cell-start.result (reads_here (g.M.Medium.sight c.args.m.now)) (omega arith) c.in_ok-tag.ensures.value told content holds) (omega arith) (omega arith);
         incomplete =
-            let found = content_before {P = λ l. IsRecordAt c.args.place.now l (cell_at c.args.ring c.args.cell) c.in_ok-redo.field-0} {ok = true} (read_alone {ok = true} c.in_ok-tag.ensures.one_call) c.in_ok-redo.ensures.record told content holds in
-            subst (IsRecordAt c.args.place.now content (cell_at c.args.ring c.args.cell)) c.in_default.is found;
+            let found = content_before {P = λ l. IsRecordAt c.args.place.now c.args.version l (cell_at c.args.ring c.args.cell) c.in_ok-bundle.field-0} {ok = true} (read_alone {ok = true} c.in_ok-tag.ensures.one_call) c.in_ok-bundle.ensures.record told content holds in
+            λ sound. subst (IsRecordAt c.args.place.now c.args.version content (cell_at c.args.ring c.args.cell)) c.in_default.is found sound.complete
+            (subst (λ (v : ℕ). FitsVersion v (word_in_image c.args.place.now content (cell_at c.args.ring c.args.cell))) version sound.version);
       },
     )

@@ -5,4 +5,4 @@ use Rattle.log_runs.specs.declared.records.TheConstants.{HOME}
 use Rattle.log_runs.proofs.records.is_home.Given as goal
 
 abbrev pub invariant-loop-k : goal.invariant-loop-k
-invariant-loop-k l = (j : ℕ) (d : Write) → j < l.k → (get_or l.redo.writes j d).at < HOME
+invariant-loop-k l = (j : ℕ) (d : Write) → j < l.k → (get_or l.bundle.writes j d).at < HOME

@@ -21,7 +21,7 @@ pub invariant_of-self : goal.invariant_of-self
 invariant_of-self g c = record {
   lawful = lawful_after (backlog_state c.self.inside) c.args.ring c.args.r.now (is_ok c.append.result) c.append.new.self c.self.invariant.lawful (below g c)
       (λ ok. ok_not_full c.append.result (full_lane (lane_at c.self.inside.lanes.items c.args.ring) c.args.r.now) (IsLaneFull (lane_at c.self.inside.lanes.items c.args.ring) c.args.r.now) ok (rw (lane g c) at c.append.ensures.full))
-      c.requires.number (rw (← c.self.view_is) at c.requires.home) (rw (← c.self.view_is) at c.requires.new) (rw (← c.self.view_is) at c.requires.over) (rw (lane g c) at c.append.ensures.lane);
+      c.requires.numbers (rw (← c.self.view_is) at c.requires.home) (rw (← c.self.view_is) at c.requires.new) (rw (← c.self.view_is) at c.requires.over) (rw (lane g c) at c.append.ensures.lane);
   group = c.self.invariant.group;
 }
 

@@ -1,15 +1,15 @@
 use Rattle.std.proofs.Common.{◌∙◌}
 use Rattle.backlog.specs.KeptBacklog.{backlog_state}
-use Rattle.backlog.proofs.ReleasedRecords.{led_upto, released_lawful}
+use Rattle.backlog.proofs.ReleasedRecords.{released_lawful}
 use Rattle.backlog.proofs.backlog.Backlog.reproduce.Goals as goal
 
 pub fill-requires-clause-led : goal.fill-requires-clause-led
 fill-requires-clause-led g c =
     let a = c.self.inside in
-    rw c.deref.ensures.value (led_upto a.lanes.items a.reproduced a.durable c.args.to c.self.invariant.lawful.led (rw (← c.self.view_is) at c.requires.from) (rw (← c.self.view_is) at c.requires.to))
+    rw c.deref.ensures.value (rw (← c.self.view_is) at c.requires.led)
 
 pub invariant_of-self-2 : goal.invariant_of-self-2
 invariant_of-self-2 g c = record {
-  lawful = rw c.release_all.ensures (released_lawful (backlog_state c.self.inside) c.args.to c.self.invariant.lawful (rw (← c.self.view_is) at c.requires.from) (rw (← c.self.view_is) at c.requires.to));
+  lawful = rw c.release_all.ensures (released_lawful (backlog_state c.self.inside) c.args.to c.self.invariant.lawful (rw (← c.self.view_is) at c.requires.led) (rw (← c.self.view_is) at c.requires.to));
   group = c.fill.ensures.sizes ∙ c.self.invariant.group;
 }

@@ -20,7 +20,7 @@ pub returns-clause-ready : goal.returns-clause-ready
 returns-clause-ready g c =
     let self = c.args.self.now in
     record {
-      alive = c.in_ok-append.ensures.goes_on.alive refl;
+      alive = c.in_ok-append.ensures.alive refl;
       sizes = c.in_ok-append.ensures.goes_on.sizes ∙ c.requires.change.sizes;
       clean = c.take-redo.ensures.fresh;
       count = ap length c.take-redo.ensures.words ∙ length-overwritten (flat_sight self.words).writes (words_of self.words) ∙ c.requires.change.count;

@@ -1,7 +1,7 @@
 use Rattle.std.proofs.Common.{◌≡◌, ◌∙◌, sym, subst, rules, map, List, Err}
 use Rattle.tatp_model.specs.declared.done.Done.{Done}
 use Rattle.word_space.specs.Flats.{words_of}
-use Rattle.run_log.specs.RunLog.{log_durable, log_last, log_medium}
+use Rattle.run_log.specs.RunLog.{log_durable, log_last, log_medium, log_parts}
 use Rattle.run_order.proofs.Rounds.{Rounds, rounds_collect, rounds_start}
 use Rattle.dude_engine.specs.declared.run_fault.RunFault.TheVariants.{Device}
 use Rattle.dude_engine.specs.Running.{IsRunning}
@@ -44,11 +44,11 @@ returns-clause-settled g c opening words s run =
     let runs = c.in_ok-serve_all.ensures.left opening words s
     (subst (λ (performed : List Done). IsRunning opening words self.lay self.log (words_of self.words) performed s (g.M.Medium.sight (log_medium self.log))) (sym c.reserve_exact.ensures.items) run) in
     settled_run opening words served.lay served.log c.settle.new.self (words_of served.words) served.done.items s (g.M.Medium.sight (log_medium served.log)) (g.M.Medium.sight (log_medium c.settle.new.self))
-    ok.numbers.1 ok.goes_on c.settle.ensures.moments runs ok.told
+    ok.numbers.1 ok.goes_on c.settle.ensures.moments runs ok.ends ok.told
 
 pub returns-clause-calls : goal.returns-clause-calls
 returns-clause-calls g c =
     let served = c.serve_all.new.self in
     let ok = c.in_ok-settle.ensures in
-    runs_by (record c.args.self.now { done = c.reserve_exact.new.self }) served (log_last served.log) (log_durable c.settle.new.self) (g.M.Medium.sight (log_medium c.args.self.now.log)) (g.M.Medium.sight (log_medium served.log)) (g.M.Medium.sight (log_medium c.settle.new.self))
+    runs_by (record c.args.self.now { done = c.reserve_exact.new.self }) served (log_parts c.settle.new.self) (log_last served.log) (log_durable c.settle.new.self) (g.M.Medium.sight (log_medium c.args.self.now.log)) (g.M.Medium.sight (log_medium served.log)) (g.M.Medium.sight (log_medium c.settle.new.self))
     (c.reserve_exact.ensures.items ∙ c.requires.empty) c.in_ok-serve_all.ensures.calls ok.numbers.1 ok.calls

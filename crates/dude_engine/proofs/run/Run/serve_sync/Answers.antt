@@ -38,4 +38,4 @@ returns-clause-calls g c =
     let later = c.announce.new.self in
     let d : Done = record { file = c.args.file; index = c.args.index; number = c.in_ok-number.number; wrote = false; request = Sync; reply = Durable } in
     serves_sync self c.note.new.self later d (log_last self.log) (g.M.Medium.sight (log_medium self.log)) (g.M.Medium.sight (log_medium later)) (g.M.Medium.sight (log_medium c.note.new.self.log)) c.note.ensures.done refl refl ok.answer
-    ok.back ok.calls c.note.ensures.log (ap (λ l. g.M.Medium.sight (log_medium l)) c.note.ensures.log)
+    ok.calls c.note.ensures.log (ap (λ l. g.M.Medium.sight (log_medium l)) c.note.ensures.log)

@@ -1,5 +1,6 @@
-use Rattle.std.proofs.Common.{ℕ, ◌+◌, ◌<◌, ◌≤◌, length, All, refl, sym, subst, arith}
-use Rattle.redo_record.specs.Fits.{Logged, cells_used}
+use Rattle.std.proofs.Common.{ℕ, ◌+◌, ◌-◌, ◌<◌, ◌≤◌, length, All, refl, subst, arith}
+use Rattle.dude_base.specs.Records.{first_of}
+use Rattle.redo_record.specs.Fits.{Logged, first_logged, cells_used}
 use Rattle.redo_record.specs.Record.{cells_for}
 use Rattle.log_ring.proofs.Laid.{laid_more, laid_few}
 use Rattle.log_ring.proofs.ring.Ring.note.Goals as goal
@@ -8,17 +9,17 @@ pub push_reserved-requires : goal.push_reserved-requires
 push_reserved-requires c =
     let a = c.self.inside in
     let some = c.cells_of-cells.ensures.some in
-    let room : cells_used a.records.items + cells_for (length c.args.r.now.writes) ≤ a.place.cells = rw (← c.self.view_is) at c.requires.room in
+    let room : cells_used a.records.items + cells_for (length c.args.b.now.writes) ≤ a.place.cells = rw (← c.self.view_is) at c.requires.room in
     let few = laid_few a.records.items c.self.invariant.laid.some in
     omega (arith, c.self.invariant.room)
 
 pub invariant_of-self : goal.invariant_of-self
 invariant_of-self c =
     let a = c.self.inside in
-    let new : Logged = record { number = c.number.result; first = a.next; cells = c.cells_of-cells.result } in
-    let room : cells_used a.records.items + cells_for (length c.args.r.now.writes) ≤ a.place.cells = rw (← c.self.view_is) at c.requires.room in
-    let newest : All (λ (l : Logged). l.number < c.args.r.now.number) a.records.items = rw (← c.self.view_is) at c.requires.newest in
-    let lower : All (λ (l : Logged). l.number < new.number) a.records.items = subst (λ (n : ℕ). All (λ (l : Logged). l.number < n) a.records.items) (sym c.number.ensures) newest in
+    let new : Logged = record { last = c.last.result; span = c.last-2.result - c.first.result; slot = a.next; cells = c.cells_of-cells.result } in
+    let room : cells_used a.records.items + cells_for (length c.args.b.now.writes) ≤ a.place.cells = rw (← c.self.view_is) at c.requires.room in
+    let newest : All (λ (l : Logged). l.last < first_of c.args.b.now) a.records.items = rw (← c.self.view_is) at c.requires.newest in
+    let lower : All (λ (l : Logged). l.last < first_logged new) a.records.items = subst (λ (n : ℕ). All (λ (l : Logged). l.last < n) a.records.items) (omega arith) newest in
     record {
       accepted = c.self.invariant.accepted;
       ring = c.self.invariant.ring;

@@ -6,7 +6,7 @@ use Rattle.log_ring.specs.Laid.{AreLaid}
 use Rattle.log_ring.proofs.Laid.{laid_less, fits_less}
 use Rattle.log_ring.proofs.ring.Ring.release.Goals as goal
 
-pub kept : (c : goal.After-self-1) → c.retain.new.self.items ≡ filter (λ (l : Logged). nat_lt c.args.reproduced l.number) c.self.inside.records.items
+pub kept : (c : goal.After-self-1) → c.retain.new.self.items ≡ filter (λ (l : Logged). nat_lt c.args.reproduced l.last) c.self.inside.records.items
 kept c = filter_same _ _ _ (λ x b f' k. search rules) _ _ c.retain.ensures.filtered
 
 pub invariant_of-self : goal.invariant_of-self

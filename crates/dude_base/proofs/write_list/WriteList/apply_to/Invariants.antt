@@ -1,6 +1,0 @@
-use Rattle.std.proofs.Common.{◌≡◌, take}
-use Rattle.dude_base.specs.Writes.{overwritten}
-use Rattle.dude_base.proofs.write_list.WriteList.apply_to.Given as goal
-
-abbrev pub invariant-loop-k : goal.invariant-loop-k
-invariant-loop-k l = l.words ≡ overwritten (take l.k l.self) l.initial.words

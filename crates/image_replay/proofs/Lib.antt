@@ -1,5 +1,0 @@
-pub mod Applied
-pub mod Headers
-pub mod Homes
-pub mod Reading
-pub mod ReplayedContent

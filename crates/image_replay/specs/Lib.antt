@@ -1,4 +1,0 @@
-pub mod Faults
-pub mod Header
-pub mod Replays
-pub mod Texts

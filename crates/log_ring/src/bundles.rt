@@ -1,0 +1,91 @@
+//! The bundles of the heads that a first pass found, read in the order of their numbers.
+
+ghost use Rattle.std.specs.Prelude.{◌≡◌, ℕ, ◌+◌, ◌*◌, ◌≤◌, All, IfOk, IsErrOf, length, map};
+ghost use Rattle.dude_base.specs.Image.{image_words};
+ghost use Rattle.pmem_trait.specs.Sights.{Risen};
+ghost use Rattle.pmem_trait.specs.Reads.{ContentHas};
+ghost use Rattle.redo_record.specs.Cells.{IsCell};
+ghost use Rattle.redo_record.specs.Images.{IsComplete};
+ghost use Rattle.redo_record.specs.Damage.{IsDamagedAt};
+ghost use Rattle.log_ring.specs.declared.scan_fault.ScanFault.TheVariants.{Damaged, Device};
+ghost use Rattle.log_ring.specs.Heads.{bundle_of_head, cell_of};
+ghost use Rattle.log_ring.specs.Scan.{ReadsMade, AreScanned, IsReplayable, record_reads, scan_reads};
+
+use crate::head::Head;
+use crate::reads::read_record;
+use crate::scan_fault::ScanFault;
+use crate::scanning::heads;
+use dude_base::bundle::Bundle;
+use dude_base::limits::{LINE, VERSION};
+use dude_base::place::Place;
+use pmem_trait::Medium;
+use std::alloc::Global;
+
+/// Reads the bundles of all rings with last numbers over `above`, in the order of their numbers, by the version of the image.
+///
+/// The medium is only read. A head with a number over `above` that has no complete record is damage, and so is one whose
+/// first number isn't over it; where each is sound, so is a head of which a head at a lower line covers a number. The first
+/// line of such a head is answered. Also on a medium whose content contracts don't see, the bundles can be replayed.
+pub fn scan<M: Medium>(
+    alloc: Global,
+    m: &mut M,
+    place: &Place,
+    above: u64,
+) -> Result<Vec<Bundle>, ScanFault>
+    requires room { image_words place.now ≤ (M.sight m.old).len }
+    ensures len { (M.sight m.new).len ≡ (M.sight m.old).len }
+    ensures reads { ReadsMade result (M.sight m.old) (M.sight m.new) }
+    ensures few { (M.sight m.new).now ≤ (M.sight m.old).now + scan_reads }
+    ensures cause { IsErrOf result Device → Risen (M.sight m.old).faults (M.sight m.new).faults }
+    ensures replayable { IfOk result (λ found. All (IsReplayable place.now) found.items) }
+    ensures records { IfOk result (λ found. ContentHas (λ content. AreScanned place.now above content found.items) (M.sight m.old)) }
+    ensures damaged { (line : ℕ) → IsErrOf result (Damaged line) → ContentHas (λ content. IsDamagedAt place.now above content line) (M.sight m.old) }
+{
+    // Read for the proof alone: there are few cells.
+    let _sizes = place.sizes();
+    let found = heads(alloc, m, place, above)?;
+    read_bundles(alloc, m, place, &found)
+}
+
+// Reads the bundles of these heads.
+fn read_bundles<M: Medium>(
+    alloc: Global,
+    m: &mut M,
+    place: &Place,
+    found: &[Head],
+) -> Result<Vec<Bundle>, ScanFault>
+    requires inside { All (λ h. IsCell place.now (cell_of h)) found.now }
+    requires room { image_words place.now ≤ (M.sight m.old).len }
+    ensures len { (M.sight m.new).len ≡ (M.sight m.old).len }
+    ensures reads { ReadsMade result (M.sight m.old) (M.sight m.new) }
+    ensures few { (M.sight m.new).now ≤ (M.sight m.old).now + record_reads * length found.now }
+    ensures replayable { IfOk result (λ bundles. All (IsReplayable place.now) bundles.items) }
+    ensures bundles { IfOk result (λ bundles. ContentHas (λ content. bundles.items ≡ map (bundle_of_head place.now content) found.now) (M.sight m.old)) }
+    ensures damaged { (line : ℕ) → IsErrOf result (Damaged line) → ContentHas (λ content. All (λ h. IsComplete place.now content (cell_of h)) found.now → ⊥) (M.sight m.old) }
+{
+    let mut bundles = Vec::with_capacity(alloc, found.len())?;
+    for head in found {
+        bundles.push_reserved(read_bundle(m, place, head)?);
+    }
+    Ok(bundles)
+}
+
+/// Reads the bundle of a head once more. Where there is none any more, which can't be where the content is as it was, it is
+/// `Damaged` at the head's line.
+pub fn read_bundle<M: Medium>(m: &mut M, place: &Place, head: &Head) -> Result<Bundle, ScanFault>
+    requires inside { IsCell place.now (cell_of head.now) }
+    requires room { image_words place.now ≤ (M.sight m.old).len }
+    ensures len { (M.sight m.new).len ≡ (M.sight m.old).len }
+    ensures reads { ReadsMade result (M.sight m.old) (M.sight m.new) }
+    ensures few { (M.sight m.new).now ≤ (M.sight m.old).now + record_reads }
+    ensures replayable { IfOk result (IsReplayable place.now) }
+    ensures bundle { IfOk result (λ b. ContentHas (λ content. b ≡ bundle_of_head place.now content head.now) (M.sight m.old)) }
+    ensures damaged { (line : ℕ) → IsErrOf result (Damaged line) → ContentHas (λ content. ¬ IsComplete place.now content (cell_of head.now)) (M.sight m.old) }
+{
+    match read_record(m, place, head.ring, head.slot, VERSION)? {
+        Some(bundle) => Ok(bundle),
+        None => Err(ScanFault::Damaged {
+            line: place.cell(head.ring, head.slot) / LINE,
+        }),
+    }
+}
