@@ -114,7 +114,7 @@ for folder in "${1:-.}" "${2:-/dev/shm}"; do
   room=$(mktemp -d "$folder/bench.XXXXXX")
   echo "$folder ($(stat -f -c %T "$folder")), load $(cut -d ' ' -f 1 /proc/loadavg):"
   time_rounds 33554432
-  time_rounds 11218048
+  time_rounds 13315200
   rm -rf "$room"
   room=
 done
