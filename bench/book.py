@@ -21,7 +21,7 @@ TOWERS = [
     ("Runs", ["dude_engine", "run_log run_order"]),
     ("Images", ["image_format image_opening dude_recover", "image_recovery"]),
     ("Log", ["back_store", "backlog", "log_ring", "redo_record group_combine"]),
-    ("Home", ["tatp_core", "tatp_read tatp_check tatp_population tatp_rows", "tatp_layout row_content", "table_check hash_table", "record_heap", "word_space"]),
+    ("Home", ["tatp_core", "tatp_read tatp_check tatp_population tatp_rows", "tatp_layout", "table_check hash_table", "record_heap", "word_space"]),
     ("Texts", ["request_reader", "tatp_text"]),
     ("Base", ["dude_io", "file_pmem", "dude_base tatp_model pmem_trait"]),
     ("Threads", ["tiny_stm", "core_table shadow_pages", "dude_core", "core_state state_lists", "core_moves", "core_steps", "core_view", "core_events"]),

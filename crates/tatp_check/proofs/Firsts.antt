@@ -7,9 +7,9 @@ use Rattle.table_check.specs.Faults.{IsCause, IsFirstWrong}
 use Rattle.table_check.specs.Taken.{records_taken}
 use Rattle.table_check.specs.Whole.{KeepsWhole}
 use Rattle.table_check.proofs.Ends.{cause_of}
-use Rattle.row_content.specs.declared.table_kind.TableKind.{TableKind}
-use Rattle.row_content.specs.declared.table_kind.TableKind.TheVariants.{Subscribers, Numbers, Access, Facilities, Calls}
-use Rattle.row_content.specs.Content.{content_of, table_of}
+use Rattle.tatp_check.specs.declared.table_kind.TableKind.{TableKind}
+use Rattle.tatp_check.specs.declared.table_kind.TableKind.TheVariants.{Subscribers, Numbers, Access, Facilities, Calls}
+use Rattle.tatp_check.specs.Content.{content_of, table_of}
 use Rattle.tatp_check.specs.Order.{IsInTables, IsWholeKind}
 use Rattle.tatp_check.specs.References.{kind_rank}
 

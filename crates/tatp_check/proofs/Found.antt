@@ -9,9 +9,9 @@ use Rattle.hash_table.specs.Table.{records_in}
 use Rattle.table_check.specs.Taken.{Finds, records_by_key}
 use Rattle.table_check.proofs.ByKey.{by_key_in}
 use Rattle.table_check.proofs.Lawful.{HoldsContent, content_at, each_place, one_record}
-use Rattle.row_content.specs.declared.table_kind.TableKind.{TableKind}
-use Rattle.row_content.specs.declared.table_kind.TableKind.TheVariants.{Subscribers, Numbers, Access, Facilities, Calls}
-use Rattle.row_content.specs.Content.{content_of, table_of}
+use Rattle.tatp_check.specs.declared.table_kind.TableKind.{TableKind}
+use Rattle.tatp_check.specs.declared.table_kind.TableKind.TheVariants.{Subscribers, Numbers, Access, Facilities, Calls}
+use Rattle.tatp_check.specs.Content.{content_of, table_of}
 use Rattle.tatp_check.specs.declared.walked.Walked.{Walked}
 use Rattle.tatp_check.specs.Order.{IsWholeKind}
 use Rattle.tatp_check.specs.Walked.{AreWalked, records_of_kind, taken_of}

@@ -8,10 +8,10 @@ use Rattle.tatp_layout.specs.Records.{subscriber_form, number_form, access_form,
 use Rattle.tatp_layout.specs.StandsFor.{StandsFor}
 use Rattle.tatp_layout.proofs.Decoded.{held_word}
 use Rattle.table_check.proofs.Lawful.{HoldsContent, table_whole}
-use Rattle.row_content.specs.declared.table_kind.TableKind.{TableKind}
-use Rattle.row_content.specs.declared.table_kind.TableKind.TheVariants.{Subscribers, Numbers, Access, Facilities, Calls}
-use Rattle.row_content.specs.Content.{content_of, table_of}
-use Rattle.row_content.proofs.Contents.{content_held}
+use Rattle.tatp_check.specs.declared.table_kind.TableKind.{TableKind}
+use Rattle.tatp_check.specs.declared.table_kind.TableKind.TheVariants.{Subscribers, Numbers, Access, Facilities, Calls}
+use Rattle.tatp_check.specs.Content.{content_of, table_of}
+use Rattle.tatp_check.proofs.Contents.{content_held}
 use Rattle.tatp_check.specs.Order.{IsWholeKind}
 use Rattle.tatp_check.specs.References.{AreAllBound, Refers}
 use Rattle.tatp_check.proofs.Found.{wide}

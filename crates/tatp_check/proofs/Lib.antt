@@ -1,9 +1,17 @@
+pub mod Access
+pub mod Calls
+pub mod Contents
+pub mod Facilities
 pub mod Firsts
 pub mod Found
+pub mod Held
 pub mod Lawful
+pub mod Letters
+pub mod Numbers
 pub mod OneDatabase
 pub mod OneWord
 pub mod Referring
 pub mod Slices
 pub mod StandsFor
+pub mod Subscribers
 pub mod TableRows

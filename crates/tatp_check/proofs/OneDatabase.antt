@@ -15,8 +15,8 @@ use Rattle.tatp_layout.specs.Records.{RowForm, HoldsRow, subscriber_form, access
 use Rattle.tatp_layout.specs.StandsFor.{HasRows, StandsFor}
 use Rattle.tatp_layout.proofs.Decoded.{subscriber_back, access_back, facility_back, call_back}
 use Rattle.table_check.proofs.Mapped.{get_or-map}
-use Rattle.row_content.specs.declared.table_kind.TableKind.{TableKind}
-use Rattle.row_content.specs.declared.table_kind.TableKind.TheVariants.{Subscribers, Access, Facilities, Calls}
+use Rattle.tatp_check.specs.declared.table_kind.TableKind.{TableKind}
+use Rattle.tatp_check.specs.declared.table_kind.TableKind.TheVariants.{Subscribers, Access, Facilities, Calls}
 use Rattle.tatp_check.proofs.Lawful.{lawful_records, lawful_whole}
 use Rattle.tatp_check.proofs.OneWord.{same_records}
 

@@ -10,9 +10,9 @@ use Rattle.tatp_model.specs.Database.{Database}
 use Rattle.tatp_layout.specs.StandsFor.{StandsFor}
 use Rattle.table_check.specs.Faults.{IsFirstWrong}
 use Rattle.table_check.proofs.OneWord.{none_wrong, one_lists, one_wrong}
-use Rattle.row_content.specs.declared.table_kind.TableKind.{TableKind}
-use Rattle.row_content.specs.declared.table_kind.TableKind.TheVariants.{Subscribers, Numbers, Access, Facilities, Calls}
-use Rattle.row_content.specs.Content.{content_of, table_of}
+use Rattle.tatp_check.specs.declared.table_kind.TableKind.{TableKind}
+use Rattle.tatp_check.specs.declared.table_kind.TableKind.TheVariants.{Subscribers, Numbers, Access, Facilities, Calls}
+use Rattle.tatp_check.specs.Content.{content_of, table_of}
 use Rattle.tatp_check.specs.Order.{IsFirstWord, IsInTables, IsNotDb, IsWholeKind}
 use Rattle.tatp_check.specs.References.{AreAllBound, IsFirstUnbound, IsUnbound, Refers, kind_rank, reference_offset}
 use Rattle.tatp_check.proofs.Lawful.{lawful_bound, lawful_records, lawful_whole}

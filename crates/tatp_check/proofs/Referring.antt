@@ -5,9 +5,9 @@ use Rattle.std.proofs.lemmas.List.{drop_more, take_all, take-append-drop}
 use Rattle.std.proofs.lemmas.List.Elements.{Contains-append_right}
 use Rattle.dude_base.specs.declared.sizes.Sizes.{Sizes}
 use Rattle.table_check.specs.Taken.{Finds}
-use Rattle.row_content.specs.declared.table_kind.TableKind.{TableKind}
-use Rattle.row_content.specs.declared.table_kind.TableKind.TheVariants.{Subscribers, Numbers, Access, Facilities, Calls}
-use Rattle.row_content.specs.Content.{table_of}
+use Rattle.tatp_check.specs.declared.table_kind.TableKind.{TableKind}
+use Rattle.tatp_check.specs.declared.table_kind.TableKind.TheVariants.{Subscribers, Numbers, Access, Facilities, Calls}
+use Rattle.tatp_check.specs.Content.{table_of}
 use Rattle.tatp_check.specs.declared.walked.Walked.{Walked}
 use Rattle.tatp_check.specs.References.{AreBound, IsUnbound, Refers, reference_offset}
 use Rattle.tatp_check.specs.Walked.{AreWalked, records_of_kind}

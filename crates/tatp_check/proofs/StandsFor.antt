@@ -13,9 +13,9 @@ use Rattle.tatp_layout.specs.StandsFor.{HasRows, StandsFor}
 use Rattle.table_check.specs.Taken.{records_by_key}
 use Rattle.table_check.proofs.Lawful.{distinct_from_pairs, same_elements, whole_table}
 use Rattle.table_check.proofs.Mapped.{contains_map, contains_mapped, pairs_mapped}
-use Rattle.row_content.specs.declared.table_kind.TableKind.TheVariants.{Subscribers, Numbers, Access, Facilities, Calls}
-use Rattle.row_content.specs.Content.{content_of, table_of}
-use Rattle.row_content.proofs.Contents.{subscriber_row, access_row, facility_row, call_row}
+use Rattle.tatp_check.specs.declared.table_kind.TableKind.TheVariants.{Subscribers, Numbers, Access, Facilities, Calls}
+use Rattle.tatp_check.specs.Content.{content_of, table_of}
+use Rattle.tatp_check.proofs.Contents.{subscriber_row, access_row, facility_row, call_row}
 use Rattle.tatp_check.specs.declared.walked.Walked.{Walked}
 use Rattle.tatp_check.specs.References.{AreAllBound}
 use Rattle.tatp_check.specs.Walked.{AreWalked, database_in, records_of_kind}

@@ -1,3 +1,5 @@
+pub mod Content
+pub mod Tests
 pub mod References
 pub mod Order
 pub mod Walked

@@ -4,8 +4,8 @@ use Rattle.dude_base.specs.declared.sizes.Sizes.{Sizes}
 use Rattle.tatp_layout.specs.StandsFor.{IsLawful}
 use Rattle.table_check.specs.Faults.{IsFirstWrong}
 use Rattle.table_check.specs.Whole.{HasWhole}
-use Rattle.row_content.specs.declared.table_kind.TableKind.{TableKind}
-use Rattle.row_content.specs.Content.{content_of, table_of}
+use Rattle.tatp_check.specs.declared.table_kind.TableKind.{TableKind}
+use Rattle.tatp_check.specs.Content.{content_of, table_of}
 use Rattle.tatp_check.specs.References.{kind_rank, IsFirstUnbound}
 
 -- nothing is wrong in the table of this kind, whose chains have these records

@@ -1,7 +1,7 @@
 -- How the rows of one table refer to those of another, by the words of their records.
 use Rattle.std.specs.Prelude.{◌≡◌, ℕ, ◌+◌, ◌/◌, ◌<◌, List, ◌∷◌, ◌++◌, All, Any, slice_index}
-use Rattle.row_content.specs.declared.table_kind.TableKind.{TableKind}
-use Rattle.row_content.specs.declared.table_kind.TableKind.TheVariants.{Subscribers, Numbers, Access, Facilities, Calls}
+use Rattle.tatp_check.specs.declared.table_kind.TableKind.{TableKind}
+use Rattle.tatp_check.specs.declared.table_kind.TableKind.TheVariants.{Subscribers, Numbers, Access, Facilities, Calls}
 
 -- The record at this word refers to a record that is there, where the tables have these: a subscriber to the number record
 -- with its phone number, which has its s_id; a number record to the subscriber with its s_id, which has its number; an access

@@ -7,9 +7,9 @@ use Rattle.tatp_layout.specs.Decoding.{subscriber_in, access_in, facility_in, ca
 use Rattle.table_check.specs.declared.taken.Taken.{Taken}
 use Rattle.table_check.specs.Taken.{records_taken, records_by_key}
 use Rattle.table_check.specs.Whole.{KeepsWhole}
-use Rattle.row_content.specs.declared.table_kind.TableKind.{TableKind}
-use Rattle.row_content.specs.declared.table_kind.TableKind.TheVariants.{Subscribers, Numbers, Access, Facilities, Calls}
-use Rattle.row_content.specs.Content.{content_of, table_of}
+use Rattle.tatp_check.specs.declared.table_kind.TableKind.{TableKind}
+use Rattle.tatp_check.specs.declared.table_kind.TableKind.TheVariants.{Subscribers, Numbers, Access, Facilities, Calls}
+use Rattle.tatp_check.specs.Content.{content_of, table_of}
 use Rattle.tatp_check.specs.declared.walked.Walked.{Walked}
 
 -- what the walk through the table of this kind took in: its records, and the record of each key

@@ -5,8 +5,8 @@ ghost use Rattle.dude_base.specs.declared.limits.TheConstants.{PAGE};
 ghost use Rattle.tatp_check.specs.References.{AreBound, AreAllBound, IsFirstUnbound, IsUnbound, Refers, reference_offset};
 ghost use Rattle.tatp_check.specs.Walked.{AreWalked, records_of_kind};
 
+use crate::table_kind::TableKind;
 use crate::walked::Walked;
-use row_content::TableKind;
 use tatp_layout::Layout;
 
 const KINDS: [TableKind; 5] = [

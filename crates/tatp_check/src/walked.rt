@@ -5,11 +5,11 @@ ghost use Rattle.dude_base.specs.declared.limits.TheConstants.{PAGE};
 ghost use Rattle.hash_table.specs.Table.{FitsTable};
 ghost use Rattle.table_check.specs.Faults.{IsCause, IsFirstWrong};
 ghost use Rattle.table_check.specs.Whole.{KeepsWhole};
-ghost use Rattle.row_content.specs.Content.{content_of, table_of};
+ghost use Rattle.tatp_check.specs.Content.{content_of, table_of};
 ghost use Rattle.tatp_check.specs.Order.{IsInTables};
 ghost use Rattle.tatp_check.specs.Walked.{AreWalked, taken_of};
 
-use row_content::TableKind;
+use crate::table_kind::TableKind;
 use std::alloc::Global;
 use table_check::check_fault::CheckFault;
 use table_check::taken::Taken;

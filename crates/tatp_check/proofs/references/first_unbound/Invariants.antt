@@ -1,5 +1,5 @@
 use Rattle.std.proofs.Common.{◌<◌}
-use Rattle.row_content.specs.declared.table_kind.TableKind.{TableKind}
+use Rattle.tatp_check.specs.declared.table_kind.TableKind.{TableKind}
 use Rattle.tatp_check.specs.References.{AreBound, kind_rank}
 use Rattle.tatp_check.specs.Walked.{records_of_kind}
 use Rattle.tatp_check.proofs.references.first_unbound.Given as goal

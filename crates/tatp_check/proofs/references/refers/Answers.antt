@@ -1,5 +1,5 @@
 use Rattle.std.proofs.Common.{arith}
-use Rattle.row_content.specs.declared.table_kind.TableKind.TheVariants.{Subscribers, Numbers, Facilities}
+use Rattle.tatp_check.specs.declared.table_kind.TableKind.TheVariants.{Subscribers, Numbers, Facilities}
 use Rattle.tatp_check.proofs.Found.{found_inside}
 use Rattle.tatp_check.proofs.Referring.{refers_number, refers_subscriber, refers_owner, refers_facility, subscriber_inside, number_inside, front_inside}
 use Rattle.tatp_check.proofs.references.refers.Goals as goal

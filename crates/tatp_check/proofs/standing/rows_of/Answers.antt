@@ -1,5 +1,5 @@
 use Rattle.std.proofs.Common.{◌+◌, ◌≤◌, All, length, sym, ◌∙◌, subst}
-use Rattle.row_content.specs.declared.table_kind.TableKind.TheVariants.{Subscribers, Access, Facilities, Calls}
+use Rattle.tatp_check.specs.declared.table_kind.TableKind.TheVariants.{Subscribers, Access, Facilities, Calls}
 use Rattle.tatp_check.proofs.Found.{ordered_inside}
 use Rattle.tatp_check.proofs.standing.rows_of.Goals as goal
 

@@ -1,6 +1,6 @@
 use Rattle.std.proofs.Common.{◌≡◌, ℕ, ◌/◌, ◌%◌, ◌^◌, ◌<◌, true}
-use Rattle.row_content.specs.Tests.{is_letter}
-use Rattle.row_content.proofs.words.are_letters.Given as goal
+use Rattle.tatp_check.specs.Tests.{is_letter}
+use Rattle.tatp_check.proofs.words.are_letters.Given as goal
 
 -- the bytes so far are letters, and the rest of the word is left
 abbrev pub invariant-loop-i : goal.invariant-loop-i

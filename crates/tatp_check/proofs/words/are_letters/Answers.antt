@@ -1,8 +1,8 @@
 use Rattle.std.proofs.Common.{◌≡◌, ◌/◌, ◌%◌, ◌^◌, sym, ap, ◌∙◌, arith, below_more}
 use Rattle.tatp_layout.proofs.DigitLists.{shifted_more}
-use Rattle.row_content.specs.Tests.{is_letter}
-use Rattle.row_content.proofs.Letters.{not_letters, all_letters, is_letter-true, is_letter-false}
-use Rattle.row_content.proofs.words.are_letters.Goals as goal
+use Rattle.tatp_check.specs.Tests.{is_letter}
+use Rattle.tatp_check.proofs.Letters.{not_letters, all_letters, is_letter-true, is_letter-false}
+use Rattle.tatp_check.proofs.words.are_letters.Goals as goal
 
 pub returns-then-byte-lt65 : goal.returns-then-byte-lt65
 returns-then-byte-lt65 c =

@@ -10,8 +10,8 @@ use Rattle.tatp_layout.specs.Digits.{from_digits, to_digits}
 use Rattle.tatp_layout.specs.Records.{RowForm, HoldsRow}
 use Rattle.tatp_layout.proofs.Decoded.{held_word}
 use Rattle.tatp_layout.proofs.DigitLists.{digits_whole}
-use Rattle.row_content.specs.Content.{MayHold}
-use Rattle.row_content.specs.Tests.{is_id, is_kind_key}
+use Rattle.tatp_check.specs.Content.{MayHold}
+use Rattle.tatp_check.specs.Tests.{is_id, is_kind_key}
 
 -- the words of a row in range are such as a record may hold
 pub may_hold : {R : Type 0} {form : RowForm R} {InRange : R → Type 0} {array : List ℕ} {at : ℕ} {row : R} → InRange row → HoldsRow form array at row → (offset : ℕ) → MayHold form InRange offset (slice_index array (at + offset))

@@ -7,16 +7,16 @@ use Rattle.tatp_model.specs.Database.{IsSubRow, IsAccessRow, IsFacRow, IsCallRow
 use Rattle.tatp_layout.specs.Decoding.{subscriber_in, access_in, facility_in, call_in}
 use Rattle.tatp_layout.specs.Records.{RowForm, HoldsRow, subscriber_form, access_form, facility_form, call_form}
 use Rattle.table_check.proofs.Lawful.{HoldsContent}
-use Rattle.row_content.specs.Content.{MayHold, content_of}
-use Rattle.row_content.specs.Tests.{subscriber_word, number_word, access_word, facility_word, call_word}
-use Rattle.row_content.specs.declared.table_kind.TableKind.{TableKind}
-use Rattle.row_content.specs.declared.table_kind.TableKind.TheVariants.{Subscribers, Numbers, Access, Facilities, Calls}
-use Rattle.row_content.proofs.Access.{PassesAccess, access_in_range, access_held, access_passes, access_may}
-use Rattle.row_content.proofs.Calls.{PassesCall, call_in_range, call_held, call_passes, call_may, call_key_range, ends_range, number_range}
-use Rattle.row_content.proofs.Facilities.{PassesFacility, facility_in_range, facility_held, facility_passes, facility_may, front_range}
-use Rattle.row_content.proofs.Held.{may_hold}
-use Rattle.row_content.proofs.Numbers.{number_passes, number_may}
-use Rattle.row_content.proofs.Subscribers.{PassesSubscriber, subscriber_in_range, subscriber_held, subscriber_passes, subscriber_may, front_small}
+use Rattle.tatp_check.specs.Content.{MayHold, content_of}
+use Rattle.tatp_check.specs.Tests.{subscriber_word, number_word, access_word, facility_word, call_word}
+use Rattle.tatp_check.specs.declared.table_kind.TableKind.{TableKind}
+use Rattle.tatp_check.specs.declared.table_kind.TableKind.TheVariants.{Subscribers, Numbers, Access, Facilities, Calls}
+use Rattle.tatp_check.proofs.Access.{PassesAccess, access_in_range, access_held, access_passes, access_may}
+use Rattle.tatp_check.proofs.Calls.{PassesCall, call_in_range, call_held, call_passes, call_may, call_key_range, ends_range, number_range}
+use Rattle.tatp_check.proofs.Facilities.{PassesFacility, facility_in_range, facility_held, facility_passes, facility_may, front_range}
+use Rattle.tatp_check.proofs.Held.{may_hold}
+use Rattle.tatp_check.proofs.Numbers.{number_passes, number_may}
+use Rattle.tatp_check.proofs.Subscribers.{PassesSubscriber, subscriber_in_range, subscriber_held, subscriber_passes, subscriber_may, front_small}
 
 -- ---- the tests
 

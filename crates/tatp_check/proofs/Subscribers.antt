@@ -9,9 +9,9 @@ use Rattle.tatp_layout.specs.Decoding.{subscriber_in}
 use Rattle.tatp_layout.specs.Digits.{from_digits, to_digits}
 use Rattle.tatp_layout.specs.Records.{HoldsRow, subscriber_form}
 use Rattle.tatp_layout.proofs.DigitLists.{digits_below, digits_whole}
-use Rattle.row_content.specs.Content.{MayHold}
-use Rattle.row_content.specs.Tests.{is_id, subscriber_word}
-use Rattle.row_content.proofs.Held.{may_hold, may_past, may_link, long, each_digit, made, at_offset, small, is_id-true, id_range}
+use Rattle.tatp_check.specs.Content.{MayHold}
+use Rattle.tatp_check.specs.Tests.{is_id, subscriber_word}
+use Rattle.tatp_check.proofs.Held.{may_hold, may_past, may_link, long, each_digit, made, at_offset, small, is_id-true, id_range}
 
 -- ---- the row of a record whose words pass the tests
 

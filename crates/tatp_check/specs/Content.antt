@@ -5,8 +5,8 @@ use Rattle.hash_table.specs.declared.table.Table.{Table}
 use Rattle.tatp_model.specs.Database.{IsSubRow, IsAccessRow, IsFacRow, IsCallRow}
 use Rattle.tatp_layout.specs.Layout.{subscriber_table, number_table, access_table, facility_table, call_table}
 use Rattle.tatp_layout.specs.Records.{RowForm, subscriber_form, number_form, access_form, facility_form, call_form}
-use Rattle.row_content.specs.declared.table_kind.TableKind.{TableKind}
-use Rattle.row_content.specs.declared.table_kind.TableKind.TheVariants.{Subscribers, Numbers, Access, Facilities, Calls}
+use Rattle.tatp_check.specs.declared.table_kind.TableKind.{TableKind}
+use Rattle.tatp_check.specs.declared.table_kind.TableKind.TheVariants.{Subscribers, Numbers, Access, Facilities, Calls}
 
 -- the table of this kind in a home of these sizes
 abbrev pub table_of : TableKind → Sizes → Table

@@ -1,6 +1,6 @@
 use Rattle.std.proofs.Common.{arith}
-use Rattle.row_content.proofs.Contents.{subscribers_allow, numbers_allow, access_allows, facilities_allow, calls_allow}
-use Rattle.row_content.proofs.table_kind.TableKindContent.allows.Goals as goal
+use Rattle.tatp_check.proofs.Contents.{subscribers_allow, numbers_allow, access_allows, facilities_allow, calls_allow}
+use Rattle.tatp_check.proofs.table_kind.TableKindContent.allows.Goals as goal
 
 pub returns-in-Subscribers : goal.returns-in-Subscribers
 returns-in-Subscribers c = subscribers_allow c.args.self.now c.args.offset c.args.word c.is_subscriber_word.result c.in-Subscribers.is c.is_subscriber_word.ensures (omega arith)

@@ -3,7 +3,7 @@
 ghost use Rattle.std.specs.Prelude.{◌≡◌, ◌*◌};
 ghost use Rattle.dude_base.specs.declared.limits.TheConstants.{PAGE};
 ghost use Rattle.hash_table.specs.Table.{FitsTable};
-ghost use Rattle.row_content.specs.Content.{table_of};
+ghost use Rattle.tatp_check.specs.Content.{table_of};
 
 use crate::words::{
     is_access_word, is_call_word, is_facility_word, is_number_word, is_subscriber_word,
@@ -40,7 +40,7 @@ impl TableKind {
 }
 
 impl Content for TableKind {
-    ghost use Rattle.row_content.specs.Content.{content_of};
+    ghost use Rattle.tatp_check.specs.Content.{content_of};
 
     ghost MayHold = { content_of };
 

@@ -5,10 +5,10 @@ use Rattle.std.proofs.lemmas.Bool.Decides.{nat_tests}
 use Rattle.tatp_model.specs.Database.{IsSubRow}
 use Rattle.tatp_layout.specs.Decoding.{subscriber_in}
 use Rattle.tatp_layout.specs.Records.{number_form}
-use Rattle.row_content.specs.Content.{MayHold}
-use Rattle.row_content.specs.Tests.{is_id, number_word}
-use Rattle.row_content.proofs.Held.{may_past, may_link, at_offset, small, is_id-true}
-use Rattle.row_content.proofs.Subscribers.{PassesSubscriber, passes_with, subscriber_in_range}
+use Rattle.tatp_check.specs.Content.{MayHold}
+use Rattle.tatp_check.specs.Tests.{is_id, number_word}
+use Rattle.tatp_check.proofs.Held.{may_past, may_link, at_offset, small, is_id-true}
+use Rattle.tatp_check.proofs.Subscribers.{PassesSubscriber, passes_with, subscriber_in_range}
 
 module _ (word : ℕ) where
   phone_passes : MayHold number_form IsSubRow 0 word → number_word 0 word ≡ true

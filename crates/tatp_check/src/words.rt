@@ -1,7 +1,7 @@
 //! Which words the records of each kind of table may hold.
 
 ghost use Rattle.std.specs.Prelude.{◌≡◌, ◌≤◌, ◌<◌};
-ghost use Rattle.row_content.specs.Tests.{access_word, are_letters, call_word, facility_word, is_id, is_kind_key, number_word, subscriber_word};
+ghost use Rattle.tatp_check.specs.Tests.{access_word, are_letters, call_word, facility_word, is_id, is_kind_key, number_word, subscriber_word};
 
 const PHONES: u64 = 1_000_000_000_000_000;
 

@@ -7,10 +7,10 @@ use Rattle.tatp_layout.specs.Decoding.{facility_in}
 use Rattle.tatp_layout.specs.Digits.{from_digits, to_digits}
 use Rattle.tatp_layout.specs.Records.{HoldsRow, facility_form}
 use Rattle.tatp_layout.proofs.DigitLists.{digits_front}
-use Rattle.row_content.specs.Content.{MayHold}
-use Rattle.row_content.specs.Tests.{is_kind_key, are_letters, facility_word}
-use Rattle.row_content.proofs.Held.{may_hold, may_past, may_link, at_offset, long, made, kind_key_range, is_kind_key-true}
-use Rattle.row_content.proofs.Letters.{letters_small, letters_all, letters_made}
+use Rattle.tatp_check.specs.Content.{MayHold}
+use Rattle.tatp_check.specs.Tests.{is_kind_key, are_letters, facility_word}
+use Rattle.tatp_check.proofs.Held.{may_hold, may_past, may_link, at_offset, long, made, kind_key_range, is_kind_key-true}
+use Rattle.tatp_check.proofs.Letters.{letters_small, letters_all, letters_made}
 
 pub record PassesFacility (array : List ℕ) (at : ℕ) : Type 0 where
   pub key : is_kind_key (slice_index array at) ≡ true

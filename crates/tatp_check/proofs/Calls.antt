@@ -5,9 +5,9 @@ use Rattle.std.proofs.lemmas.Bool.Decides.{nat_tests}
 use Rattle.tatp_model.specs.Database.{IsCallRow}
 use Rattle.tatp_layout.specs.Decoding.{call_in}
 use Rattle.tatp_layout.specs.Records.{HoldsRow, call_form}
-use Rattle.row_content.specs.Content.{MayHold}
-use Rattle.row_content.specs.Tests.{call_word}
-use Rattle.row_content.proofs.Held.{may_hold, may_past, may_link, at_offset}
+use Rattle.tatp_check.specs.Content.{MayHold}
+use Rattle.tatp_check.specs.Tests.{call_word}
+use Rattle.tatp_check.proofs.Held.{may_hold, may_past, may_link, at_offset}
 
 pub record PassesCall (array : List ℕ) (at : ℕ) : Type 0 where
   pub key : (12 ≤ slice_index array at) × (slice_index array at < 12 * 2 ^ 32)
