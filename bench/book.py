@@ -17,7 +17,7 @@ OUT = f"{TOP}/out/book"
 
 # The towers of the picture, from the program down, each with its rows of crates; what none of them names comes last.
 TOWERS = [
-    ("Program", ["dude", "dude_program", "command_words command_files command_output command_openings"]),
+    ("Program", ["dude", "dude_program", "command_words command_edges command_openings"]),
     ("Runs", ["dude_engine", "run_log run_order"]),
     ("Images", ["image_format image_opening dude_recover", "image_recovery"]),
     ("Log", ["back_store", "backlog", "log_ring", "redo_record group_combine"]),

@@ -28,8 +28,8 @@ use Rattle.pmem_trait.proofs.Runs.{risen_later}
 use Rattle.image_opening.specs.declared.opened.Opened.{Opened}
 use Rattle.image_opening.specs.Opened.{HasToldNoMore, HoldsOpened, IsOpened}
 use Rattle.command_openings.proofs.OneOpening.{one_opening, opening_with}
-use Rattle.command_output.specs.declared.fault.Fault.{Fault}
-use Rattle.command_output.specs.declared.fault.Fault.TheVariants.{Device}
+use Rattle.command_edges.specs.declared.fault.Fault.{Fault}
+use Rattle.command_edges.specs.declared.fault.Fault.TheVariants.{Device}
 use Rattle.tatp_model.specs.Database.{Database}
 use Rattle.command_openings.specs.Begun.{Begins, IsBeginning, ShowsOpening, TellsAtMost}
 use Rattle.command_openings.specs.Faults.{HasFormatFault, HasOpenFault, IsFaultOfFormat, IsSized, fault_of_opening}

@@ -12,8 +12,8 @@ use Rattle.image_recovery.specs.declared.open_fault.OpenFault.TheVariants as ope
 use Rattle.image_format.specs.Causes.{FitsImage}
 use Rattle.image_format.specs.declared.format_fault.FormatFault.{FormatFault}
 use Rattle.image_format.specs.declared.format_fault.FormatFault.TheVariants as format
-use Rattle.command_output.specs.declared.fault.Fault.{Fault}
-use Rattle.command_output.specs.declared.fault.Fault.TheVariants.{Small, TooFew, Unformatted, Damaged, NotDb, Device, Memory}
+use Rattle.command_edges.specs.declared.fault.Fault.{Fault}
+use Rattle.command_edges.specs.declared.fault.Fault.TheVariants.{Small, TooFew, Unformatted, Damaged, NotDb, Device, Memory}
 
 -- Why no image of these sizes was made: the first that fits, and the medium is as it was; or the image fits, and the last
 -- call failed, or there was no memory.

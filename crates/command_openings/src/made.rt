@@ -12,7 +12,7 @@ ghost use Rattle.command_openings.specs.Begun.{Begins, IsBeginning};
 ghost use Rattle.command_openings.specs.Faults.{HasFormatFault, IsFaultOfFormat, IsSized};
 ghost use Rattle.command_openings.specs.Openings.{new_opening};
 
-use command_output::Fault;
+use command_edges::Fault;
 use dude_base::sizes::Sizes;
 use image_format::{FormatFault, make_image};
 use image_opening::Opened;

@@ -8,12 +8,12 @@ ghost use Rattle.back_store.specs.BackView.{medium_of};
 ghost use Rattle.image_opening.specs.Opened.{HoldsOpened, IsOpened};
 ghost use Rattle.dude_engine.specs.Opening.{Opening};
 ghost use Rattle.dude_engine.specs.Plain.{IsOpeningOf};
-ghost use Rattle.command_output.specs.declared.fault.Fault.TheVariants.{Device};
+ghost use Rattle.command_edges.specs.declared.fault.Fault.TheVariants.{Device};
 ghost use Rattle.command_openings.specs.Begun.{Begins, IsBeginning, ShowsOpening, TellsAtMost};
 ghost use Rattle.command_openings.specs.Faults.{HasOpenFault, fault_of_opening};
 ghost use Rattle.command_openings.specs.Openings.{IsOpeningOn};
 
-use command_output::Fault;
+use command_edges::Fault;
 use image_opening::{Opened, open};
 use image_recovery::OpenFault;
 use pmem_trait::Medium;

@@ -5,7 +5,7 @@
 #![tactic(auto)]
 
 ghost use Rattle.std.specs.Prelude.{◌≡◌, ◌⊎◌, Some};
-ghost use Rattle.command_output.specs.Fault.{status_of};
+ghost use Rattle.command_edges.specs.Fault.{status_of};
 
 use dude_io::{EdgeFault, FilePmem, RealFiles, RealSink};
 use dude_program::{Fault, fault_text};

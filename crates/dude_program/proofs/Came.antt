@@ -17,8 +17,8 @@ use Rattle.image_format.specs.Causes.{FitsImage}
 use Rattle.command_words.specs.Command.{Meaning}
 use Rattle.dude_engine.specs.Opening.{Opening}
 use Rattle.dude_engine.specs.Plain.{IsWhole}
-use Rattle.command_output.specs.declared.fault.Fault.{Fault}
-use Rattle.command_output.specs.declared.fault.Fault.TheVariants.{Device, Memory}
+use Rattle.command_edges.specs.declared.fault.Fault.{Fault}
+use Rattle.command_edges.specs.declared.fault.Fault.TheVariants.{Device, Memory}
 use Rattle.command_openings.specs.Begun.{Begins}
 use Rattle.command_openings.specs.Openings.{IsOpeningOn, new_opening}
 use Rattle.command_openings.proofs.OneOpening.{one_opening}

@@ -10,8 +10,8 @@ use Rattle.image_recovery.specs.Recovered.{Recovery, Unformatted, Damaged, NotDb
 use Rattle.image_format.specs.Causes.{FitsImage}
 use Rattle.command_words.specs.Command.{Meaning}
 use Rattle.dude_engine.specs.Opening.{Opening}
-use Rattle.command_output.specs.declared.fault.Fault.{Fault}
-use Rattle.command_output.specs.declared.fault.Fault.TheVariants as fault
+use Rattle.command_edges.specs.declared.fault.Fault.{Fault}
+use Rattle.command_edges.specs.declared.fault.Fault.TheVariants as fault
 use Rattle.command_openings.specs.Openings.{IsOpeningOn}
 use Rattle.command_openings.proofs.OneOpening.{content_of, one_recovery}
 use Rattle.dude_program.specs.Causes.{RefusesContent, RefusesFormat, sizes_made}

@@ -12,9 +12,9 @@ use Rattle.dude_io.specs.Sink.{SinkSight, Took}
 use Rattle.command_words.specs.Command.{Meaning}
 use Rattle.dude_engine.specs.Endings.{End}
 use Rattle.dude_engine.specs.Opening.{Opening, IsOpening}
-use Rattle.command_output.specs.declared.fault.Fault.{Fault}
-use Rattle.command_output.specs.declared.fault.Fault.TheVariants.{Usage, File, Text, Small, TooFew, Unformatted, Damaged, NotDb, ManyFiles, Frames, FewSubscribers, Numbers, Device, Output, Memory}
-use Rattle.command_output.specs.Printing.{StopsIn}
+use Rattle.command_edges.specs.declared.fault.Fault.{Fault}
+use Rattle.command_edges.specs.declared.fault.Fault.TheVariants.{Usage, File, Text, Small, TooFew, Unformatted, Damaged, NotDb, ManyFiles, Frames, FewSubscribers, Numbers, Device, Output, Memory}
+use Rattle.command_edges.specs.Printing.{StopsIn}
 use Rattle.command_openings.specs.Openings.{IsOpeningOn}
 use Rattle.dude_program.specs.World.{SinkStays, world_of}
 use Rattle.dude_program.specs.Opening.{IsReachable, Starts, makes_image, output_for}

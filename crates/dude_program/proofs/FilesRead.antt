@@ -8,10 +8,10 @@ use Rattle.tatp_model.specs.declared.request.Request.{Request}
 use Rattle.request_reader.specs.RequestFile.{requests_of}
 use Rattle.dude_io.specs.Files.{FilesSight, FilesStay}
 use Rattle.dude_io.proofs.ReadLaws.{files_stay}
-use Rattle.command_files.specs.Files.{IsBadAt, IsFirst, IsFirstBad, IsGoodFile, MissesFile, OfFile}
+use Rattle.command_edges.specs.Files.{IsBadAt, IsFirst, IsFirstBad, IsGoodFile, MissesFile, OfFile}
 use Rattle.command_words.specs.Command.{Meaning}
-use Rattle.command_output.specs.declared.fault.Fault.{Fault}
-use Rattle.command_output.specs.declared.fault.Fault.TheVariants.{Text}
+use Rattle.command_edges.specs.declared.fault.Fault.{Fault}
+use Rattle.command_edges.specs.declared.fault.Fault.TheVariants.{Text}
 use Rattle.dude_program.specs.Opening.{file_names}
 
 -- The files of the command were read, and hold these lists of requests.

@@ -4,11 +4,11 @@ use Rattle.std.specs.List.{AllZip}
 use Rattle.tatp_model.specs.declared.request.Request.{Request}
 use Rattle.dude_io.specs.Files.{FilesSight}
 use Rattle.command_words.specs.Command.{Meaning, Meaning.FreshRun, Meaning.FormatImage, Meaning.RunFiles, Meaning.RecoverImage, Meaning.DumpTables, Meaning.DriveLoad}
-use Rattle.command_files.specs.Files.{OfFile}
+use Rattle.command_edges.specs.Files.{OfFile}
 use Rattle.dude_engine.specs.Opening.{Opening}
 use Rattle.dude_engine.specs.Requests.{request_count}
-use Rattle.command_output.specs.declared.fault.Fault.{Fault}
-use Rattle.command_output.specs.declared.fault.Fault.TheVariants.{Usage, File, Text, Small, TooFew, Unformatted, Damaged, NotDb, ManyFiles, Frames, FewSubscribers, Numbers, Device, Output, Memory}
+use Rattle.command_edges.specs.declared.fault.Fault.{Fault}
+use Rattle.command_edges.specs.declared.fault.Fault.TheVariants.{Usage, File, Text, Small, TooFew, Unformatted, Damaged, NotDb, ManyFiles, Frames, FewSubscribers, Numbers, Device, Output, Memory}
 use Rattle.dude_program.specs.Opening.{RequestsAre}
 use Rattle.dude_program.specs.Causes.{RefusesOpening, WantsFrames, WantsNumbers, WantsSubscribers, files_run}
 

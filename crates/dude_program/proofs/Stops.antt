@@ -16,11 +16,11 @@ use Rattle.dude_io.specs.Sink.{SinkSight}
 use Rattle.image_opening.specs.Answers.{StillRecovers}
 use Rattle.image_opening.proofs.SettledReads.{content_kept}
 use Rattle.command_words.specs.Command.{Meaning, Meaning.FreshRun, Meaning.FormatImage, Meaning.RunFiles, Meaning.RecoverImage, Meaning.DumpTables, Meaning.DriveLoad}
-use Rattle.command_files.specs.Files.{HasFileFault, MissesFile}
-use Rattle.command_files.specs.Files as read
+use Rattle.command_edges.specs.Files.{HasFileFault, MissesFile}
+use Rattle.command_edges.specs.Files as read
 use Rattle.dude_engine.specs.Opening.{Opening}
-use Rattle.command_output.specs.declared.fault.Fault.{Fault}
-use Rattle.command_output.specs.declared.fault.Fault.TheVariants.{Usage, File, Text, Small, TooFew, Unformatted, Damaged, NotDb, ManyFiles, Frames, FewSubscribers, Numbers, Device, Output, Memory}
+use Rattle.command_edges.specs.declared.fault.Fault.{Fault}
+use Rattle.command_edges.specs.declared.fault.Fault.TheVariants.{Usage, File, Text, Small, TooFew, Unformatted, Damaged, NotDb, ManyFiles, Frames, FewSubscribers, Numbers, Device, Output, Memory}
 use Rattle.command_openings.specs.Begun.{IsBeginning, ShowsOpening}
 use Rattle.command_openings.specs.Faults.{HasFormatFault, HasOpenFault}
 use Rattle.command_openings.specs.Openings.{IsOpeningOn, new_opening}

@@ -10,15 +10,15 @@ use Rattle.std.proofs.lemmas.List.Sums.{fold-append}
 use Rattle.pmem_trait.specs.Sights.{Sight}
 use Rattle.tatp_model.specs.declared.request.Request.{Request}
 use Rattle.dude_io.specs.Sink.{SinkSight, Took}
-use Rattle.command_output.specs.Printing.{FailsIn}
-use Rattle.command_files.specs.Files.{requests_in}
+use Rattle.command_edges.specs.Printing.{FailsIn}
+use Rattle.command_edges.specs.Files.{requests_in}
 use Rattle.dude_engine.specs.Requests.{request_count}
 use Rattle.dude_engine.specs.declared.ran.RanEnd.{RanEnd}
 use Rattle.dude_engine.specs.declared.ran.RanEnd.TheVariants.{Whole, NoMemory}
 use Rattle.dude_engine.specs.declared.ran.RanEnd.TheVariants as ran
 use Rattle.dude_engine.specs.Plain as plain
-use Rattle.command_output.specs.declared.fault.Fault.{Fault}
-use Rattle.command_output.specs.declared.fault.Fault.TheVariants.{Device, Memory}
+use Rattle.command_edges.specs.declared.fault.Fault.{Fault}
+use Rattle.command_edges.specs.declared.fault.Fault.TheVariants.{Device, Memory}
 use Rattle.dude_program.specs.Causes.{RanUnlessDevice}
 use Rattle.dude_program.specs.Work.{PrintsText, fault_of_end}
 

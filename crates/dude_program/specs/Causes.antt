@@ -14,11 +14,11 @@ use Rattle.dude_io.specs.Files.{FilesSight, FilesStay}
 use Rattle.redo_record.specs.Recovery.{IsFormatted, IsDamaged}
 use Rattle.image_recovery.specs.Recovered.{IsNoDatabase, RecoversTo}
 use Rattle.command_words.specs.Command.{Meaning, Meaning.FreshRun, Meaning.FormatImage, Meaning.RunFiles, Meaning.DriveLoad}
-use Rattle.command_files.specs.Files.{IsFirstBad, IsFirstUnread, IsGoodFile, MissesFile}
+use Rattle.command_edges.specs.Files.{IsFirstBad, IsFirstUnread, IsGoodFile, MissesFile}
 use Rattle.dude_engine.specs.Opening.{Opening, IsOpening}
 use Rattle.dude_engine.specs.Requests.{request_count}
-use Rattle.command_output.specs.declared.fault.Fault.{Fault}
-use Rattle.command_output.specs.declared.fault.Fault.TheVariants.{Usage, File, Text, Small, TooFew, Unformatted, Damaged, NotDb, ManyFiles, Frames, FewSubscribers, Numbers, Device, Output, Memory}
+use Rattle.command_edges.specs.declared.fault.Fault.{Fault}
+use Rattle.command_edges.specs.declared.fault.Fault.TheVariants.{Usage, File, Text, Small, TooFew, Unformatted, Damaged, NotDb, ManyFiles, Frames, FewSubscribers, Numbers, Device, Output, Memory}
 use Rattle.dude_program.specs.Opening.{RequestsAre, Starts, file_names, fresh_sizes, makes_image}
 use Rattle.dude_program.specs.World.{World, IsSameWorld, SinkStays}
 

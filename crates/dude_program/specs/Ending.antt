@@ -1,7 +1,7 @@
 -- How a command that means something ended.
 use Rattle.std.specs.Prelude.{Option, List}
 use Rattle.tatp_model.specs.declared.done.Done.{Done}
-use Rattle.command_output.specs.declared.fault.Fault.{Fault}
+use Rattle.command_edges.specs.declared.fault.Fault.{Fault}
 use Rattle.command_words.specs.Command.{Meaning}
 use Rattle.dude_program.specs.World.{World}
 use Rattle.dude_program.specs.Headline.{Headline}

@@ -17,8 +17,8 @@ use Rattle.dude_io.specs.Sink.{SinkSight}
 use Rattle.run_order.specs.Runs.{SyncsFollow}
 use Rattle.dude_engine.specs.Opening.{Opening, IsOpening, RecoversAt}
 use Rattle.dude_engine.specs.Endings.{AreSyncsTold, End}
-use Rattle.command_output.specs.declared.fault.Fault.{Fault}
-use Rattle.command_output.specs.declared.fault.Fault.TheVariants.{Output, Memory}
+use Rattle.command_edges.specs.declared.fault.Fault.{Fault}
+use Rattle.command_edges.specs.declared.fault.Fault.TheVariants.{Output, Memory}
 use Rattle.command_words.specs.Command.{Meaning}
 use Rattle.dude_program.specs.World.{World}
 use Rattle.command_openings.specs.Begun.{TellsAtMost}

@@ -15,9 +15,9 @@ use Rattle.dude_engine.specs.Endings.{AreSyncsTold}
 use Rattle.dude_engine.specs.Opening.{Opening}
 use Rattle.dude_engine.specs.Plain.{IsWhole, RecoversOnTheRun}
 use Rattle.dude_engine.specs.Requests.{request_count}
-use Rattle.command_output.specs.declared.fault.Fault.{Fault}
-use Rattle.command_output.specs.declared.fault.Fault.TheVariants.{ManyFiles, Frames, FewSubscribers, Numbers, Device, Memory}
-use Rattle.command_output.specs.Printing.{StopsIn}
+use Rattle.command_edges.specs.declared.fault.Fault.{Fault}
+use Rattle.command_edges.specs.declared.fault.Fault.TheVariants.{ManyFiles, Frames, FewSubscribers, Numbers, Device, Memory}
+use Rattle.command_edges.specs.Printing.{StopsIn}
 use Rattle.command_words.specs.Command.{Meaning}
 use Rattle.dude_program.specs.Causes.{RanUnlessDevice, WantsFrames}
 

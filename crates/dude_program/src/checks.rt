@@ -3,14 +3,14 @@
 ghost use Rattle.std.specs.Prelude.{◌≡◌, ◌<◌, ◌≤◌, ◌+◌, ◌*◌, ℕ, List, Option, length, All, OnOk, IfErr};
 ghost use Rattle.dude_base.specs.declared.limits.TheConstants.{MAX_NUMBER};
 ghost use Rattle.image_opening.specs.Opened.{IsOpened};
-ghost use Rattle.command_files.specs.Files.{requests_in};
+ghost use Rattle.command_edges.specs.Files.{requests_in};
 ghost use Rattle.command_words.specs.Command.{Meaning.RunFiles};
 ghost use Rattle.dude_engine.specs.Requests.{request_count};
-ghost use Rattle.command_output.specs.declared.fault.Fault.TheVariants.{Frames};
+ghost use Rattle.command_edges.specs.declared.fault.Fault.TheVariants.{Frames};
 ghost use Rattle.dude_program.specs.Causes.{WantsFrames};
 ghost use Rattle.dude_program.specs.Work.{HasFewNumbers, HasManyFiles, RefusesRun};
 
-use command_output::Fault;
+use command_edges::Fault;
 use dude_base::limits::{MAX_NUMBER, MIN_FRAMES};
 use image_opening::Opened;
 use pmem_trait::Medium;

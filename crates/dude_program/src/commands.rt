@@ -6,7 +6,7 @@ ghost use Rattle.pmem_trait.specs.Words.{IsSettled};
 ghost use Rattle.pmem_trait.specs.Sights.{state_now};
 ghost use Rattle.command_words.specs.Command.{IsBetween, Meaning.FreshRun, Meaning.FormatImage, Meaning.RunFiles, Meaning.RecoverImage, Meaning.DumpTables, Meaning.DriveLoad};
 ghost use Rattle.dude_io.specs.Files.{FilesSight};
-ghost use Rattle.command_output.specs.Fault.{status_of};
+ghost use Rattle.command_edges.specs.Fault.{status_of};
 ghost use Rattle.dude_program.specs.Ending.{Ends};
 ghost use Rattle.dude_program.specs.World.{world_of};
 
@@ -15,7 +15,7 @@ use crate::ended::Ended;
 use crate::load::{Load, make_load};
 use crate::output::{end_with_lines, end_with_summary, print_dump};
 use crate::worked::{idle, work};
-use command_files::read_files;
+use command_edges::read_files;
 use command_openings::{make_and_open, open_and_announce};
 use dude_base::sizes::Sizes;
 use dude_io::{Files, Sink};

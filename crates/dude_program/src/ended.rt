@@ -1,9 +1,9 @@
 //! How a command ended, with the medium that was handed in.
 
 ghost use Rattle.std.specs.Prelude.{◌≡◌, [], Some};
-ghost use Rattle.command_output.specs.Fault.{status_of};
+ghost use Rattle.command_edges.specs.Fault.{status_of};
 
-use command_output::Fault;
+use command_edges::Fault;
 use std::alloc::Global;
 use tatp_model::Done;
 

@@ -12,6 +12,6 @@ mod output;
 mod top;
 mod worked;
 
-pub use command_output::{Fault, fault_text};
+pub use command_edges::{Fault, fault_text};
 pub use ended::Ended;
 pub use top::dude;

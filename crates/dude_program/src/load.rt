@@ -3,13 +3,13 @@
 ghost use Rattle.std.specs.Prelude.{◌≡◌, ◌≤◌, ◌+◌, ◌*◌, length, All, IfOk, IfErr, OnOk};
 ghost use Rattle.dude_base.specs.declared.limits.TheConstants.{MAX_NUMBER};
 ghost use Rattle.image_opening.specs.Opened.{IsOpened};
-ghost use Rattle.command_files.specs.Files.{requests_in};
+ghost use Rattle.command_edges.specs.Files.{requests_in};
 ghost use Rattle.dude_engine.specs.Requests.{AreInRange, request_count};
 ghost use Rattle.dude_program.specs.Opening.{load_of};
 ghost use Rattle.dude_program.specs.Work.{RefusesLoad};
 
 use crate::checks::{check_numbers, check_rings};
-use command_output::Fault;
+use command_edges::Fault;
 use image_opening::Opened;
 use pmem_trait::Medium;
 use std::alloc::{AllocError, Global};

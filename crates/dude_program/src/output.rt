@@ -7,12 +7,12 @@ ghost use Rattle.tatp_text.specs.Output.{output_of};
 ghost use Rattle.tatp_text.specs.Dump.{dump_text};
 ghost use Rattle.tatp_text.specs.Summary.{summary_of};
 ghost use Rattle.image_opening.specs.Opened.{IsOpened};
-ghost use Rattle.command_output.specs.Fault.{status_of};
+ghost use Rattle.command_edges.specs.Fault.{status_of};
 ghost use Rattle.dude_program.specs.Work.{PrintsText};
 
 use crate::ended::Ended;
 use crate::worked::Worked;
-use command_output::{Fault, print_lines, print_text};
+use command_edges::{Fault, print_lines, print_text};
 use dude_io::Sink;
 use image_opening::Opened;
 use pmem_trait::Medium;

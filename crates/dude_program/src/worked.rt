@@ -4,13 +4,13 @@ ghost use Rattle.std.specs.Prelude.{◌≡◌, ℕ, ◌+◌, ◌*◌, ◌≤◌,
 ghost use Rattle.dude_base.specs.declared.limits.TheConstants.{MAX_NUMBER};
 ghost use Rattle.back_store.specs.BackView.{medium_of};
 ghost use Rattle.image_opening.specs.Opened.{IsOpened};
-ghost use Rattle.command_files.specs.Files.{requests_in};
+ghost use Rattle.command_edges.specs.Files.{requests_in};
 ghost use Rattle.dude_engine.specs.Opening.{Opening};
 ghost use Rattle.dude_engine.specs.Plain.{IsOpeningOf};
 ghost use Rattle.dude_engine.specs.Requests.{AreInRange, request_count};
 ghost use Rattle.dude_program.specs.Work.{RanOver, fault_of_end};
 
-use command_output::Fault;
+use command_edges::Fault;
 use dude_engine::{RanEnd, plain};
 use image_opening::Opened;
 use pmem_trait::Medium;

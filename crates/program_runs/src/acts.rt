@@ -4,7 +4,7 @@ use crate::found::found_text;
 use crate::outcome::Outcome;
 use crate::scene::{Scene, files_of, medium_of, sink_of};
 use crate::setup::changed;
-use command_output::{Fault, fault_text};
+use command_edges::{Fault, fault_text};
 use dude_base::sizes::Sizes;
 use dude_io::{Files, Sink};
 use dude_program::dude;

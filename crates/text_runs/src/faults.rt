@@ -1,7 +1,7 @@
 //! The statuses and the lines of faults.
 
 use crate::page::push_count;
-use command_output::{Fault, fault_text};
+use command_edges::{Fault, fault_text};
 use std::alloc::AllocError;
 
 /// A fault of each kind, with numbers of its own.

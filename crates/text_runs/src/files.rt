@@ -1,15 +1,14 @@
 //! The files of a command, read by their names.
 
 ghost use Rattle.std.specs.Prelude.{All, IfOk};
-ghost use Rattle.command_files.specs.Files.{requests_in};
+ghost use Rattle.command_edges.specs.Files.{requests_in};
 ghost use Rattle.tatp_model.specs.Request.{IsInRange};
 
 use crate::page::push_count;
 use crate::requests::push_requests;
 use crate::stop::Stop;
 use crate::words::shared_words;
-use command_files::read_files;
-use command_output::{Fault, fault_text};
+use command_edges::{Fault, fault_text, read_files};
 use dude_io::{MemFile, MemFiles};
 use std::alloc::AllocError;
 use tatp_model::Request;

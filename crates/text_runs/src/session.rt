@@ -9,7 +9,7 @@ use crate::requests::read;
 use crate::stop::Stop;
 use crate::text::{numbers_among, text_of};
 use crate::words::words;
-use command_output::{Fault, fault_text, print_lines, print_text};
+use command_edges::{Fault, fault_text, print_lines, print_text};
 use dude_io::{MemFile, MemSink};
 use script_words::{is_remark, words_of};
 use std::alloc::{AllocError, Global};

@@ -5,7 +5,7 @@ use Rattle.std.proofs.lemmas.Slice.Zip.{AllZip-long}
 use Rattle.dude_base.specs.declared.sizes.Sizes.{Sizes}
 use Rattle.tatp_model.specs.declared.request.Request.{Request}
 use Rattle.command_words.specs.Command.{Meaning.FreshRun}
-use Rattle.command_files.specs.Files.{OfFile, requests_in}
+use Rattle.command_edges.specs.Files.{OfFile, requests_in}
 use Rattle.dude_engine.specs.Requests.{request_count}
 use Rattle.dude_program.proofs.Endings.{ends_printed}
 use Rattle.dude_program.proofs.Stops.{ends_at_files, ends_at_format, front_at_rest}

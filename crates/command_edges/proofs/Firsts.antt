@@ -1,0 +1,77 @@
+-- The first element of a list that is as said.
+use Rattle.std.proofs.Common.{◌≡◌, ℕ, ◌+◌, ◌<◌, ◌≤◌, List, [], ◌∷◌, ◌++◌, length, get_or, take, drop, map, refl, sym, ◌∙◌, ap, subst, arith, add-one}
+use Rattle.std.specs.Prelude.{All}
+use Rattle.std.specs.List.{AllZip}
+use Rattle.std.proofs.Math.Seq.{drop-cons}
+use Rattle.std.proofs.lemmas.List.{take-append-drop, length-append, length-take-le, map-append, length-map}
+use Rattle.std.proofs.lemmas.List.Elements.{All-nil, All-cons, All-head, All-tail}
+use Rattle.command_edges.specs.Files.{IsFirst}
+
+split_at : {X : Type 0} (xs : List X) (i : ℕ) (d : X) → i < length xs → xs ≡ take i xs ++ get_or xs i d ∷ drop (i + 1) xs
+split_at {X = X} xs i d below =
+    sym (take-append-drop i xs) ∙ ap (λ (l : List X). take i xs ++ l) (drop-cons xs i d below ∙ ap (λ (n : ℕ). get_or xs i d ∷ drop n xs) (sym (add-one i)))
+
+-- the element at this place, whose earlier ones are as said
+pub IsFirst-at : {X : Type 0} (P Q : X → Type 0) (xs : List X) (i : ℕ) (d : X) → i < length xs → All P (take i xs) → Q (get_or xs i d) → IsFirst P Q xs (i + 1)
+IsFirst-at P Q xs i d below earlier is = record {
+  earlier = take i xs;
+  this = get_or xs i d;
+  later = drop (i + 1) xs;
+  split = split_at xs i d below;
+  counted = let long = length-take-le i xs (omega arith) in omega (arith, long);
+  each_earlier = earlier;
+  is_this = is;
+}
+
+-- the same in a mapped list
+pub IsFirst-map-at : {X Y : Type 0} (f : X → Y) (P Q : Y → Type 0) (xs : List X) (i : ℕ) (d : X) → i < length xs
+    → All P (map f (take i xs)) → Q (f (get_or xs i d)) → IsFirst P Q (map f xs) (i + 1)
+IsFirst-map-at f P Q xs i d below earlier is = record {
+  earlier = map f (take i xs);
+  this = f (get_or xs i d);
+  later = map f (drop (i + 1) xs);
+  split = ap (map f) (split_at xs i d below) ∙ map-append f (take i xs) (get_or xs i d ∷ drop (i + 1) xs);
+  counted = let long : length (map f (take i xs)) ≡ i = length-map (take i xs) f ∙ length-take-le i xs (omega arith) in omega (arith, long);
+  each_earlier = earlier;
+  is_this = is;
+}
+
+-- of two related lists the first one has such an element where the second has one
+module _ {A B : Type 0} (R : A → B → Type 0) (P Q : B → Type 0) (P' Q' : A → Type 0)
+    (p : (x : A) (y : B) → R x y → P y → P' x) (q : (x : A) (y : B) → R x y → Q y → Q' x) where
+  first_of_parts : (earlier : List B) (this : B) (later : List B) (xs : List A) → All P earlier → Q this → AllZip R xs (earlier ++ this ∷ later) → IsFirst P' Q' xs (length earlier + 1)
+  first_of_parts [] this later [] each is both = absurd both
+  first_of_parts [] this later (x ∷ xs) each is both = record { earlier = []; this = x; later = xs; split = refl; counted = refl; each_earlier = All-nil P'; is_this = q x this both.0 is }
+  first_of_parts (y ∷ earlier) this later [] each is both = absurd both
+  first_of_parts (y ∷ earlier) this later (x ∷ xs) each is both =
+      let rest = first_of_parts earlier this later xs (All-tail P y earlier each) is both.1 in
+      record {
+        earlier = x ∷ rest.earlier;
+        this = rest.this;
+        later = rest.later;
+        split = ap (λ (l : List A). x ∷ l) rest.split;
+        counted = let so = rest.counted in omega (arith, so);
+        each_earlier = All-cons P' x rest.earlier (p x y both.0 (All-head P y earlier each)) rest.each_earlier;
+        is_this = rest.is_this;
+      }
+
+  pub IsFirst-zip : (xs : List A) (ys : List B) (n : ℕ) → AllZip R xs ys → IsFirst P Q ys n → IsFirst P' Q' xs n
+  IsFirst-zip xs ys n both first =
+      subst (λ (m : ℕ). IsFirst P' Q' xs m) (sym first.counted)
+      (first_of_parts first.earlier first.this first.later xs first.each_earlier first.is_this (subst (λ (l : List B). AllZip R xs l) first.split both))
+
+module _ {X : Type 0} where
+  at_its_place : (P : X → Type 0) (earlier : List X) (this : X) (later : List X) → All P (earlier ++ this ∷ later) → P this
+  at_its_place P [] this later all = All-head P this later all
+  at_its_place P (x ∷ earlier) this later all = at_its_place P earlier this later (All-tail P x (earlier ++ this ∷ later) all)
+
+  -- what holds of each element holds of this one
+  pub IsFirst-all : (E P Q : X → Type 0) (xs : List X) (n : ℕ) (first : IsFirst P Q xs n) → All E xs → E first.this
+  IsFirst-all E P Q xs n first all = at_its_place E first.earlier first.this first.later (subst (All E) first.split all)
+
+  -- its number is one of the list's
+  pub IsFirst-number : (P Q : X → Type 0) (xs : List X) (n : ℕ) → IsFirst P Q xs n → (1 ≤ n) × (n ≤ length xs)
+  IsFirst-number P Q xs n first =
+      let long = ap length first.split ∙ length-append first.earlier (first.this ∷ first.later) in
+      let counted = first.counted in
+      (omega (arith, counted), omega (arith, counted, long))

@@ -1,0 +1,6 @@
+pub mod Few
+pub mod Firsts
+pub mod Prints
+pub mod Results
+pub mod Told
+pub mod Zips

@@ -1,0 +1,41 @@
+use Rattle.std.proofs.Common.{List, length, ◌≤◌}
+use Rattle.std.specs.Prelude.{All}
+use Rattle.tatp_model.specs.Request.{IsInRange}
+use Rattle.tatp_model.specs.declared.request.Request.{Request}
+use Rattle.command_edges.specs.Files.{OfFile, requests_in}
+use Rattle.command_edges.specs.Texts.{IsTextOf, HoldsRequests}
+use Rattle.command_edges.proofs.Results.{ok_map, err_map, never_ok}
+use Rattle.command_edges.proofs.Told.{of_file, none_missing, none_bad, file_fault}
+use Rattle.command_edges.proofs.Zips.{AllZip-seconds, AllZip-then}
+use Rattle.command_edges.proofs.files.read_files.Goals as goal
+
+pub returns-clause-read : goal.returns-clause-read
+returns-clause-read g c =
+    let s = g.F.Files.sight c.args.files.now in
+    let texts = rw c.deref.ensures.value at c.parse_texts.ensures.parsed in
+    ok_map c.parse_texts.result (λ lists parsed. AllZip-then (IsTextOf s) HoldsRequests (OfFile s) _ c.in-Ok.texts.items (requests_in lists.items)
+    (λ name text requests is holds. of_file s name text requests is holds.meant) c.in-Ok.ensures.read parsed) texts
+
+pub returns-clause-in_range : goal.returns-clause-in_range
+returns-clause-in_range g c =
+    ok_map c.parse_texts.result (λ lists parsed. AllZip-seconds HoldsRequests (All IsInRange) c.deref.result.now (requests_in lists.items) (λ text requests holds. holds.in_range) parsed) c.parse_texts.ensures.parsed
+
+pub returns-clause-few : goal.returns-clause-few
+returns-clause-few g c =
+    ok_map c.parse_texts.result (λ lists parsed. AllZip-seconds HoldsRequests (λ (list : List Request). length list ≤ 100000) c.deref.result.now (requests_in lists.items) (λ text requests holds. holds.few) parsed) c.parse_texts.ensures.parsed
+
+pub returns-clause-cause : goal.returns-clause-cause
+returns-clause-cause g c =
+    let s = g.F.Files.sight c.args.files.now in
+    let texts = rw c.deref.ensures.value at c.parse_texts.ensures.cause in
+    err_map c.parse_texts.result (λ fault h. file_fault s (g.F.Files.sight c.read_texts.new.files) _ c.in-Ok.texts.items fault c.in-Ok.ensures.calm c.in-Ok.ensures.read h) texts
+
+pub returns-clause-missing : goal.returns-clause-missing
+returns-clause-missing g c =
+    let s = g.F.Files.sight c.args.files.now in
+    λ told missing. absurd (none_missing s _ c.in-Ok.texts.items c.in-Ok.ensures.read told missing)
+
+pub returns-clause-bad : goal.returns-clause-bad
+returns-clause-bad g c =
+    let s = g.F.Files.sight c.args.files.now in
+    λ told bad. never_ok c.parse_texts.result (λ lists read. none_bad s _ (requests_in lists.items) read told bad) (returns-clause-read g c)

@@ -1,0 +1,80 @@
+-- What the files of a command hold, and why they give no requests.
+use Rattle.std.specs.Prelude.{◌≡◌, ℕ, ◌+◌, ⊤, IsTrue, Some, None, IsSome, Ok, Err, List, ◌∷◌, ◌++◌, length, map, All, Any}
+use Rattle.std.specs.Global.{Vec}
+use Rattle.pmem_trait.specs.Sights.{Risen}
+use Rattle.tatp_model.specs.declared.request.Request.{Request}
+use Rattle.request_reader.specs.RequestFile.{requests_of}
+use Rattle.dude_io.specs.Files.{FilesSight}
+use Rattle.command_edges.specs.declared.fault.Fault.{Fault}
+use Rattle.command_edges.specs.declared.fault.Fault.TheVariants.{File, Text, Memory}
+
+-- these are the requests of some text, and of the file of this name where the files tell
+abbrev pub OfFile : FilesSight → List ℕ → List Request → Type 0
+OfFile files name requests =
+    (text : List ℕ) × (requests_of text ≡ Ok requests) × (IsTrue files.is_visible → files.text name ≡ Some text)
+
+-- some text is first bad at this record and field, and so is that of the file of this name where the files tell
+abbrev pub IsBadAt : FilesSight → List ℕ → ℕ → ℕ → Type 0
+IsBadAt files name row field =
+    (text : List ℕ) × (requests_of text ≡ Err (row, field)) × (IsTrue files.is_visible → files.text name ≡ Some text)
+
+-- the file of this name is there and holds requests, where the files tell
+abbrev pub IsGoodFile : FilesSight → List ℕ → Type 0
+IsGoodFile files name = (requests : List Request) × OfFile files name requests
+
+-- the file of this name is there and bad, where the files tell
+abbrev pub IsBadFile : FilesSight → List ℕ → Type 0
+IsBadFile files name = (row : ℕ) × (field : ℕ) × IsBadAt files name row field
+
+-- the file of this name is there
+abbrev pub IsThere : FilesSight → List ℕ → Type 0
+IsThere files name = IsSome (files.text name)
+
+-- some file isn't there
+abbrev pub MissesFile : List (List ℕ) → FilesSight → Type 0
+MissesFile names files = Any (λ name. files.text name ≡ None) names
+
+-- some file is there and bad, where the files tell
+abbrev pub HasBadFile : List (List ℕ) → FilesSight → Type 0
+HasBadFile names files = Any (IsBadFile files) names
+
+-- `This` holds of the element of this number, counted from 1, and `Earlier` of each earlier one
+pub record IsFirst {X : Type 0} (Earlier This : X → Type 0) (elements : List X) (number : ℕ) : Type 0 where
+  pub earlier : List X
+  pub this : X
+  pub later : List X
+  pub split : elements ≡ earlier ++ this ∷ later
+  pub counted : number ≡ length earlier + 1
+  pub each_earlier : All Earlier earlier
+  pub is_this : This this
+
+-- the file of this number, from 1, is bad at this record and field, and each earlier one is good
+abbrev pub IsFirstBad : List (List ℕ) → FilesSight → ℕ → ℕ → ℕ → Type 0
+IsFirstBad names files number row field =
+    IsFirst (IsGoodFile files) (λ name. IsBadAt files name row field) names number
+
+-- the file of this number, from 1, couldn't be read, and each earlier one is there, where the files tell
+abbrev pub IsFirstUnread : List (List ℕ) → FilesSight → ℕ → Type 0
+IsFirstUnread names files number = IsFirst (λ name. IsTrue files.is_visible → IsThere files name) (λ name. ⊤) names number
+
+-- Why the files weren't all read: reading one counted a fault, or there was no memory.
+abbrev pub HasReadFault : List (List ℕ) → FilesSight → FilesSight → Fault → Type 0
+HasReadFault names old new (File number) = IsFirstUnread names old number × Risen old.faults new.faults
+HasReadFault names old new Memory = ⊤
+HasReadFault names old new _ = ⊥
+
+-- Why there are no requests: so it was, or all files are there and were read with no fault, and one is bad.
+abbrev pub HasFileFault : List (List ℕ) → FilesSight → FilesSight → Fault → Type 0
+HasFileFault names old new (Text number row field) =
+    IsFirstBad names old number row field × (IsTrue old.is_visible → All (IsThere old) names) × (new.faults ≡ old.faults)
+HasFileFault names old new fault = HasReadFault names old new fault
+
+-- a file couldn't be read, or there was no memory
+abbrev pub StoppedReading : Fault → Type 0
+StoppedReading (File number) = ⊤
+StoppedReading Memory = ⊤
+StoppedReading _ = ⊥
+
+-- the requests of each file
+abbrev pub requests_in : List (Vec Request) → List (List Request)
+requests_in lists = map (λ list. list.items) lists

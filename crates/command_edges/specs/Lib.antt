@@ -1,0 +1,4 @@
+pub mod Fault
+pub mod Files
+pub mod Printing
+pub mod Texts

@@ -1,0 +1,208 @@
+//! Why a command was not carried out, the status that it ends with, and the line that it prints.
+
+ghost use Rattle.std.specs.Prelude.{◌≡◌, ◌++◌, decimal, OnOk, OnErr};
+ghost use Rattle.std.specs.Fmt.{WritesOnOk};
+ghost use Rattle.command_edges.specs.Fault.{fault_line, fault_words};
+ghost use Rattle.command_edges.specs.declared.fault.Fault.TheVariants.{Text};
+
+use std::alloc::{AllocError, AllocFailed};
+use std::fmt;
+
+/// Why a command ended with a status other than 0. Files are counted from 1.
+#[derive(Clone, Copy, Debug, PartialEq, Eq)]
+pub enum Fault {
+    /// The command words are refused.
+    Usage,
+    /// A file couldn't be read.
+    File { file: u64 },
+    /// A file's first bad record and its first bad field, both counted from 1. The field is 0 where the record's name or
+    /// its count of fields is wrong, and the record is 0 where the file is too long.
+    Text { file: u64, row: u64, field: u64 },
+    /// The medium has fewer words than the image needs.
+    Small { has: u64, needs: u64 },
+    /// The population has more call rows than may stand.
+    TooFew { rows: u64, calls: u64 },
+    /// The medium holds no image.
+    Unformatted,
+    /// The image breaks a rule of its layout.
+    Damaged { line: u64 },
+    /// The image's content is no database, for the word named.
+    NotDb { word: u64 },
+    /// There are more files than rings.
+    ManyFiles { files: u64, rings: u64 },
+    /// The frames are out of their limits.
+    Frames { frames: u64, pages: u64 },
+    /// There are fewer subscribers than files.
+    FewSubscribers { subscribers: u64, files: u64 },
+    /// The requests could draw numbers beyond the last.
+    Numbers { number: u64, requests: u64 },
+    /// The medium failed.
+    Device,
+    /// The sink failed.
+    Output,
+    /// There was no memory.
+    Memory,
+}
+
+impl Fault {
+    ghost use Rattle.std.specs.Prelude.{◌≡◌, Some};
+    ghost use Rattle.command_edges.specs.Fault.{status_of};
+
+    /// The status that the program ends with.
+    pub fn status(&self) -> u8
+        ensures { result ≡ status_of (Some self.now) }
+    {
+        match self {
+            Fault::Usage => 2,
+            Fault::File { .. } => 3,
+            Fault::Text { .. } => 4,
+            Fault::Small { .. }
+            | Fault::TooFew { .. }
+            | Fault::Unformatted
+            | Fault::Damaged { .. }
+            | Fault::NotDb { .. }
+            | Fault::ManyFiles { .. }
+            | Fault::Frames { .. }
+            | Fault::FewSubscribers { .. } => 5,
+            Fault::Numbers { .. } => 9,
+            Fault::Device => 6,
+            Fault::Output => 7,
+            Fault::Memory => 8,
+        }
+    }
+}
+
+impl fmt::Display for Fault {
+    ghost use Rattle.std.specs.Prelude.{Some};
+    ghost use Rattle.command_edges.specs.Fault.{fault_words};
+
+    ghost output = { λ f. Some (fault_words f) };
+
+    fn fmt<W: fmt::Write>(&self, f: &mut fmt::Formatter<W>) -> fmt::Result {
+        match *self {
+            Fault::Usage => f.write_str("usage"),
+            Fault::File { file } => write_one(f, "file ", file),
+            Fault::Text { file, row, field } => write_place(f, file, row, field),
+            Fault::Small { has, needs } => write_two(f, "too small: has ", has, ", needs ", needs),
+            Fault::TooFew { rows, calls } => write_all(
+                f,
+                "too few calls: ",
+                rows,
+                " rows, ",
+                calls,
+                " calls",
+            ),
+            Fault::Unformatted => f.write_str("unformatted"),
+            Fault::Damaged { line } => write_one(f, "damaged line ", line),
+            Fault::NotDb { word } => write_one(f, "not a database, word ", word),
+            Fault::ManyFiles { files, rings } => write_all(
+                f,
+                "too many files: ",
+                files,
+                " files, ",
+                rings,
+                " rings",
+            ),
+            Fault::Frames { frames, pages } => write_two(f, "frames ", frames, ", pages ", pages),
+            Fault::FewSubscribers { subscribers, files } => write_all(
+                f,
+                "too few subscribers: ",
+                subscribers,
+                " subscribers, ",
+                files,
+                " files",
+            ),
+            Fault::Numbers { number, requests } => write_all(
+                f,
+                "numbers: ",
+                number,
+                ", ",
+                requests,
+                " requests",
+            ),
+            Fault::Device => f.write_str("device"),
+            Fault::Output => f.write_str("output"),
+            Fault::Memory => f.write_str("memory"),
+        }
+    }
+}
+
+/// Writes a text and a number.
+fn write_one<W: fmt::Write>(f: &mut fmt::Formatter<W>, text: &str, number: u64) -> fmt::Result
+    ensures { WritesOnOk W.write_str_gives f.old result (text.now ++ decimal number) f.new }
+{
+    write!(f, "{text}{number}")
+}
+
+/// Writes two texts, each with a number behind it.
+fn write_two<W: fmt::Write>(
+    f: &mut fmt::Formatter<W>,
+    first: &str,
+    number: u64,
+    second: &str,
+    other: u64,
+) -> fmt::Result
+    ensures { WritesOnOk W.write_str_gives f.old result (first.now ++ decimal number ++ second.now ++ decimal other) f.new }
+{
+    write_one(f, first, number)?;
+    write_one(f, second, other)
+}
+
+/// Writes two texts, each with a number behind it, and a last text.
+fn write_all<W: fmt::Write>(
+    f: &mut fmt::Formatter<W>,
+    first: &str,
+    number: u64,
+    second: &str,
+    other: u64,
+    last: &str,
+) -> fmt::Result
+    ensures { WritesOnOk W.write_str_gives f.old result (first.now ++ decimal number ++ second.now ++ decimal other ++ last.now) f.new }
+{
+    write_two(f, first, number, second, other)?;
+    f.write_str(last)
+}
+
+/// Writes where a file's first bad field is.
+fn write_place<W: fmt::Write>(
+    f: &mut fmt::Formatter<W>,
+    file: u64,
+    row: u64,
+    field: u64,
+) -> fmt::Result
+    ensures { WritesOnOk W.write_str_gives f.old result (fault_words (Text file row field)) f.new }
+{
+    write_two(f, "file ", file, " record ", row)?;
+    write_one(f, " field ", field)
+}
+
+impl From<AllocError> for Fault {
+    ghost use Rattle.std.specs.Prelude.{◌≡◌};
+    ghost use Rattle.command_edges.specs.declared.fault.Fault.TheVariants.{Memory};
+
+    ghost from_gives = { λ _ fault. fault ≡ Memory };
+
+    fn from(_: AllocError) -> Fault {
+        Fault::Memory
+    }
+}
+
+impl<T: Drop> From<AllocFailed<T>> for Fault {
+    ghost use Rattle.std.specs.Prelude.{◌≡◌};
+    ghost use Rattle.command_edges.specs.declared.fault.Fault.TheVariants.{Memory};
+
+    ghost from_gives = { λ _ fault. fault ≡ Memory };
+
+    fn from(_: AllocFailed<T>) -> Fault {
+        Fault::Memory
+    }
+}
+
+/// Appends the fault's line. `out` is as it was where there is no memory.
+pub fn fault_text(fault: &Fault, out: &mut Vec<u8>) -> Result<(), AllocError>
+    ensures ok { OnOk result (out.new.items ≡ out.old.items ++ fault_line fault.now) }
+    ensures err { OnErr result (out.new.items ≡ out.old.items) }
+{
+    let line = format!(in *out.allocator(); "{fault}\n")?;
+    out.extend_from_slice(line.as_bytes())
+}

@@ -1,0 +1,15 @@
+//! The edges of a command: its request files, all read in order before any is parsed, the output that is handed to a sink in
+//! pieces, and its fault, with a status and a line.
+#![tactic(auto)]
+
+mod fault;
+mod file_texts;
+mod files;
+mod lines;
+mod lists;
+mod text;
+
+pub use fault::{Fault, fault_text};
+pub use files::read_files;
+pub use lines::print_lines;
+pub use text::print_text;

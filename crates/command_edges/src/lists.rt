@@ -1,0 +1,48 @@
+//! The requests of texts.
+
+ghost use Rattle.std.specs.Prelude.{IfOk, IfErr};
+ghost use Rattle.std.specs.List.{AllZip};
+ghost use Rattle.command_edges.specs.Files.{requests_in};
+ghost use Rattle.command_edges.specs.Texts.{HoldsRequests, IsTextFault, IsFirstTextFault};
+
+use crate::fault::Fault;
+use dude_io::FileText;
+use request_reader::read_requests;
+use std::alloc::Global;
+use tatp_model::Request;
+use tatp_text::TextFault;
+
+/// The requests of the text of the file of this number.
+fn parse_text(alloc: Global, text: &FileText, number: u64) -> Result<Vec<Request>, Fault>
+    ensures parsed { IfOk result (λ requests. HoldsRequests text.now requests.items) }
+    ensures cause { IfErr result (IsTextFault text.now number) }
+{
+    let (row, field) = match text {
+        FileText::TooLong => (0, 0),
+        FileText::Whole(bytes) => match read_requests(alloc, bytes) {
+            Ok(requests) => return Ok(requests),
+            Err(TextFault::NoMemory) => return Err(Fault::Memory),
+            Err(TextFault::Bad { row, field }) => (row, field),
+        },
+    };
+    Err(Fault::Text {
+        file: number,
+        row,
+        field,
+    })
+}
+
+/// The requests of each text. The first bad text ends it.
+pub fn parse_texts(alloc: Global, texts: &[FileText]) -> Result<Vec<Vec<Request>>, Fault>
+    ensures parsed { IfOk result (λ lists. AllZip HoldsRequests texts.now (requests_in lists.items)) }
+    ensures cause { IfErr result (IsFirstTextFault texts.now) }
+{
+    let mut lists = Vec::new(alloc);
+    for (index, text) in texts.iter().enumerate() {
+        match parse_text(alloc, text, index as u64 + 1) {
+            Ok(requests) => lists.push(requests)?,
+            Err(fault) => return Err(fault),
+        }
+    }
+    Ok(lists)
+}

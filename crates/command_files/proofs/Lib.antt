@@ -1,5 +1,0 @@
-pub mod Few
-pub mod Firsts
-pub mod Results
-pub mod Told
-pub mod Zips

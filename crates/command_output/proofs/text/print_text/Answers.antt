@@ -1,6 +1,0 @@
-use Rattle.std.proofs.Common.{refl}
-use Rattle.command_output.proofs.Prints.{part_stops}
-use Rattle.command_output.proofs.text.print_text.Goals as goal
-
-pub returns-in-Err-clause-err : goal.returns-in-Err-clause-err
-returns-in-Err-clause-err g c = (part_stops c.args.text.now c.in-Err.ensures.writes, refl)
