@@ -5,7 +5,7 @@ use Rattle.std.proofs.lemmas.Bool.Decides.{nat_tests}
 use Rattle.csv.specs.Reading.{default_config, records, strip_bom}
 use Rattle.tatp_model.specs.declared.request.Request.{Request}
 use Rattle.tatp_text.specs.RequestRecord.{request_of}
-use Rattle.request_reader.specs.RequestFile.{Place, requests_from, requests_of, with_first}
+use Rattle.tatp_csv.specs.RequestFile.{Place, requests_from, requests_of, with_first}
 
 same_lists : (a b : List Request) → ◌≡◌ {A = Result (List Request) Place} (Ok a) (Ok b) → a ≡ b
 same_lists a b e = cc

@@ -6,7 +6,7 @@ use Rattle.std.proofs.lemmas.Bool.Decides.{nat_tests}
 use Rattle.std.proofs.lemmas.List.Elements.{All-contains}
 use Rattle.pmem_trait.specs.Sights.{Risen}
 use Rattle.tatp_model.specs.declared.request.Request.{Request}
-use Rattle.request_reader.specs.RequestFile.{Place, requests_of}
+use Rattle.tatp_csv.specs.RequestFile.{Place, requests_of}
 use Rattle.dude_io.specs.declared.file_text.FileText.{FileText}
 use Rattle.dude_io.specs.declared.file_text.FileText.TheVariants.{Whole, TooLong}
 use Rattle.dude_io.specs.FileText.{HoldsText}

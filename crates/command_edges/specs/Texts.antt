@@ -2,7 +2,7 @@
 use Rattle.std.specs.Prelude.{◌≡◌, ℕ, ◌≤◌, ⊤, IsTrue, IsSomeAnd, IsOk, Result, Ok, Err, List, length, All}
 use Rattle.tatp_model.specs.declared.request.Request.{Request}
 use Rattle.tatp_model.specs.Request.{IsInRange}
-use Rattle.request_reader.specs.RequestFile.{Place, requests_of}
+use Rattle.tatp_csv.specs.RequestFile.{Place, requests_of}
 use Rattle.dude_io.specs.declared.file_text.FileText.{FileText}
 use Rattle.dude_io.specs.declared.file_text.FileText.TheVariants.{Whole, TooLong}
 use Rattle.dude_io.specs.FileText.{HoldsText}

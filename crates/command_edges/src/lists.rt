@@ -7,8 +7,8 @@ ghost use Rattle.command_edges.specs.Texts.{HoldsRequests, IsTextFault, IsFirstT
 
 use crate::fault::Fault;
 use dude_io::FileText;
-use request_reader::read_requests;
 use std::alloc::Global;
+use tatp_csv::read_requests;
 use tatp_model::Request;
 use tatp_text::TextFault;
 

@@ -5,7 +5,7 @@ use Rattle.std.proofs.lemmas.List.{length-append, get_or_append_left}
 use Rattle.std.proofs.lemmas.List.Elements.{All-nil, All-cons}
 use Rattle.std.proofs.Math.Seq.{get_or-append_seam}
 use Rattle.tatp_model.specs.declared.request.Request.{Request}
-use Rattle.request_reader.specs.RequestFile.{requests_of}
+use Rattle.tatp_csv.specs.RequestFile.{requests_of}
 use Rattle.dude_io.specs.Files.{FilesSight, FilesStay}
 use Rattle.dude_io.proofs.ReadLaws.{files_stay}
 use Rattle.command_edges.specs.Files.{IsBadAt, IsFirst, IsFirstBad, IsGoodFile, MissesFile, OfFile}

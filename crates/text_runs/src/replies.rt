@@ -2,8 +2,8 @@
 
 use crate::population::{FIRST_ROW, access};
 use crate::stop::Stop;
-use request_reader::read_requests;
 use std::alloc::Global;
+use tatp_csv::read_requests;
 use tatp_model::{Done, Numbers, Reply, SubRow};
 
 /// A request that was served: its number, its record, the name of its reply, and the numbers of that.

@@ -5,8 +5,8 @@ ghost use Rattle.tatp_model.specs.Request.{IsInRange};
 
 use crate::page::push_count;
 use crate::stop::Stop;
-use request_reader::read_requests;
 use std::alloc::AllocError;
+use tatp_csv::read_requests;
 use tatp_model::Request;
 use tatp_text::{TextFault, write_request};
 

@@ -1,5 +1,0 @@
-use Rattle.request_reader.proofs.RoundTrip.{requests_of-requests_text}
-use Rattle.request_reader.proofs.laws.law_of_request_text.Goals as goal
-
-pub returns : goal.returns
-returns c = requests_of-requests_text
