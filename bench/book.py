@@ -18,9 +18,9 @@ OUT = f"{TOP}/out/book"
 # The towers of the picture, from the program down, each with its rows of crates; what none of them names comes last.
 TOWERS = [
     ("Program", ["dude", "dude_program", "command_words command_edges command_openings"]),
-    ("Runs", ["dude_engine", "run_log run_order"]),
+    ("Runs", ["dude_engine", "log_numbered run_order"]),
     ("Images", ["image_format image_opening dude_recover", "image_recovery"]),
-    ("Log", ["back_store", "backlog", "log_ring", "redo_record group_combine"]),
+    ("Log", ["back_store", "log_waiting", "log_ring", "redo_record group_combine"]),
     ("Home", ["tatp_core", "tatp_read tatp_check tatp_population tatp_rows", "tatp_layout", "table_check hash_table", "record_heap", "word_space"]),
     ("Texts", ["tatp_csv", "tatp_text"]),
     ("Base", ["dude_io", "file_pmem", "dude_base tatp_model pmem_trait"]),

@@ -9,9 +9,9 @@ use Rattle.pmem_trait.specs.Words.{value_of}
 use Rattle.pmem_trait.specs.Sights.{Sight, state_now}
 use Rattle.redo_record.specs.Record.{cells_for}
 use Rattle.redo_record.specs.Waiting.{Waiting, IsContiguousEnd}
-use Rattle.backlog.specs.Lane.{IsLaneFull, empty_lane, used_by}
-use Rattle.backlog.specs.Lanes.{lane_at, waiting_of}
-use Rattle.backlog.specs.Backlog.{BacklogState}
+use Rattle.log_waiting.specs.Lane.{IsLaneFull, empty_lane, used_by}
+use Rattle.log_waiting.specs.Lanes.{lane_at, waiting_of}
+use Rattle.log_waiting.specs.Backlog.{BacklogState}
 use Rattle.back_store.specs.declared.back_fault.BackFault.{BackFault}
 use Rattle.back_store.specs.declared.back_fault.BackFault.TheVariants.{RingFull}
 

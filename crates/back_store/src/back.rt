@@ -9,8 +9,8 @@ ghost use Rattle.pmem_trait.specs.Sights.{Extends, state_now};
 ghost use Rattle.redo_record.specs.BackCalls.{read_page_calls};
 ghost use Rattle.redo_record.specs.BackLaws.{CanPersist};
 ghost use Rattle.log_ring.specs.Ring.{next_head};
-ghost use Rattle.backlog.specs.Lanes.{lane_at};
-ghost use Rattle.backlog.specs.Backlog.{IsLawful, StopsAfter, log_of};
+ghost use Rattle.log_waiting.specs.Lanes.{lane_at};
+ghost use Rattle.log_waiting.specs.Backlog.{IsLawful, StopsAfter, log_of};
 ghost use Rattle.back_store.specs.Back.{EndsFrom, IsRingFull, MayPersist, idle, ring_full};
 ghost use Rattle.back_store.specs.Answers.{CallsAnswered, SparesMedium, after_announce, after_persist, after_read, after_reproduce, with_record};
 ghost use Rattle.back_store.specs.Images.{IsIdleMedium, Keeps};
@@ -18,12 +18,12 @@ ghost use Rattle.back_store.specs.declared.back_fault.BackFault.TheVariants.{Dev
 
 use crate::back_fault::BackFault;
 use crate::page_reads::read_words;
-use backlog::Backlog;
 use dude_base::bundle::Bundle;
 use dude_base::limits::PAGE;
 use dude_base::place::Place;
 use dude_base::sizes::Sizes;
 use log_ring::RingFault;
+use log_waiting::Backlog;
 use pmem_trait::{Failed, Medium};
 use std::alloc::{AllocError, Global};
 

@@ -14,10 +14,10 @@ use Rattle.tatp_model.specs.declared.done.Done.{Done}
 use Rattle.tatp_model.specs.Database.{Database}
 use Rattle.tatp_model.specs.OneThread.{after_number}
 use Rattle.tatp_layout.specs.StandsFor.{StandsFor}
-use Rattle.run_log.specs.declared.run_log.RunLog.{RunLog}
-use Rattle.run_log.specs.Arrays.{RunArrays, RecoversIn, array_at, last_number, with_writes}
-use Rattle.run_log.specs.RunLog.{Follows, IsAlive, RecoversOn, log_back, log_end, log_sizes}
-use Rattle.run_log.proofs.GoingOn.{recovers_here}
+use Rattle.log_numbered.specs.declared.run_log.RunLog.{RunLog}
+use Rattle.log_numbered.specs.Arrays.{RunArrays, RecoversIn, array_at, last_number, with_writes}
+use Rattle.log_numbered.specs.RunLog.{Follows, IsAlive, RecoversOn, log_back, log_end, log_sizes}
+use Rattle.log_numbered.proofs.GoingOn.{recovers_here}
 use Rattle.dude_engine.specs.Opening.{Opening}
 use Rattle.dude_engine.specs.Running.{AreAnswered, HasArrays, FollowsRun, RecoversSoFar, last_performed, tables_after}
 use Rattle.dude_engine.proofs.Numbering.{IsNext, last_push, last_rises, tables_at_last, tables_kept, number_unwritten, number_written, answered_push}

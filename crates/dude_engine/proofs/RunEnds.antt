@@ -24,9 +24,9 @@ use Rattle.back_store.specs.Back.{BackState}
 use Rattle.back_store.specs.BackView.{state_of}
 use Rattle.image_opening.specs.declared.opened.Opened.{Opened}
 use Rattle.image_opening.specs.Opened.{HoldsOpened, IsOpened}
-use Rattle.run_log.specs.declared.run_log.RunLog.{RunLog}
+use Rattle.log_numbered.specs.declared.run_log.RunLog.{RunLog}
 use Rattle.back_store.specs.Told.{WereTold}
-use Rattle.run_log.specs.RunLog.{Follows, IsAlive, log_durable, log_end, log_last, log_sizes}
+use Rattle.log_numbered.specs.RunLog.{Follows, IsAlive, log_durable, log_end, log_last, log_sizes}
 use Rattle.dude_engine.specs.declared.run.Run.{Run}
 use Rattle.dude_engine.specs.declared.run_fault.RunFault.{RunFault}
 use Rattle.dude_engine.specs.declared.run_fault.RunFault.TheVariants.{Device, NoMemory}

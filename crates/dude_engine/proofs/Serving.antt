@@ -10,10 +10,10 @@ use Rattle.tatp_model.specs.declared.done.Done.{Done}
 use Rattle.tatp_model.specs.OneThread.{is_sync}
 use Rattle.run_order.specs.Runs.{PrecedesInRounds}
 use Rattle.back_store.specs.Back.{BackState}
-use Rattle.run_log.specs.declared.run_log.RunLog.{RunLog}
-use Rattle.run_log.specs.LogCalls.{AnnouncedBy, AppendedBy, CheckpointedBy, LogParts, Makes}
-use Rattle.run_log.specs.RunLog.{log_parts}
-use Rattle.run_log.proofs.LoggedCalls.{parts}
+use Rattle.log_numbered.specs.declared.run_log.RunLog.{RunLog}
+use Rattle.log_numbered.specs.LogCalls.{AnnouncedBy, AppendedBy, CheckpointedBy, LogParts, Makes}
+use Rattle.log_numbered.specs.RunLog.{log_parts}
+use Rattle.log_numbered.proofs.LoggedCalls.{parts}
 use Rattle.dude_engine.specs.declared.run.Run.{Run}
 use Rattle.dude_engine.specs.RunCalls.{MakesItsCalls, RunBy, ServedBy, ServedBy.logged, ServedBy.told, ServedBy.silent, ServedInTurn, ServedInTurn.none, ServedInTurn.next}
 use Rattle.dude_engine.specs.Running.{ServesMore}

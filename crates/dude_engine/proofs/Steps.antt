@@ -22,12 +22,12 @@ use Rattle.tatp_layout.specs.StandsFor.{StandsFor}
 use Rattle.tatp_core.specs.Serves.{Serves}
 use Rattle.word_space.specs.Flats.{words_of, flat_sight, fresh}
 use Rattle.image_opening.specs.Opened.{HoldsOpened}
-use Rattle.run_log.specs.declared.run_log.RunLog.{RunLog}
-use Rattle.run_log.specs.Arrays.{RunArrays, RecoversIn, array_at, with_writes}
+use Rattle.log_numbered.specs.declared.run_log.RunLog.{RunLog}
+use Rattle.log_numbered.specs.Arrays.{RunArrays, RecoversIn, array_at, with_writes}
 use Rattle.back_store.specs.Told.{WereTold}
 use Rattle.back_store.proofs.ToldNumbers.{tells_none, tells_then}
-use Rattle.run_log.specs.Backs.{GoesOn}
-use Rattle.run_log.specs.RunLog.{EndsAtLast, Follows, FollowsOn, IsAlive, RecoversOn, log_back, log_durable, log_end, log_last, log_sizes}
+use Rattle.log_numbered.specs.Backs.{GoesOn}
+use Rattle.log_numbered.specs.RunLog.{EndsAtLast, Follows, FollowsOn, IsAlive, RecoversOn, log_back, log_durable, log_end, log_last, log_sizes}
 use Rattle.dude_engine.specs.declared.run.Run.{Run}
 use Rattle.dude_engine.specs.declared.run_fault.RunFault.{RunFault}
 use Rattle.dude_engine.specs.declared.run_fault.RunFault.TheVariants.{Device, NoMemory}

@@ -12,7 +12,7 @@ use Rattle.run_order.proofs.FileOrder.{taken}
 use Rattle.run_order.proofs.Rounds.{Rounds, rounds_next, rounds_skip}
 use Rattle.pmem_trait.specs.declared.medium.Medium.{Ghosts}
 use Rattle.pmem_trait.specs.Sights.{Sight}
-use Rattle.run_log.specs.RunLog.{log_last, log_medium}
+use Rattle.log_numbered.specs.RunLog.{log_last, log_medium}
 use Rattle.tatp_model.specs.declared.reply.Reply.TheVariants.{Durable}
 use Rattle.dude_engine.specs.declared.run.Run.{Run}
 use Rattle.dude_engine.specs.declared.run_fault.RunFault.{RunFault}

@@ -12,7 +12,7 @@ use Rattle.tatp_model.specs.declared.done.Done.{Done}
 use Rattle.tatp_model.specs.OneThread.{is_sync}
 use Rattle.run_order.specs.Runs.{PrecedesInRounds}
 use Rattle.back_store.specs.Back.{BackState}
-use Rattle.run_log.specs.LogCalls.{AnnouncedBy, AppendedBy, CheckpointedBy, LogParts, Makes}
+use Rattle.log_numbered.specs.LogCalls.{AnnouncedBy, AppendedBy, CheckpointedBy, LogParts, Makes}
 
 -- A request is served by these calls, which leave this of the log.
 pub data ServedBy : Done → LogParts → LogParts → List Call → Type 0 where

@@ -16,11 +16,11 @@ use Rattle.tatp_layout.specs.StandsFor.{StandsFor}
 use Rattle.tatp_core.specs.Serves.{Serves}
 use Rattle.run_order.specs.Runs.{IsNumberedFrom}
 use Rattle.image_opening.specs.Opened.{HoldsOpened}
-use Rattle.run_log.specs.declared.run_log.RunLog.{RunLog}
-use Rattle.run_log.specs.Arrays.{RunArrays, array_at, last_number}
-use Rattle.run_log.specs.LogCalls.{Makes}
+use Rattle.log_numbered.specs.declared.run_log.RunLog.{RunLog}
+use Rattle.log_numbered.specs.Arrays.{RunArrays, array_at, last_number}
+use Rattle.log_numbered.specs.LogCalls.{Makes}
 use Rattle.back_store.specs.Told.{WereTold}
-use Rattle.run_log.specs.RunLog.{Follows, IsAlive, log_durable, log_last, log_parts, log_sizes}
+use Rattle.log_numbered.specs.RunLog.{Follows, IsAlive, log_durable, log_last, log_parts, log_sizes}
 use Rattle.dude_engine.specs.declared.ran.RanEnd.{RanEnd}
 use Rattle.dude_engine.specs.declared.ran.RanEnd.TheVariants.{Whole, Device as EndsOnDevice, NoMemory as EndsOnNoMemory}
 use Rattle.dude_engine.specs.declared.run.Run.{Run}

@@ -7,10 +7,10 @@ use Rattle.run_order.specs.Runs.{Collects}
 use Rattle.run_order.proofs.Apart.{rounds_apart}
 use Rattle.back_store.specs.BackView.{medium_of, state_of}
 use Rattle.word_space.specs.Flats.{words_of}
-use Rattle.run_log.specs.LogCalls.{Makes}
+use Rattle.log_numbered.specs.LogCalls.{Makes}
 use Rattle.back_store.specs.Told.{WereTold}
-use Rattle.run_log.specs.RunLog.{log_back, log_durable, log_medium, log_open, log_parts}
-use Rattle.run_log.proofs.LoggedCalls.{parts_are}
+use Rattle.log_numbered.specs.RunLog.{log_back, log_durable, log_medium, log_open, log_parts}
+use Rattle.log_numbered.proofs.LoggedCalls.{parts_are}
 use Rattle.dude_engine.specs.declared.ran.RanEnd.{RanEnd}
 use Rattle.dude_engine.specs.declared.ran.RanEnd.TheVariants.{Device}
 use Rattle.dude_engine.specs.Opening.{Opening}

@@ -8,7 +8,7 @@ use Rattle.tatp_model.specs.declared.reply.Reply.TheVariants.{Changed}
 use Rattle.tatp_core.specs.Serves.{Serves}
 use Rattle.tatp_layout.specs.StandsFor.{StandsFor}
 use Rattle.word_space.specs.Flats.{words_of, flat_sight}
-use Rattle.run_log.specs.RunLog.{log_durable, log_medium}
+use Rattle.log_numbered.specs.RunLog.{log_durable, log_medium}
 use Rattle.dude_engine.specs.declared.run_fault.RunFault.TheVariants.{Device}
 use Rattle.dude_engine.specs.Running.{HasFailed, IsRunning, tables_after}
 use Rattle.dude_engine.proofs.Numbering.{IsNext}

@@ -7,7 +7,7 @@ use Rattle.tatp_core.specs.Serves.{Serves}
 use Rattle.tatp_layout.specs.StandsFor.{StandsFor}
 use Rattle.word_space.specs.declared.flat.Flat.{Flat}
 use Rattle.word_space.specs.Flats.{words_of, flat_sight, flat_below, fresh}
-use Rattle.run_log.specs.RunLog.{log_last, log_medium}
+use Rattle.log_numbered.specs.RunLog.{log_last, log_medium}
 use Rattle.dude_engine.specs.Running.{IsRunning, tables_after}
 use Rattle.dude_engine.proofs.Numbering.{IsNext}
 use Rattle.dude_engine.proofs.Serving.{serves_silent}

@@ -1,7 +1,7 @@
 use Rattle.std.proofs.Common.{◌≡◌, ◌∙◌, sym, subst, rules, map, List, Err}
 use Rattle.tatp_model.specs.declared.done.Done.{Done}
 use Rattle.word_space.specs.Flats.{words_of}
-use Rattle.run_log.specs.RunLog.{log_durable, log_last, log_medium, log_parts}
+use Rattle.log_numbered.specs.RunLog.{log_durable, log_last, log_medium, log_parts}
 use Rattle.run_order.proofs.Rounds.{Rounds, rounds_collect, rounds_start}
 use Rattle.dude_engine.specs.declared.run_fault.RunFault.TheVariants.{Device}
 use Rattle.dude_engine.specs.Running.{IsRunning}

@@ -5,7 +5,7 @@ use Rattle.std.proofs.lemmas.List.Elements.{All-weaker}
 use Rattle.tatp_model.specs.declared.done.Done.{Done}
 use Rattle.tatp_model.specs.declared.request.Request.{Request}
 use Rattle.tatp_model.specs.Request.{IsInRange}
-use Rattle.run_log.specs.RunLog.{log_medium}
+use Rattle.log_numbered.specs.RunLog.{log_medium}
 use Rattle.run_order.proofs.Rounds.{Rounds, found_mapped, rounds_all, rounds_collect, rounds_rounds, rounds_start, rounds_turn}
 use Rattle.dude_engine.specs.declared.run_fault.RunFault.{RunFault}
 use Rattle.dude_engine.specs.Running.{IsLeft}

@@ -4,7 +4,7 @@ use Rattle.tatp_model.specs.declared.request.Request.TheVariants.{Sync}
 use Rattle.tatp_model.specs.declared.reply.Reply.TheVariants.{Durable}
 use Rattle.word_space.specs.declared.flat.Flat.{Flat}
 use Rattle.word_space.specs.Flats.{words_of}
-use Rattle.run_log.specs.RunLog.{log_last, log_medium}
+use Rattle.log_numbered.specs.RunLog.{log_last, log_medium}
 use Rattle.dude_engine.specs.declared.run_fault.RunFault.TheVariants.{Device}
 use Rattle.dude_engine.proofs.Numbering.{IsNext}
 use Rattle.dude_engine.proofs.Serving.{serves_sync}

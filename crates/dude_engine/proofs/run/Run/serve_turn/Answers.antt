@@ -1,4 +1,4 @@
-use Rattle.run_log.specs.RunLog.{log_medium}
+use Rattle.log_numbered.specs.RunLog.{log_medium}
 use Rattle.dude_engine.proofs.Serving.{serves_none}
 use Rattle.dude_engine.proofs.run.Run.serve_turn.Goals as goal
 

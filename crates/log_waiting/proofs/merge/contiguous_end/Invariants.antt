@@ -1,0 +1,17 @@
+use Rattle.std.proofs.Common.{◌≡◌, ◌-◌, ◌≤◌, length}
+use Rattle.dude_base.specs.declared.limits.TheConstants.{MAX_NUMBER, MAX_RINGS}
+use Rattle.log_waiting.specs.Fronts.{AreFronts}
+use Rattle.log_waiting.specs.Lanes.{AreLed}
+use Rattle.log_waiting.proofs.merge.contiguous_end.Given as goal
+
+-- waiting records lead to the end, and those up to it are taken
+abbrev pub invariant-merge : goal.invariant-merge
+invariant-merge l = record {
+  len : length l.fronts ≡ MAX_RINGS;
+  fronts : AreFronts l.lanes l.fronts l.end;
+  led : AreLed l.lanes l.from l.end;
+  small : l.end ≤ MAX_NUMBER;
+}
+
+abbrev pub decreases-merge : goal.decreases-merge
+decreases-merge l = MAX_NUMBER - l.end
