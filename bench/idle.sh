@@ -5,7 +5,7 @@ status=0
 while IFS=: read -r name lows; do
   name=${name%% *}
   for low in $lows; do
-    grep -rqw --include='*.rt' --include='*.antt' "$low" "crates/$name" && continue
+    grep -rqw --exclude-dir=out --include='*.rt' --include='*.antt' "$low" "crates/$name" && continue
     echo "crates.txt: $name names $low nowhere"
     status=1
   done
