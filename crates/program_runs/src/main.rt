@@ -6,23 +6,23 @@
 
 mod acts;
 mod asks;
+mod bench;
 mod found;
 mod outcome;
 mod printing;
 mod scene;
-mod session;
 mod setup;
 mod stored;
 mod turns;
 
-use session::Session;
+use bench::Bench;
 use std::io;
 
 fn main(rt: HostRuntime) -> io::Result<()> {
     let script = io::read_to_string(rt.alloc(), rt.reader())?;
-    let mut session = Session::new(rt.alloc())?;
+    let mut bench = Bench::new(rt.alloc())?;
     for line in script.lines() {
-        session.take_line(&rt, line)?;
+        bench.take_line(&rt, line)?;
     }
     Ok(())
 }

@@ -2,6 +2,7 @@
 //! words, faults, command files and output. It prints each remark of the script as it stands, and what each command gave.
 #![tactic(auto)]
 
+mod bench;
 mod faults;
 mod files;
 mod numbers;
@@ -9,19 +10,18 @@ mod page;
 mod population;
 mod replies;
 mod requests;
-mod session;
 mod stop;
 mod text;
 mod words;
 
-use session::Session;
+use bench::Bench;
 use std::io;
 
 fn main(rt: HostRuntime) -> io::Result<()> {
     let script = io::read_to_string(rt.alloc(), rt.reader())?;
-    let mut session = Session::new(rt.alloc())?;
+    let mut bench = Bench::new(rt.alloc())?;
     for line in script.lines() {
-        let text = session.answer(line)?;
+        let text = bench.answer(line)?;
         print!(rt; "{text}")?;
     }
     Ok(())

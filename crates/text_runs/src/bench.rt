@@ -18,7 +18,7 @@ use tatp_text::{MAX_BYTES, MAX_RECORDS, write_done, write_summary};
 
 /// What a script remembers from one command to the next.
 #[derive(Drop)]
-pub struct Session {
+pub struct Bench {
     alloc: Global,
     /// The requests that were served, with their replies.
     served: Vec<Done>,
@@ -28,10 +28,10 @@ pub struct Session {
     sink: MemSink,
 }
 
-impl Session {
-    /// A session in which nothing was done, with a sink that has no room.
-    pub fn new(alloc: Global) -> Result<Session, AllocError> {
-        Ok(Session {
+impl Bench {
+    /// A bench on which nothing was done, with a sink that has no room.
+    pub fn new(alloc: Global) -> Result<Bench, AllocError> {
+        Ok(Bench {
             alloc,
             served: Vec::new(alloc),
             files: Vec::new(alloc),
@@ -70,7 +70,7 @@ impl Session {
         }
     }
 
-    /// Carries out a command that the session remembers something of.
+    /// Carries out a command of which something is remembered.
     fn carry_on(
         &mut self,
         name: &str,

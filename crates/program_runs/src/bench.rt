@@ -1,4 +1,4 @@
-//! A script under way.
+//! What a script's lines are carried out on.
 
 use crate::acts::act;
 use crate::asks::ask;
@@ -13,9 +13,9 @@ use script_words::{is_remark, number_of, words_of};
 use std::alloc::{AllocError, Global};
 use std::io;
 
-/// A script under way.
+/// What a script's lines are carried out on.
 #[derive(Drop)]
-pub struct Session {
+pub struct Bench {
     pub image: Vec<u64>,
     /// The request files.
     files: Vec<MemFile>,
@@ -26,9 +26,9 @@ pub struct Session {
     in_file: bool,
 }
 
-impl Session {
+impl Bench {
     /// No words, no files, and no call that fails.
-    pub fn new(alloc: Global) -> Result<Session, AllocError> {
+    pub fn new(alloc: Global) -> Result<Bench, AllocError> {
         let settings = Settings::new();
         let scene = Scene {
             image: &[],
@@ -36,7 +36,7 @@ impl Session {
             settings,
         };
         let medium = medium_of(alloc, &scene)?;
-        Ok(Session {
+        Ok(Bench {
             image: Vec::new(alloc),
             files: Vec::new(alloc),
             settings,
@@ -86,7 +86,7 @@ impl Session {
             return Ok(false);
         };
         match *first {
-            "start" => *self = Session::new(rt.alloc())?,
+            "start" => *self = Bench::new(rt.alloc())?,
             "load" => match rest {
                 [name] => self.image = stored_image(rt, name)?,
                 _ => return Ok(false),
