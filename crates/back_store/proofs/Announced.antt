@@ -12,7 +12,7 @@ use Rattle.redo_record.proofs.HeldLog.{announce_law}
 use Rattle.log_waiting.specs.Backlog.{IsLawful, log_of}
 use Rattle.back_store.specs.Back.{BackState, IsEnd, home_now}
 use Rattle.back_store.specs.Answers.{Announces, announced, answered}
-use Rattle.back_store.specs.Images.{HomeStays, Keeps, KeepsOn, RecoversOnTheWay}
+use Rattle.back_store.specs.Images.{HomeStays, HoldsStore, StillHoldsStore, RecoversOnTheWay}
 use Rattle.back_store.specs.declared.back_fault.BackFault.{BackFault}
 use Rattle.back_store.specs.declared.back_fault.BackFault.TheVariants.{RingFull, Device, Dead}
 use Rattle.back_store.specs.Told.{WereTold}
@@ -41,14 +41,14 @@ module _ (v : BackState) (lawful : IsLawful v.log) where
   alive_at : (result : Result ℕ BackFault) (x : ℕ) → result ≡ Ok x → (IsErrOf result Dead ↔ (v.dead ≡ true)) → v.dead ≡ false
   alive_at result x is dead = alive_from v.dead (λ was. let bad = dead.1 was in cc)
 
-  module _ (s : Sight) (end : ℕ) (alive : v.dead ≡ false) (before : ℕ) (keeps : Keeps before v s) (visible : IsTrue s.is_visible) where
+  module _ (s : Sight) (end : ℕ) (alive : v.dead ≡ false) (before : ℕ) (keeps : HoldsStore before v s) (visible : IsTrue s.is_visible) where
     held : HoldsLog (log_of v.log (home_now v.log.sizes s)) (after_all (announce_calls end) (state_now s))
     held = (announce_law (log_of v.log (home_now v.log.sizes s)) end (state_now s) (keeps.holds alive visible)).1
 
   untold : (w : BackState) (s t : Sight) → t ≡ s → w ≡ v → WereTold false v.log.durable w.log.durable (state_now s).told (state_now t).told
   untold w s t still is = tells_none false v.log.durable w.log.durable (state_now s).told (state_now t).told (ap (λ (u : BackState). u.log.durable) is) (ap (λ (u : Sight). (state_now u).told) still)
 
-  pub announce_keeps : (result : Result ℕ BackFault) (s t : Sight) → Announces v result s t → (IsErrOf result Dead ↔ (v.dead ≡ true)) → KeepsOn v (answered result (announced v) v) s t
+  pub announce_keeps : (result : Result ℕ BackFault) (s t : Sight) → Announces v result s t → (IsErrOf result Dead ↔ (v.dead ≡ true)) → StillHoldsStore v (answered result (announced v) v) s t
   announce_keeps (Ok x) s t a dead before keeps =
       let alive = alive_at (Ok x) x refl dead in
       keeps_behind before (announced v x) (home_now v.log.sizes s) a.made (held s a.end alive before keeps)

@@ -14,7 +14,7 @@ use Rattle.redo_record.proofs.WaitingRecords.{end_reached, waiting_law}
 use Rattle.log_waiting.specs.Backlog.{IsLawful, log_of}
 use Rattle.back_store.specs.Back.{BackState, IsEnd, home_now, waiting_now}
 use Rattle.back_store.specs.Answers.{CallsAnswered, answered}
-use Rattle.back_store.specs.Images.{Keeps}
+use Rattle.back_store.specs.Images.{HoldsStore}
 use Rattle.back_store.specs.declared.back_fault.BackFault.{BackFault}
 use Rattle.back_store.specs.declared.back_fault.BackFault.TheVariants.{RingFull, Device, Dead}
 use Rattle.back_store.proofs.RestingHome.{home_in, home_is}
@@ -24,7 +24,7 @@ pub durable_upto : (v : BackState) (end : ℕ) → IsLawful v.log → IsEnd v en
 durable_upto v end lawful is = end_reached lawful.lanes.distinct (λ r waits. waits) is lawful.led.lead
 
 -- nothing greater than the end was told
-pub told_upto : (before : ℕ) (v : BackState) (end : ℕ) (s : Sight) → IsLawful v.log → v.dead ≡ false → Keeps before v s → IsTrue s.is_visible → IsEnd v end → AtLeast before (state_now s).told end
+pub told_upto : (before : ℕ) (v : BackState) (end : ℕ) (s : Sight) → IsLawful v.log → v.dead ≡ false → HoldsStore before v s → IsTrue s.is_visible → IsEnd v end → AtLeast before (state_now s).told end
 told_upto before v end s lawful alive keeps visible is x told =
     let low = keeps.told alive visible x told in
     let up = durable_upto v end lawful is in
@@ -32,7 +32,7 @@ told_upto before v end s lawful alive keeps visible is x told =
 
 -- Behind calls that leave the log of a back, the medium is as that back left it.
 pub keeps_behind : (before : ℕ) (w : BackState) (home : List ℕ) {cs : List Call} {s t : Sight} → CallsMade cs true s t
-    → (IsTrue s.is_visible → HoldsLog (log_of w.log home) (after_all cs (state_now s))) → (IsTrue s.is_visible → AtLeast before (after_all cs (state_now s)).told w.log.durable) → Keeps before w t
+    → (IsTrue s.is_visible → HoldsLog (log_of w.log home) (after_all cs (state_now s))) → (IsTrue s.is_visible → AtLeast before (after_all cs (state_now s)).told w.log.durable) → HoldsStore before w t
 keeps_behind before w home {cs} {s} {t} made holds told = record {
   holds = λ alive visible.
       let here = sym (made_later made).is_visible ∙ visible in
@@ -50,14 +50,14 @@ home_behind w home {cs} {s} {t} made visible holds =
     ap (home_in w.log.sizes) (made_here made visible) ∙ home_is VERSION w.log.sizes w.log.reproduced home (after_all cs (state_now s)) holds.rest
 
 -- where no call was made
-pub keeps_same : (before : ℕ) (v w : BackState) (s t : Sight) → w ≡ v → t ≡ s → Keeps before v s → Keeps before w t
-keeps_same before v w s t same still keeps = subst (λ u. Keeps before w u) (sym still) (subst (λ u. Keeps before u s) (sym same) keeps)
+pub keeps_same : (before : ℕ) (v w : BackState) (s t : Sight) → w ≡ v → t ≡ s → HoldsStore before v s → HoldsStore before w t
+keeps_same before v w s t same still keeps = subst (λ u. HoldsStore before w u) (sym still) (subst (λ u. HoldsStore before u s) (sym same) keeps)
 
-pub keeps_dead : (before : ℕ) (w : BackState) (t : Sight) → w.dead ≡ true → Keeps before w t
+pub keeps_dead : (before : ℕ) (w : BackState) (t : Sight) → w.dead ≡ true → HoldsStore before w t
 keeps_dead before w t dead = record { holds = λ alive visible. absurd (let both = sym dead ∙ alive in cc); told = λ alive visible. absurd (let both = sym dead ∙ alive in cc) }
 
 -- every image at rest recovers to the end
-pub images_here : (before low : ℕ) (v : BackState) (s : Sight) → IsLawful v.log → image_words v.log.sizes ≤ s.len → v.dead ≡ false → Keeps before v s → IsEnd v low → IsTrue s.is_visible
+pub images_here : (before low : ℕ) (v : BackState) (s : Sight) → IsLawful v.log → image_words v.log.sizes ≤ s.len → v.dead ≡ false → HoldsStore before v s → IsEnd v low → IsTrue s.is_visible
     → EveryImage s.len (RecoversAmong (log_of v.log (home_now v.log.sizes s)) before low low) (state_now s)
 images_here before low v s lawful room alive keeps end visible =
     held_log_law (log_of v.log (home_now v.log.sizes s)) (state_now s) s.len before low (keeps.holds alive visible) room end (told_upto before v low s lawful alive keeps visible end)
@@ -80,7 +80,7 @@ moments_answered P (Err (RingFull used need)) {s = s} still law = subst (λ u. A
 
 -- behind a call, by its answer
 pub keeps_answered : {X : Type 0} (before : ℕ) (v : BackState) (ok : X → BackState) (result : Result X BackFault) {cs : List Call} {s t : Sight} → CallsAnswered result cs s t
-    → ((x : X) → result ≡ Ok x → CallsMade cs true s t → Keeps before (ok x) t) → Keeps before v s → Keeps before (answered result ok v) t
+    → ((x : X) → result ≡ Ok x → CallsMade cs true s t → HoldsStore before (ok x) t) → HoldsStore before v s → HoldsStore before (answered result ok v) t
 keeps_answered before v ok (Ok x) made behind keeps = behind x refl made
 keeps_answered before v ok (Err Device) {t = t} made behind keeps = keeps_dead before (record v { dead = true }) t refl
 keeps_answered before v ok (Err Dead) {s = s} {t = t} still behind keeps = keeps_same before v v s t refl still keeps
@@ -94,7 +94,7 @@ cause_answered (Err Dead) cs s t still is = cc
 cause_answered (Err (RingFull used need)) cs s t still is = cc
 
 -- of a dead back nothing is said
-pub keeps_alive : (before : ℕ) (w : BackState) (t : Sight) → (w.dead ≡ false → Keeps before w t) → Keeps before w t
+pub keeps_alive : (before : ℕ) (w : BackState) (t : Sight) → (w.dead ≡ false → HoldsStore before w t) → HoldsStore before w t
 keeps_alive before w t keeps = record { holds = λ alive. (keeps alive).holds alive; told = λ alive. (keeps alive).told alive }
 
 -- what stays of the medium

@@ -22,7 +22,7 @@ use Rattle.log_waiting.specs.Backlog.{IsLawful, log_of}
 use Rattle.log_waiting.proofs.AddedRecords.{added_distinct, added_waiting}
 use Rattle.back_store.specs.Back.{BackState, IsEnd, IsRingFull, home_now, ring_full}
 use Rattle.back_store.specs.Answers.{CallsAnswered, answered, persist_calls, with_record}
-use Rattle.back_store.specs.Images.{HomeStays, Keeps, KeepsOn, RecoversOnTheWay}
+use Rattle.back_store.specs.Images.{HomeStays, HoldsStore, StillHoldsStore, RecoversOnTheWay}
 use Rattle.back_store.specs.declared.back_fault.BackFault.{BackFault}
 use Rattle.back_store.specs.declared.back_fault.BackFault.TheVariants.{RingFull, Device, Dead}
 use Rattle.back_store.proofs.KeptLogs.{told_upto, keeps_behind, home_behind, keeps_same, keeps_dead, images_here, alive_from}
@@ -75,20 +75,20 @@ module _ (v : BackState) (ring : ℕ) (r : RedoBundle) (lawful : IsLawful v.log)
 
   module _ (s t : Sight) (room : image_words v.log.sizes ≤ s.len) (alive : v.dead ≡ false) (can : (home : List ℕ) → CanPersist (log_of v.log home) (next_head (lane_at v.log.lanes ring).ring) r) where
     -- at each moment of the calls
-    moments_made : {ok : Bool} → CallsMade (persist_calls v ring r) ok s t → (before low high : ℕ) → Keeps before v s → IsEnd v low → IsEnd (with_record ring r v) high
+    moments_made : {ok : Bool} → CallsMade (persist_calls v ring r) ok s t → (before low high : ℕ) → HoldsStore before v s → IsEnd v low → IsEnd (with_record ring r v) high
         → AtEveryMoment (RecoversAmong (log_of (with_record ring r v).log (home_now v.log.sizes s)) before low high) s t
     moments_made made before low high keeps one other = made_keep (RecoversAmong (log_of (with_record ring r v).log (home_now v.log.sizes s)) before low high) made (λ visible.
         (persist_law (log_of v.log (home_now v.log.sizes s)) (next_head lane.ring) r (rings_of new_lanes) (waiting_of new_lanes) (state_now s) (keeps.holds alive visible) (can (home_now v.log.sizes s)) logged adds).0
         s.len before low high room one other (told_upto before v low s lawful alive keeps visible one))
 
-    module _ (before : ℕ) (keeps : Keeps before v s) (visible : IsTrue s.is_visible) where
+    module _ (before : ℕ) (keeps : HoldsStore before v s) (visible : IsTrue s.is_visible) where
       held : HoldsLog (log_of (with_record ring r v).log (home_now v.log.sizes s)) (after_all (persist_calls v ring r) (state_now s))
       held = (persist_law (log_of v.log (home_now v.log.sizes s)) (next_head lane.ring) r (rings_of new_lanes) (waiting_of new_lanes) (state_now s) (keeps.holds alive visible) (can (home_now v.log.sizes s)) logged adds).1
 
       told : (after_all (persist_calls v ring r) (state_now s)).told ≡ (state_now s).told
       told = (persist_law (log_of v.log (home_now v.log.sizes s)) (next_head lane.ring) r (rings_of new_lanes) (waiting_of new_lanes) (state_now s) (keeps.holds alive visible) (can (home_now v.log.sizes s)) logged adds).2
 
-    keeps_made : CallsMade (persist_calls v ring r) true s t → KeepsOn v (with_record ring r v) s t
+    keeps_made : CallsMade (persist_calls v ring r) true s t → StillHoldsStore v (with_record ring r v) s t
     keeps_made made before keeps = keeps_behind before (with_record ring r v) (home_now v.log.sizes s) made (held before keeps)
         (λ visible. subst (λ ns. AtLeast before ns v.log.durable) (sym (told before keeps visible)) (keeps.told alive visible))
 
@@ -120,7 +120,7 @@ module _ (v : BackState) (ring : ℕ) (r : RedoBundle) (lawful : IsLawful v.log)
 
   -- behind it
   pub persist_keeps : (result : Result (Unit {0}) BackFault) (s t : Sight) → image_words v.log.sizes ≤ s.len → CallsAnswered result (persist_calls v ring r) s t → Full result → (IsErrOf result Dead ↔ (v.dead ≡ true)) → Can
-      → KeepsOn v (answered result (λ done. with_record ring r v) v) s t
+      → StillHoldsStore v (answered result (λ done. with_record ring r v) v) s t
   persist_keeps (Ok done) s t room calls full dead can before keeps =
       let alive : v.dead ≡ false = alive_from v.dead (λ was. let bad = dead.1 was in cc) in
       keeps_made s t room alive (λ home. can alive home (λ is. let bad = full.1 (alive, is) in cc)) calls before keeps

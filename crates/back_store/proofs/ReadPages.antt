@@ -13,7 +13,7 @@ use Rattle.std.specs.List.{range_with_len}
 use Rattle.log_waiting.specs.Backlog.{IsLawful, log_of}
 use Rattle.back_store.specs.Back.{BackState, home_now}
 use Rattle.back_store.specs.Answers.{CallsAnswered, answered}
-use Rattle.back_store.specs.Images.{HomeStays, Keeps, KeepsOn, RecoversOnTheWay}
+use Rattle.back_store.specs.Images.{HomeStays, HoldsStore, StillHoldsStore, RecoversOnTheWay}
 use Rattle.back_store.specs.declared.back_fault.BackFault.{BackFault}
 use Rattle.back_store.proofs.KeptLogs.{keeps_behind, home_behind, moments_answered, keeps_answered, images_here, ends_same, keeps_alive}
 use Rattle.back_store.proofs.PageReads.{reads_state}
@@ -31,10 +31,10 @@ module _ (v : BackState) (lawful : IsLawful v.log) (page : ℕ) (inside : page <
       after_each_weaker (λ q same. subst (EveryImage s.len P) (sym same) here)
       (read_page_law (log_of v.log (home_now v.log.sizes s)) page (state_now s) (keeps.holds alive visible) inside).0))
 
-  held : (before : ℕ) (s : Sight) → v.dead ≡ false → Keeps before v s → IsTrue s.is_visible → HoldsLog (log_of v.log (home_now v.log.sizes s)) (after_all (read_page_calls v.log.sizes page) (state_now s))
+  held : (before : ℕ) (s : Sight) → v.dead ≡ false → HoldsStore before v s → IsTrue s.is_visible → HoldsLog (log_of v.log (home_now v.log.sizes s)) (after_all (read_page_calls v.log.sizes page) (state_now s))
   held before s alive keeps visible = subst (HoldsLog (log_of v.log (home_now v.log.sizes s))) (sym (same_state (state_now s))) (keeps.holds alive visible)
 
-  pub read_keeps : {X : Type 0} (result : Result X BackFault) (s t : Sight) → CallsAnswered result (read_page_calls v.log.sizes page) s t → KeepsOn v (answered result (λ done. v) v) s t
+  pub read_keeps : {X : Type 0} (result : Result X BackFault) (s t : Sight) → CallsAnswered result (read_page_calls v.log.sizes page) s t → StillHoldsStore v (answered result (λ done. v) v) s t
   read_keeps result s t calls before keeps = keeps_answered before v (λ done. v) result calls (λ x _ made. keeps_alive before v t (λ alive.
       keeps_behind before v (home_now v.log.sizes s) made (held before s alive keeps) (λ visible. subst (λ (p : State). AtLeast before p.told v.log.durable) (sym (same_state (state_now s))) (keeps.told alive visible)))) keeps
 

@@ -24,7 +24,7 @@ use Rattle.log_waiting.specs.Backlog.{IsLawful, StopsAfter, log_of, without_reco
 use Rattle.log_waiting.proofs.ReleasedRecords.{lane_released, released_waiting}
 use Rattle.back_store.specs.Back.{BackState, IsEnd, home_now, waiting_now}
 use Rattle.back_store.specs.Answers.{CallsAnswered, ReproducedBy, Reproduces, ReproducesUnlessDead, answered, reproduced}
-use Rattle.back_store.specs.Images.{HasReproduced, IsReproduced, Keeps, KeepsOn, RecoversOnTheWay}
+use Rattle.back_store.specs.Images.{HasReproduced, IsReproduced, HoldsStore, StillHoldsStore, RecoversOnTheWay}
 use Rattle.back_store.specs.declared.back_fault.BackFault.{BackFault}
 use Rattle.back_store.specs.declared.back_fault.BackFault.TheVariants.{RingFull, Device, Dead}
 use Rattle.back_store.proofs.KeptLogs.{told_upto, keeps_behind, home_behind, keeps_dead, keeps_same, moments_answered, images_here, ends_same, alive_from}
@@ -57,7 +57,7 @@ module _ (v : BackState) (lawful : IsLawful v.log) (number : ℕ) where
       ends_same (λ n. AtEveryMoment (RecoversAmong (log_of v.log (home_now v.log.sizes s)) before low n) s t) v low high lawful one other
       (moments_answered (RecoversAmong (log_of v.log (home_now v.log.sizes s)) before low low) result r.made (λ visible. along before low s r.calls room alive keeps one visible r.by))
     where
-      along : (before low : ℕ) (s : Sight) (calls : List Call) → image_words v.log.sizes ≤ s.len → v.dead ≡ false → Keeps before v s → IsEnd v low → IsTrue s.is_visible
+      along : (before low : ℕ) (s : Sight) (calls : List Call) → image_words v.log.sizes ≤ s.len → v.dead ≡ false → HoldsStore before v s → IsEnd v low → IsTrue s.is_visible
           → ((number ≡ v.log.reproduced) × (calls ≡ [])) ⊎ ReproducedBy v number calls → AfterEachCall (EveryImage s.len (RecoversAmong (log_of v.log (home_now v.log.sizes s)) before low low)) (state_now s) calls
       along before low s calls room alive keeps one visible (inl nothing) = rw nothing.1 (end (images_here before low v s lawful room alive keeps one visible))
       along before low s calls room alive keeps one visible (inr by) = rw by.calls_are
@@ -76,22 +76,22 @@ module _ (v : BackState) (lawful : IsLawful v.log) (number : ℕ) where
   alive_at : (result : Result ℕ BackFault) (x : ℕ) → result ≡ Ok x → (IsErrOf result Dead ↔ (v.dead ≡ true)) → v.dead ≡ false
   alive_at result x is dead = alive_from v.dead (λ was. let bad = dead.1 was in cc)
 
-  keeps_by : (before x : ℕ) (s t : Sight) (calls : List Call) → v.dead ≡ false → x ≡ number → CallsMade calls true s t → ((number ≡ v.log.reproduced) × (calls ≡ [])) ⊎ ReproducedBy v number calls → Keeps before v s → Keeps before (reproduced v x) t
+  keeps_by : (before x : ℕ) (s t : Sight) (calls : List Call) → v.dead ≡ false → x ≡ number → CallsMade calls true s t → ((number ≡ v.log.reproduced) × (calls ≡ [])) ⊎ ReproducedBy v number calls → HoldsStore before v s → HoldsStore before (reproduced v x) t
   keeps_by before x s t calls alive is made (inl nothing) keeps = keeps_same before v (reproduced v x) s t (nothing_left x (is ∙ nothing.0)) (no_calls (subst (λ cs. CallsMade cs true s t) nothing.1 made)) keeps
   keeps_by before x s t calls alive is made (inr by) keeps =
       let home : List ℕ = home_now v.log.sizes s in
-      subst (λ w. Keeps before w t) (sym (them_left x is by.some))
+      subst (λ w. HoldsStore before w t) (sym (them_left x is by.some))
       (keeps_behind before after_them (overwritten by.writes home) (subst (λ cs. CallsMade cs true s t) by.calls_are made)
       (λ visible. held by.records by.writes home (can_by home by) (state_now s) (keeps.holds alive visible))
       (λ visible. subst (λ ns. AtLeast before ns v.log.durable) (sym (same_told by.records by.writes home (can_by home by) (state_now s) (keeps.holds alive visible))) (keeps.told alive visible)))
 
-  pub reproduce_keeps : (result : Result ℕ BackFault) (s t : Sight) → Reproduces v number result s t → (IsErrOf result Dead ↔ (v.dead ≡ true)) → KeepsOn v (answered result (reproduced v) v) s t
+  pub reproduce_keeps : (result : Result ℕ BackFault) (s t : Sight) → Reproduces v number result s t → (IsErrOf result Dead ↔ (v.dead ≡ true)) → StillHoldsStore v (answered result (reproduced v) v) s t
   reproduce_keeps (Ok x) s t r dead before keeps = keeps_by before x s t r.calls (alive_at (Ok x) x refl dead) r.answer r.made r.by keeps
   reproduce_keeps (Err Device) s t r dead before keeps = keeps_dead before (record v { dead = true }) t refl
   reproduce_keeps (Err Dead) s t r dead before keeps = keeps_same before v v s t refl r.made keeps
   reproduce_keeps (Err (RingFull used need)) s t r dead before keeps = keeps_same before v v s t refl r.made keeps
 
-  home_by : (before x : ℕ) (s t : Sight) (calls : List Call) → v.dead ≡ false → x ≡ number → CallsMade calls true s t → ((number ≡ v.log.reproduced) × (calls ≡ [])) ⊎ ReproducedBy v number calls → Keeps before v s → IsTrue s.is_visible
+  home_by : (before x : ℕ) (s t : Sight) (calls : List Call) → v.dead ≡ false → x ≡ number → CallsMade calls true s t → ((number ≡ v.log.reproduced) × (calls ≡ [])) ⊎ ReproducedBy v number calls → HoldsStore before v s → IsTrue s.is_visible
       → IsReproduced v (reproduced v x) x s t
   home_by before x s t calls alive is made (inl nothing) keeps visible =
       let here : x ≡ v.log.reproduced = is ∙ nothing.0 in
@@ -149,7 +149,7 @@ module _ (v : BackState) (lawful : IsLawful v.log) (most : ℕ) (s t : Sight) wh
   stop_moments (Err Dead) room still = moments_still room still
   stop_moments (Err (RingFull used need)) room still = moments_still room still
 
-  pub stop_keeps : (result : Result ℕ BackFault) → (IsErrOf result Dead ↔ (v.dead ≡ true)) → ReproducesUnlessDead v most result s t → KeepsOn v (answered result (reproduced v) v) s t
+  pub stop_keeps : (result : Result ℕ BackFault) → (IsErrOf result Dead ↔ (v.dead ≡ true)) → ReproducesUnlessDead v most result s t → StillHoldsStore v (answered result (reproduced v) v) s t
   stop_keeps (Ok x) dead up = reproduce_keeps v lawful up.stop (Ok x) s t up.made dead
   stop_keeps (Err Device) dead up = reproduce_keeps v lawful up.stop (Err Device) s t up.made dead
   stop_keeps (Err Dead) dead still = λ before keeps. keeps_same before v v s t refl still keeps

@@ -16,7 +16,7 @@ use Rattle.log_waiting.specs.Lane.{LaneState, empty_lane}
 use Rattle.log_waiting.specs.Lanes.{no_lane, rings_of, waiting_from}
 use Rattle.log_waiting.proofs.EmptyLanes.{lane_empty}
 use Rattle.back_store.specs.Back.{home_now, idle}
-use Rattle.back_store.specs.Images.{IsIdleMedium, Keeps}
+use Rattle.back_store.specs.Images.{IsIdleMedium, HoldsStore}
 
 -- the home of a state, as reads give it
 abbrev pub home_in : Sizes → State → List ℕ
@@ -35,7 +35,7 @@ none_in_empty s ring [] = refl
 none_in_empty s ring (r ∷ rings) = none_in_empty s (ring + 1) rings
 
 -- A medium at rest is that of a back where nothing waits.
-pub idle_keeps : (before : ℕ) (s : Sizes) (number : ℕ) (home : List ℕ) (t : Sight) → IsAccepted s → number ≤ MAX_NUMBER → (IsTrue t.is_visible → IsIdleMedium before s number home (state_now t)) → Keeps before (idle s number) t
+pub idle_keeps : (before : ℕ) (s : Sizes) (number : ℕ) (home : List ℕ) (t : Sight) → IsAccepted s → number ≤ MAX_NUMBER → (IsTrue t.is_visible → IsIdleMedium before s number home (state_now t)) → HoldsStore before (idle s number) t
 idle_keeps before s number home t accepted small idle_medium = record {
   holds = λ alive told.
       let medium = idle_medium told in

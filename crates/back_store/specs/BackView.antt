@@ -9,7 +9,7 @@ use Rattle.redo_record.specs.BackCalls.{read_page_calls}
 use Rattle.back_store.specs.declared.back.Back.{Back}
 use Rattle.back_store.specs.Back.{BackState, IsRingFull, home_now, ring_full}
 use Rattle.back_store.specs.Answers.{Announces, CallsAnswered, ReproducesUnlessDead, persist_calls}
-use Rattle.back_store.specs.Images.{HasReproduced, HomeStays, KeepsOn, RecoversOnTheWay}
+use Rattle.back_store.specs.Images.{HasReproduced, HomeStays, StillHoldsStore, RecoversOnTheWay}
 use Rattle.back_store.specs.Told.{WereTold}
 use Rattle.back_store.specs.declared.back_fault.BackFault.{BackFault}
 use Rattle.back_store.specs.declared.back_fault.BackFault.TheVariants.{Device, Dead}
@@ -96,7 +96,7 @@ pub record IsCrashSafe {M : Type 0} {ghosts : Ghosts M} (aim : BackState) (old n
   -- at each moment every image recovers to a number from the end before the call to the end of that back, and to its array
   pub moments : RecoversOnTheWay (state_of old) aim (sight_of old) (sight_of new)
   -- where the medium was as the back left it, it is so behind the call
-  pub keeps : KeepsOn (state_of old) (state_of new) (sight_of old) (sight_of new)
+  pub keeps : StillHoldsStore (state_of old) (state_of new) (sight_of old) (sight_of new)
 
 -- at Ok the home is as it was
 abbrev pub LeavesHome : {M X : Type 0} {ghosts : Ghosts M} → Result X BackFault → Back M ghosts → Back M ghosts → Type 0

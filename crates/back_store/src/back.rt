@@ -13,7 +13,7 @@ ghost use Rattle.log_waiting.specs.Lanes.{lane_at};
 ghost use Rattle.log_waiting.specs.Backlog.{IsLawful, StopsAfter, log_of};
 ghost use Rattle.back_store.specs.Back.{EndsFrom, IsRingFull, MayPersist, idle, ring_full};
 ghost use Rattle.back_store.specs.Answers.{CallsAnswered, SparesMedium, after_announce, after_persist, after_read, after_reproduce, with_record};
-ghost use Rattle.back_store.specs.Images.{IsIdleMedium, Keeps};
+ghost use Rattle.back_store.specs.Images.{IsIdleMedium, HoldsStore};
 ghost use Rattle.back_store.specs.declared.back_fault.BackFault.TheVariants.{Device, Dead};
 
 use crate::back_fault::BackFault;
@@ -59,7 +59,7 @@ impl<M: Medium> Back<M> {
         ensures keeps { IfOk result (λ back. (before : ℕ) (home : List ℕ)
             → (IsTrue (M.sight medium).is_visible
             → IsIdleMedium before sizes.now number home (state_now (M.sight medium)))
-            → Keeps before (state_of back) (M.sight medium)) }
+            → HoldsStore before (state_of back) (M.sight medium)) }
     {
         match Backlog::new(alloc, Place::of(sizes), number) {
             Ok(log) => Ok(Back {

@@ -9,7 +9,7 @@ use Rattle.redo_record.specs.LogState.{RecoversAmong}
 use Rattle.log_waiting.specs.Backlog.{log_of}
 use Rattle.back_store.specs.Back.{BackState, IsEnd, home_now, idle}
 use Rattle.back_store.specs.Answers.{Announces, CallsAnswered, announced}
-use Rattle.back_store.specs.Images.{HomeStays, Keeps, KeepsOn, RecoversOnTheWay}
+use Rattle.back_store.specs.Images.{HomeStays, HoldsStore, StillHoldsStore, RecoversOnTheWay}
 use Rattle.back_store.specs.declared.back_fault.BackFault.{BackFault}
 use Rattle.back_store.specs.declared.back_fault.BackFault.TheVariants.{RingFull, Device, Dead}
 use Rattle.image_opening.specs.Opened.{HoldsOpened}
@@ -27,9 +27,9 @@ announced_number v sizes number end is end_is = idle_ends sizes number end (subs
 
 -- the medium holds the image as before
 pub announced_holds : (v w : BackState) (sizes : Sizes) (number : ℕ) (words : List ℕ) (s t : Sight) → v ≡ idle sizes number → w ≡ idle sizes number → t.is_visible ≡ s.is_visible
-    → KeepsOn v w s t → HomeStays v s t → (before : ℕ) → HoldsOpened before sizes number words s → HoldsOpened before sizes number words t
+    → StillHoldsStore v w s t → HomeStays v s t → (before : ℕ) → HoldsOpened before sizes number words s → HoldsOpened before sizes number words t
 announced_holds v w sizes number words s t is becomes visibly keeps home before holds = record {
-  keeps = subst (λ (u : BackState). Keeps before u t) becomes (keeps before before_keeps);
+  keeps = subst (λ (u : BackState). HoldsStore before u t) becomes (keeps before before_keeps);
   home = λ visible.
       let was : IsTrue s.is_visible = subst (λ b. IsTrue b) visibly visible in
       let stays : home_now v.log.sizes t ≡ home_now v.log.sizes s = home before before_keeps (ap (λ (u : BackState). u.dead) is) was in
@@ -37,8 +37,8 @@ announced_holds v w sizes number words s t is becomes visibly keeps home before 
       subst P (ap (λ (u : BackState). u.log.sizes) is) stays ∙ holds.home was;
 }
   where
-    before_keeps : Keeps before v s
-    before_keeps = subst (λ (u : BackState). Keeps before u s) (sym is) holds.keeps
+    before_keeps : HoldsStore before v s
+    before_keeps = subst (λ (u : BackState). HoldsStore before u s) (sym is) holds.keeps
 
 -- at each moment every image recovers to the opening
 pub announced_moments : (v : BackState) (number : ℕ) (words : List ℕ) (s t : Sight) (opening : Opening) (before : ℕ) → v ≡ idle opening.sizes number → number ≡ opening.number

@@ -12,7 +12,7 @@ use Rattle.word_space.specs.Flats.{words_of}
 use Rattle.tatp_model.specs.declared.done.Done.{Done}
 use Rattle.tatp_model.specs.declared.request.Request.{Request}
 use Rattle.tatp_model.specs.Database.{Database}
-use Rattle.tatp_model.specs.OneThread.{HoldsAll, RepliesAlong, RepliesOfOneThread, is_changed, is_sync}
+use Rattle.tatp_model.specs.OneThread.{AllAreDone, RepliesAlong, RepliesOfOneThread, is_changed, is_sync}
 use Rattle.tatp_model.specs.Transaction.{after_request}
 use Rattle.tatp_layout.specs.StandsFor.{StandsFor}
 use Rattle.run_order.specs.Runs.{Collects, Performs, PrecedesInRounds, PrintedLike, SyncsFollow}
@@ -152,7 +152,7 @@ module _ (opening : Opening) (files : List (List Request)) (performed done : Lis
         (so_far.number, so_far.from, so_far.floor, omega (arith, so_far.most, last_in_order), recovers_printed image so_far.number so_far.recovers)) (ended.moments before held),
   )
 
-  pub whole_of : (words : List ℕ) (durable : ℕ) (s t : Sight) → HoldsAll files done → IsSettledRun opening words durable performed s t → IsWhole opening words files done durable s t
+  pub whole_of : (words : List ℕ) (durable : ℕ) (s t : Sight) → AllAreDone files done → IsSettledRun opening words durable performed s t → IsWhole opening words files done durable s t
   whole_of words durable s t all settled = record {
     all = all;
     last_is = settled.durable_is ∙ last_is_greatest;

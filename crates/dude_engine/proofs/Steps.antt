@@ -26,7 +26,7 @@ use Rattle.log_numbered.specs.declared.run_log.RunLog.{RunLog}
 use Rattle.log_numbered.specs.Arrays.{RunArrays, RecoversIn, array_at, with_writes}
 use Rattle.back_store.specs.Told.{WereTold}
 use Rattle.back_store.proofs.ToldNumbers.{tells_none, tells_then}
-use Rattle.log_numbered.specs.Backs.{GoesOn}
+use Rattle.log_numbered.specs.Backs.{LogGoesOn}
 use Rattle.log_numbered.specs.RunLog.{EndsAtLast, Follows, FollowsOn, IsAlive, RecoversOn, log_back, log_durable, log_end, log_last, log_sizes}
 use Rattle.dude_engine.specs.declared.run.Run.{Run}
 use Rattle.dude_engine.specs.declared.run_fault.RunFault.{RunFault}
@@ -94,7 +94,7 @@ module _ {M : Type 0} {ghosts : Ghosts M} (opening : Opening) (words : List ℕ)
       → (IsTrue s.is_visible → AreSyncsUpTo (log_durable later) done s u)
       → ((before : ℕ) (told image : List ℕ) → RecoversSoFar before opening performed told image → RecoversSoFar before opening done told image)
       → ((a : RunArrays) → HasArrays opening performed current a → HasArrays opening done new (more a))
-      → GoesOn true (log_back l) t (log_back later) u → FollowsOn more l t later u → RecoversOn more l t u
+      → LogGoesOn true (log_back l) t (log_back later) u → FollowsOn more l t later u → RecoversOn more l t u
       → IsRunning opening words lay l current performed s t → IsRunning opening words lay later new done s u
   running_call lay l later current new performed done more s t u answered last stands syncs grows arrays goes follows recovers run = record {
     layout = run.layout;
@@ -115,7 +115,7 @@ module _ {M : Type 0} {ghosts : Ghosts M} (opening : Opening) (words : List ℕ)
       → AreAnswered opening done → (AreSyncsTold performed s u → AreSyncsTold done s u)
       → ((before : ℕ) (told image : List ℕ) → RecoversSoFar before opening performed told image → RecoversSoFar before opening done told image)
       → ((a : RunArrays) → HasArrays opening performed current a → HasArrays opening done new (more a))
-      → GoesOn false (log_back l) t (log_back later) u → RecoversOn more l t u
+      → LogGoesOn false (log_back l) t (log_back later) u → RecoversOn more l t u
       → IsRunning opening words lay l current performed s t → HasFailed opening words (log_durable later) done s u
   failed_call lay l later current new performed done more s t u answered syncs grows arrays goes recovers run = record {
     answered = answered;
@@ -128,7 +128,7 @@ module _ {M : Type 0} {ghosts : Ghosts M} (opening : Opening) (words : List ℕ)
   }
 
   -- an announcement or a settlement that failed
-  pub failed_same : (lay : Sizes) (l later : RunLog M ghosts) (current : List ℕ) (performed : List Done) (s t u : Sight) → GoesOn false (log_back l) t (log_back later) u → RecoversOn (λ a. a) l t u
+  pub failed_same : (lay : Sizes) (l later : RunLog M ghosts) (current : List ℕ) (performed : List Done) (s t u : Sight) → LogGoesOn false (log_back l) t (log_back later) u → RecoversOn (λ a. a) l t u
       → IsRunning opening words lay l current performed s t → HasFailed opening words (log_durable later) performed s u
   failed_same lay l later current performed s t u goes recovers run =
       failed_call lay l later current current performed performed (λ a. a) s t u run.answered (λ syncs. syncs) (λ before told image so_far. so_far) (λ a has. has) goes recovers run
@@ -147,7 +147,7 @@ module _ {M : Type 0} {ghosts : Ghosts M} (opening : Opening) (words : List ℕ)
   -- a `SYNC`
   pub running_sync : (lay : Sizes) (l later : RunLog M ghosts) (current : List ℕ) (performed : List Done) (d : Done) (s t u : Sight) → IsNext opening performed d → d.wrote ≡ false → d.number ≡ log_last l
       → log_last later ≡ log_last l → log_durable later ≡ log_last l → (IsTrue t.is_visible → (earlier : List ℕ) × ((state_now u).told ≡ (state_now t).told ++ earlier ++ log_last l ∷ []))
-      → GoesOn true (log_back l) t (log_back later) u → FollowsOn (λ a. a) l t later u → RecoversOn (λ a. a) l t u
+      → LogGoesOn true (log_back l) t (log_back later) u → FollowsOn (λ a. a) l t later u → RecoversOn (λ a. a) l t u
       → IsRunning opening words lay l current performed s t → IsRunning opening words lay later current (performed ++ d ∷ []) s u
   running_sync lay l later current performed d s t u next unwritten number last durable told goes follows recovers run =
       running_call lay l later current current performed (performed ++ d ∷ []) (λ a. a) s t u (answered_push opening performed d run.answered next)
@@ -161,7 +161,7 @@ module _ {M : Type 0} {ghosts : Ghosts M} (opening : Opening) (words : List ℕ)
   -- a request that wrote
   module _ (lay : Sizes) (l later : RunLog M ghosts) (current new : List ℕ) (performed : List Done) (d : Done) (writes : List Write) (s t u : Sight) (next : IsNext opening performed d) (written : d.wrote ≡ true) (other : is_sync d.request ≡ false)
       (is : new ≡ overwritten writes current) (stands : StandsFor opening.sizes new (tables_after opening (performed ++ d ∷ []))) (recovers : RecoversOn (with_writes writes) l t u) (run : IsRunning opening words lay l current performed s t) where
-    pub running_write : log_last later ≡ log_last l + 1 → GoesOn true (log_back l) t (log_back later) u → FollowsOn (with_writes writes) l t later u → IsRunning opening words lay later new (performed ++ d ∷ []) s u
+    pub running_write : log_last later ≡ log_last l + 1 → LogGoesOn true (log_back l) t (log_back later) u → FollowsOn (with_writes writes) l t later u → IsRunning opening words lay later new (performed ++ d ∷ []) s u
     running_write last goes follows =
         running_call lay l later current new performed (performed ++ d ∷ []) (with_writes writes) s t u (answered_push opening performed d run.answered next)
         (omega (arith, last, run.last, number_written opening performed d next written, last_push opening.number performed d)) stands
@@ -169,7 +169,7 @@ module _ {M : Type 0} {ghosts : Ghosts M} (opening : Opening) (words : List ℕ)
         (λ before told image so_far. so_far_push before opening performed d told image next so_far)
         (λ a has. arrays_write opening performed d writes current new a run.answered next written is stands has) goes follows recovers run
 
-    pub failed_write : GoesOn false (log_back l) t (log_back later) u → HasFailed opening words (log_durable later) (performed ++ d ∷ []) s u
+    pub failed_write : LogGoesOn false (log_back l) t (log_back later) u → HasFailed opening words (log_durable later) (performed ++ d ∷ []) s u
     failed_write goes =
         failed_call lay l later current new performed (performed ++ d ∷ []) (with_writes writes) s t u (answered_push opening performed d run.answered next)
         (λ syncs. syncs_told_other performed d s u other syncs)
@@ -178,7 +178,7 @@ module _ {M : Type 0} {ghosts : Ghosts M} (opening : Opening) (words : List ℕ)
 
   -- ---- the end
 
-  module _ (lay : Sizes) (l later : RunLog M ghosts) (current : List ℕ) (performed : List Done) (s t u : Sight) (durable : log_durable later ≡ log_last l) (goes : GoesOn true (log_back l) t (log_back later) u)
+  module _ (lay : Sizes) (l later : RunLog M ghosts) (current : List ℕ) (performed : List Done) (s t u : Sight) (durable : log_durable later ≡ log_last l) (goes : LogGoesOn true (log_back l) t (log_back later) u)
       (recovers : RecoversOn (λ a. a) l t u) (run : IsRunning opening words lay l current performed s t) where
     pub running_settled : log_last later ≡ log_last l → FollowsOn (λ a. a) l t later u → IsRunning opening words lay later current performed s u
     running_settled last follows =

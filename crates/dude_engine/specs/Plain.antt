@@ -3,7 +3,7 @@ use Rattle.std.specs.Prelude.{◌≡◌, ◌↔◌, ℕ, Bool, true, false, IsTr
 use Rattle.pmem_trait.specs.Sights.{Sight, state_now, AtEveryMoment, SomeCalls}
 use Rattle.tatp_model.specs.declared.done.Done.{Done}
 use Rattle.tatp_model.specs.declared.request.Request.{Request}
-use Rattle.tatp_model.specs.OneThread.{HoldsAll, IsPrintedOrder}
+use Rattle.tatp_model.specs.OneThread.{AllAreDone, IsPrintedOrder}
 use Rattle.tatp_layout.specs.StandsFor.{StandsFor}
 use Rattle.pmem_trait.specs.declared.medium.Medium.{Ghosts}
 use Rattle.run_order.specs.Runs.{Performs, Collects}
@@ -37,7 +37,7 @@ RecoversOnTheRun opening words done s t = (before : ℕ) → HoldsOpened before 
 -- At the end of a whole run all requests are done, the greatest number done or the opening one was told last, and every image
 -- recovers to it.
 pub record IsWhole (opening : Opening) (words : List ℕ) (files : List (List Request)) (done : List Done) (last : ℕ) (s t : Sight) : Type 0 where
-  pub all : HoldsAll files done
+  pub all : AllAreDone files done
   pub last_is : last ≡ last_of opening.number done
   pub end : (before : ℕ) → HoldsOpened before opening.sizes opening.number words s → IsTrue s.is_visible → End opening done last s t
 

@@ -6,7 +6,7 @@ ghost use Rattle.pmem_trait.specs.Sights.{Sight};
 ghost use Rattle.tatp_model.specs.declared.done.Done.{Done};
 ghost use Rattle.tatp_model.specs.declared.reply.Reply.TheVariants.{Changed};
 ghost use Rattle.tatp_model.specs.declared.request.Request.TheVariants.{Sync};
-ghost use Rattle.tatp_model.specs.OneThread.{HoldsAll, PrecedesInFiles, is_changed, is_sync};
+ghost use Rattle.tatp_model.specs.OneThread.{AllAreDone, PrecedesInFiles, is_changed, is_sync};
 ghost use Rattle.tatp_model.specs.Request.{IsInRange};
 ghost use Rattle.run_order.specs.Runs.{Collects, PrecedesInRounds};
 ghost use Rattle.log_numbered.specs.LogCalls.{Makes};
@@ -47,7 +47,7 @@ impl<M: Medium> Run<M> {
             → IsLeft result opening words self.new s (M.sight (log_medium self.new.log)) }
         ensures rounds { AllPairs PrecedesInRounds self.new.done.items }
         ensures collects { (done : List Done) → IsPermutation self.new.done.items done → AllPairs PrecedesInFiles done → Collects (map (λ f. f.items) files.now) self.new.done.items done }
-        ensures all { OnOk result ((done : List Done) → IsPermutation self.new.done.items done → AllPairs PrecedesInFiles done → HoldsAll (map (λ f. f.items) files.now) done) }
+        ensures all { OnOk result ((done : List Done) → IsPermutation self.new.done.items done → AllPairs PrecedesInFiles done → AllAreDone (map (λ f. f.items) files.now) done) }
         ensures calls { OnOk result (Makes (RunBy (log_parts self.old.log) self.new.done.items (log_durable self.new.log)) (M.sight (log_medium self.old.log)) (M.sight (log_medium self.new.log))) }
         ensures settled { OnOk result ((opening : Opening) (words : List ℕ) (s : Sight) → Runs opening words self.old s (M.sight (log_medium self.old.log))
             → IsSettledRun opening words (log_durable self.new.log) self.new.done.items s (M.sight (log_medium self.new.log))) }
@@ -55,7 +55,7 @@ impl<M: Medium> Run<M> {
         let count = count_requests(files);
         self.done.reserve_exact(count)?;
         self.serve_all(files)?;
-        self.log.settle()?;
+        self.log.checkpoint()?;
         Ok(())
     }
 
@@ -73,7 +73,7 @@ impl<M: Medium> Run<M> {
         ensures calls { OnOk result (ServesMore self.old (M.sight (log_medium self.old.log)) self.new (M.sight (log_medium self.new.log))) }
         ensures rounds { AllPairs PrecedesInRounds self.new.done.items }
         ensures collects { (done : List Done) → IsPermutation self.new.done.items done → AllPairs PrecedesInFiles done → Collects (map (λ f. f.items) files.now) self.new.done.items done }
-        ensures all { OnOk result ((done : List Done) → IsPermutation self.new.done.items done → AllPairs PrecedesInFiles done → HoldsAll (map (λ f. f.items) files.now) done) }
+        ensures all { OnOk result ((done : List Done) → IsPermutation self.new.done.items done → AllPairs PrecedesInFiles done → AllAreDone (map (λ f. f.items) files.now) done) }
     {
         let longest = longest_file(files);
         for index in 0..longest {

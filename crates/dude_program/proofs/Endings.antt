@@ -6,7 +6,7 @@ use Rattle.std.proofs.lemmas.List.{length-append}
 use Rattle.std.proofs.Math.Seq.{take-append_seam}
 use Rattle.pmem_trait.specs.Sights.{Sight, Risen}
 use Rattle.tatp_model.specs.declared.done.Done.{Done}
-use Rattle.tatp_model.specs.OneThread.{HoldsAll}
+use Rattle.tatp_model.specs.OneThread.{AllAreDone}
 use Rattle.dude_io.specs.Files.{FilesSight}
 use Rattle.dude_io.specs.Sink.{SinkSight, Took}
 use Rattle.command_words.specs.Command.{Meaning}
@@ -31,7 +31,7 @@ use Rattle.dude_program.proofs.Crashes.{crash_each}
 pub record Finished (meaning : Meaning) (f : FilesSight) (opening : Opening) (done : List Done) (last : ℕ) (s t : Sight) : Type 0 where
   pub passes : makes_image meaning ≡ false → IsTrue f.is_visible → (why : Fault) → RefusesOpening meaning f opening why → ⊥
   pub replies : Replies meaning f opening done
-  pub all : HoldsAll replies.requests done
+  pub all : AllAreDone replies.requests done
   pub none_over : All (λ d. d.number ≤ last) done
   pub from : opening.number ≤ last
   pub reachable : IsReachable meaning opening done last

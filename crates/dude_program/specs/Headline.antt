@@ -11,7 +11,7 @@ use Rattle.pmem_trait.specs.Sights.{Sight, AtEveryMoment, state_now}
 use Rattle.pmem_trait.specs.Reads.{OnlyReads}
 use Rattle.tatp_model.specs.declared.done.Done.{Done}
 use Rattle.tatp_model.specs.declared.request.Request.{Request}
-use Rattle.tatp_model.specs.OneThread.{is_sync, IsPrintedOrder, HoldsAll, RepliesOfOneThread}
+use Rattle.tatp_model.specs.OneThread.{is_sync, IsPrintedOrder, AllAreDone, RepliesOfOneThread}
 use Rattle.dude_io.specs.Files.{FilesSight}
 use Rattle.dude_io.specs.Sink.{SinkSight}
 use Rattle.run_order.specs.Runs.{SyncsFollow}
@@ -67,7 +67,7 @@ pub record AllDone (meaning : Meaning) (old new : World) (done : List Done) (Tak
   pub starts : Starts meaning old.medium opening
   pub lawful : IsOpening opening
   pub replies : Replies meaning old.files opening done
-  pub all : HoldsAll replies.requests done
+  pub all : AllAreDone replies.requests done
   pub last : ℕ
   pub none_over : All (λ d. d.number ≤ last) done
   pub from : opening.number ≤ last

@@ -80,7 +80,7 @@ impl<R: FileSystem> FilePmem<R> {
 
     /// Writes the noted lines, syncs the file, and drops the notes. At an `Err` they stay: a later call writes them
     /// all once more, since a sync that failed may have lost what was written before it.
-    fn settle(&mut self) -> Result<(), Failed>
+    fn write_noted(&mut self) -> Result<(), Failed>
         ensures noted { noted_lines self.new ≡ (if is_ok result then [] else noted_lines self.old) }
         ensures words { self.new.cache.words ≡ self.old.cache.words }
         ensures room { OnOk result (pmem_room self.new ≡ 4096) }
@@ -201,7 +201,7 @@ impl<R: FileSystem + Eprint> Medium for FilePmem<R> {
         ensures stays_lost { HasLostLines self.old → HasLostLines self.new }
     {
         self.clock.tick()?;
-        self.settle()
+        self.write_noted()
     }
 
     fn tell(&mut self, number: u64) -> Result<(), Failed>

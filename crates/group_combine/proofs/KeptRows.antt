@@ -9,7 +9,7 @@ use Rattle.dude_base.specs.Writes.{written}
 use Rattle.dude_base.proofs.WriteLists.{put_absent}
 use Rattle.dude_base.proofs.Overwriting.{written-put}
 use Rattle.group_combine.specs.declared.numbered.Numbered.{Numbered}
-use Rattle.group_combine.specs.Numbered.{write_of, last_of, AreInOrder, EndsWord, GoesOn, IsKept}
+use Rattle.group_combine.specs.Numbered.{write_of, last_of, AreInOrder, EndsWord, HasNextOfWord, IsKept}
 use Rattle.group_combine.proofs.LastWrites.{last_of-push}
 
 pub kept_none : (row : List Numbered) → IsKept row [] 0
@@ -60,7 +60,7 @@ module _ (row : List Numbered) (k : ℕ) (e : Numbered) (order : AreInOrder row)
         }
 
     -- one that another write of its word follows isn't
-    pub kept_same : GoesOn row k → IsKept row ws (k + 1)
+    pub kept_same : HasNextOfWord row k → IsKept row ws (k + 1)
     kept_same (more, same) =
         record {
           rising = kept.rising;

@@ -33,8 +33,8 @@ abbrev pub EndsWord : List Numbered → ℕ → Type 0
 EndsWord row k = (d : Numbered) → k + 1 < length row → (slice_index_or row (k + 1) d).at ≢ (slice_index_or row k d).at
 
 -- the next write is of the same word
-abbrev pub GoesOn : List Numbered → ℕ → Type 0
-GoesOn row k = (k + 1 < length row) × ((d : Numbered) → (slice_index_or row (k + 1) d).at ≡ (slice_index_or row k d).at)
+abbrev pub HasNextOfWord : List Numbered → ℕ → Type 0
+HasNextOfWord row k = (k + 1 < length row) × ((d : Numbered) → (slice_index_or row (k + 1) d).at ≡ (slice_index_or row k d).at)
 
 -- These are the last writes of the words in the first k writes of a row, but for the word that the next write is of.
 pub record IsKept (row : List Numbered) (ws : List Write) (k : ℕ) : Type 0 where

@@ -3,7 +3,7 @@
 ghost use Rattle.std.specs.Prelude.{◌≡◌, ◌≤◌, ◌<◌, MatchBool, length, vec_len};
 ghost use Rattle.std.specs.Vec.{vec_capacity};
 ghost use Rattle.std.specs.List.Sorted.{IsPermutation};
-ghost use Rattle.group_combine.specs.Numbered.{AreInOrder, EndsWord, GoesOn, IsKept};
+ghost use Rattle.group_combine.specs.Numbered.{AreInOrder, EndsWord, HasNextOfWord, IsKept};
 
 use dude_base::write::Write;
 
@@ -28,7 +28,7 @@ pub fn sort_by_word(row: &mut Vec<Numbered>)
 // Whether the write at index `k` is the last one of its word, in a row that is in order.
 fn ends_word(row: &[Numbered], k: usize) -> bool
     requires { k < length row.now }
-    ensures { MatchBool result (EndsWord row.now k) (GoesOn row.now k) }
+    ensures { MatchBool result (EndsWord row.now k) (HasNextOfWord row.now k) }
 {
     k + 1 == row.len() || row[k + 1].at != row[k].at
 }

@@ -2,7 +2,7 @@
 
 ghost use Rattle.std.specs.Prelude.{◌≡◌, Some, ◌+◌, ◌*◌, ◌%◌, ◌^◌, ◌<◌, ◌≤◌, ℕ, List, None, if◌then◌else◌, IfOk, IfErr, IfSome, OnOk, slice_set};
 ghost use Rattle.word_space.specs.Sights.{IsBelow, shown};
-ghost use Rattle.word_space.specs.Steps.{GoesOn, Looked, RanOn, stop_of};
+ghost use Rattle.word_space.specs.Steps.{WordsGoOn, Looked, RanOn, stop_of};
 ghost use Rattle.record_heap.specs.Changes.{MadeAtMost, Wrote};
 ghost use Rattle.record_heap.specs.Pool.{IsRecord};
 ghost use Rattle.hash_table.specs.Seek.{IsAmid, PutsFree, SeeksFirst};
@@ -42,7 +42,7 @@ impl Table {
     pub fn find<W: Words>(&self, w: &mut W, key: u64) -> Result<Option<u64>, Stop>
         requires fits { FitsTable self.now (W.sight w.old).count }
         ensures looked { Looked (stop_of result) (W.sight w.old) (W.sight w.new) }
-        ensures turns { GoesOn W.turns_into w.old w.new }
+        ensures turns { WordsGoOn W.turns_into w.old w.new }
         ensures last { IfErr result (λ stop. (W.sight w.new).stopped ≡ Some stop) }
         ensures most { MadeAtMost (2 * self.now.pool.count) 0 (W.sight w.old) (W.sight w.new) }
         // In any array the answer is that of the chain of the key's bucket, and a record.
@@ -67,7 +67,7 @@ impl Table {
     pub fn insert<W: Words>(&self, w: &mut W, key: u64) -> Result<Put, Stop>
         requires fits { FitsTable self.now (W.sight w.old).count }
         ensures ran { RanOn (stop_of result) (W.sight w.old) (W.sight w.new) }
-        ensures turns { GoesOn W.turns_into w.old w.new }
+        ensures turns { WordsGoOn W.turns_into w.old w.new }
         ensures last { IfErr result (λ stop. (W.sight w.new).stopped ≡ Some stop) }
         ensures most { MadeAtMost (2 * self.now.pool.count + 4) 5 (W.sight w.old) (W.sight w.new) }
         ensures wrote { IfOk result (λ put. Wrote (write_count put) (W.sight w.old) (W.sight w.new)) }
@@ -91,7 +91,7 @@ impl Table {
     pub fn remove<W: Words>(&self, w: &mut W, key: u64) -> Result<bool, Stop>
         requires fits { FitsTable self.now (W.sight w.old).count }
         ensures ran { RanOn (stop_of result) (W.sight w.old) (W.sight w.new) }
-        ensures turns { GoesOn W.turns_into w.old w.new }
+        ensures turns { WordsGoOn W.turns_into w.old w.new }
         ensures last { IfErr result (λ stop. (W.sight w.new).stopped ≡ Some stop) }
         ensures most { MadeAtMost (2 * self.now.pool.count + 3) 4 (W.sight w.old) (W.sight w.new) }
         ensures wrote { IfOk result (λ was. Wrote (if was then 4 else 0) (W.sight w.old) (W.sight w.new)) }
@@ -123,7 +123,7 @@ impl Table {
     fn seek<W: Words>(&self, w: &mut W, key: u64) -> Result<Option<ChainPosition>, Stop>
         requires fits { FitsTable self.now (W.sight w.old).count }
         ensures looked { Looked (stop_of result) (W.sight w.old) (W.sight w.new) }
-        ensures turns { GoesOn W.turns_into w.old w.new }
+        ensures turns { WordsGoOn W.turns_into w.old w.new }
         ensures last { IfErr result (λ stop. (W.sight w.new).stopped ≡ Some stop) }
         ensures most { MadeAtMost (2 * self.now.pool.count) 0 (W.sight w.old) (W.sight w.new) }
         ensures record { IfOk result (λ r. IfSome r (λ p. IsRecord self.now.pool p.record)) }
@@ -150,7 +150,7 @@ impl Table {
     fn store<W: Words>(&self, w: &mut W, key: u64) -> Result<Put, Stop>
         requires fits { FitsTable self.now (W.sight w.old).count }
         ensures ran { RanOn (stop_of result) (W.sight w.old) (W.sight w.new) }
-        ensures turns { GoesOn W.turns_into w.old w.new }
+        ensures turns { WordsGoOn W.turns_into w.old w.new }
         ensures last { IfErr result (λ stop. (W.sight w.new).stopped ≡ Some stop) }
         ensures most { MadeAtMost 4 5 (W.sight w.old) (W.sight w.new) }
         ensures wrote { IfOk result (λ put. Wrote (write_count put) (W.sight w.old) (W.sight w.new)) }
@@ -175,7 +175,7 @@ impl Table {
         requires fits { FitsTable self.now (W.sight w.old).count }
         requires record { IsRecord self.now.pool at }
         ensures ran { RanOn (stop_of result) (W.sight w.old) (W.sight w.new) }
-        ensures turns { GoesOn W.turns_into w.old w.new }
+        ensures turns { WordsGoOn W.turns_into w.old w.new }
         ensures last { IfErr result (λ stop. (W.sight w.new).stopped ≡ Some stop) }
         ensures most { MadeAtMost 0 3 (W.sight w.old) (W.sight w.new) }
         ensures wrote { OnOk result (Wrote 3 (W.sight w.old) (W.sight w.new)) }
@@ -195,7 +195,7 @@ impl Table {
         requires record { IsRecord self.now.pool position.record }
         requires link { position.link < (W.sight w.old).count }
         ensures ran { RanOn (stop_of result) (W.sight w.old) (W.sight w.new) }
-        ensures turns { GoesOn W.turns_into w.old w.new }
+        ensures turns { WordsGoOn W.turns_into w.old w.new }
         ensures last { IfErr result (λ stop. (W.sight w.new).stopped ≡ Some stop) }
         ensures most { MadeAtMost 3 4 (W.sight w.old) (W.sight w.new) }
         ensures wrote { OnOk result (Wrote 4 (W.sight w.old) (W.sight w.new)) }

@@ -9,7 +9,7 @@ use Rattle.pmem_trait.specs.Sights.{Sight, state_now}
 use Rattle.tatp_layout.specs.StandsFor.{IsLawful}
 use Rattle.back_store.specs.Back.{home_now, idle}
 use Rattle.back_store.specs.BackView.{state_of}
-use Rattle.back_store.specs.Images.{Keeps}
+use Rattle.back_store.specs.Images.{HoldsStore}
 use Rattle.image_opening.specs.declared.opened.Opened.{Opened}
 
 -- On any medium: in the back nothing waits, and all up to the number is durable and in the home; the home is lawful.
@@ -23,7 +23,7 @@ pub record IsOpened {M : Type 0} {ghosts : Ghosts M} (o : Opened M ghosts) : Typ
 -- Where the medium is visible, it is as an idle back left it, and its home has these words; and no number over the opened one
 -- was told behind the first `before` ones.
 pub record HoldsOpened (before : ℕ) (sizes : Sizes) (number : ℕ) (words : List ℕ) (s : Sight) : Type 0 where
-  pub keeps : Keeps before (idle sizes number) s
+  pub keeps : HoldsStore before (idle sizes number) s
   pub home : IsTrue s.is_visible → home_now sizes s ≡ words
 
 -- no number over this one was told behind the first `before` ones

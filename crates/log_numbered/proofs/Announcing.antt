@@ -7,12 +7,12 @@ use Rattle.redo_record.specs.Waiting.{IsArrayAt}
 use Rattle.redo_record.proofs.WaitingRecords.{waiting_law}
 use Rattle.back_store.specs.Back.{BackState, IsEnd, home_now, waiting_now}
 use Rattle.back_store.specs.Answers.{Announces, CallsAnswered, announced, answered}
-use Rattle.back_store.specs.Images.{HomeStays, KeepsOn}
+use Rattle.back_store.specs.Images.{HomeStays, StillHoldsStore}
 use Rattle.back_store.specs.Told.{WereTold}
 use Rattle.back_store.specs.declared.back_fault.BackFault.{BackFault}
 use Rattle.back_store.specs.declared.back_fault.BackFault.TheVariants.{Device, Dead}
 use Rattle.log_numbered.specs.Arrays.{RunArrays}
-use Rattle.log_numbered.specs.Backs.{Any, CarriesOn, GoesOn, HoldsArrays, LeadsUpTo}
+use Rattle.log_numbered.specs.Backs.{Any, CarriesOn, LogGoesOn, HoldsArrays, LeadsUpTo}
 use Rattle.log_numbered.proofs.GoingOn.{by_device, failed, visible_before, went_on}
 use Rattle.log_numbered.proofs.LedLogs.{durable_least, leads_announced}
 
@@ -38,13 +38,13 @@ module _ (v w : BackState) (end : ℕ) (s t : Sight) (leads : LeadsUpTo v end) (
     pub announced_leads : LeadsUpTo w end
     announced_leads = subst (λ x. LeadsUpTo x end) (sym announced_back) (leads_announced v end leads)
 
-    pub announced_goes : Announces v (Ok number) s t → (IsTrue s.is_visible → WereTold true v.log.durable w.log.durable (state_now s).told (state_now t).told) → GoesOn true v s w t
+    pub announced_goes : Announces v (Ok number) s t → (IsTrue s.is_visible → WereTold true v.log.durable w.log.durable (state_now s).told (state_now t).told) → LogGoesOn true v s w t
     announced_goes a tells = went_on v w s t len (ap (λ (x : BackState). x.log.sizes) state)
         (let up = durable_least v end leads in let now = announced_durable in omega arith)
         (announce_calls a.end, a.made)
         tells
 
-    pub announced_carries : GoesOn true v s w t → KeepsOn v w s t → HomeStays v s t → CarriesOn Any v end s w end t
+    pub announced_carries : LogGoesOn true v s w t → StillHoldsStore v w s t → HomeStays v s t → CarriesOn Any v end s w end t
     announced_carries goes keeps stays before a any is = record {
       from = is.from;
       upto = is.upto;
@@ -56,7 +56,7 @@ module _ (v w : BackState) (end : ℕ) (s t : Sight) (leads : LeadsUpTo v end) (
 
   -- the call failed
   pub announce_failed : (fault : BackFault) → (fault ≡ Device) ⊎ (fault ≡ Dead) → (let result : Result ℕ BackFault = Err fault in IsErrOf result Dead ↔ (v.dead ≡ true)) → w ≡ answered (Err fault) (announced v) v
-      → Announces v (Err fault) s t → (IsTrue s.is_visible → WereTold false v.log.durable w.log.durable (state_now s).told (state_now t).told) → GoesOn false v s w t
+      → Announces v (Err fault) s t → (IsTrue s.is_visible → WereTold false v.log.durable w.log.durable (state_now s).told (state_now t).told) → LogGoesOn false v s w t
   announce_failed fault which dead state a tells =
       let device : fault ≡ Device = by_device fault v which (λ is. dead.0 (ap Err is)) leads.alive in
       let is : w ≡ record v { dead = true } = subst (λ f. w ≡ answered (Err f) (announced v) v) device state in

@@ -16,7 +16,7 @@ use Rattle.log_numbered.specs.declared.bundle_log.BundleLog.{BundleLog}
 use Rattle.log_numbered.specs.declared.open_bundle.OpenBundle.{OpenBundle}
 use Rattle.log_numbered.specs.declared.run_log.RunLog.{RunLog}
 use Rattle.log_numbered.specs.Arrays.{RecoversIn, RunArrays, array_at, last_number, with_writes}
-use Rattle.log_numbered.specs.Backs.{Carries, GoesOn, LeadsUpTo}
+use Rattle.log_numbered.specs.Backs.{Carries, LogGoesOn, LeadsUpTo}
 use Rattle.log_numbered.specs.BundleLog.{kept_back}
 use Rattle.log_numbered.specs.LogCalls.{Joins}
 use Rattle.log_numbered.specs.RunLog.{FollowsOn, IsAlive, OpenLeads, OpensUpTo, RecoversOn, log_back, log_end, log_last, log_open, log_sizes}
@@ -55,7 +55,7 @@ module _ {M : Type 0} {ghosts : Ghosts M} (k l : RunLog M ghosts) (s t : Sight) 
   pub calls_here : CallsMade [] true s t
   calls_here = subst (λ (u : Sight). CallsMade [] true s u) (sym still) none
 
-  pub goes_here : GoesOn true (log_back k) s (log_back l) t
+  pub goes_here : LogGoesOn true (log_back k) s (log_back l) t
   goes_here = went_on (log_back k) (log_back l) s t (ap (λ (u : Sight). u.len) still) (ap (λ (x : BundleLog M ghosts). (kept_back x).log.sizes) log_is)
       (let same : (log_back l).log.durable ≡ (log_back k).log.durable = ap (λ (x : BundleLog M ghosts). (kept_back x).log.durable) log_is in omega arith)
       ([], calls_here)

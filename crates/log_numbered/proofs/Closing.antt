@@ -9,7 +9,7 @@ use Rattle.log_numbered.specs.declared.open_bundle.OpenBundle.{OpenBundle}
 use Rattle.log_numbered.specs.declared.run_log.RunLog.{RunLog}
 use Rattle.log_numbered.specs.Arrays.{LeadsToLast, RecoversIn, RunArrays, array_at, last_number}
 use Rattle.back_store.specs.Told.{WereTold}
-use Rattle.log_numbered.specs.Backs.{Any, CarriesOn, GoesOn, HomeIsAt, LeadsUpTo, RecoversAlong}
+use Rattle.log_numbered.specs.Backs.{Any, CarriesOn, LogGoesOn, HomeIsAt, LeadsUpTo, RecoversAlong}
 use Rattle.log_numbered.specs.RunLog.{EndsAtLast, Follows, FollowsOn, HomeIsLast, IsAlive, IsOpen, OpenLeads, OpensUpTo, RecoversOn, log_back, log_durable, log_end, log_last, log_open, log_sizes}
 use Rattle.log_numbered.proofs.GoingOn.{visible_after}
 use Rattle.back_store.proofs.ToldNumbers.{told_more}
@@ -71,7 +71,7 @@ module _ {M : Type 0} {ghosts : Ghosts M} where
       every_moment_then (one before a f)
       (every_moment_weaker (λ told image size is. recovers_from k m before a told image alive end sizes is) (other before a tt (follows before a f).carried))
 
-  pub ends_behind : (k m : RunLog M ghosts) (s t u : Sight) → log_end m ≡ log_last k → log_sizes m ≡ log_sizes k → GoesOn true (log_back k) s (log_back m) t → FollowsOn (λ a. a) k s m t
+  pub ends_behind : (k m : RunLog M ghosts) (s t u : Sight) → log_end m ≡ log_last k → log_sizes m ≡ log_sizes k → LogGoesOn true (log_back k) s (log_back m) t → FollowsOn (λ a. a) k s m t
       → RecoversAlong Any (log_back m) (log_end m) t u → u.len ≡ t.len → EndsAtLast k s u
   ends_behind k m s t u end sizes goes follows along len before a f visible =
       let moments = along before a tt (follows before a f).carried in
@@ -83,13 +83,13 @@ module _ {M : Type 0} {ghosts : Ghosts M} where
             (at.each image (subst (λ (n : ℕ). IsImage n (state_now u) image) len is)));
       }
 
-  pub home_behind : (k m : RunLog M ghosts) (s t u : Sight) → log_end m ≡ log_last k → log_sizes m ≡ log_sizes k → GoesOn true (log_back k) s (log_back m) t → FollowsOn (λ a. a) k s m t
+  pub home_behind : (k m : RunLog M ghosts) (s t u : Sight) → log_end m ≡ log_last k → log_sizes m ≡ log_sizes k → LogGoesOn true (log_back k) s (log_back m) t → FollowsOn (λ a. a) k s m t
       → HomeIsAt (log_back m) (log_end m) t u → HomeIsLast k s u
   home_behind k m s t u end sizes goes follows home before a f visible =
       subst (λ z. home_now z u ≡ array_at a (last_number a)) sizes
       (home before a (follows before a f).carried (visible_after goes visible) ∙ ap (array_at a) (end ∙ f.last))
 
-  pub told_behind : (k m : RunLog M ghosts) (s t u : Sight) (end last : ℕ) → end ≡ last → GoesOn true (log_back k) s (log_back m) t → (IsTrue t.is_visible → (state_now u).told ≡ (state_now t).told ++ end ∷ [])
+  pub told_behind : (k m : RunLog M ghosts) (s t u : Sight) (end last : ℕ) → end ≡ last → LogGoesOn true (log_back k) s (log_back m) t → (IsTrue t.is_visible → (state_now u).told ≡ (state_now t).told ++ end ∷ [])
       → IsTrue s.is_visible → (earlier : List ℕ) × ((state_now u).told ≡ (state_now s).told ++ earlier ++ last ∷ [])
   told_behind k m s t u end last same goes told visible =
       let more = told_more (log_durable k) (log_durable m) (state_now s).told (state_now t).told (goes.tells visible) in (

@@ -13,7 +13,7 @@ use Rattle.back_store.specs.declared.back_fault.BackFault.TheVariants.{Device, D
 use Rattle.back_store.proofs.KeptLogs.{images_here}
 use Rattle.log_numbered.specs.Arrays.{RecoversIn, RunArrays, array_at}
 use Rattle.back_store.specs.Told.{WereTold}
-use Rattle.log_numbered.specs.Backs.{Any, CarriesOn, GoesOn, HomeIsAt, LeadsUpTo, RecoversAlong}
+use Rattle.log_numbered.specs.Backs.{Any, CarriesOn, LogGoesOn, HomeIsAt, LeadsUpTo, RecoversAlong}
 use Rattle.log_numbered.proofs.HeldArrays.{moments_less, recovers_in}
 use Rattle.log_numbered.proofs.NoTells.{TellsNothing, told_same}
 use Rattle.back_store.proofs.ToldNumbers.{tells_none, tells_then}
@@ -24,7 +24,7 @@ by_device fault v which was alive = ⊎_elim (λ is. is) (λ is. let dead = was 
 
 -- a call went well
 pub went_on : (v w : BackState) (s t : Sight) → t.len ≡ s.len → w.log.sizes ≡ v.log.sizes → v.log.durable ≤ w.log.durable → SomeCalls true s t
-    → (IsTrue s.is_visible → WereTold true v.log.durable w.log.durable (state_now s).told (state_now t).told) → GoesOn true v s w t
+    → (IsTrue s.is_visible → WereTold true v.log.durable w.log.durable (state_now s).told (state_now t).told) → LogGoesOn true v s w t
 went_on v w s t len sizes rises ran tells = record {
   len = len;
   sizes = sizes;
@@ -36,7 +36,7 @@ went_on v w s t len sizes rises ran tells = record {
 
 -- a call failed
 pub failed : (v w : BackState) (s t : Sight) (cs : List Call) → t.len ≡ s.len → w ≡ record v { dead = true } → CallsMade cs false s t
-    → (IsTrue s.is_visible → WereTold false v.log.durable w.log.durable (state_now s).told (state_now t).told) → GoesOn false v s w t
+    → (IsTrue s.is_visible → WereTold false v.log.durable w.log.durable (state_now s).told (state_now t).told) → LogGoesOn false v s w t
 failed v w s t cs len is made tells = record {
   len = len;
   sizes = ap (λ (x : BackState). x.log.sizes) is;
@@ -47,19 +47,19 @@ failed v w s t cs len is made tells = record {
 }
 
 -- and told nothing
-pub failed_untold : (v w : BackState) (s t : Sight) (cs : List Call) → t.len ≡ s.len → w ≡ record v { dead = true } → CallsMade cs false s t → All TellsNothing cs → GoesOn false v s w t
+pub failed_untold : (v w : BackState) (s t : Sight) (cs : List Call) → t.len ≡ s.len → w ≡ record v { dead = true } → CallsMade cs false s t → All TellsNothing cs → LogGoesOn false v s w t
 failed_untold v w s t cs len is made nothing =
     failed v w s t cs len is made (λ visible. tells_none false v.log.durable w.log.durable (state_now s).told (state_now t).told (ap (λ (x : BackState). x.log.durable) is) (told_same made nothing visible))
 
 -- the medium was as visible before
-pub visible_before : {ok : Bool} {v w : BackState} {s t : Sight} → GoesOn ok v s w t → IsTrue t.is_visible → IsTrue s.is_visible
+pub visible_before : {ok : Bool} {v w : BackState} {s t : Sight} → LogGoesOn ok v s w t → IsTrue t.is_visible → IsTrue s.is_visible
 visible_before goes visible = sym (made_later goes.ran.1).is_visible ∙ visible
 
-pub visible_after : {ok : Bool} {v w : BackState} {s t : Sight} → GoesOn ok v s w t → IsTrue s.is_visible → IsTrue t.is_visible
+pub visible_after : {ok : Bool} {v w : BackState} {s t : Sight} → LogGoesOn ok v s w t → IsTrue s.is_visible → IsTrue t.is_visible
 visible_after goes visible = (made_later goes.ran.1).is_visible ∙ visible
 
 -- one call after another
-pub goes_then : {ok : Bool} (v w x : BackState) (s t u : Sight) → GoesOn true v s w t → GoesOn ok w t x u → GoesOn ok v s x u
+pub goes_then : {ok : Bool} (v w x : BackState) (s t u : Sight) → LogGoesOn true v s w t → LogGoesOn ok w t x u → LogGoesOn ok v s x u
 goes_then {ok} v w x s t u one other = record {
   len = other.len ∙ one.len;
   sizes = other.sizes ∙ one.sizes;
@@ -108,7 +108,7 @@ if_ok_same (Ok n) a b same is = is ∙ same
 if_ok_same (Err e) a b same is = tt
 
 -- the home, seen from the back before
-pub home_then : (v w : BackState) (e f : ℕ) (s t u : Sight) → GoesOn true v s w t → f ≡ e → CarriesOn Any v e s w f t → HomeIsAt w f t u → HomeIsAt v e s u
+pub home_then : (v w : BackState) (e f : ℕ) (s t u : Sight) → LogGoesOn true v s w t → f ≡ e → CarriesOn Any v e s w f t → HomeIsAt w f t u → HomeIsAt v e s u
 home_then v w e f s t u goes end carries home before a is visible =
     subst (λ z. home_now z u ≡ array_at a e) goes.sizes (subst (λ n. home_now w.log.sizes u ≡ array_at a n) end (home before a (carries before a tt is) (visible_after goes visible)))
 

@@ -8,11 +8,11 @@ use Rattle.log_ring.specs.Ring.{next_head}
 use Rattle.log_waiting.specs.Lanes.{lane_at}
 use Rattle.back_store.specs.Back.{BackState, IsRingFull, home_now, ring_full}
 use Rattle.back_store.specs.Answers.{CallsAnswered, answered, persist_calls, with_record}
-use Rattle.back_store.specs.Images.{HomeStays, KeepsOn, RecoversOnTheWay}
+use Rattle.back_store.specs.Images.{HomeStays, StillHoldsStore, RecoversOnTheWay}
 use Rattle.back_store.specs.declared.back_fault.BackFault.{BackFault}
 use Rattle.back_store.specs.declared.back_fault.BackFault.TheVariants.{RingFull, Device, Dead}
 use Rattle.log_numbered.specs.Arrays.{LeadsToLast, RunArrays, array_at}
-use Rattle.log_numbered.specs.Backs.{Any, Carries, CarriesOn, GoesOn, HoldsArrays, LeadsUpTo, RecoversAlong, WasFull}
+use Rattle.log_numbered.specs.Backs.{Any, Carries, CarriesOn, LogGoesOn, HoldsArrays, LeadsUpTo, RecoversAlong, WasFull}
 use Rattle.log_numbered.proofs.GoingOn.{by_device, failed_untold, visible_before, went_on}
 use Rattle.log_numbered.proofs.HeldArrays.{holds_added, moments_less, recovers_in}
 use Rattle.log_numbered.proofs.LedLogs.{end_added, leads_added}
@@ -35,7 +35,7 @@ module _ (v : BackState) (end : ℕ) (s : Sight) (leads : LeadsUpTo v end) (ring
       pub persisted_leads : (IsRingFull v ring b → ⊥) → b.last ≤ MAX_NUMBER → All (λ x. x.at < v.log.sizes.pages * 64) b.writes → LeadsUpTo w b.last
       persisted_leads room small home = subst (λ x. LeadsUpTo x b.last) (sym state) (leads_added v end leads ring b below next room small home)
 
-      pub persisted_goes : CallsMade (persist_calls v ring b) true s t → GoesOn true v s w t
+      pub persisted_goes : CallsMade (persist_calls v ring b) true s t → LogGoesOn true v s w t
       persisted_goes made =
           let durable : w.log.durable ≡ v.log.durable = ap (λ (x : BackState). x.log.durable) state in
           went_on v w s t len (ap (λ (x : BackState). x.log.sizes) state) (omega arith)
@@ -43,7 +43,7 @@ module _ (v : BackState) (end : ℕ) (s : Sight) (leads : LeadsUpTo v end) (ring
           (λ visible. tells_none true v.log.durable w.log.durable (state_now s).told (state_now t).told durable
           (told_same made (append_tells_nothing v.log.sizes (next_head (lane_at v.log.lanes ring).ring) b) visible))
 
-      pub persisted : GoesOn true v s w t → KeepsOn v w s t → HomeStays v s t → CarriesOn (λ a. LeadsToLast a end b) v end s w b.last t
+      pub persisted : LogGoesOn true v s w t → StillHoldsStore v w s t → HomeStays v s t → CarriesOn (λ a. LeadsToLast a end b) v end s w b.last t
       persisted goes keeps stays before a to is = record {
         from = (let from = is.from in omega arith);
         upto = (let last = to.last in omega arith);
@@ -65,7 +65,7 @@ module _ (v : BackState) (end : ℕ) (s : Sight) (leads : LeadsUpTo v end) (ring
       pub full_leads : LeadsUpTo w end
       full_leads = subst (λ x. LeadsUpTo x end) (sym state) leads
 
-      pub full_goes : GoesOn true v s w t
+      pub full_goes : LogGoesOn true v s w t
       full_goes = went_on v w s t len (ap (λ (x : BackState). x.log.sizes) state)
           (let durable : w.log.durable ≡ v.log.durable = ap (λ (x : BackState). x.log.durable) state in omega arith)
           ([], subst (λ u. CallsMade [] true s u) (sym same) none)
@@ -82,7 +82,7 @@ module _ (v : BackState) (end : ℕ) (s : Sight) (leads : LeadsUpTo v end) (ring
 
     -- the call failed
     pub persist_failed : (fault : BackFault) → (fault ≡ Device) ⊎ (fault ≡ Dead) → (let result : Result (Unit {0}) BackFault = Err fault in IsErrOf result Dead ↔ (v.dead ≡ true))
-        → w ≡ answered {X = Unit {0}} (Err fault) (λ done. with_record ring b v) v → CallsAnswered {X = Unit {0}} (Err fault) (persist_calls v ring b) s t → GoesOn false v s w t
+        → w ≡ answered {X = Unit {0}} (Err fault) (λ done. with_record ring b v) v → CallsAnswered {X = Unit {0}} (Err fault) (persist_calls v ring b) s t → LogGoesOn false v s w t
     persist_failed fault which dead state calls =
         let device : fault ≡ Device = by_device fault v which (λ is. dead.0 (ap Err is)) leads.alive in
         let is : w ≡ record v { dead = true } = subst (λ f. w ≡ answered {X = Unit {0}} (Err f) (λ done. with_record ring b v) v) device state in

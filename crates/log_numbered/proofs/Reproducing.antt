@@ -8,11 +8,11 @@ use Rattle.pmem_trait.specs.Sights.{Sight, state_now, CallsMade}
 use Rattle.log_waiting.specs.Backlog.{StopsAfter}
 use Rattle.back_store.specs.Back.{BackState, home_now}
 use Rattle.back_store.specs.Answers.{ReproducedBy, ReproducesUnlessDead, ReproducesUpTo, answered, reproduced}
-use Rattle.back_store.specs.Images.{HasReproduced, KeepsOn}
+use Rattle.back_store.specs.Images.{HasReproduced, StillHoldsStore}
 use Rattle.back_store.specs.declared.back_fault.BackFault.{BackFault}
 use Rattle.back_store.specs.declared.back_fault.BackFault.TheVariants.{Device, Dead}
 use Rattle.log_numbered.specs.Arrays.{array_at}
-use Rattle.log_numbered.specs.Backs.{Any, CarriesOn, GoesOn, HomeIsAt, LeadsUpTo}
+use Rattle.log_numbered.specs.Backs.{Any, CarriesOn, LogGoesOn, HomeIsAt, LeadsUpTo}
 use Rattle.log_numbered.proofs.GoingOn.{by_device, failed_untold, visible_before, went_on}
 use Rattle.log_numbered.proofs.HeldArrays.{holds_reproduced}
 use Rattle.log_numbered.proofs.LedLogs.{Reproduced, durable_least, leads_reproduced, none_waits, numbers_reproduced, reproduced_least, stop_last}
@@ -44,14 +44,14 @@ module _ (v w : BackState) (end : ℕ) (s t : Sight) (alive : LeadsUpTo v end) (
     pub reproduced_told : ReproducesUpTo v most (Ok number) s t → IsTrue s.is_visible → (state_now t).told ≡ (state_now s).told
     reproduced_told r visible = told_same r.made.made (untold r.made.by) visible
 
-    pub reproduced_goes : ReproducesUpTo v most (Ok number) s t → GoesOn true v s w t
+    pub reproduced_goes : ReproducesUpTo v most (Ok number) s t → LogGoesOn true v s w t
     reproduced_goes r = went_on v w s t len numbers.sizes (let same = numbers.durable in omega arith) (r.made.calls, r.made.made)
         (λ visible. tells_none true v.log.durable w.log.durable (state_now s).told (state_now t).told numbers.durable (reproduced_told r visible))
 
     low : v.log.reproduced ≤ number
     low = let d = durable_least v end alive in let e = reproduced_least v end alive in let there = is_last in omega arith
 
-    pub reproduced_carries : GoesOn true v s w t → KeepsOn v w s t → HasReproduced v w number s t → CarriesOn Any v end s w end t
+    pub reproduced_carries : LogGoesOn true v s w t → StillHoldsStore v w s t → HasReproduced v w number s t → CarriesOn Any v end s w end t
     reproduced_carries goes keeps done before a any is = record {
       from = is.from;
       upto = is.upto;
@@ -67,7 +67,7 @@ module _ (v w : BackState) (end : ℕ) (s t : Sight) (alive : LeadsUpTo v end) (
 
   -- the call failed
   pub reproduce_failed : (fault : BackFault) → (fault ≡ Device) ⊎ (fault ≡ Dead) → (let result : Result ℕ BackFault = Err fault in IsErrOf result Dead ↔ (v.dead ≡ true)) → w ≡ answered (Err fault) (reproduced v) v
-      → ReproducesUnlessDead v most (Err fault) s t → GoesOn false v s w t
+      → ReproducesUnlessDead v most (Err fault) s t → LogGoesOn false v s w t
   reproduce_failed fault which dead state calls =
       let device : fault ≡ Device = by_device fault v which (λ is. dead.0 (ap Err is)) alive.alive in
       let is : w ≡ record v { dead = true } = subst (λ f. w ≡ answered (Err f) (reproduced v) v) device state in

@@ -7,7 +7,7 @@ use Rattle.pmem_trait.specs.Sights.{Sight, state_now, AtEveryMoment, Risen, Some
 use Rattle.redo_record.specs.Waiting.{IsArrayAt, Waiting}
 use Rattle.log_waiting.specs.Backlog.{IsLawful}
 use Rattle.back_store.specs.Back.{BackState, IsEnd, IsRingFull, home_now, waiting_now}
-use Rattle.back_store.specs.Images.{Keeps}
+use Rattle.back_store.specs.Images.{HoldsStore}
 use Rattle.back_store.specs.Told.{WereTold}
 use Rattle.log_numbered.specs.Arrays.{RunArrays, RecoversIn, array_at, last_number}
 
@@ -31,7 +31,7 @@ pub record HoldsArrays (a : RunArrays) (v : BackState) (s : Sight) : Type 0 wher
 pub record Carries (before : ℕ) (a : RunArrays) (v : BackState) (end : ℕ) (s : Sight) : Type 0 where
   pub from : a.first ≤ end
   pub upto : end ≤ last_number a
-  pub keeps : Keeps before v s
+  pub keeps : HoldsStore before v s
   pub holds : IsTrue s.is_visible → HoldsArrays a v s
 
 -- of any arrays
@@ -58,7 +58,7 @@ pub record WasFull (ring : ℕ) (b : RedoBundle) (v : BackState) (end : ℕ) (s 
   pub sight : t ≡ s
 
 -- What a call leaves whatever the medium: the medium's length, the sizes, and a durable number that is no less.
-pub record GoesOn (ok : Bool) (v : BackState) (s : Sight) (w : BackState) (t : Sight) : Type 0 where
+pub record LogGoesOn (ok : Bool) (v : BackState) (s : Sight) (w : BackState) (t : Sight) : Type 0 where
   pub len : t.len ≡ s.len
   pub sizes : w.log.sizes ≡ v.log.sizes
   pub rises : v.log.durable ≤ w.log.durable

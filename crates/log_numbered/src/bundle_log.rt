@@ -9,7 +9,7 @@ ghost use Rattle.redo_record.specs.Record.{cells_for};
 ghost use Rattle.back_store.specs.Answers.{announced, reproduced};
 ghost use Rattle.back_store.specs.Back.{IsRingFull};
 ghost use Rattle.log_numbered.specs.Arrays.{LeadsToLast};
-ghost use Rattle.log_numbered.specs.Backs.{Any, CarriesOn, GoesOn, HomeIsAt, LeadsUpTo, RecoversAlong, WasFull};
+ghost use Rattle.log_numbered.specs.Backs.{Any, CarriesOn, LogGoesOn, HomeIsAt, LeadsUpTo, RecoversAlong, WasFull};
 ghost use Rattle.log_numbered.specs.LogCalls.{BroughtHomeBy, BundlePersistedBy, Makes, PersistedBy, SettledBy, settled};
 
 use back_store::{Back, BackFault};
@@ -33,7 +33,7 @@ impl<M: Medium> BundleLog<M> {
         requires first { first_of b.now ≡ self.old.end + 1 }
         requires small { b.now.last ≤ MAX_NUMBER }
         requires home { All (λ w. w.at < (kept_back self.old).log.sizes.pages * PAGE) b.now.writes }
-        ensures goes_on { GoesOn (is_ok result) (kept_back self.old) (M.sight (kept_medium self.old)) (kept_back self.new) (M.sight (kept_medium self.new)) }
+        ensures goes_on { LogGoesOn (is_ok result) (kept_back self.old) (M.sight (kept_medium self.old)) (kept_back self.new) (M.sight (kept_medium self.new)) }
         ensures alive { is_ok result ≡ true → LeadsUpTo (kept_back self.new) self.new.end }
         ensures end { IfOk result (λ room. IsTrue room → self.new.end ≡ b.now.last) }
         ensures calls { IfOk result (λ room. IsTrue room → Makes (PersistedBy ring b.now (kept_back self.old) (kept_back self.new)) (M.sight (kept_medium self.old)) (M.sight (kept_medium self.new))) }
@@ -61,7 +61,7 @@ impl<M: Medium> BundleLog<M> {
         requires home { All (λ w. w.at < (kept_back self.old).log.sizes.pages * PAGE) b.now.writes }
         requires alone { (kept_back self.old).log.reproduced ≡ self.old.end }
         requires short { cells_for (length b.now.writes) ≤ (kept_back self.old).log.sizes.cells }
-        ensures goes_on { GoesOn (is_ok result) (kept_back self.old) (M.sight (kept_medium self.old)) (kept_back self.new) (M.sight (kept_medium self.new)) }
+        ensures goes_on { LogGoesOn (is_ok result) (kept_back self.old) (M.sight (kept_medium self.old)) (kept_back self.new) (M.sight (kept_medium self.new)) }
         ensures alive { is_ok result ≡ true → LeadsUpTo (kept_back self.new) self.new.end }
         ensures end { OnOk result (self.new.end ≡ b.now.last) }
         ensures calls { OnOk result (Makes (PersistedBy ring b.now (kept_back self.old) (kept_back self.new)) (M.sight (kept_medium self.old)) (M.sight (kept_medium self.new))) }
@@ -79,7 +79,7 @@ impl<M: Medium> BundleLog<M> {
     fn reproduce_all(&mut self) -> Result<(), Failed>
         requires alive { LeadsUpTo (kept_back self.old) self.old.end }
         requires announced { (kept_back self.old).log.durable ≡ self.old.end }
-        ensures goes_on { GoesOn (is_ok result) (kept_back self.old) (M.sight (kept_medium self.old)) (kept_back self.new) (M.sight (kept_medium self.new)) }
+        ensures goes_on { LogGoesOn (is_ok result) (kept_back self.old) (M.sight (kept_medium self.old)) (kept_back self.new) (M.sight (kept_medium self.new)) }
         ensures alive { is_ok result ≡ true → LeadsUpTo (kept_back self.new) self.new.end }
         ensures back { OnOk result ((kept_back self.new) ≡ reproduced (kept_back self.old) self.old.end) }
         ensures end { self.new.end ≡ self.old.end }
@@ -105,7 +105,7 @@ impl<M: Medium> BundleLog<M> {
         requires small { b.now.last ≤ MAX_NUMBER }
         requires home { All (λ w. w.at < (kept_back self.old).log.sizes.pages * PAGE) b.now.writes }
         requires short { cells_for (length b.now.writes) ≤ (kept_back self.old).log.sizes.cells }
-        ensures goes_on { GoesOn (is_ok result) (kept_back self.old) (M.sight (kept_medium self.old)) (kept_back self.new) (M.sight (kept_medium self.new)) }
+        ensures goes_on { LogGoesOn (is_ok result) (kept_back self.old) (M.sight (kept_medium self.old)) (kept_back self.new) (M.sight (kept_medium self.new)) }
         ensures alive { is_ok result ≡ true → LeadsUpTo (kept_back self.new) self.new.end }
         ensures end { OnOk result (self.new.end ≡ b.now.last) }
         // At `Ok` the bundle is in this ring, and just the calls for that were made, or for settling and that where it was
@@ -118,14 +118,14 @@ impl<M: Medium> BundleLog<M> {
         if self.persist(ring, b)? {
             return Ok(());
         }
-        self.settle()?;
+        self.checkpoint()?;
         self.persist_alone(ring, b)
     }
 
     /// Announces the last number persisted, and answers it.
     pub fn announce(&mut self) -> Result<u64, Failed>
         requires alive { LeadsUpTo (kept_back self.old) self.old.end }
-        ensures goes_on { GoesOn (is_ok result) (kept_back self.old) (M.sight (kept_medium self.old)) (kept_back self.new) (M.sight (kept_medium self.new)) }
+        ensures goes_on { LogGoesOn (is_ok result) (kept_back self.old) (M.sight (kept_medium self.old)) (kept_back self.new) (M.sight (kept_medium self.new)) }
         ensures alive { is_ok result ≡ true → LeadsUpTo (kept_back self.new) self.new.end }
         ensures answer { IfOk result (λ number. number ≡ self.old.end) }
         ensures back { OnOk result ((kept_back self.new) ≡ announced (kept_back self.old) self.old.end) }
@@ -144,9 +144,9 @@ impl<M: Medium> BundleLog<M> {
 
     /// Announces the last number persisted, and reproduces all that waits: the home is then the array at it. Answers the
     /// number.
-    pub fn settle(&mut self) -> Result<u64, Failed>
+    pub fn checkpoint(&mut self) -> Result<u64, Failed>
         requires alive { LeadsUpTo (kept_back self.old) self.old.end }
-        ensures goes_on { GoesOn (is_ok result) (kept_back self.old) (M.sight (kept_medium self.old)) (kept_back self.new) (M.sight (kept_medium self.new)) }
+        ensures goes_on { LogGoesOn (is_ok result) (kept_back self.old) (M.sight (kept_medium self.old)) (kept_back self.new) (M.sight (kept_medium self.new)) }
         ensures alive { is_ok result ≡ true → LeadsUpTo (kept_back self.new) self.new.end }
         ensures answer { IfOk result (λ number. number ≡ self.old.end) }
         ensures back { OnOk result ((kept_back self.new) ≡ settled (kept_back self.old) self.old.end) }

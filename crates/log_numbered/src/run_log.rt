@@ -11,7 +11,7 @@ ghost use Rattle.back_store.specs.BackView.{medium_of, state_of};
 ghost use Rattle.image_opening.specs.Opened.{HoldsOpened};
 ghost use Rattle.log_numbered.specs.declared.open_bundle.OpenBundle.{OpenBundle};
 ghost use Rattle.log_numbered.specs.Arrays.{with_writes};
-ghost use Rattle.log_numbered.specs.Backs.{GoesOn};
+ghost use Rattle.log_numbered.specs.Backs.{LogGoesOn};
 ghost use Rattle.log_numbered.specs.LogCalls.{AnnouncedBy, AppendedBy, CheckpointedBy, ClosedBy, Joins, Makes};
 
 use crate::bundle_log::BundleLog;
@@ -90,7 +90,7 @@ impl<M: Medium> RunLog<M> {
     // Persists the open bundle, where there is one.
     fn close(&mut self) -> Result<(), Failed>
         requires alive { IsAlive self.old }
-        ensures goes_on { GoesOn (is_ok result) (log_back self.old) (M.sight (log_medium self.old)) (log_back self.new) (M.sight (log_medium self.new)) }
+        ensures goes_on { LogGoesOn (is_ok result) (log_back self.old) (M.sight (log_medium self.old)) (log_back self.new) (M.sight (log_medium self.new)) }
         ensures alive { is_ok result ≡ true → IsAlive self.new }
         ensures last { log_last self.new ≡ log_last self.old }
         ensures end { OnOk result (log_end self.new ≡ log_last self.old) }
@@ -115,7 +115,7 @@ impl<M: Medium> RunLog<M> {
         requires number { r.now.number ≡ log_last self.old + 1 }
         requires small { log_last self.old < MAX_NUMBER }
         requires home { All (λ w. w.at < (log_sizes self.old).pages * PAGE) r.now.writes }
-        ensures goes_on { GoesOn (is_ok result) (log_back self.old) (M.sight (log_medium self.old)) (log_back self.new) (M.sight (log_medium self.new)) }
+        ensures goes_on { LogGoesOn (is_ok result) (log_back self.old) (M.sight (log_medium self.old)) (log_back self.new) (M.sight (log_medium self.new)) }
         ensures alive { is_ok result ≡ true → IsAlive self.new }
         ensures last { OnOk result (log_last self.new ≡ log_last self.old + 1) }
         // At `Ok` the record is in the open bundle; where it joined none there are just the calls that persist the bundle
@@ -140,7 +140,7 @@ impl<M: Medium> RunLog<M> {
     /// Persists the open bundle, announces the last number, and answers it.
     pub fn announce(&mut self) -> Result<u64, Failed>
         requires alive { IsAlive self.old }
-        ensures goes_on { GoesOn (is_ok result) (log_back self.old) (M.sight (log_medium self.old)) (log_back self.new) (M.sight (log_medium self.new)) }
+        ensures goes_on { LogGoesOn (is_ok result) (log_back self.old) (M.sight (log_medium self.old)) (log_back self.new) (M.sight (log_medium self.new)) }
         ensures alive { is_ok result ≡ true → IsAlive self.new }
         ensures answer { IfOk result (λ number. number ≡ log_last self.old) }
         ensures calls { OnOk result (Makes (AnnouncedBy (log_parts self.old) (log_last self.old) (log_parts self.new)) (M.sight (log_medium self.old)) (M.sight (log_medium self.new))) }
@@ -156,9 +156,9 @@ impl<M: Medium> RunLog<M> {
 
     /// Persists the open bundle, announces the last number, and reproduces all that waits: the home is then the last array.
     /// Answers the number.
-    pub fn settle(&mut self) -> Result<u64, Failed>
+    pub fn checkpoint(&mut self) -> Result<u64, Failed>
         requires alive { IsAlive self.old }
-        ensures goes_on { GoesOn (is_ok result) (log_back self.old) (M.sight (log_medium self.old)) (log_back self.new) (M.sight (log_medium self.new)) }
+        ensures goes_on { LogGoesOn (is_ok result) (log_back self.old) (M.sight (log_medium self.old)) (log_back self.new) (M.sight (log_medium self.new)) }
         ensures alive { is_ok result ≡ true → IsAlive self.new }
         ensures answer { IfOk result (λ number. number ≡ log_last self.old) }
         ensures calls { OnOk result (Makes (CheckpointedBy (log_parts self.old) (log_last self.old) (log_parts self.new)) (M.sight (log_medium self.old)) (M.sight (log_medium self.new))) }
@@ -172,7 +172,7 @@ impl<M: Medium> RunLog<M> {
         ensures ends { OnOk result (EndsAtLast self.old (M.sight (log_medium self.old)) (M.sight (log_medium self.new))) }
     {
         self.close()?;
-        self.log.settle()
+        self.log.checkpoint()
     }
 
     /// The medium.

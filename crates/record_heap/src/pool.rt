@@ -2,7 +2,7 @@
 
 ghost use Rattle.std.specs.Prelude.{◌≡◌, Some, ◌+◌, ◌<◌, ◌↔◌, ℕ, List, length, is_some, if◌then◌else◌, IsTrue, IfOk, IfErr, IfSome, OnOk, Contains, slice_set};
 ghost use Rattle.word_space.specs.Sights.{IsBelow, shown};
-ghost use Rattle.word_space.specs.Steps.{GoesOn, Looked, RanOn, stop_of};
+ghost use Rattle.word_space.specs.Steps.{WordsGoOn, Looked, RanOn, stop_of};
 ghost use Rattle.record_heap.specs.Changes.{MadeAtMost, Wrote};
 ghost use Rattle.record_heap.specs.Pool.{FitsPool, Gives, IsFirstFree, IsHeader, IsPool, IsRecord, Takes};
 
@@ -49,7 +49,7 @@ impl Pool {
     pub fn take<W: Words>(&self, w: &mut W) -> Result<Option<u64>, Stop>
         requires fits { FitsPool self.now (W.sight w.old).count }
         ensures ran { RanOn (stop_of result) (W.sight w.old) (W.sight w.new) }
-        ensures turns { GoesOn W.turns_into w.old w.new }
+        ensures turns { WordsGoOn W.turns_into w.old w.new }
         ensures last { IfErr result (λ stop. (W.sight w.new).stopped ≡ Some stop) }
         ensures most { MadeAtMost 3 2 (W.sight w.old) (W.sight w.new) }
         ensures wrote { IfOk result (λ r. Wrote (if is_some r then 2 else 0) (W.sight w.old) (W.sight w.new)) }
@@ -79,7 +79,7 @@ impl Pool {
         requires fits { FitsPool self.now (W.sight w.old).count }
         requires record { IsRecord self.now at }
         ensures ran { RanOn (stop_of result) (W.sight w.old) (W.sight w.new) }
-        ensures turns { GoesOn W.turns_into w.old w.new }
+        ensures turns { WordsGoOn W.turns_into w.old w.new }
         ensures last { IfErr result (λ stop. (W.sight w.new).stopped ≡ Some stop) }
         ensures most { MadeAtMost 2 3 (W.sight w.old) (W.sight w.new) }
         ensures wrote { OnOk result (Wrote 3 (W.sight w.old) (W.sight w.new)) }
@@ -99,7 +99,7 @@ impl Pool {
     pub fn live<W: Words>(&self, w: &mut W) -> Result<u64, Stop>
         requires fits { FitsPool self.now (W.sight w.old).count }
         ensures looked { Looked (stop_of result) (W.sight w.old) (W.sight w.new) }
-        ensures turns { GoesOn W.turns_into w.old w.new }
+        ensures turns { WordsGoOn W.turns_into w.old w.new }
         ensures last { IfErr result (λ stop. (W.sight w.new).stopped ≡ Some stop) }
         ensures most { MadeAtMost 1 0 (W.sight w.old) (W.sight w.new) }
         ensures count { IfOk result (λ n. (array : List ℕ) → IsBelow (W.sight w.new) array → (free taken : List ℕ) →
@@ -112,7 +112,7 @@ impl Pool {
     fn header<W: Words>(&self, w: &mut W) -> Result<Header, Stop>
         requires fits { FitsPool self.now (W.sight w.old).count }
         ensures looked { Looked (stop_of result) (W.sight w.old) (W.sight w.new) }
-        ensures turns { GoesOn W.turns_into w.old w.new }
+        ensures turns { WordsGoOn W.turns_into w.old w.new }
         ensures last { IfErr result (λ stop. (W.sight w.new).stopped ≡ Some stop) }
         ensures most { MadeAtMost 2 0 (W.sight w.old) (W.sight w.new) }
         ensures words { IfOk result (λ h. (array : List ℕ) → IsBelow (W.sight w.new) array →
@@ -127,7 +127,7 @@ impl Pool {
     fn put_header<W: Words>(&self, w: &mut W, header: Header) -> Result<(), Stop>
         requires fits { FitsPool self.now (W.sight w.old).count }
         ensures ran { RanOn (stop_of result) (W.sight w.old) (W.sight w.new) }
-        ensures turns { GoesOn W.turns_into w.old w.new }
+        ensures turns { WordsGoOn W.turns_into w.old w.new }
         ensures last { IfErr result (λ stop. (W.sight w.new).stopped ≡ Some stop) }
         ensures most { MadeAtMost 0 2 (W.sight w.old) (W.sight w.new) }
         ensures wrote { OnOk result (Wrote 2 (W.sight w.old) (W.sight w.new)) }

@@ -8,7 +8,7 @@ use Rattle.std.proofs.lemmas.List.Kept.{AllPairs-cons}
 use Rattle.std.proofs.lemmas.List.Sorted.{IsPermutation-sym, IsPermutation-trans, IsPermutation-map, Contains-permutation}
 use Rattle.tatp_model.specs.declared.done.Done.{Done}
 use Rattle.tatp_model.specs.declared.request.Request.{Request}
-use Rattle.tatp_model.specs.OneThread.{PrecedesInFiles, IndexedRequest, indexed_request_of, indexed_requests_from, HoldsAll, IsPrefixOf}
+use Rattle.tatp_model.specs.OneThread.{PrecedesInFiles, IndexedRequest, indexed_request_of, indexed_requests_from, AllAreDone, IsPrefixOf}
 use Rattle.tatp_model.proofs.PrintedOrder.{same_from_order}
 use Rattle.run_order.proofs.Pairs.{pairs_nil, pairs_append, pairs_mapped, pairs_unmapped}
 
@@ -53,13 +53,13 @@ files_sorted file (requests ∷ files) =
     (one_file file 0 requests) (from_file (file + 1) files) (one_file_sorted file 0 requests) (files_sorted (file + 1) files)
 
 -- what holds the requests of files stands in order
-pub in_files_from_holding : (files : List (List Request)) (done : List Done) → HoldsAll files done → AllPairs PrecedesInFiles done
+pub in_files_from_holding : (files : List (List Request)) (done : List Done) → AllAreDone files done → AllPairs PrecedesInFiles done
 in_files_from_holding files done holds =
     let sorted : AllPairs StandsBefore (map indexed_request_of done) = rw holds (files_sorted 0 files) in
     pairs_unmapped StandsBefore indexed_request_of done sorted
 
 -- what stands in order, and has just the requests of files, holds them
-pub holds_from_permutation : (files : List (List Request)) (performed done : List Done) → IsPermutation (map indexed_request_of performed) (indexed_requests_from 0 files) → IsPermutation performed done → AllPairs PrecedesInFiles done → HoldsAll files done
+pub holds_from_permutation : (files : List (List Request)) (performed done : List Done) → IsPermutation (map indexed_request_of performed) (indexed_requests_from 0 files) → IsPermutation performed done → AllPairs PrecedesInFiles done → AllAreDone files done
 holds_from_permutation files performed done asked same sorted =
     let here = map indexed_request_of done in
     let there = indexed_requests_from 0 files in

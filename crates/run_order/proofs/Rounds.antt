@@ -8,7 +8,7 @@ use Rattle.std.proofs.lemmas.List.Quantifiers.{all_pairs_push}
 use Rattle.std.proofs.lemmas.List.Sorted.{IsPermutation-refl, IsPermutation-sym, IsPermutation-trans, IsPermutation-cons, IsPermutation-middle, IsPermutation-to_front}
 use Rattle.tatp_model.specs.declared.done.Done.{Done}
 use Rattle.tatp_model.specs.declared.request.Request.{Request}
-use Rattle.tatp_model.specs.OneThread.{PrecedesInFiles, IndexedRequest, indexed_request_of, indexed_requests_from, HoldsAll}
+use Rattle.tatp_model.specs.OneThread.{PrecedesInFiles, IndexedRequest, indexed_request_of, indexed_requests_from, AllAreDone}
 use Rattle.run_order.specs.Runs.{PrecedesInRounds, Collects}
 use Rattle.run_order.proofs.Pairs.{pairs_nil}
 use Rattle.run_order.proofs.FileOrder.{indexed, taken, taken_none, taken_turn, taken_skip, taken_all, taken_prefixes, takes_next, holds_from_permutation}
@@ -91,9 +91,9 @@ rounds_collect files i k performed done run same sorted = record {
 }
 
 -- and after as many rounds as the longest file has requests they are all of them
-pub rounds_all : (files : List (List Request)) (i : ℕ) (performed done : List Done) → All (λ requests. length requests ≤ i) files → Rounds files i 0 performed → IsPermutation performed done → AllPairs PrecedesInFiles done → HoldsAll files done
+pub rounds_all : (files : List (List Request)) (i : ℕ) (performed done : List Done) → All (λ requests. length requests ≤ i) files → Rounds files i 0 performed → IsPermutation performed done → AllPairs PrecedesInFiles done → AllAreDone files done
 rounds_all files i performed done short run same sorted =
-    let held : HoldsAll (taken i 0 files) done = holds_from_permutation (taken i 0 files) performed done run.same same sorted in
+    let held : AllAreDone (taken i 0 files) done = holds_from_permutation (taken i 0 files) performed done run.same same sorted in
     rw (taken_all i files short) at held
 
 -- a look-up in a file and a loop over the files tell an element so

@@ -77,7 +77,7 @@ module _ (content : ℕ → ℕ → Type 0) (table : Table) (array : List ℕ) (
   next_of chains part = slice_index array (link_after (table.at + length chains) part)
 
   -- what the second has met goes on from what the first has: by the record that comes next, or with another bucket
-  pub record GoesOn (chains : List (List ℕ)) (part met : List ℕ) : Type 0 where
+  pub record ChainsGoOn (chains : List (List ℕ)) (part met : List ℕ) : Type 0 where
     pub behind : List ℕ
     pub all : met ≡ (records_in chains ++ part) ++ behind
     pub next : (next_of chains part ≡ 0) ⊎ ((rest : List ℕ) × (behind ≡ next_of chains part ∷ rest) × IsSound content table array (length chains) (next_of chains part))
@@ -95,7 +95,7 @@ module _ (content : ℕ → ℕ → Type 0) (table : Table) (array : List ℕ) (
         sym (take-append-drop (length cs) ds) ∙ ap (λ l. l ++ drop (length cs) ds) (sym front)
 
     -- the second is in another bucket
-    pub goes_further : length cs < length ds → GoesOn cs p (records_in ds ++ q)
+    pub goes_further : length cs < length ds → ChainsGoOn cs p (records_in ds ++ q)
     goes_further fewer =
         let chain = chain_of ds (length cs) in
         let more = drop (length cs + 1) ds in
@@ -123,7 +123,7 @@ module _ (content : ℕ → ℕ → Type 0) (table : Table) (array : List ℕ) (
         ]
 
     -- the second is further in the same bucket
-    pub goes_longer : cs ≡ ds → (rest : List ℕ) → q ≡ p ++ next_of cs p ∷ rest → GoesOn cs p (records_in ds ++ q)
+    pub goes_longer : cs ≡ ds → (rest : List ℕ) → q ≡ p ++ next_of cs p ∷ rest → ChainsGoOn cs p (records_in ds ++ q)
     goes_longer same rest longer = record {
       behind = next_of cs p ∷ rest;
       all = ap (λ l. l ++ q) (ap records_in (sym same)) ∙ ap (λ l. records_in cs ++ l) longer ∙ sym (append_assoc (records_in cs) p (next_of cs p ∷ rest));

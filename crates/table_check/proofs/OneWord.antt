@@ -10,7 +10,7 @@ use Rattle.hash_table.specs.Walk.{IsPath}
 use Rattle.table_check.specs.Faults.{FitsNew, IsWrongNext, IsInChains, IsWrongFree, IsInFreeList, IsUnmet, IsFirstWrong}
 use Rattle.table_check.specs.Marks.{IsNew}
 use Rattle.table_check.specs.Walk.{IsSound, HasMetChains, HasMetFree, HasFreeList, HasMetLists, HasMetAll, IsWhole}
-use Rattle.table_check.proofs.Compared.{pairs_across, path_in_linked, path_in_path, linked_one, GoesOn, next_of, front_same, goes_further, goes_longer}
+use Rattle.table_check.proofs.Compared.{pairs_across, path_in_linked, path_in_path, linked_one, ChainsGoOn, next_of, front_same, goes_further, goes_longer}
 
 first_contained : (x : ℕ) (xs : List ℕ) → Contains (x ∷ xs) x
 first_contained x xs = (0, omega arith, refl)
@@ -24,7 +24,7 @@ module _ (content : ℕ → ℕ → Type 0) (table : Table) (array : List ℕ) (
   fits_new met sound new (suc k) below = sound.fits (suc k) below
 
   -- where another walk goes on, nothing is wrong
-  pub not_wrong : (cs : List (List ℕ)) (p met : List ℕ) → AllPairs (λ x y. slice_index array x ≢ slice_index array y) met → GoesOn content table array none cs p met → (word : ℕ)
+  pub not_wrong : (cs : List (List ℕ)) (p met : List ℕ) → AllPairs (λ x y. slice_index array x ≢ slice_index array y) met → ChainsGoOn content table array none cs p met → (word : ℕ)
       → ¬ IsWrongNext content table array (length cs) (records_in cs ++ p) (link_after (table.at + length cs) p) word
   not_wrong cs p met differ on word = by on.next
     where

@@ -1,7 +1,7 @@
 ghost use Rattle.std.specs.Prelude.{◌≡◌, ◌↔◌, ◌+◌, ◌*◌, ℕ, List, Some, IfOk, IfErr, IfSome, IsTrue};
 ghost use Rattle.dude_base.specs.declared.limits.TheConstants.{PAGE};
 ghost use Rattle.word_space.specs.Sights.{IsBelow, shown};
-ghost use Rattle.word_space.specs.Steps.{GoesOn, Looked, stop_of};
+ghost use Rattle.word_space.specs.Steps.{WordsGoOn, Looked, stop_of};
 ghost use Rattle.record_heap.specs.Changes.{MadeAtMost};
 ghost use Rattle.tatp_model.specs.Database.{Database};
 ghost use Rattle.tatp_model.specs.Ranges.{IsId};
@@ -17,7 +17,7 @@ use word_space::words::Words;
 pub fn id_of<W: Words>(lay: &Layout, w: &mut W, sub_nbr: u64) -> Result<Option<u64>, Stop>
     requires size { (W.sight w.old).count ≡ lay.now.pages * PAGE }
     ensures looked { Looked (stop_of result) (W.sight w.old) (W.sight w.new) }
-    ensures turns { GoesOn W.turns_into w.old w.new }
+    ensures turns { WordsGoOn W.turns_into w.old w.new }
     ensures last { IfErr result (λ stop. (W.sight w.new).stopped ≡ Some stop) }
     ensures most { MadeAtMost (2 * lay.now.subscribers + 1) 0 (W.sight w.old) (W.sight w.new) }
     ensures range { IfOk result (λ r. IfSome r IsId) }

@@ -3,7 +3,7 @@
 ghost use Rattle.std.specs.Prelude.{◌≡◌, ◌≢◌, ℕ, ◌*◌, ◌≤◌, List, [], Some, IfOk, IfErr, length, false};
 ghost use Rattle.dude_base.specs.declared.limits.TheConstants.{PAGE};
 ghost use Rattle.word_space.specs.Sights.{IsBelow, shown};
-ghost use Rattle.word_space.specs.Steps.{GoesOn, Looked, RanOn, stop_of};
+ghost use Rattle.word_space.specs.Steps.{WordsGoOn, Looked, RanOn, stop_of};
 ghost use Rattle.tatp_model.specs.declared.reply.Reply.TheVariants.{Changed};
 ghost use Rattle.tatp_model.specs.Database.{Database};
 ghost use Rattle.tatp_model.specs.OneThread.{is_sync};
@@ -30,7 +30,7 @@ pub fn run_request<W: Words>(lay: &Layout, w: &mut W, q: &Request) -> Result<Rep
     requires size { (W.sight w.old).count ≡ lay.now.pages * PAGE }
     requires no_writes { (W.sight w.old).writes ≡ [] }
     ensures ran { RanOn (stop_of result) (W.sight w.old) (W.sight w.new) }
-    ensures turns { GoesOn W.turns_into w.old w.new }
+    ensures turns { WordsGoOn W.turns_into w.old w.new }
     ensures last { IfErr result (λ stop. (W.sight w.new).stopped ≡ Some stop) }
     ensures few { length (W.sight w.new).writes ≤ 7 }
     ensures wrote { IfOk result (λ reply. WritesIfChanged reply (W.sight w.new).writes) }
@@ -56,7 +56,7 @@ fn read_request<W: Words>(lay: &Layout, w: &mut W, q: &Request) -> Result<Reply,
     requires size { (W.sight w.old).count ≡ lay.now.pages * PAGE }
     requires no_writes { (W.sight w.old).writes ≡ [] }
     ensures looked { Looked (stop_of result) (W.sight w.old) (W.sight w.new) }
-    ensures turns { GoesOn W.turns_into w.old w.new }
+    ensures turns { WordsGoOn W.turns_into w.old w.new }
     ensures last { IfErr result (λ stop. (W.sight w.new).stopped ≡ Some stop) }
     ensures unchanged { IfOk result (λ reply. reply ≢ Changed) }
     ensures reply { IfOk result (λ reply. (array : List ℕ) → IsBelow (W.sight w.new) array → (db : Database) →

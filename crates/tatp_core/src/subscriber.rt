@@ -1,7 +1,7 @@
 ghost use Rattle.std.specs.Prelude.{◌≡◌, ◌≤◌, ◌+◌, ◌*◌, ℕ, List, [], length, Some, IfOk, IfErr};
 ghost use Rattle.dude_base.specs.declared.limits.TheConstants.{PAGE};
 ghost use Rattle.word_space.specs.Sights.{IsBelow, shown};
-ghost use Rattle.word_space.specs.Steps.{GoesOn, RanOn, stop_of};
+ghost use Rattle.word_space.specs.Steps.{WordsGoOn, RanOn, stop_of};
 ghost use Rattle.record_heap.specs.Changes.{MadeAtMost};
 ghost use Rattle.tatp_model.specs.Database.{Database};
 ghost use Rattle.tatp_model.specs.Request.{IsInRange};
@@ -23,7 +23,7 @@ pub fn write_subscriber<W: Words>(lay: &Layout, w: &mut W, q: &Request) -> Resul
     requires size { (W.sight w.old).count ≡ lay.now.pages * PAGE }
     requires no_writes { (W.sight w.old).writes ≡ [] }
     ensures ran { RanOn (stop_of result) (W.sight w.old) (W.sight w.new) }
-    ensures turns { GoesOn W.turns_into w.old w.new }
+    ensures turns { WordsGoOn W.turns_into w.old w.new }
     ensures last { IfErr result (λ stop. (W.sight w.new).stopped ≡ Some stop) }
     ensures most { MadeAtMost (10 * lay.now.subscribers + 2) 2 (W.sight w.old) (W.sight w.new) }
     ensures few { length (W.sight w.new).writes ≤ 7 }

@@ -3,7 +3,7 @@
 ghost use Rattle.std.specs.Prelude.{◌≡◌, Some, ◌*◌, ℕ, ◌+◌, List, IfOk, IfErr, OnOk, length, slice_index, slice_set};
 ghost use Rattle.dude_base.specs.declared.limits.TheConstants.{PAGE, ROW_WORDS};
 ghost use Rattle.word_space.specs.Sights.{IsBelow, shown};
-ghost use Rattle.word_space.specs.Steps.{GoesOn, Looked, RanOn, stop_of};
+ghost use Rattle.word_space.specs.Steps.{WordsGoOn, Looked, RanOn, stop_of};
 ghost use Rattle.record_heap.specs.Changes.{MadeAtMost, Wrote};
 ghost use Rattle.record_heap.specs.Pool.{IsRecord};
 ghost use Rattle.tatp_model.specs.declared.call_row.CallRow.{CallRow};
@@ -38,7 +38,7 @@ pub fn get_call<W: Words>(lay: &Layout, w: &mut W, at: u64) -> Result<CallRow, S
     requires size { (W.sight w.old).count ≡ lay.now.pages * PAGE }
     requires record { IsRecord (call_table lay.now).pool at }
     ensures looked { Looked (stop_of result) (W.sight w.old) (W.sight w.new) }
-    ensures turns { GoesOn W.turns_into w.old w.new }
+    ensures turns { WordsGoOn W.turns_into w.old w.new }
     ensures last { IfErr result (λ stop. (W.sight w.new).stopped ≡ Some stop) }
     ensures most { MadeAtMost 3 0 (W.sight w.old) (W.sight w.new) }
     // In any array the row is what the record's words tell.
@@ -59,7 +59,7 @@ pub fn put_call<W: Words>(lay: &Layout, w: &mut W, at: u64, row: &CallRow) -> Re
     requires record { IsRecord (call_table lay.now).pool at }
     requires range { IsCallRow row.now }
     ensures ran { RanOn (stop_of result) (W.sight w.old) (W.sight w.new) }
-    ensures turns { GoesOn W.turns_into w.old w.new }
+    ensures turns { WordsGoOn W.turns_into w.old w.new }
     ensures last { IfErr result (λ stop. (W.sight w.new).stopped ≡ Some stop) }
     ensures most { MadeAtMost 0 2 (W.sight w.old) (W.sight w.new) }
     ensures wrote { OnOk result (Wrote 2 (W.sight w.old) (W.sight w.new)) }

@@ -2,7 +2,7 @@
 
 ghost use Rattle.std.specs.Prelude.{◌≡◌, Some, ◌+◌, ◌-◌, ◌≤◌, ℕ, List, IfOk, IfErr};
 ghost use Rattle.word_space.specs.Sights.{IsBelow, shown};
-ghost use Rattle.word_space.specs.Steps.{GoesOn, Looked, stop_of};
+ghost use Rattle.word_space.specs.Steps.{WordsGoOn, Looked, stop_of};
 ghost use Rattle.record_heap.specs.Changes.{MadeAtMost};
 ghost use Rattle.tatp_layout.specs.RecordWords.{AreOfRecord};
 
@@ -15,7 +15,7 @@ pub(crate) fn read_record<W: Words, const N: usize>(w: &mut W, at: u64) -> Resul
     requires wide { 2 ≤ N }
     requires inside { at + N ≤ (W.sight w.old).count }
     ensures looked { Looked (stop_of result) (W.sight w.old) (W.sight w.new) }
-    ensures turns { GoesOn W.turns_into w.old w.new }
+    ensures turns { WordsGoOn W.turns_into w.old w.new }
     ensures last { IfErr result (λ stop. (W.sight w.new).stopped ≡ Some stop) }
     ensures most { MadeAtMost (N - 1) 0 (W.sight w.old) (W.sight w.new) }
     ensures words { IfOk result (λ words. (array : List ℕ) → IsBelow (W.sight w.new) array →

@@ -3,7 +3,7 @@
 ghost use Rattle.std.specs.Prelude.{◌≡◌, Some, ◌+◌, ◌*◌, ℕ, List, [], ◌∷◌, IfOk, IfErr, OnOk, length, slice_set};
 ghost use Rattle.dude_base.specs.declared.limits.TheConstants.{PAGE, SUBSCRIBER_WORDS};
 ghost use Rattle.word_space.specs.Sights.{IsBelow, shown};
-ghost use Rattle.word_space.specs.Steps.{GoesOn, Looked, RanOn, stop_of};
+ghost use Rattle.word_space.specs.Steps.{WordsGoOn, Looked, RanOn, stop_of};
 ghost use Rattle.record_heap.specs.Changes.{ChangesOnly, MadeAtMost, Wrote};
 ghost use Rattle.record_heap.specs.Pool.{IsRecord};
 ghost use Rattle.tatp_model.specs.declared.sub_row.SubRow.{SubRow};
@@ -44,7 +44,7 @@ pub fn get_sub<W: Words>(lay: &Layout, w: &mut W, at: u64) -> Result<SubRow, Sto
     requires size { (W.sight w.old).count ≡ lay.now.pages * PAGE }
     requires record { IsRecord (subscriber_table lay.now).pool at }
     ensures looked { Looked (stop_of result) (W.sight w.old) (W.sight w.new) }
-    ensures turns { GoesOn W.turns_into w.old w.new }
+    ensures turns { WordsGoOn W.turns_into w.old w.new }
     ensures last { IfErr result (λ stop. (W.sight w.new).stopped ≡ Some stop) }
     ensures most { MadeAtMost 7 0 (W.sight w.old) (W.sight w.new) }
     // In any array the row is what the record's words tell.
@@ -65,7 +65,7 @@ pub fn put_vlr<W: Words>(lay: &Layout, w: &mut W, at: u64, vlr: u64) -> Result<(
     requires record { IsRecord (subscriber_table lay.now).pool at }
     requires range { IsLocation vlr }
     ensures ran { RanOn (stop_of result) (W.sight w.old) (W.sight w.new) }
-    ensures turns { GoesOn W.turns_into w.old w.new }
+    ensures turns { WordsGoOn W.turns_into w.old w.new }
     ensures last { IfErr result (λ stop. (W.sight w.new).stopped ≡ Some stop) }
     ensures most { MadeAtMost 0 1 (W.sight w.old) (W.sight w.new) }
     ensures wrote { OnOk result (Wrote 1 (W.sight w.old) (W.sight w.new)) }
@@ -87,7 +87,7 @@ pub fn put_bit1<W: Words>(lay: &Layout, w: &mut W, at: u64, bit: u64) -> Result<
     requires record { IsRecord (subscriber_table lay.now).pool at }
     requires range { IsBit bit }
     ensures ran { RanOn (stop_of result) (W.sight w.old) (W.sight w.new) }
-    ensures turns { GoesOn W.turns_into w.old w.new }
+    ensures turns { WordsGoOn W.turns_into w.old w.new }
     ensures last { IfErr result (λ stop. (W.sight w.new).stopped ≡ Some stop) }
     ensures most { MadeAtMost 1 1 (W.sight w.old) (W.sight w.new) }
     ensures wrote { OnOk result (Wrote 1 (W.sight w.old) (W.sight w.new)) }

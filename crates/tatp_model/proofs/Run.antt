@@ -39,36 +39,36 @@ after_number-push limit db (e ∷ order) d n =
     ⊎_elim (λ h. rw h (after_number-push limit (after_request limit db e.request) order d n)) (λ h. rw h (after_number-push limit db order d n)) (cases_Bool (e.wrote && nat_le e.number n))
 
 -- an outcome that isn't `Changed` leaves the tables
-record Keeps (db : Database) (o : Outcome) : Type 0 where
+record LeavesTables (db : Database) (o : Outcome) : Type 0 where
   same : is_changed o.reply ≡ false → o.after ≡ db
 
-keeps_answers : (db : Database) (reply : Reply) → Keeps db (answers db reply)
-keeps_answers db reply = record { same = λ unchanged. refl }
+leaves_answers : (db : Database) (reply : Reply) → LeavesTables db (answers db reply)
+leaves_answers db reply = record { same = λ unchanged. refl }
 
-keeps_changes : (db after : Database) → Keeps db (changes after)
-keeps_changes db after = record { same = λ unchanged. cc }
+leaves_changes : (db after : Database) → LeavesTables db (changes after)
+leaves_changes db after = record { same = λ unchanged. cc }
 
-keeps_cond : (db : Database) (b : Bool) (x y : Outcome) → Keeps db x → Keeps db y → Keeps db (cond b x y)
-keeps_cond db true x y hx hy = hx
-keeps_cond db false x y hx hy = hy
+leaves_cond : (db : Database) (b : Bool) (x y : Outcome) → LeavesTables db x → LeavesTables db y → LeavesTables db (cond b x y)
+leaves_cond db true x y hx hy = hx
+leaves_cond db false x y hx hy = hy
 
-keeps_map_or : (db : Database) (f : SubRow → Outcome) (o : Option SubRow) (y : Outcome) → ((r : SubRow) → Keeps db (f r)) → Keeps db y → Keeps db (option_map_or f o y)
-keeps_map_or db f None y hf hy = hy
-keeps_map_or db f (Some r) y hf hy = hf r
+leaves_map_or : (db : Database) (f : SubRow → Outcome) (o : Option SubRow) (y : Outcome) → ((r : SubRow) → LeavesTables db (f r)) → LeavesTables db y → LeavesTables db (option_map_or f o y)
+leaves_map_or db f None y hf hy = hy
+leaves_map_or db f (Some r) y hf hy = hf r
 
-keeps_request : (limit : ℕ) (db : Database) (request : Request) → Keeps db (outcome_of limit db request)
-keeps_request limit db (GetSubscriber s) = search (keeps_answers, keeps_changes, keeps_cond, keeps_map_or)
-keeps_request limit db (GetDestination s f t u) = search (keeps_answers, keeps_changes, keeps_cond, keeps_map_or)
-keeps_request limit db (GetAccess s a) = search (keeps_answers, keeps_changes, keeps_cond, keeps_map_or)
-keeps_request limit db (UpdateSubscriber s b f d) = search (keeps_answers, keeps_changes, keeps_cond, keeps_map_or)
-keeps_request limit db (UpdateLocation n v) = search (keeps_answers, keeps_changes, keeps_cond, keeps_map_or)
-keeps_request limit db (InsertCall n f t u x) = search (keeps_answers, keeps_changes, keeps_cond, keeps_map_or)
-keeps_request limit db (DeleteCall n f t) = search (keeps_answers, keeps_changes, keeps_cond, keeps_map_or)
-keeps_request limit db Sync = search (keeps_answers, keeps_changes, keeps_cond, keeps_map_or)
+leaves_request : (limit : ℕ) (db : Database) (request : Request) → LeavesTables db (outcome_of limit db request)
+leaves_request limit db (GetSubscriber s) = search (leaves_answers, leaves_changes, leaves_cond, leaves_map_or)
+leaves_request limit db (GetDestination s f t u) = search (leaves_answers, leaves_changes, leaves_cond, leaves_map_or)
+leaves_request limit db (GetAccess s a) = search (leaves_answers, leaves_changes, leaves_cond, leaves_map_or)
+leaves_request limit db (UpdateSubscriber s b f d) = search (leaves_answers, leaves_changes, leaves_cond, leaves_map_or)
+leaves_request limit db (UpdateLocation n v) = search (leaves_answers, leaves_changes, leaves_cond, leaves_map_or)
+leaves_request limit db (InsertCall n f t u x) = search (leaves_answers, leaves_changes, leaves_cond, leaves_map_or)
+leaves_request limit db (DeleteCall n f t) = search (leaves_answers, leaves_changes, leaves_cond, leaves_map_or)
+leaves_request limit db Sync = search (leaves_answers, leaves_changes, leaves_cond, leaves_map_or)
 
 -- a request that isn't answered `Changed` leaves the tables as they were
 pub after_request-unchanged : (limit : ℕ) (db : Database) (request : Request) → is_changed (reply_to limit db request) ≡ false → after_request limit db request ≡ db
-after_request-unchanged limit db request unchanged = (keeps_request limit db request).same unchanged
+after_request-unchanged limit db request unchanged = (leaves_request limit db request).same unchanged
 
 -- up to a number that none is over, `after_number` is the database after the whole order
 pub after_number-all : (limit : ℕ) (db : Database) (order : List Done) (n : ℕ) → RepliesAlong limit db order → All (λ d. d.number ≤ n) order → after_number limit db order n ≡ after_order limit db order

@@ -12,14 +12,14 @@ use Rattle.tatp_model.specs.declared.request.Request.{Request}
 use Rattle.tatp_model.specs.declared.reply.Reply.TheVariants.{Durable}
 use Rattle.tatp_model.specs.Database.{Database}
 use Rattle.tatp_model.specs.Transaction.{reply_to}
-use Rattle.tatp_model.specs.OneThread.{is_sync, is_changed, Precedes, RepliesAlong, IndexedRequest, indexed_request_of, indexed_requests_from, HoldsAll, IsPrefixOf, RepliesOfOneThread}
+use Rattle.tatp_model.specs.OneThread.{is_sync, is_changed, Precedes, RepliesAlong, IndexedRequest, indexed_request_of, indexed_requests_from, AllAreDone, IsPrefixOf, RepliesOfOneThread}
 use Rattle.tatp_model.proofs.Rows.{filter-uniform}
 use Rattle.tatp_model.proofs.Run.{after_order, RepliesAlong-push}
 
 -- `done` answers the requests of one file up to number `last`, in turn
 pub record Sequential (first last limit : ℕ) (db : Database) (prefix : List Request) (done : List Done) : Type 0 where
   pub begun : first ≤ last
-  pub held : HoldsAll (prefix ∷ []) done
+  pub held : AllAreDone (prefix ∷ []) done
   pub in_file : All (λ d. (d.file ≡ 0) × (d.index < length prefix)) done
   pub asked : All (λ d. is_sync d.request ≡ false) done
   pub distinct : AllPairs (λ d e. d.number ≡ e.number → ⊥) (filter (λ d. d.wrote) done)

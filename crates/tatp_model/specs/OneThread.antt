@@ -69,8 +69,8 @@ indexed_requests_from file (requests ∷ files) =
     map (λ r. record { file = file; index = r.0; request = r.1 }) (enumerate_from 0 requests) ++ indexed_requests_from (file + 1) files
 
 -- `done` holds each request of the files once, in order of file and index
-abbrev pub HoldsAll : List (List Request) → List Done → Type 0
-HoldsAll files done = map indexed_request_of done ≡ indexed_requests_from 0 files
+abbrev pub AllAreDone : List (List Request) → List Done → Type 0
+AllAreDone files done = map indexed_request_of done ≡ indexed_requests_from 0 files
 
 -- the requests begin with the prefix
 abbrev pub IsPrefixOf : List Request → List Request → Type 0
@@ -78,7 +78,7 @@ IsPrefixOf prefix requests = (rest : List Request) × (requests ≡ prefix ++ re
 
 -- `done` holds a prefix of each file's requests
 abbrev pub HoldsPrefixes : List (List Request) → List Done → Type 0
-HoldsPrefixes files done = (prefixes : List (List Request)) × AllZip IsPrefixOf prefixes files × HoldsAll prefixes done
+HoldsPrefixes files done = (prefixes : List (List Request)) × AllZip IsPrefixOf prefixes files × AllAreDone prefixes done
 
 -- the replies of a run over the files are those of one thread that starts with db after number `first` and performs
 -- the requests in their printed order

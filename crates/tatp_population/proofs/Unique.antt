@@ -104,11 +104,11 @@ module _ {R : Type 0} (form : RowForm R) (rows : List R) {table : Table} {n : �
       free_at (λ x. slice_index a (x + 1) ≡ slice_index b (x + 1)) table.pool (table.pool.count - length rows) (length rows) k
       (linked_each a b table.pool.base (free_from table.pool (length rows)) fa.free fb.free) from (omega (arith, below, fa.few))
 
-  abbrev Told : ℕ → Type 0
-  Told i = (slice_index a i ≡ slice_index b i) ⊎ IsUnused form table rows i
+  abbrev AgreesAt : ℕ → Type 0
+  AgreesAt i = (slice_index a i ≡ slice_index b i) ⊎ IsUnused form table rows i
 
   -- a word of a taken record
-  in_taken : (i : ℕ) → i ≢ table.pool.base → i ≢ table.pool.base + 1 → AreApart table.at table.buckets i 1 → (w : IsWithin table.pool i) → w.index < length rows → Told i
+  in_taken : (i : ℕ) → i ≢ table.pool.base → i ≢ table.pool.base + 1 → AreApart table.at table.buckets i 1 → (w : IsWithin table.pool i) → w.index < length rows → AgreesAt i
   in_taken i not_first not_live links w taken =
       let there = there_is rows w.index taken in
       let row = there.0 in
@@ -141,7 +141,7 @@ module _ {R : Type 0} (form : RowForm R) (rows : List R) {table : Table} {n : �
       ]
 
   -- a word of a free record
-  in_free : (i : ℕ) → i ≢ table.pool.base → i ≢ table.pool.base + 1 → AreApart table.at table.buckets i 1 → (w : IsWithin table.pool i) → length rows ≤ w.index → Told i
+  in_free : (i : ℕ) → i ≢ table.pool.base → i ≢ table.pool.base + 1 → AreApart table.at table.buckets i 1 → (w : IsWithin table.pool i) → length rows ≤ w.index → AgreesAt i
   in_free i not_first not_live links w free =
       elim (cases_eq w.offset 1) [
         | inl link ↦ let place : i ≡ record_at table.pool w.index + 1 = omega (arith, w.is, link) in inl (ap (slice_index a) place ∙ free_link_same w.index free w.below ∙ ap (slice_index b) (sym place))
@@ -159,7 +159,7 @@ module _ {R : Type 0} (form : RowForm R) (rows : List R) {table : Table} {n : �
       ]
 
   -- where i is none of the header's words and none of the buckets' links
-  rest : (i : ℕ) → i ≢ table.pool.base → i ≢ table.pool.base + 1 → AreApart table.at table.buckets i 1 → Told i
+  rest : (i : ℕ) → i ≢ table.pool.base → i ≢ table.pool.base + 1 → AreApart table.at table.buckets i 1 → AgreesAt i
   rest i not_first not_live links =
       elim (within_or_apart table.pool i (omega (arith, fits.pool.size))) [
         | inl w ↦ elim (cases_lt w.index (length rows)) [

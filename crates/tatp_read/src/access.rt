@@ -3,7 +3,7 @@
 ghost use Rattle.std.specs.Prelude.{◌≡◌, ◌≢◌, ℕ, ◌+◌, ◌*◌, List, [], Some, find, IfOk, IfErr};
 ghost use Rattle.dude_base.specs.declared.limits.TheConstants.{PAGE};
 ghost use Rattle.word_space.specs.Sights.{IsBelow, shown};
-ghost use Rattle.word_space.specs.Steps.{GoesOn, Looked, stop_of};
+ghost use Rattle.word_space.specs.Steps.{WordsGoOn, Looked, stop_of};
 ghost use Rattle.record_heap.specs.Changes.{MadeAtMost};
 ghost use Rattle.tatp_model.specs.declared.reply.Reply.TheVariants.{Changed};
 ghost use Rattle.tatp_model.specs.Database.{Database};
@@ -27,7 +27,7 @@ pub fn read_access<W: Words>(lay: &Layout, w: &mut W, q: &Request) -> Result<Rep
     requires size { (W.sight w.old).count ≡ lay.now.pages * PAGE }
     requires no_writes { (W.sight w.old).writes ≡ [] }
     ensures looked { Looked (stop_of result) (W.sight w.old) (W.sight w.new) }
-    ensures turns { GoesOn W.turns_into w.old w.new }
+    ensures turns { WordsGoOn W.turns_into w.old w.new }
     ensures last { IfErr result (λ stop. (W.sight w.new).stopped ≡ Some stop) }
     ensures most { MadeAtMost (8 * lay.now.subscribers + 3) 0 (W.sight w.old) (W.sight w.new) }
     ensures unchanged { IfOk result (λ r. r ≢ Changed) }
@@ -56,7 +56,7 @@ fn find_access<W: Words>(
     requires kind { IsKind ai_type }
     requires size { (W.sight w.old).count ≡ lay.now.pages * PAGE }
     ensures looked { Looked (stop_of result) (W.sight w.old) (W.sight w.new) }
-    ensures turns { GoesOn W.turns_into w.old w.new }
+    ensures turns { WordsGoOn W.turns_into w.old w.new }
     ensures last { IfErr result (λ stop. (W.sight w.new).stopped ≡ Some stop) }
     ensures most { MadeAtMost (8 * lay.now.subscribers + 3) 0 (W.sight w.old) (W.sight w.new) }
     ensures row { IfOk result (λ r. (array : List ℕ) → IsBelow (W.sight w.new) array → (db : Database) →

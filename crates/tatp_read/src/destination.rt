@@ -5,7 +5,7 @@ ghost use Rattle.std.specs.List.{list_any};
 ghost use Rattle.std.specs.Option.{option_to_list};
 ghost use Rattle.dude_base.specs.declared.limits.TheConstants.{PAGE};
 ghost use Rattle.word_space.specs.Sights.{IsBelow, shown};
-ghost use Rattle.word_space.specs.Steps.{GoesOn, Looked, stop_of};
+ghost use Rattle.word_space.specs.Steps.{WordsGoOn, Looked, stop_of};
 ghost use Rattle.record_heap.specs.Changes.{MadeAtMost};
 ghost use Rattle.tatp_model.specs.declared.reply.Reply.TheVariants.{Changed};
 ghost use Rattle.tatp_model.specs.Database.{Database};
@@ -32,7 +32,7 @@ pub fn read_destination<W: Words>(lay: &Layout, w: &mut W, q: &Request) -> Resul
     requires size { (W.sight w.old).count ≡ lay.now.pages * PAGE }
     requires no_writes { (W.sight w.old).writes ≡ [] }
     ensures looked { Looked (stop_of result) (W.sight w.old) (W.sight w.new) }
-    ensures turns { GoesOn W.turns_into w.old w.new }
+    ensures turns { WordsGoOn W.turns_into w.old w.new }
     ensures last { IfErr result (λ stop. (W.sight w.new).stopped ≡ Some stop) }
     ensures most { MadeAtMost (8 * lay.now.subscribers + 3 + 3 * (2 * lay.now.calls + 3)) 0 (W.sight w.old) (W.sight w.new) }
     ensures unchanged { IfOk result (λ r. r ≢ Changed) }
@@ -71,7 +71,7 @@ fn has_active_facility<W: Words>(
     requires kind { IsKind sf_type }
     requires size { (W.sight w.old).count ≡ lay.now.pages * PAGE }
     ensures looked { Looked (stop_of result) (W.sight w.old) (W.sight w.new) }
-    ensures turns { GoesOn W.turns_into w.old w.new }
+    ensures turns { WordsGoOn W.turns_into w.old w.new }
     ensures last { IfErr result (λ stop. (W.sight w.new).stopped ≡ Some stop) }
     ensures most { MadeAtMost (8 * lay.now.subscribers + 3) 0 (W.sight w.old) (W.sight w.new) }
     ensures active { IfOk result (λ r. (array : List ℕ) → IsBelow (W.sight w.new) array → (db : Database) →
@@ -99,7 +99,7 @@ fn destinations<W: Words>(
     requires start { IsStartTime start_time }
     requires size { (W.sight w.old).count ≡ lay.now.pages * PAGE }
     ensures looked { Looked (stop_of result) (W.sight w.old) (W.sight w.new) }
-    ensures turns { GoesOn W.turns_into w.old w.new }
+    ensures turns { WordsGoOn W.turns_into w.old w.new }
     ensures last { IfErr result (λ stop. (W.sight w.new).stopped ≡ Some stop) }
     ensures most { MadeAtMost (3 * (2 * lay.now.calls + 3)) 0 (W.sight w.old) (W.sight w.new) }
     ensures numbers { IfOk result (λ phones. (array : List ℕ) → IsBelow (W.sight w.new) array → (db : Database) →
@@ -126,7 +126,7 @@ fn destination<W: Words>(
 ) -> Result<Option<u64>, Stop>
     requires size { (W.sight w.old).count ≡ lay.now.pages * PAGE }
     ensures looked { Looked (stop_of result) (W.sight w.old) (W.sight w.new) }
-    ensures turns { GoesOn W.turns_into w.old w.new }
+    ensures turns { WordsGoOn W.turns_into w.old w.new }
     ensures last { IfErr result (λ stop. (W.sight w.new).stopped ≡ Some stop) }
     ensures most { MadeAtMost (2 * lay.now.calls + 3) 0 (W.sight w.old) (W.sight w.new) }
     ensures numbers { IfOk result (λ phone. (array : List ℕ) → IsBelow (W.sight w.new) array → (db : Database) →

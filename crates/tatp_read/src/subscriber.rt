@@ -3,7 +3,7 @@
 ghost use Rattle.std.specs.Prelude.{◌≡◌, ◌≢◌, ℕ, ◌+◌, ◌*◌, List, [], Some, find, IfOk, IfErr};
 ghost use Rattle.dude_base.specs.declared.limits.TheConstants.{PAGE};
 ghost use Rattle.word_space.specs.Sights.{IsBelow, shown};
-ghost use Rattle.word_space.specs.Steps.{GoesOn, Looked, stop_of};
+ghost use Rattle.word_space.specs.Steps.{WordsGoOn, Looked, stop_of};
 ghost use Rattle.record_heap.specs.Changes.{MadeAtMost};
 ghost use Rattle.tatp_model.specs.declared.reply.Reply.TheVariants.{Changed};
 ghost use Rattle.tatp_model.specs.Database.{Database};
@@ -25,7 +25,7 @@ pub fn read_subscriber<W: Words>(lay: &Layout, w: &mut W, q: &Request) -> Result
     requires size { (W.sight w.old).count ≡ lay.now.pages * PAGE }
     requires no_writes { (W.sight w.old).writes ≡ [] }
     ensures looked { Looked (stop_of result) (W.sight w.old) (W.sight w.new) }
-    ensures turns { GoesOn W.turns_into w.old w.new }
+    ensures turns { WordsGoOn W.turns_into w.old w.new }
     ensures last { IfErr result (λ stop. (W.sight w.new).stopped ≡ Some stop) }
     ensures most { MadeAtMost (2 * lay.now.subscribers + 7) 0 (W.sight w.old) (W.sight w.new) }
     ensures unchanged { IfOk result (λ r. r ≢ Changed) }
@@ -47,7 +47,7 @@ pub fn read_subscriber<W: Words>(lay: &Layout, w: &mut W, q: &Request) -> Result
 fn find_subscriber<W: Words>(lay: &Layout, w: &mut W, s_id: u64) -> Result<Option<SubRow>, Stop>
     requires size { (W.sight w.old).count ≡ lay.now.pages * PAGE }
     ensures looked { Looked (stop_of result) (W.sight w.old) (W.sight w.new) }
-    ensures turns { GoesOn W.turns_into w.old w.new }
+    ensures turns { WordsGoOn W.turns_into w.old w.new }
     ensures last { IfErr result (λ stop. (W.sight w.new).stopped ≡ Some stop) }
     ensures most { MadeAtMost (2 * lay.now.subscribers + 7) 0 (W.sight w.old) (W.sight w.new) }
     ensures row { IfOk result (λ r. (array : List ℕ) → IsBelow (W.sight w.new) array → (db : Database) →

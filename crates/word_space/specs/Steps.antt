@@ -55,5 +55,5 @@ pub record WritesWord (at value : ℕ) (result : Result (Unit {0}) Stop) (s t : 
   pub does : DoesWrite at value result s t
 
 -- whatever turned into the first value turns into the second
-abbrev pub GoesOn : {S : Type 0} → (S → S → Type 0) → S → S → Type 0
-GoesOn {S} R y z = (x : S) → R x y → R x z
+abbrev pub WordsGoOn : {S : Type 0} → (S → S → Type 0) → S → S → Type 0
+WordsGoOn {S} R y z = (x : S) → R x y → R x z

@@ -100,7 +100,7 @@ impl Words for Flat {
     ghost use Rattle.word_space.specs.declared.stop.Stop.{Stop};
     ghost use Rattle.word_space.specs.Flats.{words_of, flat_sight, flat_well_formed};
     ghost use Rattle.word_space.specs.Sights.{shown};
-    ghost use Rattle.word_space.specs.Steps.{WritesWord, GoesOn};
+    ghost use Rattle.word_space.specs.Steps.{WritesWord, WordsGoOn};
 
     ghost sight = { flat_sight };
 
@@ -136,7 +136,7 @@ impl Words for Flat {
         ensures writes { WritesWord at value result (flat_sight self.old) (flat_sight self.new) }
         ensures shown { OnOk result ((array : List ℕ) → shown (flat_sight self.new) array
             ≡ slice_set (shown (flat_sight self.old) array) at value) }
-        ensures turns { GoesOn (λ x y. words_of y ≡ words_of x) self.old self.new }
+        ensures turns { WordsGoOn (λ x y. words_of y ≡ words_of x) self.old self.new }
         ensures no_memory { IfErr result (λ stop. stop ≡ Stop.Wide) }
     {
         match self.writes.put(Write { at, value }) {

@@ -2,7 +2,7 @@
 
 ghost use Rattle.std.specs.Prelude.{◌≡◌, ℕ, ◌<◌, IfOk, OnOk, List, slice_index, slice_set};
 ghost use Rattle.word_space.specs.Sights.{WordsSight, IsBelow, shown, IsWellFormed};
-ghost use Rattle.word_space.specs.Steps.{ReadsWord, WritesWord, GoesOn};
+ghost use Rattle.word_space.specs.Steps.{ReadsWord, WritesWord, WordsGoOn};
 
 use crate::stop::Stop;
 
@@ -30,7 +30,7 @@ pub trait Words {
         ensures reads { ReadsWord at result (sight self.old) (sight self.new) }
         ensures value { IfOk result (λ v. (array : List ℕ) → IsBelow (sight self.new) array
             → v ≡ slice_index (shown (sight self.old) array) at) }
-        ensures turns { GoesOn turns_into self.old self.new };
+        ensures turns { WordsGoOn turns_into self.old self.new };
 
     /// Writes the word `at`; the write is pending. `Wide` comes exactly where it would be of a 25th
     /// different word.
@@ -39,7 +39,7 @@ pub trait Words {
         ensures writes { WritesWord at value result (sight self.old) (sight self.new) }
         ensures shown { OnOk result ((array : List ℕ) → shown (sight self.new) array
             ≡ slice_set (shown (sight self.old) array) at value) }
-        ensures turns { GoesOn turns_into self.old self.new };
+        ensures turns { WordsGoOn turns_into self.old self.new };
 
     ghost well_formed: { (x : Self) → IsWellFormed (sight x) };
 

@@ -1,6 +1,6 @@
 use Rattle.std.proofs.Common.{◌≡◌, ◌≤◌, ◌+◌, ◌*◌, ◌-◌, None, ℕ, List}
 use Rattle.word_space.specs.Sights.{IsBelow, shown}
-use Rattle.word_space.specs.Steps.{GoesOn, Looked}
+use Rattle.word_space.specs.Steps.{WordsGoOn, Looked}
 use Rattle.record_heap.specs.Changes.{MadeAtMost}
 use Rattle.tatp_model.specs.Database.{Database}
 use Rattle.tatp_model.specs.Numbers.{numbers_of}
@@ -11,7 +11,7 @@ use Rattle.tatp_read.proofs.destination.destinations.Given as goal
 abbrev pub invariant-loop-key : goal.invariant-loop-key
 invariant-loop-key g l = record {
   looked : Looked None (g.W.Words.sight l.initial.w) (g.W.Words.sight l.w);
-  turns : GoesOn g.W.Words.turns_into l.initial.w l.w;
+  turns : WordsGoOn g.W.Words.turns_into l.initial.w l.w;
   most : MadeAtMost ((l.key - l.first) * (2 * l.lay.calls + 3)) 0 (g.W.Words.sight l.initial.w) (g.W.Words.sight l.w);
   few : l.phones.count + l.first ≤ l.key;
   numbers : (array : List ℕ) → IsBelow (g.W.Words.sight l.w) array → (db : Database) → StandsFor l.lay (shown (g.W.Words.sight l.initial.w) array) db →

@@ -15,40 +15,40 @@ returns-in_err-reserve_exact-clause-collects g c done same sorted =
     rounds_collect files 0 0 c.reserve_exact.new.self.items done
     (subst (λ (performed : List Done). Rounds files 0 0 performed) (sym (c.reserve_exact.ensures.items ∙ c.requires.empty)) (rounds_start files)) same sorted
 
-pub returns-in_err-settle-clause-left : goal.returns-in_err-settle-clause-left
-returns-in_err-settle-clause-left g c opening words s run =
+pub returns-in_err-checkpoint-clause-left : goal.returns-in_err-checkpoint-clause-left
+returns-in_err-checkpoint-clause-left g c opening words s run =
     let self = c.args.self.now in
     let served = c.serve_all.new.self in
-    let is : c.from_residual-in_err-settle.result ≡ Err Device = search rules in
+    let is : c.from_residual-in_err-checkpoint.result ≡ Err Device = search rules in
     let runs = c.in_ok-serve_all.ensures.left opening words s
     (subst (λ (performed : List Done). IsRunning opening words self.lay self.log (words_of self.words) performed s (g.M.Medium.sight (log_medium self.log))) (sym c.reserve_exact.ensures.items) run) in
-    left_failed opening words c.from_residual-in_err-settle.result _ s _ is
-    (failed_same opening words served.lay served.log c.settle.new.self (words_of served.words) served.done.items s (g.M.Medium.sight (log_medium served.log)) (g.M.Medium.sight (log_medium c.settle.new.self))
-    c.in_err-settle.ensures.goes_on c.settle.ensures.moments runs)
+    left_failed opening words c.from_residual-in_err-checkpoint.result _ s _ is
+    (failed_same opening words served.lay served.log c.checkpoint.new.self (words_of served.words) served.done.items s (g.M.Medium.sight (log_medium served.log)) (g.M.Medium.sight (log_medium c.checkpoint.new.self))
+    c.in_err-checkpoint.ensures.goes_on c.checkpoint.ensures.moments runs)
 
 pub returns-clause-left : goal.returns-clause-left
 returns-clause-left g c opening words s run =
     let self = c.args.self.now in
     let served = c.serve_all.new.self in
-    let ok = c.in_ok-settle.ensures in
+    let ok = c.in_ok-checkpoint.ensures in
     let runs = c.in_ok-serve_all.ensures.left opening words s
     (subst (λ (performed : List Done). IsRunning opening words self.lay self.log (words_of self.words) performed s (g.M.Medium.sight (log_medium self.log))) (sym c.reserve_exact.ensures.items) run) in
-    running_settled opening words served.lay served.log c.settle.new.self (words_of served.words) served.done.items s (g.M.Medium.sight (log_medium served.log)) (g.M.Medium.sight (log_medium c.settle.new.self))
-    ok.numbers.1 ok.goes_on c.settle.ensures.moments runs ok.numbers.0 ok.follows
+    running_settled opening words served.lay served.log c.checkpoint.new.self (words_of served.words) served.done.items s (g.M.Medium.sight (log_medium served.log)) (g.M.Medium.sight (log_medium c.checkpoint.new.self))
+    ok.numbers.1 ok.goes_on c.checkpoint.ensures.moments runs ok.numbers.0 ok.follows
 
 pub returns-clause-settled : goal.returns-clause-settled
 returns-clause-settled g c opening words s run =
     let self = c.args.self.now in
     let served = c.serve_all.new.self in
-    let ok = c.in_ok-settle.ensures in
+    let ok = c.in_ok-checkpoint.ensures in
     let runs = c.in_ok-serve_all.ensures.left opening words s
     (subst (λ (performed : List Done). IsRunning opening words self.lay self.log (words_of self.words) performed s (g.M.Medium.sight (log_medium self.log))) (sym c.reserve_exact.ensures.items) run) in
-    settled_run opening words served.lay served.log c.settle.new.self (words_of served.words) served.done.items s (g.M.Medium.sight (log_medium served.log)) (g.M.Medium.sight (log_medium c.settle.new.self))
-    ok.numbers.1 ok.goes_on c.settle.ensures.moments runs ok.ends ok.told
+    settled_run opening words served.lay served.log c.checkpoint.new.self (words_of served.words) served.done.items s (g.M.Medium.sight (log_medium served.log)) (g.M.Medium.sight (log_medium c.checkpoint.new.self))
+    ok.numbers.1 ok.goes_on c.checkpoint.ensures.moments runs ok.ends ok.told
 
 pub returns-clause-calls : goal.returns-clause-calls
 returns-clause-calls g c =
     let served = c.serve_all.new.self in
-    let ok = c.in_ok-settle.ensures in
-    runs_by (record c.args.self.now { done = c.reserve_exact.new.self }) served (log_parts c.settle.new.self) (log_last served.log) (log_durable c.settle.new.self) (g.M.Medium.sight (log_medium c.args.self.now.log)) (g.M.Medium.sight (log_medium served.log)) (g.M.Medium.sight (log_medium c.settle.new.self))
+    let ok = c.in_ok-checkpoint.ensures in
+    runs_by (record c.args.self.now { done = c.reserve_exact.new.self }) served (log_parts c.checkpoint.new.self) (log_last served.log) (log_durable c.checkpoint.new.self) (g.M.Medium.sight (log_medium c.args.self.now.log)) (g.M.Medium.sight (log_medium served.log)) (g.M.Medium.sight (log_medium c.checkpoint.new.self))
     (c.reserve_exact.ensures.items ∙ c.requires.empty) c.in_ok-serve_all.ensures.calls ok.numbers.1 ok.calls

@@ -4,7 +4,7 @@ use Rattle.dude_base.specs.Records.{RedoBundle}
 use Rattle.pmem_trait.specs.Sights.{state_now}
 use Rattle.log_numbered.specs.declared.open_bundle.OpenBundle.{OpenBundle}
 use Rattle.log_numbered.specs.BundleLog.{kept_back, kept_medium}
-use Rattle.log_numbered.specs.Backs.{GoesOn}
+use Rattle.log_numbered.specs.Backs.{LogGoesOn}
 use Rattle.log_numbered.specs.LogCalls.{ClosedBy, Makes}
 use Rattle.log_numbered.specs.RunLog.{FollowsOn, HasRoom, IsAlive, RecoversOn, log_back, log_medium, log_open, log_parts, log_sizes}
 use Rattle.log_numbered.proofs.Appending.{begun_alive, begun_follows, calls_here, goes_here, joined_alive, joined_follows, recovers_more_on, recovers_still}
@@ -49,7 +49,7 @@ close-requires g c = record { alive = subst (λ k. IsAlive k) (sym (c.joins.ensu
 pub returns-in_err-close-clause-goes_on : goal.returns-in_err-close-clause-goes_on
 returns-in_err-close-clause-goes_on g c =
     let err : is_ok c.from_residual.result ≡ false = search rules in
-    rw err (subst (λ k. GoesOn false (log_back k) (g.M.Medium.sight (log_medium k)) (log_back c.close.new.self) (g.M.Medium.sight (log_medium c.close.new.self))) (c.joins.ensures.stays c.if-joins.false) c.in_err-close.ensures.goes_on)
+    rw err (subst (λ k. LogGoesOn false (log_back k) (g.M.Medium.sight (log_medium k)) (log_back c.close.new.self) (g.M.Medium.sight (log_medium c.close.new.self))) (c.joins.ensures.stays c.if-joins.false) c.in_err-close.ensures.goes_on)
 
 pub returns-in_err-close-clause-moments : goal.returns-in_err-close-clause-moments
 returns-in_err-close-clause-moments g c =
@@ -57,7 +57,7 @@ returns-in_err-close-clause-moments g c =
 
 pub returns-clause-goes_on : goal.returns-clause-goes_on
 returns-clause-goes_on g c =
-    subst (λ k. GoesOn true (log_back k) (g.M.Medium.sight (log_medium k)) (log_back c.close.new.self) (g.M.Medium.sight (log_medium c.close.new.self))) (c.joins.ensures.stays c.if-joins.false) c.in_ok-close.ensures.goes_on
+    subst (λ k. LogGoesOn true (log_back k) (g.M.Medium.sight (log_medium k)) (log_back c.close.new.self) (g.M.Medium.sight (log_medium c.close.new.self))) (c.joins.ensures.stays c.if-joins.false) c.in_ok-close.ensures.goes_on
 
 pub returns-clause-last : goal.returns-clause-last
 returns-clause-last g c = ap (λ (n : ℕ). n + 1) (c.close.ensures.last ∙ c.joins.ensures.last)

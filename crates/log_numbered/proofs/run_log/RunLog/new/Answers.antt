@@ -1,7 +1,7 @@
 use Rattle.std.proofs.Common.{refl, sym, subst, arith}
 use Rattle.pmem_trait.specs.Sights.{Sight}
 use Rattle.back_store.specs.BackView.{medium_of, state_of}
-use Rattle.back_store.specs.Images.{Keeps}
+use Rattle.back_store.specs.Images.{HoldsStore}
 use Rattle.log_numbered.specs.Backs.{HoldsArrays, LeadsUpTo}
 use Rattle.log_numbered.proofs.LedLogs.{leads_idle}
 use Rattle.log_numbered.proofs.OpenedLogs.{first_array, first_last, holds_first}
@@ -22,7 +22,7 @@ returns-clause-follows g c before words opened =
       carried = record {
         from = omega arith;
         upto = omega arith;
-        keeps = subst (λ v. Keeps before v t) (sym c.requires.idle) opened.keeps;
+        keeps = subst (λ v. HoldsStore before v t) (sym c.requires.idle) opened.keeps;
         holds = λ visible. subst (λ v. HoldsArrays (first_array c.args.number words) v t) (sym c.requires.idle) (holds_first (state_of c.args.back).log.sizes c.args.number words t (opened.home visible));
       };
       leads_on = first_last c.args.number words;

@@ -3,7 +3,7 @@ use Rattle.log_numbered.specs.Backs.{Any}
 use Rattle.log_numbered.specs.BundleLog.{kept_back, kept_medium}
 use Rattle.log_numbered.proofs.GoingOn.{carries_then, goes_then, home_then, recovers_then, visible_after}
 use Rattle.log_numbered.proofs.LoggedCalls.{settled_back, settled_by}
-use Rattle.log_numbered.proofs.bundle_log.BundleLog.settle.Goals as goal
+use Rattle.log_numbered.proofs.bundle_log.BundleLog.checkpoint.Goals as goal
 
 pub returns-in_err-reproduce_all-clause-goes_on : goal.returns-in_err-reproduce_all-clause-goes_on
 returns-in_err-reproduce_all-clause-goes_on g c = let err : is_ok c.from_residual-in_err-reproduce_all.result ≡ false = search rules in rw err (goes_then _ _ _ _ _ _ c.in_ok-number.ensures.goes_on c.in_err-reproduce_all.ensures.goes_on)
