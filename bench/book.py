@@ -1,355 +1,146 @@
 #!/usr/bin/env python3
 """Makes the contract book: each public call with what it asks and gives, and each definition that a clause cites, linked.
 
-    bench/book.py            writes static pages to out/book, and ends with 1 where something can't be found
+    bench/book.py            writes static pages to out/book, and ends with 1 where something is missing
     bench/book.py --count    says only what is missing
 
-It fails on a public call without a sentence, a name of a clause or a definition that is imported from a module which
-doesn't have it, a definition without a comment, and a dead link. It reads crates.txt, and of each crate src/ and specs/.
+It fails on a crate, a module, a public call or a public type without a sentence, a definition without a comment, a name in
+a clause or a definition that it can't find, a call or a clause of docs/PROMISES.md that isn't there, and a dead link. It
+reads crates.txt, and of each crate src/, specs/ and the first lines of proofs/.
 """
 import html
+import json
 import os
 import re
 import sys
+import textwrap
 
-TOP = os.path.dirname(os.path.dirname(os.path.abspath(__file__)))
+sys.dont_write_bytecode = True
+from contracts import FIELD, TOP, WORD, Book, Definition, cited_in, clause_text, read_lines
+
 OUT = f"{TOP}/out/book"
 
-# The towers of the picture, from the program down, each with its rows of crates; what none of them names comes last.
+# The picture: each tower with its place on a wide page and its floors of crates, from the top down. A name that is no crate
+# is passed over, and a crate that has no place here comes last.
 TOWERS = [
-    ("Program", ["dude", "dude_program", "command_words command_edges command_openings"]),
-    ("Runs", ["dude_engine", "log_numbered run_order"]),
-    ("Images", ["image_format image_opening dude_recover", "image_recovery"]),
-    ("Log", ["back_store", "log_waiting", "log_ring", "redo_record group_combine"]),
-    ("Home", ["tatp_core", "tatp_read tatp_check tatp_population tatp_rows", "tatp_layout", "table_check hash_table", "record_heap", "word_space"]),
-    ("Texts", ["tatp_csv", "tatp_text"]),
-    ("Base", ["dude_io", "file_pmem", "dude_base tatp_model pmem_trait"]),
-    ("Threads", ["tiny_stm", "core_table shadow_pages", "dude_core", "core_state state_lists", "core_moves", "core_steps", "core_view", "core_events"]),
+    ("Program", "program", "dude; dude_program; command_words command_edges command_openings"),
+    ("Runs", "runs", "dude_engine; log_numbered run_order"),
+    ("Images", "images", "dude_recover; image_format image_opening; image_recovery"),
+    ("Log", "log", "back_store; log_waiting; log_ring; redo_record group_combine"),
+    ("Home", "home", "tatp_rows; tatp_core; tatp_read tatp_check tatp_population; tatp_layout; table_check hash_table; record_heap; word_space"),
+    ("Texts", "texts", "tatp_csv; tatp_text"),
+    ("Base", "base", "dude_io; file_pmem; dude_base tatp_model pmem_trait"),
+    ("Threads", "threads", "tiny_stm; core_table; dude_core; core_state; core_steps; core_view; core_events; shadow_pages"),
+    ("Tests", "tests", "program_runs home_runs log_runs text_runs core_runs; slow_recovery script_words pmem_fake"),
 ]
-
-DEFINITION = re.compile(r"^(?:(?:abbrev|unfoldable) )?pub (?:(record|data) )?([^\s:({]+)")
-IMPORT = re.compile(r"\buse Rattle\.(\w+)\.specs\.([\w.]+?)\.\{([^}]*)\}")
-WORD = re.compile(r"[A-Za-z_][\w-]*")
-
-
-class Definition:
-    def __init__(self, crate, module, name, comment, text):
-        self.crate, self.module, self.name, self.comment, self.text = crate, module, name, comment, text
-        self.used_by = []
-
-    def has(self, name):
-        """Whether a name stands for it: its own, or that of one of its cases."""
-        if name == self.name or name.startswith(f"{self.name}."):
-            return True
-        return bool(re.match(r"pub data", self.text[0])) and any(re.match(rf"\s+(?:pub )?{re.escape(name)}\s*:", line) for line in self.text[1:])
-
-    def link(self):
-        return f"{self.crate}.{self.module}.html#{self.name}"
-
-
-class Module:
-    """A file of specs/: its sentence, what it imports, and its definitions in their order."""
-
-    def __init__(self, crate, name, path):
-        self.crate, self.name, self.sentence, self.imports, self.definitions, self.handed_on = crate, name, "", {}, [], set()
-        with open(path, encoding="utf-8") as it:
-            lines = it.read().split("\n")
-        comment, text, inside = [], None, ""
-        head = []
-        while lines and lines[0].startswith("--"):
-            head.append(lines.pop(0)[2:].strip())
-        self.sentence = " ".join(head)
-        for line in lines:
-            plain = line.removeprefix(inside)
-            is_top = plain and not plain[0].isspace()
-            if inside and line and not line[0].isspace() and not line.startswith("--"):
-                inside, plain, is_top = "", line, True
-            found = IMPORT.search(line)
-            if found and is_top:
-                self.add_imports(found)
-                comment, text = [], None
-            elif re.match(r"module _", line):
-                inside, comment, text = "  ", [], None
-            elif is_top and plain.startswith("--"):
-                if text is not None:
-                    comment, text = [], None
-                comment.append(plain[2:].strip())
-            elif is_top and DEFINITION.match(plain):
-                text = [plain]
-                name = DEFINITION.match(plain)[2]
-                if name not in ("use", "mod"):
-                    self.definitions.append(Definition(crate, self.name, name, " ".join(comment), text))
-                comment = []
-            elif text is not None:
-                text.append(plain)
-        for one in self.definitions:
-            while one.text and not one.text[-1].strip():
-                one.text.pop()
-
-    def add_imports(self, found):
-        add_imports(self.imports, found)
-        if found.string.startswith("pub use"):
-            self.handed_on.update(it.strip() for it in found[3].split(","))
-
-
-def add_imports(imports, found):
-    for name in found[3].split(","):
-        own, _, other = name.strip().partition(" as ")
-        imports[other or own] = (found[1], found[2], own)
-
-
-class Call:
-    """A public call: where it is, its sentence, its signature, and its clauses with the comments before them."""
-
-    def __init__(self, crate, owner, name, sentence, signature, clauses, imports):
-        self.crate, self.owner, self.name, self.sentence = crate, owner, name, sentence
-        self.signature, self.clauses, self.imports = signature, clauses, imports
-
-    def anchor(self):
-        return f"{self.owner}.{self.name}" if self.owner else self.name
-
-
-def braces(text):
-    return text.count("{") - text.count("}")
-
-
-def calls_of(crate, path):
-    """The public calls of a file, with the words that their clauses know."""
-    with open(path, encoding="utf-8") as it:
-        lines = it.read().split("\n")
-    whole, owner, is_trait, in_tests, own = {}, "", False, False, {}
-    found, sentence, at = [], [], 0
-    while at < len(lines):
-        line = lines[at]
-        plain = line.strip()
-        top = re.match(r"(?:pub )?(impl|trait|(?:unsafe )?impl)\b", line)
-        if top and line.rstrip().endswith("{") or top and not line.rstrip().endswith("}"):
-            block = line
-            while not block.rstrip().endswith("{") and at + 1 < len(lines):
-                at += 1
-                block += " " + lines[at].strip()
-            owner, is_trait, own = owner_of(block)
-        elif line.startswith("}"):
-            owner, is_trait, own = "", False, {}
-        elif plain.startswith("#[cfg(test)]") or plain.startswith("mod tests"):
-            in_tests = plain.startswith("mod tests") or in_tests
-        elif plain.startswith("ghost use"):
-            while ";" not in plain and at + 1 < len(lines):
-                at += 1
-                plain += " " + lines[at].strip()
-            use = IMPORT.search(plain)
-            if use:
-                add_imports(own if line.startswith(" ") else whole, use)
-        elif plain.startswith("///"):
-            sentence.append(plain[3:].strip())
-        elif re.match(r"pub (const )?fn \w+", plain) or is_trait and re.match(r"fn \w+", plain):
-            at, call = call_at(lines, at, crate, owner, sentence, {**whole, **own})
-            if not in_tests:
-                found.append(call)
-            sentence = []
-        elif plain and not plain.startswith(("#[", "//")):
-            sentence = []
-        at += 1
-    return found
-
-
-def owner_of(block):
-    """Whose calls an impl or a trait has, and whether these are public by the trait."""
-    trait = re.match(r"pub trait (\w+)", block)
-    if trait:
-        return trait[1], True, {}
-    of = re.search(r"\bfor (\w+)", block)
-    if of:
-        return "", False, {}
-    bare = re.sub(r"^impl\s*", "", block)
-    depth = 0
-    if bare.startswith("<"):
-        for k, c in enumerate(bare):
-            depth += (c == "<") - (c == ">" and bare[k - 1] != "-")
-            if not depth:
-                bare = bare[k + 1 :].strip()
-                break
-    name = WORD.match(bare)
-    return (name[0] if name else ""), False, {}
-
-
-def call_at(lines, at, crate, owner, sentence, imports):
-    name = re.search(r"fn (\w+)", lines[at])[1]
-    signature, clauses, before = [], [], []
-    while at < len(lines):
-        plain = lines[at].strip()
-        if re.match(r"(requires|ensures|moments)\b", plain):
-            text = [lines[at].strip()]
-            while braces("\n".join(text)) > 0:
-                at += 1
-                text.append("    " + lines[at].strip())
-            clauses.append((" ".join(before), text))
-            before = []
-        elif plain.startswith("//"):
-            before.append(plain.lstrip("/").strip())
-        elif plain == "{" or clauses and plain in ("", "{"):
-            if plain == "{":
-                break
-        else:
-            signature.append(lines[at].rstrip())
-            if not clauses and plain.endswith(("{", ";")):
-                signature[-1] = signature[-1].rstrip("{; ").rstrip()
-                break
-        if plain.endswith(";") and clauses:
-            break
-        at += 1
-    spaces = len(lines[at]) - len(lines[at].lstrip()) if False else min((len(it) - len(it.lstrip()) for it in signature if it), default=0)
-    return at, Call(crate, owner, name, " ".join(sentence), [it[spaces:] for it in signature], clauses, imports)
-
-
-class Book:
-    def __init__(self):
-        self.crates, self.modules, self.calls, self.sentences, self.missing = {}, {}, {}, {}, []
-        with open(f"{TOP}/crates.txt", encoding="utf-8") as it:
-            for line in it:
-                name, colon, rest = line.partition("#")[0].partition(":")
-                if colon:
-                    self.crates[name.split()[0]] = rest.split()
-        for crate in self.crates:
-            self.read(crate)
-        self.links()
-
-    def read(self, crate):
-        folder = f"{TOP}/crates/{crate}"
-        root = next(it for it in (f"{folder}/src/lib.rt", f"{folder}/src/main.rt") if os.path.isfile(it))
-        with open(root, encoding="utf-8") as it:
-            front = [line[3:].strip() for line in it if line.startswith("//!")]
-        self.sentences[crate] = front
-        if not front:
-            self.missing.append(f"{crate}: its root has no sentence")
-        self.calls[crate] = []
-        for name in sorted(os.listdir(f"{folder}/src")):
-            path = f"{folder}/src/{name}"
-            if name.endswith(".rt"):
-                self.calls[crate] += calls_of(crate, path)
-        specs = f"{folder}/specs"
-        for name in sorted(os.listdir(specs)) if os.path.isdir(specs) else []:
-            if name.endswith(".antt") and name != "Lib.antt":
-                module = Module(crate, name[:-5], f"{specs}/{name}")
-                self.modules[crate, module.name] = module
-
-    def find(self, name, imports, module=None):
-        """The definition that a name of a clause or of a definition stands for, if the repository has it."""
-        if module:
-            for one in module.definitions:
-                if one.has(name):
-                    return one
-        where = imports.get(name)
-        if not where or where[0] not in self.crates or where[1].startswith("declared"):
-            return None
-        return self.defined(*where)
-
-    def defined(self, crate, module, name):
-        """The definition of this name in a module, or in one that it hands on."""
-        other = self.modules.get((crate, module))
-        if not other:
-            return None
-        one = next((it for it in other.definitions if it.has(name)), None)
-        return one or (self.defined(*other.imports[name]) if name in other.handed_on else None)
-
-    def links(self):
-        for crate, calls in self.calls.items():
-            for call in calls:
-                label = f"{crate}: {call.anchor()}"
-                if not call.sentence:
-                    self.missing.append(f"{label}: a public call without a sentence")
-                self.check_imports(call.imports, label)
-                for name in sorted({word for _, text in call.clauses for word in WORD.findall("\n".join(text))}):
-                    one = self.find(name, call.imports)
-                    if one:
-                        one.used_by.append((f"{crate}.html#{call.anchor()}", f"{crate}: {call.anchor()}"))
-        for module in self.modules.values():
-            self.check_imports(module.imports, f"{module.crate}/specs/{module.name}")
-            if not module.sentence:
-                self.missing.append(f"{module.crate}/specs/{module.name}: no sentence in front")
-            for one in module.definitions:
-                if not one.comment:
-                    self.missing.append(f"{module.crate}/specs/{module.name}: {one.name} has no comment")
-                for name in sorted(set(WORD.findall("\n".join(one.text))) - {one.name}):
-                    other = self.find(name, module.imports, module)
-                    if other:
-                        other.used_by.append((one.link(), f"{module.crate}.{module.name}: {one.name}"))
-
-    def check_imports(self, imports, label):
-        for name, where in imports.items():
-            if where[0] in self.crates and not where[1].startswith(("declared", "contracts")) and name not in ("", "◌"):
-                if not self.defined(*where):
-                    text = f"{label}: {where[2]} is not in {where[0]}/specs/{where[1]}"
-                    if text not in self.missing:
-                        self.missing.append(text)
-
+PLACES = ["program program program threads", "runs runs runs threads", "images log home threads", "texts log home threads", "base base base base", "tests tests tests tests", "others others others others"]
+# The clause that the book begins with: its crate, its call, its name, and the definition that it cites.
+HEADLINE = ("dude_program", "dude", "headline", ("Headline", "Headline"))
 
 STYLE = """
-:root { color-scheme: light dark; --ink: #1d2329; --paper: #fcfcfa; --soft: #59636e; --line: #d8dde3; --box: #f1f3f0; --link: #0b5c8a; --mark: #fff3c4; }
-@media (prefers-color-scheme: dark) { :root { --ink: #dde3e8; --paper: #14181c; --soft: #97a3ae; --line: #323b44; --box: #1d2329; --link: #7cc4ee; --mark: #4a4020; } }
+:root { color-scheme: light dark; --ink: #1d2329; --paper: #fcfcfa; --soft: #545e68; --line: #d8dde3; --box: #f1f3f0; --link: #0b5c8a; --mark: #fff3c4; --band: #0b5c8a; }
+@media (prefers-color-scheme: dark) { :root { --ink: #dde3e8; --paper: #14181c; --soft: #9aa6b1; --line: #323b44; --box: #1d2329; --link: #7cc4ee; --mark: #4a4020; --band: #7cc4ee; } }
 * { box-sizing: border-box; }
-body { margin: 0 auto; max-width: 62rem; padding: 1rem 1.2rem 4rem; background: var(--paper); color: var(--ink); font: 1rem/1.55 Georgia, 'Times New Roman', serif; }
-nav, h1, h2, h3, .kind, .tower, input { font-family: system-ui, sans-serif; }
+html { scroll-padding-top: 1rem; }
+body { margin: 0 auto; max-width: 64rem; padding: 1rem 1.2rem 4rem; background: var(--paper); color: var(--ink); font: 1rem/1.55 Georgia, 'Times New Roman', serif; overflow-wrap: anywhere; }
+nav, h1, h2, h3, .kind, .used, .tower, .letters, .names, input { font-family: system-ui, 'DejaVu Sans', sans-serif; }
 nav { display: flex; flex-wrap: wrap; gap: .4rem 1.1rem; padding-bottom: .6rem; border-bottom: 1px solid var(--line); font-size: .9rem; }
-h1 { font-size: 1.6rem; margin: 1.2rem 0 .6rem; } h2 { font-size: 1.2rem; margin: 2rem 0 .5rem; } h3 { font-size: 1rem; margin: 1.8rem 0 .3rem; }
-a { color: var(--link); text-decoration: none; } a:hover { text-decoration: underline; }
-pre { margin: .4rem 0; padding: .6rem .8rem; background: var(--box); border-radius: .3rem; overflow-x: auto; font: .84rem/1.5 ui-monospace, 'DejaVu Sans Mono', monospace; white-space: pre-wrap; overflow-wrap: anywhere; }
-.kind { color: var(--soft); font-size: .85rem; } .used { color: var(--soft); font-size: .85rem; }
-.clause { margin: .5rem 0 .5rem 1rem; } .clause p { margin: 0; color: var(--soft); }
+h1 { font-size: 1.6rem; line-height: 1.25; margin: 1.2rem 0 .6rem; } h2 { font-size: 1.2rem; margin: 2.2rem 0 .5rem; padding-top: .6rem; border-top: 1px solid var(--line); } h3 { font-size: 1rem; margin: 1.8rem 0 .3rem; }
+p { margin: .5rem 0; } a { color: var(--link); text-decoration: none; } a:hover { text-decoration: underline; }
+code { font: .9em ui-monospace, 'DejaVu Sans Mono', monospace; }
+pre { margin: .4rem 0; padding: .6rem .8rem; background: var(--box); border-radius: .3rem; font: .82rem/1.5 ui-monospace, 'DejaVu Sans Mono', monospace; white-space: pre-wrap; tab-size: 4; }
+.said { font-size: 1.1rem; padding-left: .9rem; border-left: .25rem solid var(--band); }
+.block { display: block; white-space: pre; overflow-x: auto; font-size: .8rem; }
+.gap { display: block; height: .5rem; }
+.kind, .used { color: var(--soft); font-size: .85rem; } h3 .kind { font-weight: normal; margin-left: .4rem; }
+.clause { margin: .6rem 0 .6rem 1rem; padding-left: .7rem; border-left: 2px solid var(--line); } .clause b { font: bold .85rem system-ui, 'DejaVu Sans', sans-serif; } .clause p { display: inline; color: var(--soft); }
 :target { background: var(--mark); }
-.towers { display: grid; grid-template-columns: repeat(auto-fill, minmax(13rem, 1fr)); gap: 1rem; margin: 1rem 0; }
-.tower { border: 1px solid var(--line); border-radius: .4rem; padding: .6rem; } .tower h2 { margin: 0 0 .4rem; font-size: 1rem; }
+.names { font-size: .9rem; } .names a { display: inline-block; margin-right: .8rem; } .letters a { display: inline-block; padding: .1rem .4rem; }
+.towers { display: grid; gap: .7rem; margin: 1.2rem 0; }
+.tower { border: 1px solid var(--line); border-radius: .4rem; padding: .5rem .6rem; } .tower h2 { margin: 0 0 .3rem; padding: 0; border: 0; font-size: .95rem; color: var(--soft); }
 .floor { display: flex; flex-wrap: wrap; gap: .3rem; padding: .25rem 0; border-top: 1px dashed var(--line); }
-.floor a { background: var(--box); border-radius: .25rem; padding: .1rem .45rem; font-size: .85rem; }
+.floor a { flex: 1 1 auto; text-align: center; background: var(--box); border-radius: .25rem; padding: .2rem .45rem; font-size: .85rem; }
 input { width: 100%; padding: .5rem .7rem; font-size: 1rem; border: 1px solid var(--line); border-radius: .3rem; background: var(--box); color: var(--ink); }
+table { border-collapse: collapse; width: 100%; font-size: .92rem; } th, td { text-align: left; vertical-align: top; padding: .3rem .5rem .3rem 0; border-bottom: 1px solid var(--line); } th { font-family: system-ui, 'DejaVu Sans', sans-serif; }
 ul { padding-left: 1.2rem; } li { margin: .15rem 0; }
-@media print { nav, input { display: none; } a { color: inherit; } pre { border: 1px solid #ccc; } }
+@media (min-width: 56rem) { .towers { grid-template-columns: 1fr 1fr 1fr 1fr; grid-template-areas: AREAS; } .tower { grid-area: var(--place); } }
+@media (max-width: 40rem) { body { padding: .7rem .8rem 3rem; } pre { font-size: .75rem; padding: .5rem; } .clause { margin-left: 0; } h1 { font-size: 1.35rem; } }
+@media print { :root { color-scheme: light; --ink: #000; --paper: #fff; --soft: #444; --line: #ccc; --box: #fff; --link: #000; --mark: #fff; --band: #000; } nav, input, .letters { display: none; } .block { white-space: pre-wrap; } body { max-width: none; padding: 0; font-size: 10pt; } pre { border: 1px solid #ccc; } h3 { break-after: avoid; } .clause { break-inside: avoid; } }
 """
 
 SEARCH = """
-<input id="search" placeholder="A word: persist, Crash, Recovers .." autocomplete="off" hidden><ul id="found"></ul>
+<input id="search" placeholder="Search: persist, Crash, recovers .." aria-label="Search" autocomplete="off" hidden><ul id="found"></ul>
 <script src="words.js"></script><script>
 const field = document.getElementById('search'), found = document.getElementById('found');
 field.hidden = false;
-field.addEventListener('input', () => {
+function search() {
   const asked = field.value.trim().toLowerCase();
-  const rows = asked ? WORDS.filter(it => it[0].toLowerCase().includes(asked)) : [];
-  rows.sort((a, b) => (a[0].toLowerCase().indexOf(asked) - b[0].toLowerCase().indexOf(asked)) || a[0].length - b[0].length);
+  const rank = it => { const own = it[0].toLowerCase().split('.').pop(), at = own.indexOf(asked); return own === asked ? 0 : at < 0 ? 1000 : at * 40 + own.length; };
+  const rows = asked.length < 2 ? [] : WORDS.filter(it => (it[0] + ' ' + it[2]).toLowerCase().includes(asked));
+  rows.sort((a, b) => rank(a) - rank(b));
   found.replaceChildren(...rows.slice(0, 40).map(([word, link, what]) => {
     const row = document.createElement('li'), one = document.createElement('a');
     one.href = link; one.textContent = word; row.append(one, ' ' + what);
     return row;
   }));
-});
+}
+field.addEventListener('input', search);
+search();
 </script>
 """
 
 
 def page(name, title, body):
-    top = '<nav><a href="index.html">Contract book</a><a href="headline.html">The headline</a><a href="words.html">All words</a></nav>'
+    top = '<nav><a href="index.html">Contract book</a><a href="headline.html">The headline</a><a href="promises.html">Promises</a><a href="words.html">All words</a></nav>'
     with open(f"{OUT}/{name}", "w", encoding="utf-8") as it:
         it.write(
             f'<!doctype html><html lang="en"><head><meta charset="utf-8"><meta name="viewport" content="width=device-width, initial-scale=1">'
-            f"<title>{html.escape(title)}</title><style>{STYLE}</style></head><body>{top}<h1>{html.escape(title)}</h1>{body}</body></html>\n"
+            f'<title>{html.escape(title)}</title><link rel="stylesheet" href="book.css"></head><body>{top}<h1>{html.escape(title)}</h1>{body}</body></html>\n'
         )
 
 
+def sentence(text):
+    """A comment as a sentence: it begins with a capital where its first word is no name, and ends with a stop."""
+    first = re.match(r"[a-z]{2,}(?=[ ,:;])|[aA] ", text)
+    text = text[:1].upper() + text[1:] if first else text
+    return text + "." if text and text[-1].isalnum() or text.endswith((")", "`")) else text
+
+
 def prose(text):
-    """A comment as text: names between back quotes as code."""
-    return re.sub(r"`([^`]*)`", r"<code>\1</code>", html.escape(text, quote=False))
+    """A comment as text: its paragraphs, and names between back quotes as code."""
+    blocks = []
+    for k, block in enumerate(text.split("\n\n")):
+        shown = html.escape(textwrap.dedent(block) if block.startswith("   ") else sentence(block), quote=False)
+        blocks.append(f'<code class="block">{shown}</code>' if block.startswith("   ") else re.sub(r"`([^`]*)`", r"<code>\1</code>", shown))
+    return '<span class="gap"></span>'.join(blocks)
+
+
+def first(text):
+    return prose(text.split("\n\n")[0])
 
 
 def linked(book, lines, imports, module=None, own=None):
     """A text of clauses or definitions, each name that the repository defines as a link."""
+
     def one(found):
         name = found[0]
-        definition = None if name == own else book.find(name, imports, module)
-        return f'<a href="{definition.link()}" title="{html.escape(definition.comment)}">{name}</a>' if definition else name
-    return re.sub(r"(?<![\w.-])" + WORD.pattern, one, html.escape("\n".join(lines), quote=False))
+        to = None if name == own else book.find(name, imports, module)
+        if not to:
+            return name
+        said = to.comment if isinstance(to, Definition) else to.sentence
+        return f'<a href="{to.link()}" title="{html.escape(sentence(said))}">{name}</a>'
+
+    texts = []
+    for line in lines:
+        text, dashes, said = html.escape(line, quote=False).partition("-- ")
+        field = FIELD.match(text)
+        at = field.end() if field else 0
+        texts.append(text[:at] + re.sub(r"(?<![\w.&'])" + WORD.pattern, one, text[at:]) + dashes + said)
+    return "\n".join(texts)
 
 
 def definition_text(book, module, one):
-    users = sorted(set(one.used_by), key=lambda it: it[1])
+    users = sorted(one.used_by.items(), key=lambda it: it[1])
     used = ", ".join(f'<a href="{link}">{html.escape(label)}</a>' for link, label in users[:12]) + (f" and {len(users) - 12} more" if len(users) > 12 else "")
     return (
         f'<h3 id="{one.name}">{one.name}</h3><p>{prose(one.comment)}</p><pre>{linked(book, one.text, module.imports, module, one.name)}</pre>'
@@ -357,137 +148,203 @@ def definition_text(book, module, one):
     )
 
 
+def clause_html(book, call, before, text):
+    """A clause: its name, or what it is where it has none; its sentence; its text."""
+    name = re.match(r"(requires|ensures)\s*([\w-]*)", text[0])
+    place = f' id="{call.anchor()}.{name[1]}.{name[2]}"' if name[2] else ""
+    said = f" <p>{prose(before)}</p>" if before else ""
+    return f'<div class="clause"{place}><b>{name[1]} {name[2]}</b>{said}<pre>{linked(book, strip_braces(text), call.imports)}</pre></div>'
+
+
+def strip_braces(text):
+    """A clause's fact alone."""
+    whole = "\n".join(clause_text(text)).strip().rstrip(";")
+    whole = whole.removesuffix("{}").strip() if whole.endswith("{}") else whole
+    return whole.removeprefix("{").removesuffix("}").strip().split("\n")
+
+
 def call_text(book, call):
-    rows = []
-    for before, text in call.clauses:
-        rows.append(f'<div class="clause">{f"<p>{prose(before)}</p>" if before else ""}<pre>{linked(book, text, call.imports)}</pre></div>')
+    rows = "".join(clause_html(book, call, before, text) for before, text in call.clauses)
     return (
-        f'<h3 id="{call.anchor()}">{html.escape(call.anchor())}</h3><p>{prose(call.sentence)}</p><pre>{html.escape(chr(10).join(call.signature))}</pre>' + "".join(rows)
+        f'<h3 id="{call.anchor()}">{html.escape(call.shown())}<span class="kind">{f"by {call.trait}, " if call.trait else ""}{call.file}</span></h3><p>{prose(call.sentence)}</p>'
+        f"<pre>{linked(book, call.signature, {name: it for name, it in call.imports.items() if it[1] == 'code' or it[1].startswith('declared.')})}</pre>{rows}"
     )
+
+
+def type_html(one):
+    return f'<h3 id="{one.anchor()}">{one.name}<span class="kind">{one.file}</span></h3><p>{prose(one.sentence)}</p><pre>{html.escape(chr(10).join(one.text))}</pre>'
+
+
+def names_of(links):
+    return '<p class="names">' + " ".join(f'<a href="{link}">{html.escape(name)}</a>' for name, link in links) + "</p>"
 
 
 def write_crate(book, crate):
     below = ", ".join(f'<a href="{it}.html">{it}</a>' if it in book.crates else it for it in book.crates[crate]) or "nothing"
-    above = ", ".join(f'<a href="{it}.html">{it}</a>' for it, low in book.crates.items() if crate in low) or "nothing"
-    body = f'<p>{prose(" ".join(book.sentences[crate]))}</p><p class="kind">Stands on {below}. Under {above}.</p>'
+    above = ", ".join(f'<a href="{it}.html">{it}</a>' for it in book.above[crate]) or "nothing"
+    body = f'<p>{prose(book.sentences[crate])}</p><p class="kind">Stands on {below}. Under {above}.</p>'
     modules = [it for (of, _), it in book.modules.items() if of == crate]
     if modules:
-        body += "<h2>Definitions</h2><ul>" + "".join(f'<li><a href="{crate}.{it.name}.html">{it.name}</a>: {prose(it.sentence)}</li>' for it in modules) + "</ul>"
-    if book.calls[crate]:
-        body += "<h2>Public calls</h2>" + "".join(call_text(book, it) for it in book.calls[crate])
+        body += "<h2>Definitions</h2><ul>" + "".join(f'<li><a href="{crate}.{it.name}.html">{it.name}</a>: {first(it.sentence)}</li>' for it in modules) + "</ul>"
+    for title, calls in (("Public calls", [it for it in book.calls[crate] if not it.is_inner]), ("Calls between its files", [it for it in book.calls[crate] if it.is_inner])):
+        if calls:
+            body += f"<h2>{title}</h2>" + names_of([(it.shown(), f"#{it.anchor()}") for it in calls]) + "".join(call_text(book, it) for it in calls)
+    if book.hands_on[crate]:
+        body += "<h2>Names of other crates</h2><ul>" + "".join(f'<li>of <a href="{it}.html">{it}</a>: {", ".join(names)}</li>' for it, names in book.hands_on[crate]) + "</ul>"
+    types = list(book.types[crate].values())
+    if types:
+        body += "<h2>Types and constants</h2>" + names_of([(it.name, f"#{it.anchor()}") for it in types]) + "".join(type_html(it) for it in types)
+    lemmas = [it for it in book.lemmas[crate] if it[1]]
+    if lemmas:
+        body += "<h2>Proofs</h2><ul>" + "".join(f"<li>{name}: {first(said)}</li>" for name, said in lemmas) + "</ul>"
     page(f"{crate}.html", crate, body)
     for module in modules:
-        body = f'<p>{prose(module.sentence)}</p><p class="kind">Of <a href="{crate}.html">{crate}</a>.</p>'
+        body = f'<p>{prose(module.sentence)}</p><p class="kind">Of <a href="{crate}.html">{crate}</a>.</p>' + names_of([(it.name, f"#{it.name}") for it in module.definitions])
         page(f"{crate}.{module.name}.html", f"{crate}: {module.name}", body + "".join(definition_text(book, module, it) for it in module.definitions))
 
 
 def picture(book):
-    named, rows = set(), []
-    for title, floors in TOWERS:
-        shown = []
-        for floor in floors:
+    rows = []
+    placed = " ".join(floors.replace(";", " ") for _, _, floors in TOWERS).split()
+    rest = [it for it in book.crates if it not in placed]
+    for title, place, floors in TOWERS + ([("Others", "others", " ".join(rest))] if rest else []):
+        shown = ""
+        for floor in floors.split(";"):
             crates = [it for it in floor.split() if it in book.crates]
-            named.update(crates)
-            shown.append('<div class="floor">' + "".join(f'<a href="{it}.html" title="{html.escape(" ".join(book.sentences[it]))}">{it}</a>' for it in crates) + "</div>")
-        rows.append(f'<div class="tower"><h2>{title}</h2>{"".join(shown)}</div>')
-    rest = [it for it in book.crates if it not in named]
-    if rest:
-        rows.append('<div class="tower"><h2>For tests</h2><div class="floor">' + "".join(f'<a href="{it}.html">{it}</a>' for it in rest) + "</div></div>")
+            links = "".join(f'<a href="{it}.html" title="{html.escape(sentence(book.sentences[it]))}">{it}</a>' for it in crates)
+            shown += f'<div class="floor">{links}</div>' if crates else ""
+        rows.append(f'<div class="tower" style="--place: {place}"><h2>{title}</h2>{shown}</div>')
     return f'<div class="towers">{"".join(rows)}</div>'
 
 
 def below_of(book, start):
     """The definitions that these cite, and those that these cite, level by level."""
-    levels, seen, now = [], set(), [start]
+    levels, seen, now = [], {start.link()}, [start]
     while now:
         levels.append(now)
-        seen.update(id(it) for it in now)
         following = []
         for one in now:
             module = book.modules[one.crate, one.module]
-            for name in sorted(set(WORD.findall("\n".join(one.text)))):
+            for name in sorted(cited_in(one.text)):
                 other = book.find(name, module.imports, module)
-                if other and id(other) not in seen:
-                    seen.add(id(other))
+                if isinstance(other, Definition) and other.link() not in seen:
+                    seen.add(other.link())
                     following.append(other)
         now = following
     return levels
 
 
 def write_headline(book):
-    module = book.modules.get(("dude_program", "Headline"))
-    start = next((it for it in module.definitions if it.name == "Headline"), None) if module else None
-    if not start:
+    crate, name, clause, (module, definition) = HEADLINE
+    call = next((it for it in book.calls.get(crate, []) if it.name == name), None)
+    start = book.defined(crate, module, definition)
+    if not call or not start:
+        book.miss(f"headline: {crate} has no {name} or no {definition}")
         return
-    body = (
-        "<p>The replies of a run are those that one thread gives when it executes the requests in the order of their numbers, each once and each file's in its order; "
-        "and at every moment every image that a crash may leave recovers to the database after a prefix of that order, with everything up to the last number told as durable.</p>"
-        '<p class="kind">The clause <a href="dude_program.html#dude">headline</a> of the public call <code>dude</code>, down to the definitions that cite nothing.</p>'
-    )
-    for depth, level in enumerate(below_of(book, start)):
-        body += f"<h2>{'The clause' if not depth else f'Step {depth} below'}</h2>"
+    levels = below_of(book, start)
+    said = book.modules[crate, module].sentence.split("\n\n")
+    body = "".join(f'<p{"" if k else " class=said"}>{prose(it.removeprefix("The headline: "))}</p>' for k, it in enumerate(said))
+    body += f'<p class="kind">It is a clause of the public call <a href="{call.link()}">{name}</a>. Below it stands each definition that it cites, and each that these cite, down to those that cite nothing: {sum(map(len, levels))} in {len(levels)} steps.</p>'
+    body += "<h2>The clause</h2>" + "".join(clause_html(book, call, before, text) for before, text in call.clauses if re.match(rf"ensures {clause}\b", text[0]))
+    for depth, level in enumerate(levels):
+        body += f"<h2>{'What it says' if not depth else f'Step {depth}'}</h2>" + (names_of([(it.name, f"#{it.crate}.{it.module}.{it.name}") for it in level]) if depth else "")
         for one in level:
-            module = book.modules[one.crate, one.module]
+            own = book.modules[one.crate, one.module]
             body += (
-                f'<h3><a href="{one.link()}">{one.name}</a> <span class="kind">{one.crate}</span></h3><p>{prose(one.comment)}</p>'
-                f"<pre>{linked(book, one.text, module.imports, module, one.name)}</pre>"
+                f'<h3 id="{one.crate}.{one.module}.{one.name}"><a href="{one.link()}">{one.name}</a><span class="kind">{one.crate}</span></h3><p>{prose(one.comment)}</p>'
+                f"<pre>{linked(book, one.text, own.imports, own, one.name)}</pre>"
             )
     page("headline.html", "The headline", body)
 
 
+def write_promises(book):
+    rows = ""
+    for said, calls, clauses in book.promises:
+        shown = ", ".join(f'<a href="{call.link()}">{html.escape(name)}</a>' if call else html.escape(name) for name, call in calls)
+        named = ", ".join(f'<a href="{clause_link(ones[0], name)}">{html.escape(name)}</a>' if ones else html.escape(name) for name, ones in clauses)
+        rows += f"<tr><td>{prose(said.strip('*'))}</td><td>{shown}</td><td>{named}</td></tr>"
+    body = "<p>Each line is carried by a clause of a public call. <code>docs/PROMISES.md</code> has them too, with what only tests show, what is neither proved nor tested, and what is trusted.</p>"
+    page("promises.html", "Promises", f"{body}<table><tr><th>Promise</th><th>Public call</th><th>Clause</th></tr>{rows}</table>")
+
+
+def clause_link(call, name):
+    """The place of a clause; where it has no name, that of its call."""
+    clause = name.split(".")[0]
+    has = any(re.match(rf"ensures {clause}\b", text[0]) for _, text in call.clauses)
+    return f"{call.crate}.html#{call.anchor()}.ensures.{clause}" if has else call.link()
+
+
 def words_of(book):
-    rows = [(it.name, it.link(), f"{it.crate}: {it.comment}") for module in book.modules.values() for it in module.definitions]
-    rows += [(call.name, f"{crate}.html#{call.anchor()}", f"{crate}: {call.sentence}") for crate, calls in book.calls.items() for call in calls]
-    rows += [(crate, f"{crate}.html", " ".join(text)) for crate, text in book.sentences.items()]
+    rows = [(it.name, it.link(), f"{it.crate}: {sentence(it.comment)}") for module in book.modules.values() for it in module.definitions]
+    rows += [(call.shown(), call.link(), f"{crate}: {sentence(call.sentence)}") for crate, calls in book.calls.items() for call in calls]
+    rows += [(it.name, it.link(), f"{it.crate}: {sentence(it.sentence)}") for types in book.types.values() for it in types.values() if it.is_public]
+    rows += [(crate, f"{crate}.html", sentence(text)) for crate, text in book.sentences.items()]
     return sorted(rows, key=lambda it: (it[0].lower(), it[2]))
+
+
+def write_words(rows):
+    with open(f"{OUT}/words.js", "w", encoding="utf-8") as it:
+        it.write("const WORDS = " + json.dumps([[word, link, textwrap.shorten(what.replace("`", ""), 160, placeholder=" ..")] for word, link, what in rows], ensure_ascii=False) + ";\n")
+    letters, body, last = [], "", ""
+    for word, link, what in rows:
+        if word[:1].upper() != last:
+            last = word[:1].upper()
+            letters.append((last, f"#letter-{last}"))
+            body += f'{"</ul>" if body else ""}<h2 id="letter-{last}">{html.escape(last)}</h2><ul>'
+        body += f'<li><a href="{link}">{html.escape(word)}</a> {prose(what)}</li>'
+    jumps = '<p class="letters">' + "".join(f'<a href="{link}">{html.escape(it)}</a>' for it, link in letters) + "</p>"
+    page("words.html", "All words", f"<p>{len(rows)} crates, public calls, types and definitions.</p>{jumps}{body}</ul>")
 
 
 def write(book):
     os.makedirs(OUT, exist_ok=True)
     for name in os.listdir(OUT):
         os.remove(f"{OUT}/{name}")
-    rows = words_of(book)
-    import json
-    with open(f"{OUT}/words.js", "w", encoding="utf-8") as it:
-        it.write("const WORDS = " + json.dumps([[word, link, what[:140]] for word, link, what in rows], ensure_ascii=False) + ";\n")
-    listed = "".join(f'<li><a href="{link}">{html.escape(word)}</a> {prose(what)}</li>' for word, link, what in rows)
-    page("words.html", "All words", f"<p>{len(rows)} crates, public calls and definitions.</p><ul>{listed}</ul>")
+    with open(f"{OUT}/book.css", "w", encoding="utf-8") as it:
+        it.write(STYLE.replace("AREAS", " ".join(f"'{row}'" for row in PLACES)))
+    write_words(words_of(book))
     for crate in book.crates:
         write_crate(book, crate)
     write_headline(book)
+    write_promises(book)
     front = (
         "<p>Each public call, with what it asks and what it gives; each definition that a clause cites, with its sentence and its text, down to the bottom. "
-        "<code>ensures NAME { FACT }</code> holds whenever the call returns; each caller proves <code>requires { FACT }</code>. "
-        "<code>x.old</code> and <code>x.new</code> are a value at entry and exit, <code>x.now</code> one that stays; a <code>sight</code> is what clauses see of a medium, files or a sink.</p>"
-        '<p>Begin with <a href="headline.html">the headline</a>, or with a crate:</p>'
+        "All of it is made from the sources.</p>"
+        "<p>What an <code>ensures</code> says holds whenever the call returns; what a <code>requires</code> says each caller proves. "
+        "<code>x.old</code> and <code>x.new</code> are a value at entry and exit, <code>x.now</code> one that stays; a <code>sight</code> is what clauses see of a medium, files or a sink; "
+        "<code>IfOk</code> and <code>IfErr</code> say something of an answer that is so.</p>"
+        '<p>Begin with <a href="headline.html">the headline</a>, with <a href="promises.html">the promises</a>, with a word, or with a crate:</p>'
     )
     page("index.html", "Yelmsker: the contract book", front + SEARCH + picture(book))
 
 
-def dead_links():
-    """Links of pages to a page or a place that isn't there."""
-    pages = {name: open(f"{OUT}/{name}", encoding="utf-8").read() for name in os.listdir(OUT) if name.endswith(".html")}
-    places = {name: set(re.findall(r'\bid="([^"]*)"', text)) for name, text in pages.items()}
-    dead = set()
-    for name, text in pages.items():
-        for link in re.findall(r'href="([^"]*)"', text):
-            to, _, place = link.partition("#")
-            if to not in pages or place and html.unescape(place) not in places[to]:
-                dead.add(f"{name}: dead link {link}")
-    return sorted(dead)
+def check_links(book):
+    """Notes links of pages to a page or a place that isn't there, and places that a page has twice."""
+    pages = {name: "\n".join(read_lines(f"{OUT}/{name}")) for name in os.listdir(OUT) if name.endswith(".html")}
+    places = {name: re.findall(r'\bid="([^"]*)"', text) for name, text in pages.items()}
+    sets = {name: set(it) for name, it in places.items()}
+    links = [(name, link) for name, text in pages.items() for link in re.findall(r'(?:href|src)="([^"]*)"', text)]
+    links += [("words.js", link) for _, link, _ in words_of(book)]
+    for name, link in links:
+        to, _, place = link.partition("#")
+        to = to or name
+        if not os.path.isfile(f"{OUT}/{to}") or place and html.unescape(place) not in sets.get(to, ()):
+            book.miss(f"{name}: dead link {link}")
+    for name, own in places.items():
+        for place in {it for it in own if own.count(it) > 1} if len(sets[name]) < len(own) else ():
+            book.miss(f"{name}: the place {place} is there twice")
 
 
 def main():
     book = Book()
-    missing = list(book.missing)
     if "--count" not in sys.argv:
         write(book)
-        missing += dead_links()
-    for line in missing:
+        check_links(book)
+    for line in book.missing:
         print(line)
     calls, definitions = sum(map(len, book.calls.values())), sum(len(it.definitions) for it in book.modules.values())
-    print(f"{len(book.crates)} crates, {calls} public calls, {definitions} definitions; {len(missing)} things missing")
-    return 1 if missing else 0
+    print(f"{len(book.crates)} crates, {calls} public calls, {definitions} definitions; {len(book.missing)} things missing")
+    return 1 if book.missing else 0
 
 
 sys.exit(main())
