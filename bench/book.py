@@ -5,8 +5,8 @@
     bench/book.py --count    says only what is missing
 
 It fails on a crate, a module, a public call or a public type without a sentence, a definition without a comment, a name in
-a clause or a definition that it can't find, a call or a clause of docs/PROMISES.md that isn't there, and a dead link. It
-reads crates.txt, and of each crate src/, specs/ and the first lines of proofs/.
+a clause or a definition that it can't find, a call or a clause of docs/PROMISES.md that isn't there, and a dead link, also of a
+document. It reads crates.txt, the documents, and of each crate src/, specs/ and the first lines of proofs/.
 """
 import html
 import json
@@ -335,8 +335,18 @@ def check_links(book):
             book.miss(f"{name}: the place {place} is there twice")
 
 
+def check_documents(book):
+    """Notes paths in documents that lead nowhere. A path with a name in capitals stands for any."""
+    documents = [f"{TOP}/README.md", *(f"{TOP}/docs/{it}" for it in sorted(os.listdir(f"{TOP}/docs")) if it.endswith(".md"))]
+    for document in documents:
+        for path in re.findall(r"[`(]((?:crates|docs|bench|examples)/[\w./-]+)", "\n".join(read_lines(document))):
+            if not re.search(r"/[A-Z]+(?:/|$)", path) and not os.path.exists(f"{TOP}/{path}"):
+                book.miss(f"{os.path.relpath(document, TOP)}: dead link {path}")
+
+
 def main():
     book = Book()
+    check_documents(book)
     if "--count" not in sys.argv:
         write(book)
         check_links(book)
