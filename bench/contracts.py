@@ -61,13 +61,11 @@ class Module:
 
     def __init__(self, crate, name, path):
         self.crate, self.name, self.imports, self.definitions, self.handed_on = crate, name, {}, [], set()
-        self.parameters, self.texts = set(), []
+        self.parameters = set()
         lines = read_lines(path)
-        head = []
-        while lines and lines[0].startswith("--"):
-            head.append(lines.pop(0)[2:])
-        self.sentence = paragraphs(head)
-        self.read(lines)
+        head = next((k for k, it in enumerate(lines) if not it.startswith("--")), len(lines))
+        self.sentence = paragraphs([it[2:] for it in lines[:head]])
+        self.read(lines[head:])
         self.named = {}
         for one in self.definitions:
             while one.text and not one.text[-1].strip():
