@@ -240,6 +240,7 @@ def write_headline(book):
     start = book.defined(crate, module, definition)
     if not call or not start:
         book.miss(f"headline: {crate} has no {name} or no {definition}")
+        page("headline.html", "The headline", "<p>It isn't found.</p>")
         return
     levels = below_of(book, start)
     said = book.modules[crate, module].sentence.split("\n\n")
