@@ -15,9 +15,13 @@ abbrev pub flush_lines : List ℕ → List Call
 flush_lines [] = []
 flush_lines (l ∷ ls) = Flush l ∷ flush_lines ls
 
+-- a flush for each line, and the fence
+abbrev pub fence_calls : List ℕ → List Call
+fence_calls ls = flush_lines ls ++ Fence ∷ []
+
 -- the puts, the flushes, and the fence
 unfoldable pub group_calls : List (ℕ × ℕ) → List ℕ → List Call
-group_calls ws ls = put_pairs ws ++ (flush_lines ls ++ Fence ∷ [])
+group_calls ws ls = put_pairs ws ++ fence_calls ls
 
 -- the values that these writes put in word k, in order
 abbrev pub values_put : List (ℕ × ℕ) → ℕ → List ℕ

@@ -2,7 +2,7 @@
 
 ghost use Rattle.std.specs.Prelude.{◌≡◌, OnOk};
 ghost use Rattle.pmem_trait.specs.Sights.{Makes};
-ghost use Rattle.pmem_trait.specs.Groups.{put_pairs, flush_lines, group_calls, PlacesFit, LinesFit, MixesAtEveryMoment, Settles};
+ghost use Rattle.pmem_trait.specs.Groups.{put_pairs, flush_lines, fence_calls, group_calls, PlacesFit, LinesFit, MixesAtEveryMoment, Settles};
 
 use crate::failed::Failed;
 use crate::medium::Medium;
@@ -33,6 +33,17 @@ pub fn flush_all<M: Medium>(m: &mut M, lines: &[u64]) -> Result<(), Failed>
     Ok(())
 }
 
+// Flushes each line, and fences.
+#[tactic(auto, using(crate::proofs::Runs::making))]
+fn fence_lines<M: Medium>(m: &mut M, lines: &[u64]) -> Result<(), Failed>
+    requires { LinesFit (M.sight m.old).len lines.now }
+    ensures len { (M.sight m.new).len ≡ (M.sight m.old).len }
+    ensures made { Makes (fence_calls lines.now) result (M.sight m.old) (M.sight m.new) }
+{
+    flush_all(m, lines)?;
+    m.fence()
+}
+
 // The calls of `settle_group`.
 #[tactic(auto, using(crate::proofs::Runs::making), unfolding(crate::specs::Groups::group_calls))]
 fn make_group<M: Medium>(m: &mut M, writes: &[(u64, u64)], lines: &[u64]) -> Result<(), Failed>
@@ -42,8 +53,7 @@ fn make_group<M: Medium>(m: &mut M, writes: &[(u64, u64)], lines: &[u64]) -> Res
     ensures made { Makes (group_calls writes.now lines.now) result (M.sight m.old) (M.sight m.new) }
 {
     put_all(m, writes)?;
-    flush_all(m, lines)?;
-    m.fence()
+    fence_lines(m, lines)
 }
 
 /// Makes a group of writes: puts each value in its word, flushes these lines, and fences.
