@@ -3,12 +3,16 @@ use Rattle.std.specs.Prelude.{ℕ, ◌+◌, ◌-◌, ◌≤◌, List, [], ◌∷
 use Rattle.dude_base.specs.declared.limits.TheConstants.{MAX_NUMBER, MAX_SPAN, MAX_BUNDLE_WRITES}
 use Rattle.dude_base.specs.declared.write.Write.{Write}
 use Rattle.dude_base.specs.Sizes.{IsFrom}
-use Rattle.dude_base.specs.Writes.{overwritten, put_all, AreWrites}
+use Rattle.dude_base.specs.Writes.{overwritten, put_all, put_write, AreWrites}
 
 -- the number of a transaction, and its writes
 pub record RedoRecord : Type 0 where
   pub number : ℕ
   pub writes : List Write
+
+-- the record with one more write, which replaces the one of the same word, or comes last
+abbrev pub with_write : RedoRecord → Write → RedoRecord
+with_write r w = record r { writes = put_write r.writes w }
 
 -- A bundle covers consecutive numbers: its last one, and so many before it. It has the last write of each word that the
 -- transactions of these numbers write.

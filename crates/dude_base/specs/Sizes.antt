@@ -3,6 +3,7 @@ use Rattle.std.specs.Prelude.{◌≡◌, ℕ, ◌<◌, ◌≤◌}
 use Rattle.dude_base.specs.declared.field.Field.{Field}
 use Rattle.dude_base.specs.declared.field.Field.TheVariants.{Subscribers, Calls, Rings, Cells, Pages}
 use Rattle.dude_base.specs.declared.limits.TheConstants.{MAX_SUBSCRIBERS, MAX_CALLS, MAX_RINGS, MIN_CELLS, MAX_CELLS}
+use Rattle.dude_base.specs.declared.size_fault.SizeFault.{SizeFault}
 use Rattle.dude_base.specs.declared.sizes.Sizes.{Sizes}
 use Rattle.dude_base.specs.Home.{pages_for}
 
@@ -43,3 +44,19 @@ pub record IsFirstOut (field : Field) (s : Sizes) : Type 0 where
 -- the sizes with the pages that the tables need
 abbrev pub sizes_for : ℕ → ℕ → ℕ → ℕ → Sizes
 sizes_for subscribers calls rings cells = record { subscribers = subscribers; calls = calls; rings = rings; cells = cells; pages = pages_for subscribers calls }
+
+-- these sizes, and they are accepted
+abbrev pub AreTheSizes : Sizes → Sizes → Type 0
+AreTheSizes wanted s = (s ≡ wanted) × IsAccepted s
+
+-- the fault names the first field that is out of its limits
+abbrev pub IsFaultOf : Sizes → SizeFault → Type 0
+IsFaultOf s fault = IsFirstOut fault.field s
+
+-- each field before the pages is within its limits
+abbrev pub CountsAreWithin : Sizes → Type 0
+CountsAreWithin s = (f : Field) → field_rank f < field_rank Pages → IsWithin f s
+
+-- the fault names the first field that is out of its limits, which isn't the pages
+abbrev pub IsFaultOfCounts : Sizes → SizeFault → Type 0
+IsFaultOfCounts s fault = IsFaultOf s fault × (field_rank fault.field < field_rank Pages)

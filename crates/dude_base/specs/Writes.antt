@@ -1,5 +1,6 @@
 -- Lists of writes, and an array that they overwrite.
-use Rattle.std.specs.Prelude.{◌≡◌, ◌≢◌, ◌==◌, ℕ, ◌≤◌, List, [], ◌∷◌, ◌++◌, length, map, Option, Some, None, is_some, if◌then◌else◌, AllPairs, slice_set}
+use Rattle.std.specs.Prelude.{◌≡◌, ◌≢◌, ◌==◌, ℕ, ◌<◌, ◌≤◌, List, [], ◌∷◌, ◌++◌, length, map, Option, Some, None, is_some, if◌then◌else◌, AllPairs, slice_set}
+use Rattle.std.specs.List.{HoldsAt}
 use Rattle.dude_base.specs.declared.limits.TheConstants.{MAX_WRITES}
 use Rattle.dude_base.specs.declared.write.Write.{Write}
 
@@ -7,6 +8,10 @@ use Rattle.dude_base.specs.declared.write.Write.{Write}
 abbrev pub written : List Write → ℕ → Option ℕ
 written [] i = None
 written (w ∷ ws) i = if w.at == i then Some w.value else written ws i
+
+-- the write at index k is of the word i
+abbrev pub IsIndexOf : List Write → ℕ → ℕ → Type 0
+IsIndexOf ws i k = (k < length ws) × HoldsAt (λ w. w.at ≡ i) ws k
 
 -- the writes are of different words
 abbrev pub HasDistinctPlaces : List Write → Type 0

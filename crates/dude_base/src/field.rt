@@ -1,3 +1,5 @@
+//! The fields of the sizes of an image.
+
 /// A field of `Sizes`, in the order of the struct.
 #[derive(Clone, Copy, Debug, PartialEq, Eq)]
 pub enum Field {

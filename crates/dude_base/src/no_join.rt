@@ -1,8 +1,10 @@
+//! Why a bundle refuses a record.
+
 use std::error::Error;
 use std::fmt;
 
 /// Why a bundle doesn't take a record.
-#[derive(Clone, Copy, Debug, PartialEq, Eq)]
+#[derive(Clone, Copy, Debug)]
 pub enum NoJoin {
     /// The record's number isn't the one behind the bundle's last.
     Gap { last: u64, number: u64 },

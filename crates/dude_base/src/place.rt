@@ -1,3 +1,5 @@
+//! Where the parts of an image stand.
+
 ghost use Rattle.std.specs.Prelude.{◌≡◌, ◌<◌, ◌≤◌, ◌+◌, ◌*◌};
 ghost use Rattle.dude_base.specs.Image.{cell_at, cell_start, home_word, image_words};
 ghost use Rattle.dude_base.specs.Sizes.{IsAccepted};
@@ -7,7 +9,7 @@ use crate::sizes::Sizes;
 use std::marker::Model;
 
 /// Where the parts of an image of accepted sizes stand, as word numbers of the medium.
-#[derive(Clone, Copy, Debug)]
+#[derive(Clone, Copy)]
 pub struct Place {
     sizes: Sizes,
 }

@@ -1,5 +1,8 @@
+//! The redo record of a transaction.
+
 ghost use Rattle.std.specs.Prelude.{◌≡◌, ◌<◌, ◌↔◌, [], length, slice_get, All, OnOk, OnErr, IsErr};
-ghost use Rattle.dude_base.specs.Writes.{put_write, overwritten, IsWide, IsWriteList};
+ghost use Rattle.dude_base.specs.Records.{with_write};
+ghost use Rattle.dude_base.specs.Writes.{overwritten, IsWide, IsWriteList};
 
 use crate::wide::Wide;
 use crate::write::Write;
@@ -74,7 +77,7 @@ impl Redo {
 
     /// Adds a write; it replaces the one of the same word, or comes last.
     pub fn push(&mut self, w: Write) -> Result<(), Wide>
-        ensures ok { OnOk result (self.new ≡ record self.old { writes = put_write self.old.writes w }) }
+        ensures ok { OnOk result (self.new ≡ with_write self.old w) }
         ensures err { OnErr result (self.new ≡ self.old) }
         ensures wide { IsErr result ↔ IsWide self.old.writes w.at }
     {

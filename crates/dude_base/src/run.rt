@@ -1,5 +1,7 @@
+//! What a run of threads has: frames, locks and boxes.
+
 /// How the threads of a run share what they have.
-#[derive(Clone, Copy, Debug, PartialEq, Eq)]
+#[derive(Clone, Copy)]
 pub struct Run {
     /// Pages that are in memory at a time: from `MIN_FRAMES` to the pages of the image, and exactly
     /// these where they are fewer.

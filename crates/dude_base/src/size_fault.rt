@@ -1,9 +1,11 @@
+//! Sizes that no image may have.
+
 use crate::field::Field;
 use std::error::Error;
 use std::fmt;
 
 /// The first field of `Sizes` that is out of its limits.
-#[derive(Clone, Copy, Debug, PartialEq, Eq)]
+#[derive(Clone, Copy, Debug)]
 pub struct SizeFault {
     pub field: Field,
 }

@@ -1,7 +1,8 @@
+//! How large an image is, and which sizes it may have.
+
 ghost use Rattle.std.specs.Prelude.{◌≡◌, ◌<◌, ◌≤◌, ◌+◌, ◌*◌, ℕ, IfOk, IfErr, OnOk};
-ghost use Rattle.dude_base.specs.declared.field.Field.{Field};
 ghost use Rattle.dude_base.specs.Home.{in_whole_lines, table_words, pages_for};
-ghost use Rattle.dude_base.specs.Sizes.{IsAccepted, IsFirstOut, IsFrom, IsWithin, field_rank, sizes_for};
+ghost use Rattle.dude_base.specs.Sizes.{AreTheSizes, CountsAreWithin, IsAccepted, IsFaultOf, IsFaultOfCounts, IsFrom, sizes_for};
 
 use crate::field::Field;
 use crate::limits::{
@@ -11,7 +12,7 @@ use crate::limits::{
 use crate::size_fault::SizeFault;
 
 /// How large an image is.
-#[derive(Clone, Copy, Debug, PartialEq, Eq)]
+#[derive(Clone, Copy)]
 pub struct Sizes {
     /// Subscribers, from 1 to `MAX_SUBSCRIBERS`.
     pub subscribers: u64,
@@ -28,8 +29,8 @@ pub struct Sizes {
 impl Sizes {
     /// The sizes with the pages that these tables need.
     pub fn of(subscribers: u64, calls: u64, rings: u64, cells: u64) -> Result<Sizes, SizeFault>
-        ensures ok { IfOk result (λ s. (s ≡ sizes_for subscribers calls rings cells) × IsAccepted s) }
-        ensures fault { IfErr result (λ e. IsFirstOut e.field (sizes_for subscribers calls rings cells)) }
+        ensures ok { IfOk result (AreTheSizes (sizes_for subscribers calls rings cells)) }
+        ensures fault { IfErr result (IsFaultOf (sizes_for subscribers calls rings cells)) }
     {
         let mut sizes = Sizes {
             subscribers,
@@ -46,7 +47,7 @@ impl Sizes {
     /// Whether an image may have these sizes.
     pub fn check(&self) -> Result<(), SizeFault>
         ensures ok { OnOk result (IsAccepted self.now) }
-        ensures fault { IfErr result (λ e. IsFirstOut e.field self.now) }
+        ensures fault { IfErr result (IsFaultOf self.now) }
     {
         self.check_counts()?;
         if self.pages != pages_of_tables(self.subscribers, self.calls) {
@@ -59,8 +60,8 @@ impl Sizes {
 
     // The fields but for the pages.
     fn check_counts(&self) -> Result<(), SizeFault>
-        ensures ok { OnOk result ((f : Field) → field_rank f < field_rank Field.Pages → IsWithin f self.now) }
-        ensures fault { IfErr result (λ e. IsFirstOut e.field self.now × (field_rank e.field < field_rank Field.Pages)) }
+        ensures ok { OnOk result (CountsAreWithin self.now) }
+        ensures fault { IfErr result (IsFaultOfCounts self.now) }
     {
         within(Field::Subscribers, self.subscribers, 1, MAX_SUBSCRIBERS)?;
         within(Field::Calls, self.calls, 1, MAX_CALLS)?;

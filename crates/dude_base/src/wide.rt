@@ -1,8 +1,10 @@
+//! The fault of a transaction that would write too many different words.
+
 use std::error::Error;
 use std::fmt;
 
 /// A transaction would write a 25th different word.
-#[derive(Clone, Copy, Debug, PartialEq, Eq)]
+#[derive(Clone, Copy, Debug)]
 pub struct Wide;
 
 impl fmt::Display for Wide {

@@ -1,5 +1,7 @@
+//! The write of one home word.
+
 /// A store of `value` in the home word `at`.
-#[derive(Clone, Copy, Debug, PartialEq, Eq)]
+#[derive(Clone, Copy)]
 pub struct Write {
     pub at: u64,
     pub value: u64,

@@ -1,6 +1,8 @@
+//! Lists of writes of different words, which take no memory.
+
 ghost use Rattle.std.specs.Prelude.{◌≡◌, ◌≢◌, ◌<◌, ◌↔◌, [], ◌∷◌, ◌++◌, length, slice_get, slice_set, All, OnOk, OnErr, IsErr, IfSome, IfNone};
 ghost use Rattle.std.specs.List.{HoldsAt};
-ghost use Rattle.dude_base.specs.Writes.{written, put_write, overwritten, IsTooMany, AreWrites};
+ghost use Rattle.dude_base.specs.Writes.{written, put_write, overwritten, IsIndexOf, IsTooMany, AreWrites};
 
 use crate::limits::{MAX_BUNDLE_WRITES, MAX_WRITES};
 use crate::wide::Wide;
@@ -114,7 +116,7 @@ impl<const MOST: usize> Writes<MOST> {
     }
 
     fn index_of(&self, at: u64) -> Option<u64>
-        ensures some { IfSome result (λ k. (k < length self.now) × HoldsAt (λ w. w.at ≡ at) self.now k) }
+        ensures some { IfSome result (IsIndexOf self.now at) }
         ensures none { IfNone result (All (λ w. w.at ≢ at) self.now) }
         ensures writes { AreWrites MOST self.now }
     {

@@ -1,8 +1,9 @@
 -- A group of writes: some words are put, their lines flushed, and a fence made.
-use Rattle.std.specs.Prelude.{All, ◌*◌, ◌+◌, ◌≤◌, ◌≡◌, ◌⊎◌, ◌==◌, ℕ, ◌/◌, ◌<◌, if◌then◌else◌, List, [], ◌∷◌, ◌++◌, length, slice_index}
+use Rattle.std.specs.Prelude.{All, ◌*◌, ◌+◌, ◌≤◌, ◌≡◌, ◌⊎◌, ◌==◌, ℕ, ◌/◌, ◌<◌, if◌then◌else◌, List, [], ◌∷◌, ◌++◌, length, slice_index, IsTrue}
 use Rattle.pmem_trait.specs.declared.call.Call.{Call}
 use Rattle.pmem_trait.specs.declared.call.Call.TheVariants.{Put, Flush, Fence}
 use Rattle.pmem_trait.specs.Words.{State, IsIn, MayHold, newest, value_of, settled_at, IsSettledWord}
+use Rattle.pmem_trait.specs.Sights.{Sight, state_now, AtEveryMoment}
 
 -- a put for each pair of a word and a value
 abbrev pub put_pairs : List (ℕ × ℕ) → List Call
@@ -14,9 +15,13 @@ abbrev pub flush_lines : List ℕ → List Call
 flush_lines [] = []
 flush_lines (l ∷ ls) = Flush l ∷ flush_lines ls
 
+-- a flush for each line, and the fence
+abbrev pub fence_calls : List ℕ → List Call
+fence_calls ls = flush_lines ls ++ Fence ∷ []
+
 -- the puts, the flushes, and the fence
 unfoldable pub group_calls : List (ℕ × ℕ) → List ℕ → List Call
-group_calls ws ls = put_pairs ws ++ (flush_lines ls ++ Fence ∷ [])
+group_calls ws ls = put_pairs ws ++ fence_calls ls
 
 -- the values that these writes put in word k, in order
 abbrev pub values_put : List (ℕ × ℕ) → ℕ → List ℕ
@@ -44,6 +49,14 @@ pub record SettlesGroup (ws : List (ℕ × ℕ)) (ls : List ℕ) (p q : State) :
 -- the numbers told stay, and the image is such a mix
 abbrev pub MixOf : ℕ → State → List (ℕ × ℕ) → List ℕ → List ℕ → Type 0
 MixOf len p ws told image = (told ≡ p.told) × OldOrNew len p ws image
+
+-- at each moment each image is a mix of the words at the entry and the written ones
+abbrev pub MixesAtEveryMoment : List (ℕ × ℕ) → Sight → Sight → Type 0
+MixesAtEveryMoment ws s t = AtEveryMoment (MixOf s.len (state_now s) ws) s t
+
+-- where the states are visible, the group has settled its words at the exit
+abbrev pub Settles : List (ℕ × ℕ) → List ℕ → Sight → Sight → Type 0
+Settles ws ls s t = IsTrue s.is_visible → SettlesGroup ws ls (state_now s) (state_now t)
 
 -- each word written is below the length
 abbrev pub PlacesFit : ℕ → List (ℕ × ℕ) → Type 0

@@ -1,9 +1,9 @@
 -- What clauses see of a medium, what one call leaves of it, and what a list of calls does.
-use Rattle.std.specs.Prelude.{◌≡◌, ◌⊎◌, ℕ, ◌+◌, ◌-◌, ◌^◌, ◌≤◌, Bool, true, false, not, List, [], ◌∷◌, ◌++◌, IsTrue, MatchBool}
+use Rattle.std.specs.Prelude.{◌≡◌, ◌⊎◌, ℕ, ◌+◌, ◌-◌, ◌^◌, ◌≤◌, Bool, true, false, not, List, [], ◌∷◌, ◌++◌, IsTrue, MatchBool, Result, is_ok}
 use Rattle.pmem_trait.specs.declared.call.Call.{Call}
 use Rattle.pmem_trait.specs.declared.made.Made.{Made}
 use Rattle.pmem_trait.specs.Faults.{up_to_last}
-use Rattle.pmem_trait.specs.Words.{State, after, HalfDone, EveryImage}
+use Rattle.pmem_trait.specs.Words.{State, value_of, after, HalfDone, EveryImage}
 
 -- A medium: its length, its moment, its count of faults; whether its states are visible, and the state at each
 -- moment up to now; whether its calls are listed, and the list of them.
@@ -32,6 +32,10 @@ pub record Extends (s t : Sight) : Type 0 where
   pub is_visible : t.is_visible ≡ s.is_visible
   pub past : IsTrue s.is_visible → (m : ℕ) → m ≤ s.now → t.state m ≡ s.state m
 
+-- where the states are visible, a read of this word gives this value
+abbrev pub ReadGives : Sight → ℕ → ℕ → Type 0
+ReadGives s at v = IsTrue s.is_visible → v ≡ value_of ((state_now s).word at)
+
 -- what a call does to the state: all of it, or at each word nothing or what it would have done
 abbrev pub CallEffect : Call → Bool → State → State → Type 0
 CallEffect c ok p q = MatchBool ok (q ≡ after c p) (HalfDone c p q)
@@ -50,6 +54,10 @@ pub data CallsMade : List Call → Bool → Sight → Sight → Type 0 where
   none : {s : Sight} → CallsMade [] true s s
   stop : {c : Call} {cs : List Call} {s t : Sight} → OneCall c false s t → CallsMade (c ∷ cs) false s t
   step : {c : Call} {cs : List Call} {ok : Bool} {s t u : Sight} → OneCall c true s t → CallsMade cs ok t u → CallsMade (c ∷ cs) ok s u
+
+-- exactly these calls where the result is Ok; where it is an Err, a prefix of them, whose last one failed
+abbrev pub Makes : {T E : Type 0} → List Call → Result T E → Sight → Sight → Type 0
+Makes cs r s t = CallsMade cs (is_ok r) s t
 
 -- some calls, of which none failed but perhaps the last
 abbrev pub SomeCalls : Bool → Sight → Sight → Type 0

@@ -1,8 +1,8 @@
 //! Writes that are made together: puts, flushes of their lines, and a fence.
 
-ghost use Rattle.std.specs.Prelude.{◌≡◌, IsTrue, OnOk, is_ok};
-ghost use Rattle.pmem_trait.specs.Sights.{state_now, CallsMade, AtEveryMoment};
-ghost use Rattle.pmem_trait.specs.Groups.{put_pairs, flush_lines, group_calls, PlacesFit, LinesFit, MixOf, SettlesGroup};
+ghost use Rattle.std.specs.Prelude.{◌≡◌, OnOk};
+ghost use Rattle.pmem_trait.specs.Sights.{Makes};
+ghost use Rattle.pmem_trait.specs.Groups.{put_pairs, flush_lines, fence_calls, group_calls, PlacesFit, LinesFit, MixesAtEveryMoment, Settles};
 
 use crate::failed::Failed;
 use crate::medium::Medium;
@@ -12,7 +12,7 @@ use crate::medium::Medium;
 pub fn put_all<M: Medium>(m: &mut M, writes: &[(u64, u64)]) -> Result<(), Failed>
     requires { PlacesFit (M.sight m.old).len writes.now }
     ensures len { (M.sight m.new).len ≡ (M.sight m.old).len }
-    ensures made { CallsMade (put_pairs writes.now) (is_ok result) (M.sight m.old) (M.sight m.new) }
+    ensures made { Makes (put_pairs writes.now) result (M.sight m.old) (M.sight m.new) }
 {
     for &(at, value) in writes {
         m.put(at, value)?;
@@ -25,12 +25,23 @@ pub fn put_all<M: Medium>(m: &mut M, writes: &[(u64, u64)]) -> Result<(), Failed
 pub fn flush_all<M: Medium>(m: &mut M, lines: &[u64]) -> Result<(), Failed>
     requires { LinesFit (M.sight m.old).len lines.now }
     ensures len { (M.sight m.new).len ≡ (M.sight m.old).len }
-    ensures made { CallsMade (flush_lines lines.now) (is_ok result) (M.sight m.old) (M.sight m.new) }
+    ensures made { Makes (flush_lines lines.now) result (M.sight m.old) (M.sight m.new) }
 {
     for line in lines {
         m.flush(*line)?;
     }
     Ok(())
+}
+
+// Flushes each line, and fences.
+#[tactic(auto, using(crate::proofs::Runs::making))]
+fn fence_lines<M: Medium>(m: &mut M, lines: &[u64]) -> Result<(), Failed>
+    requires { LinesFit (M.sight m.old).len lines.now }
+    ensures len { (M.sight m.new).len ≡ (M.sight m.old).len }
+    ensures made { Makes (fence_calls lines.now) result (M.sight m.old) (M.sight m.new) }
+{
+    flush_all(m, lines)?;
+    m.fence()
 }
 
 // The calls of `settle_group`.
@@ -39,11 +50,10 @@ fn make_group<M: Medium>(m: &mut M, writes: &[(u64, u64)], lines: &[u64]) -> Res
     requires places { PlacesFit (M.sight m.old).len writes.now }
     requires whole { LinesFit (M.sight m.old).len lines.now }
     ensures len { (M.sight m.new).len ≡ (M.sight m.old).len }
-    ensures made { CallsMade (group_calls writes.now lines.now) (is_ok result) (M.sight m.old) (M.sight m.new) }
+    ensures made { Makes (group_calls writes.now lines.now) result (M.sight m.old) (M.sight m.new) }
 {
     put_all(m, writes)?;
-    flush_all(m, lines)?;
-    m.fence()
+    fence_lines(m, lines)
 }
 
 /// Makes a group of writes: puts each value in its word, flushes these lines, and fences.
@@ -59,9 +69,9 @@ pub fn settle_group<M: Medium>(
     requires places { PlacesFit (M.sight m.old).len writes.now }
     requires whole { LinesFit (M.sight m.old).len lines.now }
     ensures len { (M.sight m.new).len ≡ (M.sight m.old).len }
-    ensures made { CallsMade (group_calls writes.now lines.now) (is_ok result) (M.sight m.old) (M.sight m.new) }
-    ensures mix { AtEveryMoment (MixOf (M.sight m.old).len (state_now (M.sight m.old)) writes.now) (M.sight m.old) (M.sight m.new) }
-    ensures settles { OnOk result (IsTrue (M.sight m.old).is_visible → SettlesGroup writes.now lines.now (state_now (M.sight m.old)) (state_now (M.sight m.new))) }
+    ensures made { Makes (group_calls writes.now lines.now) result (M.sight m.old) (M.sight m.new) }
+    ensures mix { MixesAtEveryMoment writes.now (M.sight m.old) (M.sight m.new) }
+    ensures settles { OnOk result (Settles writes.now lines.now (M.sight m.old) (M.sight m.new)) }
 {
     make_group(m, writes, lines)
 }

@@ -1,9 +1,8 @@
 //! The trait of persistent memory.
 
-ghost use Rattle.std.specs.Prelude.{◌≡◌, ℕ, ◌+◌, ◌*◌, ◌^◌, ◌<◌, ◌≤◌, is_ok, IfOk, IsTrue};
+ghost use Rattle.std.specs.Prelude.{◌≡◌, ℕ, ◌+◌, ◌*◌, ◌^◌, ◌<◌, ◌≤◌, is_ok, IfOk};
 ghost use Rattle.pmem_trait.specs.declared.call.Call.TheVariants.{Read, Put, Flush, Fence, Tell};
-ghost use Rattle.pmem_trait.specs.Words.{value_of};
-ghost use Rattle.pmem_trait.specs.Sights.{Sight, state_now, OneCall};
+ghost use Rattle.pmem_trait.specs.Sights.{Sight, OneCall, ReadGives};
 
 use crate::failed::Failed;
 
@@ -29,7 +28,7 @@ pub trait Medium {
     fn read(&mut self, at: u64) -> Result<u64, Failed>
         requires { at < (sight self.old).len }
         ensures one_call { OneCall (Read at) (is_ok result) (sight self.old) (sight self.new) }
-        ensures value { IfOk result (λ v. IsTrue (sight self.old).is_visible → v ≡ value_of ((state_now (sight self.old)).word at)) };
+        ensures value { IfOk result (ReadGives (sight self.old) at) };
 
     /// Puts a value in this word.
     fn put(&mut self, at: u64, value: u64) -> Result<(), Failed>

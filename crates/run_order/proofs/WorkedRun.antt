@@ -11,6 +11,7 @@ use Rattle.tatp_model.specs.declared.reply.Reply.{Reply}
 use Rattle.tatp_model.specs.declared.reply.Reply.TheVariants.{Subscriber, Access, Changed, Durable}
 use Rattle.tatp_model.specs.Population.{population}
 use Rattle.tatp_model.specs.OneThread.{Precedes, IsPrintedOrder}
+use Rattle.tatp_model.proofs.WorkedReplies.{first_subscriber}
 use Rattle.tatp_model.proofs.PrintedOrder.{IsPrintedOrder-unique}
 use Rattle.run_order.specs.Runs.{PrecedesInRounds, Performs, Collects}
 use Rattle.run_order.proofs.Pairs.{pairs_nil}
@@ -19,15 +20,7 @@ use Rattle.run_order.proofs.Law.{law}
 
 -- subscriber 1 of a new database, at this location
 abbrev subscriber : ℕ → Reply
-subscriber vlr = Subscriber (record {
-  s_id = 1;
-  sub_nbr = 1;
-  bits = 0 ∷ 1 ∷ 0 ∷ 1 ∷ 0 ∷ 1 ∷ 0 ∷ 1 ∷ 0 ∷ 1 ∷ [];
-  hexes = 2 ∷ 3 ∷ 4 ∷ 5 ∷ 6 ∷ 7 ∷ 8 ∷ 9 ∷ 10 ∷ 11 ∷ [];
-  bytes = 8 ∷ 9 ∷ 10 ∷ 11 ∷ 12 ∷ 13 ∷ 14 ∷ 15 ∷ 16 ∷ 17 ∷ [];
-  msc = 1;
-  vlr = vlr;
-})
+subscriber vlr = Subscriber (first_subscriber vlr)
 
 abbrev access : Reply
 access = Access (record { data1 = 2; data2 = 1; data3 = 67 ∷ 68 ∷ 69 ∷ []; data4 = 68 ∷ 69 ∷ 70 ∷ 71 ∷ 72 ∷ [] })

@@ -13,7 +13,7 @@ use Rattle.hash_table.specs.Walk.{IsPath}
 use Rattle.hash_table.proofs.Walks.{link_after-push, path_append, linked_path}
 use Rattle.table_check.specs.declared.marks.Marks.{Marks}
 use Rattle.table_check.specs.declared.seen.Seen.{Seen}
-use Rattle.table_check.specs.Faults.{IsWrongLink, IsWrongRecord, IsWrongFree, IsInChains}
+use Rattle.table_check.specs.Faults.{IsWrongLink, IsWrongRecord, IsWrongFree, IsInChains, IsWrongNext}
 use Rattle.table_check.specs.Marks.{AreMarked, IsNew}
 use Rattle.table_check.specs.Seen.{AreApartMarked, KnowsMet, KnowsPart, KnowsChains, KnowsFree, KnowsFreeList, TakesSound}
 use Rattle.table_check.specs.Taken.{AreTaken}
@@ -63,32 +63,25 @@ module _ (content : ℕ → ℕ → Type 0) (table : Table) (array : List ℕ) w
     next_word : {link : ℕ} {seen : Seen} (known : KnowsPart content table array bucket link seen) → link_after (table.at + length known.chains) known.part ≡ link
     next_word known = ap (λ b. link_after (table.at + b) known.part) known.bucket_is ∙ sym known.link_is
 
+    -- something is wrong there
+    in_chains : {link word : ℕ} {seen : Seen} (known : KnowsPart content table array bucket link seen) → bucket < table.buckets
+        → IsWrongNext content table array (length known.chains) (met_of known) (link_after (table.at + length known.chains) known.part) word → IsInChains content table array word
+    in_chains known below next = record { chains = known.chains; part = known.part; met = known.met; bucket = omega (arith, known.bucket_is, below); next = next }
+
     -- the link is wrong
     pub wrong_link : {link : ℕ} {seen : Seen} (known : KnowsPart content table array bucket link seen) → bucket < table.buckets → slice_index array link ≢ 0 → ¬ IsNew table.pool (met_of known) (slice_index array link)
         → IsInChains content table array link
-    wrong_link {link} known below leads astray = record {
-      chains = known.chains;
-      part = known.part;
-      met = known.met;
-      bucket = omega (arith, known.bucket_is, below);
-      next = inl (
-        subst (IsWrongLink table array (met_of known)) (sym (next_word known)) (record { leads = leads; astray = astray }),
-        sym (next_word known),
-      );
-    }
+    wrong_link {link} known below leads astray = in_chains known below (inl (
+      subst (IsWrongLink table array (met_of known)) (sym (next_word known)) (record { leads = leads; astray = astray }),
+      sym (next_word known),
+    ))
 
     -- it leads to a record that is wrong
     pub wrong_record : {link : ℕ} {seen : Seen} (known : KnowsPart content table array bucket link seen) → bucket < table.buckets → (word : ℕ)
         → IsWrongRecord content table array bucket (met_of known) (slice_index array link) word → IsInChains content table array word
-    wrong_record {link} known below word wrong = record {
-      chains = known.chains;
-      part = known.part;
-      met = known.met;
-      bucket = omega (arith, known.bucket_is, below);
-      next = inr (
-          subst (λ b. IsWrongRecord content table array b (met_of known) (slice_index array (link_after (table.at + length known.chains) known.part)) word) (sym known.bucket_is)
-          (subst (λ l. IsWrongRecord content table array bucket (met_of known) (slice_index array l) word) (sym (next_word known)) wrong));
-    }
+    wrong_record {link} known below word wrong = in_chains known below (inr (
+        subst (λ b. IsWrongRecord content table array b (met_of known) (slice_index array (link_after (table.at + length known.chains) known.part)) word) (sym known.bucket_is)
+        (subst (λ l. IsWrongRecord content table array bucket (met_of known) (slice_index array l) word) (sym (next_word known)) wrong)))
 
     -- it leads to a new record, which was taken in
     pub chain_more : {link : ℕ} {seen : Seen} (known : KnowsPart content table array bucket link seen) (new : Seen) → AreMarked table.pool (met_of known ++ slice_index array link ∷ []) new.marks.marks.items

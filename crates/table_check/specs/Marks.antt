@@ -24,3 +24,11 @@ Meets pool at old new is_new = (met : List ℕ) → AreMarked pool met old → M
 -- the least record that was not met, or none where each was
 abbrev pub IsLeastNew : Pool → List ℕ → Option ℕ → Type 0
 IsLeastNew pool met found = MatchOption found ((at : ℕ) → IsRecord pool at → Contains met at) (λ word. IsNew pool met word × ((at : ℕ) → IsRecord pool at → at < word → Contains met at))
+
+-- fewer marks are not set than before
+abbrev pub MarksMore : List Bool → List Bool → Type 0
+MarksMore old new = unmarked new < unmarked old
+
+-- whatever records the marks are those of, the least that is not among them, or none where each is
+abbrev pub FindsUnmarked : Pool → List Bool → Option ℕ → Type 0
+FindsUnmarked pool marks found = (met : List ℕ) → AreMarked pool met marks → IsLeastNew pool met found

@@ -1,11 +1,13 @@
 -- What is known on the way through a table.
-use Rattle.std.specs.Prelude.{◌≡◌, ◌≢◌, ℕ, ◌+◌, ◌<◌, ◌≤◌, Option, MatchOption, List, [], ◌∷◌, ◌++◌, length, All, AllPairs, slice_index}
+use Rattle.std.specs.Prelude.{◌≡◌, ◌≢◌, ℕ, ◌+◌, ◌<◌, ◌≤◌, Option, MatchOption, List, [], ◌∷◌, ◌++◌, length, All, AllPairs, slice_index, Result, OnOk, IfErr}
 use Rattle.hash_table.specs.declared.table.Table.{Table}
 use Rattle.hash_table.specs.Table.{link_after, records_in}
 use Rattle.table_check.specs.declared.marks.Marks.{Marks}
 use Rattle.table_check.specs.declared.seen.Seen.{Seen}
 use Rattle.table_check.specs.declared.taken.Taken.{Taken}
-use Rattle.table_check.specs.Marks.{AreMarked}
+use Rattle.table_check.specs.declared.check_fault.CheckFault.{CheckFault}
+use Rattle.table_check.specs.Faults.{IsCause, IsWrongFree, IsWrongRecord}
+use Rattle.table_check.specs.Marks.{AreMarked, IsNew}
 use Rattle.table_check.specs.Taken.{AreTaken}
 use Rattle.table_check.specs.Walk.{HasMet, HasMetFree, HasFreeList, IsSound}
 
@@ -53,6 +55,30 @@ pub record TakesSound (content : ℕ → ℕ → Type 0) (table : Table) (array 
   pub sound : IsSound content table array bucket at
   pub new_key : All (λ x. slice_index array x ≢ slice_index array at) met
   pub taken_in : AreTaken array (met ++ at ∷ []) taken
+
+-- where nothing is refused, the chain of this bucket was followed too
+abbrev pub FollowsChain : {T : Type 0} → (ℕ → ℕ → Type 0) → Table → List ℕ → ℕ → Result T CheckFault → Seen → Type 0
+FollowsChain content table array bucket r seen = OnOk r (KnowsChains content table array (bucket + 1) seen)
+
+-- where the record is accepted, it was taken in, behind whatever records were taken before
+abbrev pub TakesIn : {T : Type 0} → (ℕ → ℕ → Type 0) → Table → List ℕ → ℕ → ℕ → Taken → Result T CheckFault → Taken → Type 0
+TakesIn content table array bucket at old r new =
+    (met : List ℕ) → AreTaken array met old → OnOk r (TakesSound content table array bucket at met new)
+
+-- where it is refused, that names its first word that doesn't hold what it has to, or memory is wanting
+abbrev pub RefusesRecord : {T : Type 0} → (ℕ → ℕ → Type 0) → Table → List ℕ → ℕ → ℕ → Taken → Result T CheckFault → Type 0
+RefusesRecord content table array bucket at old r =
+    (met : List ℕ) → AreTaken array met old → IsNew table.pool met at → IfErr r (IsCause (IsWrongRecord content table array bucket met at))
+
+-- where the free list is accepted, it was followed to its end, behind whatever records were marked before
+abbrev pub FollowsFree : {T : Type 0} → Table → List ℕ → Marks → Result T CheckFault → Marks → Type 0
+FollowsFree table array old r new =
+    (taken : List ℕ) → AreApartMarked table taken old → OnOk r (KnowsFreeList table array taken new)
+
+-- where it is refused, that names a wrong link in it
+abbrev pub RefusesFree : {T : Type 0} → Table → List ℕ → Marks → Result T CheckFault → Type 0
+RefusesFree table array old r =
+    (taken : List ℕ) → AreApartMarked table taken old → IfErr r (IsCause (IsWrongFree table array taken))
 
 -- the first offset behind the link at which the record's word isn't one that it may hold
 abbrev pub IsFirstWrongBehind : (ℕ → ℕ → Type 0) → Table → List ℕ → ℕ → Option ℕ → Type 0

@@ -25,3 +25,11 @@ pub record AreTaken (array records : List ℕ) (taken : Taken) : Type 0 where
 abbrev pub Takes : List ℕ → ℕ → Taken → Taken → Bool → Type 0
 Takes array at old new is_new = (records : List ℕ) → AreTaken array records old →
     MatchBool is_new (All (λ x. slice_index array x ≢ slice_index array at) records × AreTaken array (records ++ at ∷ []) new) (¬ All (λ x. slice_index array x ≢ slice_index array at) records)
+
+-- the same in whatever array the record has this key
+abbrev pub TakesKey : ℕ → ℕ → Taken → Taken → Bool → Type 0
+TakesKey at key old new is_new = (array : List ℕ) → slice_index array at ≡ key → Takes array at old new is_new
+
+-- of whatever records were taken, and by their keys in whatever array
+abbrev pub FindsTaken : Taken → ℕ → Option ℕ → Type 0
+FindsTaken taken key found = (array records : List ℕ) → AreTaken array records taken → Finds array records key found

@@ -10,10 +10,10 @@ pub struct Marks {
 }
 
 impl Marks {
-    ghost use Rattle.std.specs.Prelude.{◌≡◌, ◌+◌, ◌^◌, ◌<◌, ◌≤◌, ℕ, List, [], length, IfOk};
+    ghost use Rattle.std.specs.Prelude.{◌≡◌, ◌+◌, ◌^◌, ◌<◌, ◌≤◌, ℕ, [], length, IfOk};
     ghost use Rattle.std.specs.Bool.{OnTrue};
     ghost use Rattle.record_heap.specs.Pool.{IsRecord};
-    ghost use Rattle.table_check.specs.Marks.{AreMarked, IsLeastNew, Meets, unmarked};
+    ghost use Rattle.table_check.specs.Marks.{AreMarked, FindsUnmarked, MarksMore, Meets};
 
     /// No record was met.
     pub fn new(alloc: Global, pool: &Pool) -> Result<Marks, AllocError>
@@ -31,7 +31,7 @@ impl Marks {
         ensures meets { Meets pool.now at self.old.marks.items self.new.marks.items result }
         ensures place { OnTrue result (IsRecord pool.now at) }
         ensures count { length self.new.marks.items ≡ pool.now.count }
-        ensures fewer { OnTrue result (unmarked self.new.marks.items < unmarked self.old.marks.items) }
+        ensures fewer { OnTrue result (MarksMore self.old.marks.items self.new.marks.items) }
     {
         if !pool.has(at) {
             return false;
@@ -49,7 +49,7 @@ impl Marks {
         requires count { length self.now.marks.items ≡ pool.now.count }
         requires size { 0 < pool.now.size }
         requires fits { (at : ℕ) → IsRecord pool.now at → at < 2 ^ 64 }
-        ensures { (met : List ℕ) → AreMarked pool.now met self.now.marks.items → IsLeastNew pool.now met result }
+        ensures { FindsUnmarked pool.now self.now.marks.items result }
     {
         for (index, met) in self.marks.iter().enumerate() {
             if !*met {

@@ -16,8 +16,8 @@ pub struct Taken {
 }
 
 impl Taken {
-    ghost use Rattle.std.specs.Prelude.{◌≡◌, ℕ, List, [], IfOk, slice_index};
-    ghost use Rattle.table_check.specs.Taken.{AreTaken, Finds, Takes, records_by_key, records_taken};
+    ghost use Rattle.std.specs.Prelude.{◌≡◌, ℕ, List, [], IfOk};
+    ghost use Rattle.table_check.specs.Taken.{AreTaken, FindsTaken, TakesKey, records_by_key, records_taken};
 
     // None was met.
     pub(crate) fn new(alloc: Global) -> Taken
@@ -31,7 +31,7 @@ impl Taken {
 
     // Takes in a record and its key, and answers whether the key is new. Where it isn't, the table is no lawful one.
     pub(crate) fn take(&mut self, at: u64, key: u64) -> Result<bool, AllocError>
-        ensures { IfOk result (λ is_new. (array : List ℕ) → slice_index array at ≡ key → Takes array at self.old self.new is_new) }
+        ensures { IfOk result (TakesKey at key self.old self.new) }
     {
         if self.by_key.insert(key, at)?.is_some() {
             return Ok(false);
@@ -49,7 +49,7 @@ impl Taken {
 
     /// The record with this key.
     pub fn find(&self, key: u64) -> Option<u64>
-        ensures { (array records : List ℕ) → AreTaken array records self.now → Finds array records key result }
+        ensures { FindsTaken self.now key result }
     {
         self.by_key.get(&key).copied()
     }

@@ -1,12 +1,10 @@
 //! A table is walked through, chain by chain and then along its free list, and the first wrong word is named.
 
-ghost use Rattle.std.specs.Prelude.{◌≡◌, ℕ, ◌+◌, ◌*◌, ◌<◌, ◌≤◌, List, IfOk, IfErr, OnOk, length};
+ghost use Rattle.std.specs.Prelude.{◌≡◌, ◌+◌, ◌*◌, ◌<◌, ◌≤◌, IfOk, IfErr, length};
 ghost use Rattle.record_heap.specs.Pool.{IsRecord};
 ghost use Rattle.hash_table.specs.Table.{FitsTable};
-ghost use Rattle.table_check.specs.Faults.{IsCause, IsFirstWrong, IsInChains, IsWrongFree, IsWrongRecord};
-ghost use Rattle.table_check.specs.Marks.{IsNew};
-ghost use Rattle.table_check.specs.Seen.{AreApartMarked, IsFirstWrongBehind, KnowsChains, KnowsFreeList, TakesSound};
-ghost use Rattle.table_check.specs.Taken.{AreTaken};
+ghost use Rattle.table_check.specs.Faults.{IsCause, IsFirstWrong, IsInChains};
+ghost use Rattle.table_check.specs.Seen.{FollowsChain, FollowsFree, IsFirstWrongBehind, KnowsChains, RefusesFree, RefusesRecord, TakesIn};
 ghost use Rattle.table_check.specs.Whole.{KeepsWhole};
 
 use crate::check_fault::CheckFault;
@@ -59,7 +57,7 @@ fn follow_chain<C: Content>(
     requires fits { FitsTable table.now (length a.now) }
     requires bucket { bucket < table.now.buckets }
     requires knows { KnowsChains (C.MayHold content.now) table.now a.now bucket seen.old }
-    ensures knows { OnOk result (KnowsChains (C.MayHold content.now) table.now a.now (bucket + 1) seen.new) }
+    ensures knows { FollowsChain (C.MayHold content.now) table.now a.now bucket result seen.new }
     ensures fault { IfErr result (IsCause (IsInChains (C.MayHold content.now) table.now a.now)) }
 {
     let mut link = table.at + bucket;
@@ -85,8 +83,10 @@ fn check_record<C: Content>(
 ) -> Result<(), CheckFault>
     requires fits { FitsTable table.now (length a.now) }
     requires place { IsRecord table.now.pool at }
-    ensures sound { (met : List ℕ) → AreTaken a.now met taken.old → OnOk result (TakesSound (C.MayHold content.now) table.now a.now bucket at met taken.new) }
-    ensures fault { (met : List ℕ) → AreTaken a.now met taken.old → IsNew table.now.pool met at → IfErr result (IsCause (IsWrongRecord (C.MayHold content.now) table.now a.now bucket met at)) }
+    ensures sound { TakesIn (C.MayHold content.now) table.now a.now bucket at
+        taken.old result taken.new }
+    ensures fault { RefusesRecord (C.MayHold content.now) table.now a.now bucket at
+        taken.old result }
 {
     let key = a[at as usize];
     if !content.allows(0, key) || key % table.buckets != bucket || !taken.take(at, key)? {
@@ -117,8 +117,8 @@ fn follow_free(table: &Table, a: &[u64], marks: &mut Marks) -> Result<(), CheckF
     requires fits { FitsTable table.now (length a.now) }
     requires count { length marks.old.marks.items ≡ table.now.pool.count }
     ensures count { length marks.new.marks.items ≡ table.now.pool.count }
-    ensures list { (taken : List ℕ) → AreApartMarked table.now taken marks.old → OnOk result (KnowsFreeList table.now a.now taken marks.new) }
-    ensures fault { (taken : List ℕ) → AreApartMarked table.now taken marks.old → IfErr result (IsCause (IsWrongFree table.now a.now taken)) }
+    ensures list { FollowsFree table.now a.now marks.old result marks.new }
+    ensures fault { RefusesFree table.now a.now marks.old result }
 {
     let mut link = table.pool.base;
     while a[link as usize] != 0 {

@@ -12,11 +12,15 @@ use Rattle.tatp_check.specs.References.{kind_rank, IsFirstUnbound}
 abbrev pub IsWholeKind : Sizes → List ℕ → TableKind → List ℕ → Type 0
 IsWholeKind s array kind records = HasWhole (content_of kind) (table_of kind s) array records
 
+-- the first wrong word in the table of this kind
+abbrev pub IsFirstWrongIn : TableKind → Sizes → List ℕ → ℕ → Type 0
+IsFirstWrongIn kind s array word = IsFirstWrong (content_of kind) (table_of kind s) array word
+
 -- the first wrong word in the first table where something is wrong
 pub record IsInTables (s : Sizes) (array : List ℕ) (word : ℕ) : Type 0 where
   pub kind : TableKind
   pub before : (other : TableKind) → kind_rank other < kind_rank kind → (records : List ℕ) × IsWholeKind s array other records
-  pub wrong : IsFirstWrong (content_of kind) (table_of kind s) array word
+  pub wrong : IsFirstWrongIn kind s array word
 
 -- where nothing is wrong in the tables, the first reference that is wrong
 pub record IsInReferences (s : Sizes) (array : List ℕ) (word : ℕ) : Type 0 where

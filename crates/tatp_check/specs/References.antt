@@ -1,5 +1,5 @@
 -- How the rows of one table refer to those of another, by the words of their records.
-use Rattle.std.specs.Prelude.{◌≡◌, ℕ, ◌+◌, ◌/◌, ◌<◌, List, ◌∷◌, ◌++◌, All, Any, slice_index}
+use Rattle.std.specs.Prelude.{◌≡◌, ℕ, ◌+◌, ◌/◌, ◌<◌, List, ◌∷◌, ◌++◌, All, Any, Option, MatchOption, slice_index}
 use Rattle.tatp_check.specs.declared.table_kind.TableKind.{TableKind}
 use Rattle.tatp_check.specs.declared.table_kind.TableKind.TheVariants.{Subscribers, Numbers, Access, Facilities, Calls}
 
@@ -17,9 +17,7 @@ Refers array records Calls at = Any (λ facility. slice_index array facility ≡
 abbrev pub reference_offset : TableKind → ℕ
 reference_offset Subscribers = 7
 reference_offset Numbers = 2
-reference_offset Access = 0
-reference_offset Facilities = 0
-reference_offset Calls = 0
+reference_offset _ = 0
 
 -- the order of the tables
 abbrev pub kind_rank : TableKind → ℕ
@@ -52,3 +50,11 @@ pub record IsFirstUnbound (array : List ℕ) (records : TableKind → List ℕ) 
 -- each record of each table refers to one that is there
 abbrev pub AreAllBound : List ℕ → (TableKind → List ℕ) → Type 0
 AreAllBound array records = (kind : TableKind) → AreBound array records kind
+
+-- the first record of this table that refers to none, or none where each record refers to one
+abbrev pub FindsUnbound : List ℕ → (TableKind → List ℕ) → TableKind → Option ℕ → Type 0
+FindsUnbound array records kind found = MatchOption found (AreBound array records kind) (IsUnbound array records kind)
+
+-- the word of the first record of all tables that refers to none, or none where each record refers to one
+abbrev pub FindsFirstUnbound : List ℕ → (TableKind → List ℕ) → Option ℕ → Type 0
+FindsFirstUnbound array records found = MatchOption found (AreAllBound array records) (IsFirstUnbound array records)

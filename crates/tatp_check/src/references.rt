@@ -1,8 +1,8 @@
 //! The references between the records of the five tables, and the first one that is wrong.
 
-ghost use Rattle.std.specs.Prelude.{◌≡◌, ◌<◌, ◌*◌, ◌↔◌, ◌+◌, Contains, IfSome, IsSomeAnd, IsTrue, MatchOption, length, slice_index};
+ghost use Rattle.std.specs.Prelude.{◌≡◌, ◌<◌, ◌*◌, ◌↔◌, ◌+◌, Contains, IfSome, IsSomeAnd, IsTrue, length, slice_index};
 ghost use Rattle.dude_base.specs.declared.limits.TheConstants.{PAGE};
-ghost use Rattle.tatp_check.specs.References.{AreBound, AreAllBound, IsFirstUnbound, IsUnbound, Refers, reference_offset};
+ghost use Rattle.tatp_check.specs.References.{FindsFirstUnbound, FindsUnbound, Refers, reference_offset};
 ghost use Rattle.tatp_check.specs.Walked.{AreWalked, records_of_kind};
 
 use crate::table_kind::TableKind;
@@ -21,7 +21,7 @@ const KINDS: [TableKind; 5] = [
 pub fn first_unbound(lay: &Layout, a: &[u64], walked: &Walked) -> Option<u64>
     requires size { length a.now ≡ lay.now.pages * PAGE }
     requires walked { AreWalked lay.now a.now walked.now }
-    ensures { MatchOption result (AreAllBound a.now (records_of_kind walked.now)) (IsFirstUnbound a.now (records_of_kind walked.now)) }
+    ensures { FindsFirstUnbound a.now (records_of_kind walked.now) result }
 {
     for kind in KINDS {
         if let Some(at) = unbound_record(lay, a, walked, kind) {
@@ -35,7 +35,7 @@ pub fn first_unbound(lay: &Layout, a: &[u64], walked: &Walked) -> Option<u64>
 fn unbound_record(lay: &Layout, a: &[u64], walked: &Walked, kind: TableKind) -> Option<u64>
     requires size { length a.now ≡ lay.now.pages * PAGE }
     requires walked { AreWalked lay.now a.now walked.now }
-    ensures { MatchOption result (AreBound a.now (records_of_kind walked.now) kind) (IsUnbound a.now (records_of_kind walked.now) kind) }
+    ensures { FindsUnbound a.now (records_of_kind walked.now) kind result }
 {
     for at in walked.of(kind).records() {
         if !refers(lay, a, walked, kind, *at) {

@@ -13,7 +13,7 @@ use table_check::content::Content;
 use tatp_layout::Layout;
 
 /// The tables of a home, in their order.
-#[derive(Clone, Copy, Debug, PartialEq, Eq)]
+#[derive(Clone, Copy)]
 pub enum TableKind {
     Subscribers,
     /// The subscribers' ids by their phone numbers.

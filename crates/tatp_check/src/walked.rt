@@ -3,10 +3,10 @@
 ghost use Rattle.std.specs.Prelude.{◌≡◌, ◌*◌, IfErr, IfOk, length};
 ghost use Rattle.dude_base.specs.declared.limits.TheConstants.{PAGE};
 ghost use Rattle.hash_table.specs.Table.{FitsTable};
-ghost use Rattle.table_check.specs.Faults.{IsCause, IsFirstWrong};
+ghost use Rattle.table_check.specs.Faults.{IsCause};
 ghost use Rattle.table_check.specs.Whole.{KeepsWhole};
 ghost use Rattle.tatp_check.specs.Content.{content_of, table_of};
-ghost use Rattle.tatp_check.specs.Order.{IsInTables};
+ghost use Rattle.tatp_check.specs.Order.{IsFirstWrongIn, IsInTables};
 ghost use Rattle.tatp_check.specs.Walked.{AreWalked, taken_of};
 
 use crate::table_kind::TableKind;
@@ -50,7 +50,7 @@ fn walk_table(alloc: Global, lay: &Layout, a: &[u64], kind: TableKind) -> Result
     requires size { length a.now ≡ lay.now.pages * PAGE }
     ensures fits { FitsTable (table_of kind lay.now) (length a.now) }
     ensures whole { IfOk result (KeepsWhole (content_of kind) (table_of kind lay.now) a.now) }
-    ensures fault { IfErr result (IsCause (IsFirstWrong (content_of kind) (table_of kind lay.now) a.now)) }
+    ensures fault { IfErr result (IsCause (IsFirstWrongIn kind lay.now a.now)) }
 {
     check_table(alloc, &kind.table(lay), &kind, a)
 }

@@ -15,11 +15,12 @@ use Rattle.tatp_model.specs.declared.sub_row.SubRow.{SubRow}
 use Rattle.tatp_model.specs.declared.fac_row.FacRow.{FacRow}
 use Rattle.tatp_model.specs.declared.call_row.CallRow.{CallRow}
 use Rattle.tatp_model.specs.Database.{Database, IsInOrder, IsSubRow, IsFacRow, IsCallRow, facility_key, call_key}
-use Rattle.tatp_model.specs.Transaction.{update_where, is_subscriber, has_phone, is_facility, is_call, with_call, Outcome, answers, changes, insert_call, delete_call, after_request}
+use Rattle.tatp_model.specs.Transaction.{update_where, is_subscriber, has_phone, is_facility, is_call, with_call, Outcome, answers, changes, insert_call, delete_call, after_request, reply_to, Leaves}
 use Rattle.tatp_model.specs.Ranges.{IsBit}
 use Rattle.tatp_model.specs.Request.{IsInRange}
 use Rattle.tatp_model.specs.declared.request.Request.{Request}
 use Rattle.tatp_model.specs.declared.request.Request.TheVariants.{GetSubscriber, GetDestination, GetAccess, UpdateSubscriber, UpdateLocation, InsertCall, DeleteCall, Sync}
+use Rattle.tatp_model.specs.declared.reply.Reply.{Reply}
 use Rattle.tatp_model.specs.declared.reply.Reply.TheVariants.{Missing, NoFacility, Duplicate, FullTable}
 use Rattle.tatp_model.proofs.Rows.{All-find}
 use Rattle.tatp_model.proofs.Rising.{pairs_from_rising}
@@ -228,3 +229,18 @@ KeepsOrder-step limit db after request range order room is = subst (KeepsOrder l
 pub KeepsOrder-either : {T E : Type 0} (r : Result T E) (limit : ℕ) (db after : Database) (request : Request) → IsInRange request → IsInOrder db → length db.calls ≤ limit → OnOk r (after ≡ after_request limit db request) → OnErr r (after ≡ db) → KeepsOrder limit after
 KeepsOrder-either (Ok x) limit db after request range order room is same = KeepsOrder-step limit db after request range order room is
 KeepsOrder-either (Err e) limit db after request range order room is same = subst (KeepsOrder limit) (sym same) (record { order = order; room = room })
+
+-- What the step of a request is to leave.
+pub record IsServed (limit : ℕ) (db left : Database) (request : Request) (answer : Reply) : Type 0 where
+  pub reply : answer ≡ reply_to limit db request
+  pub after : Leaves limit db request left
+  pub order : IsInOrder left
+  pub room : length left.calls ≤ limit
+
+-- it does, where the request is one that a function has carried out, whatever the limit
+pub served : (limit : ℕ) {db after : Database} {request one : Request} {reply : Reply} → IsInRange request → IsInOrder db → length db.calls ≤ limit
+    → request ≡ one → ((limit : ℕ) → reply ≡ reply_to limit db one) → ((limit : ℕ) → after ≡ after_request limit db one) → IsServed limit db after request reply
+served limit {db} {after} {request} {one} {reply} range order room is answered left =
+    let done : after ≡ after_request limit db request = rw is (left limit) in
+    let kept = KeepsOrder-step limit db after request range order room done in
+    record { reply = rw is (answered limit); after = done; order = kept.order; room = kept.room }

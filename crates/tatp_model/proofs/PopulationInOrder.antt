@@ -72,7 +72,7 @@ eighth n = omega arith
 letters_in_range : (x k : ℕ) → All IsLetter (letters x k)
 letters_in_range x k = All-range IsLetter (λ j. 65 + (x + j) % 26) 0 k (λ j _ _. (omega arith, omega arith))
 
-subscriber_in_range : (s : ℕ) → 1 ≤ s → s < 2 ^ 31 → IsSubRow (subscriber_at s)
+pub subscriber_in_range : (s : ℕ) → 1 ≤ s → s < 2 ^ 31 → IsSubRow (subscriber_at s)
 subscriber_in_range s low high = record {
   s_id = (low, omega arith);
   sub_nbr = omega arith;
@@ -83,7 +83,7 @@ subscriber_in_range s low high = record {
   vlr = omega arith;
 }
 
-access_in_range : (s a : ℕ) → 1 ≤ s → s < 2 ^ 31 → 1 ≤ a → a ≤ 4 → IsAccessRow (access_at s a)
+pub access_in_range : (s a : ℕ) → 1 ≤ s → s < 2 ^ 31 → 1 ≤ a → a ≤ 4 → IsAccessRow (access_at s a)
 access_in_range s a low high low' high' = record {
   s_id = (low, omega arith);
   ai_type = (low', high');
@@ -93,7 +93,7 @@ access_in_range s a low high low' high' = record {
   data4 = letters_in_range (s + 2 * a) 5;
 }
 
-facility_in_range : (s f : ℕ) → 1 ≤ s → s < 2 ^ 31 → 1 ≤ f → f ≤ 4 → IsFacRow (facility_at s f)
+pub facility_in_range : (s f : ℕ) → 1 ≤ s → s < 2 ^ 31 → 1 ≤ f → f ≤ 4 → IsFacRow (facility_at s f)
 facility_in_range s f low high low' high' = record {
   s_id = (low, omega arith);
   sf_type = (low', high');
@@ -107,7 +107,7 @@ facility_in_range s f low high low' high' = record {
 start_in_range : (k : ℕ) → k < 3 → IsStartTime (8 * k)
 start_in_range k small = ⊎_elim (λ z. inl (omega arith)) (λ later. ⊎_elim (λ z. inr (inl (omega arith))) (λ z. inr (inr (omega arith))) (cases_lt k 2)) (cases_lt k 1)
 
-call_in_range : (s f k : ℕ) → 1 ≤ s → s < 2 ^ 31 → 1 ≤ f → f ≤ 4 → k < 3 → IsCallRow (call_at s f k)
+pub call_in_range : (s f k : ℕ) → 1 ≤ s → s < 2 ^ 31 → 1 ≤ f → f ≤ 4 → k < 3 → IsCallRow (call_at s f k)
 call_in_range s f k low high low' high' small = record {
   s_id = (low, omega arith);
   sf_type = (low', high');

@@ -10,7 +10,7 @@ use Rattle.tatp_model.specs.Transaction.{reply_to, after_request}
 use Rattle.tatp_model.specs.Population.{population, population_calls}
 
 -- subscriber 1 of a new database, at this location
-first_subscriber : ℕ → SubRow
+abbrev pub first_subscriber : ℕ → SubRow
 first_subscriber vlr = record {
   s_id = 1;
   sub_nbr = 1;
@@ -22,11 +22,9 @@ first_subscriber vlr = record {
 }
 
 reads_a_subscriber : reply_to 96 (population 8) (GetSubscriber 1) ≡ Subscriber (first_subscriber 1000001)
-unfolding first_subscriber
 reads_a_subscriber = refl
 
 reads_what_was_written : reply_to 96 (after_request 96 (population 8) (UpdateLocation 1 7)) (GetSubscriber 1) ≡ Subscriber (first_subscriber 7)
-unfolding first_subscriber
 reads_what_was_written = refl
 
 misses_an_unknown_phone : reply_to 96 (population 8) (UpdateLocation 9 7) ≡ Missing
@@ -53,7 +51,6 @@ misses_a_facility : reply_to 96 (population 8) (UpdateSubscriber 1 1 4 9) ≡ Mi
 misses_a_facility = refl
 
 keeps_the_bit : reply_to 96 (after_request 96 (population 8) (UpdateSubscriber 1 1 4 9)) (GetSubscriber 1) ≡ Subscriber (first_subscriber 1000001)
-unfolding first_subscriber
 keeps_the_bit = refl
 
 -- the population with one call forwarding more

@@ -1,5 +1,5 @@
 -- The four tables as lists of rows, and what it is for them to be in order.
-use Rattle.std.specs.Prelude.{ℕ, ◌≡◌, ◌≢◌, ◌+◌, ◌-◌, ◌*◌, ◌/◌, ◌<◌, List, map, All, Any, AllPairs}
+use Rattle.std.specs.Prelude.{ℕ, ◌≡◌, ◌≢◌, ◌+◌, ◌-◌, ◌*◌, ◌/◌, ◌<◌, ◌≤◌, List, length, map, slice_index_or, All, Any, AllPairs}
 use Rattle.std.specs.List.Sorted.{IsStrictlyIncreasing}
 use Rattle.tatp_model.specs.declared.sub_row.SubRow.{SubRow}
 use Rattle.tatp_model.specs.declared.access_row.AccessRow.{AccessRow}
@@ -35,6 +35,14 @@ facility_key r = 4 * r.s_id + r.sf_type - 1
 -- the key by which call rows rise: each facility has three, by the start times 0, 8 and 16
 abbrev pub call_key : CallRow → ℕ
 call_key r = 3 * (4 * r.s_id + r.sf_type - 1) + r.start_time / 8
+
+-- the keys of the call rows before index i are below this one
+abbrev pub KeysAreBelow : ℕ → List CallRow → ℕ → Type 0
+KeysAreBelow key rows i = (k : ℕ) (d : CallRow) → k < i → call_key (slice_index_or rows k d) < key
+
+-- the key of the call row at index i, if there is one, is this one or a later one
+abbrev pub IsKeyFrom : ℕ → List CallRow → ℕ → Type 0
+IsKeyFrom key rows i = (d : CallRow) → i < length rows → key ≤ call_key (slice_index_or rows i d)
 
 -- each field of a subscriber's row is in its range
 pub record IsSubRow (r : SubRow) : Type 0 where

@@ -1,5 +1,5 @@
 -- The transaction step: what a request answers on four lists of rows, and the lists that it leaves.
-use Rattle.std.specs.Prelude.{ℕ, ◌==◌, nat_lt, nat_le, Bool, not, ◌&&◌, if◌then◌else◌, List, ◌∷◌, ◌++◌, length, map, filter, find, slice_set}
+use Rattle.std.specs.Prelude.{ℕ, ◌≡◌, ◌==◌, nat_lt, nat_le, Bool, not, ◌&&◌, if◌then◌else◌, List, ◌∷◌, ◌++◌, length, map, filter, find, slice_set, IsTrue}
 use Rattle.std.specs.List.{list_any}
 use Rattle.std.specs.Option.{option_map_or}
 use Rattle.tatp_model.specs.declared.sub_row.SubRow.{SubRow}
@@ -11,6 +11,7 @@ use Rattle.tatp_model.specs.declared.request.Request.TheVariants.{GetSubscriber,
 use Rattle.tatp_model.specs.declared.reply.Reply.{Reply}
 use Rattle.tatp_model.specs.declared.reply.Reply.TheVariants.{Subscriber, Destinations, Access, Changed, Missing, NoFacility, Duplicate, FullTable, Durable}
 use Rattle.tatp_model.specs.Numbers.{numbers_of}
+use Rattle.tatp_model.specs.Request.{is_insert}
 use Rattle.tatp_model.specs.Database.{Database, call_key}
 
 -- a subscriber's row of this s_id
@@ -51,6 +52,10 @@ abbrev pub with_call : CallRow → List CallRow → List CallRow
 with_call row rows =
     filter (λ r. nat_lt (call_key r) (call_key row)) rows ++ row ∷ filter (λ r. nat_lt (call_key row) (call_key r)) rows
 
+-- the call rows without the one of this key
+abbrev pub without_call : ℕ → ℕ → ℕ → List CallRow → List CallRow
+without_call s_id sf_type start_time rows = filter (λ r. not (is_call s_id sf_type start_time r)) rows
+
 -- what a request answers, and the tables that it leaves
 pub record Outcome : Type 0 where
   pub reply : Reply
@@ -76,8 +81,24 @@ insert_call limit db row =
 abbrev pub delete_call : Database → ℕ → ℕ → ℕ → Outcome
 delete_call db s_id sf_type start_time =
     if list_any (is_call s_id sf_type start_time) db.calls
-    then changes (record db { calls = filter (λ r. not (is_call s_id sf_type start_time r)) db.calls })
+    then changes (record db { calls = without_call s_id sf_type start_time db.calls })
     else answers db Missing
+
+-- what the adding of a row is answered
+abbrev pub reply_to_row : ℕ → Database → CallRow → Reply
+reply_to_row limit db row = (insert_call limit db row).reply
+
+-- the tables that the adding of a row leaves
+abbrev pub after_row : ℕ → Database → CallRow → Database
+after_row limit db row = (insert_call limit db row).after
+
+-- what the removal of a row is answered
+abbrev pub reply_to_removal : Database → ℕ → ℕ → ℕ → Reply
+reply_to_removal db s_id sf_type start_time = (delete_call db s_id sf_type start_time).reply
+
+-- the tables that the removal of a row leaves
+abbrev pub after_removal : Database → ℕ → ℕ → ℕ → Database
+after_removal db s_id sf_type start_time = (delete_call db s_id sf_type start_time).after
 
 -- the cases of each request, the first that fits; destinations come in the order of the call rows, by rising start
 abbrev pub outcome_of : ℕ → Database → Request → Outcome
@@ -119,3 +140,20 @@ reply_to limit db request = (outcome_of limit db request).reply
 -- the tables that a request leaves of these
 abbrev pub after_request : ℕ → Database → Request → Database
 after_request limit db request = (outcome_of limit db request).after
+
+-- the reply to a request, whatever the limit
+abbrev pub IsReply : Database → Request → Reply → Type 0
+IsReply db request reply = (limit : ℕ) → reply ≡ reply_to limit db request
+
+-- the tables that a request leaves
+abbrev pub Leaves : ℕ → Database → Request → Database → Type 0
+Leaves limit db request after = after ≡ after_request limit db request
+
+-- the tables that a request leaves, whatever the limit
+abbrev pub IsAfter : Database → Request → Database → Type 0
+IsAfter db request after = (limit : ℕ) → Leaves limit db request after
+
+-- A step that fails was to add a row, and changes nothing.
+pub record FailsToInsert (request : Request) (db after : Database) : Type 0 where
+  pub is_insert : IsTrue (is_insert request)
+  pub unchanged : after ≡ db

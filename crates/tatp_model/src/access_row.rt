@@ -1,7 +1,7 @@
 //! Rows of the access table.
 
 /// What an access row tells: two numbers, three letters and five letters.
-#[derive(Clone, Copy, Debug, PartialEq, Eq)]
+#[derive(Clone, Copy, PartialEq, Eq)]
 pub struct AccessData {
     pub data1: u8,
     pub data2: u8,

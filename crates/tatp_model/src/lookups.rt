@@ -1,10 +1,9 @@
 //! The rows that a request names.
 
-ghost use Rattle.std.specs.Prelude.{◌≡◌, find, position};
-ghost use Rattle.std.specs.Prelude.{ℕ, ◌<◌, ◌≤◌, length, slice_index_or, All, map, filter};
+ghost use Rattle.std.specs.Prelude.{◌≡◌, ◌≤◌, find, position, length, All, map, filter};
 ghost use Rattle.std.specs.List.{list_any};
 ghost use Rattle.std.specs.List.Sorted.{IsStrictlyIncreasing};
-ghost use Rattle.tatp_model.specs.Database.{call_key, IsCallRow};
+ghost use Rattle.tatp_model.specs.Database.{call_key, IsCallRow, IsKeyFrom, KeysAreBelow};
 ghost use Rattle.tatp_model.specs.Numbers.{numbers_of};
 ghost use Rattle.tatp_model.specs.Transaction.{is_subscriber, has_phone, is_access, is_facility, is_active_facility, is_call, forwards};
 
@@ -87,8 +86,8 @@ pub(crate) fn has_active_facility(rows: &[FacRow], s_id: u64, sf_type: u64) -> b
 pub(crate) fn index_of_key(rows: &[CallRow], key: u64) -> usize
     requires { All IsCallRow rows.now }
     ensures within { result ≤ length rows.now }
-    ensures before { (k : ℕ) (d : CallRow) → k < result → call_key (slice_index_or rows.now k d) < key }
-    ensures at { (d : CallRow) → result < length rows.now → key ≤ call_key (slice_index_or rows.now result d) }
+    ensures before { KeysAreBelow key rows.now result }
+    ensures at { IsKeyFrom key rows.now result }
 {
     for (i, row) in rows.iter().enumerate() {
         if key <= row.key() {

@@ -4,15 +4,15 @@
 /// items past `count` are 0 in each reply, so that equal lists are equal
 /// values. Contracts name the value of a list by `numbers_of`, and the list
 /// of a value by `list_of`, of `specs/Numbers.antt`.
-#[derive(Clone, Copy, Debug, PartialEq, Eq)]
+#[derive(Clone, Copy, PartialEq, Eq)]
 pub struct Numbers {
     pub count: u64,
     pub items: [u64; 3],
 }
 
 impl Numbers {
-    ghost use Rattle.std.specs.Prelude.{◌≡◌, ℕ, ◌+◌, ◌<◌, ◌≤◌, ◌==◌, List, [], ◌∷◌, ◌++◌};
-    ghost use Rattle.tatp_model.specs.Numbers.{numbers_of, list_of};
+    ghost use Rattle.std.specs.Prelude.{◌≡◌, ◌+◌, ◌<◌, ◌≤◌, ◌==◌, []};
+    ghost use Rattle.tatp_model.specs.Numbers.{HasAppended, numbers_of, list_of};
 
     /// The empty list.
     pub fn new() -> Self
@@ -43,7 +43,7 @@ impl Numbers {
     pub fn push(&mut self, phone: u64)
         requires { self.old.count < 3 }
         ensures counted { self.new.count ≡ self.old.count + 1 }
-        ensures appended { (xs : List ℕ) → self.old ≡ numbers_of xs → self.new ≡ numbers_of (xs ++ phone ∷ []) }
+        ensures appended { HasAppended phone self.old self.new }
     {
         self.items[self.count as usize] = phone;
         self.count += 1;

@@ -1,8 +1,7 @@
 //! The three requests that only read.
 
-ghost use Rattle.std.specs.Prelude.{◌≡◌, ℕ};
 ghost use Rattle.tatp_model.specs.Database.{database_of, IsInOrder};
-ghost use Rattle.tatp_model.specs.Transaction.{reply_to};
+ghost use Rattle.tatp_model.specs.Transaction.{IsReply};
 
 use crate::lookups;
 use crate::reply::Reply;
@@ -10,7 +9,7 @@ use crate::request::Request;
 use crate::tables::Tables;
 
 pub(crate) fn get_subscriber(t: &Tables, s_id: u64) -> Reply
-    ensures { (limit : ℕ) → result ≡ reply_to limit (database_of t.now) (Request.GetSubscriber s_id) }
+    ensures { IsReply (database_of t.now) (Request.GetSubscriber s_id) result }
 {
     match lookups::subscriber(&t.subscribers, s_id) {
         Some(row) => Reply::Subscriber(row),
@@ -19,7 +18,7 @@ pub(crate) fn get_subscriber(t: &Tables, s_id: u64) -> Reply
 }
 
 pub(crate) fn get_access(t: &Tables, s_id: u64, ai_type: u64) -> Reply
-    ensures { (limit : ℕ) → result ≡ reply_to limit (database_of t.now) (Request.GetAccess s_id ai_type) }
+    ensures { IsReply (database_of t.now) (Request.GetAccess s_id ai_type) result }
 {
     match lookups::access(&t.access, s_id, ai_type) {
         Some(row) => Reply::Access(row.info),
@@ -35,8 +34,8 @@ pub(crate) fn get_destination(
     end_time: u64,
 ) -> Reply
     requires { IsInOrder (database_of t.now) }
-    ensures { (limit : ℕ) → result ≡ reply_to limit (database_of t.now)
-        (Request.GetDestination s_id sf_type start_time end_time) }
+    ensures { IsReply (database_of t.now)
+        (Request.GetDestination s_id sf_type start_time end_time) result }
 {
     if !lookups::has_active_facility(&t.facilities, s_id, sf_type) {
         return Reply::Missing;

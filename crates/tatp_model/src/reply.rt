@@ -5,7 +5,7 @@ use crate::numbers::Numbers;
 use crate::sub_row::SubRow;
 
 /// What a request is answered.
-#[derive(Clone, Copy, Debug, PartialEq, Eq)]
+#[derive(Clone, Copy, PartialEq, Eq)]
 pub enum Reply {
     /// The row that `GET_SUBSCRIBER_DATA` asked for.
     Subscriber(SubRow),

@@ -1,9 +1,9 @@
 //! The plain step.
 
-ghost use Rattle.std.specs.Prelude.{◌≡◌, ◌≤◌, IfOk, OnOk, OnErr, IsTrue, length};
+ghost use Rattle.std.specs.Prelude.{◌≡◌, ◌≤◌, IfOk, OnOk, OnErr, length};
 ghost use Rattle.tatp_model.specs.Database.{database_of, IsInOrder};
-ghost use Rattle.tatp_model.specs.Request.{IsInRange, is_insert};
-ghost use Rattle.tatp_model.specs.Transaction.{reply_to, after_request};
+ghost use Rattle.tatp_model.specs.Request.{IsInRange};
+ghost use Rattle.tatp_model.specs.Transaction.{FailsToInsert, Leaves, reply_to};
 
 use crate::reply::Reply;
 use crate::request::Request;
@@ -19,11 +19,10 @@ pub fn step(_alloc: Global, t: &mut Tables, limit: u64, q: &Request) -> Result<R
     requires in_order { IsInOrder (database_of t.old) }
     requires room { length (database_of t.old).calls ≤ limit }
     ensures reply { IfOk result (λ r. r ≡ reply_to limit (database_of t.old) q.now) }
-    ensures after { OnOk result (database_of t.new ≡ after_request limit (database_of t.old) q.now) }
+    ensures after { OnOk result (Leaves limit (database_of t.old) q.now (database_of t.new)) }
     ensures in_order { IsInOrder (database_of t.new) }
     ensures room { length (database_of t.new).calls ≤ limit }
-    ensures only_inserts_take_memory { OnErr result (IsTrue (is_insert q.now)) }
-    ensures unchanged { OnErr result (database_of t.new ≡ database_of t.old) }
+    ensures err { OnErr result (FailsToInsert q.now (database_of t.old) (database_of t.new)) }
 {
     match *q {
         Request::GetSubscriber { s_id } => Ok(reads::get_subscriber(t, s_id)),

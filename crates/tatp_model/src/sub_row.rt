@@ -1,7 +1,7 @@
 //! Rows of the subscriber table.
 
 /// A subscriber. Its key is `s_id`, and no two subscribers have one `sub_nbr`.
-#[derive(Clone, Copy, Debug, PartialEq, Eq)]
+#[derive(Clone, Copy, PartialEq, Eq)]
 pub struct SubRow {
     /// From 1 to 4,294,967,295.
     pub s_id: u64,

@@ -1,10 +1,9 @@
 //! The four requests that may write.
 
-ghost use Rattle.std.specs.Prelude.{◌≡◌, ℕ, IfOk, OnOk, OnErr, filter, not};
+ghost use Rattle.std.specs.Prelude.{◌≡◌, IfOk, OnOk, OnErr};
 ghost use Rattle.tatp_model.specs.Database.{database_of, IsInOrder, IsCallRow};
 ghost use Rattle.tatp_model.specs.Request.{IsInRange};
-ghost use Rattle.tatp_model.specs.Transaction as outcomes;
-ghost use Rattle.tatp_model.specs.Transaction.{reply_to, after_request, is_call};
+ghost use Rattle.tatp_model.specs.Transaction.{IsReply, IsAfter, reply_to, reply_to_row, reply_to_removal, after_request, after_row, after_removal, without_call};
 
 use crate::call_row::CallRow;
 use crate::lookups;
@@ -15,10 +14,9 @@ use std::alloc::AllocError;
 
 pub(crate) fn update_location(t: &mut Tables, sub_nbr: u64, vlr: u64) -> Reply
     requires { IsInOrder (database_of t.old) }
-    ensures reply { (limit : ℕ) → result ≡ reply_to limit (database_of t.old)
-        (Request.UpdateLocation sub_nbr vlr) }
-    ensures after { (limit : ℕ) → database_of t.new ≡ after_request limit (database_of t.old)
-        (Request.UpdateLocation sub_nbr vlr) }
+    ensures reply { IsReply (database_of t.old) (Request.UpdateLocation sub_nbr vlr) result }
+    ensures after { IsAfter (database_of t.old)
+        (Request.UpdateLocation sub_nbr vlr) (database_of t.new) }
 {
     match lookups::index_of_phone(&t.subscribers, sub_nbr) {
         Some(at) => {
@@ -38,10 +36,10 @@ pub(crate) fn update_subscriber(
 ) -> Reply
     requires in_range { IsInRange (Request.UpdateSubscriber s_id bit_1 sf_type data_a) }
     requires in_order { IsInOrder (database_of t.old) }
-    ensures reply { (limit : ℕ) → result ≡ reply_to limit (database_of t.old)
-        (Request.UpdateSubscriber s_id bit_1 sf_type data_a) }
-    ensures after { (limit : ℕ) → database_of t.new ≡ after_request limit (database_of t.old)
-        (Request.UpdateSubscriber s_id bit_1 sf_type data_a) }
+    ensures reply { IsReply (database_of t.old)
+        (Request.UpdateSubscriber s_id bit_1 sf_type data_a) result }
+    ensures after { IsAfter (database_of t.old)
+        (Request.UpdateSubscriber s_id bit_1 sf_type data_a) (database_of t.new) }
 {
     let Some(subscriber) = lookups::index_of_subscriber(&t.subscribers, s_id) else {
         return Reply::Missing;
@@ -88,8 +86,8 @@ pub(crate) fn insert_call(
 fn insert_row(t: &mut Tables, limit: u64, row: CallRow) -> Result<Reply, AllocError>
     requires in_range { IsCallRow row }
     requires in_order { IsInOrder (database_of t.old) }
-    ensures reply { IfOk result (λ r. r ≡ (outcomes.insert_call limit (database_of t.old) row).reply) }
-    ensures after { OnOk result (database_of t.new ≡ (outcomes.insert_call limit (database_of t.old) row).after) }
+    ensures reply { IfOk result (λ r. r ≡ reply_to_row limit (database_of t.old) row) }
+    ensures after { OnOk result (database_of t.new ≡ after_row limit (database_of t.old) row) }
     ensures unchanged { OnErr result (database_of t.new ≡ database_of t.old) }
 {
     if !lookups::has_facility(&t.facilities, row.s_id, row.sf_type) {
@@ -107,10 +105,10 @@ fn insert_row(t: &mut Tables, limit: u64, row: CallRow) -> Result<Reply, AllocEr
 }
 
 pub(crate) fn delete_call(t: &mut Tables, sub_nbr: u64, sf_type: u64, start_time: u64) -> Reply
-    ensures reply { (limit : ℕ) → result ≡ reply_to limit (database_of t.old)
-        (Request.DeleteCall sub_nbr sf_type start_time) }
-    ensures after { (limit : ℕ) → database_of t.new ≡ after_request limit (database_of t.old)
-        (Request.DeleteCall sub_nbr sf_type start_time) }
+    ensures reply { IsReply (database_of t.old)
+        (Request.DeleteCall sub_nbr sf_type start_time) result }
+    ensures after { IsAfter (database_of t.old)
+        (Request.DeleteCall sub_nbr sf_type start_time) (database_of t.new) }
 {
     let Some(subscriber) = lookups::by_phone(&t.subscribers, sub_nbr) else {
         return Reply::Missing;
@@ -120,8 +118,8 @@ pub(crate) fn delete_call(t: &mut Tables, sub_nbr: u64, sf_type: u64, start_time
 
 /// Removes a call row, whose subscriber is there.
 fn delete_row(t: &mut Tables, s_id: u64, sf_type: u64, start_time: u64) -> Reply
-    ensures reply { result ≡ (outcomes.delete_call (database_of t.old) s_id sf_type start_time).reply }
-    ensures after { database_of t.new ≡ (outcomes.delete_call (database_of t.old) s_id sf_type start_time).after }
+    ensures reply { result ≡ reply_to_removal (database_of t.old) s_id sf_type start_time }
+    ensures after { database_of t.new ≡ after_removal (database_of t.old) s_id sf_type start_time }
 {
     if !lookups::has_call(&t.calls, s_id, sf_type, start_time) {
         return Reply::Missing;
@@ -132,7 +130,7 @@ fn delete_row(t: &mut Tables, s_id: u64, sf_type: u64, start_time: u64) -> Reply
 
 /// Keeps all rows but the one with this key.
 fn drop_call(rows: &mut Vec<CallRow>, s_id: u64, sf_type: u64, start_time: u64)
-    ensures { rows.new.items ≡ filter (λ r. not (is_call s_id sf_type start_time r)) rows.old.items }
+    ensures { rows.new.items ≡ without_call s_id sf_type start_time rows.old.items }
 {
     rows.retain(|r| !(r.s_id == s_id && r.sf_type == sf_type && r.start_time == start_time));
 }

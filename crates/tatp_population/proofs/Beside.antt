@@ -19,6 +19,7 @@ use Rattle.tatp_layout.specs.Layout.{number_base, access_base, facility_base, ca
 use Rattle.tatp_layout.specs.Records.{RowForm, HasWords, subscriber_form, number_form, access_form, facility_form, call_form}
 use Rattle.tatp_layout.proofs.Places.{subscriber_range, number_range, access_range, facility_range, call_range, number_after, access_after, facility_after}
 use Rattle.tatp_population.specs.Filled.{record_at, chain_for, free_from, IsFilled, IsUnused, Fills}
+use Rattle.tatp_population.specs.Filling.{IsEmpty}
 use Rattle.tatp_population.specs.Populated.{IsPopulated}
 use Rattle.tatp_population.proofs.ChainLists.{is_record, IsChained, chain_each}
 use Rattle.tatp_population.proofs.Inserted.{each_weaker}
@@ -119,6 +120,33 @@ module _ (s : Sizes) {a b : List ℕ} where
 
   pub beside_calls : {rows : List CallRow} → Fills call_form (call_table s) rows a b → (i : ℕ) → i < call_base s → slice_index b i ≡ slice_index a i
   beside_calls {rows} fills i under = fills.others i (unused_outside call_form rows (call_range s) (few_call s) i fills.filled.few (inl under) (omega arith))
+
+-- where each word was 0, a table behind those that are filled is empty
+pub empty_numbers : (s : Sizes) {a b : List ℕ} {rows : List SubRow} → ((i : ℕ) → slice_index a i ≡ 0) → Fills subscriber_form (subscriber_table s) rows a b → IsEmpty (number_table s) b
+empty_numbers s zeros subscribers bucket under =
+    let i = (number_table s).at + bucket in
+    beside_subscribers s subscribers i (omega (arith, (number_range s).links_from)) ∙ zeros i
+
+pub empty_access : (s : Sizes) {a b c : List ℕ} {rows more : List SubRow} → ((i : ℕ) → slice_index a i ≡ 0) → Fills subscriber_form (subscriber_table s) rows a b → Fills number_form (number_table s) more b c → IsEmpty (access_table s) c
+empty_access s zeros subscribers numbers bucket under =
+    let i = (access_table s).at + bucket in
+    let from : access_base s ≤ i = omega (arith, (access_range s).links_from) in
+    beside_numbers s numbers i (inr from) ∙ beside_subscribers s subscribers i (omega (arith, from, number_after s)) ∙ zeros i
+
+pub empty_facilities : (s : Sizes) {a b c d : List ℕ} {rows more : List SubRow} {access_rows : List AccessRow} → ((i : ℕ) → slice_index a i ≡ 0) → Fills subscriber_form (subscriber_table s) rows a b → Fills number_form (number_table s) more b c → Fills access_form (access_table s) access_rows c d → IsEmpty (facility_table s) d
+empty_facilities s zeros subscribers numbers access bucket under =
+    let i = (facility_table s).at + bucket in
+    let from : facility_base s ≤ i = omega (arith, (facility_range s).links_from) in
+    let later : access_base s ≤ i = omega (arith, from, access_after s) in
+    beside_access s access i (inr from) ∙ beside_numbers s numbers i (inr later) ∙ beside_subscribers s subscribers i (omega (arith, later, number_after s)) ∙ zeros i
+
+pub empty_calls : (s : Sizes) {a b c d e : List ℕ} {rows more : List SubRow} {access_rows : List AccessRow} {facilities_are : List FacRow} → ((i : ℕ) → slice_index a i ≡ 0) → Fills subscriber_form (subscriber_table s) rows a b → Fills number_form (number_table s) more b c → Fills access_form (access_table s) access_rows c d → Fills facility_form (facility_table s) facilities_are d e → IsEmpty (call_table s) e
+empty_calls s zeros subscribers numbers access facilities bucket under =
+    let i = (call_table s).at + bucket in
+    let from : call_base s ≤ i = omega (arith, (call_range s).links_from) in
+    let last : facility_base s ≤ i = omega (arith, from, facility_after s) in
+    let later : access_base s ≤ i = omega (arith, last, access_after s) in
+    beside_facilities s facilities i (inr from) ∙ beside_access s access i (inr last) ∙ beside_numbers s numbers i (inr later) ∙ beside_subscribers s subscribers i (omega (arith, later, number_after s)) ∙ zeros i
 
 -- once all five are filled
 pub all_filled : {s : Sizes} {a b c d e f : List ℕ} → length f ≡ s.pages * PAGE → ((i : ℕ) → slice_index a i ≡ 0)

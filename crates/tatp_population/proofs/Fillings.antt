@@ -1,10 +1,10 @@
 -- From rows that were inserted one after another to a filled table.
-use Rattle.std.proofs.Common.{◌≡◌, ℕ, zero, suc, ◌+◌, ◌-◌, ◌<◌, ◌≤◌, List, [], ◌∷◌, ◌++◌, length, map, get_or, slice_index, All, Some, refl, sym, ap, subst, ◌∙◌, arith, add-zero, append_assoc}
+use Rattle.std.proofs.Common.{◌≡◌, ℕ, zero, suc, ◌+◌, ◌-◌, ◌<◌, ◌≤◌, List, [], ◌∷◌, ◌++◌, length, map, get_or, slice_index, All, Some, refl, sym, ap, subst, ◌∙◌, arith, add-zero, append_assoc, append-nil, length-append}
 use Rattle.std.specs.Prelude.{slice_get}
-use Rattle.std.proofs.lemmas.List.{length-map, map_push, get_or-map}
+use Rattle.std.proofs.lemmas.List.{length-map, get_or-map}
 use Rattle.std.proofs.lemmas.Option.{get_or_from_slice_get, slice_get_within}
-use Rattle.std.proofs.lemmas.List.FromFn.{map-range_with_len_more}
-use Rattle.std.specs.List.{flat_map, range_with_len}
+use Rattle.std.proofs.lemmas.List.FromFn.{length-map-range_with_len, map-range_with_len_more}
+use Rattle.std.specs.List.{range_with_len}
 use Rattle.record_heap.specs.Links.{Linked}
 use Rattle.record_heap.specs.Pool.{AreApart}
 use Rattle.record_heap.proofs.Arrays.{linked_from}
@@ -12,7 +12,7 @@ use Rattle.hash_table.specs.declared.table.Table.{Table}
 use Rattle.hash_table.specs.Table.{FitsTable}
 use Rattle.tatp_layout.specs.Records.{RowForm, HasWords, HoldsRow}
 use Rattle.tatp_population.specs.Filled.{record_at, chain_for, IsUnused, Fills}
-use Rattle.tatp_population.specs.Filling.{entry_of, key_of, HasEntry, IsEmpty, IsFilling, Finishes}
+use Rattle.tatp_population.specs.Filling.{entry_of, key_of, entries_up_to, HasEntry, IsEmpty, IsFilling, Finishes, FillsWith, Inserts}
 use Rattle.tatp_population.proofs.ChainLists.{is_record, record_before, IsChained, chain_each}
 use Rattle.tatp_population.proofs.Inserted.{each_weaker}
 use Rattle.tatp_population.proofs.Populations.{flat_next}
@@ -27,27 +27,41 @@ filling_none empty = record {
   others = λ i apart. refl;
 }
 
--- a row more
-pub filling_push : {R : Type 0} (form : RowForm R) {table : Table} {initial array : List ℕ} (rows : List R) (row : R) {entry : List ℕ} → entry ≡ entry_of form row
-    → IsFilling table (map (entry_of form) rows ++ entry ∷ []) initial array → IsFilling table (map (entry_of form) (rows ++ row ∷ [])) initial array
-filling_push {R} form {table} {initial} {array} rows row {entry} is filling =
-    subst (λ l. IsFilling table l initial array) (ap (λ e. map (entry_of form) rows ++ e ∷ []) is ∙ sym (map_push (entry_of form) rows row)) filling
+-- no entry more
+pub inserts_none : {table : Table} {index : ℕ} {a : List ℕ} → Inserts table index [] a a
+inserts_none {table} {index} {a} entries initial long filling = subst (λ l. IsFilling table l initial a) (sym (append-nil entries)) filling
 
--- a row more of those that a function gives
-pub filling_next : {R : Type 0} (form : RowForm R) (f : ℕ → R) (rows : List R) {table : Table} {initial array entry : List ℕ} (a n j m : ℕ) → a + n ≡ j → n + 1 ≡ m → entry ≡ entry_of form (f j)
-    → IsFilling table (map (entry_of form) (rows ++ map f (range_with_len a n)) ++ entry ∷ []) initial array → IsFilling table (map (entry_of form) (rows ++ map f (range_with_len a m))) initial array
-filling_next {R} form f rows {table} {initial} {array} a n j m here next is filling =
-    let one : (rows ++ map f (range_with_len a n)) ++ f j ∷ [] ≡ rows ++ map f (range_with_len a m) =
-    append_assoc rows (map f (range_with_len a n)) (f j ∷ []) ∙ ap (λ l. rows ++ l) (sym (map-range_with_len_more f a n j here) ∙ ap (λ k. map f (range_with_len a k)) next) in
-    subst (λ l. IsFilling table (map (entry_of form) l) initial array) one (filling_push form (rows ++ map f (range_with_len a n)) (f j) is filling)
+-- entries, and others behind them
+pub inserts_then : {table : Table} {index : ℕ} {a b c : List ℕ} (xs ys : List (List ℕ)) (next : ℕ) → index + length xs ≡ next → Inserts table index xs a b → Inserts table next ys b c → Inserts table index (xs ++ ys) a c
+inserts_then {table} {index} {a} {b} {c} xs ys next is first second entries initial long filling =
+    subst (λ l. IsFilling table l initial c) (append_assoc entries xs ys) (second (entries ++ xs) initial (length-append entries xs ∙ omega (arith, long, is)) (first entries initial long filling))
 
--- the rows of a number more
-pub filling_flat : {R : Type 0} (form : RowForm R) (f : ℕ → List R) (rows : List R) {table : Table} {initial array : List ℕ} (n j m : ℕ) → n + 1 ≡ j → j ≡ m
-    → IsFilling table (map (entry_of form) ((rows ++ flat_map f (range_with_len 1 n)) ++ f j)) initial array → IsFilling table (map (entry_of form) (rows ++ flat_map f (range_with_len 1 m))) initial array
-filling_flat {R} form f rows {table} {initial} {array} n j m next same filling =
-    let one : (rows ++ flat_map f (range_with_len 1 n)) ++ f j ≡ rows ++ flat_map f (range_with_len 1 m) =
-    append_assoc rows (flat_map f (range_with_len 1 n)) (f j) ∙ ap (λ l. rows ++ l) (sym (flat_next f n j next) ∙ ap (λ k. flat_map f (range_with_len 1 k)) same) in
-    subst (λ l. IsFilling table (map (entry_of form) l) initial array) one filling
+-- the same behind the entries that a function gives for each of n numbers
+pub inserts_next : {table : Table} {index : ℕ} {a b c : List ℕ} (f : ℕ → List ℕ) (from n j next : ℕ) {entry : List ℕ} → from + n ≡ j → index + n ≡ next → entry ≡ f j → Inserts table index (map f (range_with_len from n)) a b → Inserts table next (entry ∷ []) b c → Inserts table index (map f (range_with_len from (n + 1))) a c
+inserts_next {table} {index} {a} {b} {c} f from n j next {entry} here there is first second =
+    let done = map f (range_with_len from n) in
+    let all : done ++ entry ∷ [] ≡ map f (range_with_len from (n + 1)) = ap (λ e. done ++ e ∷ []) is ∙ sym (map-range_with_len_more f from n j here) in
+    subst (λ l. Inserts table index l a c) all (inserts_then done (entry ∷ []) next (omega (arith, length-map-range_with_len f from n, there)) first second)
+
+-- the entries of one number more
+pub entries_more : (f : ℕ → List (List ℕ)) (s : ℕ) → 1 ≤ s → entries_up_to f (s - 1) ++ f s ≡ entries_up_to f (s + 1 - 1)
+entries_more f s low =
+    let next : s - 1 + 1 ≡ s = omega arith in
+    let same : s ≡ s + 1 - 1 = omega arith in
+    sym (flat_next f (s - 1) s next) ∙ ap (entries_up_to f) same
+
+pub length-entries_more : (f : ℕ → List (List ℕ)) (s : ℕ) → 1 ≤ s → length (entries_up_to f (s - 1)) + length (f s) ≡ length (entries_up_to f (s + 1 - 1))
+length-entries_more f s low = sym (length-append (entries_up_to f (s - 1)) (f s)) ∙ ap length (entries_more f s low)
+
+-- a loop over the subscribers that has ended, where its table and its numbers differ from those said by equations
+pub fills_with : {made table : Table} {n size : ℕ} {entries : List (List ℕ)} {initial b a : List ℕ} → made ≡ table → FitsTable made size → length initial ≡ size → n ≡ length entries → length entries ≤ table.pool.count → IsFilling table entries initial b → Finishes made.pool n b a → FillsWith table entries initial a
+fills_with {made} {table} {n} {size} {entries} {initial} {b} {a} is fits long count few filling finishes = record {
+  fits = subst (FitsTable table) (sym long) (subst (λ t. FitsTable t size) is fits);
+  few = few;
+  between = b;
+  filling = filling;
+  finishes = subst (λ t. Finishes t.pool (length entries) b a) is (subst (λ k. Finishes made.pool k b a) count finishes);
+}
 
 keys_same : {R : Type 0} (form : RowForm R) (rows : List R) → map key_of (map (entry_of form) rows) ≡ map form.key rows
 keys_same form [] = refl
@@ -128,16 +142,10 @@ module _ {R : Type 0} (form : RowForm R) (rows : List R) {table : Table} {initia
   pub fills_from : Fills form table rows initial a
   fills_from = record { filled = record { few = few; held = held; chains = chains; free = finishes.free; live = finishes.live }; others = others }
 
--- the same where the loop's numbers differ from the rows' by equations
-pub fills_all : {R : Type 0} (form : RowForm R) (rows : List R) {made table : Table} {n size : ℕ} {initial b a : List ℕ} → made ≡ table → FitsTable made size → length b ≡ size → n ≡ length rows → length rows ≤ made.pool.count → All form.Lengths rows
-    → IsFilling made (map (entry_of form) rows) initial b → Finishes made.pool n b a → Fills form table rows initial a
-fills_all {R} form rows {made} {table} {n} {size} {initial} {b} {a} is fits long count few whole filling finishes =
-    subst (λ t. Fills form t rows initial a) is
-    (fills_from form rows (subst (FitsTable made) (sym long) fits) few whole filling (subst (λ k. Finishes made.pool k b a) count finishes))
-
--- the rows of numbers from 1 on, where the loop over them has ended
-pub fills_flat : {R : Type 0} (form : RowForm R) (f : ℕ → List R) (last next : ℕ) {made table : Table} {n size : ℕ} {initial b a : List ℕ} → made ≡ table → FitsTable made size → length b ≡ size → next - 1 ≡ last → length (flat_map f (range_with_len 1 last)) ≤ made.pool.count → All form.Lengths (flat_map f (range_with_len 1 last))
-    → n ≡ length (flat_map f (range_with_len 1 (next - 1))) → IsFilling made (map (entry_of form) (flat_map f (range_with_len 1 (next - 1)))) initial b → Finishes made.pool n b a → Fills form table (flat_map f (range_with_len 1 last)) initial a
-fills_flat {R} form f last next {made} {table} {n} {size} {initial} {b} {a} is fits long all few whole count filling finishes =
-    fills_all form (flat_map f (range_with_len 1 last)) is fits long (count ∙ ap (λ k. length (flat_map f (range_with_len 1 k))) all) few whole
-    (subst (λ k. IsFilling made (map (entry_of form) (flat_map f (range_with_len 1 k))) initial b) all filling) finishes
+-- a table that was filled with the entries of these rows
+pub fills_rows : {R : Type 0} (form : RowForm R) (rows : List R) {table : Table} {entries : List (List ℕ)} {initial a : List ℕ} → entries ≡ map (entry_of form) rows → All form.Lengths rows → FillsWith table entries initial a → Fills form table rows initial a
+fills_rows {R} form rows {table} {entries} {initial} {a} is whole done =
+    let count : length entries ≡ length rows = ap length is ∙ length-map rows (entry_of form) in
+    fills_from form rows (subst (FitsTable table) (sym done.filling.size) done.fits) (let few = done.few in omega (arith, few, count)) whole
+    (subst (λ l. IsFilling table l initial done.between) is done.filling)
+    (subst (λ k. Finishes table.pool k done.between a) count done.finishes)

@@ -1,6 +1,7 @@
 mod Beside
 mod ChainLists
 mod Finished
+mod EntryLists
 mod Fillings
 mod Inserted
 mod Populations

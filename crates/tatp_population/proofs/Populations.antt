@@ -53,21 +53,8 @@ flat_within f n j last next below =
     let same : j + (last - j) ≡ last = omega arith in
     omega (arith, ap length (flat_next f n j next), length-append (flat_map f (range_with_len 1 n)) (f j), flat_grows f 1 j (last - j), ap (λ k. length (flat_map f (range_with_len 1 k))) same)
 
-pub length-access_of : (s : ℕ) → length (access_of s) ≡ 1 + s % 4
-length-access_of s = length-map-range_with_len (access_at s) 1 (1 + s % 4)
-
-pub length-facilities_of : (s : ℕ) → length (facilities_of s) ≡ 1 + (s + 1) % 4
-length-facilities_of s = length-map-range_with_len (facility_at s) 1 (1 + (s + 1) % 4)
-
 pub length-calls_of_facility : (s f : ℕ) → length (calls_of_facility s f) ≡ (s + f) % 4
 length-calls_of_facility s f = length-map-range_with_len (call_at s f) 0 ((s + f) % 4)
-
--- four rows of a kind for each subscriber are enough
-pub access_fit : (S : ℕ) → length (population S).access ≤ 4 * S
-access_fit S = flat_few access_of 4 1 S (λ s. omega (arith, length-access_of s))
-
-pub facilities_fit : (S : ℕ) → length (population S).facilities ≤ 4 * S
-facilities_fit S = flat_few facilities_of 4 1 S (λ s. omega (arith, length-facilities_of s))
 
 -- what holds of each row of each number
 pub all_flat : {R : Type 0} (P : R → Type 0) (f : ℕ → List R) (numbers : List ℕ) → ((s : ℕ) → All P (f s)) → All P (flat_map f numbers)

@@ -1,9 +1,11 @@
 -- A table while rows are inserted, before its header and its free list are written.
-use Rattle.std.specs.Prelude.{◌≡◌, ◌≢◌, ℕ, ◌+◌, ◌<◌, ◌≤◌, nat_lt, if◌then◌else◌, List, [], ◌∷◌, length, map, slice_index, slice_index_or}
+use Rattle.std.specs.Prelude.{◌≡◌, ◌≢◌, ℕ, ◌+◌, ◌<◌, ◌≤◌, nat_lt, if◌then◌else◌, List, [], ◌∷◌, ◌++◌, length, map, flat_map, slice_index, slice_index_or}
+use Rattle.std.specs.List.{range_with_len}
 use Rattle.record_heap.specs.declared.pool.Pool.{Pool}
 use Rattle.record_heap.specs.Links.{Linked}
 use Rattle.record_heap.specs.Pool.{AreApart}
 use Rattle.hash_table.specs.declared.table.Table.{Table}
+use Rattle.hash_table.specs.Table.{FitsTable}
 use Rattle.tatp_layout.specs.Records.{RowForm}
 use Rattle.tatp_population.specs.Filled.{record_at, chain_for, free_from}
 
@@ -46,3 +48,32 @@ pub record Finishes (pool : Pool) (n : ℕ) (old new : List ℕ) : Type 0 where
   pub free : Linked new pool.base (free_from pool n)
   pub live : slice_index new (pool.base + 1) ≡ n
   pub others : (i : ℕ) → i ≢ pool.base → i ≢ pool.base + 1 → ((k : ℕ) → n ≤ k → k < pool.count → i ≢ record_at pool k + 1) → slice_index new i ≡ slice_index old i
+
+-- no word changed but those of a record of this size at this word
+abbrev pub KeepsOthers : ℕ → ℕ → List ℕ → List ℕ → Type 0
+KeepsOthers at size old new = (i : ℕ) → AreApart at size i 1 → slice_index new i ≡ slice_index old i
+
+-- behind whatever entries stand in the records before this index, these were inserted from it on
+abbrev pub Inserts : Table → ℕ → List (List ℕ) → List ℕ → List ℕ → Type 0
+Inserts table index more old new = (entries : List (List ℕ)) (initial : List ℕ) → length entries ≡ index →
+    IsFilling table entries initial old → IsFilling table (entries ++ more) initial new
+
+-- the entries of the subscribers from 1 to this one
+abbrev pub entries_up_to : (ℕ → List (List ℕ)) → ℕ → List (List ℕ)
+entries_up_to entries last = flat_map entries (range_with_len 1 last)
+
+-- Into an empty table these entries were inserted, and then its free list and its header were written.
+pub record FillsWith (table : Table) (entries : List (List ℕ)) (old new : List ℕ) : Type 0 where
+  pub fits : FitsTable table (length old)
+  pub few : length entries ≤ table.pool.count
+  pub between : List ℕ
+  pub filling : IsFilling table entries old between
+  pub finishes : Finishes table.pool (length entries) between new
+
+-- the table has a record for each of these entries
+abbrev pub HasRoomFor : Table → List (List ℕ) → Type 0
+HasRoomFor table entries = length entries ≤ table.pool.count
+
+-- into the empty table the entries of the subscribers from 1 to this one were inserted
+abbrev pub FillsUpTo : ℕ → (ℕ → List (List ℕ)) → Table → List ℕ → List ℕ → Type 0
+FillsUpTo last entries table old new = FillsWith table (entries_up_to entries last) old new

@@ -1,4 +1,5 @@
 pub mod Causes
+pub mod Entries
 pub mod Filled
 pub mod Filling
 pub mod Populated

@@ -1,17 +1,13 @@
-//! The table of call rows is filled, and its rows are counted.
+//! The table of call rows, and how many rows it has.
 
-ghost use Rattle.std.specs.Prelude.{◌≡◌, ℕ, ◌+◌, ◌*◌, ◌%◌, ◌<◌, ◌≤◌, ◌^◌, List, ◌++◌, length, map};
-ghost use Rattle.std.specs.List.{range_with_len};
-ghost use Rattle.dude_base.specs.declared.limits.TheConstants.{PAGE};
+ghost use Rattle.std.specs.Prelude.{◌≡◌, ◌+◌, ◌%◌, ◌<◌, ◌≤◌, ◌^◌, length};
 ghost use Rattle.hash_table.specs.Table.{FitsTable};
-ghost use Rattle.tatp_model.specs.declared.call_row.CallRow.{CallRow};
-ghost use Rattle.tatp_model.specs.Population.{call_at, calls_of, population, population_calls};
-ghost use Rattle.tatp_layout.specs.Layout.{call_table};
-ghost use Rattle.tatp_layout.specs.Records.{call_form};
-ghost use Rattle.tatp_population.specs.Filled.{Fills};
-ghost use Rattle.tatp_population.specs.Filling.{IsEmpty, IsFilling, entry_of};
+ghost use Rattle.tatp_model.specs.Population.{calls_of, population_calls};
+ghost use Rattle.tatp_population.specs.Entries.{facility_call_entries};
+ghost use Rattle.tatp_population.specs.Filling.{Inserts};
 
-use crate::fill::{finish, put_record};
+use crate::fill::put_record;
+use crate::populated::Populated;
 use crate::rows::call_row;
 use crate::words::call_entry;
 use hash_table::table::Table;
@@ -43,16 +39,14 @@ fn call_rows_of(s: u64) -> u64
 }
 
 // Inserts the call rows of one facility, from the record at this index on, and answers the next index.
-fn put_calls_of_facility(words: &mut [u64], table: &Table, index: u64, s: u64, f: u64) -> u64
+fn put_calls(words: &mut [u64], table: &Table, index: u64, s: u64, f: u64) -> u64
     requires fits { FitsTable table.now (length words.old) }
     requires wide { 4 ≤ table.now.pool.size }
     requires subscriber { (1 ≤ s) × (s < 2 ^ 31) }
     requires facility { (1 ≤ f) × (f ≤ 4) }
     requires room { index + (s + f) % 4 ≤ table.now.pool.count }
     ensures index { result ≡ index + (s + f) % 4 }
-    ensures filling { (rows : List CallRow) (initial : List ℕ) → length rows ≡ index →
-        IsFilling table.now (map (entry_of call_form) rows) initial words.old →
-        IsFilling table.now (map (entry_of call_form) (rows ++ map (call_at s f) (range_with_len 0 ((s + f) % 4)))) initial words.new }
+    ensures filling { Inserts table.now index (facility_call_entries s f) words.old words.new }
 {
     let count = (s + f) % 4;
     for k in 0..count {
@@ -61,35 +55,27 @@ fn put_calls_of_facility(words: &mut [u64], table: &Table, index: u64, s: u64, f
     index + count
 }
 
-// Inserts the call rows of one subscriber, from the record at this index on, and answers the next index.
-fn put_calls(words: &mut [u64], table: &Table, index: u64, s: u64) -> u64
-    requires fits { FitsTable table.now (length words.old) }
-    requires wide { 4 ≤ table.now.pool.size }
-    requires subscriber { (1 ≤ s) × (s < 2 ^ 31) }
-    requires room { index + length (calls_of s) ≤ table.now.pool.count }
-    ensures index { result ≡ index + length (calls_of s) }
-    ensures filling { (rows : List CallRow) (initial : List ℕ) → length rows ≡ index →
-        IsFilling table.now (map (entry_of call_form) rows) initial words.old →
-        IsFilling table.now (map (entry_of call_form) (rows ++ calls_of s)) initial words.new }
-{
-    let mut next = index;
-    for f in 1..2 + (s + 1) % 4 {
-        next = put_calls_of_facility(words, table, next, s, f);
-    }
-    next
-}
+/// The table of call rows.
+pub(crate) struct Calls;
 
-/// Fills the table of call rows.
-pub fn fill_calls(words: &mut [u64], lay: &Layout)
-    requires size { length words.old ≡ lay.now.pages * PAGE }
-    requires room { population_calls lay.now.subscribers ≤ lay.now.calls }
-    requires empty { IsEmpty (call_table lay.now) words.old }
-    ensures { Fills call_form (call_table lay.now) (population lay.now.subscribers).calls words.old words.new }
-{
-    let table = lay.calls();
-    let mut rows = 0;
-    for s in 1..lay.sizes().subscribers + 1 {
-        rows = put_calls(words, &table, rows, s);
+impl Populated for Calls {
+    ghost use Rattle.tatp_layout.specs.Layout.{call_table};
+    ghost use Rattle.tatp_population.specs.Entries.{call_entries};
+
+    ghost place = { call_table };
+
+    ghost entries = { call_entries };
+
+    fn table(lay: &Layout) -> Table {
+        lay.calls()
     }
-    finish(words, &table.pool, rows);
+
+    fn put(words: &mut [u64], lay: &Layout, index: u64, s: u64) -> u64 {
+        let table = lay.calls();
+        let mut next = index;
+        for f in 1..2 + (s + 1) % 4 {
+            next = put_calls(words, &table, next, s, f);
+        }
+        next
+    }
 }

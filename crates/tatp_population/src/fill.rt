@@ -1,9 +1,10 @@
 //! A table is filled record by record, and its free list and its header are written at the end.
 
-ghost use Rattle.std.specs.Prelude.{◌≡◌, ◌≢◌, ℕ, ◌+◌, ◌*◌, ◌^◌, ◌<◌, ◌≤◌, List, [], ◌∷◌, ◌++◌, length, slice_index};
-ghost use Rattle.record_heap.specs.Pool.{AreApart};
+ghost use Rattle.std.specs.Prelude.{◌≡◌, ◌+◌, ◌^◌, ◌<◌, ◌≤◌, [], ◌∷◌, length, slice_index};
+ghost use Rattle.record_heap.specs.Pool.{FitsPool};
 ghost use Rattle.hash_table.specs.Table.{FitsTable};
-ghost use Rattle.tatp_population.specs.Filling.{Finishes, HasEntry, IsFilling, free_link};
+ghost use Rattle.tatp_population.specs.Filled.{record_at};
+ghost use Rattle.tatp_population.specs.Filling.{Finishes, HasEntry, Inserts, KeepsOthers, free_link};
 
 use hash_table::table::Table;
 use record_heap::pool::Pool;
@@ -14,7 +15,7 @@ fn put_entry(words: &mut [u64], at: u64, entry: &[u64])
     requires inside { at + 1 + length entry.now ≤ length words.old }
     ensures held { HasEntry words.new at entry.now }
     ensures link { slice_index words.new (at + 1) ≡ slice_index words.old (at + 1) }
-    ensures others { (i : ℕ) → AreApart at (1 + length entry.now) i 1 → slice_index words.new i ≡ slice_index words.old i }
+    ensures others { KeepsOthers at (1 + length entry.now) words.old words.new }
 {
     words[at as usize] = entry[0];
     for j in 1..entry.len() {
@@ -30,8 +31,7 @@ pub fn put_record(words: &mut [u64], table: &Table, index: u64, entry: &[u64])
     requires index { index < table.now.pool.count }
     requires some { 1 ≤ length entry.now }
     requires room { length entry.now < table.now.pool.size }
-    ensures filling { (entries : List (List ℕ)) (initial : List ℕ) → length entries ≡ index → IsFilling table.now entries initial words.old →
-        IsFilling table.now (entries ++ entry.now ∷ []) initial words.new }
+    ensures filling { Inserts table.now index (entry.now ∷ []) words.old words.new }
 {
     let at = table.pool.first + table.pool.size * index;
     let link = (table.at + entry[0] % table.buckets) as usize;
@@ -42,9 +42,7 @@ pub fn put_record(words: &mut [u64], table: &Table, index: u64, entry: &[u64])
 
 /// Links the records from the `rows`-th on as free ones, and counts the others.
 pub fn finish(words: &mut [u64], pool: &Pool, rows: u64)
-    requires behind { pool.now.base + 2 ≤ pool.now.first }
-    requires wide { 2 ≤ pool.now.size }
-    requires whole { pool.now.first + pool.now.size * pool.now.count ≤ length words.old }
+    requires fits { FitsPool pool.now (length words.old) }
     requires few { rows ≤ pool.now.count }
     ensures { Finishes pool.now rows words.old words.new }
 {
@@ -58,7 +56,7 @@ pub fn finish(words: &mut [u64], pool: &Pool, rows: u64)
 
 // The record at this index, or 0 where there is none.
 fn free_record(pool: &Pool, index: u64) -> u64
-    requires { pool.now.first + pool.now.size * pool.now.count < 2 ^ 64 }
+    requires { index < pool.now.count → record_at pool.now index < 2 ^ 64 }
     ensures { result ≡ free_link pool.now index }
 {
     if index < pool.count {

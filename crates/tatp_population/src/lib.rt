@@ -1,12 +1,12 @@
 //! The home of a new database.
 #![tactic(auto)]
 
-mod access;
 mod calls;
-mod facilities;
 mod fault;
 mod fill;
+mod kinds;
 mod packing;
+mod populated;
 mod population;
 mod rows;
 mod subscribers;

@@ -1,42 +1,60 @@
-//! The tables of subscribers, by s_id and by phone number, are filled.
+//! The tables of subscribers, by s_id and by phone number.
 
-ghost use Rattle.std.specs.Prelude.{◌≡◌, ◌*◌, length};
-ghost use Rattle.dude_base.specs.declared.limits.TheConstants.{PAGE};
-ghost use Rattle.tatp_model.specs.Population.{population};
-ghost use Rattle.tatp_layout.specs.Layout.{number_table, subscriber_table};
-ghost use Rattle.tatp_layout.specs.Records.{number_form, subscriber_form};
-ghost use Rattle.tatp_population.specs.Filled.{Fills};
-ghost use Rattle.tatp_population.specs.Filling.{IsEmpty};
-
-use crate::fill::{finish, put_record};
+use crate::fill::put_record;
+use crate::populated::Populated;
 use crate::rows::subscriber_row;
 use crate::words::{number_entry, subscriber_entry};
+use hash_table::table::Table;
 use tatp_layout::Layout;
 
-/// Fills the table of subscribers.
-pub fn fill_subscribers(words: &mut [u64], lay: &Layout)
-    requires size { length words.old ≡ lay.now.pages * PAGE }
-    requires empty { IsEmpty (subscriber_table lay.now) words.old }
-    ensures { Fills subscriber_form (subscriber_table lay.now) (population lay.now.subscribers).subscribers words.old words.new }
-{
-    let table = lay.subscribers();
-    let count = lay.sizes().subscribers;
-    for s in 1..count + 1 {
-        put_record(words, &table, s - 1, &subscriber_entry(&subscriber_row(s)));
+/// The table of subscribers.
+pub(crate) struct Subscribers;
+
+impl Populated for Subscribers {
+    ghost use Rattle.tatp_layout.specs.Layout.{subscriber_table};
+    ghost use Rattle.tatp_population.specs.Entries.{subscriber_entries};
+
+    ghost place = { subscriber_table };
+
+    ghost entries = { subscriber_entries };
+
+    fn table(lay: &Layout) -> Table {
+        lay.subscribers()
     }
-    finish(words, &table.pool, count);
+
+    fn put(words: &mut [u64], lay: &Layout, index: u64, s: u64) -> u64 {
+        put_record(
+            words,
+            &lay.subscribers(),
+            index,
+            &subscriber_entry(&subscriber_row(s)),
+        );
+        index + 1
+    }
 }
 
-/// Fills the table that finds subscribers by their phone numbers.
-pub fn fill_numbers(words: &mut [u64], lay: &Layout)
-    requires size { length words.old ≡ lay.now.pages * PAGE }
-    requires empty { IsEmpty (number_table lay.now) words.old }
-    ensures { Fills number_form (number_table lay.now) (population lay.now.subscribers).subscribers words.old words.new }
-{
-    let table = lay.numbers();
-    let count = lay.sizes().subscribers;
-    for s in 1..count + 1 {
-        put_record(words, &table, s - 1, &number_entry(&subscriber_row(s)));
+/// The table that finds subscribers by their phone numbers.
+pub(crate) struct Numbers;
+
+impl Populated for Numbers {
+    ghost use Rattle.tatp_layout.specs.Layout.{number_table};
+    ghost use Rattle.tatp_population.specs.Entries.{number_entries};
+
+    ghost place = { number_table };
+
+    ghost entries = { number_entries };
+
+    fn table(lay: &Layout) -> Table {
+        lay.numbers()
     }
-    finish(words, &table.pool, count);
+
+    fn put(words: &mut [u64], lay: &Layout, index: u64, s: u64) -> u64 {
+        put_record(
+            words,
+            &lay.numbers(),
+            index,
+            &number_entry(&subscriber_row(s)),
+        );
+        index + 1
+    }
 }

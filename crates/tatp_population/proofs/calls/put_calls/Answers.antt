@@ -1,27 +1,25 @@
-use Rattle.std.proofs.Common.{◌≡◌, ◌+◌, ◌-◌, ◌%◌, ◌++◌, ◌∙◌, arith, length-append}
-use Rattle.std.specs.List.{flat_map, range_with_len}
+use Rattle.std.proofs.Common.{◌≡◌, ◌+◌, ◌%◌, map, refl, ap, subst, ◌∙◌, arith}
+use Rattle.std.specs.List.{range_with_len}
+use Rattle.record_heap.proofs.Pools.{count_fits}
+use Rattle.tatp_model.specs.Population.{call_at}
 use Rattle.tatp_layout.specs.Records.{call_form}
-use Rattle.tatp_population.proofs.Fillings.{filling_flat}
-use Rattle.tatp_population.proofs.Populations.{calls_of_facility, length-calls_of_facility, flat_count, flat_within}
+use Rattle.tatp_population.specs.Filling.{Inserts, entry_of}
+use Rattle.tatp_population.proofs.Fillings.{inserts_none, inserts_next}
 use Rattle.tatp_population.proofs.calls.put_calls.Goals as goal
 
-pub put_calls_of_facility-next-requires-clause-room : goal.put_calls_of_facility-next-requires-clause-room
-put_calls_of_facility-next-requires-clause-room c =
-    let s = c.args.s in
-    let f = c.loop-f.f in
-    omega (arith, c.loop-f.invariant.index, c.requires.room, length-calls_of_facility s f, flat_within (calls_of_facility s) (f - 1) f (1 + (s + 1) % 4) (omega arith) (omega arith))
+pub loop-k-init : goal.loop-k-init
+loop-k-init c = inserts_none
 
-pub loop-f-preserved : goal.loop-f-preserved
-loop-f-preserved c =
-    let s = c.args.s in
-    let f = c.loop-f.f in
-    let before = c.loop-f.invariant in
-    let done = flat_map (calls_of_facility s) (range_with_len 1 (f - 1)) in
-    let same : f ≡ f + 1 - 1 = omega arith in
-    let next = c.put_calls_of_facility-next in
-    record {
-      index = next.ensures.index ∙ omega (arith, before.index, length-calls_of_facility s f, flat_count (calls_of_facility s) (f - 1) f (f + 1 - 1) (omega arith) same);
-      filling = λ rows initial long filling.
-          filling_flat call_form (calls_of_facility s) rows (f - 1) f (f + 1 - 1) (omega arith) same
-          (next.ensures.filling (rows ++ done) initial (omega (arith, length-append rows done, long, before.index)) (before.filling rows initial long filling));
-    }
+pub overflow_add-index : goal.overflow_add-index
+overflow_add-index c = omega (arith, c.requires.room, count_fits c.requires.fits.pool)
+
+pub loop-k-preserved : goal.loop-k-preserved
+loop-k-preserved c = inserts_next (λ k. entry_of call_form (call_at c.args.s c.args.f k)) 0 c.loop-k.k c.loop-k.k (c.args.index + c.loop-k.k) (omega arith) refl (c.call_entry.ensures ∙ ap (entry_of call_form) c.call_row.ensures) c.loop-k.invariant c.put_record.ensures.filling
+
+pub overflow_add-result : goal.overflow_add-result
+overflow_add-result c = omega (arith, c.requires.room, count_fits c.requires.fits.pool)
+
+pub returns-clause-filling : goal.returns-clause-filling
+returns-clause-filling c =
+    let all : c.loop-k.k ≡ (c.args.s + c.args.f) % 4 = omega arith in
+    subst (λ n. Inserts c.args.table.now c.args.index (map (λ k. entry_of call_form (call_at c.args.s c.args.f k)) (range_with_len 0 n)) c.args.words.now c.loop-k.words) all c.loop-k.invariant

@@ -1,37 +1,41 @@
-use Rattle.std.proofs.Common.{ℕ, ◌+◌, ◌-◌, ◌*◌, ◌<◌, ◌≤◌, length-set, refl, ◌∙◌, arith, get_or-set_other}
+use Rattle.std.proofs.Common.{ℕ, ◌+◌, ◌-◌, ◌<◌, ◌≤◌, length-set, refl, ◌∙◌, arith, get_or-set_other}
 use Rattle.record_heap.specs.declared.pool.Pool.{Pool}
-use Rattle.record_heap.specs.Pool.{IsRecord}
-use Rattle.hash_table.proofs.Fits.{record_ends}
+use Rattle.record_heap.specs.Pool.{AreApart, FitsPool, IsRecord}
 use Rattle.tatp_population.specs.Filled.{record_at}
 use Rattle.tatp_population.proofs.Finished.{links_free, links_more}
 use Rattle.tatp_population.proofs.fill.finish.Goals as goal
 
--- a record ends with the others
-ends : (pool : Pool) (k : ℕ) → k < pool.count → pool.first + pool.size * k + pool.size ≤ pool.first + pool.size * pool.count
-ends pool k below =
-    let r : IsRecord pool (pool.first + pool.size * k) = record { index = k; below = below; is = refl } in
-    (record_ends r).1
+-- a record stands below the words' number, apart from the header
+module _ {pool : Pool} {n k : ℕ} (fits : FitsPool pool n) (below : k < pool.count) where
+  there : IsRecord pool (record_at pool k)
+  there = record { index = k; below = below; is = refl }
+
+  inside : record_at pool k + pool.size ≤ n
+  inside = fits.inside (record_at pool k) there
+
+  apart : AreApart pool.base 2 (record_at pool k) pool.size
+  apart = fits.apart (record_at pool k) there
 
 pub free_record-requires : goal.free_record-requires
-free_record-requires c = omega (arith, c.requires.whole)
+free_record-requires c = λ below. omega (arith, inside c.requires.fits below)
 
 pub overflow_mul-at : goal.overflow_mul-at
-overflow_mul-at c = omega (arith, c.requires.whole, ends c.args.pool.now c.loop-k.k c.loop-k-test.true)
+overflow_mul-at c = omega (arith, inside c.requires.fits c.loop-k-test.true)
 
 pub overflow_add-at : goal.overflow_add-at
-overflow_add-at c = omega (arith, c.requires.whole, ends c.args.pool.now c.loop-k.k c.loop-k-test.true)
+overflow_add-at c = omega (arith, inside c.requires.fits c.loop-k-test.true)
 
 pub free_record-requires-in-loop-k : goal.free_record-requires-in-loop-k
-free_record-requires-in-loop-k c = omega (arith, c.requires.whole)
+free_record-requires-in-loop-k c = λ below. omega (arith, inside c.requires.fits below)
 
 pub overflow_add-words-in-loop-k : goal.overflow_add-words-in-loop-k
-overflow_add-words-in-loop-k c = omega (arith, c.requires.whole, c.requires.wide, ends c.args.pool.now c.loop-k.k c.loop-k-test.true)
+overflow_add-words-in-loop-k c = omega (arith, c.requires.fits.size, inside c.requires.fits c.loop-k-test.true)
 
 pub offset_bounds-words-at : goal.offset_bounds-words-at
-offset_bounds-words-at c = omega (arith, c.requires.whole, c.requires.wide, ends c.args.pool.now c.loop-k.k c.loop-k-test.true)
+offset_bounds-words-at c = omega (arith, c.requires.fits.size, inside c.requires.fits c.loop-k-test.true)
 
 pub bounds-words-at : goal.bounds-words-at
-bounds-words-at c = omega (arith, c.requires.whole, c.requires.wide, ends c.args.pool.now c.loop-k.k c.loop-k-test.true)
+bounds-words-at c = omega (arith, c.requires.fits.size, inside c.requires.fits c.loop-k-test.true)
 
 pub loop-k-preserved : goal.loop-k-preserved
 loop-k-preserved c =
@@ -39,12 +43,14 @@ loop-k-preserved c =
     let pool = c.args.pool.now in
     let k = c.loop-k.k in
     let value = c.free_record-in-loop-k.result in
-    let end = ends pool k c.loop-k-test.true in
+    let end = inside c.requires.fits c.loop-k-test.true in
+    let header = apart c.requires.fits c.loop-k-test.true in
+    let wide = c.requires.fits.size in
     record {
       size = length-set c.loop-k.words (record_at pool k + 1) value ∙ before.size;
-      first = get_or-set_other c.loop-k.words (record_at pool k + 1) pool.base value 0 (omega (arith, c.requires.behind)) ∙ before.first;
-      live = get_or-set_other c.loop-k.words (record_at pool k + 1) (pool.base + 1) value 0 (omega (arith, c.requires.behind)) ∙ before.live;
-      links = links_more pool c.loop-k.words c.args.rows k value (omega (arith, c.requires.wide)) (omega (arith, end, before.size, c.requires.whole, c.requires.wide)) c.free_record-in-loop-k.ensures before.links;
+      first = get_or-set_other c.loop-k.words (record_at pool k + 1) pool.base value 0 (omega (arith, header, wide)) ∙ before.first;
+      live = get_or-set_other c.loop-k.words (record_at pool k + 1) (pool.base + 1) value 0 (omega (arith, header, wide)) ∙ before.live;
+      links = links_more pool c.loop-k.words c.args.rows k value (omega (arith, wide)) (omega (arith, end, before.size, wide)) c.free_record-in-loop-k.ensures before.links;
       others = λ i not_base not_live none.
           get_or-set_other c.loop-k.words (record_at pool k + 1) i value 0 (none k c.loop-k.auto.k (omega arith))
           ∙ before.others i not_base not_live (λ j from below. none j from (omega arith));
