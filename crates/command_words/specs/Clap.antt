@@ -94,10 +94,14 @@ has_run_form given = is_number_or_absent given.frames && is_number_or_absent giv
 
 -- ---- what is read
 
+-- what was matched, a row for each argument
+abbrev pub matched_rows : ArgMatches → List Row
+matched_rows matches = rows_of (found_of matches)
+
 -- it gives matches of these words, or none where it refuses them
 abbrev pub IsReading : App → List Text → Option ArgMatches → Type 0
 IsReading app words found =
-    MatchOption found (fault_of app words ≢ []) (λ matches. (fault_of app words ≡ []) × (rows_of (found_of matches) ≡ matches_of app words))
+    MatchOption found (fault_of app words ≢ []) (λ matches. (fault_of app words ≡ []) × (matched_rows matches ≡ matches_of app words))
 
 -- the number that `u64` reads from a text
 abbrev pub parsed_number : Text → Option ℕ

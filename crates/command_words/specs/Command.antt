@@ -1,5 +1,5 @@
 -- What command words mean.
-use Rattle.std.specs.Prelude.{ℕ, ◌<◌, ◌≤◌, ◌^◌, ◌-◌, ⊤, Bool, false, not, ◌==◌, ◌&&◌, Option, Some, None, IfSome, if◌then◌else◌, List, [], ◌∷◌, length, map, codes}
+use Rattle.std.specs.Prelude.{ℕ, ◌≡◌, ◌<◌, ◌≤◌, ◌^◌, ◌-◌, ⊤, Bool, false, not, ◌==◌, ◌&&◌, Option, Some, None, IfSome, if◌then◌else◌, List, [], ◌∷◌, length, drop, map, codes}
 use Rattle.std.specs.List.{list_all}
 use Rattle.std.specs.Option.{option_map}
 use Rattle.std.specs.Rc.{rc_str_bytes}
@@ -142,6 +142,18 @@ meaning_of_command (Run frames locks files) = RunFiles frames locks (map rc_str_
 meaning_of_command Recover = RecoverImage
 meaning_of_command Dump = DumpTables
 meaning_of_command (Drive seed count files) = DriveLoad seed count files
+
+-- a command of the code, or none, means this
+abbrev pub HasMeaning : Option Meaning → Option Command → Type 0
+HasMeaning meaning command = option_map meaning_of_command command ≡ meaning
+
+-- what words mean behind the first one, which names the command
+abbrev pub behind_name : (List (List ℕ) → Option Meaning) → List (List ℕ) → Option Meaning
+behind_name meaning words = meaning (drop 1 words)
+
+-- a command with no word behind its name, or none
+abbrev pub IsAlone : List (List ℕ) → Command → Option Command → Type 0
+IsAlone words command result = HasMeaning (behind_name (alone (meaning_of_command command)) words) result
 
 -- a number is from the least to the greatest
 abbrev pub IsBetween : ℕ → ℕ → ℕ → Type 0
