@@ -12,7 +12,7 @@ use std::alloc::{AllocError, Global};
 use std::rc::RcStr;
 
 /// What the program is to do.
-#[derive(Clone, Copy, Debug, PartialEq, Eq)]
+#[derive(Clone, Copy, Debug)]
 pub enum Command<'a> {
     /// Format the medium for so many subscribers, from 1 to 10,000, and run
     /// the requests of the file.
