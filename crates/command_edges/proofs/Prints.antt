@@ -17,7 +17,7 @@ use Rattle.command_edges.specs.Printing.{Collects, StopsIn}
 -- the sink failed in a text
 pub part_stops : (text : List ℕ) {s t : SinkSight} → TookPart text s t → StopsIn text s t Output
 part_stops text part = record {
-  front = take part.n text;
+  prefix = take part.n text;
   rest = drop part.n text;
   split = sym (take-append-drop part.n text);
   some = omega (arith, part.less, length-drop part.n text);
@@ -26,12 +26,12 @@ part_stops text part = record {
   only = inl refl;
 }
 
--- what stops in a text behind a front that was taken stops in the whole
-pub later_stops : {fault : Fault} {text : List ℕ} (all more front : List ℕ) {s t u : SinkSight} → all ≡ front ++ (text ++ more) → Took front s t → StopsIn text t u fault → StopsIn all s u fault
-later_stops {fault} {text} all more front {s} {t} {u} whole took h = record {
-  front = front ++ h.front;
+-- what stops in a text behind a prefix that was taken stops in the whole
+pub later_stops : {fault : Fault} {text : List ℕ} (all more prefix : List ℕ) {s t u : SinkSight} → all ≡ prefix ++ (text ++ more) → Took prefix s t → StopsIn text t u fault → StopsIn all s u fault
+later_stops {fault} {text} all more prefix {s} {t} {u} whole took h = record {
+  prefix = prefix ++ h.prefix;
   rest = h.rest ++ more;
-  split = whole ∙ (ap (λ (x : List ℕ). front ++ (x ++ more)) h.split ∙ regroup front h.front h.rest more);
+  split = whole ∙ (ap (λ (x : List ℕ). prefix ++ (x ++ more)) h.split ∙ regroup prefix h.prefix h.rest more);
   some = omega (arith, h.some, length-append h.rest more);
   took = took-then took h.took;
   cause = λ e. risen_later s.faults t.faults u.faults u.faults took.faults (h.cause e) (omega arith);
@@ -43,18 +43,18 @@ later_stops {fault} {text} all more front {s} {t} {u} whole took h = record {
 
 -- What was taken and what is held back are the lines of the first so many requests.
 pub record Printed (done : List Done) (i : ℕ) (held : List ℕ) (s t : SinkSight) : Type 0 where
-  pub front : List ℕ
-  pub lines : front ++ held ≡ flat_map output_line (take i done)
-  pub took : Took front s t
+  pub prefix : List ℕ
+  pub lines : prefix ++ held ≡ flat_map output_line (take i done)
+  pub took : Took prefix s t
 
 pub printed_none : (done : List Done) (s : SinkSight) → Printed done 0 [] s s
-printed_none done s = record { front = []; lines = refl; took = took_none }
+printed_none done s = record { prefix = []; lines = refl; took = took_none }
 
 pub printed_more : (done : List Done) (i : ℕ) (d : Done) {line held next : List ℕ} {s t u : SinkSight} → i < length done → line ≡ output_line (get_or done i d)
     → Printed done i held s t → Collects line held next t u → Printed done (i + 1) next s u
 printed_more done i d {line} {held} {next} below is p c = record {
-  front = p.front ++ c.front;
-  lines = append_assoc p.front c.front next ∙ (ap (λ (x : List ℕ). p.front ++ x) (sym c.split) ∙ (sym (append_assoc p.front held line)
+  prefix = p.prefix ++ c.prefix;
+  lines = append_assoc p.prefix c.prefix next ∙ (ap (λ (x : List ℕ). p.prefix ++ x) (sym c.split) ∙ (sym (append_assoc p.prefix held line)
       ∙ (ap (λ (x : List ℕ). x ++ line) p.lines ∙ (ap (λ (x : List ℕ). flat_map output_line (take i done) ++ x) is
       ∙ (flat_map_more output_line [] (take i done) (get_or done i d) ∙ ap (flat_map output_line) (sym (take_more done i d below)))))));
   took = took-then p.took c.took;
@@ -62,12 +62,12 @@ printed_more done i d {line} {held} {next} below is p c = record {
 
 -- the lines so far, what comes next, and the rest are the output
 pub output_is : (done : List Done) (i : ℕ) (d : Done) (last : ℕ) {line held : List ℕ} {s t : SinkSight} → i < length done → line ≡ output_line (get_or done i d) → (p : Printed done i held s t)
-    → output_of done last ≡ p.front ++ ((held ++ line) ++ (flat_map output_line (drop (i + 1) done) ++ last_line last))
+    → output_of done last ≡ p.prefix ++ ((held ++ line) ++ (flat_map output_line (drop (i + 1) done) ++ last_line last))
 output_is done i d last {line} {held} below is p =
     ap (λ (x : List ℕ). x ++ last_line last) (ap (flat_map output_line) (split done i d below) ∙ flat_map-append output_line (take i done) (get_or done i d ∷ drop (i + 1) done))
     ∙ (ap (λ (x : List ℕ). (x ++ (output_line (get_or done i d) ++ flat_map output_line (drop (i + 1) done))) ++ last_line last) (sym p.lines)
-    ∙ (regroup p.front held (output_line (get_or done i d)) (flat_map output_line (drop (i + 1) done)) (last_line last)
-    ∙ ap (λ (x : List ℕ). p.front ++ ((held ++ x) ++ (flat_map output_line (drop (i + 1) done) ++ last_line last))) (sym is)))
+    ∙ (regroup p.prefix held (output_line (get_or done i d)) (flat_map output_line (drop (i + 1) done)) (last_line last)
+    ∙ ap (λ (x : List ℕ). p.prefix ++ ((held ++ x) ++ (flat_map output_line (drop (i + 1) done) ++ last_line last))) (sym is)))
   where
     split : (xs : List Done) (i : ℕ) (d : Done) → i < length xs → xs ≡ take i xs ++ get_or xs i d ∷ drop (i + 1) xs
     split xs i d below =
@@ -78,9 +78,9 @@ output_is done i d last {line} {held} below is p =
 
 -- at the end the lines and the last line are the output
 pub output_ends : (done : List Done) (i : ℕ) (last : ℕ) (held : List ℕ) {s t : SinkSight} → length done ≤ i → (p : Printed done i held s t)
-    → output_of done last ≡ p.front ++ (held ++ last_line last)
+    → output_of done last ≡ p.prefix ++ (held ++ last_line last)
 output_ends done i last held past p =
-    ap (λ (x : List Done). flat_map output_line x ++ last_line last) (sym (take_all i done past)) ∙ (ap (λ (x : List ℕ). x ++ last_line last) (sym p.lines) ∙ append_assoc p.front held (last_line last))
+    ap (λ (x : List Done). flat_map output_line x ++ last_line last) (sym (take_all i done past)) ∙ (ap (λ (x : List ℕ). x ++ last_line last) (sym p.lines) ∙ append_assoc p.prefix held (last_line last))
 
 -- a fact for each error gives another
 pub err_map : {T E : Type 0} {P Q : E → Type 0} (r : Result T E) → ((e : E) → P e → Q e) → IfErr r P → IfErr r Q
@@ -91,4 +91,4 @@ err_map (Err e) f h = f e h
 pub last_stops : {fault : Fault} (done : List Done) (i last : ℕ) {held : List ℕ} {s t u : SinkSight} → length done ≤ i → Printed done i held s t
     → StopsIn (held ++ last_line last) t u fault → StopsIn (output_of done last) s u fault
 last_stops done i last {held} past p h =
-    later_stops (output_of done last) [] p.front (output_ends done i last held past p ∙ ap (λ (x : List ℕ). p.front ++ x) (sym (append-nil (held ++ last_line last)))) p.took h
+    later_stops (output_of done last) [] p.prefix (output_ends done i last held past p ∙ ap (λ (x : List ℕ). p.prefix ++ x) (sym (append-nil (held ++ last_line last)))) p.took h

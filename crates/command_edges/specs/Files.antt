@@ -1,8 +1,10 @@
 -- What the files of a command hold, and why they give no requests.
-use Rattle.std.specs.Prelude.{◌≡◌, ℕ, ◌+◌, ⊤, IsTrue, Some, None, IsSome, Ok, Err, List, ◌∷◌, ◌++◌, length, map, All, Any}
+use Rattle.std.specs.Prelude.{◌≡◌, ℕ, ◌+◌, ◌≤◌, ⊤, IsTrue, Some, None, IsSome, Result, Ok, Err, IsErr, IsErrAnd, List, ◌∷◌, ◌++◌, length, map, All, Any}
+use Rattle.std.specs.List.{AllZip}
 use Rattle.std.specs.Global.{Vec}
 use Rattle.pmem_trait.specs.Sights.{Risen}
 use Rattle.tatp_model.specs.declared.request.Request.{Request}
+use Rattle.tatp_model.specs.Request.{IsInRange}
 use Rattle.tatp_csv.specs.RequestFile.{requests_of}
 use Rattle.dude_io.specs.Files.{FilesSight}
 use Rattle.command_edges.specs.declared.fault.Fault.{Fault}
@@ -78,3 +80,31 @@ StoppedReading _ = ⊥
 -- the requests of each file
 abbrev pub requests_in : List (Vec Request) → List (List Request)
 requests_in lists = map (λ list. list.items) lists
+
+-- the requests of each file, by its name
+abbrev pub AreOfFiles : FilesSight → List (List ℕ) → Vec (Vec Request) → Type 0
+AreOfFiles files names lists = AllZip (OfFile files) names (requests_in lists.items)
+
+-- the numbers of each request are in their ranges
+abbrev pub AreInRange : Vec (Vec Request) → Type 0
+AreInRange lists = All (All IsInRange) (requests_in lists.items)
+
+-- no file has more than 100,000 requests
+abbrev pub AreFew : Vec (Vec Request) → Type 0
+AreFew lists = All (λ list. length list ≤ 100000) (requests_in lists.items)
+
+-- why not all files were read, of files seen so
+abbrev pub IsReadFault : {F : Type 0} → (F → FilesSight) → List (List ℕ) → F → F → Fault → Type 0
+IsReadFault sight names old new fault = HasReadFault names (sight old) (sight new) fault
+
+-- why there are no requests, of files seen so
+abbrev pub IsFileFault : {F : Type 0} → (F → FilesSight) → List (List ℕ) → F → F → Fault → Type 0
+IsFileFault sight names old new fault = HasFileFault names (sight old) (sight new) fault
+
+-- where the files tell, one that isn't there ends the reading, before any is parsed
+abbrev pub MissingStops : {X : Type 0} → FilesSight → List (List ℕ) → Result X Fault → Type 0
+MissingStops files names result = IsTrue files.is_visible → MissesFile names files → IsErrAnd result StoppedReading
+
+-- where the files tell, a bad one is never passed over
+abbrev pub BadStops : {X : Type 0} → FilesSight → List (List ℕ) → Result X Fault → Type 0
+BadStops files names result = IsTrue files.is_visible → HasBadFile names files → IsErr result

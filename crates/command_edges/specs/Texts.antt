@@ -1,19 +1,25 @@
 -- What was read of a file, and what it means.
-use Rattle.std.specs.Prelude.{◌≡◌, ℕ, ◌≤◌, ⊤, IsTrue, IsSomeAnd, IsOk, Result, Ok, Err, List, length, All}
+use Rattle.std.specs.Prelude.{◌≡◌, ℕ, ◌≤◌, ⊤, IsOk, Result, Ok, Err, List, length, All}
+use Rattle.std.specs.List.{AllZip}
+use Rattle.std.specs.Global.{Vec}
 use Rattle.tatp_model.specs.declared.request.Request.{Request}
 use Rattle.tatp_model.specs.Request.{IsInRange}
 use Rattle.tatp_csv.specs.RequestFile.{Place, requests_of}
 use Rattle.dude_io.specs.declared.file_text.FileText.{FileText}
 use Rattle.dude_io.specs.declared.file_text.FileText.TheVariants.{Whole, TooLong}
-use Rattle.dude_io.specs.FileText.{HoldsText}
+use Rattle.dude_io.specs.FileText.{IsFileText}
 use Rattle.dude_io.specs.Files.{FilesSight}
 use Rattle.command_edges.specs.declared.fault.Fault.{Fault}
 use Rattle.command_edges.specs.declared.fault.Fault.TheVariants.{Text, Memory}
-use Rattle.command_edges.specs.Files.{IsFirst}
+use Rattle.command_edges.specs.Files.{IsFirst, requests_in}
 
 -- this is the text of the file of this name, or it is too long, where the files tell
 abbrev pub IsTextOf : FilesSight → List ℕ → FileText → Type 0
-IsTextOf files name text = IsTrue files.is_visible → IsSomeAnd (files.text name) (HoldsText 16777216 text)
+IsTextOf files name text = IsFileText 16777216 files name text
+
+-- the texts of the files of these names
+abbrev pub AreTextsOf : FilesSight → List (List ℕ) → Vec FileText → Type 0
+AreTextsOf files names texts = AllZip (IsTextOf files) names texts.items
 
 -- what the text means: its requests, or the place of its first bad record. One that is too long is bad at record 0
 abbrev pub meaning_of : FileText → Result (List Request) Place
@@ -25,6 +31,10 @@ pub record HoldsRequests (text : FileText) (requests : List Request) : Type 0 wh
   pub meant : meaning_of text ≡ Ok requests
   pub in_range : All IsInRange requests
   pub few : length requests ≤ 100000
+
+-- these are the requests of each text
+abbrev pub HoldEachRequests : List FileText → Vec (Vec Request) → Type 0
+HoldEachRequests texts lists = AllZip HoldsRequests texts (requests_in lists.items)
 
 -- why the text of the file of this number gave no requests
 abbrev pub IsTextFault : FileText → ℕ → Fault → Type 0

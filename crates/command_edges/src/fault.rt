@@ -9,7 +9,7 @@ use std::alloc::{AllocError, AllocFailed};
 use std::fmt;
 
 /// Why a command ended with a status other than 0. Files are counted from 1.
-#[derive(Clone, Copy, Debug, PartialEq, Eq)]
+#[derive(Clone, Copy)]
 pub enum Fault {
     /// The command words are refused.
     Usage,
@@ -139,13 +139,14 @@ fn write_two<W: fmt::Write>(
     f: &mut fmt::Formatter<W>,
     first: &str,
     number: u64,
-    second: &str,
+    next: &str,
     other: u64,
 ) -> fmt::Result
-    ensures { WritesOnOk W.write_str_gives f.old result (first.now ++ decimal number ++ second.now ++ decimal other) f.new }
+    ensures { WritesOnOk W.write_str_gives f.old result
+        (first.now ++ decimal number ++ next.now ++ decimal other) f.new }
 {
     write_one(f, first, number)?;
-    write_one(f, second, other)
+    write_one(f, next, other)
 }
 
 /// Writes two texts, each with a number behind it, and a last text.
@@ -153,13 +154,14 @@ fn write_all<W: fmt::Write>(
     f: &mut fmt::Formatter<W>,
     first: &str,
     number: u64,
-    second: &str,
+    next: &str,
     other: u64,
     last: &str,
 ) -> fmt::Result
-    ensures { WritesOnOk W.write_str_gives f.old result (first.now ++ decimal number ++ second.now ++ decimal other ++ last.now) f.new }
+    ensures { WritesOnOk W.write_str_gives f.old result
+        (first.now ++ decimal number ++ next.now ++ decimal other ++ last.now) f.new }
 {
-    write_two(f, first, number, second, other)?;
+    write_two(f, first, number, next, other)?;
     f.write_str(last)
 }
 

@@ -1,10 +1,9 @@
 //! The texts of files.
 
 ghost use Rattle.std.specs.Prelude.{◌≡◌, map, OnOk, IfOk, IfErr};
-ghost use Rattle.std.specs.List.{AllZip};
 ghost use Rattle.dude_io.specs.Files.{FilesStay};
-ghost use Rattle.command_edges.specs.Files.{HasReadFault};
-ghost use Rattle.command_edges.specs.Texts.{IsTextOf};
+ghost use Rattle.command_edges.specs.Files.{IsReadFault};
+ghost use Rattle.command_edges.specs.Texts.{AreTextsOf};
 
 use crate::fault::Fault;
 use dude_io::{FileFault, FileText, Files, read_file};
@@ -20,8 +19,8 @@ pub fn read_texts<F: Files, S: AsStr>(
 ) -> Result<Vec<FileText>, Fault>
     ensures stays { FilesStay (F.sight files.old) (F.sight files.new) }
     ensures calm { OnOk result ((F.sight files.new).faults ≡ (F.sight files.old).faults) }
-    ensures read { IfOk result (λ texts. AllZip (IsTextOf (F.sight files.old)) (map S.text names.now) texts.items) }
-    ensures cause { IfErr result (HasReadFault (map S.text names.now) (F.sight files.old) (F.sight files.new)) }
+    ensures read { IfOk result (AreTextsOf (F.sight files.old) (map S.text names.now)) }
+    ensures cause { IfErr result (IsReadFault F.sight (map S.text names.now) files.old files.new) }
 {
     let mut texts = Vec::new(alloc);
     for (index, name) in names.iter().enumerate() {

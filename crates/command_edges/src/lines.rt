@@ -1,9 +1,8 @@
 //! The lines of the requests done and of the last number, handed to a sink in pieces.
 
-ghost use Rattle.std.specs.Prelude.{◌≡◌, ◌++◌, [], OnOk, IfErr};
-ghost use Rattle.tatp_text.specs.Output.{output_line, last_line, output_of};
-ghost use Rattle.dude_io.specs.Sink.{Took};
-ghost use Rattle.command_edges.specs.Printing.{Collects, StopsIn};
+ghost use Rattle.std.specs.Prelude.{OnOk, IfErr};
+ghost use Rattle.tatp_text.specs.Output.{output_of};
+ghost use Rattle.command_edges.specs.Printing.{Gathers, Prints, StopsWithin, with_line, with_last};
 
 use crate::fault::Fault;
 use crate::text::print_text;
@@ -17,8 +16,8 @@ const PIECE: usize = 65_536;
 
 /// Adds the line of a request, and hands the sink what was held back where that is much.
 fn print_line<K: Sink>(done: &Done, text: &mut Vec<u8>, out: &mut K) -> Result<(), Fault>
-    ensures ok { OnOk result (Collects (output_line done.now) text.old.items text.new.items (K.sight out.old) (K.sight out.new)) }
-    ensures err { IfErr result (StopsIn (text.old.items ++ output_line done.now) (K.sight out.old) (K.sight out.new)) }
+    ensures ok { OnOk result (Gathers K.sight done.now text.old text.new out.old out.new) }
+    ensures err { IfErr result (StopsWithin K.sight (with_line text.old done.now) out.old out.new) }
 {
     write_done(done, text)?;
     if text.len() >= PIECE {
@@ -30,8 +29,8 @@ fn print_line<K: Sink>(done: &Done, text: &mut Vec<u8>, out: &mut K) -> Result<(
 
 /// Adds the last line, and hands the sink all.
 fn print_last<K: Sink>(last: u64, text: &mut Vec<u8>, out: &mut K) -> Result<(), Fault>
-    ensures ok { OnOk result (Took (text.old.items ++ last_line last) (K.sight out.old) (K.sight out.new)) }
-    ensures err { IfErr result (StopsIn (text.old.items ++ last_line last) (K.sight out.old) (K.sight out.new)) }
+    ensures ok { OnOk result (Prints K.sight (with_last text.old last) out.old out.new) }
+    ensures err { IfErr result (StopsWithin K.sight (with_last text.old last) out.old out.new) }
 {
     write_last(last, text)?;
     print_text(text, out)
@@ -44,8 +43,8 @@ pub fn print_lines<K: Sink>(
     last: u64,
     out: &mut K,
 ) -> Result<(), Fault>
-    ensures ok { OnOk result (Took (output_of done.now last) (K.sight out.old) (K.sight out.new)) }
-    ensures err { IfErr result (StopsIn (output_of done.now last) (K.sight out.old) (K.sight out.new)) }
+    ensures ok { OnOk result (Prints K.sight (output_of done.now last) out.old out.new) }
+    ensures err { IfErr result (StopsWithin K.sight (output_of done.now last) out.old out.new) }
 {
     let mut text = Vec::new(alloc);
     for entry in done {

@@ -1,9 +1,7 @@
 //! The requests of texts.
 
 ghost use Rattle.std.specs.Prelude.{IfOk, IfErr};
-ghost use Rattle.std.specs.List.{AllZip};
-ghost use Rattle.command_edges.specs.Files.{requests_in};
-ghost use Rattle.command_edges.specs.Texts.{HoldsRequests, IsTextFault, IsFirstTextFault};
+ghost use Rattle.command_edges.specs.Texts.{HoldEachRequests, HoldsRequests, IsTextFault, IsFirstTextFault};
 
 use crate::fault::Fault;
 use dude_io::FileText;
@@ -34,7 +32,7 @@ fn parse_text(alloc: Global, text: &FileText, number: u64) -> Result<Vec<Request
 
 /// The requests of each text. The first bad text ends it.
 pub fn parse_texts(alloc: Global, texts: &[FileText]) -> Result<Vec<Vec<Request>>, Fault>
-    ensures parsed { IfOk result (λ lists. AllZip HoldsRequests texts.now (requests_in lists.items)) }
+    ensures parsed { IfOk result (HoldEachRequests texts.now) }
     ensures cause { IfErr result (IsFirstTextFault texts.now) }
 {
     let mut lists = Vec::new(alloc);

@@ -14,7 +14,7 @@ use Rattle.back_store.specs.declared.back_fault.BackFault.{BackFault}
 use Rattle.back_store.specs.declared.back_fault.BackFault.TheVariants.{RingFull, Device, Dead}
 use Rattle.image_opening.specs.Opened.{HoldsOpened}
 use Rattle.dude_engine.specs.Opening.{Opening}
-use Rattle.command_openings.specs.Begun.{ShowsOpening, TellsAtMost}
+use Rattle.command_openings.specs.Opens.{ShowsOpening, TellsAtMost}
 use Rattle.command_openings.proofs.Images.{idle_end, idle_ends, idle_shows}
 
 pub announced_idle : (v w : BackState) (sizes : Sizes) (number end : ℕ) → v ≡ idle sizes number → IsEnd v end → w ≡ announced v end → w ≡ idle sizes number

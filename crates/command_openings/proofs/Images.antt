@@ -25,7 +25,7 @@ use Rattle.image_opening.specs.Opened.{IsOpened}
 use Rattle.image_format.specs.NewImages.{RecoversOnceTold}
 use Rattle.dude_engine.specs.Opening.{Opening, IsOpening}
 use Rattle.dude_engine.specs.Plain.{IsOpeningOf}
-use Rattle.command_openings.specs.Begun.{ShowsOpening}
+use Rattle.command_openings.specs.Opens.{ShowsOpening}
 use Rattle.command_openings.specs.Openings.{new_opening}
 
 -- There are no more call rows than there is room for.

@@ -1,5 +1,5 @@
 pub mod Images
 pub mod Announced
-pub mod Beginnings
+pub mod ImageOpened
 pub mod OneOpening
 pub mod Results

@@ -1,4 +1,4 @@
--- Why no image was begun, and what is left of the medium then.
+-- Why no image was opened, and what is left of the medium then.
 use Rattle.std.specs.Prelude.{◌≡◌, ◌<◌, ◌≤◌, ⊤, true, false}
 use Rattle.dude_base.specs.declared.sizes.Sizes.{Sizes}
 use Rattle.dude_base.specs.Image.{image_words}
@@ -55,3 +55,11 @@ IsFaultOfFormat (format.Small has needs) fault = fault ≡ Small has needs
 IsFaultOfFormat (format.TooFew rows calls) fault = fault ≡ TooFew rows calls
 IsFaultOfFormat format.Device fault = fault ≡ Device
 IsFaultOfFormat format.NoMemory fault = fault ≡ Memory
+
+-- why no image of these sizes was made on a medium, seen so, which is given back
+abbrev pub IsFormatRefusal : {M : Type 0} → (M → Sight) → Sizes → M → Fault × M → Type 0
+IsFormatRefusal sight sizes medium refused = HasFormatFault sizes (sight medium) (sight refused.1) refused.0
+
+-- why the image on a medium, seen so, isn't open; the medium is given back
+abbrev pub IsOpenRefusal : {M : Type 0} → (M → Sight) → M → Fault × M → Type 0
+IsOpenRefusal sight medium refused = HasOpenFault (sight medium) (sight refused.1) refused.0

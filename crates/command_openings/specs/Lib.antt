@@ -1,3 +1,4 @@
-pub mod Begun
+pub mod Announcing
+pub mod Opens
 pub mod Faults
 pub mod Openings

@@ -1,4 +1,4 @@
-//! The image that a command begins with: made anew, or opened, with its opening number told.
+//! The image that a command works on: made anew, or opened, with its opening number told.
 #![tactic(auto)]
 
 mod made;

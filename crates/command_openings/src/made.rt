@@ -1,16 +1,13 @@
 //! A new image is made on a medium, and opened.
 
-ghost use Rattle.std.specs.Prelude.{◌≡◌, true, IfOk, IfErr, IsTrue};
+ghost use Rattle.std.specs.Prelude.{true, IfOk, IfErr};
 ghost use Rattle.dude_base.specs.Sizes.{IsAccepted};
-ghost use Rattle.pmem_trait.specs.Words.{IsSettled};
-ghost use Rattle.pmem_trait.specs.Sights.{state_now};
-ghost use Rattle.back_store.specs.BackView.{medium_of};
 ghost use Rattle.image_format.specs.Causes.{FitsImage};
 ghost use Rattle.image_opening.specs.Opened.{IsOpened};
 ghost use Rattle.dude_engine.specs.Plain.{IsOpeningOf};
-ghost use Rattle.command_openings.specs.Begun.{Begins, IsBeginning};
-ghost use Rattle.command_openings.specs.Faults.{HasFormatFault, IsFaultOfFormat, IsSized};
-ghost use Rattle.command_openings.specs.Openings.{new_opening};
+ghost use Rattle.command_openings.specs.Opens.{OpensImage, OpensImagePartly};
+ghost use Rattle.command_openings.specs.Faults.{IsFaultOfFormat, IsFormatRefusal, IsSized};
+ghost use Rattle.command_openings.specs.Openings.{IsAtRest, new_opening};
 
 use command_edges::Fault;
 use dude_base::sizes::Sizes;
@@ -40,16 +37,16 @@ pub fn make_and_open<M: Medium>(
     medium: M,
     sizes: &Sizes,
 ) -> Result<Opened<M>, (Fault, M)>
-    requires settled { IsTrue (M.sight medium).is_visible → IsSettled (M.sight medium).len (state_now (M.sight medium)) }
+    requires settled { IsAtRest (M.sight medium) }
     requires accepted { IsAccepted sizes.now }
     ensures opened { IfOk result IsOpened }
     ensures fits { IfOk result (λ o. FitsImage sizes.now (M.sight medium).len) }
-    // At `Ok` the image is begun at the new opening.
+    // At `Ok` the image is opened at the new opening.
     ensures opening { IfOk result (λ o. IsOpeningOf o (new_opening sizes.now)) }
-    ensures begins { IfOk result (λ o. Begins true (new_opening sizes.now) o.words.items (M.sight medium) (M.sight (medium_of o.back))) }
-    // Else a front of that is done.
-    ensures front { IfErr result (λ refused. IsBeginning true (new_opening sizes.now) (M.sight medium) (M.sight refused.1)) }
-    ensures fault { IfErr result (λ refused. HasFormatFault sizes.now (M.sight medium) (M.sight refused.1) refused.0) }
+    ensures is_open { IfOk result (OpensImage M.sight true (new_opening sizes.now) medium) }
+    // Else a prefix of that is done.
+    ensures prefix { IfErr result (OpensImagePartly M.sight true (new_opening sizes.now) medium) }
+    ensures fault { IfErr result (IsFormatRefusal M.sight sizes.now medium) }
 {
     let mut medium = medium;
     let Ok(lay) = Layout::of(sizes) else {

@@ -2,6 +2,7 @@
 use Rattle.std.proofs.lemmas.Bool.{cases_Bool}
 use Rattle.std.proofs.Common.{inl, inr, ℕ, ◌≡◌, ◌^◌, ◌-◌, Bool, true, false, List, [], ◌∷◌, Option, Some, None, refl, arith, codes, drop}
 use Rattle.std.specs.Prelude.{◌==◌, ◌&&◌, if◌then◌else◌}
+use Rattle.dude_base.specs.declared.limits.TheConstants.{MAX_RINGS}
 use Rattle.clap.specs.Walk.{Held, Row, Text, idle, nothing_held, value, walked}
 use Rattle.clap.specs.Simple.{Shape, built, matches_of}
 use Rattle.clap.specs.Faults.{defaults_fault, fault_of, is_simple_and_free, step_fault, walk_fault}
@@ -70,7 +71,7 @@ fault-walk a s b c d n na nb nd =
 -- each number passes its parser
 abbrev drive_passes : Text → Text → Text → Bool
 drive_passes s c n =
-    accepts false (vp.Unsigned 0 (2 ^ 64 - 1)) s && accepts false (vp.Unsigned 0 99_999) c && accepts false (vp.Unsigned 1 16) n
+    accepts false (vp.Unsigned 0 (2 ^ 64 - 1)) s && accepts false (vp.Unsigned 0 99_999) c && accepts false (vp.Unsigned 1 MAX_RINGS) n
 
 -- it fails only where a number doesn't pass
 fault_of-drive : (name : Text) (a : ℕ) (s : Text) (b : ℕ) (c : Text) (d : ℕ) (n : Text)
@@ -83,7 +84,7 @@ fault_of-drive name a s b c d n na nb nd =
       | inr bad ↦ rw bad refl
       | inl one ↦ elim (cases_Bool (accepts false (vp.Unsigned 0 99_999) (b ∷ c))) [
         | inr bad ↦ rw (one, bad) refl
-        | inl two ↦ elim (cases_Bool (accepts false (vp.Unsigned 1 16) (d ∷ n))) [
+        | inl two ↦ elim (cases_Bool (accepts false (vp.Unsigned 1 MAX_RINGS) (d ∷ n))) [
           | inr bad ↦ rw (one, two, bad) refl
           | inl three ↦ rw (one, two, three) refl
         ]
@@ -111,8 +112,8 @@ all-pass true true false s c n = none-last s c
 drive_of-parsed : (s c n : Text) → is_number s ≡ true → is_number c ≡ true → is_number n ≡ true
     → drive_of (s ∷ c ∷ n ∷ []) ≡ (if drive_passes s c n then drive_in (drive_rows s c n) else None)
 drive_of-parsed s c n one two three =
-    rw (word_number-parsed 0 (2 ^ 64 - 1) s (omega arith) one, word_number-parsed 0 99_999 c (omega arith) two, word_number-parsed 1 16 n (omega arith) three)
-    (all-pass (accepts false (vp.Unsigned 0 (2 ^ 64 - 1)) s) (accepts false (vp.Unsigned 0 99_999) c) (accepts false (vp.Unsigned 1 16) n)
+    rw (word_number-parsed 0 (2 ^ 64 - 1) s (omega arith) one, word_number-parsed 0 99_999 c (omega arith) two, word_number-parsed 1 MAX_RINGS n (omega arith) three)
+    (all-pass (accepts false (vp.Unsigned 0 (2 ^ 64 - 1)) s) (accepts false (vp.Unsigned 0 99_999) c) (accepts false (vp.Unsigned 1 MAX_RINGS) n)
     (parsed_number s) (parsed_number c) (parsed_number n))
 
 three-numbers : (name : Text) (a : ℕ) (s : Text) (b : ℕ) (c : Text) (d : ℕ) (n : Text)

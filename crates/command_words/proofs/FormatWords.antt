@@ -2,6 +2,7 @@
 use Rattle.std.proofs.lemmas.Bool.{cases_Bool}
 use Rattle.std.proofs.Common.{inl, inr, ℕ, ◌≡◌, Bool, true, false, List, [], ◌∷◌, Option, Some, None, refl, arith, codes, drop}
 use Rattle.std.specs.Prelude.{◌==◌, ◌&&◌, if◌then◌else◌}
+use Rattle.dude_base.specs.declared.limits.TheConstants.{MAX_RINGS}
 use Rattle.clap.specs.Walk.{Held, Row, Text, idle, nothing_held, value, walked}
 use Rattle.clap.specs.Simple.{Shape, built, matches_of}
 use Rattle.clap.specs.Faults.{defaults_fault, fault_of, is_simple_and_free, step_fault, walk_fault}
@@ -83,7 +84,7 @@ fault-walk a s b c d n f k na nb nd nf =
 -- each number passes its parser
 abbrev format_passes : Text → Text → Text → Text → Bool
 format_passes s c n k =
-    accepts false (vp.Unsigned 1 10_000) s && accepts false (vp.Unsigned 1 120_000) c && accepts false (vp.Unsigned 1 16) n && accepts false (vp.Unsigned 16 4_096) k
+    accepts false (vp.Unsigned 1 10_000) s && accepts false (vp.Unsigned 1 120_000) c && accepts false (vp.Unsigned 1 MAX_RINGS) n && accepts false (vp.Unsigned 16 4_096) k
 
 -- it fails only where a number doesn't pass
 fault_of-format : (name : Text) (a : ℕ) (s : Text) (b : ℕ) (c : Text) (d : ℕ) (n : Text) (f : ℕ) (k : Text)
@@ -96,7 +97,7 @@ fault_of-format name a s b c d n f k na nb nd nf =
       | inr bad ↦ rw bad refl
       | inl one ↦ elim (cases_Bool (accepts false (vp.Unsigned 1 120_000) (b ∷ c))) [
         | inr bad ↦ rw (one, bad) refl
-        | inl two ↦ elim (cases_Bool (accepts false (vp.Unsigned 1 16) (d ∷ n))) [
+        | inl two ↦ elim (cases_Bool (accepts false (vp.Unsigned 1 MAX_RINGS) (d ∷ n))) [
           | inr bad ↦ rw (one, two, bad) refl
           | inl three ↦ elim (cases_Bool (accepts false (vp.Unsigned 16 4_096) (f ∷ k))) [
             | inr bad ↦ rw (one, two, three, bad) refl
@@ -134,8 +135,8 @@ all-pass true true true false s c n k = none-last s c n
 format_of-parsed : (s c n k : Text) → is_number s ≡ true → is_number c ≡ true → is_number n ≡ true → is_number k ≡ true
     → format_of (s ∷ c ∷ n ∷ k ∷ []) ≡ (if format_passes s c n k then format_in (format_rows s c n k) else None)
 format_of-parsed s c n k one two three four =
-    rw (word_number-parsed 1 10_000 s (omega arith) one, word_number-parsed 1 120_000 c (omega arith) two, word_number-parsed 1 16 n (omega arith) three, word_number-parsed 16 4_096 k (omega arith) four)
-    (all-pass (accepts false (vp.Unsigned 1 10_000) s) (accepts false (vp.Unsigned 1 120_000) c) (accepts false (vp.Unsigned 1 16) n) (accepts false (vp.Unsigned 16 4_096) k)
+    rw (word_number-parsed 1 10_000 s (omega arith) one, word_number-parsed 1 120_000 c (omega arith) two, word_number-parsed 1 MAX_RINGS n (omega arith) three, word_number-parsed 16 4_096 k (omega arith) four)
+    (all-pass (accepts false (vp.Unsigned 1 10_000) s) (accepts false (vp.Unsigned 1 120_000) c) (accepts false (vp.Unsigned 1 MAX_RINGS) n) (accepts false (vp.Unsigned 16 4_096) k)
     (parsed_number s) (parsed_number c) (parsed_number n) (parsed_number k))
 
 four-numbers : (name : Text) (a : ℕ) (s : Text) (b : ℕ) (c : Text) (d : ℕ) (n : Text) (f : ℕ) (k : Text)

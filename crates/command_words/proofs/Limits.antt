@@ -7,6 +7,7 @@ use Rattle.std.specs.Rc.{rc_str_bytes}
 use Rattle.std.proofs.lemmas.Bool.Decides.{nat_tests}
 use Rattle.std.proofs.lemmas.Grind.{common_steps}
 use Rattle.std.proofs.lemmas.List.{length-map}
+use Rattle.dude_base.specs.declared.limits.TheConstants.{MAX_RINGS}
 use Rattle.tatp_text.specs.Number.{is_decimal}
 use Rattle.command_words.specs.declared.command.Command.{Command}
 use Rattle.command_words.specs.declared.command.Command.TheVariants as command
@@ -16,11 +17,11 @@ use Rattle.command_words.specs.Command.{Meaning, FreshRun, FormatImage, RunFiles
 abbrev pub IsLawful : Meaning → Type 0
 IsLawful (FreshRun subscribers file) = IsBetween 1 10_000 subscribers
 IsLawful (FormatImage subscribers calls rings cells) =
-    IsBetween 1 10_000 subscribers × IsBetween 1 120_000 calls × IsBetween 1 16 rings × IsBetween 16 4_096 cells
+    IsBetween 1 10_000 subscribers × IsBetween 1 120_000 calls × IsBetween 1 MAX_RINGS rings × IsBetween 16 4_096 cells
 IsLawful (RunFiles frames locks files) = IfSome frames (IsBetween 1 32_768) × IfSome locks (IsBetween 1 65_536) × (0 < length files)
 IsLawful RecoverImage = ⊤
 IsLawful DumpTables = ⊤
-IsLawful (DriveLoad seed count files) = (seed < 2 ^ 64) × (count ≤ 99_999) × IsBetween 1 16 files
+IsLawful (DriveLoad seed count files) = (seed < 2 ^ 64) × (count ≤ 99_999) × IsBetween 1 MAX_RINGS files
 
 abbrev pub AreLawful : Option Meaning → Type 0
 AreLawful meaning = IfSome meaning IsLawful
@@ -57,7 +58,7 @@ fresh-lawful (s ∷ file ∷ []) =
     (fresh-mapped (word_number 1 10_000 s) file (word-between 1 10_000 s)) tt
 fresh-lawful (s ∷ file ∷ x ∷ more) = tt
 
-format-with : (s c n k : Option ℕ) → IfSome s (IsBetween 1 10_000) → IfSome c (IsBetween 1 120_000) → IfSome n (IsBetween 1 16) → IfSome k (IsBetween 16 4_096)
+format-with : (s c n k : Option ℕ) → IfSome s (IsBetween 1 10_000) → IfSome c (IsBetween 1 120_000) → IfSome n (IsBetween 1 MAX_RINGS) → IfSome k (IsBetween 16 4_096)
     → AreLawful (format_with s c n k)
 format-with (Some s) (Some c) (Some n) (Some k) p q r t = (p, q, r, t)
 format-with None c n k p q r t = tt
@@ -71,8 +72,8 @@ format-lawful (s ∷ []) = tt
 format-lawful (s ∷ c ∷ []) = tt
 format-lawful (s ∷ c ∷ n ∷ []) = tt
 format-lawful (s ∷ c ∷ n ∷ k ∷ []) =
-    format-with (word_number 1 10_000 s) (word_number 1 120_000 c) (word_number 1 16 n) (word_number 16 4_096 k)
-    (word-between 1 10_000 s) (word-between 1 120_000 c) (word-between 1 16 n) (word-between 16 4_096 k)
+    format-with (word_number 1 10_000 s) (word_number 1 120_000 c) (word_number 1 MAX_RINGS n) (word_number 16 4_096 k)
+    (word-between 1 10_000 s) (word-between 1 120_000 c) (word-between 1 MAX_RINGS n) (word-between 16 4_096 k)
 format-lawful (s ∷ c ∷ n ∷ k ∷ x ∷ more) = tt
 
 optional-mapped : (low high : ℕ) (number : Option ℕ) → IfSome number (IsBetween low high)
@@ -99,7 +100,7 @@ run-lawful words =
     run-with (optional_number 1 32_768 given.frames) (optional_number 1 65_536 given.locks) given.files
     (optional-between 1 32_768 given.frames) (optional-between 1 65_536 given.locks)
 
-drive-with : (s c n : Option ℕ) → IfSome s (IsBetween 0 (2 ^ 64 - 1)) → IfSome c (IsBetween 0 99_999) → IfSome n (IsBetween 1 16)
+drive-with : (s c n : Option ℕ) → IfSome s (IsBetween 0 (2 ^ 64 - 1)) → IfSome c (IsBetween 0 99_999) → IfSome n (IsBetween 1 MAX_RINGS)
     → AreLawful (drive_with s c n)
 drive-with (Some s) (Some c) (Some n) p q r =
     let below = p.1 in
@@ -113,8 +114,8 @@ drive-lawful [] = tt
 drive-lawful (s ∷ []) = tt
 drive-lawful (s ∷ c ∷ []) = tt
 drive-lawful (s ∷ c ∷ n ∷ []) =
-    drive-with (word_number 0 (2 ^ 64 - 1) s) (word_number 0 99_999 c) (word_number 1 16 n)
-    (word-between 0 (2 ^ 64 - 1) s) (word-between 0 99_999 c) (word-between 1 16 n)
+    drive-with (word_number 0 (2 ^ 64 - 1) s) (word_number 0 99_999 c) (word_number 1 MAX_RINGS n)
+    (word-between 0 (2 ^ 64 - 1) s) (word-between 0 99_999 c) (word-between 1 MAX_RINGS n)
 drive-lawful (s ∷ c ∷ n ∷ x ∷ more) = tt
 
 pub alone-lawful : (meaning : Meaning) (words : List (List ℕ)) → IsLawful meaning → AreLawful (alone meaning words)

@@ -3,6 +3,7 @@ use Rattle.std.specs.Prelude.{ℕ, ◌≡◌, ◌≢◌, ◌^◌, ◌-◌, Bool,
 use Rattle.std.specs.List.{list_all}
 use Rattle.std.specs.Char.{digit_value}
 use Rattle.std.specs.Str.Parse.{digits_value, without_leading_plus}
+use Rattle.dude_base.specs.declared.limits.TheConstants.{MAX_RINGS}
 use Rattle.clap.specs.Walk.{Rule, Text, Row, first_of, one_of}
 use Rattle.clap.specs.Simple.{App, new_app, new_rule, with_rule}
 use Rattle.clap.specs.Lexer.{usize_max}
@@ -45,7 +46,7 @@ format_app =
     with_rule (with_rule (with_rule (with_rule (new_app (codes "format"))
     (number_rule (codes "subscribers") 1 10_000))
     (number_rule (codes "calls") 1 120_000))
-    (number_rule (codes "rings") 1 16))
+    (number_rule (codes "rings") 1 MAX_RINGS))
     (number_rule (codes "cells") 16 4_096)
 
 -- `run`: an option for the frames, one for the locks, and one or more files
@@ -59,7 +60,7 @@ drive_app =
     with_rule (with_rule (with_rule (new_app (codes "drive"))
     (number_rule (codes "seed") 0 (2 ^ 64 - 1)))
     (number_rule (codes "count") 0 99_999))
-    (number_rule (codes "files") 1 16)
+    (number_rule (codes "files") 1 MAX_RINGS)
 
 -- ---- the form of the words that `clap` is given: the program's name, then these
 
@@ -94,10 +95,14 @@ has_run_form given = is_number_or_absent given.frames && is_number_or_absent giv
 
 -- ---- what is read
 
+-- what was matched, a row for each argument
+abbrev pub matched_rows : ArgMatches → List Row
+matched_rows matches = rows_of (found_of matches)
+
 -- it gives matches of these words, or none where it refuses them
 abbrev pub IsReading : App → List Text → Option ArgMatches → Type 0
 IsReading app words found =
-    MatchOption found (fault_of app words ≢ []) (λ matches. (fault_of app words ≡ []) × (rows_of (found_of matches) ≡ matches_of app words))
+    MatchOption found (fault_of app words ≢ []) (λ matches. (fault_of app words ≡ []) × (matched_rows matches ≡ matches_of app words))
 
 -- the number that `u64` reads from a text
 abbrev pub parsed_number : Text → Option ℕ

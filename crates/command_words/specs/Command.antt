@@ -1,9 +1,10 @@
 -- What command words mean.
-use Rattle.std.specs.Prelude.{ℕ, ◌<◌, ◌≤◌, ◌^◌, ◌-◌, ⊤, Bool, false, not, ◌==◌, ◌&&◌, Option, Some, None, IfSome, if◌then◌else◌, List, [], ◌∷◌, length, map, codes}
+use Rattle.std.specs.Prelude.{ℕ, ◌≡◌, ◌<◌, ◌≤◌, ◌^◌, ◌-◌, ⊤, Bool, false, not, ◌==◌, ◌&&◌, Option, Some, None, IfSome, if◌then◌else◌, List, [], ◌∷◌, length, drop, map, codes}
 use Rattle.std.specs.List.{list_all}
 use Rattle.std.specs.Option.{option_map}
 use Rattle.std.specs.Rc.{rc_str_bytes}
 use Rattle.std.specs.Str.{bytes_eq}
+use Rattle.dude_base.specs.declared.limits.TheConstants.{MAX_RINGS}
 use Rattle.tatp_text.specs.Number.{number_in}
 use Rattle.command_words.specs.declared.command.Command.{Command}
 use Rattle.command_words.specs.declared.command.Command.TheVariants.{Fresh, Format, Run, Recover, Dump, Drive}
@@ -55,7 +56,7 @@ format_with _ _ _ _ = None
 -- `format S C N CELLS`
 abbrev pub format_of : List (List ℕ) → Option Meaning
 format_of (subscribers ∷ calls ∷ rings ∷ cells ∷ []) =
-    format_with (word_number 1 10_000 subscribers) (word_number 1 120_000 calls) (word_number 1 16 rings) (word_number 16 4_096 cells)
+    format_with (word_number 1 10_000 subscribers) (word_number 1 120_000 calls) (word_number 1 MAX_RINGS rings) (word_number 16 4_096 cells)
 format_of _ = None
 
 -- what `run` is given: the words of its options' numbers, where they stand, and its files
@@ -117,7 +118,7 @@ drive_with _ _ _ = None
 -- `drive SEED COUNT FILES`
 abbrev pub drive_of : List (List ℕ) → Option Meaning
 drive_of (seed ∷ count ∷ files ∷ []) =
-    drive_with (word_number 0 (2 ^ 64 - 1) seed) (word_number 0 99_999 count) (word_number 1 16 files)
+    drive_with (word_number 0 (2 ^ 64 - 1) seed) (word_number 0 99_999 count) (word_number 1 MAX_RINGS files)
 drive_of _ = None
 
 -- ---- all commands
@@ -143,6 +144,18 @@ meaning_of_command Recover = RecoverImage
 meaning_of_command Dump = DumpTables
 meaning_of_command (Drive seed count files) = DriveLoad seed count files
 
+-- a command of the code, or none, means this
+abbrev pub HasMeaning : Option Meaning → Option Command → Type 0
+HasMeaning meaning command = option_map meaning_of_command command ≡ meaning
+
+-- what words mean behind the first one, which names the command
+abbrev pub behind_name : (List (List ℕ) → Option Meaning) → List (List ℕ) → Option Meaning
+behind_name meaning words = meaning (drop 1 words)
+
+-- a command with no word behind its name, or none
+abbrev pub IsAlone : List (List ℕ) → Command → Option Command → Type 0
+IsAlone words command result = HasMeaning (behind_name (alone (meaning_of_command command)) words) result
+
 -- a number is from the least to the greatest
 abbrev pub IsBetween : ℕ → ℕ → ℕ → Type 0
 IsBetween least greatest number = (least ≤ number) × (number ≤ greatest)
@@ -151,9 +164,9 @@ IsBetween least greatest number = (least ≤ number) × (number ≤ greatest)
 abbrev pub IsInLimits : Command → Type 0
 IsInLimits (Fresh subscribers file) = IsBetween 1 10_000 subscribers
 IsInLimits (Format subscribers calls rings cells) =
-    IsBetween 1 10_000 subscribers × IsBetween 1 120_000 calls × IsBetween 1 16 rings × IsBetween 16 4_096 cells
+    IsBetween 1 10_000 subscribers × IsBetween 1 120_000 calls × IsBetween 1 MAX_RINGS rings × IsBetween 16 4_096 cells
 IsInLimits (Run frames locks files) =
     IfSome frames (IsBetween 1 32_768) × IfSome locks (IsBetween 1 65_536) × (0 < length files.now)
 IsInLimits Recover = ⊤
 IsInLimits Dump = ⊤
-IsInLimits (Drive seed count files) = (seed < 2 ^ 64) × (count ≤ 99_999) × IsBetween 1 16 files
+IsInLimits (Drive seed count files) = (seed < 2 ^ 64) × (count ≤ 99_999) × IsBetween 1 MAX_RINGS files

@@ -1,9 +1,8 @@
 //! What the command words mean.
 
-ghost use Rattle.std.specs.Prelude.{◌≡◌, drop, map, IfOk, IfSome};
-ghost use Rattle.std.specs.Option.{option_map};
+ghost use Rattle.std.specs.Prelude.{map, IfOk, IfSome};
 ghost use Rattle.std.specs.Rc.{rc_str_bytes};
-ghost use Rattle.command_words.specs.Command.{meaning_of, meaning_of_command, alone, IsInLimits};
+ghost use Rattle.command_words.specs.Command.{HasMeaning, IsAlone, IsInLimits, meaning_of};
 
 use crate::drive::drive_of;
 use crate::format::format_of;
@@ -13,7 +12,7 @@ use std::alloc::{AllocError, Global};
 use std::rc::RcStr;
 
 /// What the program is to do.
-#[derive(Clone, Copy, Debug, PartialEq, Eq)]
+#[derive(Clone, Copy, Debug)]
 pub enum Command<'a> {
     /// Format the medium for so many subscribers, from 1 to 10,000, and run
     /// the requests of the file.
@@ -50,7 +49,7 @@ pub enum Command<'a> {
 
 /// The command that the words mean; none where they are refused.
 pub fn command_of(alloc: Global, words: &[RcStr]) -> Result<Option<Command<'_>>, AllocError>
-    ensures meaning { IfOk result (λ command. option_map meaning_of_command command ≡ meaning_of (map rc_str_bytes words.now)) }
+    ensures meaning { IfOk result (HasMeaning (meaning_of (map rc_str_bytes words.now))) }
     ensures limits { IfOk result (λ command. IfSome command IsInLimits) }
 {
     let Some(name) = words.first() else {
@@ -69,7 +68,7 @@ pub fn command_of(alloc: Global, words: &[RcStr]) -> Result<Option<Command<'_>>,
 
 // A command with no word behind its name.
 fn alone<'a>(words: &[RcStr], command: Command<'a>) -> Option<Command<'a>>
-    ensures { option_map meaning_of_command result ≡ alone (meaning_of_command command.entry) (drop 1 (map rc_str_bytes words.now)) }
+    ensures { IsAlone (map rc_str_bytes words.now) command.entry result }
 {
     match words {
         [_, _, ..] => None,

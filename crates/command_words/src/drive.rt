@@ -1,11 +1,9 @@
 //! `drive SEED COUNT FILES`.
 
-ghost use Rattle.std.specs.Prelude.{◌≡◌, true, drop, map, IfOk};
-ghost use Rattle.std.specs.Option.{option_map};
+ghost use Rattle.std.specs.Prelude.{◌≡◌, true, map, IfOk};
 ghost use Rattle.std.specs.Rc.{rc_str_bytes};
-ghost use Rattle.clap.specs.Words.{found_of, rows_of};
-ghost use Rattle.command_words.specs.Command.{drive_of, meaning_of_command};
-ghost use Rattle.command_words.specs.Clap.{drive_in, has_drive_form};
+ghost use Rattle.command_words.specs.Command.{HasMeaning, behind_name, drive_of};
+ghost use Rattle.command_words.specs.Clap.{drive_in, has_drive_form, matched_rows};
 
 use crate::command::Command;
 use crate::form::is_number;
@@ -21,7 +19,7 @@ const MAX_COUNT: u64 = 99_999;
 
 /// The command that the words behind the name mean.
 pub fn drive_of(alloc: Global, words: &[RcStr]) -> Result<Option<Command<'_>>, AllocError>
-    ensures { IfOk result (λ command. option_map meaning_of_command command ≡ drive_of (drop 1 (map rc_str_bytes words.now))) }
+    ensures { IfOk result (HasMeaning (behind_name drive_of (map rc_str_bytes words.now))) }
 {
     match words {
         [_, seed, count, files] if is_number(seed) && is_number(count) && is_number(files) => {
@@ -34,7 +32,7 @@ pub fn drive_of(alloc: Global, words: &[RcStr]) -> Result<Option<Command<'_>>, A
 // The same, by `clap`, of words that have the form.
 fn read_drive(alloc: Global, words: &[RcStr]) -> Result<Option<Command<'_>>, AllocError>
     requires { has_drive_form (map rc_str_bytes words.now) ≡ true }
-    ensures { IfOk result (λ command. option_map meaning_of_command command ≡ drive_of (drop 1 (map rc_str_bytes words.now))) }
+    ensures { IfOk result (HasMeaning (behind_name drive_of (map rc_str_bytes words.now))) }
 {
     // A load has at most a file for each ring.
     let numbers = [
@@ -62,7 +60,7 @@ fn read_drive(alloc: Global, words: &[RcStr]) -> Result<Option<Command<'_>>, All
 
 // The command that the matches say.
 fn drive_in<'a>(matches: &ArgMatches<'_>) -> Option<Command<'a>>
-    ensures { option_map meaning_of_command result ≡ drive_in (rows_of (found_of matches.now)) }
+    ensures { HasMeaning (drive_in (matched_rows matches.now)) result }
 {
     let seed = number_at(matches, "seed")?;
     let count = number_at(matches, "count")?;

@@ -1,10 +1,10 @@
 //! The form of single words.
 
 ghost use Rattle.std.specs.Prelude.{◌≡◌, map};
-ghost use Rattle.std.specs.Option.{option_map};
 ghost use Rattle.std.specs.Rc.{rc_str_bytes};
 ghost use Rattle.command_words.specs.Command.{is_file_name, are_file_names};
 ghost use Rattle.command_words.specs.Clap.{is_number, is_number_or_absent};
+ghost use Rattle.command_words.specs.Run.{text_of};
 
 use std::rc::RcStr;
 
@@ -29,7 +29,7 @@ pub fn is_number(word: &RcStr) -> bool
 
 /// A number that may be left out.
 pub fn is_number_or_absent(word: Option<&RcStr>) -> bool
-    ensures { result ≡ is_number_or_absent (option_map (λ number. rc_str_bytes number.now) word.entry) }
+    ensures { result ≡ is_number_or_absent (text_of rc_str_bytes word.entry) }
 {
     match word {
         Some(number) => is_number(number),

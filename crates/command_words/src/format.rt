@@ -1,11 +1,9 @@
 //! `format S C N CELLS`.
 
-ghost use Rattle.std.specs.Prelude.{◌≡◌, true, drop, map, IfOk};
-ghost use Rattle.std.specs.Option.{option_map};
+ghost use Rattle.std.specs.Prelude.{◌≡◌, true, map, IfOk};
 ghost use Rattle.std.specs.Rc.{rc_str_bytes};
-ghost use Rattle.clap.specs.Words.{found_of, rows_of};
-ghost use Rattle.command_words.specs.Command.{format_of, meaning_of_command};
-ghost use Rattle.command_words.specs.Clap.{format_in, has_format_form};
+ghost use Rattle.command_words.specs.Command.{HasMeaning, behind_name, format_of};
+ghost use Rattle.command_words.specs.Clap.{format_in, has_format_form, matched_rows};
 
 use crate::command::Command;
 use crate::form::is_number;
@@ -18,7 +16,7 @@ use std::rc::RcStr;
 
 /// The command that the words behind the name mean.
 pub fn format_of(alloc: Global, words: &[RcStr]) -> Result<Option<Command<'_>>, AllocError>
-    ensures { IfOk result (λ command. option_map meaning_of_command command ≡ format_of (drop 1 (map rc_str_bytes words.now))) }
+    ensures { IfOk result (HasMeaning (behind_name format_of (map rc_str_bytes words.now))) }
 {
     match words {
         [_, subscribers, calls, rings, cells]
@@ -31,7 +29,7 @@ pub fn format_of(alloc: Global, words: &[RcStr]) -> Result<Option<Command<'_>>, 
 // The same, by `clap`, of words that have the form.
 fn read_format(alloc: Global, words: &[RcStr]) -> Result<Option<Command<'_>>, AllocError>
     requires { has_format_form (map rc_str_bytes words.now) ≡ true }
-    ensures { IfOk result (λ command. option_map meaning_of_command command ≡ format_of (drop 1 (map rc_str_bytes words.now))) }
+    ensures { IfOk result (HasMeaning (behind_name format_of (map rc_str_bytes words.now))) }
 {
     let numbers = [
         Number {
@@ -63,7 +61,7 @@ fn read_format(alloc: Global, words: &[RcStr]) -> Result<Option<Command<'_>>, Al
 
 // The command that the matches say.
 fn format_in<'a>(matches: &ArgMatches<'_>) -> Option<Command<'a>>
-    ensures { option_map meaning_of_command result ≡ format_in (rows_of (found_of matches.now)) }
+    ensures { HasMeaning (format_in (matched_rows matches.now)) result }
 {
     let subscribers = number_at(matches, "subscribers")?;
     let calls = number_at(matches, "calls")?;

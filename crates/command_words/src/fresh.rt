@@ -1,11 +1,10 @@
 //! `fresh S FILE`.
 
-ghost use Rattle.std.specs.Prelude.{◌≡◌, false, true, drop, map, IfOk};
-ghost use Rattle.std.specs.Option.{option_map};
+ghost use Rattle.std.specs.Prelude.{◌≡◌, false, true, map, IfOk};
 ghost use Rattle.std.specs.Rc.{rc_str_bytes};
-ghost use Rattle.clap.specs.Words.{app_of, found_of, rows_of, rule_of};
-ghost use Rattle.command_words.specs.Command.{fresh_of, meaning_of_command};
-ghost use Rattle.command_words.specs.Clap.{file_rule, fresh_app, fresh_in, has_fresh_form};
+ghost use Rattle.clap.specs.Words.{app_of, rule_of};
+ghost use Rattle.command_words.specs.Command.{HasMeaning, behind_name, fresh_of};
+ghost use Rattle.command_words.specs.Clap.{file_rule, fresh_app, fresh_in, has_fresh_form, matched_rows};
 
 use crate::command::Command;
 use crate::form::{is_file_name, is_number};
@@ -17,7 +16,7 @@ use std::rc::RcStr;
 
 /// The command that the words behind the name mean.
 pub fn fresh_of(alloc: Global, words: &[RcStr]) -> Result<Option<Command<'_>>, AllocError>
-    ensures { IfOk result (λ command. option_map meaning_of_command command ≡ fresh_of (drop 1 (map rc_str_bytes words.now))) }
+    ensures { IfOk result (HasMeaning (behind_name fresh_of (map rc_str_bytes words.now))) }
 {
     match words {
         [_, subscribers, file] if is_number(subscribers) && is_file_name(file) => {
@@ -30,7 +29,7 @@ pub fn fresh_of(alloc: Global, words: &[RcStr]) -> Result<Option<Command<'_>>, A
 // The same, by `clap`, of words that have the form.
 fn read_fresh(alloc: Global, words: &[RcStr]) -> Result<Option<Command<'_>>, AllocError>
     requires { has_fresh_form (map rc_str_bytes words.now) ≡ true }
-    ensures { IfOk result (λ command. option_map meaning_of_command command ≡ fresh_of (drop 1 (map rc_str_bytes words.now))) }
+    ensures { IfOk result (HasMeaning (behind_name fresh_of (map rc_str_bytes words.now))) }
 {
     match matches_in(fresh_command(alloc)?, words)? {
         Some(matches) => Ok(fresh_in(&matches)),
@@ -40,7 +39,7 @@ fn read_fresh(alloc: Global, words: &[RcStr]) -> Result<Option<Command<'_>>, All
 
 // The command that the matches say.
 fn fresh_in<'a>(matches: &ArgMatches<'a>) -> Option<Command<'a>>
-    ensures { option_map meaning_of_command result ≡ fresh_in (rows_of (found_of matches.now)) }
+    ensures { HasMeaning (fresh_in (matched_rows matches.now)) result }
 {
     let subscribers = number_at(matches, "subscribers")?;
     let file = text_at(matches, "file")?;

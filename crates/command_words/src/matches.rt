@@ -3,8 +3,8 @@
 ghost use Rattle.std.specs.Prelude.{◌≡◌, map, IfOk, true, false};
 ghost use Rattle.std.specs.Option.{option_map};
 ghost use Rattle.std.specs.Rc.{rc_str_bytes};
-ghost use Rattle.clap.specs.Words.{app_of, first_of, found_of, is_simple_and_free, rows_of, rule_of};
-ghost use Rattle.command_words.specs.Clap.{IsReading, number_of, number_rule};
+ghost use Rattle.clap.specs.Words.{app_of, first_of, is_simple_and_free, rule_of};
+ghost use Rattle.command_words.specs.Clap.{IsReading, matched_rows, number_of, number_rule};
 
 use clap::builder::ValueParser;
 use clap::error::ErrorKind;
@@ -41,14 +41,14 @@ pub fn number<'a>(alloc: Global, id: &'a str, low: u64, high: u64) -> Arg<'a>
 
 /// The number that an argument has.
 pub fn number_at(matches: &ArgMatches<'_>, id: &str) -> Option<u64>
-    ensures { result ≡ number_of id.now (rows_of (found_of matches.now)) }
+    ensures { result ≡ number_of id.now (matched_rows matches.now) }
 {
     matches.get_one::<u64>(id)
 }
 
 /// The text that an argument has.
 pub fn text_at<'a>(matches: &ArgMatches<'a>, id: &str) -> Option<&'a str>
-    ensures { option_map (λ text. text.now) result ≡ first_of id.now (rows_of (found_of matches.now)) }
+    ensures { option_map (λ text. text.now) result ≡ first_of id.now (matched_rows matches.now) }
 {
     matches.get_str(id)
 }

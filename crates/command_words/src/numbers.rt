@@ -3,8 +3,7 @@
 ghost use Rattle.std.specs.Prelude.{◌≡◌, true, map, IfOk};
 ghost use Rattle.std.specs.Rc.{rc_str_bytes};
 ghost use Rattle.clap.specs.Words.{app_of, is_simple_and_free};
-ghost use Rattle.command_words.specs.Clap.{IsReading};
-ghost use Rattle.command_words.specs.Numbers.{numbers_app};
+ghost use Rattle.command_words.specs.Numbers.{ReadsAll, numbers_app};
 
 use crate::matches::{matches_in, number};
 use clap::{ArgMatches, Command};
@@ -27,7 +26,7 @@ pub fn numbers_in<'a>(
     words: &'a [RcStr],
 ) -> Result<Option<ArgMatches<'a>>, AllocError>
     requires { is_simple_and_free (numbers_app name.now numbers.now) ≡ true }
-    ensures { IfOk result (IsReading (numbers_app name.entry.now numbers.now) (map rc_str_bytes words.entry.now)) }
+    ensures { IfOk result (ReadsAll name.entry.now numbers.now (map rc_str_bytes words.entry.now)) }
 {
     matches_in(numbers_command(alloc, name, numbers)?, words)
 }

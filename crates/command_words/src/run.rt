@@ -1,10 +1,9 @@
 //! `run`, with its two options and one or more files.
 
-ghost use Rattle.std.specs.Prelude.{◌≡◌, false, drop, map, IfOk};
-ghost use Rattle.std.specs.Option.{option_map};
+ghost use Rattle.std.specs.Prelude.{◌≡◌, false, map, IfOk};
 ghost use Rattle.std.specs.Rc.{rc_str_bytes};
 ghost use Rattle.clap.specs.Words.{app_of, rule_of};
-ghost use Rattle.command_words.specs.Command.{behind_frames, behind_locks, meaning_of_command, run_of, run_words};
+ghost use Rattle.command_words.specs.Command.{HasMeaning, behind_frames, behind_locks, behind_name, run_of, run_words};
 ghost use Rattle.command_words.specs.Clap.{files_rule, has_run_form, option_rule, run_app};
 ghost use Rattle.command_words.specs.Run.{as_words};
 
@@ -30,7 +29,7 @@ struct RunWords<'a> {
 
 /// The command that the words behind the name mean.
 pub fn run_of(alloc: Global, words: &[RcStr]) -> Result<Option<Command<'_>>, AllocError>
-    ensures { IfOk result (λ command. option_map meaning_of_command command ≡ run_of (drop 1 (map rc_str_bytes words.now))) }
+    ensures { IfOk result (HasMeaning (behind_name run_of (map rc_str_bytes words.now))) }
 {
     let Some((_, behind)) = words.split_first() else {
         return Ok(None);
@@ -72,17 +71,17 @@ fn run_words(words: &[RcStr]) -> RunWords<'_>
     }
 }
 
-fn behind_frames<'a>(frames: &'a RcStr, words: &'a [RcStr]) -> RunWords<'a>
-    ensures { as_words result ≡ behind_frames (rc_str_bytes frames.now) (map rc_str_bytes words.now) }
+fn behind_frames<'a>(word: &'a RcStr, rest: &'a [RcStr]) -> RunWords<'a>
+    ensures { as_words result ≡ behind_frames (rc_str_bytes word.now) (map rc_str_bytes rest.now) }
 {
-    match words {
+    match rest {
         [option, locks, files @ ..] if option.as_str() == "--locks" => RunWords {
-            frames: Some(frames),
+            frames: Some(word),
             locks: Some(locks),
             files,
         },
         files => RunWords {
-            frames: Some(frames),
+            frames: Some(word),
             locks: None,
             files,
         },

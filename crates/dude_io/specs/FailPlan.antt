@@ -1,7 +1,7 @@
 -- Which calls on a thing in memory fail.
 use Rattle.std.specs.Prelude.{◌≡◌, ◌==◌, ℕ, ◌+◌, Bool, List}
 use Rattle.std.specs.List.{list_any}
-use Rattle.pmem_trait.specs.Faults.{up_to_last}
+use Rattle.pmem_trait.specs.Faults.{up_to_last, faults_after}
 use Rattle.dude_io.specs.declared.fail_plan.FailPlan.{FailPlan}
 
 -- the number of the next call
@@ -12,9 +12,10 @@ next_call plan = up_to_last (plan.made + 1)
 abbrev pub is_next_to_fail : FailPlan → Bool
 is_next_to_fail plan = list_any (λ number. number == next_call plan) plan.fail.items
 
--- one call was counted, and the plan stays
-pub record CountsCall (old new : FailPlan) : Type 0 where
+-- one call was counted, and a fault exactly where it failed; the plan stays
+pub record CountsCall (ok : Bool) (old new : FailPlan) : Type 0 where
   pub made : new.made ≡ next_call old
+  pub faults : new.faults.count ≡ faults_after ok old.faults.count
   pub fail : new.fail.items ≡ old.fail.items
   pub chunk : new.chunk ≡ old.chunk
 

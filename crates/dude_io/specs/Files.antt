@@ -31,6 +31,6 @@ pub record Gave (name : List ℕ) (at n : ℕ) (old new : List ℕ) (s t : Files
   pub told : IsTrue s.is_visible → IsSomeAnd (s.text name) (λ text. GivesBytes text at n old new)
 
 -- one read: it is answered, or it failed, and then the count of faults rose
-abbrev pub ReadsFile : List ℕ → ℕ → List ℕ → List ℕ → Result ℕ Failed → FilesSight → FilesSight → Type 0
-ReadsFile name at old new (Ok n) s t = Gave name at n old new s t
-ReadsFile name at old new (Err e) s t = FilesStay s t × Risen s.faults t.faults
+abbrev pub FileRead : List ℕ → ℕ → List ℕ → List ℕ → Result ℕ Failed → FilesSight → FilesSight → Type 0
+FileRead name at old new (Ok n) s t = Gave name at n old new s t
+FileRead name at old new (Err e) s t = FilesStay s t × Risen s.faults t.faults

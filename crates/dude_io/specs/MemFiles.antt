@@ -1,11 +1,12 @@
 -- What clauses see of files in memory.
-use Rattle.std.specs.Prelude.{◌≡◌, ℕ, List, true}
+use Rattle.std.specs.Prelude.{◌≡◌, ℕ, ◌-◌, min, ◌||◌, Bool, true, List, length, is_none, IfSome, Result}
+use Rattle.pmem_trait.specs.declared.failed.Failed.{Failed}
 use Rattle.dude_io.specs.declared.mem_file.MemFile.{MemFile}
 use Rattle.dude_io.specs.declared.mem_files.MemFiles.{MemFiles}
 use Rattle.dude_io.specs.declared.fail_plan.FailPlan.{FailPlan}
-use Rattle.dude_io.specs.Files.{FilesSight}
+use Rattle.dude_io.specs.Files.{FilesSight, FileRead}
 use Rattle.dude_io.specs.MemFile.{text_of}
-use Rattle.dude_io.specs.FailPlan.{IsNewPlan}
+use Rattle.dude_io.specs.FailPlan.{IsNewPlan, is_next_to_fail}
 
 -- they tell their texts
 abbrev pub files_sight : MemFiles → FilesSight
@@ -19,3 +20,17 @@ files_plan m = m.plan
 pub record IsNewFiles (files : List MemFile) (most : ℕ) (failing : List ℕ) (m : MemFiles) : Type 0 where
   pub text : (files_sight m).text ≡ text_of files
   pub plan : IsNewPlan most failing (files_plan m)
+
+-- one read of these files: of the name, from a byte on, into a buffer that holds the first bytes and then the second
+abbrev pub ReadsMemFile : List ℕ → ℕ → List ℕ → List ℕ → Result ℕ Failed → MemFiles → MemFiles → Type 0
+ReadsMemFile name at old new result before after =
+    FileRead name at old new result (files_sight before) (files_sight after)
+
+-- a read of this name fails: it is to fail, or the file isn't there
+abbrev pub read_fails : MemFiles → List ℕ → Bool
+read_fails m name = is_next_to_fail (files_plan m) || is_none ((files_sight m).text name)
+
+-- a read gives as many bytes as the plan, the buffer and the text allow
+abbrev pub GivesMost : MemFiles → List ℕ → ℕ → List ℕ → ℕ → Type 0
+GivesMost m name at into n =
+    IfSome ((files_sight m).text name) (λ text. n ≡ min (files_plan m).chunk (min (length into) (length text - at)))

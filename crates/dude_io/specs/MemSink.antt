@@ -1,9 +1,9 @@
 -- What clauses see of a sink in memory.
-use Rattle.std.specs.Prelude.{◌≡◌, ℕ, ◌-◌, List, [], length, true}
+use Rattle.std.specs.Prelude.{◌≡◌, ℕ, ◌-◌, ◌==◌, min, ◌||◌, Bool, true, List, [], length}
 use Rattle.dude_io.specs.declared.mem_sink.MemSink.{MemSink}
 use Rattle.dude_io.specs.declared.fail_plan.FailPlan.{FailPlan}
 use Rattle.dude_io.specs.Sink.{SinkSight}
-use Rattle.dude_io.specs.FailPlan.{IsNewPlan}
+use Rattle.dude_io.specs.FailPlan.{IsNewPlan, is_next_to_fail}
 
 -- it tells what it took
 abbrev pub sink_sight : MemSink → SinkSight
@@ -22,3 +22,11 @@ pub record IsNewSink (size most : ℕ) (failing : List ℕ) (m : MemSink) : Type
   pub taken : (sink_sight m).taken ≡ []
   pub room : room_left m ≡ size
   pub plan : IsNewPlan most failing (sink_plan m)
+
+-- a write fails: it is to fail, or no room is left
+abbrev pub write_fails : MemSink → Bool
+write_fails m = is_next_to_fail (sink_plan m) || room_left m == 0
+
+-- how many bytes of a piece a write takes: as many as the plan, the piece and the room allow
+abbrev pub most_taken : MemSink → List ℕ → ℕ
+most_taken m piece = min (sink_plan m).chunk (min (length piece) (room_left m))

@@ -16,9 +16,9 @@ pub struct FailPlan {
 }
 
 impl FailPlan {
-    ghost use Rattle.std.specs.Prelude.{◌≡◌, ◌+◌, ◌≤◌, if◌then◌else◌};
-    ghost use Rattle.pmem_trait.specs.Faults.{up_to_last};
-    ghost use Rattle.dude_io.specs.FailPlan.{is_next_to_fail, next_call};
+    ghost use Rattle.std.specs.Prelude.{◌≡◌, ◌≤◌, not, false};
+    ghost use Rattle.pmem_trait.specs.Faults.{faults_after};
+    ghost use Rattle.dude_io.specs.FailPlan.{is_next_to_fail, CountsCall};
 
     pub(crate) fn new(fail: Vec<u64>, chunk: u64) -> Self
         requires { 1 ≤ chunk }
@@ -38,10 +38,7 @@ impl FailPlan {
     /// Counts a call, and says whether the plan fails it; then a fault is counted too.
     pub(crate) fn fails_next(&mut self) -> bool
         ensures fails { result ≡ is_next_to_fail self.old }
-        ensures made { self.new.made ≡ next_call self.old }
-        ensures faults { self.new.faults.count ≡ (if result then up_to_last (self.old.faults.count + 1) else self.old.faults.count) }
-        ensures fail { self.new.fail ≡ self.old.fail }
-        ensures chunk { self.new.chunk ≡ self.old.chunk }
+        ensures counts { CountsCall (not result) self.old self.new }
     {
         self.made = self.made.saturating_add(1);
         let fails = self.fail.contains(&self.made);
@@ -53,7 +50,7 @@ impl FailPlan {
 
     /// Counts a fault.
     pub(crate) fn count_fault(&mut self)
-        ensures faults { self.new.faults.count ≡ up_to_last (self.old.faults.count + 1) }
+        ensures faults { self.new.faults.count ≡ faults_after false self.old.faults.count }
         ensures made { self.new.made ≡ self.old.made }
         ensures fail { self.new.fail ≡ self.old.fail }
         ensures chunk { self.new.chunk ≡ self.old.chunk }

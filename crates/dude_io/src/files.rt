@@ -1,7 +1,7 @@
 //! The trait of files that are read by name.
 
 ghost use Rattle.std.specs.Prelude.{◌<◌, length};
-ghost use Rattle.dude_io.specs.Files.{FilesSight, ReadsFile};
+ghost use Rattle.dude_io.specs.Files.{FilesSight, FileRead};
 
 use pmem_trait::Failed;
 
@@ -15,5 +15,5 @@ pub trait Files {
     /// and `into` may hold anything.
     fn read(&mut self, name: &str, at: u64, into: &mut [u8]) -> Result<u64, Failed>
         requires { 0 < length into.old }
-        ensures { ReadsFile name.now at into.old into.new result (sight self.old) (sight self.new) };
+        ensures { FileRead name.now at into.old into.new result (sight self.old) (sight self.new) };
 }

@@ -35,24 +35,18 @@ impl MemFiles {
 }
 
 impl Files for MemFiles {
-    ghost use Rattle.std.specs.Prelude.{◌≡◌, ◌<◌, ◌-◌, min, length, is_ok, is_err, is_none, ◌||◌, IfOk, IfSome};
-    ghost use Rattle.pmem_trait.specs.Faults.{faults_after};
-    ghost use Rattle.dude_io.specs.Files.{ReadsFile};
-    ghost use Rattle.dude_io.specs.FailPlan.{is_next_to_fail, CountsCall};
-    ghost use Rattle.dude_io.specs.MemFiles.{files_sight, files_plan};
+    ghost use Rattle.std.specs.Prelude.{◌≡◌, ◌<◌, length, is_ok, is_err, IfOk};
+    ghost use Rattle.dude_io.specs.FailPlan.{CountsCall};
+    ghost use Rattle.dude_io.specs.MemFiles.{files_sight, files_plan, read_fails, ReadsMemFile, GivesMost};
 
     ghost sight = { files_sight };
 
     fn read(&mut self, name: &str, at: u64, into: &mut [u8]) -> Result<u64, Failed>
         requires { 0 < length into.old }
-        ensures reads { ReadsFile name.now at into.old into.new result (files_sight self.old) (files_sight self.new) }
-
-        // It fails exactly where it is to fail or the file isn't there.
-        ensures fails { is_err result ≡ (is_next_to_fail (files_plan self.old) || is_none ((files_sight self.old).text name.now)) }
-        ensures faults { (files_sight self.new).faults ≡ faults_after (is_ok result) (files_sight self.old).faults }
-        ensures most { IfOk result (λ n. IfSome ((files_sight self.old).text name.now) (λ text.
-            n ≡ min (files_plan self.old).chunk (min (length into.old) (length text - at)))) }
-        ensures counts { CountsCall (files_plan self.old) (files_plan self.new) }
+        ensures reads { ReadsMemFile name.now at into.old into.new result self.old self.new }
+        ensures fails { is_err result ≡ read_fails self.old name.now }
+        ensures most { IfOk result (GivesMost self.old name.now at into.old) }
+        ensures counts { CountsCall (is_ok result) (files_plan self.old) (files_plan self.new) }
     {
         if self.plan.fails_next() {
             return Err(Failed);

@@ -44,23 +44,19 @@ impl MemSink {
 }
 
 impl Sink for MemSink {
-    ghost use Rattle.std.specs.Prelude.{◌≡◌, ◌<◌, ◌-◌, ◌==◌, min, length, is_ok, is_err, ◌||◌, IfOk};
-    ghost use Rattle.pmem_trait.specs.Faults.{faults_after};
+    ghost use Rattle.std.specs.Prelude.{◌≡◌, ◌<◌, length, is_ok, is_err, IfOk};
     ghost use Rattle.dude_io.specs.Sink.{WritesSink};
-    ghost use Rattle.dude_io.specs.FailPlan.{is_next_to_fail, CountsCall};
-    ghost use Rattle.dude_io.specs.MemSink.{sink_sight, sink_plan, room_left};
+    ghost use Rattle.dude_io.specs.FailPlan.{CountsCall};
+    ghost use Rattle.dude_io.specs.MemSink.{sink_sight, sink_plan, write_fails, most_taken};
 
     ghost sight = { sink_sight };
 
     fn write(&mut self, piece: &[u8]) -> Result<u64, Failed>
         requires { 0 < length piece.now }
         ensures writes { WritesSink piece.now result (sink_sight self.old) (sink_sight self.new) }
-
-        // It fails exactly where it is to fail or no room is left.
-        ensures fails { is_err result ≡ (is_next_to_fail (sink_plan self.old) || room_left self.old == 0) }
-        ensures faults { (sink_sight self.new).faults ≡ faults_after (is_ok result) (sink_sight self.old).faults }
-        ensures most { IfOk result (λ n. n ≡ min (sink_plan self.old).chunk (min (length piece.now) (room_left self.old))) }
-        ensures counts { CountsCall (sink_plan self.old) (sink_plan self.new) }
+        ensures fails { is_err result ≡ write_fails self.old }
+        ensures most { IfOk result (λ n. n ≡ most_taken self.old piece.now) }
+        ensures counts { CountsCall (is_ok result) (sink_plan self.old) (sink_plan self.new) }
     {
         if self.plan.fails_next() {
             return Err(Failed);

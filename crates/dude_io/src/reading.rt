@@ -1,8 +1,8 @@
 //! A file is read to its end, or until it is longer than a limit.
 
-ghost use Rattle.std.specs.Prelude.{◌≡◌, OnOk, IfOk, IfErr, IsTrue, IsSomeAnd};
+ghost use Rattle.std.specs.Prelude.{◌≡◌, OnOk, IfOk, IfErr};
 ghost use Rattle.dude_io.specs.Files.{FilesStay};
-ghost use Rattle.dude_io.specs.FileText.{IsBounded, IsReadFault, HoldsText};
+ghost use Rattle.dude_io.specs.FileText.{IsBounded, IsReadFault, IsFileText};
 
 use crate::{FileFault, FileText, Files};
 use std::alloc::Global;
@@ -23,10 +23,9 @@ pub fn read_file<F: Files>(
     ensures bounded { IfOk result (IsBounded limit) }
 
     // Where the texts are told, a file that isn't there has no text, and is too long exactly over the limit.
-    ensures text { IfOk result (λ found. IsTrue (F.sight files.old).is_visible →
-        IsSomeAnd ((F.sight files.old).text name.now) (HoldsText limit found)) }
+    ensures text { IfOk result (IsFileText limit (F.sight files.old) name.now) }
     ensures calm { OnOk result ((F.sight files.new).faults ≡ (F.sight files.old).faults) }
-    ensures cause { IfErr result (IsReadFault (F.sight files.old).faults (F.sight files.new).faults) }
+    ensures cause { IfErr result (IsReadFault (F.sight files.old) (F.sight files.new)) }
 {
     let mut bytes = Vec::new(alloc);
     let mut piece = [0; PIECE];

@@ -30,17 +30,14 @@ impl<R: FileSystem> RealFiles<R> {
 }
 
 impl<R: FileSystem> Files for RealFiles<R> {
-    ghost use Rattle.std.specs.Prelude.{◌≡◌, ◌<◌, length, is_ok};
-    ghost use Rattle.pmem_trait.specs.Faults.{faults_after};
-    ghost use Rattle.dude_io.specs.Files.{ReadsFile};
-    ghost use Rattle.dude_io.specs.Silent.{real_files_sight};
+    ghost use Rattle.std.specs.Prelude.{◌<◌, length};
+    ghost use Rattle.dude_io.specs.Silent.{real_files_sight, ReadsRealFile};
 
     ghost sight = { real_files_sight };
 
     fn read(&mut self, name: &str, at: u64, into: &mut [u8]) -> Result<u64, Failed>
         requires { 0 < length into.old }
-        ensures reads { ReadsFile name.now at into.old into.new result (real_files_sight self.old) (real_files_sight self.new) }
-        ensures faults { (real_files_sight self.new).faults ≡ faults_after (is_ok result) (real_files_sight self.old).faults }
+        ensures { ReadsRealFile name.now at into.old into.new result self.old self.new }
     {
         match read_at(&self.rt, name, at, into) {
             Ok(given) => Ok(given as u64),

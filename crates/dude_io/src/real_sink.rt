@@ -26,18 +26,15 @@ impl<R: Print> RealSink<R> {
 }
 
 impl<R: Print> Sink for RealSink<R> {
-    ghost use Rattle.std.specs.Prelude.{◌≡◌, ◌<◌, length, is_ok};
-    ghost use Rattle.pmem_trait.specs.Faults.{faults_after};
-    ghost use Rattle.dude_io.specs.Sink.{WritesSink};
-    ghost use Rattle.dude_io.specs.Silent.{real_sink_sight};
+    ghost use Rattle.std.specs.Prelude.{◌<◌, length};
+    ghost use Rattle.dude_io.specs.Silent.{real_sink_sight, WritesRealSink};
 
     ghost sight = { real_sink_sight };
 
     /// Nothing taken is a fault too.
     fn write(&mut self, piece: &[u8]) -> Result<u64, Failed>
         requires { 0 < length piece.now }
-        ensures writes { WritesSink piece.now result (real_sink_sight self.old) (real_sink_sight self.new) }
-        ensures faults { (real_sink_sight self.new).faults ≡ faults_after (is_ok result) (real_sink_sight self.old).faults }
+        ensures { WritesRealSink piece.now result self.old self.new }
     {
         match self.rt.write_some(piece) {
             Ok(taken) if taken > 0 => Ok(taken as u64),

@@ -1,5 +1,6 @@
 -- What clauses see of a medium that tells no content.
-use Rattle.std.specs.Prelude.{ℕ, false, []}
+use Rattle.std.specs.Prelude.{◌≡◌, ℕ, Bool, false, []}
+use Rattle.pmem_trait.specs.Faults.{faults_after}
 use Rattle.pmem_trait.specs.Words.{settled_at}
 use Rattle.pmem_trait.specs.Sights.{Sight}
 use Rattle.file_pmem.specs.declared.clock.Clock.{Clock}
@@ -15,3 +16,8 @@ silent_medium len clock = record {
   lists_calls = false;
   made = [];
 }
+
+-- no moment passed, and a fault was counted exactly where it failed
+pub record CountsOutcome (ok : Bool) (old new : Clock) : Type 0 where
+  pub now : new.now ≡ old.now
+  pub faults : new.faults.count ≡ faults_after ok old.faults.count

@@ -1,11 +1,16 @@
 -- What clauses see of a medium in a file.
-use Rattle.std.specs.Prelude.{◌≡◌, ℕ, List}
-use Rattle.pmem_trait.specs.Sights.{Sight}
+use Rattle.std.specs.Prelude.{◌≡◌, ◌==◌, ◌&&◌, ℕ, ◌-◌, ◌^◌, nat_lt, Bool, if◌then◌else◌, List, [], slice_set}
+use Rattle.pmem_trait.specs.declared.call.Call.{Call}
+use Rattle.pmem_trait.specs.Faults.{faults_after}
+use Rattle.pmem_trait.specs.Sights.{Sight, OneCall}
 use Rattle.file_pmem.specs.declared.file_pmem.FilePmem.{FilePmem}
 use Rattle.file_pmem.specs.declared.line.Line.{Line}
+use Rattle.file_pmem.specs.declared.spill.Spill.{Spill}
 use Rattle.file_pmem.specs.declared.spill.Spill.TheVariants.{Lost}
 use Rattle.file_pmem.specs.Clock.{silent_medium}
 use Rattle.file_pmem.specs.FileWords.{words_of}
+use Rattle.file_pmem.specs.Line.{NotesLine}
+use Rattle.file_pmem.specs.Spill.{spill_more}
 use Rattle.file_pmem.specs.WriteCache.{note_room}
 
 -- its length, its moment and its faults
@@ -27,3 +32,39 @@ pmem_room medium = note_room medium.cache
 -- a fence failed that should have synced lines that are noted no more
 abbrev pub HasLostLines : {R F D : Type 0} → FilePmem R F D → Type 0
 HasLostLines medium = medium.spill ≡ Lost
+
+-- a medium that was just opened: no call on it so far and no fault, no line noted, and room for all notes
+pub record IsJustOpened {R F D : Type 0} (medium : FilePmem R F D) : Type 0 where
+  pub now : (pmem_sight medium).now ≡ 0
+  pub faults : (pmem_sight medium).faults ≡ 0
+  pub room : pmem_room medium ≡ 4096
+  pub noted : noted_lines medium ≡ []
+
+-- one call: it is as the model has it, and a fault is counted exactly where it fails
+pub record MakesCall {R F D : Type 0} (c : Call) (ok : Bool) (old new : FilePmem R F D) : Type 0 where
+  pub models : OneCall c ok (pmem_sight old) (pmem_sight new)
+  pub faults : (pmem_sight new).faults ≡ faults_after ok (pmem_sight old).faults
+
+-- a moment is left for a call
+abbrev pub has_moment : {R F D : Type 0} → FilePmem R F D → Bool
+has_moment medium = nat_lt (pmem_sight medium).now (2 ^ 64 - 1)
+
+-- its words once a value was put in one
+abbrev pub words_put : {R F D : Type 0} → ℕ → ℕ → FilePmem R F D → List ℕ
+words_put at value medium = slice_set (cached_words medium) at value
+
+-- the room for notes once there is some: where none was left, the notes were dropped
+abbrev pub room_made : {R F D : Type 0} → FilePmem R F D → ℕ
+room_made medium = if pmem_room medium == 0 then 4096 else pmem_room medium
+
+-- the lines that are still noted once there is room for a note
+abbrev pub notes_left : {R F D : Type 0} → FilePmem R F D → List Line
+notes_left medium = if pmem_room medium == 0 then [] else noted_lines medium
+
+-- a line of its words was noted behind those that are left
+abbrev pub NotesNext : {R F D : Type 0} → ℕ → FilePmem R F D → FilePmem R F D → Type 0
+NotesNext line old new = NotesLine (cached_words old) line (notes_left old) (noted_lines new)
+
+-- what became of lines once room was made, or that failed
+abbrev pub spill_made : {R F D : Type 0} → Bool → FilePmem R F D → Spill
+spill_made ok medium = if ok && pmem_room medium == 0 then spill_more medium.spill else medium.spill

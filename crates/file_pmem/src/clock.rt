@@ -1,3 +1,5 @@
+//! The moment of a medium in a file, and the count of its faults.
+
 ghost use Rattle.std.specs.Prelude.{◌^◌, ◌<◌};
 
 use pmem_trait::{Failed, FaultCount};

@@ -1,3 +1,5 @@
+//! Why an image file is not open.
+
 ghost use Rattle.std.specs.Prelude.{◌≡◌};
 ghost use Rattle.file_pmem.specs.declared.edge_fault.EdgeFault.TheVariants.{Failed as EdgeFailed, NoMemory};
 

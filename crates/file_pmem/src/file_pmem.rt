@@ -1,3 +1,5 @@
+//! The medium in a file: words in memory, of which a fence writes the noted lines.
+
 use crate::clock::Clock;
 use crate::edge_fault::EdgeFault;
 use crate::image_file;
@@ -30,8 +32,8 @@ impl<R: FileSystem + AllocGlobal + Eprint + Drop> FilePmem<R>
 where
     R::File: Lock,
 {
-    ghost use Rattle.std.specs.Prelude.{◌≡◌, IfOk, []};
-    ghost use Rattle.file_pmem.specs.FilePmem.{pmem_room, noted_lines};
+    ghost use Rattle.std.specs.Prelude.{IfOk};
+    ghost use Rattle.file_pmem.specs.FilePmem.{IsJustOpened};
 
     /// Opens the image of this path, and locks it until the medium is dropped. Where there is no file, one of 33,554,432
     /// zero bytes is made, whole or not at all. Bytes behind the last whole word stay as they are. A file that another
@@ -40,10 +42,7 @@ where
     /// After an `Err` a file that was there is as it was. Where there was none, the new one may be there, whole; or a
     /// part of it under its own name with `.new` and a number behind, where that couldn't be removed.
     pub fn open(rt: R, name: &str) -> Result<FilePmem<R>, EdgeFault>
-        ensures now { IfOk result (λ medium. (⟦<FilePmem<R> as Medium>⟧.sight medium).now ≡ 0) }
-        ensures faults { IfOk result (λ medium. (⟦<FilePmem<R> as Medium>⟧.sight medium).faults ≡ 0) }
-        ensures room { IfOk result (λ medium. pmem_room medium ≡ 4096) }
-        ensures noted { IfOk result (λ medium. noted_lines medium ≡ []) }
+        ensures opened { IfOk result (λ medium. IsJustOpened medium) }
     {
         let mut file = image_file::open(&rt, name)?;
         let words = image_file::read_words(rt.alloc(), &mut file)?;
@@ -59,10 +58,10 @@ where
 }
 
 impl<R: FileSystem> FilePmem<R> {
-    ghost use Rattle.std.specs.Prelude.{◌≡◌, ◌<◌, ◌==◌, OnOk, OnErr, IsOk, [], is_ok, ◌&&◌, false, if◌then◌else◌};
-    ghost use Rattle.pmem_trait.specs.Faults.{faults_after};
-    ghost use Rattle.file_pmem.specs.FilePmem.{pmem_room, noted_lines, HasLostLines};
-    ghost use Rattle.file_pmem.specs.Spill.{spill_fenced, spill_more};
+    ghost use Rattle.std.specs.Prelude.{◌≡◌, ◌<◌, OnOk, OnErr, IsOk, [], is_ok, false, if◌then◌else◌};
+    ghost use Rattle.file_pmem.specs.Clock.{CountsOutcome};
+    ghost use Rattle.file_pmem.specs.FilePmem.{pmem_room, noted_lines, HasLostLines, room_made, notes_left, spill_made};
+    ghost use Rattle.file_pmem.specs.Spill.{spill_fenced};
 
     /// Writes the noted lines and syncs the file. Nothing is synced where lines may be lost.
     fn write_and_sync(&mut self) -> io::Result<()>
@@ -86,8 +85,7 @@ impl<R: FileSystem> FilePmem<R> {
         ensures room { OnOk result (pmem_room self.new ≡ 4096) }
         ensures lost { HasLostLines self.old → is_ok result ≡ false }
         ensures spill { self.new.spill ≡ spill_fenced (is_ok result) self.old.spill }
-        ensures now { self.new.clock.now ≡ self.old.clock.now }
-        ensures faults { self.new.clock.faults.count ≡ faults_after (is_ok result) self.old.clock.faults.count }
+        ensures clock { CountsOutcome (is_ok result) self.old.clock self.new.clock }
     {
         let settled = self.write_and_sync().is_ok();
         self.spill = self.spill.fenced(settled);
@@ -102,13 +100,12 @@ impl<R: FileSystem> FilePmem<R> {
     /// Sees to it that there is room for a note: where none is left, the lines noted before are written.
     fn make_room(&mut self) -> Result<(), Failed>
         ensures succeeds { 0 < pmem_room self.old → IsOk result }
-        ensures room { OnOk result (pmem_room self.new ≡ (if pmem_room self.old == 0 then 4096 else pmem_room self.old)) }
-        ensures made { OnOk result (noted_lines self.new ≡ (if pmem_room self.old == 0 then [] else noted_lines self.old)) }
+        ensures room { OnOk result (pmem_room self.new ≡ room_made self.old) }
+        ensures made { OnOk result (noted_lines self.new ≡ notes_left self.old) }
         ensures kept { OnErr result (noted_lines self.new ≡ noted_lines self.old) }
         ensures words { self.new.cache.words ≡ self.old.cache.words }
-        ensures spill { self.new.spill ≡ (if is_ok result && pmem_room self.old == 0 then spill_more self.old.spill else self.old.spill) }
-        ensures now { self.new.clock.now ≡ self.old.clock.now }
-        ensures faults { self.new.clock.faults.count ≡ faults_after (is_ok result) self.old.clock.faults.count }
+        ensures spill { self.new.spill ≡ spill_made (is_ok result) self.old }
+        ensures clock { CountsOutcome (is_ok result) self.old.clock self.new.clock }
     {
         if !self.cache.is_full() {
             return Ok(());
@@ -124,13 +121,9 @@ impl<R: FileSystem> FilePmem<R> {
 }
 
 impl<R: FileSystem + Eprint> Medium for FilePmem<R> {
-    ghost use Rattle.std.specs.Prelude.{◌≡◌, ◌+◌, ◌-◌, ◌*◌, ◌^◌, ◌<◌, ◌≤◌, ◌==◌, nat_lt, is_ok, IfOk, IsTrue, OnOk, MatchResult, false, [], slice_index, slice_set, if◌then◌else◌};
+    ghost use Rattle.std.specs.Prelude.{◌≡◌, ◌+◌, ◌-◌, ◌*◌, ◌<◌, ◌≤◌, is_ok, IfOk, OnOk, OnErr, false, [], slice_index, if◌then◌else◌};
     ghost use Rattle.pmem_trait.specs.declared.call.Call.TheVariants.{Read, Put, Flush, Fence, Tell};
-    ghost use Rattle.pmem_trait.specs.Words.{value_of};
-    ghost use Rattle.pmem_trait.specs.Sights.{state_now, OneCall};
-    ghost use Rattle.pmem_trait.specs.Faults.{faults_after};
-    ghost use Rattle.file_pmem.specs.FilePmem.{pmem_sight, pmem_room, cached_words, noted_lines, HasLostLines};
-    ghost use Rattle.file_pmem.specs.Line.{NotesLine};
+    ghost use Rattle.file_pmem.specs.FilePmem.{pmem_sight, pmem_room, cached_words, noted_lines, room_made, has_moment, HasLostLines, MakesCall, NotesNext, words_put};
     ghost use Rattle.std.proofs.Common.{rules};
 
     ghost sight = { pmem_sight };
@@ -145,9 +138,7 @@ impl<R: FileSystem + Eprint> Medium for FilePmem<R> {
 
     fn read(&mut self, at: u64) -> Result<u64, Failed>
         requires { at < (pmem_sight self.old).len }
-        ensures one_call { OneCall (Read at) (is_ok result) (pmem_sight self.old) (pmem_sight self.new) }
-        ensures value { IfOk result (λ v. IsTrue (pmem_sight self.old).is_visible → v ≡ value_of ((state_now (pmem_sight self.old)).word at)) }
-        ensures faults { (pmem_sight self.new).faults ≡ faults_after (is_ok result) (pmem_sight self.old).faults }
+        ensures one_call { MakesCall (Read at) (is_ok result) self.old self.new }
         ensures word { IfOk result (λ v. v ≡ slice_index (cached_words self.old) at) }
         ensures words { cached_words self.new ≡ cached_words self.old }
         ensures noted { noted_lines self.new ≡ noted_lines self.old }
@@ -158,9 +149,9 @@ impl<R: FileSystem + Eprint> Medium for FilePmem<R> {
 
     fn put(&mut self, at: u64, value: u64) -> Result<(), Failed>
         requires { at < (pmem_sight self.old).len }
-        ensures one_call { OneCall (Put at value) (is_ok result) (pmem_sight self.old) (pmem_sight self.new) }
-        ensures faults { (pmem_sight self.new).faults ≡ faults_after (is_ok result) (pmem_sight self.old).faults }
-        ensures words { cached_words self.new ≡ (if is_ok result then slice_set (cached_words self.old) at value else cached_words self.old) }
+        ensures one_call { MakesCall (Put at value) (is_ok result) self.old self.new }
+        ensures put { OnOk result (cached_words self.new ≡ words_put at value self.old) }
+        ensures not_put { OnErr result (cached_words self.new ≡ cached_words self.old) }
         ensures noted { noted_lines self.new ≡ noted_lines self.old }
     {
         self.clock.tick()?;
@@ -170,18 +161,16 @@ impl<R: FileSystem + Eprint> Medium for FilePmem<R> {
 
     fn flush(&mut self, line: u64) -> Result<(), Failed>
         requires { 8 * line + 8 ≤ (pmem_sight self.old).len }
-        ensures one_call { OneCall (Flush line) (is_ok result) (pmem_sight self.old) (pmem_sight self.new) }
-        ensures faults { (pmem_sight self.new).faults ≡ faults_after (is_ok result) (pmem_sight self.old).faults }
+        ensures one_call { MakesCall (Flush line) (is_ok result) self.old self.new }
         ensures words { cached_words self.new ≡ cached_words self.old }
 
         // With no room left the lines noted before are written first.
-        ensures noted { MatchResult result
-            (λ _. NotesLine (cached_words self.old) line (if pmem_room self.old == 0 then [] else noted_lines self.old) (noted_lines self.new))
-            (λ _. noted_lines self.new ≡ noted_lines self.old) }
+        ensures noted { OnOk result (NotesNext line self.old self.new) }
+        ensures not_noted { OnErr result (noted_lines self.new ≡ noted_lines self.old) }
 
         // Where there is room for the note, it fails only since no moment is left.
-        ensures fails { 0 < pmem_room self.old → is_ok result ≡ nat_lt (pmem_sight self.old).now (2 ^ 64 - 1) }
-        ensures room { OnOk result (pmem_room self.new ≡ (if pmem_room self.old == 0 then 4096 else pmem_room self.old) - 1) }
+        ensures fails { 0 < pmem_room self.old → is_ok result ≡ has_moment self.old }
+        ensures room { OnOk result (pmem_room self.new ≡ room_made self.old - 1) }
     {
         self.clock.tick()?;
         self.make_room()?;
@@ -190,8 +179,7 @@ impl<R: FileSystem + Eprint> Medium for FilePmem<R> {
     }
 
     fn fence(&mut self) -> Result<(), Failed>
-        ensures one_call { OneCall Fence (is_ok result) (pmem_sight self.old) (pmem_sight self.new) }
-        ensures faults { (pmem_sight self.new).faults ≡ faults_after (is_ok result) (pmem_sight self.old).faults }
+        ensures one_call { MakesCall Fence (is_ok result) self.old self.new }
         ensures words { cached_words self.new ≡ cached_words self.old }
         ensures noted { noted_lines self.new ≡ (if is_ok result then [] else noted_lines self.old) }
         ensures room { OnOk result (pmem_room self.new ≡ 4096) }
@@ -205,8 +193,7 @@ impl<R: FileSystem + Eprint> Medium for FilePmem<R> {
     }
 
     fn tell(&mut self, number: u64) -> Result<(), Failed>
-        ensures one_call { OneCall (Tell number) (is_ok result) (pmem_sight self.old) (pmem_sight self.new) }
-        ensures faults { (pmem_sight self.new).faults ≡ faults_after (is_ok result) (pmem_sight self.old).faults }
+        ensures one_call { MakesCall (Tell number) (is_ok result) self.old self.new }
         ensures words { cached_words self.new ≡ cached_words self.old }
         ensures noted { noted_lines self.new ≡ noted_lines self.old }
     {

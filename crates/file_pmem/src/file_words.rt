@@ -1,3 +1,5 @@
+//! The words of a file, of which the last ones may be 0 without being stored.
+
 ghost use Rattle.std.specs.Prelude.{◌≡◌, ◌/◌, ◌++◌, ◌+◌, ◌^◌, ◌<◌, ◌≤◌, IsTrue, length, map, replicate, vec_len, vec_capacity};
 ghost use Rattle.std.specs.Int.{w64, from_le_bytes};
 ghost use Rattle.std.specs.Simd.{first_chunks};

@@ -1,3 +1,5 @@
+//! How an image file is opened, made, read and written (trusted).
+
 ghost use Rattle.std.specs.Prelude.{◌≡◌, ◌*◌, ◌<◌, ◌≤◌, length, IfOk, flat_map};
 ghost use Rattle.file_pmem.specs.Line.{line_bytes, IsRun};
 

@@ -1,3 +1,5 @@
+//! A line as it stood when it was flushed, and its bytes.
+
 ghost use Rattle.std.specs.Prelude.{◌^◌, ◌<◌};
 
 /// Words of a line.

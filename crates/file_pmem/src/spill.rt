@@ -1,3 +1,5 @@
+//! What became of the lines that were written for want of room.
+
 /// What became of the lines that were written for want of room, with no sync of their own.
 #[derive(Clone, Copy)]
 pub enum Spill {

@@ -1,3 +1,5 @@
+//! The words of an image file in memory, and the lines that were noted.
+
 ghost use Rattle.std.specs.Prelude.{◌≤◌, vec_len, vec_capacity};
 
 use crate::file_words::FileWords;
@@ -20,8 +22,7 @@ pub struct WriteCache {
 impl WriteCache {
     ghost use Rattle.std.specs.Prelude.{◌≡◌, ◌+◌, ◌-◌, ◌*◌, ◌<◌, ◌≤◌, [], IfOk, slice_index, slice_set, ◌==◌};
     ghost use Rattle.file_pmem.specs.FileWords.{words_of};
-    ghost use Rattle.file_pmem.specs.Line.{NotesLine};
-    ghost use Rattle.file_pmem.specs.WriteCache.{note_room};
+    ghost use Rattle.file_pmem.specs.WriteCache.{note_room, NotesOwnLine};
 
     /// These words, with no line noted and room for the notes.
     pub(crate) fn new(alloc: Global, words: FileWords) -> Result<WriteCache, AllocError>
@@ -66,7 +67,7 @@ impl WriteCache {
     pub(crate) fn note(&mut self, number: u64)
         requires inside { 8 * number + 8 ≤ self.old.words.count }
         requires room { 0 < note_room self.old }
-        ensures noted { NotesLine (words_of self.old.words) number self.old.noted.items self.new.noted.items }
+        ensures noted { NotesOwnLine number self.old self.new }
         ensures room { note_room self.new ≡ note_room self.old - 1 }
         ensures words { words_of self.new.words ≡ words_of self.old.words }
         ensures len { self.new.words.count ≡ self.old.words.count }

@@ -9,6 +9,8 @@ use Rattle.pmem_trait.specs.Words.{IsSettled, IsSettledWord, HalfDone, last_told
 use Rattle.pmem_trait.specs.Faults.{faults_after}
 use Rattle.pmem_trait.specs.Sights.{Sight, state_now, CallEffect, OneCall}
 use Rattle.pmem_fake.specs.declared.call_history.CallHistory.{CallHistory}
+use Rattle.pmem_fake.specs.declared.mem_pmem.MemPmem.{MemPmem}
+use Rattle.pmem_fake.specs.Fakes.{sight, MakesCall}
 use Rattle.pmem_fake.specs.CallHistory.{is_to_fail, is_ok_at, has_next_effect, Entered}
 use Rattle.pmem_fake.specs.History.{IsUntouched, was_effective, step_made, start_state, after_made, sight_of}
 
@@ -213,3 +215,16 @@ told_last late m n p done is = by (was_effective late m) done
 -- a medium is settled when it is made
 pub opening_settled : {words : List ℕ} {s : Sight} → IsUntouched words s → IsSettled s.len (state_now s)
 opening_settled {words} {s} opening k below = subst (λ (p : State). IsSettledWord (p.word k)) (sym opening.state) refl
+
+-- what the history notes of a call, as what is said of the medium whose history it is
+pub makes_call : {c : Call} {ok : Bool} {old new : MemPmem} → Entered c ok old.history new.history → new.start ≡ old.start → MakesCall c ok old new
+makes_call {c} {ok} {old} {new} e same = record {
+  models = subst (λ (s : List ℕ). OneCall c ok (sight old) (history_sight s new.history)) (sym words) (entered_goes e old.start.items);
+  exact = e.exact;
+  effect = ap (λ (s : List ℕ). state_now (history_sight s new.history)) words ∙ here_after e old.start.items;
+  faults = e.faults;
+  plan = record { allowed_stays = e.budget; failing_stay = ap (λ v. v.items) e.fail; late_stays = e.late };
+}
+  where
+    words : new.start.items ≡ old.start.items
+    words = ap (λ v. v.items) same

@@ -1,7 +1,7 @@
 -- The state of a medium in memory after the calls made on it, and what a crash then leaves.
 use Rattle.std.specs.Prelude.{◌≡◌, ℕ, ◌%◌, ◌<◌, ◌^◌, Bool, true, not, ◌||◌, if◌then◌else◌, nat_le, List, [], ◌∷◌, take, length, slice_index, IsTrue, All}
 use Rattle.pmem_trait.specs.declared.made.Made.{Made}
-use Rattle.pmem_trait.specs.Words.{Word, State, settled_at, after, IsImage}
+use Rattle.pmem_trait.specs.Words.{Word, State, settled_at, value_of, after, IsImage}
 use Rattle.pmem_trait.specs.Sights.{Sight, state_now}
 
 -- settled at these words, and nothing told
@@ -20,6 +20,11 @@ step_made late m p = if was_effective late m then after m.call p else p
 abbrev pub after_made : Bool → List Made → State → State
 after_made late [] p = p
 after_made late (m ∷ ms) p = after_made late ms (step_made late m p)
+
+-- these words are the content after these calls on a medium that began with those
+abbrev pub AreContent : Bool → List Made → List ℕ → List ℕ → Type 0
+AreContent late calls start words =
+    (k : ℕ) → k < length start → slice_index words k ≡ value_of ((after_made late calls (start_state start)).word k)
 
 -- What is seen of a medium that began with these words: the state at each moment is the one after the calls up to it.
 -- Calls over the budget aren't listed, and have done nothing.

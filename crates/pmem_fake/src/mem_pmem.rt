@@ -1,8 +1,7 @@
 //! A medium in memory, with the images that a crash may leave at each moment.
 
-ghost use Rattle.std.specs.Prelude.{◌≡◌, ℕ, ◌<◌, length, slice_index};
-ghost use Rattle.pmem_trait.specs.Words.{value_of};
-ghost use Rattle.pmem_fake.specs.History.{after_made, start_state};
+ghost use Rattle.std.specs.Prelude.{◌≡◌, length};
+ghost use Rattle.pmem_fake.specs.History.{AreContent};
 
 use crate::call_history::CallHistory;
 use crate::image_fault::ImageFault;
@@ -17,15 +16,14 @@ pub struct MemPmem {
     words: Vec<u64>,
     history: CallHistory,
     ghost same_len: { length words.items ≡ length start.items },
-    ghost content: { (k : ℕ) → k < length start.items → slice_index words.items k ≡ value_of ((after_made history.late history.calls.items (start_state start.items)).word k) },
+    ghost content: { AreContent history.late history.calls.items start.items words.items },
 }
 
 impl MemPmem {
-    ghost use Rattle.std.specs.Prelude.{◌≡◌, ℕ, ◌<◌, ◌≤◌, length, slice_index, true, false, IfOk, IfErr, IsErrOf, ◌⊎◌, ◌↔◌};
-    ghost use Rattle.pmem_trait.specs.Words.{last_told, value_of, IsContent, IsImage};
+    ghost use Rattle.std.specs.Prelude.{◌≡◌, ◌<◌, ◌≤◌, true, false, IfOk, IfErr, IsErrOf, ◌↔◌};
+    ghost use Rattle.pmem_trait.specs.Words.{last_told, IsContent};
     ghost use Rattle.pmem_trait.specs.Sights.{state_now};
-    ghost use Rattle.pmem_fake.specs.History.{IsUntouched, IsPicked, EachIsPicked};
-    ghost use Rattle.pmem_fake.specs.Fakes.{sight, allowed, failing, fails_late};
+    ghost use Rattle.pmem_fake.specs.Fakes.{sight, later_fault, IsLater, IsNewMedium, IsPickedAt, IsImageAt, EachIsPickedAt, IsImageFault};
 
     /// A medium that is settled at these words. Of its calls, counted from 1, those over `budget` fail and do nothing,
     /// and so do those whose count is in `fail`. It takes memory for `budget` calls here, and none later.
@@ -36,10 +34,7 @@ impl MemPmem {
         fail: Vec<u64>,
     ) -> Result<MemPmem, AllocError>
         requires { budget ≤ 10000000 }
-        ensures untouched { IfOk result (λ medium. IsUntouched words.items (sight medium)) }
-        ensures budget { IfOk result (λ medium. allowed medium ≡ budget) }
-        ensures fail { IfOk result (λ medium. failing medium ≡ fail.items) }
-        ensures early { IfOk result (λ medium. fails_late medium ≡ false) }
+        ensures { IfOk result (IsNewMedium words.items budget fail.items false) }
     {
         MemPmem::start(alloc, words, budget, fail, false)
     }
@@ -52,10 +47,7 @@ impl MemPmem {
         fail: Vec<u64>,
     ) -> Result<MemPmem, AllocError>
         requires { budget ≤ 10000000 }
-        ensures untouched { IfOk result (λ medium. IsUntouched words.items (sight medium)) }
-        ensures budget { IfOk result (λ medium. allowed medium ≡ budget) }
-        ensures fail { IfOk result (λ medium. failing medium ≡ fail.items) }
-        ensures late { IfOk result (λ medium. fails_late medium ≡ true) }
+        ensures { IfOk result (IsNewMedium words.items budget fail.items true) }
     {
         MemPmem::start(alloc, words, budget, fail, true)
     }
@@ -68,10 +60,7 @@ impl MemPmem {
         late: bool,
     ) -> Result<MemPmem, AllocError>
         requires { budget ≤ 10000000 }
-        ensures untouched { IfOk result (λ medium. IsUntouched words.items (sight medium)) }
-        ensures budget { IfOk result (λ medium. allowed medium ≡ budget) }
-        ensures fail { IfOk result (λ medium. failing medium ≡ fail.items) }
-        ensures late { IfOk result (λ medium. fails_late medium ≡ late) }
+        ensures { IfOk result (IsNewMedium words.items budget fail.items late) }
     {
         Ok(MemPmem {
             start: words.to_vec(alloc)?,
@@ -111,9 +100,9 @@ impl MemPmem {
     /// An image that a crash may leave now. Word k takes the allowed value of index `picks[k]`, modulo their count: the
     /// settled value first, and then the later ones in order of their puts. An absent pick takes the settled value.
     pub fn crash(&self, alloc: Global, picks: &[u64]) -> Result<Vec<u64>, AllocError>
-        ensures picked { IfOk result (λ image. IsPicked (sight self.now).len (state_now (sight self.now)) picks.now image.items) }
-        ensures allowed { IfOk result (λ image. IsImage (sight self.now).len (state_now (sight self.now)) image.items) }
-        ensures every { EachIsPicked (sight self.now).len (state_now (sight self.now)) }
+        ensures picked { IfOk result (IsPickedAt self.now (sight self.now).now picks.now) }
+        ensures allowed { IfOk result (IsImageAt self.now (sight self.now).now) }
+        ensures every { EachIsPickedAt self.now (sight self.now).now }
     {
         image_after(
             alloc,
@@ -131,11 +120,11 @@ impl MemPmem {
         moment: u64,
         picks: &[u64],
     ) -> Result<Vec<u64>, ImageFault>
-        ensures picked { IfOk result (λ image. IsPicked (sight self.now).len ((sight self.now).state moment) picks.now image.items) }
-        ensures allowed { IfOk result (λ image. IsImage (sight self.now).len ((sight self.now).state moment) image.items) }
-        ensures every { EachIsPicked (sight self.now).len ((sight self.now).state moment) }
-        ensures later { (sight self.now).now < moment ↔ IsErrOf result (ImageFault.Later moment (sight self.now).now) }
-        ensures fault { IfErr result (λ fault. (fault ≡ ImageFault.Later moment (sight self.now).now) ⊎ (fault ≡ ImageFault.NoMemory)) }
+        ensures picked { IfOk result (IsPickedAt self.now moment picks.now) }
+        ensures allowed { IfOk result (IsImageAt self.now moment) }
+        ensures every { EachIsPickedAt self.now moment }
+        ensures later { IsLater self.now moment ↔ IsErrOf result (later_fault self.now moment) }
+        ensures fault { IfErr result (IsImageFault self.now moment) }
     {
         let now = self.history.now;
         if moment > now {
@@ -148,13 +137,12 @@ impl MemPmem {
 }
 
 impl Medium for MemPmem {
-    ghost use Rattle.std.specs.Prelude.{◌≡◌, ℕ, ◌+◌, ◌*◌, ◌<◌, ◌≤◌, is_ok, IfOk, IsTrue, if◌then◌else◌};
+    ghost use Rattle.std.specs.Prelude.{◌≡◌, ◌+◌, ◌*◌, ◌<◌, ◌≤◌, is_ok, IfOk};
     ghost use Rattle.pmem_trait.specs.declared.call.Call.TheVariants.{Read, Put, Flush, Fence, Tell};
-    ghost use Rattle.pmem_trait.specs.Words.{value_of, after};
-    ghost use Rattle.pmem_trait.specs.Sights.{state_now, OneCall};
-    ghost use Rattle.pmem_trait.specs.Faults.{faults_after};
+    ghost use Rattle.pmem_trait.specs.Words.{value_of};
+    ghost use Rattle.pmem_trait.specs.Sights.{state_now};
     ghost use Rattle.pmem_fake.specs.Sizes.{items_fit};
-    ghost use Rattle.pmem_fake.specs.Fakes.{sight, is_next_ok, is_next_effective, SamePlan};
+    ghost use Rattle.pmem_fake.specs.Fakes.{sight, MakesCall};
 
     ghost sight = { λ medium. sight medium };
 
@@ -168,12 +156,8 @@ impl Medium for MemPmem {
 
     fn read(&mut self, at: u64) -> Result<u64, Failed>
         requires { at < (sight self.old).len }
-        ensures one_call { OneCall (Read at) (is_ok result) (sight self.old) (sight self.new) }
-        ensures value { IfOk result (λ v. IsTrue (sight self.old).is_visible → v ≡ value_of ((state_now (sight self.old)).word at)) }
-        ensures exact { is_ok result ≡ is_next_ok self.old }
-        ensures effect { state_now (sight self.new) ≡ (if is_next_effective self.old then after (Read at) (state_now (sight self.old)) else state_now (sight self.old)) }
-        ensures faults { (sight self.new).faults ≡ faults_after (is_ok result) (sight self.old).faults }
-        ensures plan { SamePlan self.old self.new }
+        ensures made { MakesCall (Read at) (is_ok result) self.old self.new }
+        ensures value { IfOk result (λ v. v ≡ value_of ((state_now (sight self.old)).word at)) }
     {
         self.history.enter(Call::Read(at))?;
         Ok(self.words[at as usize])
@@ -181,11 +165,7 @@ impl Medium for MemPmem {
 
     fn put(&mut self, at: u64, value: u64) -> Result<(), Failed>
         requires { at < (sight self.old).len }
-        ensures one_call { OneCall (Put at value) (is_ok result) (sight self.old) (sight self.new) }
-        ensures exact { is_ok result ≡ is_next_ok self.old }
-        ensures effect { state_now (sight self.new) ≡ (if is_next_effective self.old then after (Put at value) (state_now (sight self.old)) else state_now (sight self.old)) }
-        ensures faults { (sight self.new).faults ≡ faults_after (is_ok result) (sight self.old).faults }
-        ensures plan { SamePlan self.old self.new }
+        ensures { MakesCall (Put at value) (is_ok result) self.old self.new }
     {
         if self.history.is_next_effective() {
             self.words[at as usize] = value;
@@ -195,31 +175,19 @@ impl Medium for MemPmem {
 
     fn flush(&mut self, line: u64) -> Result<(), Failed>
         requires { 8 * line + 8 ≤ (sight self.old).len }
-        ensures one_call { OneCall (Flush line) (is_ok result) (sight self.old) (sight self.new) }
-        ensures exact { is_ok result ≡ is_next_ok self.old }
-        ensures effect { state_now (sight self.new) ≡ (if is_next_effective self.old then after (Flush line) (state_now (sight self.old)) else state_now (sight self.old)) }
-        ensures faults { (sight self.new).faults ≡ faults_after (is_ok result) (sight self.old).faults }
-        ensures plan { SamePlan self.old self.new }
+        ensures { MakesCall (Flush line) (is_ok result) self.old self.new }
     {
         self.history.enter(Call::Flush(line))
     }
 
     fn fence(&mut self) -> Result<(), Failed>
-        ensures one_call { OneCall Fence (is_ok result) (sight self.old) (sight self.new) }
-        ensures exact { is_ok result ≡ is_next_ok self.old }
-        ensures effect { state_now (sight self.new) ≡ (if is_next_effective self.old then after Fence (state_now (sight self.old)) else state_now (sight self.old)) }
-        ensures faults { (sight self.new).faults ≡ faults_after (is_ok result) (sight self.old).faults }
-        ensures plan { SamePlan self.old self.new }
+        ensures { MakesCall Fence (is_ok result) self.old self.new }
     {
         self.history.enter(Call::Fence)
     }
 
     fn tell(&mut self, number: u64) -> Result<(), Failed>
-        ensures one_call { OneCall (Tell number) (is_ok result) (sight self.old) (sight self.new) }
-        ensures exact { is_ok result ≡ is_next_ok self.old }
-        ensures effect { state_now (sight self.new) ≡ (if is_next_effective self.old then after (Tell number) (state_now (sight self.old)) else state_now (sight self.old)) }
-        ensures faults { (sight self.new).faults ≡ faults_after (is_ok result) (sight self.old).faults }
-        ensures plan { SamePlan self.old self.new }
+        ensures { MakesCall (Tell number) (is_ok result) self.old self.new }
     {
         self.history.enter(Call::Tell(number))
     }

@@ -1,10 +1,9 @@
 //! The calls of a history are done again, and an image is picked of what they leave.
 
-ghost use Rattle.std.specs.Prelude.{◌≡◌, ℕ, List, length, slice_index, IfOk, OnOk};
+ghost use Rattle.std.specs.Prelude.{◌≡◌, length, slice_index, IfOk, OnOk};
 ghost use Rattle.pmem_trait.specs.declared.call.Call.TheVariants.{Put, Flush, Fence};
-ghost use Rattle.pmem_trait.specs.Words.{State, last_told};
-ghost use Rattle.pmem_fake.specs.History.{start_state, step_made, was_effective, after_made, IsPicked};
-ghost use Rattle.pmem_fake.specs.Replays.{AreInState, Steps, TakesPicks};
+ghost use Rattle.pmem_fake.specs.History.{was_effective};
+ghost use Rattle.pmem_fake.specs.Replays.{AreAtStart, AreAfter, Steps, StepsMade, TakesPicks, IsPickedAfter, IsLastAfter, IsLastTold};
 
 use crate::word_state::WordState;
 use pmem_trait::{Call, Made};
@@ -12,7 +11,7 @@ use std::alloc::{AllocError, Global};
 
 // The words of an untouched medium.
 fn open_words(alloc: Global, start: &[u64]) -> Result<Vec<WordState>, AllocError>
-    ensures { IfOk result (λ words. AreInState (length start.now) words.items (start_state start.now)) }
+    ensures { IfOk result (AreAtStart start.now) }
 {
     let mut words = Vec::with_capacity(alloc, start.len())?;
     for value in start {
@@ -78,7 +77,7 @@ fn had_effect(late: bool, made: &Made) -> bool
 // Does a call again, if it had its effect.
 fn repeat_made(words: &mut [WordState], late: bool, made: &Made) -> Result<(), AllocError>
     ensures len { OnOk result (length words.new ≡ length words.old) }
-    ensures state { OnOk result ((p : State) → AreInState (length words.old) words.old p → AreInState (length words.old) words.new (step_made late made.now p)) }
+    ensures state { OnOk result (StepsMade late made.now words.old words.new) }
 {
     if had_effect(late, made) {
         repeat(words, made.call)
@@ -94,7 +93,7 @@ fn replay(
     calls: &[Made],
     late: bool,
 ) -> Result<Vec<WordState>, AllocError>
-    ensures { IfOk result (λ words. AreInState (length start.now) words.items (after_made late calls.now (start_state start.now))) }
+    ensures { IfOk result (AreAfter late calls.now start.now) }
 {
     let mut words = open_words(alloc, start)?;
     for made in calls {
@@ -129,7 +128,7 @@ pub fn image_after(
     late: bool,
     picks: &[u64],
 ) -> Result<Vec<u64>, AllocError>
-    ensures { IfOk result (λ image. IsPicked (length start.now) (after_made late calls.now (start_state start.now)) picks.now image.items) }
+    ensures { IfOk result (IsPickedAfter late calls.now start.now picks.now) }
 {
     let words = replay(alloc, start, calls, late)?;
     take_picks(alloc, &words, picks)
@@ -137,7 +136,7 @@ pub fn image_after(
 
 // The last number told after a call, by the last one before it.
 fn told_after_made(before: Option<u64>, late: bool, made: &Made) -> Option<u64>
-    ensures { (p : State) → before ≡ last_told p.told → result ≡ last_told (step_made late made.now p).told }
+    ensures { IsLastAfter late made.now before result }
 {
     match made.call {
         Call::Tell(number) if had_effect(late, made) => Some(number),
@@ -147,7 +146,7 @@ fn told_after_made(before: Option<u64>, late: bool, made: &Made) -> Option<u64>
 
 /// The last number told in these calls.
 pub fn last_told_by(calls: &[Made], late: bool) -> Option<u64>
-    ensures { (start : List ℕ) → result ≡ last_told (after_made late calls.now (start_state start)).told }
+    ensures { IsLastTold late calls.now result }
 {
     let mut told = None;
     for made in calls {

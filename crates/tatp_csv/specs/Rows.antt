@@ -2,6 +2,8 @@
 use Rattle.std.specs.Prelude.{ℕ, ◌≡◌, ◌+◌, Bool, true, false, Option, Some, None, IsSome, List, [], ◌∷◌, length}
 use Rattle.std.specs.Borrow.{Bor}
 use Rattle.csv.specs.Reading.{Ready, default_config, is_flexible, reader_config, reader_state, reader_trim, records_from, source_of}
+use Rattle.csv.specs.Records.{fields_of}
+use Rattle.csv.specs.declared.record.ByteRecord.{ByteRecord}
 use Rattle.csv.specs.declared.parser.State.{State}
 use Rattle.csv.specs.declared.reader.Reader.{Reader}
 use Rattle.csv.specs.declared.reader.Trim.TheVariants as trim
@@ -30,3 +32,7 @@ rows_left reader = rows_from (reader_state reader) (bytes_left reader)
 abbrev pub TakesFirst : List (List (List ℕ)) → Bool → List (List ℕ) → List (List (List ℕ)) → Type 0
 TakesFirst rows false row rest = rows ≡ []
 TakesFirst rows true row rest = rows ≡ row ∷ rest
+
+-- a read from a reader took the first row that was left into a record, or there was none
+abbrev pub TakesRow : Reader (Bor (List ℕ)) → Reader (Bor (List ℕ)) → ByteRecord → Bool → Type 0
+TakesRow old new row found = TakesFirst (rows_left old) found (fields_of row) (rows_left new)

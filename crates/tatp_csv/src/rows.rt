@@ -2,8 +2,7 @@
 
 ghost use Rattle.std.specs.Prelude.{◌≡◌, IfOk, IfErr};
 ghost use Rattle.csv.specs.Reading.{records, default_config, strip_bom};
-ghost use Rattle.csv.specs.Records.{fields_of};
-ghost use Rattle.tatp_csv.specs.Rows.{IsReading, rows_left, TakesFirst};
+ghost use Rattle.tatp_csv.specs.Rows.{IsReading, rows_left, TakesRow};
 
 use csv::{ByteRecord, ErrorKind, Reader, ReaderBuilder};
 use std::alloc::Global;
@@ -25,7 +24,7 @@ pub fn next_row(reader: &mut Reader<&[u8]>, row: &mut ByteRecord) -> Result<bool
     requires { IsReading reader.old }
     ensures reads { IfOk result (λ found. IsReading reader.new) }
     ensures refused { IfErr result (λ fault. fault ≡ TextFault.NoMemory) }
-    ensures takes { IfOk result (λ found. TakesFirst (rows_left reader.old) found (fields_of row.new) (rows_left reader.new)) }
+    ensures takes { IfOk result (TakesRow reader.old reader.new row.new) }
 {
     match reader.read_byte_record(row) {
         Ok(found) => Ok(found),

@@ -1,3 +1,4 @@
+pub mod Appending
 pub mod Number
 pub mod RecordText
 pub mod Reply

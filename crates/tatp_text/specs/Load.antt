@@ -1,9 +1,11 @@
 -- The generated load.
-use Rattle.std.specs.Prelude.{ℕ, zero, suc, ◌/◌, List, [], ◌∷◌, ◌++◌}
+use Rattle.std.specs.Prelude.{◌≡◌, ℕ, zero, suc, ◌/◌, List, [], ◌∷◌, ◌++◌, All}
+use Rattle.std.specs.Global.{Vec}
 use Rattle.rand_pcg.specs.Lcg.{Lcg, increment_of, started}
 use Rattle.rand_pcg.specs.Pcg.{multiplier_64}
 use Rattle.tatp_model.specs.declared.request.Request.{Request}
 use Rattle.tatp_model.specs.declared.request.Request.TheVariants.{Sync}
+use Rattle.tatp_model.specs.Request.{IsInRange}
 use Rattle.tatp_text.specs.Draws.{after_draws, chosen, draws_of, subscriber_of}
 
 -- the generator of a file: PCG32 of the load's seed, with the file's number as its stream
@@ -20,3 +22,11 @@ requests_from file files each (suc n) g =
 abbrev pub mixed : ℕ → ℕ → ℕ → ℕ → ℕ → List Request
 mixed seed file files subscribers count =
     requests_from file files (subscribers / files) count (generator seed file) ++ Sync ∷ []
+
+-- these are the requests of that file
+abbrev pub IsLoad : ℕ → ℕ → ℕ → ℕ → ℕ → Vec Request → Type 0
+IsLoad seed file files subscribers count requests = requests.items ≡ mixed seed file files subscribers count
+
+-- the numbers of each request are in their ranges
+abbrev pub AreInRange : Vec Request → Type 0
+AreInRange requests = All IsInRange requests.items

@@ -1,5 +1,6 @@
 -- How a request is written.
-use Rattle.std.specs.Prelude.{ℕ, List, [], ◌∷◌, codes, decimal}
+use Rattle.std.specs.Prelude.{ℕ, List, [], ◌∷◌, drop, codes, decimal}
+use Rattle.std.specs.List.{flat_map}
 use Rattle.tatp_model.specs.declared.request.Request.{Request}
 use Rattle.tatp_model.specs.declared.request.Request.TheVariants.{GetSubscriber, GetDestination, GetAccess, UpdateSubscriber, UpdateLocation, InsertCall, DeleteCall, Sync}
 use Rattle.tatp_text.specs.Number.{phone_text}
@@ -23,3 +24,7 @@ request_fields Sync = codes "SYNC" ∷ []
 -- its line
 abbrev pub request_line : Request → List ℕ
 request_line request = record_text (request_fields request)
+
+-- the fields behind its name, each behind a comma
+abbrev pub fields_text : Request → List ℕ
+fields_text request = flat_map (λ field. 44 ∷ field) (drop 1 (request_fields request))

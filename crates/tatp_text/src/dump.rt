@@ -1,7 +1,8 @@
 //! The dump.
 
-ghost use Rattle.std.specs.Prelude.{◌≡◌, ◌++◌, IfOk, OnErr, OnOk};
+ghost use Rattle.std.specs.Prelude.{◌≡◌, IfOk, OnErr, OnOk};
 ghost use Rattle.tatp_model.specs.Database.{database_of, IsInOrder};
+ghost use Rattle.tatp_text.specs.Appending.{Adds};
 ghost use Rattle.tatp_text.specs.Dump.{dump_text};
 
 use crate::last_number::LastNumber;
@@ -13,7 +14,7 @@ use tatp_model::Tables;
 /// Appends the records of the four tables, and one of the last number. `out` is as it was where there is no memory.
 pub fn write_dump(tables: &Tables, last: u64, out: &mut Vec<u8>) -> Result<(), AllocError>
     requires { IsInOrder (database_of tables.now) }
-    ensures ok { OnOk result (out.new.items ≡ out.old.items ++ dump_text (database_of tables.now) last) }
+    ensures ok { OnOk result (Adds out.old out.new (dump_text (database_of tables.now) last)) }
     ensures err { OnErr result (out.new.items ≡ out.old.items) }
 {
     let text = dump_text(*out.allocator(), tables, last)?;

@@ -1,8 +1,9 @@
 //! Fields that are added to a record. What an `Err` leaves is of no use: the record that is being made ends with it.
 
-ghost use Rattle.std.specs.Prelude.{◌≡◌, ◌++◌, ◌∷◌, [], map, decimal, OnOk};
-ghost use Rattle.csv.specs.Records.{fields_of, partial_of};
+ghost use Rattle.std.specs.Prelude.{◌≡◌, ◌∷◌, [], map, decimal, OnOk};
+ghost use Rattle.csv.specs.Records.{partial_of};
 ghost use Rattle.tatp_text.specs.Number.{phone_text};
+ghost use Rattle.tatp_text.specs.Writing.{AddsFields};
 
 use csv::ByteRecord;
 use itoa::Buffer;
@@ -11,7 +12,7 @@ use std::alloc::{AllocError, Global};
 /// Adds a number.
 pub fn push_number(fields: &mut ByteRecord, number: u64) -> Result<(), AllocError>
     requires { partial_of fields.old ≡ [] }
-    ensures added { OnOk result (fields_of fields.new ≡ fields_of fields.old ++ decimal number ∷ []) }
+    ensures added { OnOk result (AddsFields fields.old fields.new (decimal number ∷ [])) }
     ensures whole { OnOk result (partial_of fields.new ≡ []) }
 {
     let mut buffer = Buffer::new();
@@ -21,7 +22,7 @@ pub fn push_number(fields: &mut ByteRecord, number: u64) -> Result<(), AllocErro
 /// Adds a phone number.
 pub fn push_phone(alloc: Global, fields: &mut ByteRecord, number: u64) -> Result<(), AllocError>
     requires { partial_of fields.old ≡ [] }
-    ensures added { OnOk result (fields_of fields.new ≡ fields_of fields.old ++ phone_text number ∷ []) }
+    ensures added { OnOk result (AddsFields fields.old fields.new (phone_text number ∷ [])) }
     ensures whole { OnOk result (partial_of fields.new ≡ []) }
 {
     let mut text = Vec::new(alloc);
@@ -32,7 +33,7 @@ pub fn push_phone(alloc: Global, fields: &mut ByteRecord, number: u64) -> Result
 /// Adds each of these numbers.
 pub fn push_numbers(fields: &mut ByteRecord, numbers: &[u8]) -> Result<(), AllocError>
     requires { partial_of fields.old ≡ [] }
-    ensures added { OnOk result (fields_of fields.new ≡ fields_of fields.old ++ map decimal numbers.now) }
+    ensures added { OnOk result (AddsFields fields.old fields.new (map decimal numbers.now)) }
     ensures whole { OnOk result (partial_of fields.new ≡ []) }
 {
     for number in numbers {

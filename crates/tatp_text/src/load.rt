@@ -1,8 +1,7 @@
 //! Generated request files.
 
-ghost use Rattle.std.specs.Prelude.{◌≡◌, ◌<◌, ◌≤◌, ◌+◌, length, All, IfOk};
-ghost use Rattle.tatp_model.specs.Request.{IsInRange};
-ghost use Rattle.tatp_text.specs.Load.{mixed};
+ghost use Rattle.std.specs.Prelude.{◌≡◌, ◌<◌, ◌≤◌, ◌+◌, length, IfOk};
+ghost use Rattle.tatp_text.specs.Load.{IsLoad, AreInRange};
 
 use crate::draws::Draws;
 use rand_pcg::Lcg64Xsh32;
@@ -21,9 +20,9 @@ pub fn mix(
     requires one_of_files { file < files }
     requires each_has_one { files ≤ subscribers }
     requires few { count ≤ 99999 }
-    ensures load { IfOk result (λ requests. requests.items ≡ mixed seed file files subscribers count) }
+    ensures load { IfOk result (IsLoad seed file files subscribers count) }
     ensures count { IfOk result (λ requests. length requests.items ≡ count + 1) }
-    ensures ranges { subscribers ≤ 4294967295 → IfOk result (λ requests. All IsInRange requests.items) }
+    ensures ranges { subscribers ≤ 4294967295 → IfOk result AreInRange }
 {
     let each = subscribers / files;
     let mut generator = Lcg64Xsh32::new(seed, file);

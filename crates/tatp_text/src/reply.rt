@@ -1,8 +1,9 @@
 //! How replies print. These functions append to a line that is being made: what they leave where there is no memory
 //! is of no use.
 
-ghost use Rattle.std.specs.Prelude.{◌≡◌, ◌++◌, ◌∷◌, map, decimal, OnOk};
+ghost use Rattle.std.specs.Prelude.{◌≡◌, ◌∷◌, map, decimal, OnOk};
 ghost use Rattle.std.specs.List.{flat_map, join_with_byte};
+ghost use Rattle.tatp_text.specs.Appending.{Adds};
 ghost use Rattle.tatp_text.specs.Reply.{row_fields, access_fields, reply_text};
 ghost use Rattle.tatp_text.specs.Number.{phone_text};
 ghost use Rattle.tatp_model.specs.Numbers.{list_of};
@@ -13,7 +14,7 @@ use tatp_model::{AccessData, Numbers, Reply, SubRow};
 
 /// Appends a reply.
 pub fn push_reply(reply: &Reply, line: &mut Vec<u8>) -> Result<(), AllocError>
-    ensures { OnOk result (line.new.items ≡ line.old.items ++ reply_text reply.now) }
+    ensures { OnOk result (Adds line.old line.new (reply_text reply.now)) }
 {
     match reply {
         Reply::Subscriber(row) => {
@@ -39,7 +40,7 @@ pub fn push_reply(reply: &Reply, line: &mut Vec<u8>) -> Result<(), AllocError>
 
 // The fields of a subscriber's row.
 fn push_row(row: &SubRow, line: &mut Vec<u8>) -> Result<(), AllocError>
-    ensures { OnOk result (line.new.items ≡ line.old.items ++ join_with_byte 44 (row_fields row.now)) }
+    ensures { OnOk result (Adds line.old line.new (join_with_byte 44 (row_fields row.now))) }
 {
     push_number(row.s_id, line)?;
     line.push(b',')?;
@@ -55,7 +56,7 @@ fn push_row(row: &SubRow, line: &mut Vec<u8>) -> Result<(), AllocError>
 
 // The fields of an access row's data.
 fn push_access(info: &AccessData, line: &mut Vec<u8>) -> Result<(), AllocError>
-    ensures { OnOk result (line.new.items ≡ line.old.items ++ join_with_byte 44 (access_fields info.now)) }
+    ensures { OnOk result (Adds line.old line.new (join_with_byte 44 (access_fields info.now))) }
 {
     push_number(u64::from(info.data1), line)?;
     line.push(b',')?;
@@ -68,7 +69,7 @@ fn push_access(info: &AccessData, line: &mut Vec<u8>) -> Result<(), AllocError>
 
 // Phone numbers, with commas between.
 fn push_phones(phones: &[u64], line: &mut Vec<u8>) -> Result<(), AllocError>
-    ensures { OnOk result (line.new.items ≡ line.old.items ++ join_with_byte 44 (map phone_text phones.now)) }
+    ensures { OnOk result (Adds line.old line.new (join_with_byte 44 (map phone_text phones.now))) }
 {
     if let Some((first, others)) = phones.split_first() {
         push_phone(*first, line)?;
@@ -93,7 +94,7 @@ fn list_of(phones: &Numbers) -> &[u64]
 
 // Numbers, each behind a comma.
 fn push_more(numbers: &[u8], line: &mut Vec<u8>) -> Result<(), AllocError>
-    ensures { OnOk result (line.new.items ≡ line.old.items ++ flat_map (λ n. 44 ∷ decimal n) numbers.now) }
+    ensures { OnOk result (Adds line.old line.new (flat_map (λ n. 44 ∷ decimal n) numbers.now)) }
 {
     for number in numbers {
         line.push(b',')?;

@@ -1,10 +1,11 @@
 //! How requests are written.
 
-ghost use Rattle.std.specs.Prelude.{◌≡◌, ◌++◌, ◌∷◌, drop, decimal, OnOk, OnErr};
+ghost use Rattle.std.specs.Prelude.{◌≡◌, ◌∷◌, drop, decimal, OnOk, OnErr};
 ghost use Rattle.std.specs.List.{flat_map};
 ghost use Rattle.tatp_text.specs.Number.{phone_text};
 ghost use Rattle.tatp_model.specs.Request.{IsInRange};
-ghost use Rattle.tatp_text.specs.RequestLine.{request_fields, request_line};
+ghost use Rattle.tatp_text.specs.Appending.{Adds};
+ghost use Rattle.tatp_text.specs.RequestLine.{fields_text, request_fields, request_line};
 
 use crate::number::{push_number, push_phone};
 use std::alloc::AllocError;
@@ -13,7 +14,7 @@ use tatp_model::Request;
 /// Appends the record of a request and LF. `out` is as it was where there is no memory.
 pub fn write_request(request: &Request, out: &mut Vec<u8>) -> Result<(), AllocError>
     requires { IsInRange request.now }
-    ensures ok { OnOk result (out.new.items ≡ out.old.items ++ request_line request.now) }
+    ensures ok { OnOk result (Adds out.old out.new (request_line request.now)) }
     ensures err { OnErr result (out.new.items ≡ out.old.items) }
 {
     let mut line = Vec::from_slice(*out.allocator(), name_of(request))?;
@@ -40,7 +41,7 @@ fn name_of(request: &Request) -> &'static [u8]
 
 // The fields behind the name, each behind a comma.
 fn push_fields(request: &Request, line: &mut Vec<u8>) -> Result<(), AllocError>
-    ensures { OnOk result (line.new.items ≡ line.old.items ++ flat_map (λ field. 44 ∷ field) (drop 1 (request_fields request.now))) }
+    ensures { OnOk result (Adds line.old line.new (fields_text request.now)) }
 {
     match *request {
         Request::GetSubscriber { s_id } => push_numbers(&[s_id], line),
@@ -86,7 +87,7 @@ fn push_fields(request: &Request, line: &mut Vec<u8>) -> Result<(), AllocError>
 
 // A phone number behind a comma.
 fn push_phone_field(number: u64, line: &mut Vec<u8>) -> Result<(), AllocError>
-    ensures { OnOk result (line.new.items ≡ line.old.items ++ (44 ∷ phone_text number)) }
+    ensures { OnOk result (Adds line.old line.new (44 ∷ phone_text number)) }
 {
     line.push(b',')?;
     push_phone(number, line)
@@ -94,7 +95,7 @@ fn push_phone_field(number: u64, line: &mut Vec<u8>) -> Result<(), AllocError>
 
 // Numbers, each behind a comma.
 fn push_numbers(numbers: &[u64], line: &mut Vec<u8>) -> Result<(), AllocError>
-    ensures { OnOk result (line.new.items ≡ line.old.items ++ flat_map (λ n. 44 ∷ decimal n) numbers.now) }
+    ensures { OnOk result (Adds line.old line.new (flat_map (λ n. 44 ∷ decimal n) numbers.now)) }
 {
     for number in numbers {
         line.push(b',')?;

@@ -3,7 +3,7 @@
 use std::alloc::{AllocError, AllocFailed};
 
 /// Why a request file was not read.
-#[derive(Clone, Copy, Debug, PartialEq, Eq)]
+#[derive(Clone, Copy)]
 pub enum TextFault {
     /// The first bad record and its first bad field, counted from 1. The field is 0 where the record's name or its count
     /// of fields is wrong; both are 0 where no record is named, as for a file of too many bytes.

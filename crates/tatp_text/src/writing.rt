@@ -1,10 +1,8 @@
 //! Records that are written one after another.
 
-ghost use Rattle.std.specs.Prelude.{◌≡◌, ◌++◌, map, All, OnOk};
-ghost use Rattle.std.specs.List.{flat_map};
+ghost use Rattle.std.specs.Prelude.{map, All, OnOk};
 ghost use Rattle.csv.specs.Records.{fields_of};
-ghost use Rattle.tatp_text.specs.RecordText.{record_text};
-ghost use Rattle.tatp_text.specs.Writing.{IsBetweenRecords, IsPlain, written};
+ghost use Rattle.tatp_text.specs.Writing.{IsBetweenRecords, IsPlain, WroteRecord, WroteRecords};
 
 use crate::dump_row::DumpRow;
 use csv::{ByteRecord, Writer};
@@ -19,7 +17,7 @@ pub fn write_rows<R: DumpRow>(
     requires between { IsBetweenRecords writer.old }
     requires in_range { All R.in_range rows.now }
     ensures between { OnOk result (IsBetweenRecords writer.new) }
-    ensures text { OnOk result (written writer.new ≡ written writer.old ++ flat_map record_text (map R.record_fields rows.now)) }
+    ensures text { OnOk result (WroteRecords writer.old writer.new (map R.record_fields rows.now)) }
 {
     let mut fields = ByteRecord::new(alloc);
     for row in rows {
@@ -34,7 +32,7 @@ fn write_record(writer: &mut Writer<Vec<u8>>, fields: &ByteRecord) -> Result<(),
     requires between { IsBetweenRecords writer.old }
     requires plain { IsPlain (fields_of fields.now) }
     ensures between { OnOk result (IsBetweenRecords writer.new) }
-    ensures text { OnOk result (written writer.new ≡ written writer.old ++ record_text (fields_of fields.now)) }
+    ensures text { OnOk result (WroteRecord writer.old writer.new (fields_of fields.now)) }
 {
     if writer.write_byte_record(fields).is_err() {
         return Err(AllocError);

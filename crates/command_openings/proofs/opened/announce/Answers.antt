@@ -17,28 +17,31 @@ returns-in-Ok-clause-opened g c = record {
   lawful = c.requires.opened.lawful;
 }
 
-pub returns-in-Ok-clause-told : goal.returns-in-Ok-clause-told
-returns-in-Ok-clause-told g c visible =
-    c.in-Ok.ensures.told.answer visible
-    ∙ ap (λ (n : ℕ). (state_now (g.M.Medium.sight (medium_of c.args.opened.back))).told ++ n ∷ [])
-    (announced_number (state_of c.args.opened.back) c.args.opened.sizes c.args.opened.number c.in-Ok.field-0 c.requires.opened.idle (announced_end c.in-Ok.ensures.calls))
-
-pub returns-in-Ok-clause-holds : goal.returns-in-Ok-clause-holds
-returns-in-Ok-clause-holds g c before holds =
-    let is = c.requires.opened.idle in
-    let becomes = announced_idle (state_of c.args.opened.back) (state_of c.announce.new.self) c.args.opened.sizes c.args.opened.number c.in-Ok.field-0 is (announced_end c.in-Ok.ensures.calls) c.in-Ok.ensures.state in
-    announced_holds (state_of c.args.opened.back) (state_of c.announce.new.self) c.args.opened.sizes c.args.opened.number c.args.opened.words.items _ _ is becomes
-    (made_later c.in-Ok.ensures.calls.made).is_visible c.in-Ok.ensures.crash.keeps c.in-Ok.ensures.home_stays before holds
+pub returns-in-Ok-clause-announced : goal.returns-in-Ok-clause-announced
+returns-in-Ok-clause-announced g c = record {
+  told = λ visible.
+      c.in-Ok.ensures.told.answer visible
+      ∙ ap (λ (n : ℕ). (state_now (g.M.Medium.sight (medium_of c.args.opened.back))).told ++ n ∷ [])
+      (announced_number (state_of c.args.opened.back) c.args.opened.sizes c.args.opened.number c.in-Ok.field-0 c.requires.opened.idle (announced_end c.in-Ok.ensures.calls));
+  holds = λ before holds.
+      let is = c.requires.opened.idle in
+      let becomes = announced_idle (state_of c.args.opened.back) (state_of c.announce.new.self) c.args.opened.sizes c.args.opened.number c.in-Ok.field-0 is (announced_end c.in-Ok.ensures.calls) c.in-Ok.ensures.state in
+      announced_holds (state_of c.args.opened.back) (state_of c.announce.new.self) c.args.opened.sizes c.args.opened.number c.args.opened.words.items _ _ is becomes
+      (made_later c.in-Ok.ensures.calls.made).is_visible c.in-Ok.ensures.crash.keeps c.in-Ok.ensures.home_stays before holds;
+}
 
 pub returns-in-Ok-clause-moments : goal.returns-in-Ok-clause-moments
 returns-in-Ok-clause-moments g c opening before own holds =
     announced_moments (state_of c.args.opened.back) c.args.opened.number c.args.opened.words.items _ _ opening before (c.requires.opened.idle ∙ ap (λ (z : Sizes). idle z c.args.opened.number) (sym own.sizes)) (sym own.number)
     (rw own.sizes own.stands) (rw own.sizes holds) c.in-Ok.ensures.crash.moments
 
-pub returns-in-Err-clause-at_most : goal.returns-in-Err-clause-at_most
-returns-in-Err-clause-at_most g c visible =
-    rw c.into_medium.ensures (failed_announce (state_of c.args.opened.back) c.in-Err.field-0 c.args.opened.sizes c.args.opened.number _ _ c.requires.opened.idle
-    c.in-Err.ensures.calls visible)
+pub returns-in-Err-clause-failed : goal.returns-in-Err-clause-failed
+returns-in-Err-clause-failed g c = record {
+  fault = refl;
+  at_most = λ visible.
+      rw c.into_medium.ensures (failed_announce (state_of c.args.opened.back) c.in-Err.field-0 c.args.opened.sizes c.args.opened.number _ _ c.requires.opened.idle
+      c.in-Err.ensures.calls visible);
+}
 
 pub returns-in-Err-clause-moments : goal.returns-in-Err-clause-moments
 returns-in-Err-clause-moments g c opening before own holds =
@@ -46,10 +49,7 @@ returns-in-Err-clause-moments g c opening before own holds =
     (rw own.sizes own.stands) (rw own.sizes holds) c.in-Err.ensures.crash.moments)
 
 pub returns-in-Ok-clause-same : goal.returns-in-Ok-clause-same
-returns-in-Ok-clause-same g c = (refl, refl, refl)
+returns-in-Ok-clause-same g c = record { sizes = refl; number = refl; words = refl }
 
 pub returns-in-Ok-clause-ran : goal.returns-in-Ok-clause-ran
 returns-in-Ok-clause-ran g c = (_, c.in-Ok.ensures.calls.made)
-
-pub returns-in-Err-clause-fault : goal.returns-in-Err-clause-fault
-returns-in-Err-clause-fault g c = refl

@@ -1,6 +1,6 @@
-use Rattle.std.proofs.Common.{true≢false, length, sym, ◌∙◌, arith, ◌<◌}
+use Rattle.std.proofs.Common.{true≢false, length, refl, sym, ◌∙◌, arith, ◌<◌}
 use Rattle.std.proofs.Math.ListN.{length-set}
-use Rattle.pmem_fake.proofs.Histories.{entered_goes, here_after, content_stays, content_put}
+use Rattle.pmem_fake.proofs.Histories.{makes_call, content_stays, content_put}
 use Rattle.pmem_fake.proofs.mem_pmem.MemPmemMedium.put.Goals as goal
 use Rattle.pmem_fake.proofs.mem_pmem.MemPmemMedium.put.Goals.{then-is_next_effective, else-is_next_effective}
 
@@ -19,8 +19,5 @@ invariant_of-self c =
       })
     ]
 
-pub returns-clause-one_call : goal.returns-clause-one_call
-returns-clause-one_call c = entered_goes c.enter.ensures c.args.self.now.start.items
-
-pub returns-clause-effect : goal.returns-clause-effect
-returns-clause-effect c = here_after c.enter.ensures c.args.self.now.start.items
+pub returns : goal.returns
+returns c = makes_call c.enter.ensures refl

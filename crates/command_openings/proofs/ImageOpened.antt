@@ -1,4 +1,4 @@
--- The beginning of a command's image, from its parts.
+-- The opening of a command's image, from its parts.
 use Rattle.std.proofs.Common.{◌≡◌, ℕ, Bool, true, false, IsTrue, List, [], ◌∷◌, ◌++◌, length, refl, sym, ap, ◌∙◌, subst, inl, inr, arith, Err}
 use Rattle.dude_base.specs.declared.sizes.Sizes.{Sizes}
 use Rattle.dude_base.specs.Sizes.{IsAccepted}
@@ -31,21 +31,22 @@ use Rattle.command_openings.proofs.OneOpening.{one_opening, opening_with}
 use Rattle.command_edges.specs.declared.fault.Fault.{Fault}
 use Rattle.command_edges.specs.declared.fault.Fault.TheVariants.{Device}
 use Rattle.tatp_model.specs.Database.{Database}
-use Rattle.command_openings.specs.Begun.{Begins, IsBeginning, ShowsOpening, TellsAtMost}
+use Rattle.command_openings.specs.Announcing.{IsSameImage}
+use Rattle.command_openings.specs.Opens.{Opens, OpensPartly, ShowsOpening, TellsAtMost}
 use Rattle.command_openings.specs.Faults.{HasFormatFault, HasOpenFault, IsFaultOfFormat, IsSized, fault_of_opening}
 use Rattle.command_openings.specs.Openings.{IsOpeningOn, new_opening}
 use Rattle.command_openings.proofs.Images.{made_shows, none_behind, opening_lawful, still_shows}
 
 -- what has to be shown of a visible medium alone
-pub beginning_visible : {makes : Bool} {opening : Opening} {s t : Sight} → Extends s t → (IsTrue s.is_visible → IsBeginning makes opening s t) → IsBeginning makes opening s t
-beginning_visible later h = record {
+pub partly_visible : {makes : Bool} {opening : Opening} {s t : Sight} → Extends s t → (IsTrue s.is_visible → OpensPartly makes opening s t) → OpensPartly makes opening s t
+partly_visible later h = record {
   moments = record { later = later; each = λ visible. (h visible).moments.each visible };
   told = λ visible. (h visible).told visible;
 }
 
 -- an image is being made
-pub beginning_made : (sizes : Sizes) (s t : Sight) → AtEveryMoment (RecoversOnceTold sizes (state_now s).told) s t → IsBeginning true (new_opening sizes) s t
-beginning_made sizes s t images = record {
+pub partly_made : (sizes : Sizes) (s t : Sight) → AtEveryMoment (RecoversOnceTold sizes (state_now s).told) s t → OpensPartly true (new_opening sizes) s t
+partly_made sizes s t images = record {
   moments = every_moment_weaker (λ told image size shown. made_shows sizes (state_now s).told told image shown) images;
   told = λ visible. elim (last_image images visible).1 [ inl same ↦ inl same | inr shown ↦ inr shown.0 ];
 }
@@ -60,8 +61,8 @@ pub opening_told : (opening : Opening) (s t : Sight) → AtEveryMoment (StillRec
     → (state_now t).told ≡ (state_now s).told
 opening_told opening s t images visible = (last_image images visible).1.0
 
-pub beginning_opened : (opening : Opening) (s t : Sight) → AtEveryMoment (StillRecovers (state_now s).told opening.number opening.sizes opening.database) s t → IsBeginning false opening s t
-beginning_opened opening s t images = record { moments = opening_moments opening s t images; told = λ visible. inl (opening_told opening s t images visible) }
+pub partly_opened : (opening : Opening) (s t : Sight) → AtEveryMoment (StillRecovers (state_now s).told opening.number opening.sizes opening.database) s t → OpensPartly false opening s t
+partly_opened opening s t images = record { moments = opening_moments opening s t images; told = λ visible. inl (opening_told opening s t images visible) }
 
 -- the content recovers to the opening whose array it recovers to
 pub on_content : (sizes : Sizes) (number : ℕ) (words : List ℕ) (opening : Opening) (s : Sight) → opening.number ≡ number → opening.sizes ≡ sizes → StandsFor sizes words opening.database
@@ -129,18 +130,18 @@ module _ {M : Type 0} {ghosts : Ghosts M} (o : Opened M ghosts) (s m t : Sight) 
   own_is = record { number = refl; sizes = refl; stands = opened.lawful.1 }
 
   -- at Ok
-  pub announced_begins : (x : Opened M ghosts) → (x.sizes ≡ o.sizes) × (x.number ≡ o.number) × (x.words ≡ o.words) → SomeCalls true m t
+  pub announced_opens_all : (x : Opened M ghosts) → IsSameImage o x → SomeCalls true m t
       → (IsTrue m.is_visible → (state_now t).told ≡ (state_now m).told ++ o.number ∷ [])
       → ((before : ℕ) → HoldsOpened before o.sizes o.number o.words.items m → HoldsOpened before o.sizes o.number o.words.items t)
-      → (opening : Opening) → IsOpeningOf x opening → IsOpeningOn s opening × Begins false opening x.words.items s t
-  announced_begins x same ran told on opening of_x =
-      let words : x.words.items ≡ o.words.items = ap (λ v. v.items) same.2 in
-      let number : opening.number ≡ o.number = of_x.number ∙ same.1 in
-      let sizes : opening.sizes ≡ o.sizes = of_x.sizes ∙ same.0 in
+      → (opening : Opening) → IsOpeningOf x opening → IsOpeningOn s opening × Opens false opening x.words.items s t
+  announced_opens_all x same ran told on opening of_x =
+      let words : x.words.items ≡ o.words.items = ap (λ v. v.items) same.words in
+      let number : opening.number ≡ o.number = of_x.number ∙ same.number in
+      let sizes : opening.sizes ≡ o.sizes = of_x.sizes ∙ same.sizes in
       let is : IsOpeningOf o opening = record {
         number = number;
         sizes = sizes;
-        stands = subst (λ (z : Sizes). StandsFor z o.words.items opening.database) same.0 (subst (λ (l : List ℕ). StandsFor x.sizes l opening.database) words of_x.stands);
+        stands = subst (λ (z : Sizes). StandsFor z o.words.items opening.database) same.sizes (subst (λ (l : List ℕ). StandsFor x.sizes l opening.database) words of_x.stands);
       } in (
         on_it opening is,
         record {
@@ -154,8 +155,8 @@ module _ {M : Type 0} {ghosts : Ghosts M} (o : Opened M ghosts) (s m t : Sight) 
       )
 
   -- at Err
-  pub announced_front : Extends s t → (IsTrue m.is_visible → TellsAtMost o.number m t) → (opening : Opening) → IsOpeningOn s opening → IsBeginning false opening s t
-  announced_front later told opening on = beginning_visible later (λ visible. subst (λ (p : Opening). IsBeginning false p s t) (one_opening s own opening visible (on_it own own_is) on) (record {
+  pub announced_prefix : Extends s t → (IsTrue m.is_visible → TellsAtMost o.number m t) → (opening : Opening) → IsOpeningOn s opening → OpensPartly false opening s t
+  announced_prefix later told opening on = partly_visible later (λ visible. subst (λ (p : Opening). OpensPartly false p s t) (one_opening s own opening visible (on_it own own_is) on) (record {
     moments = both own own_is;
     told = λ seen. elim (told (there seen)) [
       | inl same ↦ inl (same ∙ opening_told own s m (still own own_is) seen)
@@ -178,13 +179,13 @@ made_opening o sizes words same number is stands = record {
   stands = subst (λ (z : Sizes). StandsFor z o.words.items (population sizes.subscribers)) (sym same) (subst (λ (l : List ℕ). StandsFor sizes l (population sizes.subscribers)) (sym is) stands);
 }
 
-pub made_begins : {M : Type 0} {ghosts : Ghosts M} (o : Opened M ghosts) (sizes : Sizes) (words : List ℕ) (s t : Sight) → IsOpened o → IsOpeningOf o (new_opening sizes) → o.words.items ≡ words
+pub made_opens_all : {M : Type 0} {ghosts : Ghosts M} (o : Opened M ghosts) (sizes : Sizes) (words : List ℕ) (s t : Sight) → IsOpened o → IsOpeningOf o (new_opening sizes) → o.words.items ≡ words
     → AtEveryMoment (RecoversOnceTold sizes (state_now s).told) s t → (IsTrue s.is_visible → IsNewImage sizes words (state_now s) (state_now t))
     → ((before : ℕ) → (IsTrue t.is_visible → IsIdleMedium before sizes 0 words (state_now t)) → HoldsOpened before sizes 0 words t)
-    → SomeCalls true s t → Begins true (new_opening sizes) o.words.items s t
-made_begins o sizes words s t opened own is images rests holds ran = record {
+    → SomeCalls true s t → Opens true (new_opening sizes) o.words.items s t
+made_opens_all o sizes words s t opened own is images rests holds ran = record {
   lawful = opening_lawful o (new_opening sizes) opened own;
-  moments = (beginning_made sizes s t images).moments;
+  moments = (partly_made sizes s t images).moments;
   told = λ visible. (rests visible).told;
   holds = subst (λ (l : List ℕ). HoldsOpened (length (state_now s).told) sizes 0 l t) (sym is)
       (holds (length (state_now s).told) (λ visible. (rests (subst (λ b. IsTrue b) (made_later ran.1).is_visible visible)).idle));

@@ -1,0 +1,62 @@
+-- The image that a command works on: made anew or opened, with its opening number told.
+use Rattle.std.specs.Prelude.{◌≡◌, ◌⊎◌, ℕ, Bool, true, false, IsTrue, IfErr, Result, List, [], ◌∷◌, ◌++◌, drop, length}
+use Rattle.pmem_trait.specs.declared.medium.Medium.{Ghosts}
+use Rattle.pmem_trait.specs.Words.{AtLeast}
+use Rattle.pmem_trait.specs.Sights.{Sight, state_now, AtEveryMoment, SomeCalls}
+use Rattle.pmem_trait.specs.Reads.{OnlyReads}
+use Rattle.back_store.specs.BackView.{medium_of}
+use Rattle.image_recovery.specs.Recovered.{RecoversTo}
+use Rattle.image_opening.specs.Opened.{HoldsOpened}
+use Rattle.image_opening.specs.declared.opened.Opened.{Opened}
+use Rattle.command_edges.specs.declared.fault.Fault.{Fault}
+use Rattle.dude_engine.specs.Opening.{Opening, IsOpening}
+use Rattle.dude_engine.specs.Plain.{IsOpeningOf}
+use Rattle.command_openings.specs.Openings.{IsOpeningOn}
+
+-- The image is being made and nothing is told yet; or it recovers to the opening, and no greater number was told behind the
+-- first `before` ones.
+abbrev pub ShowsOpening : Bool → ℕ → Opening → List ℕ → List ℕ → Type 0
+ShowsOpening makes before opening told image =
+    (IsTrue makes × (drop before told ≡ []))
+    ⊎ (AtLeast before told opening.number × RecoversTo image opening.number opening.sizes opening.database)
+
+-- nothing was told, or this number alone
+abbrev pub TellsAtMost : ℕ → Sight → Sight → Type 0
+TellsAtMost number s t =
+    ((state_now t).told ≡ (state_now s).told) ⊎ ((state_now t).told ≡ (state_now s).told ++ number ∷ [])
+
+-- An image is opened at this opening, or a prefix of that is done. Where the image is made anew, `makes` is true.
+pub record OpensPartly (makes : Bool) (opening : Opening) (s t : Sight) : Type 0 where
+  pub moments : AtEveryMoment (ShowsOpening makes (length (state_now s).told) opening) s t
+  pub told : IsTrue s.is_visible → TellsAtMost opening.number s t
+
+-- The image is opened at this opening: its number is told, and the medium holds the image with these words in its home.
+pub record Opens (makes : Bool) (opening : Opening) (words : List ℕ) (s t : Sight) : Type 0 where
+  pub lawful : IsOpening opening
+  pub moments : AtEveryMoment (ShowsOpening makes (length (state_now s).told) opening) s t
+  pub told : IsTrue s.is_visible → (state_now t).told ≡ (state_now s).told ++ opening.number ∷ []
+  pub holds : HoldsOpened (length (state_now s).told) opening.sizes opening.number words t
+  pub ran : SomeCalls true s t
+
+-- the image on a medium, seen so, is opened so
+abbrev pub OpensImage : {M : Type 0} {ghosts : Ghosts M} → (M → Sight) → Bool → Opening → M → Opened M ghosts → Type 0
+OpensImage sight makes opening medium o = Opens makes opening o.words.items (sight medium) (sight (medium_of o.back))
+
+-- the medium is given back with a prefix of that done
+abbrev pub OpensImagePartly : {M : Type 0} → (M → Sight) → Bool → Opening → M → Fault × M → Type 0
+OpensImagePartly sight makes opening medium refused = OpensPartly makes opening (sight medium) (sight refused.1)
+
+-- the medium's content recovers to each opening that the opened image has, and the image is opened at it
+abbrev pub OpensOwn : {M : Type 0} {ghosts : Ghosts M} → (M → Sight) → M → Opened M ghosts → Type 0
+OpensOwn sight medium o =
+    (opening : Opening) → IsOpeningOf o opening → IsOpeningOn (sight medium) opening × OpensImage sight false opening medium o
+
+-- the medium is given back, with a prefix of that done for each opening that its content recovers to
+abbrev pub OpensOwnPartly : {M : Type 0} → (M → Sight) → M → Fault × M → Type 0
+OpensOwnPartly sight medium refused =
+    (opening : Opening) → IsOpeningOn (sight medium) opening → OpensImagePartly sight false opening medium refused
+
+-- where the content recovers to nothing, the medium is only read
+abbrev pub OnlyReadsUnopened : {X M : Type 0} → (M → Sight) → M → Result X (Fault × M) → Type 0
+OnlyReadsUnopened sight medium result = ((opening : Opening) → IsOpeningOn (sight medium) opening → ⊥)
+    → IfErr result (λ refused. (ok : Bool) × OnlyReads ok (sight medium) (sight refused.1))
