@@ -7,7 +7,7 @@ use Rattle.pmem_trait.specs.declared.medium.Medium.{Ghosts}
 use Rattle.pmem_trait.specs.Sights.{Sight, state_now, Risen}
 use Rattle.redo_record.specs.BackCalls.{read_page_calls}
 use Rattle.back_store.specs.declared.back.Back.{Back}
-use Rattle.back_store.specs.Back.{BackState, IsRingFull, home_now, ring_full}
+use Rattle.back_store.specs.Back.{BackState, IsPersistFault, IsRingFull, home_now, ring_full}
 use Rattle.back_store.specs.Answers.{Announces, CallsAnswered, ReproducesUnlessDead, persist_calls}
 use Rattle.back_store.specs.Images.{HasReproduced, HomeStays, StillHoldsStore, RecoversOnTheWay}
 use Rattle.back_store.specs.Told.{WereTold}
@@ -84,7 +84,7 @@ pub record HasPersistCause {M : Type 0} {ghosts : Ghosts M} (ring : ℕ) (b : Re
   -- Device only where the medium's count of faults rose in this call
   pub device : IsErrOf result Device → Risen (sight_of old).faults (sight_of new).faults
   -- and no other
-  pub only : IfErr result (λ fault. (fault ≡ ring_full (state_of old) ring b) ⊎ (fault ≡ Device) ⊎ (fault ≡ Dead))
+  pub only : IfErr result (IsPersistFault (state_of old) ring b)
   -- where the back isn't dead and the count didn't rise, the call succeeds, or the ring has no room
   pub succeeds : (state_of old).dead ≡ false → (Risen (sight_of old).faults (sight_of new).faults → ⊥)
       → IsOk result ⊎ IsErrOf result (ring_full (state_of old) ring b)

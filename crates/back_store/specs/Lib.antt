@@ -1,6 +1,6 @@
 pub mod Answers
 pub mod Back
-pub mod Faults
 pub mod Images
+pub mod PageReads
 pub mod Told
 pub mod BackView

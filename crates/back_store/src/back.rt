@@ -1,19 +1,16 @@
 //! The back of the store, over any medium.
 
-ghost use Rattle.std.specs.Prelude.{◌≡◌, ◌⊎◌, ◌↔◌, ℕ, ◌+◌, ◌*◌, ◌<◌, ◌≤◌, IfOk, IfErr, IsErrOf, IsTrue, MatchResult, OnOk, List, false, true, slice_index};
+ghost use Rattle.std.specs.Prelude.{◌≡◌, ◌⊎◌, ◌↔◌, ℕ, ◌*◌, ◌<◌, ◌≤◌, IfOk, IfErr, IsErrOf, IsTrue, MatchResult, OnOk, List, false, true};
 ghost use Rattle.dude_base.specs.declared.limits.TheConstants.{MAX_NUMBER, PAGE};
 ghost use Rattle.dude_base.specs.Sizes.{IsAccepted};
 ghost use Rattle.dude_base.specs.Image.{home_word, image_words};
-ghost use Rattle.pmem_trait.specs.Words.{value_of};
 ghost use Rattle.pmem_trait.specs.Sights.{Extends, state_now};
 ghost use Rattle.redo_record.specs.BackCalls.{read_page_calls};
-ghost use Rattle.redo_record.specs.BackLaws.{CanPersist};
-ghost use Rattle.log_ring.specs.Ring.{next_head};
-ghost use Rattle.log_waiting.specs.Lanes.{lane_at};
-ghost use Rattle.log_waiting.specs.Backlog.{IsLawful, StopsAfter, log_of};
-ghost use Rattle.back_store.specs.Back.{EndsFrom, IsRingFull, MayPersist, idle, ring_full};
+ghost use Rattle.log_waiting.specs.Backlog.{CanWait, IsLawful, StopsAfter};
+ghost use Rattle.back_store.specs.Back.{EndsFrom, IsPersistFault, IsRingFull, MayPersist, idle, ring_full};
 ghost use Rattle.back_store.specs.Answers.{CallsAnswered, SparesMedium, after_announce, after_persist, after_read, after_reproduce, with_record};
 ghost use Rattle.back_store.specs.Images.{IsIdleMedium, HoldsStore};
+ghost use Rattle.back_store.specs.PageReads.{AreWordsFrom};
 ghost use Rattle.back_store.specs.declared.back_fault.BackFault.TheVariants.{Device, Dead};
 
 use crate::back_fault::BackFault;
@@ -90,12 +87,9 @@ impl<M: Medium> Back<M> {
         ensures full { IsErrOf result (ring_full (state_of self.old) ring r.now)
             ↔ ((state_of self.old).dead ≡ false) × IsRingFull (state_of self.old) ring r.now }
         ensures dead { IsErrOf result Dead ↔ ((state_of self.old).dead ≡ true) }
-        ensures fault { IfErr result (λ fault.
-            (fault ≡ ring_full (state_of self.old) ring r.now) ⊎ (fault ≡ Device) ⊎ (fault ≡ Dead)) }
-        ensures can { (state_of self.old).dead ≡ false → (home : List ℕ)
-            → (IsRingFull (state_of self.old) ring r.now → ⊥)
-            → CanPersist (log_of (state_of self.old).log home)
-            (next_head (lane_at (state_of self.old).log.lanes ring).ring) r.now }
+        ensures fault { IfErr result (IsPersistFault (state_of self.old) ring r.now) }
+        ensures can { (state_of self.old).dead ≡ false
+            → CanWait (state_of self.old).log ring r.now }
     {
         if self.dead {
             return Err(BackFault::Dead);
@@ -156,9 +150,8 @@ impl<M: Medium> Back<M> {
         ensures state { state_of self.new ≡ after_read result (state_of self.old) }
         ensures calls { CallsAnswered result (read_page_calls (state_of self.old).log.sizes page)
             (sight_of self.old) (sight_of self.new) }
-        ensures words { OnOk result (IsTrue (sight_of self.old).is_visible → (i : ℕ) → i < PAGE
-            → slice_index into.new i ≡ value_of ((state_now (sight_of self.old)).word
-            (home_word (state_of self.old).log.sizes (page * PAGE) + i))) }
+        ensures words { OnOk result (AreWordsFrom
+            (home_word (state_of self.old).log.sizes (page * PAGE)) (sight_of self.old) into.new) }
         ensures dead { IsErrOf result Dead ↔ ((state_of self.old).dead ≡ true) }
         ensures fault { IfErr result (λ fault. (fault ≡ Device) ⊎ (fault ≡ Dead)) }
     {
@@ -279,13 +272,6 @@ impl<M: Medium> Back<M> {
         ensures { result ≡ medium_of self }
     {
         self.medium
-    }
-
-    /// How many rings there are.
-    pub fn rings(&self) -> u64
-        ensures { result ≡ (state_of self.now).log.sizes.rings }
-    {
-        self.log.place().sizes().rings
     }
 
     /// How many cells each ring has.

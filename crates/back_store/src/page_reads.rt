@@ -1,11 +1,8 @@
 //! The reads of a page.
 
-ghost use Rattle.std.specs.Prelude.{◌≡◌, ℕ, ◌+◌, ◌<◌, ◌≤◌, is_ok, map, slice_index, IsTrue, OnOk};
-ghost use Rattle.std.specs.List.{range_with_len};
+ghost use Rattle.std.specs.Prelude.{◌≡◌, ◌+◌, ◌≤◌, OnOk};
 ghost use Rattle.dude_base.specs.declared.limits.TheConstants.{PAGE};
-ghost use Rattle.pmem_trait.specs.declared.call.Call.TheVariants.{Read};
-ghost use Rattle.pmem_trait.specs.Words.{value_of};
-ghost use Rattle.pmem_trait.specs.Sights.{state_now, CallsMade};
+ghost use Rattle.back_store.specs.PageReads.{AreWordsFrom, ReadsFrom};
 
 use dude_base::limits::PAGE;
 use pmem_trait::{Failed, Medium};
@@ -18,8 +15,8 @@ pub fn read_words<M: Medium>(
 ) -> Result<(), Failed>
     requires { at + PAGE ≤ (M.sight m.old).len }
     ensures len { (M.sight m.new).len ≡ (M.sight m.old).len }
-    ensures made { CallsMade (map Read (range_with_len at PAGE)) (is_ok result) (M.sight m.old) (M.sight m.new) }
-    ensures words { OnOk result (IsTrue (M.sight m.old).is_visible → (i : ℕ) → i < PAGE → slice_index into.new i ≡ value_of ((state_now (M.sight m.old)).word (at + i))) }
+    ensures made { ReadsFrom at result (M.sight m.old) (M.sight m.new) }
+    ensures words { OnOk result (AreWordsFrom at (M.sight m.old) into.new) }
 {
     for i in 0..PAGE {
         into[i as usize] = m.read(at + i)?;

@@ -1,6 +1,6 @@
 -- The calls by which requests are served, one request after another.
-use Rattle.std.proofs.Common.{◌≡◌, ℕ, true, false, List, [], ◌∷◌, ◌++◌, None, append_assoc, append-nil, refl, sym, ap, ◌∙◌, subst}
-use Rattle.std.specs.Prelude.{AllPairs, IsPermutation}
+use Rattle.std.proofs.Common.{◌≡◌, ℕ, true, false, List, [], ◌∷◌, ◌++◌, None, Result, Ok, Err, append_assoc, append-nil, refl, sym, ap, ◌∙◌, subst}
+use Rattle.std.specs.Prelude.{AllPairs, IsPermutation, OnOk}
 use Rattle.dude_base.specs.Records.{RedoRecord}
 use Rattle.pmem_trait.specs.declared.medium.Medium.{Ghosts}
 use Rattle.pmem_trait.specs.declared.call.Call.{Call}
@@ -15,6 +15,7 @@ use Rattle.log_numbered.specs.LogCalls.{AnnouncedBy, AppendedBy, CheckpointedBy,
 use Rattle.log_numbered.specs.RunLog.{log_parts}
 use Rattle.log_numbered.proofs.LoggedCalls.{parts}
 use Rattle.dude_engine.specs.declared.run.Run.{Run}
+use Rattle.dude_engine.specs.declared.run_fault.RunFault.{RunFault}
 use Rattle.dude_engine.specs.RunCalls.{MakesItsCalls, RunBy, ServedBy, ServedBy.logged, ServedBy.told, ServedBy.silent, ServedInTurn, ServedInTurn.none, ServedInTurn.next}
 use Rattle.dude_engine.specs.Running.{ServesMore}
 
@@ -42,6 +43,16 @@ module _ {M : Type 0} {ghosts : Ghosts M} where
   -- no request more
   pub serves_none : (run : Run M ghosts) (s : Sight) → ServesMore run s run s
   serves_none run s = record { more = []; done = sym (append-nil run.done.items); makes = ([], none, no_call) }
+
+  -- from a run with the same log and the same done
+  pub serves_from : (s t : Sight) (run other later : Run M ghosts) (result : Result (Unit {0}) RunFault) → other.done.items ≡ run.done.items → log_parts other.log ≡ log_parts run.log
+      → OnOk result (ServesMore other s later t) → OnOk result (ServesMore run s later t)
+  serves_from s t run other later (Ok served) done log m = record {
+    more = m.more;
+    done = m.done ∙ ap (λ (x : List Done). x ++ m.more) done;
+    makes = subst (λ (k : LogParts). Makes (ServedInTurn m.more k (log_parts later.log)) s t) log m.makes;
+  }
+  serves_from s t run other later (Err fault) done log m = tt
 
   -- one more
   pub serves_one : (run later : Run M ghosts) (d : Done) (s t : Sight) → later.done.items ≡ run.done.items ++ d ∷ [] → Makes (ServedBy d (log_parts run.log) (log_parts later.log)) s t → ServesMore run s later t

@@ -1,6 +1,6 @@
 -- What each request leaves of a run.
-use Rattle.std.proofs.Common.{◌≡◌, ◌≢◌, Result, Err, ℕ, ◌+◌, ◌*◌, ◌≤◌, true, false, IsTrue, List, [], ◌∷◌, ◌++◌, length, length-append, refl, sym, ap, ◌∙◌, subst, arith}
-use Rattle.std.specs.Prelude.{if◌then◌else◌}
+use Rattle.std.proofs.Common.{◌≡◌, ◌≢◌, Result, Ok, Err, ℕ, ◌+◌, ◌*◌, ◌≤◌, true, false, IsTrue, List, [], ◌∷◌, ◌++◌, length, length-append, refl, sym, ap, ◌∙◌, subst, arith}
+use Rattle.std.specs.Prelude.{OnOk, if◌then◌else◌}
 use Rattle.std.proofs.lemmas.List.Elements.{All-nil}
 use Rattle.dude_base.specs.declared.limits.TheConstants.{PAGE}
 use Rattle.dude_base.specs.declared.sizes.Sizes.{Sizes}
@@ -256,3 +256,8 @@ served_stands opening lay performed d new layout serves =
 pub unchanged : (reply : Reply) → reply ≢ Changed → false ≡ is_changed reply
 unchanged Changed other = absurd (other refl)
 unchanged _ other = refl
+
+-- where there is a fault nothing is to show of an Ok
+pub fault_on_ok : (P : Type 0) (result : Result (Unit {0}) RunFault) (fault : RunFault) → result ≡ Err fault → OnOk result P
+fault_on_ok P (Ok done) fault is = absurd (cc)
+fault_on_ok P (Err other) fault is = tt

@@ -1,19 +1,21 @@
 -- What a run on one thread does.
-use Rattle.std.specs.Prelude.{◌≡◌, ◌↔◌, ℕ, Bool, true, false, IsTrue, List}
-use Rattle.pmem_trait.specs.Sights.{Sight, state_now, AtEveryMoment, SomeCalls}
+use Rattle.std.specs.Prelude.{◌≡◌, ◌↔◌, ℕ, ◌≤◌, All, Bool, true, false, IsTrue, List}
+use Rattle.pmem_trait.specs.Sights.{AtEveryMoment, Risen, Sight, SomeCalls, state_now}
 use Rattle.tatp_model.specs.declared.done.Done.{Done}
 use Rattle.tatp_model.specs.declared.request.Request.{Request}
-use Rattle.tatp_model.specs.OneThread.{AllAreDone, IsPrintedOrder}
+use Rattle.tatp_model.specs.OneThread.{AllAreDone, IsPrintedOrder, RepliesOfOneThread, is_sync}
 use Rattle.tatp_layout.specs.StandsFor.{StandsFor}
 use Rattle.pmem_trait.specs.declared.medium.Medium.{Ghosts}
-use Rattle.run_order.specs.Runs.{Performs, Collects}
+use Rattle.run_order.specs.Runs.{Collects, Performs, SyncsFollow}
 use Rattle.image_opening.specs.declared.opened.Opened.{Opened}
 use Rattle.image_opening.specs.Opened.{HoldsOpened}
+use Rattle.back_store.specs.BackView.{sight_of, state_of}
 use Rattle.back_store.specs.Told.{WereTold}
 use Rattle.dude_engine.specs.declared.ran.RanEnd.{RanEnd}
-use Rattle.dude_engine.specs.declared.ran.RanEnd.TheVariants.{Device}
+use Rattle.dude_engine.specs.declared.ran.RanEnd.TheVariants.{Device, Whole}
 use Rattle.dude_engine.specs.Opening.{Opening, last_of, RecoversFrom}
-use Rattle.dude_engine.specs.Endings.{End}
+use Rattle.dude_engine.specs.Endings.{AreSyncsTold, End}
+use Rattle.dude_engine.specs.RunCalls.{MakesItsCalls}
 
 -- the run starts from this opening: that of the image, with a database for which its home stands
 pub record IsOpeningOf {M : Type 0} {ghosts : Ghosts M} (o : Opened M ghosts) (opening : Opening) : Type 0 where
@@ -54,3 +56,34 @@ IsLastTold end opening last s t = WereTold (ran_well end) opening.number last (s
 -- A call on the medium failed, the last one, exactly where the run says so.
 abbrev pub RanUnlessDevice : RanEnd → Sight → Sight → Type 0
 RanUnlessDevice end s t = (ok : Bool) × SomeCalls ok s t × ((ok ≡ false) ↔ (end ≡ Device))
+
+-- Replies: what is done, from this opening on.
+pub record AnswersFiles (opening : Opening) (files : List (List Request)) (done : List Done) : Type 0 where
+  -- the requests are performed in rounds
+  pub performs : PerformsInRounds opening files done
+  -- and answered as one thread answers along the printed order
+  pub replies : RepliesOfOneThread opening.number opening.sizes.calls opening.database files done
+
+-- Sync: the numbers of the `SYNC`s.
+pub record TellsSyncs (first : ℕ) (done : List Done) (s t : Sight) : Type 0 where
+  -- each is at least each earlier number of its file
+  pub follow : SyncsFollow done
+  -- and the opening number
+  pub from : All (λ d. IsTrue (is_sync d.request) → first ≤ d.number) done
+  -- and at most the last number told
+  pub told : IsTrue s.is_visible → AreSyncsTold done s t
+
+-- End: how a run over this image ends, and what is told.
+pub record EndsAs {M : Type 0} {ghosts : Ghosts M} (o : Opened M ghosts) (files : List (List Request)) (done : List Done) (end : RanEnd) (last : ℕ) (t : Sight) : Type 0 where
+  -- the medium is as long as before
+  pub len : t.len ≡ (sight_of o.back).len
+  -- at Whole all is done, told and in the home
+  pub whole : end ≡ Whole → (opening : Opening) → IsOpeningOf o opening → IsWhole opening o.words.items files done last (sight_of o.back) t
+  -- at Whole exactly the calls of such a run were made
+  pub calls : end ≡ Whole → MakesItsCalls (state_of o.back) done last (sight_of o.back) t
+  -- the last number told
+  pub last_told : IsTrue (sight_of o.back).is_visible → (opening : Opening) → IsOpeningOf o opening → IsLastTold end opening last (sight_of o.back) t
+  -- a call on the medium failed exactly at Device
+  pub ran : RanUnlessDevice end (sight_of o.back) t
+  -- and the medium's count of faults rose then
+  pub cause : end ≡ Device → Risen (sight_of o.back).faults t.faults

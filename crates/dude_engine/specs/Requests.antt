@@ -1,5 +1,6 @@
 -- The requests of several files.
-use Rattle.std.specs.Prelude.{ℕ, ◌+◌, List, length, fold, All}
+use Rattle.std.specs.Prelude.{ℕ, ◌+◌, ◌*◌, ◌≤◌, List, length, fold, All}
+use Rattle.dude_base.specs.declared.limits.TheConstants.{MAX_NUMBER}
 use Rattle.tatp_model.specs.declared.request.Request.{Request}
 use Rattle.tatp_model.specs.Request.{IsInRange}
 
@@ -10,3 +11,11 @@ request_count files = fold (λ count file. count + length file) 0 files
 -- each request of each file is in range
 abbrev pub AreInRange : List (List Request) → Type 0
 AreInRange files = All (All IsInRange) files
+
+-- the numbers behind this one are enough for a run of these files: 65 for each request
+abbrev pub HasNumbersFor : ℕ → List (List Request) → Type 0
+HasNumbersFor first files = first + 65 * request_count files ≤ MAX_NUMBER
+
+-- one for each request
+abbrev pub HasNumberEach : ℕ → List (List Request) → Type 0
+HasNumberEach first files = first + request_count files ≤ MAX_NUMBER

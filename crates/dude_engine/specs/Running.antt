@@ -1,6 +1,6 @@
 -- Where a run on one thread stands between two requests, and what a failed call leaves of it.
-use Rattle.std.specs.Prelude.{◌≡◌, ◌⊎◌, ℕ, ◌*◌, ◌≤◌, Bool, true, false, IsTrue, List, [], ◌∷◌, ◌++◌, length, map, fold, All, Result, Ok, Err, Some, slice_get}
-use Rattle.dude_base.specs.declared.limits.TheConstants.{PAGE}
+use Rattle.std.specs.Prelude.{◌≡◌, ◌⊎◌, ℕ, ◌+◌, ◌*◌, ◌<◌, ◌≤◌, AllPairs, Bool, IsPermutation, OnOk, true, false, IsTrue, List, [], ◌∷◌, ◌++◌, length, map, fold, All, Result, Ok, Err, Some, slice_get, vec_capacity, vec_len}
+use Rattle.dude_base.specs.declared.limits.TheConstants.{MAX_NUMBER, PAGE}
 use Rattle.dude_base.specs.declared.sizes.Sizes.{Sizes}
 use Rattle.dude_base.specs.Writes.{overwritten}
 use Rattle.pmem_trait.specs.declared.medium.Medium.{Ghosts}
@@ -9,18 +9,19 @@ use Rattle.pmem_trait.specs.Sights.{Sight, state_now, AtEveryMoment, Risen, Some
 use Rattle.word_space.specs.Flats.{words_of, flat_sight, fresh}
 use Rattle.tatp_model.specs.declared.done.Done.{Done}
 use Rattle.tatp_model.specs.declared.request.Request.{Request}
+use Rattle.tatp_model.specs.declared.reply.Reply.{Reply}
 use Rattle.tatp_model.specs.declared.reply.Reply.TheVariants.{Changed}
 use Rattle.tatp_model.specs.Database.{Database}
-use Rattle.tatp_model.specs.OneThread.{is_sync, RepliesAlong, after_number, after_requests}
+use Rattle.tatp_model.specs.OneThread.{AllAreDone, PrecedesInFiles, RepliesAlong, after_number, after_requests, is_sync}
 use Rattle.tatp_layout.specs.StandsFor.{StandsFor}
 use Rattle.tatp_core.specs.Serves.{Serves}
-use Rattle.run_order.specs.Runs.{IsNumberedFrom}
+use Rattle.run_order.specs.Runs.{Collects, IsNumberedFrom, PrecedesInRounds}
 use Rattle.image_opening.specs.Opened.{HoldsOpened}
 use Rattle.log_numbered.specs.declared.run_log.RunLog.{RunLog}
 use Rattle.log_numbered.specs.Arrays.{RunArrays, array_at, last_number}
 use Rattle.log_numbered.specs.LogCalls.{Makes}
 use Rattle.back_store.specs.Told.{WereTold}
-use Rattle.log_numbered.specs.RunLog.{Follows, IsAlive, log_durable, log_last, log_parts, log_sizes}
+use Rattle.log_numbered.specs.RunLog.{Follows, IsAlive, log_durable, log_last, log_medium, log_parts, log_sizes}
 use Rattle.dude_engine.specs.declared.ran.RanEnd.{RanEnd}
 use Rattle.dude_engine.specs.declared.ran.RanEnd.TheVariants.{Whole, Device as EndsOnDevice, NoMemory as EndsOnNoMemory}
 use Rattle.dude_engine.specs.declared.run.Run.{Run}
@@ -28,7 +29,7 @@ use Rattle.dude_engine.specs.declared.run_fault.RunFault.{RunFault}
 use Rattle.dude_engine.specs.declared.run_fault.RunFault.TheVariants.{Device, NoMemory}
 use Rattle.dude_engine.specs.Opening.{Opening, RecoversAt}
 use Rattle.dude_engine.specs.Endings.{AreSyncsTold, WasToldLast}
-use Rattle.dude_engine.specs.RunCalls.{ServedInTurn}
+use Rattle.dude_engine.specs.RunCalls.{RunBy, ServedInTurn}
 
 -- the number of the last request performed, or the opening one
 abbrev pub last_performed : ℕ → List Done → ℕ
@@ -126,6 +127,10 @@ pub record IsChanging {M : Type 0} {ghosts : Ghosts M} (request : Request) (run 
   pub count : length (words_of run.words) ≡ run.lay.pages * PAGE
   pub serves : (db : Database) → StandsFor run.lay (words_of run.words) db → Serves run.lay db request Changed (overwritten (flat_sight run.words).writes (words_of run.words))
 
+-- a request done that wrote nothing
+abbrev pub silent_done : ℕ → ℕ → ℕ → Request → Reply → Done
+silent_done file index number request reply = record { file = file; index = index; number = number; wrote = false; request = request; reply = reply }
+
 -- One request more is done, the one at this place.
 pub record Adds (file index : ℕ) (request : Request) (old new : List Done) : Type 0 where
   pub entry : Done
@@ -163,3 +168,76 @@ abbrev pub went_well : Result (Unit {0}) RunFault → Bool
 went_well (Ok done) = true
 went_well (Err NoMemory) = true
 went_well (Err Device) = false
+
+-- ---- what the calls of a run ask and leave
+
+-- what clauses see of the medium of a run
+abbrev pub run_sight : {M : Type 0} {ghosts : Ghosts M} → Run M ghosts → Sight
+run_sight {M} {ghosts} run = ghosts.sight (log_medium run.log)
+
+-- A run is ready, and nothing is done.
+pub record IsAtStart {M : Type 0} {ghosts : Ghosts M} (run : Run M ghosts) : Type 0 where
+  pub ready : IsReady run
+  pub empty : run.done.items ≡ []
+
+-- there is room to note a request more
+abbrev pub HasRoomToNote : {M : Type 0} {ghosts : Ghosts M} → Run M ghosts → Type 0
+HasRoomToNote run = vec_len run.done < vec_capacity run.done
+
+-- A request of this file may be served.
+pub record MayServe {M : Type 0} {ghosts : Ghosts M} (file : ℕ) (run : Run M ghosts) : Type 0 where
+  -- the run is ready
+  pub ready : IsReady run
+  -- there is room to note it
+  pub room : HasRoomToNote run
+  -- there is a number more
+  pub number : log_last run.log < MAX_NUMBER
+  -- and a ring for the file
+  pub ring : file < run.lay.rings
+
+-- from one run to another no more numbers are drawn than requests are noted
+abbrev pub NumbersNoMore : {M : Type 0} {ghosts : Ghosts M} → Run M ghosts → Run M ghosts → Type 0
+NumbersNoMore old new = log_last new.log + vec_len old.done ≤ log_last old.log + vec_len new.done
+
+-- from one run to another the request is noted as done, as `AddsUnless` says
+abbrev pub NotesUnless : {M : Type 0} {ghosts : Ghosts M} → Result (Unit {0}) RunFault → ℕ → ℕ → Request → Run M ghosts → Run M ghosts → Type 0
+NotesUnless result file index request old new = AddsUnless result file index request old.done.items new.done.items
+
+-- the same for the turn of a file, as `AddsTurn` says
+abbrev pub NotesTurn : {M : Type 0} {ghosts : Ghosts M} → Result (Unit {0}) RunFault → ℕ → ℕ → List Request → Run M ghosts → Run M ghosts → Type 0
+NotesTurn result file index requests old new = AddsTurn result file index requests old.done.items new.done.items
+
+-- from each opening on that the old run began at: what is left is as `IsLeft` says
+abbrev pub LeavesOn : {M : Type 0} {ghosts : Ghosts M} → Result (Unit {0}) RunFault → Run M ghosts → Run M ghosts → Type 0
+LeavesOn result old new = (opening : Opening) (words : List ℕ) (s : Sight) → Runs opening words old s (run_sight old)
+    → IsLeft result opening words new s (run_sight new)
+
+-- What is left of a run when some requests were served.
+pub record LeavesRun {M : Type 0} {ghosts : Ghosts M} (result : Result (Unit {0}) RunFault) (old new : Run M ghosts) : Type 0 where
+  -- at Ok it is ready for the next one
+  pub ready : OnOk result (IsReady new)
+  -- the layout stays, and the room for what is done
+  pub lay : new.lay ≡ old.lay
+  pub room : vec_capacity new.done ≡ vec_capacity old.done
+  -- it stands behind what is done, or ended as the fault says
+  pub left : LeavesOn result old new
+  -- at Ok exactly the calls for what is done were made
+  pub calls : OnOk result (ServesMore old (run_sight old) new (run_sight new))
+
+-- The requests of files are performed in rounds.
+pub record PerformsFiles (result : Result (Unit {0}) RunFault) (files : List (List Request)) (performed : List Done) : Type 0 where
+  -- those of an earlier round come first, and in a round those of an earlier file
+  pub rounds : AllPairs PrecedesInRounds performed
+  -- put in the order of the files they are the first ones of each
+  pub collects : (done : List Done) → IsPermutation performed done → AllPairs PrecedesInFiles done → Collects files performed done
+  -- at Ok all of them
+  pub all : OnOk result ((done : List Done) → IsPermutation performed done → AllPairs PrecedesInFiles done → AllAreDone files done)
+
+-- exactly the calls of the run up to its last number were made
+abbrev pub MakesRun : {M : Type 0} {ghosts : Ghosts M} → Run M ghosts → Run M ghosts → Type 0
+MakesRun old new = Makes (RunBy (log_parts old.log) new.done.items (log_durable new.log)) (run_sight old) (run_sight new)
+
+-- from each opening on that the old run began at, the new one is settled
+abbrev pub SettlesRun : {M : Type 0} {ghosts : Ghosts M} → Run M ghosts → Run M ghosts → Type 0
+SettlesRun old new = (opening : Opening) (words : List ℕ) (s : Sight) → Runs opening words old s (run_sight old)
+    → IsSettledRun opening words (log_durable new.log) new.done.items s (run_sight new)

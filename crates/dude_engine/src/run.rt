@@ -1,20 +1,13 @@
 //! A run on one thread: it serves requests in rounds, logs what they write, and settles at the end.
 
-ghost use Rattle.std.specs.Prelude.{◌≡◌, ℕ, ◌+◌, ◌*◌, ◌<◌, ◌≤◌, List, [], ◌∷◌, ◌++◌, map, length, All, AllPairs, IsPermutation, OnOk, OnErr, false, true, vec_len, vec_capacity};
+ghost use Rattle.std.specs.Prelude.{◌≡◌, ◌+◌, ◌<◌, ◌≤◌, [], ◌∷◌, ◌++◌, map, length, All, OnOk, false, vec_capacity};
 ghost use Rattle.dude_base.specs.declared.limits.TheConstants.{MAX_NUMBER};
-ghost use Rattle.pmem_trait.specs.Sights.{Sight};
-ghost use Rattle.tatp_model.specs.declared.done.Done.{Done};
-ghost use Rattle.tatp_model.specs.declared.reply.Reply.TheVariants.{Changed};
 ghost use Rattle.tatp_model.specs.declared.request.Request.TheVariants.{Sync};
-ghost use Rattle.tatp_model.specs.OneThread.{AllAreDone, PrecedesInFiles, is_changed, is_sync};
+ghost use Rattle.tatp_model.specs.OneThread.{is_sync};
 ghost use Rattle.tatp_model.specs.Request.{IsInRange};
-ghost use Rattle.run_order.specs.Runs.{Collects, PrecedesInRounds};
-ghost use Rattle.log_numbered.specs.LogCalls.{Makes};
-ghost use Rattle.log_numbered.specs.RunLog.{log_durable, log_last, log_medium, log_parts};
-ghost use Rattle.dude_engine.specs.Opening.{Opening};
-ghost use Rattle.dude_engine.specs.Requests.{AreInRange, request_count};
-ghost use Rattle.dude_engine.specs.RunCalls.{RunBy};
-ghost use Rattle.dude_engine.specs.Running.{AddsTurn, AddsUnless, IsChanging, IsLeft, IsReady, IsSettledRun, Runs, ServesMore};
+ghost use Rattle.log_numbered.specs.RunLog.{log_last};
+ghost use Rattle.dude_engine.specs.Requests.{AreInRange, HasNumberEach, HasNumbersFor, request_count};
+ghost use Rattle.dude_engine.specs.Running.{HasRoomToNote, IsAtStart, IsChanging, IsReady, LeavesOn, LeavesRun, MakesRun, MayServe, NotesTurn, NotesUnless, NumbersNoMore, PerformsFiles, SettlesRun, silent_done};
 
 use crate::run_fault::RunFault;
 use log_numbered::RunLog;
@@ -38,19 +31,14 @@ impl<M: Medium> Run<M> {
     /// Performs the requests of all files in rounds, and announces and reproduces all at the end. Room for what is done is
     /// taken at the start.
     pub fn run_all(&mut self, files: &[Vec<Request>]) -> Result<(), RunFault>
-        requires ready { IsReady self.old }
-        requires empty { self.old.done.items ≡ [] }
+        requires start { IsAtStart self.old }
         requires rings { length files.now ≤ self.old.lay.rings }
         requires in_range { AreInRange (map (λ f. f.items) files.now) }
-        requires numbers { log_last self.old.log + 65 * request_count (map (λ f. f.items) files.now) ≤ MAX_NUMBER }
-        ensures left { (opening : Opening) (words : List ℕ) (s : Sight) → Runs opening words self.old s (M.sight (log_medium self.old.log))
-            → IsLeft result opening words self.new s (M.sight (log_medium self.new.log)) }
-        ensures rounds { AllPairs PrecedesInRounds self.new.done.items }
-        ensures collects { (done : List Done) → IsPermutation self.new.done.items done → AllPairs PrecedesInFiles done → Collects (map (λ f. f.items) files.now) self.new.done.items done }
-        ensures all { OnOk result ((done : List Done) → IsPermutation self.new.done.items done → AllPairs PrecedesInFiles done → AllAreDone (map (λ f. f.items) files.now) done) }
-        ensures calls { OnOk result (Makes (RunBy (log_parts self.old.log) self.new.done.items (log_durable self.new.log)) (M.sight (log_medium self.old.log)) (M.sight (log_medium self.new.log))) }
-        ensures settled { OnOk result ((opening : Opening) (words : List ℕ) (s : Sight) → Runs opening words self.old s (M.sight (log_medium self.old.log))
-            → IsSettledRun opening words (log_durable self.new.log) self.new.done.items s (M.sight (log_medium self.new.log))) }
+        requires numbers { HasNumbersFor (log_last self.old.log) (map (λ f. f.items) files.now) }
+        ensures left { LeavesOn result self.old self.new }
+        ensures performs { PerformsFiles result (map (λ f. f.items) files.now) self.new.done.items }
+        ensures calls { OnOk result (MakesRun self.old self.new) }
+        ensures settled { OnOk result (SettlesRun self.old self.new) }
     {
         let count = count_requests(files);
         self.done.reserve_exact(count)?;
@@ -61,19 +49,13 @@ impl<M: Medium> Run<M> {
 
     /// Performs the requests of all files in rounds.
     fn serve_all(&mut self, files: &[Vec<Request>]) -> Result<(), RunFault>
-        requires ready { IsReady self.old }
-        requires empty { self.old.done.items ≡ [] }
+        requires start { IsAtStart self.old }
         requires room { request_count (map (λ f. f.items) files.now) ≤ vec_capacity self.old.done }
         requires rings { length files.now ≤ self.old.lay.rings }
         requires in_range { AreInRange (map (λ f. f.items) files.now) }
-        requires numbers { log_last self.old.log + request_count (map (λ f. f.items) files.now) ≤ MAX_NUMBER }
-        ensures ready { OnOk result (IsReady self.new) }
-        ensures left { (opening : Opening) (words : List ℕ) (s : Sight) → Runs opening words self.old s (M.sight (log_medium self.old.log))
-            → IsLeft result opening words self.new s (M.sight (log_medium self.new.log)) }
-        ensures calls { OnOk result (ServesMore self.old (M.sight (log_medium self.old.log)) self.new (M.sight (log_medium self.new.log))) }
-        ensures rounds { AllPairs PrecedesInRounds self.new.done.items }
-        ensures collects { (done : List Done) → IsPermutation self.new.done.items done → AllPairs PrecedesInFiles done → Collects (map (λ f. f.items) files.now) self.new.done.items done }
-        ensures all { OnOk result ((done : List Done) → IsPermutation self.new.done.items done → AllPairs PrecedesInFiles done → AllAreDone (map (λ f. f.items) files.now) done) }
+        requires numbers { HasNumberEach (log_last self.old.log) (map (λ f. f.items) files.now) }
+        ensures leaves { LeavesRun result self.old self.new }
+        ensures performs { PerformsFiles result (map (λ f. f.items) files.now) self.new.done.items }
     {
         let longest = longest_file(files);
         for index in 0..longest {
@@ -87,18 +69,13 @@ impl<M: Medium> Run<M> {
     // The turn of a file: its request of this round is served, where it has one.
     fn serve_turn(&mut self, file: u64, index: u64, requests: &[Request]) -> Result<(), RunFault>
         requires ready { IsReady self.old }
-        requires room { index < length requests.now → vec_len self.old.done < vec_capacity self.old.done }
+        requires room { index < length requests.now → HasRoomToNote self.old }
         requires number { index < length requests.now → log_last self.old.log < MAX_NUMBER }
         requires ring { file < self.old.lay.rings }
         requires in_range { All IsInRange requests.now }
-        ensures ready { OnOk result (IsReady self.new) }
-        ensures lay { self.new.lay ≡ self.old.lay }
-        ensures room { vec_capacity self.new.done ≡ vec_capacity self.old.done }
-        ensures number { OnOk result (log_last self.new.log + vec_len self.old.done ≤ log_last self.old.log + vec_len self.new.done) }
-        ensures adds { AddsTurn result file index requests.now self.old.done.items self.new.done.items }
-        ensures left { (opening : Opening) (words : List ℕ) (s : Sight) → Runs opening words self.old s (M.sight (log_medium self.old.log))
-            → IsLeft result opening words self.new s (M.sight (log_medium self.new.log)) }
-        ensures calls { OnOk result (ServesMore self.old (M.sight (log_medium self.old.log)) self.new (M.sight (log_medium self.new.log))) }
+        ensures leaves { LeavesRun result self.old self.new }
+        ensures number { OnOk result (NumbersNoMore self.old self.new) }
+        ensures adds { NotesTurn result file index requests.now self.old self.new }
     {
         match requests.get(index as usize) {
             Some(request) => self.serve(file, index, request),
@@ -108,19 +85,11 @@ impl<M: Medium> Run<M> {
 
     /// Serves one request. Where the medium fails as the bundle before its record is persisted, it is noted as done too.
     fn serve(&mut self, file: u64, index: u64, request: &Request) -> Result<(), RunFault>
-        requires ready { IsReady self.old }
-        requires room { vec_len self.old.done < vec_capacity self.old.done }
-        requires number { log_last self.old.log < MAX_NUMBER }
-        requires ring { file < self.old.lay.rings }
+        requires may { MayServe file self.old }
         requires in_range { IsInRange request.now }
-        ensures ready { OnOk result (IsReady self.new) }
-        ensures lay { self.new.lay ≡ self.old.lay }
-        ensures room { vec_capacity self.new.done ≡ vec_capacity self.old.done }
+        ensures leaves { LeavesRun result self.old self.new }
         ensures number { OnOk result (log_last self.new.log ≤ log_last self.old.log + 1) }
-        ensures adds { AddsUnless result file index request.now self.old.done.items self.new.done.items }
-        ensures left { (opening : Opening) (words : List ℕ) (s : Sight) → Runs opening words self.old s (M.sight (log_medium self.old.log))
-            → IsLeft result opening words self.new s (M.sight (log_medium self.new.log)) }
-        ensures calls { OnOk result (ServesMore self.old (M.sight (log_medium self.old.log)) self.new (M.sight (log_medium self.new.log))) }
+        ensures adds { NotesUnless result file index request.now self.old self.new }
     {
         match request {
             Request::Sync => self.serve_sync(file, index),
@@ -131,15 +100,10 @@ impl<M: Medium> Run<M> {
     // Serves `SYNC`: all that is done is announced.
     fn serve_sync(&mut self, file: u64, index: u64) -> Result<(), RunFault>
         requires ready { IsReady self.old }
-        requires room { vec_len self.old.done < vec_capacity self.old.done }
-        ensures ready { OnOk result (IsReady self.new) }
-        ensures lay { self.new.lay ≡ self.old.lay }
-        ensures room { vec_capacity self.new.done ≡ vec_capacity self.old.done }
+        requires room { HasRoomToNote self.old }
+        ensures leaves { LeavesRun result self.old self.new }
         ensures number { OnOk result (log_last self.new.log ≡ log_last self.old.log) }
-        ensures adds { AddsUnless result file index Sync self.old.done.items self.new.done.items }
-        ensures left { (opening : Opening) (words : List ℕ) (s : Sight) → Runs opening words self.old s (M.sight (log_medium self.old.log))
-            → IsLeft result opening words self.new s (M.sight (log_medium self.new.log)) }
-        ensures calls { OnOk result (ServesMore self.old (M.sight (log_medium self.old.log)) self.new (M.sight (log_medium self.new.log))) }
+        ensures adds { NotesUnless result file index Sync self.old self.new }
     {
         let number = self.log.announce()?;
         self.note(file, index, number, Request::Sync, Reply::Durable);
@@ -148,20 +112,12 @@ impl<M: Medium> Run<M> {
 
     // Performs a request on the tables, and logs what it changed.
     fn perform(&mut self, file: u64, index: u64, request: &Request) -> Result<(), RunFault>
-        requires ready { IsReady self.old }
-        requires room { vec_len self.old.done < vec_capacity self.old.done }
-        requires number { log_last self.old.log < MAX_NUMBER }
-        requires ring { file < self.old.lay.rings }
+        requires may { MayServe file self.old }
         requires in_range { IsInRange request.now }
         requires no_sync { is_sync request.now ≡ false }
-        ensures ready { OnOk result (IsReady self.new) }
-        ensures lay { self.new.lay ≡ self.old.lay }
-        ensures room { vec_capacity self.new.done ≡ vec_capacity self.old.done }
+        ensures leaves { LeavesRun result self.old self.new }
         ensures number { OnOk result (log_last self.new.log ≤ log_last self.old.log + 1) }
-        ensures adds { AddsUnless result file index request.now self.old.done.items self.new.done.items }
-        ensures left { (opening : Opening) (words : List ℕ) (s : Sight) → Runs opening words self.old s (M.sight (log_medium self.old.log))
-            → IsLeft result opening words self.new s (M.sight (log_medium self.new.log)) }
-        ensures calls { OnOk result (ServesMore self.old (M.sight (log_medium self.old.log)) self.new (M.sight (log_medium self.new.log))) }
+        ensures adds { NotesUnless result file index request.now self.old self.new }
     {
         let reply = match run_request(&self.lay, &mut self.words, request) {
             Ok(reply) => reply,
@@ -185,18 +141,13 @@ impl<M: Medium> Run<M> {
     // Takes the pending writes as the record of the next number, notes the request, and logs the record.
     fn log_change(&mut self, file: u64, index: u64, request: &Request) -> Result<(), RunFault>
         requires change { IsChanging request.now self.old }
-        requires room { vec_len self.old.done < vec_capacity self.old.done }
+        requires room { HasRoomToNote self.old }
         requires number { log_last self.old.log < MAX_NUMBER }
         requires ring { file < self.old.lay.rings }
         requires no_sync { is_sync request.now ≡ false }
-        ensures ready { OnOk result (IsReady self.new) }
-        ensures lay { self.new.lay ≡ self.old.lay }
-        ensures room { vec_capacity self.new.done ≡ vec_capacity self.old.done }
+        ensures leaves { LeavesRun result self.old self.new }
         ensures number { OnOk result (log_last self.new.log ≡ log_last self.old.log + 1) }
-        ensures adds { AddsUnless result file index request.now self.old.done.items self.new.done.items }
-        ensures left { (opening : Opening) (words : List ℕ) (s : Sight) → Runs opening words self.old s (M.sight (log_medium self.old.log))
-            → IsLeft result opening words self.new s (M.sight (log_medium self.new.log)) }
-        ensures calls { OnOk result (ServesMore self.old (M.sight (log_medium self.old.log)) self.new (M.sight (log_medium self.new.log))) }
+        ensures adds { NotesUnless result file index request.now self.old self.new }
     {
         let number = self.log.last() + 1;
         let redo = self.words.take(number);
@@ -214,8 +165,9 @@ impl<M: Medium> Run<M> {
 
     // Notes a request that wrote nothing.
     fn note(&mut self, file: u64, index: u64, number: u64, request: Request, reply: Reply)
-        requires room { vec_len self.old.done < vec_capacity self.old.done }
-        ensures done { self.new.done.items ≡ self.old.done.items ++ (record { file = file; index = index; number = number; wrote = false; request = request; reply = reply }) ∷ [] }
+        requires room { HasRoomToNote self.old }
+        ensures done { self.new.done.items ≡ self.old.done.items
+            ++ (silent_done file index number request reply) ∷ [] }
         ensures room { vec_capacity self.new.done ≡ vec_capacity self.old.done }
         ensures log { self.new.log ≡ self.old.log }
         ensures lay { self.new.lay ≡ self.old.lay }

@@ -1,7 +1,8 @@
-ghost use Rattle.std.specs.Prelude.{◌≡◌, ℕ, ◌<◌, ◌≤◌, [], ◌∷◌, ◌++◌, ◌+◌, All, AllPairs, IfOk, List, length, slice_get, sum_by};
-ghost use Rattle.dude_base.specs.Writes.{HasDistinctPlaces, written, overwritten};
-ghost use Rattle.dude_base.specs.Records.{overwritten_by_all};
-ghost use Rattle.group_combine.specs.Group.{last_written, IsWrittenBy};
+//! A group: the last write of each word of some records, gathered in memory that was taken before.
+
+ghost use Rattle.std.specs.Prelude.{◌≡◌, ℕ, ◌<◌, ◌≤◌, [], ◌∷◌, ◌++◌, ◌+◌, All, AllPairs, IfOk, length, slice_get, sum_by};
+ghost use Rattle.dude_base.specs.Writes.{HasDistinctPlaces, written};
+ghost use Rattle.group_combine.specs.Group.{ActAs, IsWrittenBy, last_written};
 ghost use Rattle.group_combine.specs.Numbered.{last_of};
 
 use crate::numbered::{Numbered, keep_last, sort_by_word};
@@ -112,7 +113,7 @@ pub fn combine(list: &[Bundle], out: &mut Group)
     ensures rising { AllPairs (λ v w. v.at < w.at) out.new.writes }
     ensures last { (i : ℕ) → written out.new.writes i ≡ last_written list.now i }
     ensures each { All (IsWrittenBy list.now) out.new.writes }
-    ensures effect { (array : List ℕ) → overwritten out.new.writes array ≡ overwritten_by_all list.now array }
+    ensures effect { ActAs out.new.writes list.now }
     ensures few { length out.new.writes ≤ sum_by (λ r. length r.writes) list.now }
     ensures room { out.new.room ≡ out.old.room }
 {

@@ -1,16 +1,18 @@
 -- The open bundle is closed, and calls follow.
-use Rattle.std.proofs.Common.{◌≡◌, ℕ, ◌+◌, ◌≤◌, true, IsTrue, List, [], ◌∷◌, ◌++◌, Option, Some, None, append_assoc, sym, ap, ◌∙◌, subst, arith}
+use Rattle.std.proofs.Common.{◌≡◌, ℕ, ◌+◌, ◌≤◌, true, IsTrue, List, [], ◌∷◌, ◌++◌, Option, Some, None, append_assoc, refl, sym, ap, ◌∙◌, subst, arith}
 use Rattle.pmem_trait.specs.declared.medium.Medium.{Ghosts}
 use Rattle.pmem_trait.specs.Words.{EveryImage, IsImage}
 use Rattle.pmem_trait.specs.Sights.{Sight, state_now, AtEveryMoment}
 use Rattle.pmem_trait.proofs.Laws.{every_moment_then, every_moment_weaker}
 use Rattle.back_store.specs.Back.{home_now}
+use Rattle.log_numbered.specs.declared.bundle_log.BundleLog.{BundleLog}
 use Rattle.log_numbered.specs.declared.open_bundle.OpenBundle.{OpenBundle}
 use Rattle.log_numbered.specs.declared.run_log.RunLog.{RunLog}
 use Rattle.log_numbered.specs.Arrays.{LeadsToLast, RecoversIn, RunArrays, array_at, last_number}
 use Rattle.back_store.specs.Told.{WereTold}
 use Rattle.log_numbered.specs.Backs.{Any, CarriesOn, LogGoesOn, HomeIsAt, LeadsUpTo, RecoversAlong}
-use Rattle.log_numbered.specs.RunLog.{EndsAtLast, Follows, FollowsOn, HomeIsLast, IsAlive, IsOpen, OpenLeads, OpensUpTo, RecoversOn, log_back, log_durable, log_end, log_last, log_open, log_sizes}
+use Rattle.log_numbered.specs.BundleLog.{TellsOne, kept_back, kept_sight}
+use Rattle.log_numbered.specs.RunLog.{Closes, EndsAtLast, Follows, FollowsOn, HomeIsLast, IsAlive, IsOpen, OpenLeads, OpensUpTo, RecoversOn, TellsRun, log_back, log_durable, log_end, log_last, log_open, log_sight, log_sizes}
 use Rattle.log_numbered.proofs.GoingOn.{visible_after}
 use Rattle.back_store.proofs.ToldNumbers.{told_more}
 
@@ -96,3 +98,15 @@ module _ {M : Type 0} {ghosts : Ghosts M} where
         more.0,
         told (visible_after goes visible) ∙ ap (λ (l : List ℕ). l ++ end ∷ []) more.1 ∙ ap (λ (n : ℕ). (state_now s).told ++ more.0 ++ n ∷ []) same,
       )
+
+  -- a log whose open bundle was closed, and its last number then told
+  pub tells_behind : (k m : RunLog M ghosts) (n : BundleLog M ghosts) → log_last m ≡ log_last k → Closes k m → LogGoesOn true (log_back k) (log_sight k) (log_back m) (log_sight m)
+      → n.end ≡ log_end m → (kept_back n).log.durable ≡ log_end m → TellsOne (log_end m) (log_sight m) (kept_sight n)
+      → CarriesOn Any (log_back m) (log_end m) (log_sight m) (kept_back n) n.end (kept_sight n) → TellsRun k (record m { log = n })
+  tells_behind k m n last closed goes end durable told carries = record {
+    told = told_behind k m (log_sight k) (log_sight m) (kept_sight n) (log_end m) (log_last k) closed.end goes told;
+    last = last;
+    durable = durable ∙ closed.end;
+    follows = λ before a f.
+        closed_follows m (record m { log = n }) (log_sight m) (kept_sight n) Any (λ before a f. tt) carries (end ∙ closed.end ∙ sym last) refl closed.none_open before a (closed.follows before a f);
+  }

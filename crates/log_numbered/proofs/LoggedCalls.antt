@@ -46,10 +46,10 @@ pub settled_same : (w v : BackState) (reached last : ℕ) (t s u : Sight) → w 
 settled_same w v reached last t s u is same sight makes =
     (makes.0, subst (λ x. SettledBy x last makes.0) is (subst (λ n. SettledBy w n makes.0) same makes.1), subst (λ x. CallsMade makes.0 true x u) sight makes.2)
 
--- a record put in its ring, behind a settlement, by the answer
-pub appended_behind : {X E : Type 0} (result : Result X E) (ring : ℕ) (r : RedoBundle) (v m w : BackState) (last : ℕ) (s t u : Sight) → IsRingFull v ring r → first_of r ≡ last + 1 → m ≡ settled v last → Makes (SettledBy v last) s t
-    → OnOk result (Makes (PersistedBy ring r m w) t u) → OnOk result (Makes (BundlePersistedBy ring r v w) s u)
-appended_behind (Ok x) ring r v m w last s t u full next is settling persisting = (
+-- a record put in its ring, behind a settlement
+pub appended_behind : (ring : ℕ) (r : RedoBundle) (v m w : BackState) (last : ℕ) (s t u : Sight) → IsRingFull v ring r → first_of r ≡ last + 1 → m ≡ settled v last → Makes (SettledBy v last) s t
+    → Makes (PersistedBy ring r m w) t u → Makes (BundlePersistedBy ring r v w) s u
+appended_behind ring r v m w last s t u full next is settling persisting = (
   settling.0 ++ persisting.0,
   inr (record {
     full = full;
@@ -63,17 +63,11 @@ appended_behind (Ok x) ring r v m w last s t u full next is settling persisting 
   }),
   made_then settling.2 persisting.2,
 )
-appended_behind (Err e) ring r v m w last s t u full next is settling persisting = tt
 
 -- where the ring has room nothing is told
 pub persisted_untold : (ring : ℕ) (r : RedoBundle) (v w : BackState) (s t : Sight) → Makes (PersistedBy ring r v w) s t → IsTrue s.is_visible → (state_now t).told ≡ (state_now s).told
 persisted_untold ring r v w s t makes visible =
     told_same (subst (λ calls. CallsMade calls true s t) makes.1.calls_are makes.2) (append_tells_nothing v.log.sizes (next_head (lane_at v.log.lanes ring).ring) r) visible
-
--- and of a full ring there is nothing to show
-pub full_untold : {X E : Type 0} (result : Result X E) (ring : ℕ) (r : RedoBundle) (v : BackState) (s t : Sight) → IsRingFull v ring r → OnOk result ((IsRingFull v ring r → ⊥) → IsTrue s.is_visible → (state_now t).told ≡ (state_now s).told)
-full_untold (Ok x) ring r v s t full = λ room visible. absurd (room full)
-full_untold (Err e) ring r v s t full = tt
 
 -- ---- behind the closing of an open bundle
 

@@ -69,12 +69,16 @@ pub record Joins (cells : ℕ) (o : OpenBundle) (r : RedoRecord) : Type 0 where
   pub can : CanJoin o.bundle r
   pub short : cells_for (places_of o.bundle r) ≤ cells
 
+-- the open bundle with the record of the next number
+abbrev pub with_joined : OpenBundle → RedoRecord → OpenBundle
+with_joined o r = record o { bundle = with_next o.bundle r }
+
 -- The open bundle takes the record, without a call.
 pub record JoinedBy (r : RedoRecord) (k l : LogParts) (calls : List Call) : Type 0 where
   pub joined : OpenBundle
   pub was : k.current ≡ Some joined
   pub joins : Joins k.back.log.sizes.cells joined r
-  pub now : l.current ≡ Some (record joined { bundle = with_next joined.bundle r })
+  pub now : l.current ≡ Some (with_joined joined r)
   pub back : l.back ≡ k.back
   pub calls_are : calls ≡ []
 

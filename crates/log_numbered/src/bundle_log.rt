@@ -1,16 +1,8 @@
 //! The persisted part of a log: bundles are appended, announced, and brought home.
 
-ghost use Rattle.std.specs.Prelude.{◌≡◌, ◌+◌, ◌*◌, ◌<◌, ◌≤◌, [], ◌∷◌, ◌++◌, All, IfOk, IsTrue, OnOk, false, is_ok, length, true};
-ghost use Rattle.dude_base.specs.declared.limits.TheConstants.{MAX_NUMBER, PAGE};
-ghost use Rattle.dude_base.specs.Records.{first_of};
-ghost use Rattle.pmem_trait.specs.Sights.{CallsMade, state_now};
-ghost use Rattle.redo_record.specs.BackCalls.{announce_calls};
+ghost use Rattle.std.specs.Prelude.{◌≡◌, ◌≤◌, IfOk, OnOk, is_ok, length, true};
 ghost use Rattle.redo_record.specs.Record.{cells_for};
-ghost use Rattle.back_store.specs.Answers.{announced, reproduced};
-ghost use Rattle.back_store.specs.Back.{IsRingFull};
-ghost use Rattle.log_numbered.specs.Arrays.{LeadsToLast};
-ghost use Rattle.log_numbered.specs.Backs.{Any, CarriesOn, LogGoesOn, HomeIsAt, LeadsUpTo, RecoversAlong, WasFull};
-ghost use Rattle.log_numbered.specs.LogCalls.{BroughtHomeBy, BundlePersistedBy, Makes, PersistedBy, SettledBy, settled};
+ghost use Rattle.log_numbered.specs.Backs.{LeadsUpTo};
 
 use back_store::{Back, BackFault};
 use dude_base::bundle::Bundle;
@@ -24,22 +16,17 @@ pub struct BundleLog<M: Medium> {
 }
 
 impl<M: Medium> BundleLog<M> {
-    ghost use Rattle.log_numbered.specs.BundleLog.{kept_back, kept_medium};
+    ghost use Rattle.log_numbered.specs.BundleLog.{AnnouncesLast, AppendsNext, BringsAllHome, IsNextFor, KeptGoesOn, KeptRecovers, MakesCheckpoint, PersistsIf, PersistsNext, RecoversWith, WasFullUnless, kept_back};
 
     // Persists a bundle of the next numbers, where its ring has room. Answers whether it had.
     fn persist(&mut self, ring: u64, b: &Bundle) -> Result<bool, Failed>
         requires alive { LeadsUpTo (kept_back self.old) self.old.end }
-        requires ring { ring < (kept_back self.old).log.sizes.rings }
-        requires first { first_of b.now ≡ self.old.end + 1 }
-        requires small { b.now.last ≤ MAX_NUMBER }
-        requires home { All (λ w. w.at < (kept_back self.old).log.sizes.pages * PAGE) b.now.writes }
-        ensures goes_on { LogGoesOn (is_ok result) (kept_back self.old) (M.sight (kept_medium self.old)) (kept_back self.new) (M.sight (kept_medium self.new)) }
+        requires next { IsNextFor self.old ring b.now }
+        ensures goes_on { KeptGoesOn (is_ok result) self.old self.new }
         ensures alive { is_ok result ≡ true → LeadsUpTo (kept_back self.new) self.new.end }
-        ensures end { IfOk result (λ room. IsTrue room → self.new.end ≡ b.now.last) }
-        ensures calls { IfOk result (λ room. IsTrue room → Makes (PersistedBy ring b.now (kept_back self.old) (kept_back self.new)) (M.sight (kept_medium self.old)) (M.sight (kept_medium self.new))) }
-        ensures carries { IfOk result (λ room. IsTrue room → CarriesOn (λ a. LeadsToLast a self.old.end b.now) (kept_back self.old) self.old.end (M.sight (kept_medium self.old)) (kept_back self.new) self.new.end (M.sight (kept_medium self.new))) }
-        ensures full { IfOk result (λ room. room ≡ false → WasFull ring b.now (kept_back self.old) self.old.end (M.sight (kept_medium self.old)) (kept_back self.new) self.new.end (M.sight (kept_medium self.new))) }
-        ensures moments { RecoversAlong (λ a. LeadsToLast a self.old.end b.now) (kept_back self.old) self.old.end (M.sight (kept_medium self.old)) (M.sight (kept_medium self.new)) }
+        ensures persists { IfOk result (λ room. PersistsIf room ring b.now self.old self.new) }
+        ensures full { IfOk result (λ room. WasFullUnless room ring b.now self.old self.new) }
+        ensures moments { RecoversWith b.now self.old self.new }
     {
         match self.back.persist(ring, b) {
             Ok(()) => {
@@ -55,18 +42,13 @@ impl<M: Medium> BundleLog<M> {
     // Persists a bundle of the next numbers where nothing waits: its ring has room then.
     fn persist_alone(&mut self, ring: u64, b: &Bundle) -> Result<(), Failed>
         requires alive { LeadsUpTo (kept_back self.old) self.old.end }
-        requires ring { ring < (kept_back self.old).log.sizes.rings }
-        requires first { first_of b.now ≡ self.old.end + 1 }
-        requires small { b.now.last ≤ MAX_NUMBER }
-        requires home { All (λ w. w.at < (kept_back self.old).log.sizes.pages * PAGE) b.now.writes }
+        requires next { IsNextFor self.old ring b.now }
         requires alone { (kept_back self.old).log.reproduced ≡ self.old.end }
         requires short { cells_for (length b.now.writes) ≤ (kept_back self.old).log.sizes.cells }
-        ensures goes_on { LogGoesOn (is_ok result) (kept_back self.old) (M.sight (kept_medium self.old)) (kept_back self.new) (M.sight (kept_medium self.new)) }
+        ensures goes_on { KeptGoesOn (is_ok result) self.old self.new }
         ensures alive { is_ok result ≡ true → LeadsUpTo (kept_back self.new) self.new.end }
-        ensures end { OnOk result (self.new.end ≡ b.now.last) }
-        ensures calls { OnOk result (Makes (PersistedBy ring b.now (kept_back self.old) (kept_back self.new)) (M.sight (kept_medium self.old)) (M.sight (kept_medium self.new))) }
-        ensures carries { OnOk result (CarriesOn (λ a. LeadsToLast a self.old.end b.now) (kept_back self.old) self.old.end (M.sight (kept_medium self.old)) (kept_back self.new) self.new.end (M.sight (kept_medium self.new))) }
-        ensures moments { RecoversAlong (λ a. LeadsToLast a self.old.end b.now) (kept_back self.old) self.old.end (M.sight (kept_medium self.old)) (M.sight (kept_medium self.new)) }
+        ensures persists { OnOk result (PersistsNext ring b.now self.old self.new) }
+        ensures moments { RecoversWith b.now self.old self.new }
     {
         if self.persist(ring, b)? {
             Ok(())
@@ -79,16 +61,11 @@ impl<M: Medium> BundleLog<M> {
     fn reproduce_all(&mut self) -> Result<(), Failed>
         requires alive { LeadsUpTo (kept_back self.old) self.old.end }
         requires announced { (kept_back self.old).log.durable ≡ self.old.end }
-        ensures goes_on { LogGoesOn (is_ok result) (kept_back self.old) (M.sight (kept_medium self.old)) (kept_back self.new) (M.sight (kept_medium self.new)) }
+        ensures goes_on { KeptGoesOn (is_ok result) self.old self.new }
         ensures alive { is_ok result ≡ true → LeadsUpTo (kept_back self.new) self.new.end }
-        ensures back { OnOk result ((kept_back self.new) ≡ reproduced (kept_back self.old) self.old.end) }
+        ensures brings { OnOk result (BringsAllHome self.old self.new) }
         ensures end { self.new.end ≡ self.old.end }
-        ensures calls { OnOk result (Makes (BroughtHomeBy (kept_back self.old) self.old.end) (M.sight (kept_medium self.old)) (M.sight (kept_medium self.new))) }
-        ensures told { OnOk result (IsTrue (M.sight (kept_medium self.old)).is_visible → (state_now (M.sight (kept_medium self.new))).told ≡ (state_now (M.sight (kept_medium self.old))).told) }
-        ensures numbers { OnOk result (((kept_back self.new).log.durable ≡ self.old.end) × ((kept_back self.new).log.reproduced ≡ self.old.end)) }
-        ensures carries { OnOk result (CarriesOn Any (kept_back self.old) self.old.end (M.sight (kept_medium self.old)) (kept_back self.new) self.new.end (M.sight (kept_medium self.new))) }
-        ensures home { OnOk result (HomeIsAt (kept_back self.old) self.old.end (M.sight (kept_medium self.old)) (M.sight (kept_medium self.new))) }
-        ensures moments { RecoversAlong Any (kept_back self.old) self.old.end (M.sight (kept_medium self.old)) (M.sight (kept_medium self.new)) }
+        ensures moments { KeptRecovers self.old self.new }
     {
         match self.back.reproduce(u64::MAX) {
             Ok(_) => Ok(()),
@@ -100,20 +77,12 @@ impl<M: Medium> BundleLog<M> {
     /// first.
     pub fn append(&mut self, ring: u64, b: &Bundle) -> Result<(), Failed>
         requires alive { LeadsUpTo (kept_back self.old) self.old.end }
-        requires ring { ring < (kept_back self.old).log.sizes.rings }
-        requires first { first_of b.now ≡ self.old.end + 1 }
-        requires small { b.now.last ≤ MAX_NUMBER }
-        requires home { All (λ w. w.at < (kept_back self.old).log.sizes.pages * PAGE) b.now.writes }
+        requires next { IsNextFor self.old ring b.now }
         requires short { cells_for (length b.now.writes) ≤ (kept_back self.old).log.sizes.cells }
-        ensures goes_on { LogGoesOn (is_ok result) (kept_back self.old) (M.sight (kept_medium self.old)) (kept_back self.new) (M.sight (kept_medium self.new)) }
+        ensures goes_on { KeptGoesOn (is_ok result) self.old self.new }
         ensures alive { is_ok result ≡ true → LeadsUpTo (kept_back self.new) self.new.end }
-        ensures end { OnOk result (self.new.end ≡ b.now.last) }
-        // At `Ok` the bundle is in this ring, and just the calls for that were made, or for settling and that where it was
-        // full.
-        ensures calls { OnOk result (Makes (BundlePersistedBy ring b.now (kept_back self.old) (kept_back self.new)) (M.sight (kept_medium self.old)) (M.sight (kept_medium self.new))) }
-        ensures untold { OnOk result ((IsRingFull (kept_back self.old) ring b.now → ⊥) → IsTrue (M.sight (kept_medium self.old)).is_visible → (state_now (M.sight (kept_medium self.new))).told ≡ (state_now (M.sight (kept_medium self.old))).told) }
-        ensures carries { OnOk result (CarriesOn (λ a. LeadsToLast a self.old.end b.now) (kept_back self.old) self.old.end (M.sight (kept_medium self.old)) (kept_back self.new) self.new.end (M.sight (kept_medium self.new))) }
-        ensures moments { RecoversAlong (λ a. LeadsToLast a self.old.end b.now) (kept_back self.old) self.old.end (M.sight (kept_medium self.old)) (M.sight (kept_medium self.new)) }
+        ensures appends { OnOk result (AppendsNext ring b.now self.old self.new) }
+        ensures moments { RecoversWith b.now self.old self.new }
     {
         if self.persist(ring, b)? {
             return Ok(());
@@ -125,16 +94,12 @@ impl<M: Medium> BundleLog<M> {
     /// Announces the last number persisted, and answers it.
     pub fn announce(&mut self) -> Result<u64, Failed>
         requires alive { LeadsUpTo (kept_back self.old) self.old.end }
-        ensures goes_on { LogGoesOn (is_ok result) (kept_back self.old) (M.sight (kept_medium self.old)) (kept_back self.new) (M.sight (kept_medium self.new)) }
+        ensures goes_on { KeptGoesOn (is_ok result) self.old self.new }
         ensures alive { is_ok result ≡ true → LeadsUpTo (kept_back self.new) self.new.end }
         ensures answer { IfOk result (λ number. number ≡ self.old.end) }
-        ensures back { OnOk result ((kept_back self.new) ≡ announced (kept_back self.old) self.old.end) }
+        ensures announces { OnOk result (AnnouncesLast self.old self.new) }
         ensures end { self.new.end ≡ self.old.end }
-        ensures calls { OnOk result (CallsMade (announce_calls self.old.end) true (M.sight (kept_medium self.old)) (M.sight (kept_medium self.new))) }
-        ensures told { OnOk result (IsTrue (M.sight (kept_medium self.old)).is_visible → (state_now (M.sight (kept_medium self.new))).told ≡ (state_now (M.sight (kept_medium self.old))).told ++ self.old.end ∷ []) }
-        ensures durable { OnOk result ((kept_back self.new).log.durable ≡ self.old.end) }
-        ensures carries { OnOk result (CarriesOn Any (kept_back self.old) self.old.end (M.sight (kept_medium self.old)) (kept_back self.new) self.new.end (M.sight (kept_medium self.new))) }
-        ensures moments { RecoversAlong Any (kept_back self.old) self.old.end (M.sight (kept_medium self.old)) (M.sight (kept_medium self.new)) }
+        ensures moments { KeptRecovers self.old self.new }
     {
         match self.back.announce() {
             Ok(end) => Ok(end),
@@ -146,17 +111,12 @@ impl<M: Medium> BundleLog<M> {
     /// number.
     pub fn checkpoint(&mut self) -> Result<u64, Failed>
         requires alive { LeadsUpTo (kept_back self.old) self.old.end }
-        ensures goes_on { LogGoesOn (is_ok result) (kept_back self.old) (M.sight (kept_medium self.old)) (kept_back self.new) (M.sight (kept_medium self.new)) }
+        ensures goes_on { KeptGoesOn (is_ok result) self.old self.new }
         ensures alive { is_ok result ≡ true → LeadsUpTo (kept_back self.new) self.new.end }
         ensures answer { IfOk result (λ number. number ≡ self.old.end) }
-        ensures back { OnOk result ((kept_back self.new) ≡ settled (kept_back self.old) self.old.end) }
+        ensures checkpoints { OnOk result (MakesCheckpoint self.old self.new) }
         ensures end { self.new.end ≡ self.old.end }
-        ensures calls { OnOk result (Makes (SettledBy (kept_back self.old) self.old.end) (M.sight (kept_medium self.old)) (M.sight (kept_medium self.new))) }
-        ensures told { OnOk result (IsTrue (M.sight (kept_medium self.old)).is_visible → (state_now (M.sight (kept_medium self.new))).told ≡ (state_now (M.sight (kept_medium self.old))).told ++ self.old.end ∷ []) }
-        ensures numbers { OnOk result (((kept_back self.new).log.durable ≡ self.old.end) × ((kept_back self.new).log.reproduced ≡ self.old.end)) }
-        ensures carries { OnOk result (CarriesOn Any (kept_back self.old) self.old.end (M.sight (kept_medium self.old)) (kept_back self.new) self.new.end (M.sight (kept_medium self.new))) }
-        ensures home { OnOk result (HomeIsAt (kept_back self.old) self.old.end (M.sight (kept_medium self.old)) (M.sight (kept_medium self.new))) }
-        ensures moments { RecoversAlong Any (kept_back self.old) self.old.end (M.sight (kept_medium self.old)) (M.sight (kept_medium self.new)) }
+        ensures moments { KeptRecovers self.old self.new }
     {
         let number = self.announce()?;
         self.reproduce_all()?;

@@ -1,8 +1,7 @@
 //! The bundle that a log still adds records to.
 
 ghost use Rattle.std.specs.Prelude.{◌≡◌, true, false};
-ghost use Rattle.dude_base.specs.Records.{with_next};
-ghost use Rattle.log_numbered.specs.LogCalls.{Joins};
+ghost use Rattle.log_numbered.specs.LogCalls.{Joins, with_joined};
 
 use dude_base::bundle::Bundle;
 use dude_base::redo::Redo;
@@ -20,7 +19,7 @@ impl OpenBundle {
     /// whether it did.
     pub fn join(&mut self, r: &Redo, cells: u64) -> bool
         ensures joined { result ≡ true → Joins cells self.old r.now }
-        ensures new { result ≡ true → self.new ≡ record self.old { bundle = with_next self.old.bundle r.now } }
+        ensures new { result ≡ true → self.new ≡ with_joined self.old r.now }
         ensures refused { result ≡ false → Joins cells self.old r.now → ⊥ }
         ensures stays { result ≡ false → self.new ≡ self.old }
     {

@@ -1,5 +1,5 @@
 -- What contracts see of a ring.
-use Rattle.std.specs.Prelude.{ℕ, ◌<◌, max, nat_lt, List, [], ◌∷◌, ◌++◌, length}
+use Rattle.std.specs.Prelude.{ℕ, ◌<◌, ◌≤◌, max, nat_lt, List, [], ◌∷◌, ◌++◌, length}
 use Rattle.std.specs.List.{filter}
 use Rattle.dude_base.specs.declared.limits.TheConstants.{MARK}
 use Rattle.dude_base.specs.declared.sizes.Sizes.{Sizes}
@@ -20,6 +20,10 @@ pub record RingState : Type 0 where
   pub logged : List Logged
   pub next : ℕ
   pub released : ℕ
+
+-- a ring without records, which starts at its first cell
+abbrev pub empty_ring : Sizes → ℕ → RingState
+empty_ring s ring = record { sizes = s; ring = ring; logged = []; next = 0; released = 0 }
 
 -- the cell of the next record's head
 abbrev pub next_head : RingState → Cell
@@ -44,3 +48,11 @@ released_to n v = record v { logged = filter (λ l. nat_lt n l.last) v.logged; r
 pub record HasNoNewHead (s : Sizes) (ring : ℕ) (p : State) : Type 0 where
   pub mark : IsSettledWord (p.word MARK)
   pub none : (slot tag : ℕ) → slot < s.cells → MayHold (p.word (cell_start s (cell_at ring slot))) tag → IsHeadOver (settled_mark p) tag → ⊥
+
+-- the ring fits each medium whose mark is settled and over which a crash leaves no head in it
+abbrev pub FitsAtStart : Sizes → ℕ → RingState → Type 0
+FitsAtStart s ring v = (p : State) → HasNoNewHead s ring p → FitsMedium v p
+
+-- a ring that fits a medium still fits it as this one, where the mark is settled at that number or more
+abbrev pub StillFits : ℕ → RingState → RingState → Type 0
+StillFits reproduced old new = (p : State) → FitsMedium old p → reproduced ≤ settled_mark p → FitsMedium new p

@@ -1,10 +1,9 @@
 //! The calls on the medium that append one record are made.
 
-ghost use Rattle.std.specs.Prelude.{◌≡◌, ◌<◌, ◌≤◌, is_ok};
-ghost use Rattle.dude_base.specs.Image.{image_words, cell_at};
+ghost use Rattle.std.specs.Prelude.{◌≡◌, ◌<◌, ◌≤◌};
+ghost use Rattle.dude_base.specs.Image.{image_words};
 ghost use Rattle.dude_base.specs.Records.{HasNumbers};
-ghost use Rattle.pmem_trait.specs.Sights.{CallsMade};
-ghost use Rattle.redo_record.specs.Calls.{append_calls};
+ghost use Rattle.log_ring.specs.Appends.{AppendsAt};
 
 use dude_base::bundle::Bundle;
 use dude_base::place::Place;
@@ -25,7 +24,7 @@ pub fn append_record<M: Medium>(
     requires numbers { HasNumbers b.now }
     requires room { image_words place.now ≤ (M.sight m.old).len }
     ensures len { (M.sight m.new).len ≡ (M.sight m.old).len }
-    ensures made { CallsMade (append_calls place.now (cell_at ring head) b.now) (is_ok result) (M.sight m.old) (M.sight m.new) }
+    ensures made { AppendsAt place.now ring head b.now result (M.sight m.old) (M.sight m.new) }
 {
     let calls = AppendCalls::of(place, ring, head, b);
     settle_group(m, calls.body(), calls.body_lines())?;

@@ -1,15 +1,12 @@
 //! The bundles of the heads that a first pass found, read in the order of their numbers.
 
-ghost use Rattle.std.specs.Prelude.{◌≡◌, ℕ, ◌+◌, ◌*◌, ◌≤◌, All, IfOk, IsErrOf, length, map};
+ghost use Rattle.std.specs.Prelude.{◌≡◌, ◌+◌, ◌*◌, ◌≤◌, All, IfOk, IsErrOf, length};
 ghost use Rattle.dude_base.specs.Image.{image_words};
 ghost use Rattle.pmem_trait.specs.Sights.{Risen};
-ghost use Rattle.pmem_trait.specs.Reads.{ContentHas};
 ghost use Rattle.redo_record.specs.Cells.{IsCell};
-ghost use Rattle.redo_record.specs.Images.{IsComplete};
-ghost use Rattle.redo_record.specs.Damage.{IsDamagedAt};
-ghost use Rattle.log_ring.specs.declared.scan_fault.ScanFault.TheVariants.{Damaged, Device};
-ghost use Rattle.log_ring.specs.Heads.{bundle_of_head, cell_of};
-ghost use Rattle.log_ring.specs.Scan.{ReadsMade, AreScanned, IsReplayable, record_reads, scan_reads};
+ghost use Rattle.log_ring.specs.declared.scan_fault.ScanFault.TheVariants.{Device};
+ghost use Rattle.log_ring.specs.Heads.{cell_of};
+ghost use Rattle.log_ring.specs.Scan.{AreBundles, FindsBundles, IsBundleOf, IsReplayable, LacksBundle, LacksBundles, NamesDamage, ReadsMade, record_reads, scan_reads};
 
 use crate::head::Head;
 use crate::reads::read_record;
@@ -38,8 +35,8 @@ pub fn scan<M: Medium>(
     ensures few { (M.sight m.new).now ≤ (M.sight m.old).now + scan_reads }
     ensures cause { IsErrOf result Device → Risen (M.sight m.old).faults (M.sight m.new).faults }
     ensures replayable { IfOk result (λ found. All (IsReplayable place.now) found.items) }
-    ensures records { IfOk result (λ found. ContentHas (λ content. AreScanned place.now above content found.items) (M.sight m.old)) }
-    ensures damaged { (line : ℕ) → IsErrOf result (Damaged line) → ContentHas (λ content. IsDamagedAt place.now above content line) (M.sight m.old) }
+    ensures records { IfOk result (λ bs. FindsBundles place.now above (M.sight m.old) bs.items) }
+    ensures damaged { NamesDamage place.now above result (M.sight m.old) }
 {
     // Read for the proof alone: there are few cells.
     let _sizes = place.sizes();
@@ -60,8 +57,8 @@ fn read_bundles<M: Medium>(
     ensures reads { ReadsMade result (M.sight m.old) (M.sight m.new) }
     ensures few { (M.sight m.new).now ≤ (M.sight m.old).now + record_reads * length found.now }
     ensures replayable { IfOk result (λ bundles. All (IsReplayable place.now) bundles.items) }
-    ensures bundles { IfOk result (λ bundles. ContentHas (λ content. bundles.items ≡ map (bundle_of_head place.now content) found.now) (M.sight m.old)) }
-    ensures damaged { (line : ℕ) → IsErrOf result (Damaged line) → ContentHas (λ content. All (λ h. IsComplete place.now content (cell_of h)) found.now → ⊥) (M.sight m.old) }
+    ensures bundles { IfOk result (λ bs. AreBundles place.now found.now (M.sight m.old) bs.items) }
+    ensures damaged { LacksBundles place.now found.now result (M.sight m.old) }
 {
     let mut bundles = Vec::with_capacity(alloc, found.len())?;
     for head in found {
@@ -79,8 +76,8 @@ pub fn read_bundle<M: Medium>(m: &mut M, place: &Place, head: &Head) -> Result<B
     ensures reads { ReadsMade result (M.sight m.old) (M.sight m.new) }
     ensures few { (M.sight m.new).now ≤ (M.sight m.old).now + record_reads }
     ensures replayable { IfOk result (IsReplayable place.now) }
-    ensures bundle { IfOk result (λ b. ContentHas (λ content. b ≡ bundle_of_head place.now content head.now) (M.sight m.old)) }
-    ensures damaged { (line : ℕ) → IsErrOf result (Damaged line) → ContentHas (λ content. ¬ IsComplete place.now content (cell_of head.now)) (M.sight m.old) }
+    ensures bundle { IfOk result (IsBundleOf place.now head.now (M.sight m.old)) }
+    ensures damaged { LacksBundle place.now head.now result (M.sight m.old) }
 {
     match read_record(m, place, head.ring, head.slot, VERSION)? {
         Some(bundle) => Ok(bundle),

@@ -1,3 +1,5 @@
+//! What a scan keeps of a bundle: its head.
+
 /// The head of a bundle in a ring: its last number, how many before it are covered too, and where the head stands.
 #[derive(Clone, Copy, Debug)]
 pub struct Head {

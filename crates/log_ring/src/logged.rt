@@ -1,3 +1,5 @@
+//! What a ring keeps of a bundle in it.
+
 use std::marker::Model;
 
 /// A bundle in a ring: its last number, how many before it are covered too, the slot of its head, and how many cells it

@@ -1,12 +1,11 @@
 //! The reads that fetch one record from its ring.
 
-ghost use Rattle.std.specs.Prelude.{◌≡◌, ℕ, ◌+◌, ◌%◌, ◌*◌, ◌<◌, ◌≤◌, length, Decides, All, is_ok, slice_index, IfOk, IfSome, IfNone, OnOk};
+ghost use Rattle.std.specs.Prelude.{◌≡◌, ◌+◌, ◌*◌, ◌<◌, ◌≤◌, length, Decides, All, is_ok, IfOk, IfSome, IfNone, OnOk};
 ghost use Rattle.dude_base.specs.declared.limits.TheConstants.{LINE, PAGE};
-ghost use Rattle.dude_base.specs.Image.{image_words, cell_at};
-ghost use Rattle.pmem_trait.specs.Reads.{OnlyReads, ContentHas};
-ghost use Rattle.redo_record.specs.Images.{word_in_image};
+ghost use Rattle.dude_base.specs.Image.{image_words};
+ghost use Rattle.pmem_trait.specs.Reads.{OnlyReads};
 ghost use Rattle.log_ring.specs.Scan.{IsReplayable, record_reads};
-ghost use Rattle.log_ring.specs.Scanning.{IsRecordAt, IsHomeRecord};
+ghost use Rattle.log_ring.specs.Scanning.{AreWordsOf, CountsTooMany, IsCountIn, IsHomeRecord, IsRecordOf};
 
 use dude_base::bundle::Bundle;
 use dude_base::limits::{LINE, MAX_BUNDLE_WRITES, MAX_WRITES, PAGE, VERSION_ONE};
@@ -34,7 +33,7 @@ fn read_cells<M: Medium>(
     ensures len { (M.sight m.new).len ≡ (M.sight m.old).len }
     ensures reads { OnlyReads (is_ok result) (M.sight m.old) (M.sight m.new) }
     ensures few { (M.sight m.new).now ≤ (M.sight m.old).now + 256 }
-    ensures words { OnOk result (ContentHas (λ content. (k j : ℕ) → k < cells → j < LINE → slice_index words.new (LINE * k + j) ≡ word_in_image place.now content (cell_at ring head) k j) (M.sight m.old)) }
+    ensures words { OnOk result (AreWordsOf place.now ring head cells (M.sight m.old) words.new) }
 {
     for i in 0..LINE * cells {
         words[i as usize] = m.read(start_after(place, ring, head, i / LINE) + i % LINE)?;
@@ -71,8 +70,8 @@ fn home_record(place: &Place, cells: &[u64]) -> Option<Bundle>
 
 // How many writes a head with this word 1 counts, where it may have so many in an image of this version.
 fn count_in(word: u64, version: u64) -> Option<u64>
-    ensures some { IfSome result (λ count. (count ≡ word % SPAN_UNIT) × (count ≤ MAX_BUNDLE_WRITES) × (version ≡ VERSION_ONE → word ≤ MAX_WRITES)) }
-    ensures none { IfNone result (word % SPAN_UNIT ≤ MAX_BUNDLE_WRITES → (version ≡ VERSION_ONE → word ≤ MAX_WRITES) → ⊥) }
+    ensures some { IfSome result (IsCountIn version word) }
+    ensures none { IfNone result (CountsTooMany version word) }
 {
     let count = word % SPAN_UNIT;
     if count > MAX_BUNDLE_WRITES {
@@ -100,7 +99,7 @@ pub fn read_record<M: Medium>(
     ensures reads { OnlyReads (is_ok result) (M.sight m.old) (M.sight m.new) }
     ensures few { (M.sight m.new).now ≤ (M.sight m.old).now + record_reads }
     ensures replayable { IfOk result (λ found. IfSome found (IsReplayable place.now)) }
-    ensures record { IfOk result (λ found. ContentHas (λ content. IsRecordAt place.now version content (cell_at ring head) found) (M.sight m.old)) }
+    ensures record { IfOk result (IsRecordOf place.now version ring head (M.sight m.old)) }
 {
     let word = m.read(place.cell(ring, head) + 1)?;
     let Some(count) = count_in(word, version) else {

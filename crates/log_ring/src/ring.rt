@@ -1,17 +1,12 @@
-ghost use Rattle.std.specs.Prelude.{◌≡◌, ◌⊎◌, ◌↔◌, ℕ, ◌+◌, ◌<◌, ◌≤◌, ◌*◌, [], All, length, is_ok, if◌then◌else◌, IfOk, IfErr, OnOk, OnErr, IsErrOf, IsTrue};
-ghost use Rattle.dude_base.specs.declared.limits.TheConstants.{PAGE};
+//! One log ring: records are appended to it, and released.
+
+ghost use Rattle.std.specs.Prelude.{◌≡◌, ◌+◌, ◌<◌, ◌≤◌, All, IfOk, if◌then◌else◌, is_ok};
 ghost use Rattle.dude_base.specs.Image.{image_words};
 ghost use Rattle.dude_base.specs.Sizes.{IsAccepted};
-ghost use Rattle.dude_base.specs.Records.{HasNumbers, first_of};
-ghost use Rattle.pmem_trait.specs.Words.{State};
-ghost use Rattle.pmem_trait.specs.Sights.{state_now, Risen, AtEveryMoment};
-ghost use Rattle.redo_record.specs.Calls.{append_calls};
-ghost use Rattle.redo_record.specs.Record.{cells_for};
-ghost use Rattle.redo_record.specs.Fits.{settled_mark, cells_used};
-ghost use Rattle.redo_record.specs.AppendLaw.{CanAppend, HeadsHold, Appended};
-ghost use Rattle.log_ring.specs.Ring.{FitsMedium, HasNoNewHead, next_head, with_record, released_to};
-ghost use Rattle.log_ring.specs.Appends.{AppendCalls, IsOverfull, full_for};
-ghost use Rattle.log_ring.specs.declared.ring_fault.RingFault.TheVariants.{Device};
+ghost use Rattle.dude_base.specs.Records.{first_of};
+ghost use Rattle.redo_record.specs.Fits.{cells_used};
+ghost use Rattle.log_ring.specs.Ring.{FitsAtStart, StillFits, empty_ring, released_to, with_record};
+ghost use Rattle.log_ring.specs.Appends.{AppendsBehind, AppendsSafely, HasAppendCause, HasRoomFor, IsOverfull, MayAppend};
 
 use crate::append::append_record;
 use crate::logged::Logged;
@@ -49,8 +44,8 @@ impl Ring {
     /// An empty ring that starts at its first cell. Room for its records is taken here.
     pub fn new(alloc: Global, place: Place, ring: u64) -> Result<Ring, AllocError>
         requires { ring < place.rings }
-        ensures empty { IfOk result (λ made. made ≡ record { sizes = place; ring = ring; logged = []; next = 0; released = 0 }) }
-        ensures fits { IfOk result (λ made. (p : State) → HasNoNewHead place ring p → FitsMedium made p) }
+        ensures empty { IfOk result (λ made. made ≡ empty_ring place ring) }
+        ensures fits { IfOk result (FitsAtStart place ring) }
     {
         Ok(Ring {
             records: Vec::with_capacity(alloc, place.sizes().cells as usize)?,
@@ -92,7 +87,7 @@ impl Ring {
 
     // Takes up a bundle whose cells begin in the next slot.
     fn note(&mut self, b: &Bundle)
-        requires room { cells_used self.old.logged + cells_for (length b.now.writes) ≤ self.old.sizes.cells }
+        requires room { HasRoomFor self.old b.now }
         requires newest { All (λ l. l.last < first_of b.now) self.old.logged }
         ensures { self.new ≡ with_record b.now self.old }
     {
@@ -111,13 +106,11 @@ impl Ring {
 
     // Appends a record where there is room.
     fn lay<M: Medium>(&mut self, m: &mut M, b: &Bundle) -> Result<(), RingFault>
-        requires numbers { HasNumbers b.now }
-        requires newest { All (λ l. l.last < first_of b.now) self.old.logged }
+        requires may { MayAppend self.old b.now }
         requires room { image_words self.old.sizes ≤ (M.sight m.old).len }
         ensures len { (M.sight m.new).len ≡ (M.sight m.old).len }
-        ensures calls { AppendCalls result (append_calls self.old.sizes (next_head self.old) b.now) (M.sight m.old) (M.sight m.new) }
-        ensures full { IsErrOf result (full_for self.old b.now) ↔ IsOverfull self.old b.now }
-        ensures fault { IfErr result (λ fault. (fault ≡ full_for self.old b.now) ⊎ (fault ≡ Device)) }
+        ensures calls { AppendsBehind self.old b.now result (M.sight m.old) (M.sight m.new) }
+        ensures cause { HasAppendCause self.old b.now result (M.sight m.old) (M.sight m.new) }
         ensures untouched { IsOverfull self.old b.now → m.new ≡ m.old }
         ensures ring { self.new ≡ (if is_ok result then with_record b.now self.old else self.old) }
     {
@@ -135,26 +128,14 @@ impl Ring {
     ///
     /// After `Device` the ring is as before, and the medium may hold the record's head: append nothing more.
     pub fn append<M: Medium>(&mut self, m: &mut M, b: &Bundle) -> Result<(), RingFault>
-        requires numbers { HasNumbers b.now }
-        requires newest { All (λ l. l.last < first_of b.now) self.old.logged }
-        requires home { All (λ w. w.at < self.old.sizes.pages * PAGE) b.now.writes }
+        requires may { MayAppend self.old b.now }
         requires room { image_words self.old.sizes ≤ (M.sight m.old).len }
         ensures len { (M.sight m.new).len ≡ (M.sight m.old).len }
-        ensures calls { AppendCalls result (append_calls self.old.sizes (next_head self.old) b.now) (M.sight m.old) (M.sight m.new) }
-        ensures full { IsErrOf result (full_for self.old b.now) ↔ IsOverfull self.old b.now }
-        ensures fault { IfErr result (λ fault. (fault ≡ full_for self.old b.now) ⊎ (fault ≡ Device)) }
-        ensures cause { IsErrOf result Device → Risen (M.sight m.old).faults (M.sight m.new).faults }
+        ensures calls { AppendsBehind self.old b.now result (M.sight m.old) (M.sight m.new) }
+        ensures cause { HasAppendCause self.old b.now result (M.sight m.old) (M.sight m.new) }
         ensures untouched { IsOverfull self.old b.now → m.new ≡ m.old }
         ensures ring { self.new ≡ (if is_ok result then with_record b.now self.old else self.old) }
-        // Where there is room, the next cells are free, and the record may be appended to them whatever the mark is.
-        ensures can { (mark : ℕ) → (IsOverfull self.old b.now → ⊥) → CanAppend self.old.sizes mark self.old.logged (next_head self.old) b.now }
-        // Where the ring fits the medium, each head of this ring over the mark has its complete record at each moment,
-        // and is that of one of the ring's records or that of r.
-        ensures heads { (IsTrue (M.sight m.old).is_visible → FitsMedium self.old (state_now (M.sight m.old)))
-            → AtEveryMoment (HeadsHold self.old.sizes self.old.logged (next_head self.old) b.now (state_now (M.sight m.old))) (M.sight m.old) (M.sight m.new) }
-        // At `Ok` the record's cells are settled, and the ring fits again.
-        ensures appended { OnOk result (IsTrue (M.sight m.old).is_visible → FitsMedium self.old (state_now (M.sight m.old))
-            → Appended self.old.sizes self.old.logged self.old.released (next_head self.old) b.now (state_now (M.sight m.old)) (state_now (M.sight m.new))) }
+        ensures safe { AppendsSafely self.old b.now result (M.sight m.old) (M.sight m.new) }
     {
         // Read for the proof alone: what the ring keeps of its sizes, and that a record's writes are few and distinct.
         let _kept = &self.place;
@@ -166,7 +147,7 @@ impl Ring {
     pub fn release(&mut self, reproduced: u64)
         ensures ring { self.new ≡ released_to reproduced self.old }
         // The ring still fits where the mark is settled at that number or more.
-        ensures fits { (p : State) → FitsMedium self.old p → reproduced ≤ settled_mark p → FitsMedium self.new p }
+        ensures fits { StillFits reproduced self.old self.new }
     {
         self.records.retain(|logged| logged.last > reproduced);
         self.released = self.released.max(reproduced);

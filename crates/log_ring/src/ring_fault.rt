@@ -1,6 +1,6 @@
+//! Why a record is not appended to its ring.
+
 use pmem_trait::Failed;
-use std::error::Error;
-use std::fmt;
 
 /// Why a record wasn't appended.
 #[derive(Clone, Copy, Debug, PartialEq, Eq)]
@@ -10,19 +10,6 @@ pub enum RingFault {
     /// A call on the medium failed. The record isn't in the ring, but a crash may leave it.
     Device,
 }
-
-impl fmt::Display for RingFault {
-    fn fmt<W: fmt::Write>(&self, f: &mut fmt::Formatter<W>) -> fmt::Result {
-        match self {
-            RingFault::Full { used, need } => {
-                write!(f, "{used} cells are taken and {need} more are needed")
-            }
-            RingFault::Device => f.write_str("a call on the medium failed"),
-        }
-    }
-}
-
-impl Error for RingFault {}
 
 impl From<Failed> for RingFault {
     ghost use Rattle.std.specs.Prelude.{◌≡◌};

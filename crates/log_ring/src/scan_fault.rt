@@ -1,7 +1,7 @@
+//! Why a scan does not give what the rings hold.
+
 use pmem_trait::Failed;
 use std::alloc::AllocError;
-use std::error::Error;
-use std::fmt;
 
 /// Why the records of the rings weren't given.
 #[derive(Clone, Copy, Debug, PartialEq, Eq)]
@@ -13,18 +13,6 @@ pub enum ScanFault {
     /// The records need more memory than there is.
     NoMemory,
 }
-
-impl fmt::Display for ScanFault {
-    fn fmt<W: fmt::Write>(&self, f: &mut fmt::Formatter<W>) -> fmt::Result {
-        match self {
-            ScanFault::Damaged { line } => write!(f, "the log is damaged at line {line}"),
-            ScanFault::Device => f.write_str("a call on the medium failed"),
-            ScanFault::NoMemory => f.write_str("out of memory"),
-        }
-    }
-}
-
-impl Error for ScanFault {}
 
 impl From<Failed> for ScanFault {
     ghost use Rattle.std.specs.Prelude.{◌≡◌};

@@ -1,3 +1,5 @@
+//! The heads that a scan has found so far.
+
 ghost use Rattle.std.specs.Ordering.{nat_cmp};
 ghost use Rattle.std.specs.BTreeMap.{IsOrdered};
 ghost use Rattle.std.proofs.Props.{props};
@@ -18,9 +20,8 @@ pub struct ScanState {
 
 impl ScanState {
     ghost use Rattle.std.specs.Prelude.{◌≡◌, ◌≢◌, ℕ, ◌+◌, ◌≤◌, [], true, false, Some, None, IfOk, IfErr, OnOk, IsErrOf};
-    ghost use Rattle.std.specs.BTreeMap.{btree_map_len, values};
     ghost use Rattle.log_ring.specs.declared.scan_fault.ScanFault.TheVariants.{Damaged, Device};
-    ghost use Rattle.log_ring.specs.Scanning.{AreKept, MeetsKept, MissesKept, TakesHead};
+    ghost use Rattle.log_ring.specs.Scanning.{AreAllHeads, AreKept, HoldsOneMore, MeetsKept, MissesKept, TakesHead};
 
     /// Nothing was found yet.
     pub fn new(alloc: Global) -> ScanState
@@ -48,7 +49,7 @@ impl ScanState {
     /// Takes in a head that stands at this line.
     pub fn take(&mut self, line: u64, head: Head) -> Result<(), AllocError>
         ensures takes { OnOk result (TakesHead line head self.old self.new) }
-        ensures few { OnOk result (btree_map_len self.new.heads ≤ btree_map_len self.old.heads + 1) }
+        ensures few { OnOk result (HoldsOneMore self.old self.new) }
     {
         if self.meets(&head) {
             self.duplicate = self.duplicate.or(Some(line));
@@ -60,7 +61,7 @@ impl ScanState {
 
     /// The heads in the order of their numbers, where no two cover one number.
     pub fn into_heads(self, alloc: Global) -> Result<Vec<Head>, ScanFault>
-        ensures single { IfOk result (λ hs. (hs.items ≡ values self.heads) × (self.duplicate ≡ None)) }
+        ensures single { IfOk result (λ hs. AreAllHeads self hs.items) }
         ensures damaged { (line : ℕ) → IsErrOf result (Damaged line) → self.duplicate ≡ Some line }
         ensures fault { IfErr result (λ fault. fault ≢ Device) }
     {

@@ -1,16 +1,12 @@
 //! The heads of the rings of an image, found by a first pass over all cells.
 
-ghost use Rattle.std.specs.Prelude.{◌≡◌, ℕ, ◌+◌, ◌*◌, ◌<◌, ◌≤◌, All, IfOk, IfSome, OnOk, IsErrOf, length};
+ghost use Rattle.std.specs.Prelude.{◌≡◌, ◌+◌, ◌*◌, ◌<◌, ◌≤◌, All, IfOk, IfSome, OnOk, length};
 ghost use Rattle.dude_base.specs.declared.limits.TheConstants.{MAX_RINGS};
 ghost use Rattle.dude_base.specs.Image.{image_words, cell_at};
-ghost use Rattle.pmem_trait.specs.Reads.{ContentHas};
-ghost use Rattle.redo_record.specs.Cells.{IsCell, line_of};
-ghost use Rattle.redo_record.specs.Images.{version_of};
-ghost use Rattle.redo_record.specs.Damage.{IsTorn, IsLeastLine, IsDamagedAt};
-ghost use Rattle.log_ring.specs.declared.scan_fault.ScanFault.TheVariants.{Damaged};
+ghost use Rattle.redo_record.specs.Cells.{IsCell};
 ghost use Rattle.log_ring.specs.Heads.{cell_of};
-ghost use Rattle.log_ring.specs.Scan.{ReadsMade, AreHeads, HoldsCells, cell_reads, ring_reads, head_reads};
-ghost use Rattle.log_ring.specs.Scanning.{IsSeen, KnowsBelow};
+ghost use Rattle.log_ring.specs.Scan.{FindsHeads, NamesDamage, ReadsMade, cell_reads, head_reads, ring_reads};
+ghost use Rattle.log_ring.specs.Scanning.{HasHeads, HoldsRing, IsNamedTorn, KnowsRing, NamesInVersion, NamesTorn, SeesHead};
 
 use crate::head::Head;
 use crate::reads::read_record;
@@ -40,8 +36,8 @@ pub fn heads<M: Medium>(
     ensures few { (M.sight m.new).now ≤ (M.sight m.old).now + head_reads }
     ensures inside { IfOk result (λ found. All (λ h. IsCell place.now (cell_of h)) found.items) }
     ensures count { IfOk result (λ found. length found.items ≤ place.now.rings * place.now.cells) }
-    ensures heads { IfOk result (λ found. ContentHas (λ content. AreHeads place.now above content found.items) (M.sight m.old)) }
-    ensures damaged { (line : ℕ) → IsErrOf result (Damaged line) → ContentHas (λ content. IsDamagedAt place.now above content line) (M.sight m.old) }
+    ensures heads { IfOk result (λ found. FindsHeads place.now above (M.sight m.old) found.items) }
+    ensures damaged { NamesDamage place.now above result (M.sight m.old) }
 {
     let version = m.read(VERSION_WORD)?;
     scan_rings(alloc, m, place, version, above)
@@ -61,8 +57,8 @@ fn scan_rings<M: Medium>(
     ensures few { (M.sight m.new).now ≤ (M.sight m.old).now + ring_reads * MAX_RINGS }
     ensures inside { IfOk result (λ found. All (λ h. IsCell place.now (cell_of h)) found.items) }
     ensures count { IfOk result (λ found. length found.items ≤ place.now.rings * place.now.cells) }
-    ensures heads { IfOk result (λ found. ContentHas (λ content. version_of content ≡ version → AreHeads place.now above content found.items) (M.sight m.old)) }
-    ensures damaged { (line : ℕ) → IsErrOf result (Damaged line) → ContentHas (λ content. version_of content ≡ version → IsDamagedAt place.now above content line) (M.sight m.old) }
+    ensures heads { IfOk result (λ hs. HasHeads place.now version above (M.sight m.old) hs.items) }
+    ensures damaged { NamesInVersion place.now version above result (M.sight m.old) }
 {
     let mut found = ScanState::new(alloc);
     for ring in 0..place.sizes().rings {
@@ -85,11 +81,10 @@ fn scan_ring<M: Medium>(
     ensures len { (M.sight m.new).len ≡ (M.sight m.old).len }
     ensures reads { ReadsMade result (M.sight m.old) (M.sight m.new) }
     ensures few { (M.sight m.new).now ≤ (M.sight m.old).now + ring_reads }
-    ensures holds { OnOk result (HoldsCells place.now (ring * place.now.cells) found.old → HoldsCells place.now ((ring + 1) * place.now.cells) found.new) }
-    ensures knows { OnOk result (ContentHas (λ content. version_of content ≡ version → KnowsBelow place.now above content (2 + ring * place.now.cells) found.old
-        → KnowsBelow place.now above content (2 + (ring + 1) * place.now.cells) found.new) (M.sight m.old)) }
-    ensures torn { (line : ℕ) → IsErrOf result (Damaged line) → ContentHas (λ content. version_of content ≡ version → KnowsBelow place.now above content (2 + ring * place.now.cells) found.old
-        → IsLeastLine place.now (IsTorn place.now above content) line) (M.sight m.old) }
+    ensures holds { OnOk result (HoldsRing place.now ring found.old found.new) }
+    ensures knows { OnOk result
+        (KnowsRing place.now version above ring found.old found.new (M.sight m.old)) }
+    ensures torn { NamesTorn place.now version above ring found.old result (M.sight m.old) }
 {
     for cell in 0..place.sizes().cells {
         if let Some(head) = scan_cell(m, place, ring, cell, version, above)? {
@@ -109,15 +104,14 @@ fn scan_cell<M: Medium>(
     version: u64,
     above: u64,
 ) -> Result<Option<Head>, ScanFault>
-    requires ring { ring < place.now.rings }
-    requires cell { cell < place.now.cells }
+    requires cell { IsCell place.now (cell_at ring cell) }
     requires room { image_words place.now ≤ (M.sight m.old).len }
     ensures len { (M.sight m.new).len ≡ (M.sight m.old).len }
     ensures reads { ReadsMade result (M.sight m.old) (M.sight m.new) }
     ensures few { (M.sight m.new).now ≤ (M.sight m.old).now + cell_reads }
     ensures here { IfOk result (λ found. IfSome found (λ h. cell_of h ≡ cell_at ring cell)) }
-    ensures seen { IfOk result (λ found. ContentHas (λ content. version_of content ≡ version → IsSeen place.now above content (cell_at ring cell) found) (M.sight m.old)) }
-    ensures torn { (line : ℕ) → IsErrOf result (Damaged line) → (line ≡ line_of place.now (cell_at ring cell)) × ContentHas (λ content. version_of content ≡ version → IsTorn place.now above content (cell_at ring cell)) (M.sight m.old) }
+    ensures seen { IfOk result (SeesHead place.now version above ring cell (M.sight m.old)) }
+    ensures torn { IsNamedTorn place.now version above (cell_at ring cell) result (M.sight m.old) }
 {
     let start = place.cell(ring, cell);
     let tag = m.read(start)?;

@@ -1,10 +1,13 @@
 -- What contracts see of a group of records that are reproduced together.
-use Rattle.std.specs.Prelude.{◌≡◌, ℕ, ◌*◌, ◌<◌, List, All, AllPairs, flat_map}
+use Rattle.std.specs.Prelude.{◌≡◌, ℕ, ◌*◌, ◌<◌, List, All, AllPairs, Result, flat_map, is_ok}
 use Rattle.dude_base.specs.declared.limits.TheConstants.{PAGE}
 use Rattle.dude_base.specs.declared.sizes.Sizes.{Sizes}
 use Rattle.dude_base.specs.declared.write.Write.{Write}
 use Rattle.dude_base.specs.Records.{RedoBundle, overwritten_by_all}
 use Rattle.dude_base.specs.Writes.{written, overwritten, HasDistinctPlaces}
+use Rattle.pmem_trait.specs.declared.failed.Failed.{Failed}
+use Rattle.pmem_trait.specs.Sights.{CallsMade, Sight}
+use Rattle.redo_record.specs.BackCalls.{reproduce_calls}
 use Rattle.redo_record.specs.Waiting.{Lead}
 use Rattle.group_combine.specs.Group.{last_written}
 use Rattle.log_waiting.specs.Lane.{LaneState}
@@ -14,6 +17,10 @@ use Rattle.log_waiting.specs.Lanes.{waiting_of}
 pub record HomeGroupState : Type 0 where
   pub sizes : Sizes
   pub writes : List Write
+
+-- exactly the calls that put its writes and then the mark at this number were made; or a prefix of them, whose last failed
+abbrev pub BringsHome : HomeGroupState → ℕ → Result (Unit {0}) Failed → Sight → Sight → Type 0
+BringsHome v number result s t = CallsMade (reproduce_calls v.sizes v.writes number) (is_ok result) s t
 
 -- The writes are the last ones of the records, in rising order of word, and have the effect of the records.
 pub record StandFor (s : Sizes) (records : List RedoBundle) (writes : List Write) : Type 0 where

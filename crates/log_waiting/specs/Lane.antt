@@ -1,10 +1,17 @@
 -- What contracts see of a lane: a ring of the log and the records in it that wait.
-use Rattle.std.specs.Prelude.{◌≡◌, ℕ, ◌+◌, ◌<◌, ◌≤◌, nat_lt, List, [], ◌∷◌, ◌++◌, length, slice_index_or, sum_by}
+use Rattle.std.specs.Prelude.{◌≡◌, ◌≢◌, ℕ, ◌+◌, ◌*◌, ◌<◌, ◌≤◌, nat_lt, All, List, [], ◌∷◌, ◌++◌, Result, length, slice_index_or, sum_by}
 use Rattle.std.specs.List.{AllWithin, filter}
+use Rattle.dude_base.specs.declared.limits.TheConstants.{PAGE}
 use Rattle.dude_base.specs.declared.sizes.Sizes.{Sizes}
-use Rattle.dude_base.specs.Records.{RedoBundle, first_of}
+use Rattle.dude_base.specs.declared.write.Write.{Write}
+use Rattle.dude_base.specs.Records.{HasNumbers, RedoBundle, first_of}
+use Rattle.dude_base.specs.Writes.{HasDistinctPlaces}
+use Rattle.pmem_trait.specs.Sights.{Sight}
+use Rattle.redo_record.specs.AppendLaw.{CanAppend}
 use Rattle.redo_record.specs.Record.{cells_for}
-use Rattle.log_ring.specs.Ring.{RingState, with_record, released_to}
+use Rattle.group_combine.specs.Group.{GroupState}
+use Rattle.log_ring.specs.Appends.{HasCauseOf}
+use Rattle.log_ring.specs.Ring.{RingState, empty_ring, next_head, released_to, with_record}
 use Rattle.log_ring.specs.declared.ring_fault.RingFault.{RingFault}
 use Rattle.log_ring.specs.declared.ring_fault.RingFault.TheVariants.{Full}
 
@@ -27,7 +34,51 @@ full_lane v r = Full (used_by v.waiting) (cells_for (length r.writes))
 
 -- the lane of a ring without records
 abbrev pub empty_lane : Sizes → ℕ → LaneState
-empty_lane s ring = record { ring = record { sizes = s; ring = ring; logged = []; next = 0; released = 0 }; waiting = [] }
+empty_lane s ring = record { ring = empty_ring s ring; waiting = [] }
+
+-- A record may be appended to a lane.
+pub record MayTake (v : LaneState) (r : RedoBundle) : Type 0 where
+  -- its numbers are from 1 to MAX_NUMBER
+  pub numbers : HasNumbers r
+  -- they are over those that wait
+  pub newest : All (λ q. q.last < first_of r) v.waiting
+  -- each write is of a home word
+  pub home : All (λ w. w.at < v.ring.sizes.pages * PAGE) r.writes
+
+-- which fault an append to this lane answers
+abbrev pub HasLaneCause : LaneState → RedoBundle → Result (Unit {0}) RingFault → Sight → Sight → Type 0
+HasLaneCause v r result s t = HasCauseOf (full_lane v r) (IsLaneFull v r) result s t
+
+-- The ring of a lane takes a record.
+pub record CanTake (v : LaneState) (r : RedoBundle) : Type 0 where
+  -- where there is room, the next cells are free, and the record may be appended to them whatever the mark is
+  pub room : (mark : ℕ) → (IsLaneFull v r → ⊥) → CanAppend v.ring.sizes mark v.ring.logged (next_head v.ring) r
+  -- its first number is over those in the ring
+  pub over : All (λ l. l.last < first_of r) v.ring.logged
+
+-- the write at index i of the record at index k
+abbrev pub IsWriteAt : LaneState → ℕ → ℕ → Write → Type 0
+IsWriteAt v k i write = (d : RedoBundle) (w : Write) → slice_index_or (slice_index_or v.waiting k d).writes i w ≡ write
+
+-- how many writes the record at index k has
+abbrev pub CountsWritesAt : LaneState → ℕ → ℕ → Type 0
+CountsWritesAt v k count = (d : RedoBundle) → count ≡ length (slice_index_or v.waiting k d).writes
+
+-- the writes of the record at index k are of different words
+abbrev pub AreDistinctAt : LaneState → ℕ → Type 0
+AreDistinctAt v k = (d : RedoBundle) → HasDistinctPlaces (slice_index_or v.waiting k d).writes
+
+-- a group has room for those writes
+abbrev pub HasRoomAt : LaneState → ℕ → GroupState → Type 0
+HasRoomAt v k group = (d : RedoBundle) → length group.taken + length (slice_index_or v.waiting k d).writes ≤ group.room
+
+-- a group takes them
+abbrev pub TakesThoseAt : LaneState → ℕ → GroupState → GroupState → Type 0
+TakesThoseAt v k old new = (d : RedoBundle) → new.taken ≡ old.taken ++ (slice_index_or v.waiting k d).writes
+
+-- none of these records begins with this number
+abbrev pub NoneBegins : List RedoBundle → ℕ → Type 0
+NoneBegins waiting number = All (λ r. first_of r ≢ number) waiting
 
 -- the lane with this record behind its others
 abbrev pub with_redo : RedoBundle → LaneState → LaneState

@@ -1,5 +1,6 @@
 -- The lanes of a log, one for each ring, and the records that wait in them.
 use Rattle.std.specs.Prelude.{◌≡◌, ℕ, ◌+◌, ◌*◌, ◌<◌, ◌≤◌, List, [], ◌∷◌, ◌++◌, All, length, map, slice_index_or}
+use Rattle.std.specs.List.{range_with_len}
 use Rattle.dude_base.specs.declared.limits.TheConstants.{PAGE}
 use Rattle.dude_base.specs.declared.sizes.Sizes.{Sizes}
 use Rattle.dude_base.specs.Records.{RedoBundle, HasNumbers}
@@ -19,6 +20,10 @@ waiting_from ring (v ∷ vs) = map (waiting_in ring) v.waiting ++ waiting_from (
 -- the records that wait in all lanes, each with the ring of its lane
 abbrev pub waiting_of : List LaneState → List Waiting
 waiting_of lanes = waiting_from 0 lanes
+
+-- the lanes of all rings, with no records
+abbrev pub lanes_at_start : Sizes → List LaneState
+lanes_at_start s = map (empty_lane s) (range_with_len 0 s.rings)
 
 -- a lane that no log has
 abbrev pub no_lane : LaneState

@@ -1,19 +1,12 @@
-ghost use Rattle.std.specs.Prelude.{◌≡◌, ◌≢◌, ◌⊎◌, ◌↔◌, ℕ, ◌+◌, ◌*◌, ◌<◌, ◌≤◌, [], All, IfOk, IfErr, IsErrOf, List, is_ok, if◌then◌else◌, length, min, map};
-ghost use Rattle.std.specs.List.{Contains, range_with_len};
-ghost use Rattle.dude_base.specs.declared.limits.TheConstants.{MAX_NUMBER, PAGE};
-ghost use Rattle.dude_base.specs.Sizes.{IsAccepted};
+//! The records that wait, in the lanes of all rings.
+
+ghost use Rattle.std.specs.Prelude.{◌≡◌, ◌≤◌, IfOk, is_ok, map};
+ghost use Rattle.dude_base.specs.declared.limits.TheConstants.{MAX_NUMBER};
 ghost use Rattle.dude_base.specs.Image.{image_words};
-ghost use Rattle.pmem_trait.specs.Sights.{Risen};
-ghost use Rattle.dude_base.specs.Records.{Covers, HasNumbers, first_of};
-ghost use Rattle.redo_record.specs.Calls.{append_calls};
-ghost use Rattle.redo_record.specs.Waiting.{Waiting, IsContiguousEnd};
-ghost use Rattle.redo_record.specs.BackLaws.{CanPersist};
-ghost use Rattle.log_ring.specs.Ring.{next_head};
-ghost use Rattle.log_ring.specs.Appends.{AppendCalls};
-ghost use Rattle.log_ring.specs.declared.ring_fault.RingFault.TheVariants.{Device};
-ghost use Rattle.log_waiting.specs.Lane.{IsLaneFull, empty_lane, full_lane, released_lane};
-ghost use Rattle.log_waiting.specs.Lanes.{AreLed, lane_at, waiting_of};
-ghost use Rattle.log_waiting.specs.Backlog.{IsLawful, Reproduces, StopsAfter, announced_to, log_of, with_record_in, without_records_to};
+ghost use Rattle.redo_record.specs.Waiting.{IsContiguousEnd};
+ghost use Rattle.log_waiting.specs.Lane.{IsLaneFull, released_lane};
+ghost use Rattle.log_waiting.specs.Lanes.{AreLed, lane_at, lanes_at_start, waiting_of};
+ghost use Rattle.log_waiting.specs.Backlog.{AppendsIn, CanWait, HasRingCause, IsLawful, MayWait, Reproduces, StopsAfter, announced_to, appended_if, empty_log, reproduced_if};
 
 use crate::home_group::HomeGroup;
 use crate::lane::Lane;
@@ -49,7 +42,7 @@ impl Model for Backlog {
 
 // The lanes of all rings, with no records.
 fn empty_lanes(alloc: Global, place: &Place) -> Result<Vec<Lane>, AllocError>
-    ensures { IfOk result (λ lanes. lanes.items ≡ map (empty_lane place.now) (range_with_len 0 place.now.rings)) }
+    ensures { IfOk result (λ lanes. lanes.items ≡ lanes_at_start place.now) }
 {
     let rings = place.sizes().rings;
     let mut lanes = Vec::with_capacity(alloc, rings as usize)?;
@@ -72,7 +65,7 @@ impl Backlog {
     /// No records, where all up to this number is durable and in the home.
     pub fn new(alloc: Global, place: Place, number: u64) -> Result<Backlog, AllocError>
         requires { number ≤ MAX_NUMBER }
-        ensures { IfOk result (λ log. log ≡ record { sizes = place; lanes = map (empty_lane place) (range_with_len 0 place.rings); durable = number; reproduced = number }) }
+        ensures { IfOk result (λ log. log ≡ empty_log place number) }
     {
         // Read for the proof alone: the sizes are accepted.
         let _sizes = place.sizes();
@@ -111,21 +104,14 @@ impl Backlog {
     ///
     /// After `Device` the records that wait are as before, and the medium may hold the record's head: append nothing more.
     pub fn append<M: Medium>(&mut self, m: &mut M, ring: u64, r: &Bundle) -> Result<(), RingFault>
-        requires ring { ring < self.old.sizes.rings }
-        requires numbers { HasNumbers r.now }
-        requires newest { All (λ q. q.last < first_of r.now) (lane_at self.old.lanes ring).waiting }
-        requires new { (w : Waiting) (number : ℕ) → Contains (waiting_of self.old.lanes) w → Covers w.redo number → Covers r.now number → ⊥ }
-        requires over { self.old.durable < first_of r.now }
-        requires home { All (λ w. w.at < self.old.sizes.pages * PAGE) r.now.writes }
+        requires may { MayWait self.old ring r.now }
         requires room { image_words self.old.sizes ≤ (M.sight m.old).len }
         ensures len { (M.sight m.new).len ≡ (M.sight m.old).len }
-        ensures calls { AppendCalls result (append_calls self.old.sizes (next_head (lane_at self.old.lanes ring).ring) r.now) (M.sight m.old) (M.sight m.new) }
-        ensures full { IsErrOf result (full_lane (lane_at self.old.lanes ring) r.now) ↔ IsLaneFull (lane_at self.old.lanes ring) r.now }
-        ensures fault { IfErr result (λ fault. (fault ≡ full_lane (lane_at self.old.lanes ring) r.now) ⊎ (fault ≡ Device)) }
-        ensures cause { IsErrOf result Device → Risen (M.sight m.old).faults (M.sight m.new).faults }
+        ensures calls { AppendsIn self.old ring r.now result (M.sight m.old) (M.sight m.new) }
+        ensures cause { HasRingCause self.old ring r.now result (M.sight m.old) (M.sight m.new) }
         ensures untouched { IsLaneFull (lane_at self.old.lanes ring) r.now → m.new ≡ m.old }
-        ensures log { self.new ≡ (if is_ok result then with_record_in ring r.now self.old else self.old) }
-        ensures can { (home : List ℕ) → (IsLaneFull (lane_at self.old.lanes ring) r.now → ⊥) → CanPersist (log_of self.old home) (next_head (lane_at self.old.lanes ring).ring) r.now }
+        ensures log { self.new ≡ appended_if (is_ok result) ring r.now self.old }
+        ensures can { CanWait self.old ring r.now }
     {
         let lane = &mut self.lanes[ring as usize];
         lane.append(m, r)
@@ -172,7 +158,7 @@ impl Backlog {
         requires room { image_words self.old.sizes ≤ (M.sight m.old).len }
         ensures len { (M.sight m.new).len ≡ (M.sight m.old).len }
         ensures reproduces { Reproduces self.old to (is_ok result) (M.sight m.old) (M.sight m.new) }
-        ensures log { self.new ≡ (if is_ok result then without_records_to to self.old else self.old) }
+        ensures log { self.new ≡ reproduced_if (is_ok result) to self.old }
     {
         self.group.fill(&self.lanes, self.reproduced, to);
         self.group.settle(m, to)?;

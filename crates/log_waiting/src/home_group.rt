@@ -1,10 +1,10 @@
-ghost use Rattle.std.specs.Prelude.{◌≡◌, ℕ, ◌≤◌, [], IfOk, is_ok};
+//! The records that are brought home together.
+
+ghost use Rattle.std.specs.Prelude.{◌≡◌, ◌≤◌, [], IfOk};
 ghost use Rattle.dude_base.specs.declared.limits.TheConstants.{MAX_NUMBER};
 ghost use Rattle.dude_base.specs.Image.{image_words};
-ghost use Rattle.pmem_trait.specs.Sights.{CallsMade};
-ghost use Rattle.redo_record.specs.BackCalls.{reproduce_calls};
 ghost use Rattle.log_waiting.specs.Lanes.{AreLanes, AreLed};
-ghost use Rattle.log_waiting.specs.HomeGroup.{StandForLed};
+ghost use Rattle.log_waiting.specs.HomeGroup.{BringsHome, StandForLed};
 
 use crate::home_puts::{line_list, settle_home};
 use crate::lane::Lane;
@@ -68,7 +68,7 @@ impl HomeGroup {
     pub fn settle<M: Medium>(&self, m: &mut M, number: u64) -> Result<(), Failed>
         requires room { image_words self.now.sizes ≤ (M.sight m.old).len }
         ensures len { (M.sight m.new).len ≡ (M.sight m.old).len }
-        ensures made { CallsMade (reproduce_calls self.now.sizes self.now.writes number) (is_ok result) (M.sight m.old) (M.sight m.new) }
+        ensures made { BringsHome self.now number result (M.sight m.old) (M.sight m.new) }
     {
         settle_home(m, &self.place, &self.group, &self.lines)?;
         settle_group(m, &[(MARK, number)], &[MARK / LINE])

@@ -1,12 +1,10 @@
 //! The puts of home words, and their lines.
 
-ghost use Rattle.std.specs.Prelude.{◌≡◌, ℕ, ◌*◌, ◌/◌, ◌<◌, ◌≤◌, All, MatchBool, is_ok, length, slice_index_or, vec_capacity};
-ghost use Rattle.dude_base.specs.declared.limits.TheConstants.{LINE, PAGE};
+ghost use Rattle.std.specs.Prelude.{◌≡◌, ◌*◌, ◌<◌, ◌≤◌, All, length, vec_capacity};
+ghost use Rattle.dude_base.specs.declared.limits.TheConstants.{PAGE};
 ghost use Rattle.dude_base.specs.Image.{image_words};
-ghost use Rattle.pmem_trait.specs.Sights.{CallsMade};
-ghost use Rattle.pmem_trait.specs.Groups.{group_calls, put_pairs};
 ghost use Rattle.redo_record.specs.BackCalls.{home_writes, lines_touched};
-ghost use Rattle.log_waiting.specs.PutLines.{SharesLine, StartsLine};
+ghost use Rattle.log_waiting.specs.PutLines.{DecidesLine, IsLineAt, PutsHome, SettlesHome};
 
 use dude_base::limits::LINE;
 use dude_base::place::Place;
@@ -17,7 +15,7 @@ use pmem_trait::{Failed, Medium, flush_all};
 fn line_at(place: &Place, group: &Group, k: u64) -> u64
     requires within { k < length group.now.writes }
     requires inside { All (λ w. w.at < place.now.pages * PAGE) group.now.writes }
-    ensures { (d : ℕ × ℕ) → result ≡ (slice_index_or (home_writes place.now group.now.writes) k d).0 / LINE }
+    ensures { IsLineAt place.now group.now.writes k result }
 {
     place.home(group.get(k).at) / LINE
 }
@@ -26,7 +24,7 @@ fn line_at(place: &Place, group: &Group, k: u64) -> u64
 fn starts_line(place: &Place, group: &Group, k: u64) -> bool
     requires within { k < length group.now.writes }
     requires inside { All (λ w. w.at < place.now.pages * PAGE) group.now.writes }
-    ensures { MatchBool result (StartsLine (home_writes place.now group.now.writes) k) (SharesLine (home_writes place.now group.now.writes) k) }
+    ensures { DecidesLine place.now group.now.writes k result }
 {
     k == 0 || line_at(place, group, k - 1) != line_at(place, group, k)
 }
@@ -51,7 +49,7 @@ fn put_home<M: Medium>(m: &mut M, place: &Place, group: &Group) -> Result<(), Fa
     requires inside { All (λ w. w.at < place.now.pages * PAGE) group.now.writes }
     requires room { image_words place.now ≤ (M.sight m.old).len }
     ensures len { (M.sight m.new).len ≡ (M.sight m.old).len }
-    ensures made { CallsMade (put_pairs (home_writes place.now group.now.writes)) (is_ok result) (M.sight m.old) (M.sight m.new) }
+    ensures made { PutsHome place.now group.now.writes result (M.sight m.old) (M.sight m.new) }
 {
     for index in 0..group.len() {
         let write = group.get(index);
@@ -72,7 +70,8 @@ pub fn settle_home<M: Medium>(
     requires lines { lines.now ≡ lines_touched (home_writes place.now group.now.writes) }
     requires room { image_words place.now ≤ (M.sight m.old).len }
     ensures len { (M.sight m.new).len ≡ (M.sight m.old).len }
-    ensures made { CallsMade (group_calls (home_writes place.now group.now.writes) lines.now) (is_ok result) (M.sight m.old) (M.sight m.new) }
+    ensures made { SettlesHome place.now group.now.writes lines.now result
+        (M.sight m.old) (M.sight m.new) }
 {
     put_home(m, place, group)?;
     flush_all(m, lines)?;

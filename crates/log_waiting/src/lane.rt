@@ -1,15 +1,10 @@
-ghost use Rattle.std.specs.Prelude.{◌≡◌, ◌≢◌, ◌⊎◌, ◌↔◌, ◌+◌, ◌*◌, ◌^◌, ◌<◌, ◌≤◌, ℕ, All, AllPairs, IfOk, IfErr, IsErrOf, MatchBool, length, is_ok, if◌then◌else◌, slice_index_or};
-ghost use Rattle.dude_base.specs.declared.limits.TheConstants.{PAGE};
-ghost use Rattle.dude_base.specs.declared.write.Write.{Write};
+//! One ring of the log, and the records in it that wait.
+
+ghost use Rattle.std.specs.Prelude.{◌≡◌, ◌+◌, ◌^◌, ◌<◌, ◌≤◌, AllPairs, IfOk, MatchBool, if◌then◌else◌, is_ok, length, slice_index_or};
 ghost use Rattle.dude_base.specs.Image.{image_words};
-ghost use Rattle.pmem_trait.specs.Sights.{Risen};
-ghost use Rattle.dude_base.specs.Records.{HasNumbers, IsBundle, RedoBundle, first_of};
-ghost use Rattle.redo_record.specs.Calls.{append_calls};
-ghost use Rattle.redo_record.specs.AppendLaw.{CanAppend};
-ghost use Rattle.log_ring.specs.Ring.{next_head};
-ghost use Rattle.log_ring.specs.Appends.{AppendCalls};
-ghost use Rattle.log_ring.specs.declared.ring_fault.RingFault.TheVariants.{Device};
-ghost use Rattle.log_waiting.specs.Lane.{HasAt, IsFront, IsLaneFull, empty_lane, full_lane, released_lane, with_redo};
+ghost use Rattle.dude_base.specs.Records.{IsBundle, RedoBundle, first_of};
+ghost use Rattle.log_ring.specs.Appends.{AppendsBehind};
+ghost use Rattle.log_waiting.specs.Lane.{CanTake, CountsWritesAt, HasAt, HasLaneCause, IsFront, IsLaneFull, IsWriteAt, MayTake, NoneBegins, empty_lane, released_lane, with_redo};
 
 use crate::entry::Entry;
 use crate::lane_writes::{put_writes, write_place};
@@ -85,7 +80,7 @@ impl Lane {
     /// How many different words the record at index `k` writes.
     pub fn writes(&self, k: usize) -> u64
         requires { k < length self.now.waiting }
-        ensures count { (d : RedoBundle) → result ≡ length (slice_index_or self.now.waiting k d).writes }
+        ensures count { CountsWritesAt self.now k result }
         ensures bundle { (d : RedoBundle) → IsBundle (slice_index_or self.now.waiting k d) }
     {
         let entries = &self.entries;
@@ -96,7 +91,7 @@ impl Lane {
     pub fn write_at(&self, k: usize, i: u64) -> Write
         requires within { k < length self.now.waiting }
         requires few { (d : RedoBundle) → i < length (slice_index_or self.now.waiting k d).writes }
-        ensures { (d : RedoBundle) (w : Write) → slice_index_or (slice_index_or self.now.waiting k d).writes i w ≡ result }
+        ensures { IsWriteAt self.now k i result }
     {
         let cells = self.ring.place().sizes().cells;
         let entries = &self.entries;
@@ -116,7 +111,8 @@ impl Lane {
     pub fn is_next(&self, taken: usize, number: u64) -> bool
         requires front { IsFront self.now.waiting taken number }
         requires small { number + 1 < 2 ^ 64 }
-        ensures { MatchBool result (HasAt self.now.waiting taken (number + 1)) (All (λ r. first_of r ≢ number + 1) self.now.waiting) }
+        ensures { MatchBool result
+            (HasAt self.now.waiting taken (number + 1)) (NoneBegins self.now.waiting (number + 1)) }
     {
         taken < self.len() && self.first(taken) == number + 1
     }
@@ -125,20 +121,14 @@ impl Lane {
     ///
     /// After `Device` the lane is as before, and the medium may hold the record's head: append nothing more.
     pub fn append<M: Medium>(&mut self, m: &mut M, r: &Bundle) -> Result<(), RingFault>
-        requires numbers { HasNumbers r.now }
-        requires newest { All (λ q. q.last < first_of r.now) self.old.waiting }
-        requires home { All (λ w. w.at < self.old.ring.sizes.pages * PAGE) r.now.writes }
+        requires may { MayTake self.old r.now }
         requires room { image_words self.old.ring.sizes ≤ (M.sight m.old).len }
         ensures len { (M.sight m.new).len ≡ (M.sight m.old).len }
-        ensures calls { AppendCalls result (append_calls self.old.ring.sizes (next_head self.old.ring) r.now) (M.sight m.old) (M.sight m.new) }
-        ensures full { IsErrOf result (full_lane self.old r.now) ↔ IsLaneFull self.old r.now }
-        ensures fault { IfErr result (λ fault. (fault ≡ full_lane self.old r.now) ⊎ (fault ≡ Device)) }
-        ensures cause { IsErrOf result Device → Risen (M.sight m.old).faults (M.sight m.new).faults }
+        ensures calls { AppendsBehind self.old.ring r.now result (M.sight m.old) (M.sight m.new) }
+        ensures cause { HasLaneCause self.old r.now result (M.sight m.old) (M.sight m.new) }
         ensures untouched { IsLaneFull self.old r.now → m.new ≡ m.old }
         ensures lane { self.new ≡ (if is_ok result then with_redo r.now self.old else self.old) }
-        // Where there is room, the next cells are free, and the record's first number is over those in the ring.
-        ensures can { (mark : ℕ) → (IsLaneFull self.old r.now → ⊥) → CanAppend self.old.ring.sizes mark self.old.ring.logged (next_head self.old.ring) r.now }
-        ensures over { All (λ l. l.last < first_of r.now) self.old.ring.logged }
+        ensures can { CanTake self.old r.now }
     {
         let cells = self.ring.place().sizes().cells;
         let slot = self.ring.next();

@@ -1,10 +1,9 @@
 //! The places of a lane's writes: as in the ring, three for each cell.
 
-ghost use Rattle.std.specs.Prelude.{◌≡◌, ◌≢◌, ℕ, ◌*◌, ◌<◌, ◌≤◌, length, slice_index_or};
+ghost use Rattle.std.specs.Prelude.{◌≡◌, ◌*◌, ◌<◌, ◌≤◌, length};
 ghost use Rattle.dude_base.specs.declared.limits.TheConstants.{MAX_BUNDLE_WRITES, MAX_CELLS};
-ghost use Rattle.dude_base.specs.declared.write.Write.{Write};
 ghost use Rattle.redo_record.specs.Record.{cells_for};
-ghost use Rattle.log_waiting.specs.Entries.{write_place, writes_in};
+ghost use Rattle.log_waiting.specs.Entries.{LeavesOthers, write_place, writes_in};
 
 use dude_base::bundle::Bundle;
 use dude_base::write::Write;
@@ -28,7 +27,7 @@ pub fn put_writes(cells: u64, slot: u64, r: &Bundle, writes: &mut [Write])
     requires size { length writes.old ≡ 3 * cells }
     requires room { cells_for (length r.now.writes) ≤ cells }
     ensures own { writes_in cells writes.new slot (length r.now.writes) ≡ r.now.writes }
-    ensures others { (at : ℕ) (d : Write) → ((i : ℕ) → i < length r.now.writes → at ≢ write_place cells slot i) → slice_index_or writes.new at d ≡ slice_index_or writes.old at d }
+    ensures others { LeavesOthers cells slot (length r.now.writes) writes.old writes.new }
 {
     for i in 0..r.len() {
         writes[write_place(cells, slot, i)] = r.write_at(i);

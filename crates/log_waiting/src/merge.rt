@@ -1,17 +1,17 @@
 //! The waiting records in the order of their numbers.
 
-ghost use Rattle.std.specs.Prelude.{◌≡◌, ℕ, ◌+◌, ◌*◌, ◌<◌, ◌≤◌, ◌++◌, length, slice_index_or};
+ghost use Rattle.std.specs.Prelude.{◌≡◌, ℕ, ◌*◌, ◌<◌, ◌≤◌, length};
 ghost use Rattle.dude_base.specs.declared.limits.TheConstants.{MAX_NUMBER};
 ghost use Rattle.dude_base.specs.declared.sizes.Sizes.{Sizes};
 ghost use Rattle.dude_base.specs.Sizes.{IsAccepted};
-ghost use Rattle.dude_base.specs.Records.{RedoBundle};
-ghost use Rattle.dude_base.specs.Writes.{HasDistinctPlaces};
 ghost use Rattle.redo_record.specs.Waiting.{IsContiguousEnd, IsEnd};
 ghost use Rattle.log_waiting.specs.HomeGroup.{AreLedWrites};
+ghost use Rattle.log_waiting.specs.Lane.{AreDistinctAt, HasRoomAt, TakesThoseAt};
 ghost use Rattle.log_waiting.specs.Lanes.{AreLanes, AreLed, waiting_of};
 
 use crate::fronts::{fronts_at, next_lane};
 use crate::lane::Lane;
+use dude_base::limits::MAX_NUMBER;
 use dude_base::place::Place;
 use group_combine::Group;
 
@@ -22,16 +22,7 @@ pub fn contiguous_end(place: &Place, lanes: &[Lane], from: u64) -> u64
     ensures end { IsContiguousEnd (waiting_of lanes.now) from result }
     ensures small { result ≤ MAX_NUMBER }
 {
-    // Read for the proof alone: there are few rings.
-    let _sizes = place.sizes();
-    let mut fronts = fronts_at(lanes, from);
-    let mut end = from;
-    'merge: while let Some(k) = next_lane(lanes, &fronts, end) {
-        let lane = &lanes[k];
-        end = lane.last(fronts[k]);
-        fronts[k] += 1;
-    }
-    end
+    last_end(place, lanes, from, MAX_NUMBER)
 }
 
 /// The greatest end up to a number.
@@ -82,9 +73,9 @@ pub fn next_end(place: &Place, lanes: &[Lane], from: u64, to: u64) -> u64
 // Hands the writes of the bundle at index `k` of a lane to a group.
 fn take_writes(lane: &Lane, k: usize, group: &mut Group)
     requires within { k < length lane.now.waiting }
-    requires room { (d : RedoBundle) → length group.old.taken + length (slice_index_or lane.now.waiting k d).writes ≤ group.old.room }
-    ensures taken { (d : RedoBundle) → group.new.taken ≡ group.old.taken ++ (slice_index_or lane.now.waiting k d).writes }
-    ensures distinct { (d : RedoBundle) → HasDistinctPlaces (slice_index_or lane.now.waiting k d).writes }
+    requires room { HasRoomAt lane.now k group.old }
+    ensures taken { TakesThoseAt lane.now k group.old group.new }
+    ensures distinct { AreDistinctAt lane.now k }
     ensures room { group.new.room ≡ group.old.room }
 {
     for i in 0..lane.writes(k) {

@@ -1,3 +1,5 @@
+//! The fault of words that are no record's cells.
+
 use dude_base::wide::Wide;
 use std::error::Error;
 use std::fmt;

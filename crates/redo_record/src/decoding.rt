@@ -1,10 +1,10 @@
-ghost use Rattle.std.specs.Prelude.{◌≡◌, ◌+◌, ◌<◌, ◌*◌, ◌/◌, ◌%◌, length, map, IfOk, OnOk, OnErr};
-ghost use Rattle.std.specs.List.{range_with_len};
+//! A bundle is read from its cells.
+
+ghost use Rattle.std.specs.Prelude.{◌≡◌, ◌+◌, ◌<◌, ◌*◌, ◌/◌, ◌%◌, length, IfOk, OnOk, OnErr};
 ghost use Rattle.dude_base.specs.Records.{RedoBundle};
-ghost use Rattle.dude_base.specs.Writes.{HasDistinctPlaces};
-ghost use Rattle.redo_record.specs.Record.{cells_for, write_of, record_of};
+ghost use Rattle.redo_record.specs.Record.{cells_for, write_of};
 ghost use Rattle.redo_record.specs.Encoding.{word_in_slice, encoded_cells, IsEncodable, IsRecordSlice};
-ghost use Rattle.redo_record.specs.Decoding.{HasHeadFor, Continues};
+ghost use Rattle.redo_record.specs.Decoding.{AreWritesIn, Continues, HasHeadFor, IsBundleIn};
 
 use crate::bad_record::BadRecord;
 use crate::encoding::{SPAN_UNIT, cells_for};
@@ -20,7 +20,7 @@ use dude_base::write_list::BundleWrites;
 /// `MAX_BUNDLE_WRITES` writes of distinct words, and the others just the continuations that these writes need. Whether
 /// these are home words isn't looked at, nor how many cells a ring has, and pairs that hold no write aren't read.
 pub fn decode(cells: &[u64]) -> Result<Bundle, BadRecord>
-    ensures ok { IfOk result (λ r. IsRecordSlice cells.now × (r ≡ record_of (word_in_slice cells.now))) }
+    ensures ok { IfOk result (IsBundleIn cells.now) }
     ensures bad { OnErr result (¬ IsRecordSlice cells.now) }
     ensures back { (r : RedoBundle) → IsEncodable r → cells.now ≡ encoded_cells r → result ≡ Ok r }
 {
@@ -28,7 +28,7 @@ pub fn decode(cells: &[u64]) -> Result<Bundle, BadRecord>
 }
 
 fn read_record(cells: &[u64]) -> Result<Bundle, BadRecord>
-    ensures ok { IfOk result (λ r. IsRecordSlice cells.now × (r ≡ record_of (word_in_slice cells.now))) }
+    ensures ok { IfOk result (IsBundleIn cells.now) }
     ensures bad { OnErr result (¬ IsRecordSlice cells.now) }
 {
     let count = check_head(cells)?;
@@ -77,7 +77,7 @@ fn check_continuations(cells: &[u64], count: u64) -> Result<(), BadRecord>
 // The writes, where their words differ.
 fn read_writes(cells: &[u64], count: u64) -> Result<BundleWrites, BadRecord>
     requires { HasHeadFor cells.now count }
-    ensures ok { IfOk result (λ ws. (ws ≡ map (write_of (word_in_slice cells.now)) (range_with_len 0 count)) × HasDistinctPlaces ws) }
+    ensures ok { IfOk result (AreWritesIn cells.now count) }
     ensures bad { OnErr result (¬ IsRecordSlice cells.now) }
 {
     let mut writes = BundleWrites::new();

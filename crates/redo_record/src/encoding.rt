@@ -1,3 +1,5 @@
+//! The words of each cell of a bundle, and how many cells it takes.
+
 ghost use Rattle.std.specs.Prelude.{◌≡◌, ◌==◌, ◌<◌, ◌≤◌, length, if◌then◌else◌};
 ghost use Rattle.dude_base.specs.Records.{HasNumbers};
 ghost use Rattle.redo_record.specs.Tags.{IsNumber, head_tag, continuation_tag};

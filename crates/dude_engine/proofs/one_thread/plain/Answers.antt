@@ -24,6 +24,7 @@ use Rattle.dude_engine.proofs.one_thread.plain.Goals as goal
 pub returns : goal.returns
 returns g c =
     let o = c.args.opened in
+    let starts = c.new.ensures.starts in
     let files = map (λ f. f.items) c.args.files.now in
     let run = c.run_all-served.new.self in
     let served = c.run_all-served.result in
@@ -35,40 +36,47 @@ returns g c =
     let still : u ≡ t = ap (λ m. g.M.Medium.sight m) c.into_medium.ensures in
     let running : (opening : Opening) → IsOpeningOf o opening → IsRunning opening o.words.items o.lay c.new.result (words_of c.new-2.result) c.new-3.result.items s (g.M.Medium.sight (log_medium c.new.result)) =
     λ opening is. begins o opening o.lay c.new.result (words_of c.new-2.result) c.new-3.result.items s (g.M.Medium.sight (log_medium c.new.result)) c.requires.opened is refl
-    c.new-2.ensures.words c.new-3.ensures.items (ap (λ m. g.M.Medium.sight m) c.new.ensures.medium) c.new.ensures.alive c.new.ensures.sizes c.new.ensures.numbers.0 c.new.ensures.numbers.1 c.new.ensures.numbers.2 o.back.room c.new.ensures.follows in
+    c.new-2.ensures.words c.new-3.ensures.items (ap (λ m. g.M.Medium.sight m) starts.medium) c.new.ensures.alive starts.sizes starts.last starts.end starts.durable o.back.room c.new.ensures.follows in
     let left : (opening : Opening) → IsOpeningOf o opening → IsLeft served opening o.words.items run s t = λ opening is. c.run_all-served.ensures.left opening o.words.items s (running opening is) in
     let at : (opening : Opening) → IsOpeningOf o opening → Ended (went_well served) opening o.words.items (log_durable run.log) performed s u =
     λ opening is. subst (λ (v : Sight). Ended (went_well served) opening o.words.items (log_durable run.log) performed s v) (sym still) (ended_by opening o.words.items run s t served (left opening is)) in
     let lawful : Opening = record { number = o.number; sizes = o.sizes; database = c.requires.opened.lawful.0 } in
     let lawful_is : IsOpeningOf o lawful = record { number = refl; sizes = refl; stands = c.requires.opened.lawful.1 } in
     let same : IsPermutation performed done = c.put_in_files.ensures.same in
-    let rounds = c.run_all-served.ensures.rounds in
+    let performs = c.run_all-served.ensures.performs in
+    let rounds = performs.rounds in
     let sorted : AllPairs PrecedesInFiles done = c.put_in_files.ensures.sorted (rounds_apart performed rounds) in
-    let collects : Collects files performed done = c.run_all-served.ensures.collects done same sorted in
+    let collects : Collects files performed done = performs.collects done same sorted in
     let some = (at lawful lawful_is).answered in
     record {
-      len = (at lawful lawful_is).len;
-      performs = λ opening is. performs_in_rounds opening files performed done same collects rounds (at opening is).answered;
-      replies = λ opening is. replies_of opening files performed done same collects rounds (at opening is).answered;
-      syncs_follow = follow_of lawful files performed done same collects rounds some;
-      syncs_from = from_of lawful files performed done same collects rounds some;
-      syncs_told = λ visible. syncs_of lawful files performed done same collects rounds some s u ((at lawful lawful_is).syncs visible);
+      replies = λ opening is. record {
+        performs = performs_in_rounds opening files performed done same collects rounds (at opening is).answered;
+        replies = replies_of opening files performed done same collects rounds (at opening is).answered;
+      };
+      syncs = record {
+        follow = follow_of lawful files performed done same collects rounds some;
+        from = from_of lawful files performed done same collects rounds some;
+        told = λ visible. syncs_of lawful files performed done same collects rounds some s u ((at lawful lawful_is).syncs visible);
+      };
       moments = λ opening is. recovers_of opening files performed done same collects rounds (at opening is).answered (went_well served) o.words.items (log_durable run.log) s u (at opening is);
-      whole = λ whole opening is.
-          let ended = sym c.end_of.ensures ∙ whole in
-          let settled : IsSettledRun opening o.words.items (log_durable run.log) performed s t = on_whole served ended c.run_all-served.ensures.settled opening o.words.items s (running opening is) in
-          whole_of opening files performed done same collects rounds (at opening is).answered o.words.items c.durable-last.result s u (on_whole served ended c.run_all-served.ensures.all done same sorted)
-          (subst (λ (v : Sight). IsSettledRun opening o.words.items c.durable-last.result performed s v) (sym still)
-          (subst (λ (n : ℕ). IsSettledRun opening o.words.items n performed s t) (sym c.durable-last.ensures) settled));
-      calls = λ whole.
-          let makes : Makes (RunBy (log_parts c.new.result) performed (log_durable run.log)) (g.M.Medium.sight (log_medium c.new.result)) t = on_whole served (sym c.end_of.ensures ∙ whole) c.run_all-served.ensures.calls in
-          makes_its_calls (log_parts c.new.result) (state_of o.back) performed done (log_durable run.log) c.durable-last.result (g.M.Medium.sight (log_medium c.new.result)) s t u (parts_are (log_back c.new.result) (state_of o.back) (log_open c.new.result) None c.new.ensures.back c.new.ensures.none_open)
-          (ap (λ m. g.M.Medium.sight m) c.new.ensures.medium) still c.durable-last.ensures same rounds makes;
-      last_told = λ visible opening is.
-          subst (λ (e : RanEnd). IsLastTold e opening c.durable-last.result s u) (sym c.end_of.ensures)
-          (subst (λ (n : ℕ). IsLastTold (end_by served) opening n s u) (sym c.durable-last.ensures)
-          (subst (λ (ok : Bool). WereTold ok opening.number (log_durable run.log) (state_now s).told (state_now u).told) (well_by served) ((at opening is).tells visible)));
-      ran = (went_well served, (at lawful lawful_is).ran, subst (λ (e : RanEnd). (went_well served ≡ false) ↔ (e ≡ Device)) (sym c.end_of.ensures) (device_by served));
-      cause = λ device.
-          subst (λ (v : Sight). Risen s.faults v.faults) (sym still) (cause_by lawful o.words.items run s t served (left lawful lawful_is) (sym c.end_of.ensures ∙ device));
+      end = record {
+        len = (at lawful lawful_is).len;
+        whole = λ whole opening is.
+            let ended = sym c.end_of.ensures ∙ whole in
+            let settled : IsSettledRun opening o.words.items (log_durable run.log) performed s t = on_whole served ended c.run_all-served.ensures.settled opening o.words.items s (running opening is) in
+            whole_of opening files performed done same collects rounds (at opening is).answered o.words.items c.durable-last.result s u (on_whole served ended performs.all done same sorted)
+            (subst (λ (v : Sight). IsSettledRun opening o.words.items c.durable-last.result performed s v) (sym still)
+            (subst (λ (n : ℕ). IsSettledRun opening o.words.items n performed s t) (sym c.durable-last.ensures) settled));
+        calls = λ whole.
+            let makes : Makes (RunBy (log_parts c.new.result) performed (log_durable run.log)) (g.M.Medium.sight (log_medium c.new.result)) t = on_whole served (sym c.end_of.ensures ∙ whole) c.run_all-served.ensures.calls in
+            makes_its_calls (log_parts c.new.result) (state_of o.back) performed done (log_durable run.log) c.durable-last.result (g.M.Medium.sight (log_medium c.new.result)) s t u (parts_are (log_back c.new.result) (state_of o.back) (log_open c.new.result) None starts.back_is starts.none_open)
+            (ap (λ m. g.M.Medium.sight m) starts.medium) still c.durable-last.ensures same rounds makes;
+        last_told = λ visible opening is.
+            subst (λ (e : RanEnd). IsLastTold e opening c.durable-last.result s u) (sym c.end_of.ensures)
+            (subst (λ (n : ℕ). IsLastTold (end_by served) opening n s u) (sym c.durable-last.ensures)
+            (subst (λ (ok : Bool). WereTold ok opening.number (log_durable run.log) (state_now s).told (state_now u).told) (well_by served) ((at opening is).tells visible)));
+        ran = (went_well served, (at lawful lawful_is).ran, subst (λ (e : RanEnd). (went_well served ≡ false) ↔ (e ≡ Device)) (sym c.end_of.ensures) (device_by served));
+        cause = λ device.
+            subst (λ (v : Sight). Risen s.faults v.faults) (sym still) (cause_by lawful o.words.items run s t served (left lawful lawful_is) (sym c.end_of.ensures ∙ device));
+      };
     }

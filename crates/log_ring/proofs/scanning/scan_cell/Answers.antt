@@ -31,7 +31,7 @@ returns-in_default-clause-torn g c line is =
     let on : line ≡ line_of c.args.place.now (cell_at c.args.ring c.args.cell) = omega (arith, at) in (
       on,
       λ told content holds version. record {
-        head = new_head c.args.place.now c.args.above content (cell_at c.args.ring c.args.cell) c.cell-start.result c.in_ok-tag.tag (record { ring_is = c.requires.ring; slot_is = c.requires.cell }) c.cell-start.ensures.place
+        head = new_head c.args.place.now c.args.above content (cell_at c.args.ring c.args.cell) c.cell-start.result c.in_ok-tag.tag c.requires.cell c.cell-start.ensures.place
             (read_content c.cell-start.result (reads_here (g.M.Medium.sight c.args.m.now)) (omega arith) c.in_ok-tag.ensures.value told content holds) (omega arith) (omega arith);
         incomplete =
             let found = content_before {P = λ l. IsRecordAt c.args.place.now c.args.version l (cell_at c.args.ring c.args.cell) c.in_ok-bundle.field-0} {ok = true} (read_alone {ok = true} c.in_ok-tag.ensures.one_call) c.in_ok-bundle.ensures.record told content holds in

@@ -13,53 +13,59 @@ use Rattle.dude_engine.specs.declared.run_fault.RunFault.TheVariants.{Device}
 use Rattle.dude_engine.specs.Running.{HasFailed, IsRunning, tables_after}
 use Rattle.dude_engine.proofs.Numbering.{IsNext}
 use Rattle.dude_engine.proofs.Serving.{serves_logged}
-use Rattle.dude_engine.proofs.Steps.{failed_write, left_failed, running_write, served_next, served_stands}
+use Rattle.dude_engine.proofs.Steps.{failed_write, fault_on_ok, left_failed, running_write, served_next, served_stands}
 use Rattle.dude_engine.proofs.run.Run.log_change.Goals as goal
 
-pub returns-clause-ready : goal.returns-clause-ready
-returns-clause-ready g c =
-    let self = c.args.self.now in
-    record {
-      alive = c.in_ok-append.ensures.alive refl;
-      sizes = c.in_ok-append.ensures.goes_on.sizes ∙ c.requires.change.sizes;
-      clean = c.take-redo.ensures.fresh;
-      count = ap length c.take-redo.ensures.words ∙ length-overwritten (flat_sight self.words).writes (words_of self.words) ∙ c.requires.change.count;
-    }
-
-pub returns-in_err-append-clause-left : goal.returns-in_err-append-clause-left
-returns-in_err-append-clause-left g c opening words s run =
+pub returns-in_err-append-clause-leaves : goal.returns-in_err-append-clause-leaves
+returns-in_err-append-clause-leaves g c =
     let self = c.args.self.now in
     let is : c.from_residual.result ≡ Err Device = search rules in
     let d : Done = record { file = c.args.file; index = c.args.index; number = c.last-number.result + 1; wrote = true; request = c.args.request.now; reply = Changed } in
-    let serves = c.requires.change.serves (tables_after opening self.done.items) (subst (λ z. StandsFor z (words_of self.words) (tables_after opening self.done.items)) run.layout run.stands) in
-    let new_is : words_of c.take-redo.new.self ≡ overwritten (flat_sight self.words).writes (words_of self.words) = c.take-redo.ensures.words in
-    let served : Serves self.lay (tables_after opening self.done.items) d.request d.reply (words_of c.take-redo.new.self) = subst (λ (l : List ℕ). Serves self.lay (tables_after opening self.done.items) d.request d.reply l) (sym new_is) serves in
-    let next : IsNext opening self.done.items d = served_next opening self.lay self.done.items d (words_of c.take-redo.new.self) run.layout (ap (λ (n : ℕ). n + 1) (c.last-number.ensures ∙ run.last)) refl served in
-    let same_writes : (flat_sight self.words).writes ≡ c.take-redo.result.writes = sym (ap (λ (r : RedoRecord). r.writes) c.take-redo.ensures.record) in
-    left_failed opening words c.from_residual.result _ s _ is
-    (subst (λ (done : List Done). HasFailed opening words (log_durable c.append.new.self) done s (g.M.Medium.sight (log_medium c.append.new.self))) (sym c.push_reserved.ensures.items)
-    (failed_write opening words self.lay self.log c.append.new.self (words_of self.words) (words_of c.take-redo.new.self) self.done.items d c.take-redo.result.writes s (g.M.Medium.sight (log_medium self.log)) (g.M.Medium.sight (log_medium c.append.new.self))
-    next refl c.requires.no_sync (new_is ∙ ap (λ (ws : List Write). overwritten ws (words_of self.words)) same_writes)
-    (served_stands opening self.lay self.done.items d (words_of c.take-redo.new.self) run.layout served) c.append.ensures.moments run c.in_err-append.ensures.goes_on))
+    record {
+      ready = fault_on_ok _ c.from_residual.result Device is;
+      lay = refl;
+      room = c.push_reserved.ensures.capacity;
+      calls = fault_on_ok _ c.from_residual.result Device is;
+      left = λ opening words s run.
+          let serves = c.requires.change.serves (tables_after opening self.done.items) (subst (λ z. StandsFor z (words_of self.words) (tables_after opening self.done.items)) run.layout run.stands) in
+          let new_is : words_of c.take-redo.new.self ≡ overwritten (flat_sight self.words).writes (words_of self.words) = c.take-redo.ensures.words in
+          let served : Serves self.lay (tables_after opening self.done.items) d.request d.reply (words_of c.take-redo.new.self) = subst (λ (l : List ℕ). Serves self.lay (tables_after opening self.done.items) d.request d.reply l) (sym new_is) serves in
+          let next : IsNext opening self.done.items d = served_next opening self.lay self.done.items d (words_of c.take-redo.new.self) run.layout (ap (λ (n : ℕ). n + 1) (c.last-number.ensures ∙ run.last)) refl served in
+          let same_writes : (flat_sight self.words).writes ≡ c.take-redo.result.writes = sym (ap (λ (r : RedoRecord). r.writes) c.take-redo.ensures.record) in
+          left_failed opening words c.from_residual.result _ s _ is
+          (subst (λ (done : List Done). HasFailed opening words (log_durable c.append.new.self) done s (g.M.Medium.sight (log_medium c.append.new.self))) (sym c.push_reserved.ensures.items)
+          (failed_write opening words self.lay self.log c.append.new.self (words_of self.words) (words_of c.take-redo.new.self) self.done.items d c.take-redo.result.writes s (g.M.Medium.sight (log_medium self.log)) (g.M.Medium.sight (log_medium c.append.new.self))
+          next refl c.requires.no_sync (new_is ∙ ap (λ (ws : List Write). overwritten ws (words_of self.words)) same_writes)
+          (served_stands opening self.lay self.done.items d (words_of c.take-redo.new.self) run.layout served) c.append.ensures.moments run c.in_err-append.ensures.goes_on));
+    }
 
-pub returns-clause-left : goal.returns-clause-left
-returns-clause-left g c opening words s run =
-    let self = c.args.self.now in
-    let d : Done = record { file = c.args.file; index = c.args.index; number = c.last-number.result + 1; wrote = true; request = c.args.request.now; reply = Changed } in
-    let serves = c.requires.change.serves (tables_after opening self.done.items) (subst (λ z. StandsFor z (words_of self.words) (tables_after opening self.done.items)) run.layout run.stands) in
-    let new_is : words_of c.take-redo.new.self ≡ overwritten (flat_sight self.words).writes (words_of self.words) = c.take-redo.ensures.words in
-    let served : Serves self.lay (tables_after opening self.done.items) d.request d.reply (words_of c.take-redo.new.self) = subst (λ (l : List ℕ). Serves self.lay (tables_after opening self.done.items) d.request d.reply l) (sym new_is) serves in
-    let next : IsNext opening self.done.items d = served_next opening self.lay self.done.items d (words_of c.take-redo.new.self) run.layout (ap (λ (n : ℕ). n + 1) (c.last-number.ensures ∙ run.last)) refl served in
-    let same_writes : (flat_sight self.words).writes ≡ c.take-redo.result.writes = sym (ap (λ (r : RedoRecord). r.writes) c.take-redo.ensures.record) in
-    subst (λ (done : List Done). IsRunning opening words self.lay c.append.new.self (words_of c.take-redo.new.self) done s (g.M.Medium.sight (log_medium c.append.new.self))) (sym c.push_reserved.ensures.items)
-    (running_write opening words self.lay self.log c.append.new.self (words_of self.words) (words_of c.take-redo.new.self) self.done.items d c.take-redo.result.writes s (g.M.Medium.sight (log_medium self.log)) (g.M.Medium.sight (log_medium c.append.new.self))
-    next refl c.requires.no_sync (new_is ∙ ap (λ (ws : List Write). overwritten ws (words_of self.words)) same_writes)
-    (served_stands opening self.lay self.done.items d (words_of c.take-redo.new.self) run.layout served) c.append.ensures.moments run
-    c.in_ok-append.ensures.last c.in_ok-append.ensures.goes_on c.in_ok-append.ensures.follows)
-
-pub returns-clause-calls : goal.returns-clause-calls
-returns-clause-calls g c =
+pub returns-clause-leaves : goal.returns-clause-leaves
+returns-clause-leaves g c =
     let self = c.args.self.now in
     let d : Done = record { file = c.args.file; index = c.args.index; number = c.last-number.result + 1; wrote = true; request = c.args.request.now; reply = Changed } in
     let number : c.take-redo.result.number ≡ d.number = ap (λ (r : RedoRecord). r.number) c.take-redo.ensures.record in
-    serves_logged self _ d c.take-redo.result (g.M.Medium.sight (log_medium self.log)) (g.M.Medium.sight (log_medium c.append.new.self)) c.push_reserved.ensures.items refl number c.in_ok-append.ensures.calls
+    record {
+      ready = record {
+        alive = c.in_ok-append.ensures.alive refl;
+        sizes = c.in_ok-append.ensures.goes_on.sizes ∙ c.requires.change.sizes;
+        clean = c.take-redo.ensures.fresh;
+        count = ap length c.take-redo.ensures.words ∙ length-overwritten (flat_sight self.words).writes (words_of self.words) ∙ c.requires.change.count;
+      };
+      lay = refl;
+      room = c.push_reserved.ensures.capacity;
+      calls = serves_logged self _ d c.take-redo.result (g.M.Medium.sight (log_medium self.log)) (g.M.Medium.sight (log_medium c.append.new.self)) c.push_reserved.ensures.items refl number c.in_ok-append.ensures.appends.calls;
+      left = λ opening words s run.
+          let serves = c.requires.change.serves (tables_after opening self.done.items) (subst (λ z. StandsFor z (words_of self.words) (tables_after opening self.done.items)) run.layout run.stands) in
+          let new_is : words_of c.take-redo.new.self ≡ overwritten (flat_sight self.words).writes (words_of self.words) = c.take-redo.ensures.words in
+          let served : Serves self.lay (tables_after opening self.done.items) d.request d.reply (words_of c.take-redo.new.self) = subst (λ (l : List ℕ). Serves self.lay (tables_after opening self.done.items) d.request d.reply l) (sym new_is) serves in
+          let next : IsNext opening self.done.items d = served_next opening self.lay self.done.items d (words_of c.take-redo.new.self) run.layout (ap (λ (n : ℕ). n + 1) (c.last-number.ensures ∙ run.last)) refl served in
+          let same_writes : (flat_sight self.words).writes ≡ c.take-redo.result.writes = sym (ap (λ (r : RedoRecord). r.writes) c.take-redo.ensures.record) in
+          subst (λ (done : List Done). IsRunning opening words self.lay c.append.new.self (words_of c.take-redo.new.self) done s (g.M.Medium.sight (log_medium c.append.new.self))) (sym c.push_reserved.ensures.items)
+          (running_write opening words self.lay self.log c.append.new.self (words_of self.words) (words_of c.take-redo.new.self) self.done.items d c.take-redo.result.writes s (g.M.Medium.sight (log_medium self.log)) (g.M.Medium.sight (log_medium c.append.new.self))
+          next refl c.requires.no_sync (new_is ∙ ap (λ (ws : List Write). overwritten ws (words_of self.words)) same_writes)
+          (served_stands opening self.lay self.done.items d (words_of c.take-redo.new.self) run.layout served) c.append.ensures.moments run
+          c.in_ok-append.ensures.appends.last c.in_ok-append.ensures.goes_on c.in_ok-append.ensures.appends.follows);
+    }
+
+pub returns-clause-number : goal.returns-clause-number
+returns-clause-number g c = c.in_ok-append.ensures.appends.last

@@ -10,15 +10,15 @@ use Rattle.word_space.specs.Flats.{words_of, flat_sight, flat_below, fresh}
 use Rattle.log_numbered.specs.RunLog.{log_last, log_medium}
 use Rattle.dude_engine.specs.Running.{IsRunning, tables_after}
 use Rattle.dude_engine.proofs.Numbering.{IsNext}
-use Rattle.dude_engine.proofs.Serving.{serves_silent}
+use Rattle.dude_engine.proofs.Serving.{serves_from, serves_silent}
 use Rattle.dude_engine.proofs.Steps.{ready_same, running_read, runs_same, served_next, unchanged}
 use Rattle.dude_engine.proofs.run.Run.perform.Goals as goal
 
-pub returns-in-Err-NoMemory-clause-left : goal.returns-in-Err-NoMemory-clause-left
-returns-in-Err-NoMemory-clause-left g c opening words s run =
+pub returns-in-Err-NoMemory-clause-leaves : goal.returns-in-Err-NoMemory-clause-leaves
+returns-in-Err-NoMemory-clause-leaves g c =
     let self = c.args.self.now in
     let same : words_of c.run_request.new.w ≡ words_of self.words = c.run_request.ensures.turns self.words refl in
-    subst (λ (current : List ℕ). IsRunning opening words self.lay self.log current self.done.items s (g.M.Medium.sight (log_medium self.log))) (sym (c.forget.ensures.words ∙ same)) run
+    record { ready = tt; lay = refl; room = refl; calls = tt; left = λ opening words s run. subst (λ (current : List ℕ). IsRunning opening words self.lay self.log current self.done.items s (g.M.Medium.sight (log_medium self.log))) (sym (c.forget.ensures.words ∙ same)) run }
 
 pub log_change-requires-clause-change : goal.log_change-requires-clause-change
 log_change-requires-clause-change g c =
@@ -26,18 +26,25 @@ log_change-requires-clause-change g c =
     let w = c.run_request.new.w in
     let same : words_of w ≡ words_of self.words = c.run_request.ensures.turns self.words refl in
     record {
-      alive = c.requires.ready.alive;
-      sizes = c.requires.ready.sizes;
-      count = ap length same ∙ c.requires.ready.count;
+      alive = c.requires.may.ready.alive;
+      sizes = c.requires.may.ready.sizes;
+      count = ap length same ∙ c.requires.may.ready.count;
       serves = λ db stands. subst (λ (reply : Reply). Serves self.lay db c.args.request.now reply (overwritten (flat_sight w).writes (words_of w))) c.in-Changed.is (c.in-Ok.ensures.serves (words_of w) (flat_below w) db stands);
     }
 
-pub returns-in-Changed-clause-left : goal.returns-in-Changed-clause-left
-returns-in-Changed-clause-left g c opening words s run =
+pub returns-in-Changed-clause-leaves : goal.returns-in-Changed-clause-leaves
+returns-in-Changed-clause-leaves g c =
     let self = c.args.self.now in
+    let leaves = c.log_change.ensures.leaves in
     let same : words_of c.run_request.new.w ≡ words_of self.words = c.run_request.ensures.turns self.words refl in
-    c.log_change.ensures.left opening words s
-    (subst (λ (current : List ℕ). IsRunning opening words self.lay self.log current self.done.items s (g.M.Medium.sight (log_medium self.log))) (sym same) run)
+    record {
+      ready = leaves.ready;
+      lay = leaves.lay;
+      room = leaves.room;
+      calls = serves_from _ _ self (record c.args.self.now { words = c.run_request.new.w }) c.log_change.new.self c.log_change.result refl refl leaves.calls;
+      left = λ opening words s run. leaves.left opening words s
+          (subst (λ (current : List ℕ). IsRunning opening words self.lay self.log current self.done.items s (g.M.Medium.sight (log_medium self.log))) (sym same) run);
+    }
 
 pub returns-in_default : goal.returns-in_default
 returns-in_default g c =
@@ -49,18 +56,20 @@ returns-in_default g c =
     let clean : flat_sight c.note.new.self.words ≡ fresh (words_of c.note.new.self.words) =
     subst (λ (f : Flat). flat_sight f ≡ fresh (words_of f)) (sym c.note.ensures.words) (c.forget-in_default.ensures.fresh ∙ ap fresh (sym c.forget-in_default.ensures.words)) in
     record {
-      ready = ready_same self c.note.new.self c.note.ensures.log c.note.ensures.lay clean words_are c.requires.ready;
-      lay = c.note.ensures.lay;
-      room = c.note.ensures.room;
+      leaves = record {
+        ready = ready_same self c.note.new.self c.note.ensures.log c.note.ensures.lay clean words_are c.requires.may.ready;
+        lay = c.note.ensures.lay;
+        room = c.note.ensures.room;
+        calls = serves_silent self c.note.new.self d (g.M.Medium.sight (log_medium self.log)) (g.M.Medium.sight (log_medium c.note.new.self.log)) c.note.ensures.done refl c.requires.no_sync c.note.ensures.log (ap (λ l. g.M.Medium.sight (log_medium l)) c.note.ensures.log);
+        left = λ opening words s run.
+            let stands : StandsFor self.lay (words_of w) (tables_after opening self.done.items) =
+            subst (λ (z : Sizes). StandsFor z (words_of w) (tables_after opening self.done.items)) run.layout (subst (λ (l : List ℕ). StandsFor opening.sizes l (tables_after opening self.done.items)) (sym same) run.stands) in
+            let served : Serves self.lay (tables_after opening self.done.items) d.request d.reply (overwritten (flat_sight w).writes (words_of w)) = c.in-Ok.ensures.serves (words_of w) (flat_below w) (tables_after opening self.done.items) stands in
+            let next : IsNext opening self.done.items d = served_next opening self.lay self.done.items d (overwritten (flat_sight w).writes (words_of w)) run.layout (c.last-number.ensures ∙ run.last) (unchanged c.in-Ok.reply c.in_default.not-Changed) served in
+            runs_same opening words c.note.new.self self.lay self.log (words_of self.words) (self.done.items ++ d ∷ []) s (g.M.Medium.sight (log_medium self.log)) _
+            c.note.ensures.lay c.note.ensures.log words_are c.note.ensures.done (ap (λ l. g.M.Medium.sight (log_medium l)) c.note.ensures.log)
+            (running_read opening words self.lay self.log (words_of self.words) self.done.items d s (g.M.Medium.sight (log_medium self.log)) next refl c.requires.no_sync run);
+      };
       number = omega (arith, ap (λ l. log_last l) c.note.ensures.log);
       adds = record { entry = d; added = c.note.ensures.done; file_is = refl; index_is = refl; asked = refl };
-      calls = serves_silent self c.note.new.self d (g.M.Medium.sight (log_medium self.log)) (g.M.Medium.sight (log_medium c.note.new.self.log)) c.note.ensures.done refl c.requires.no_sync c.note.ensures.log (ap (λ l. g.M.Medium.sight (log_medium l)) c.note.ensures.log);
-      left = λ opening words s run.
-          let stands : StandsFor self.lay (words_of w) (tables_after opening self.done.items) =
-          subst (λ (z : Sizes). StandsFor z (words_of w) (tables_after opening self.done.items)) run.layout (subst (λ (l : List ℕ). StandsFor opening.sizes l (tables_after opening self.done.items)) (sym same) run.stands) in
-          let served : Serves self.lay (tables_after opening self.done.items) d.request d.reply (overwritten (flat_sight w).writes (words_of w)) = c.in-Ok.ensures.serves (words_of w) (flat_below w) (tables_after opening self.done.items) stands in
-          let next : IsNext opening self.done.items d = served_next opening self.lay self.done.items d (overwritten (flat_sight w).writes (words_of w)) run.layout (c.last-number.ensures ∙ run.last) (unchanged c.in-Ok.reply c.in_default.not-Changed) served in
-          runs_same opening words c.note.new.self self.lay self.log (words_of self.words) (self.done.items ++ d ∷ []) s (g.M.Medium.sight (log_medium self.log)) _
-          c.note.ensures.lay c.note.ensures.log words_are c.note.ensures.done (ap (λ l. g.M.Medium.sight (log_medium l)) c.note.ensures.log)
-          (running_read opening words self.lay self.log (words_of self.words) self.done.items d s (g.M.Medium.sight (log_medium self.log)) next refl c.requires.no_sync run);
     }

@@ -10,16 +10,17 @@ use Rattle.run_order.proofs.Rounds.{Rounds, found_mapped, rounds_all, rounds_col
 use Rattle.dude_engine.specs.declared.run_fault.RunFault.{RunFault}
 use Rattle.dude_engine.specs.Running.{IsLeft}
 use Rattle.dude_engine.proofs.Serving.{serves_none, serves_then}
+use Rattle.dude_engine.proofs.Steps.{fault_on_ok}
 use Rattle.dude_engine.proofs.Turns.{all_at, room_for, turn_last, turn_next}
 use Rattle.dude_engine.proofs.run.Run.serve_all.Goals as goal
 
 pub loop-index-init : goal.loop-index-init
 loop-index-init g c = record {
-  ready = c.requires.ready;
+  ready = c.requires.start.ready;
   lay = refl;
   room = refl;
   number = omega arith;
-  rounds = subst (λ (done : List Done). Rounds (map (λ f. f.items) c.args.files.now) 0 0 done) (sym c.requires.empty) (rounds_start (map (λ f. f.items) c.args.files.now));
+  rounds = subst (λ (done : List Done). Rounds (map (λ f. f.items) c.args.files.now) 0 0 done) (sym c.requires.start.empty) (rounds_start (map (λ f. f.items) c.args.files.now));
   left = λ opening words s run. run;
   calls = serves_none c.args.self.now (g.M.Medium.sight (log_medium c.args.self.now.log));
 }
@@ -55,13 +56,13 @@ loop-file-preserved g c =
     let there : slice_get files c.loop-file.file ≡ Some c.deref.result.now =
     found_mapped (λ f. f.items) c.args.files.now c.loop-file.file c.index-files-file.result c.loop-file-test.true c.index-files-file.is ∙ ap Some (sym c.deref.ensures.value) in
     record {
-      ready = ok.ready;
-      lay = c.serve_turn.ensures.lay ∙ i.lay;
-      room = c.serve_turn.ensures.room ∙ i.room;
+      ready = ok.leaves.ready;
+      lay = c.serve_turn.ensures.leaves.lay ∙ i.lay;
+      room = c.serve_turn.ensures.leaves.room ∙ i.room;
       number = omega (arith, ok.number, i.number);
       rounds = turn_next files c.loop-index.index c.loop-file.file c.deref.result.now c.loop-file.self.done.items c.serve_turn.new.self.done.items there ok.adds i.rounds;
-      left = λ opening words s run. ok.left opening words s (i.left opening words s run);
-      calls = serves_then c.args.self.now c.loop-file.self c.serve_turn.new.self (g.M.Medium.sight (log_medium c.args.self.now.log)) (g.M.Medium.sight (log_medium c.loop-file.self.log)) (g.M.Medium.sight (log_medium c.serve_turn.new.self.log)) i.calls ok.calls;
+      left = λ opening words s run. ok.leaves.left opening words s (i.left opening words s run);
+      calls = serves_then c.args.self.now c.loop-file.self c.serve_turn.new.self (g.M.Medium.sight (log_medium c.args.self.now.log)) (g.M.Medium.sight (log_medium c.loop-file.self.log)) (g.M.Medium.sight (log_medium c.serve_turn.new.self.log)) i.calls ok.leaves.calls;
     }
 
 pub loop-index-preserved : goal.loop-index-preserved
@@ -79,41 +80,54 @@ loop-index-preserved g c =
       calls = i.calls;
     }
 
-pub returns-in_err-serve_turn-clause-left : goal.returns-in_err-serve_turn-clause-left
-returns-in_err-serve_turn-clause-left g c opening words s run =
+pub returns-in_err-serve_turn-clause-leaves : goal.returns-in_err-serve_turn-clause-leaves
+returns-in_err-serve_turn-clause-leaves g c =
+    let i = c.loop-file.invariant in
+    let leaves = c.in_err-serve_turn.ensures.leaves in
+    let is : c.from_residual.result ≡ Err c.in_err-serve_turn.field-0.0 = search rules in
+    record {
+      ready = fault_on_ok _ c.from_residual.result c.in_err-serve_turn.field-0.0 is;
+      lay = leaves.lay ∙ i.lay;
+      room = leaves.room ∙ i.room;
+      calls = fault_on_ok _ c.from_residual.result c.in_err-serve_turn.field-0.0 is;
+      left = λ opening words s run.
+          subst (λ (r : Result (Unit {0}) RunFault). IsLeft r opening words c.serve_turn.new.self s (g.M.Medium.sight (log_medium c.serve_turn.new.self.log))) (sym is)
+          (leaves.left opening words s (i.left opening words s run));
+    }
+
+pub returns-in_err-serve_turn-clause-performs : goal.returns-in_err-serve_turn-clause-performs
+returns-in_err-serve_turn-clause-performs g c =
+    let files = map (λ f. f.items) c.args.files.now in
+    let performed = c.serve_turn.new.self.done.items in
     let i = c.loop-file.invariant in
     let is : c.from_residual.result ≡ Err c.in_err-serve_turn.field-0.0 = search rules in
-    subst (λ (r : Result (Unit {0}) RunFault). IsLeft r opening words c.serve_turn.new.self s (g.M.Medium.sight (log_medium c.serve_turn.new.self.log))) (sym is)
-    (c.in_err-serve_turn.ensures.left opening words s (i.left opening words s run))
-
-pub returns-in_err-serve_turn-clause-rounds : goal.returns-in_err-serve_turn-clause-rounds
-returns-in_err-serve_turn-clause-rounds g c =
-    let files = map (λ f. f.items) c.args.files.now in
-    let i = c.loop-file.invariant in
     let there : slice_get files c.loop-file.file ≡ Some c.deref.result.now =
     found_mapped (λ f. f.items) c.args.files.now c.loop-file.file c.index-files-file.result c.loop-file-test.true c.index-files-file.is ∙ ap Some (sym c.deref.ensures.value) in
-    let last = turn_last files c.loop-index.index c.loop-file.file c.deref.result.now c.loop-file.self.done.items c.serve_turn.new.self.done.items c.in_err-serve_turn.field-0.0 there c.in_err-serve_turn.ensures.adds i.rounds in
-    rounds_rounds files c.loop-index.index last.0 c.serve_turn.new.self.done.items last.1
+    let last = turn_last files c.loop-index.index c.loop-file.file c.deref.result.now c.loop-file.self.done.items performed c.in_err-serve_turn.field-0.0 there c.in_err-serve_turn.ensures.adds i.rounds in
+    record {
+      rounds = rounds_rounds files c.loop-index.index last.0 performed last.1;
+      collects = λ done same sorted. rounds_collect files c.loop-index.index last.0 performed done last.1 same sorted;
+      all = fault_on_ok _ c.from_residual.result c.in_err-serve_turn.field-0.0 is;
+    }
 
-pub returns-in_err-serve_turn-clause-collects : goal.returns-in_err-serve_turn-clause-collects
-returns-in_err-serve_turn-clause-collects g c done same sorted =
-    let files = map (λ f. f.items) c.args.files.now in
-    let i = c.loop-file.invariant in
-    let there : slice_get files c.loop-file.file ≡ Some c.deref.result.now =
-    found_mapped (λ f. f.items) c.args.files.now c.loop-file.file c.index-files-file.result c.loop-file-test.true c.index-files-file.is ∙ ap Some (sym c.deref.ensures.value) in
-    let last = turn_last files c.loop-index.index c.loop-file.file c.deref.result.now c.loop-file.self.done.items c.serve_turn.new.self.done.items c.in_err-serve_turn.field-0.0 there c.in_err-serve_turn.ensures.adds i.rounds in
-    rounds_collect files c.loop-index.index last.0 c.serve_turn.new.self.done.items done last.1 same sorted
+pub returns-clause-leaves : goal.returns-clause-leaves
+returns-clause-leaves g c =
+    let i = c.loop-index.invariant in
+    record { ready = i.ready; lay = i.lay; room = i.room; calls = i.calls; left = i.left }
 
-pub returns-clause-collects : goal.returns-clause-collects
-returns-clause-collects g c done same sorted =
-    rounds_collect (map (λ f. f.items) c.args.files.now) c.loop-index.index 0 c.loop-index.self.done.items done c.loop-index.invariant.rounds same sorted
-
-pub returns-clause-all : goal.returns-clause-all
-returns-clause-all g c done same sorted =
+pub returns-clause-performs : goal.returns-clause-performs
+returns-clause-performs g c =
     let files = map (λ f. f.items) c.args.files.now in
     let index = c.loop-index.index in
-    let over = c.loop-index-test.false in
-    let longest = c.longest_file-longest.result in
-    let short : All (λ requests. length requests ≤ index) files =
-    All-weaker (λ (requests : List Request). length requests ≤ longest) (λ (requests : List Request). length requests ≤ index) (λ requests h. omega (arith, h, over)) files c.longest_file-longest.ensures in
-    rounds_all files index c.loop-index.self.done.items done short c.loop-index.invariant.rounds same sorted
+    let performed = c.loop-index.self.done.items in
+    let rounds = c.loop-index.invariant.rounds in
+    record {
+      rounds = rounds_rounds files index 0 performed rounds;
+      collects = λ done same sorted. rounds_collect files index 0 performed done rounds same sorted;
+      all = λ done same sorted.
+          let over = c.loop-index-test.false in
+          let longest = c.longest_file-longest.result in
+          let short : All (λ requests. length requests ≤ index) files =
+          All-weaker (λ (requests : List Request). length requests ≤ longest) (λ (requests : List Request). length requests ≤ index) (λ requests h. omega (arith, h, over)) files c.longest_file-longest.ensures in
+          rounds_all files index performed done short rounds same sorted;
+    }

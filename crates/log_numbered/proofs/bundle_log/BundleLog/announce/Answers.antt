@@ -17,20 +17,21 @@ returns-in-Ok-clause-alive g c _ = announced_leads (kept_back c.args.self.now) (
 pub returns-in-Ok-clause-answer : goal.returns-in-Ok-clause-answer
 returns-in-Ok-clause-answer g c = announced_last (kept_back c.args.self.now) (state_of c.announce.new.self) c.args.self.now.end (g.M.Medium.sight (kept_medium c.args.self.now)) (g.M.Medium.sight (medium_of c.announce.new.self)) c.requires.alive c.in-Ok.ensures.extends.len c.in-Ok.end c.in-Ok.ensures.state (announced_end c.in-Ok.ensures.calls)
 
-pub returns-in-Ok-clause-back : goal.returns-in-Ok-clause-back
-returns-in-Ok-clause-back g c = announced_back (kept_back c.args.self.now) (state_of c.announce.new.self) c.args.self.now.end (g.M.Medium.sight (kept_medium c.args.self.now)) (g.M.Medium.sight (medium_of c.announce.new.self)) c.requires.alive c.in-Ok.ensures.extends.len c.in-Ok.end c.in-Ok.ensures.state (announced_end c.in-Ok.ensures.calls)
-
-pub returns-in-Ok-clause-calls : goal.returns-in-Ok-clause-calls
-returns-in-Ok-clause-calls g c = announced_by (kept_back c.args.self.now) c.in-Ok.end c.args.self.now.end _ _ c.requires.alive.lawful c.requires.alive.end c.in-Ok.ensures.calls
-
-pub returns-in-Ok-clause-told : goal.returns-in-Ok-clause-told
-returns-in-Ok-clause-told g c visible = c.in-Ok.ensures.told.answer visible ∙ ap (λ n. (state_now (g.M.Medium.sight (kept_medium c.args.self.now))).told ++ n ∷ []) (returns-in-Ok-clause-answer g c)
-
-pub returns-in-Ok-clause-durable : goal.returns-in-Ok-clause-durable
-returns-in-Ok-clause-durable g c = announced_durable (kept_back c.args.self.now) (state_of c.announce.new.self) c.args.self.now.end (g.M.Medium.sight (kept_medium c.args.self.now)) (g.M.Medium.sight (medium_of c.announce.new.self)) c.requires.alive c.in-Ok.ensures.extends.len c.in-Ok.end c.in-Ok.ensures.state (announced_end c.in-Ok.ensures.calls)
-
-pub returns-in-Ok-clause-carries : goal.returns-in-Ok-clause-carries
-returns-in-Ok-clause-carries g c = announced_carries (kept_back c.args.self.now) (state_of c.announce.new.self) c.args.self.now.end _ _ c.requires.alive c.in-Ok.ensures.extends.len c.in-Ok.end c.in-Ok.ensures.state (announced_end c.in-Ok.ensures.calls) (returns-in-Ok-clause-goes_on g c) c.in-Ok.ensures.crash.keeps c.in-Ok.ensures.home_stays
+pub returns-in-Ok-clause-announces : goal.returns-in-Ok-clause-announces
+returns-in-Ok-clause-announces g c =
+    let k = c.args.self.now in
+    let v = kept_back k in
+    let w = state_of c.announce.new.self in
+    let s = g.M.Medium.sight (kept_medium k) in
+    let t = g.M.Medium.sight (medium_of c.announce.new.self) in
+    let ok = c.in-Ok.ensures in
+    record {
+      back = announced_back v w k.end s t c.requires.alive ok.extends.len c.in-Ok.end ok.state (announced_end ok.calls);
+      calls = announced_by v c.in-Ok.end k.end _ _ c.requires.alive.lawful c.requires.alive.end ok.calls;
+      told = λ visible. ok.told.answer visible ∙ ap (λ n. (state_now s).told ++ n ∷ []) (returns-in-Ok-clause-answer g c);
+      durable = announced_durable v w k.end s t c.requires.alive ok.extends.len c.in-Ok.end ok.state (announced_end ok.calls);
+      carries = announced_carries v w k.end _ _ c.requires.alive ok.extends.len c.in-Ok.end ok.state (announced_end ok.calls) (returns-in-Ok-clause-goes_on g c) ok.crash.keeps ok.home_stays;
+    }
 
 pub returns-in-Ok-clause-moments : goal.returns-in-Ok-clause-moments
 returns-in-Ok-clause-moments g c = recovers_by _ _ _ _ c.requires.alive c.in-Ok.ensures.crash.moments

@@ -13,26 +13,25 @@ returns-in-Ok-clause-goes_on g c = reproduced_goes (kept_back c.args.self.now) (
 pub returns-in-Ok-clause-alive : goal.returns-in-Ok-clause-alive
 returns-in-Ok-clause-alive g c _ = reproduced_leads (kept_back c.args.self.now) (state_of c.reproduce.new.self) c.args.self.now.end (g.M.Medium.sight (kept_medium c.args.self.now)) (g.M.Medium.sight (medium_of c.reproduce.new.self)) c.requires.alive c.in-Ok.ensures.extends.len 18446744073709551615 (omega arith) c.requires.announced c.in-Ok.field-0 c.in-Ok.ensures.state c.in-Ok.ensures.answer
 
-pub returns-in-Ok-clause-back : goal.returns-in-Ok-clause-back
-returns-in-Ok-clause-back g c = reproduced_back (kept_back c.args.self.now) (state_of c.reproduce.new.self) c.args.self.now.end (g.M.Medium.sight (kept_medium c.args.self.now)) (g.M.Medium.sight (medium_of c.reproduce.new.self)) c.requires.alive c.in-Ok.ensures.extends.len 18446744073709551615 (omega arith) c.requires.announced c.in-Ok.field-0 c.in-Ok.ensures.state c.in-Ok.ensures.answer
-
-pub returns-in-Ok-clause-calls : goal.returns-in-Ok-clause-calls
-returns-in-Ok-clause-calls g c =
-    let v = kept_back c.args.self.now in
-    let made = c.in-Ok.ensures.calls in
-    reproduced_by v c.args.self.now.end _ _ _ made.stop (stop_last v c.args.self.now.end c.requires.alive 18446744073709551615 made.stop (omega arith) c.requires.announced made.stops) made.made
-
-pub returns-in-Ok-clause-told : goal.returns-in-Ok-clause-told
-returns-in-Ok-clause-told g c = reproduced_told (kept_back c.args.self.now) (state_of c.reproduce.new.self) c.args.self.now.end (g.M.Medium.sight (kept_medium c.args.self.now)) (g.M.Medium.sight (medium_of c.reproduce.new.self)) c.requires.alive c.in-Ok.ensures.extends.len 18446744073709551615 (omega arith) c.requires.announced c.in-Ok.field-0 c.in-Ok.ensures.state c.in-Ok.ensures.answer c.in-Ok.ensures.calls
-
-pub returns-in-Ok-clause-numbers : goal.returns-in-Ok-clause-numbers
-returns-in-Ok-clause-numbers g c = all_numbers (kept_back c.args.self.now) (state_of c.reproduce.new.self) c.args.self.now.end (g.M.Medium.sight (kept_medium c.args.self.now)) (g.M.Medium.sight (medium_of c.reproduce.new.self)) c.requires.alive c.in-Ok.ensures.extends.len 18446744073709551615 (omega arith) c.requires.announced c.in-Ok.field-0 c.in-Ok.ensures.state c.in-Ok.ensures.answer
-
-pub returns-in-Ok-clause-carries : goal.returns-in-Ok-clause-carries
-returns-in-Ok-clause-carries g c = reproduced_carries (kept_back c.args.self.now) (state_of c.reproduce.new.self) c.args.self.now.end _ _ c.requires.alive c.in-Ok.ensures.extends.len 18446744073709551615 (omega arith) c.requires.announced c.in-Ok.field-0 c.in-Ok.ensures.state c.in-Ok.ensures.answer (returns-in-Ok-clause-goes_on g c) c.in-Ok.ensures.crash.keeps c.in-Ok.ensures.home
-
-pub returns-in-Ok-clause-home : goal.returns-in-Ok-clause-home
-returns-in-Ok-clause-home g c = reproduced_home (kept_back c.args.self.now) (state_of c.reproduce.new.self) c.args.self.now.end (g.M.Medium.sight (kept_medium c.args.self.now)) (g.M.Medium.sight (medium_of c.reproduce.new.self)) c.requires.alive c.in-Ok.ensures.extends.len 18446744073709551615 (omega arith) c.requires.announced c.in-Ok.field-0 c.in-Ok.ensures.state c.in-Ok.ensures.answer c.in-Ok.ensures.home
+pub returns-in-Ok-clause-brings : goal.returns-in-Ok-clause-brings
+returns-in-Ok-clause-brings g c =
+    let k = c.args.self.now in
+    let v = kept_back k in
+    let w = state_of c.reproduce.new.self in
+    let s = g.M.Medium.sight (kept_medium k) in
+    let t = g.M.Medium.sight (medium_of c.reproduce.new.self) in
+    let ok = c.in-Ok.ensures in
+    let made = ok.calls in
+    let numbers = all_numbers v w k.end s t c.requires.alive ok.extends.len 18446744073709551615 (omega arith) c.requires.announced c.in-Ok.field-0 ok.state ok.answer in
+    record {
+      back = reproduced_back v w k.end s t c.requires.alive ok.extends.len 18446744073709551615 (omega arith) c.requires.announced c.in-Ok.field-0 ok.state ok.answer;
+      calls = reproduced_by v k.end _ _ _ made.stop (stop_last v k.end c.requires.alive 18446744073709551615 made.stop (omega arith) c.requires.announced made.stops) made.made;
+      told = reproduced_told v w k.end s t c.requires.alive ok.extends.len 18446744073709551615 (omega arith) c.requires.announced c.in-Ok.field-0 ok.state ok.answer ok.calls;
+      durable = numbers.0;
+      reproduced_is = numbers.1;
+      carries = reproduced_carries v w k.end _ _ c.requires.alive ok.extends.len 18446744073709551615 (omega arith) c.requires.announced c.in-Ok.field-0 ok.state ok.answer (returns-in-Ok-clause-goes_on g c) ok.crash.keeps ok.home;
+      home = reproduced_home v w k.end s t c.requires.alive ok.extends.len 18446744073709551615 (omega arith) c.requires.announced c.in-Ok.field-0 ok.state ok.answer ok.home;
+    }
 
 pub returns-in-Ok-clause-moments : goal.returns-in-Ok-clause-moments
 returns-in-Ok-clause-moments g c = recovers_by _ _ _ _ c.requires.alive c.in-Ok.ensures.crash.moments

@@ -17,26 +17,28 @@ returns-then-joins-clause-goes_on g c = goes_here c.args.self.now (record c.join
 pub returns-then-joins-clause-alive : goal.returns-then-joins-clause-alive
 returns-then-joins-clause-alive g c _ =
     let j = c.joins.ensures.joined c.if-joins.true in
-    joined_alive c.args.self.now (record c.joins.new.self { last = c.joins.new.self.last + 1 }) (g.M.Medium.sight (log_medium c.args.self.now)) _ c.joins.ensures.log (ap (λ x. g.M.Medium.sight (kept_medium x)) c.joins.ensures.log) c.args.r.now j.0 j.1 j.2 j.3 (ap (λ (n : ℕ). n + 1) c.joins.ensures.last) c.joins.ensures.writes c.requires.alive c.requires.small c.requires.home
+    joined_alive c.args.self.now (record c.joins.new.self { last = c.joins.new.self.last + 1 }) (g.M.Medium.sight (log_medium c.args.self.now)) _ c.joins.ensures.log (ap (λ x. g.M.Medium.sight (kept_medium x)) c.joins.ensures.log) c.args.r.now j.0 j.1 j.2 j.3 (ap (λ (n : ℕ). n + 1) c.joins.ensures.last) c.joins.ensures.writes c.requires.alive c.requires.next.small c.requires.next.home
 
-pub returns-then-joins-clause-last : goal.returns-then-joins-clause-last
-returns-then-joins-clause-last g c = ap (λ (n : ℕ). n + 1) c.joins.ensures.last
-
-pub returns-then-joins-clause-calls : goal.returns-then-joins-clause-calls
-returns-then-joins-clause-calls g c =
-    let j = c.joins.ensures.joined c.if-joins.true in (
-      [],
-      inl (record { joined = j.0; was = j.1; joins = j.2; now = j.3; back = ap (λ x. kept_back x) c.joins.ensures.log; calls_are = refl }),
-      calls_here c.args.self.now (record c.joins.new.self { last = c.joins.new.self.last + 1 }) (g.M.Medium.sight (log_medium c.args.self.now)) _ c.joins.ensures.log (ap (λ x. g.M.Medium.sight (kept_medium x)) c.joins.ensures.log),
-    )
-
-pub returns-then-joins-clause-untold : goal.returns-then-joins-clause-untold
-returns-then-joins-clause-untold g c room visible = ap (λ x. (state_now (g.M.Medium.sight (kept_medium x))).told) c.joins.ensures.log
-
-pub returns-then-joins-clause-follows : goal.returns-then-joins-clause-follows
-returns-then-joins-clause-follows g c =
-    let j = c.joins.ensures.joined c.if-joins.true in
-    joined_follows c.args.self.now (record c.joins.new.self { last = c.joins.new.self.last + 1 }) (g.M.Medium.sight (log_medium c.args.self.now)) _ c.joins.ensures.log (ap (λ x. g.M.Medium.sight (kept_medium x)) c.joins.ensures.log) c.args.r.now j.0 j.1 j.2 j.3 (ap (λ (n : ℕ). n + 1) c.joins.ensures.last) c.joins.ensures.writes c.requires.alive
+pub returns-then-joins-clause-appends : goal.returns-then-joins-clause-appends
+returns-then-joins-clause-appends g c = record {
+  last = (
+      ap (λ (n : ℕ). n + 1) c.joins.ensures.last
+      );
+  calls = (
+      let j = c.joins.ensures.joined c.if-joins.true in (
+        [],
+        inl (record { joined = j.0; was = j.1; joins = j.2; now = j.3; back = ap (λ x. kept_back x) c.joins.ensures.log; calls_are = refl }),
+        calls_here c.args.self.now (record c.joins.new.self { last = c.joins.new.self.last + 1 }) (g.M.Medium.sight (log_medium c.args.self.now)) _ c.joins.ensures.log (ap (λ x. g.M.Medium.sight (kept_medium x)) c.joins.ensures.log),
+      )
+      );
+  untold = λ room visible. (
+      ap (λ x. (state_now (g.M.Medium.sight (kept_medium x))).told) c.joins.ensures.log
+      );
+  follows = (
+      let j = c.joins.ensures.joined c.if-joins.true in
+      joined_follows c.args.self.now (record c.joins.new.self { last = c.joins.new.self.last + 1 }) (g.M.Medium.sight (log_medium c.args.self.now)) _ c.joins.ensures.log (ap (λ x. g.M.Medium.sight (kept_medium x)) c.joins.ensures.log) c.args.r.now j.0 j.1 j.2 j.3 (ap (λ (n : ℕ). n + 1) c.joins.ensures.last) c.joins.ensures.writes c.requires.alive
+      );
+}
 
 pub returns-then-joins-clause-moments : goal.returns-then-joins-clause-moments
 returns-then-joins-clause-moments g c = recovers_still c.args.self.now (g.M.Medium.sight (log_medium c.args.self.now)) _ c.args.r.now.writes (ap (λ x. g.M.Medium.sight (kept_medium x)) c.joins.ensures.log) c.requires.alive c.args.self.now.log.back.room
@@ -59,35 +61,36 @@ pub returns-clause-goes_on : goal.returns-clause-goes_on
 returns-clause-goes_on g c =
     subst (λ k. LogGoesOn true (log_back k) (g.M.Medium.sight (log_medium k)) (log_back c.close.new.self) (g.M.Medium.sight (log_medium c.close.new.self))) (c.joins.ensures.stays c.if-joins.false) c.in_ok-close.ensures.goes_on
 
-pub returns-clause-last : goal.returns-clause-last
-returns-clause-last g c = ap (λ (n : ℕ). n + 1) (c.close.ensures.last ∙ c.joins.ensures.last)
-
 pub returns-clause-alive : goal.returns-clause-alive
 returns-clause-alive g c _ =
     let last : c.close.new.self.last ≡ c.args.self.now.last = c.close.ensures.last ∙ c.joins.ensures.last in
     let sizes : log_sizes c.close.new.self ≡ log_sizes c.args.self.now = c.in_ok-close.ensures.goes_on.sizes ∙ ap (λ x. (kept_back x).log.sizes) c.joins.ensures.log in
     let now = ap (λ (b : RedoBundle). (let o : Option OpenBundle = Some (record { ring = c.args.ring; bundle = b }) in o)) c.one-bundle.ensures in
-    begun_alive c.close.new.self (record { log = c.close.new.self.log; last = c.close.new.self.last + 1; current = Some (record { ring = c.args.ring; bundle = c.one-bundle.result }) }) c.args.ring c.args.r.now refl c.in_ok-close.ensures.none_open now (c.requires.number ∙ ap (λ (n : ℕ). n + 1) (sym last)) refl c.joins.ensures.writes (c.in_ok-close.ensures.alive refl)
-    (let small = c.requires.small in omega arith) (subst (λ (z : Sizes). c.args.ring < z.rings) (sym sizes) c.requires.ring) (subst (λ (z : Sizes). All (λ w. w.at < z.pages * 64) c.args.r.now.writes) (sym sizes) c.requires.home)
+    begun_alive c.close.new.self (record { log = c.close.new.self.log; last = c.close.new.self.last + 1; current = Some (record { ring = c.args.ring; bundle = c.one-bundle.result }) }) c.args.ring c.args.r.now refl c.in_ok-close.ensures.closes.none_open now (c.requires.next.number ∙ ap (λ (n : ℕ). n + 1) (sym last)) refl c.joins.ensures.writes (c.in_ok-close.ensures.alive refl)
+    (let small = c.requires.next.small in omega arith) (subst (λ (z : Sizes). c.args.ring < z.rings) (sym sizes) c.requires.next.ring_is) (subst (λ (z : Sizes). All (λ w. w.at < z.pages * 64) c.args.r.now.writes) (sym sizes) c.requires.next.home)
 
-pub returns-clause-calls : goal.returns-clause-calls
-returns-clause-calls g c =
-    let same = c.joins.ensures.stays c.if-joins.false in
-    let now = ap (λ (b : RedoBundle). (let o : Option OpenBundle = Some (record { ring = c.args.ring; bundle = b }) in o)) c.one-bundle.ensures in
-    begun_calls c.args.ring c.args.r.now (log_parts c.args.self.now) (log_parts (record { log = c.close.new.self.log; last = c.close.new.self.last + 1; current = Some (record { ring = c.args.ring; bundle = c.one-bundle.result }) })) _ _ (c.joins.ensures.apart c.if-joins.false)
-    (subst (λ k. Makes (ClosedBy (log_open k) (log_back k) (log_back c.close.new.self)) (g.M.Medium.sight (log_medium k)) (g.M.Medium.sight (log_medium c.close.new.self))) same c.in_ok-close.ensures.calls) now
-
-pub returns-clause-untold : goal.returns-clause-untold
-returns-clause-untold g c =
-    subst (λ k. HasRoom k → IsTrue (g.M.Medium.sight (log_medium k)).is_visible → (state_now (g.M.Medium.sight (log_medium c.close.new.self))).told ≡ (state_now (g.M.Medium.sight (log_medium k))).told) (c.joins.ensures.stays c.if-joins.false) c.in_ok-close.ensures.untold
-
-pub returns-clause-follows : goal.returns-clause-follows
-returns-clause-follows g c =
-    let same = c.joins.ensures.stays c.if-joins.false in
-    let last : c.close.new.self.last ≡ c.args.self.now.last = c.close.ensures.last ∙ c.joins.ensures.last in
-    let now = ap (λ (b : RedoBundle). (let o : Option OpenBundle = Some (record { ring = c.args.ring; bundle = b }) in o)) c.one-bundle.ensures in
-    begun_follows c.close.new.self (record { log = c.close.new.self.log; last = c.close.new.self.last + 1; current = Some (record { ring = c.args.ring; bundle = c.one-bundle.result }) }) c.args.ring c.args.r.now refl c.in_ok-close.ensures.none_open now (c.requires.number ∙ ap (λ (n : ℕ). n + 1) (sym last)) refl c.joins.ensures.writes (c.in_ok-close.ensures.alive refl) c.args.self.now _ _
-    (subst (λ k. FollowsOn (λ a. a) k (g.M.Medium.sight (log_medium k)) c.close.new.self (g.M.Medium.sight (log_medium c.close.new.self))) same c.in_ok-close.ensures.follows)
+pub returns-clause-appends : goal.returns-clause-appends
+returns-clause-appends g c = record {
+  last = (
+      ap (λ (n : ℕ). n + 1) (c.close.ensures.last ∙ c.joins.ensures.last)
+      );
+  calls = (
+      let same = c.joins.ensures.stays c.if-joins.false in
+      let now = ap (λ (b : RedoBundle). (let o : Option OpenBundle = Some (record { ring = c.args.ring; bundle = b }) in o)) c.one-bundle.ensures in
+      begun_calls c.args.ring c.args.r.now (log_parts c.args.self.now) (log_parts (record { log = c.close.new.self.log; last = c.close.new.self.last + 1; current = Some (record { ring = c.args.ring; bundle = c.one-bundle.result }) })) _ _ (c.joins.ensures.apart c.if-joins.false)
+      (subst (λ k. Makes (ClosedBy (log_open k) (log_back k) (log_back c.close.new.self)) (g.M.Medium.sight (log_medium k)) (g.M.Medium.sight (log_medium c.close.new.self))) same c.in_ok-close.ensures.closes.calls) now
+      );
+  untold = (
+      subst (λ k. HasRoom k → IsTrue (g.M.Medium.sight (log_medium k)).is_visible → (state_now (g.M.Medium.sight (log_medium c.close.new.self))).told ≡ (state_now (g.M.Medium.sight (log_medium k))).told) (c.joins.ensures.stays c.if-joins.false) c.in_ok-close.ensures.closes.untold
+      );
+  follows = (
+      let same = c.joins.ensures.stays c.if-joins.false in
+      let last : c.close.new.self.last ≡ c.args.self.now.last = c.close.ensures.last ∙ c.joins.ensures.last in
+      let now = ap (λ (b : RedoBundle). (let o : Option OpenBundle = Some (record { ring = c.args.ring; bundle = b }) in o)) c.one-bundle.ensures in
+      begun_follows c.close.new.self (record { log = c.close.new.self.log; last = c.close.new.self.last + 1; current = Some (record { ring = c.args.ring; bundle = c.one-bundle.result }) }) c.args.ring c.args.r.now refl c.in_ok-close.ensures.closes.none_open now (c.requires.next.number ∙ ap (λ (n : ℕ). n + 1) (sym last)) refl c.joins.ensures.writes (c.in_ok-close.ensures.alive refl) c.args.self.now _ _
+      (subst (λ k. FollowsOn (λ a. a) k (g.M.Medium.sight (log_medium k)) c.close.new.self (g.M.Medium.sight (log_medium c.close.new.self))) same c.in_ok-close.ensures.closes.follows)
+      );
+}
 
 pub returns-clause-moments : goal.returns-clause-moments
 returns-clause-moments g c =

@@ -8,7 +8,7 @@ use Rattle.log_waiting.proofs.backlog.Backlog.append.Given.{Over}
 use Rattle.log_waiting.proofs.backlog.Backlog.append.Goals as goal
 
 below : (g : Over) (c : goal.After-self-1 g) → c.args.ring < c.self.inside.place.rings
-below g c = rw (← c.self.view_is) at c.requires.ring
+below g c = rw (← c.self.view_is) at c.requires.may.exists
 
 -- the lane that the record is appended to
 lane : (g : Over) (c : goal.After-self-1 g) → c.index_mut-lane.result.now ≡ lane_at c.self.inside.lanes.items c.args.ring
@@ -20,12 +20,12 @@ lane g c =
 pub invariant_of-self : goal.invariant_of-self
 invariant_of-self g c = record {
   lawful = lawful_after (backlog_state c.self.inside) c.args.ring c.args.r.now (is_ok c.append.result) c.append.new.self c.self.invariant.lawful (below g c)
-      (λ ok. ok_not_full c.append.result (full_lane (lane_at c.self.inside.lanes.items c.args.ring) c.args.r.now) (IsLaneFull (lane_at c.self.inside.lanes.items c.args.ring) c.args.r.now) ok (rw (lane g c) at c.append.ensures.full))
-      c.requires.numbers (rw (← c.self.view_is) at c.requires.home) (rw (← c.self.view_is) at c.requires.new) (rw (← c.self.view_is) at c.requires.over) (rw (lane g c) at c.append.ensures.lane);
+      (λ ok. ok_not_full c.append.result (full_lane (lane_at c.self.inside.lanes.items c.args.ring) c.args.r.now) (IsLaneFull (lane_at c.self.inside.lanes.items c.args.ring) c.args.r.now) ok (rw (lane g c) at c.append.ensures.cause.full_is))
+      c.requires.may.numbers (rw (← c.self.view_is) at c.requires.may.home) (rw (← c.self.view_is) at c.requires.may.new) (rw (← c.self.view_is) at c.requires.may.over) (rw (lane g c) at c.append.ensures.lane);
   group = c.self.invariant.group;
 }
 
 pub returns-clause-can : goal.returns-clause-can
 returns-clause-can g c home left =
     rw (← c.self.view_is) (can_persist (backlog_state c.self.inside) c.args.ring c.args.r.now home c.self.invariant.lawful (below g c)
-    ((rw (lane g c) at c.append.ensures.can) c.self.inside.reproduced (rw (← c.self.view_is) at left)) (rw (lane g c) at c.append.ensures.over) (rw (← c.self.view_is) at c.requires.over) (rw (← c.self.view_is) at c.requires.new))
+    ((rw (lane g c) at c.append.ensures.can.room) c.self.inside.reproduced (rw (← c.self.view_is) at left)) (rw (lane g c) at c.append.ensures.can.over) (rw (← c.self.view_is) at c.requires.may.over) (rw (← c.self.view_is) at c.requires.may.new))

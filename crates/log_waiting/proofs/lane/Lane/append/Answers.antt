@@ -16,8 +16,14 @@ use Rattle.log_waiting.proofs.KeptLanes.{extents_kept, length_waiting, lane_more
 use Rattle.log_waiting.proofs.lane.Lane.append.Given as given
 use Rattle.log_waiting.proofs.lane.Lane.append.Goals as goal
 
-pub append-outcome-requires-clause-newest : goal.append-outcome-requires-clause-newest
-append-outcome-requires-clause-newest g c = newest_logged (first_of c.args.r.now) c.self.inside.ring.logged (waiting_in_lane c.self.inside) (extents_kept c.self.inside c.self.invariant) (rw (← c.self.view_is) at c.requires.newest)
+pub append-outcome-requires-clause-may : goal.append-outcome-requires-clause-may
+append-outcome-requires-clause-may g c =
+    let may = c.requires.may in
+    record {
+      numbers = may.numbers;
+      newest = newest_logged (first_of c.args.r.now) c.self.inside.ring.logged (waiting_in_lane c.self.inside) (extents_kept c.self.inside c.self.invariant) (rw (← c.self.view_is) at may.newest);
+      home = rw (← c.self.view_is) at may.home;
+    }
 
 pub overflow_cast-last : goal.overflow_cast-last
 overflow_cast-last g c =
@@ -31,7 +37,7 @@ push_reserved-requires g c =
     let a = c.self.inside in
     let few = length-used (waiting_in_lane a) in
     let used = used_same a.ring.logged (waiting_in_lane a) (extents_kept a c.self.invariant) in
-    let room = room_left c.append-outcome.result a.ring.sizes.cells (cells_used a.ring.logged) (cells_for (length c.args.r.now.writes)) (sym c.is_ok.ensures.value ∙ c.if-is_ok.true) c.append-outcome.ensures.full in
+    let room = room_left c.append-outcome.result a.ring.sizes.cells (cells_used a.ring.logged) (cells_for (length c.args.r.now.writes)) (sym c.is_ok.ensures.value ∙ c.if-is_ok.true) c.append-outcome.ensures.cause.full_is in
     let some : 1 ≤ cells_for (length c.args.r.now.writes) = omega arith in
     omega (arith, c.self.invariant.room, length_waiting a, a.entries.ok)
 
@@ -62,8 +68,8 @@ more g c =
     let size : length c.put_writes.new.writes ≡ a.writes.len = omega (arith, c.put_writes.auto.writes, c.deref_mut.ensures.len, a.writes.ok, ap (λ (l : List Write). length l) c.deref_mut.ensures.value) in
     let items : (with_items a.writes c.put_writes.new.writes).items ≡ c.put_writes.new.writes = with_items_is a.writes c.put_writes.new.writes size in
     let long : length (with_items a.writes c.put_writes.new.writes).items ≡ length a.writes.items = ap (λ (l : List Write). length l) items ∙ omega (arith, size, a.writes.ok) in
-    let room = room_left c.append-outcome.result a.ring.sizes.cells (cells_used a.ring.logged) (cells_for (length r.writes)) (sym c.is_ok.ensures.value ∙ c.if-is_ok.true) c.append-outcome.ensures.full in
-    let can = c.append-outcome.ensures.can 0 (λ over. let le = room in omega arith) in
+    let room = room_left c.append-outcome.result a.ring.sizes.cells (cells_used a.ring.logged) (cells_for (length r.writes)) (sym c.is_ok.ensures.value ∙ c.if-is_ok.true) c.append-outcome.ensures.cause.full_is in
+    let can = c.append-outcome.ensures.safe.can 0 (λ over. let le = room in omega arith) in
     let own : writes_in a.ring.sizes.cells (with_items a.writes c.put_writes.new.writes).items a.ring.next (length r.writes) ≡ r.writes =
     subst (λ (l : List Write). writes_in a.ring.sizes.cells l a.ring.next (length r.writes) ≡ r.writes) (sym items)
     (subst (λ n. writes_in a.ring.sizes.cells c.put_writes.new.writes n (length r.writes) ≡ r.writes) slot (subst (λ n. writes_in n c.put_writes.new.writes c.next-slot.result (length r.writes) ≡ r.writes) cells c.put_writes.ensures.own)) in
@@ -71,9 +77,9 @@ more g c =
     λ at d apart. ap (λ (l : List Write). get_or l at d) items
     ∙ c.put_writes.ensures.others at d (λ i lt same. apart i lt (same ∙ ap (λ n. write_place n c.next-slot.result i) cells ∙ ap (λ n. write_place a.ring.sizes.cells n i) slot))
     ∙ ap (λ (l : List Write). get_or l at d) c.deref_mut.ensures.value in
-    let low = c.requires.numbers.low in
+    let low = c.requires.may.numbers.low in
     let next : a.ring.next < a.ring.sizes.cells = (let lt = c.next-slot.ensures.inside in omega (arith, slot)) in
-    let newest : All (λ (q : RedoBundle). q.last < first_of r) (waiting_in_lane a) = rw (← c.self.view_is) at c.requires.newest in (
+    let newest : All (λ (q : RedoBundle). q.last < first_of r) (waiting_in_lane a) = rw (← c.self.view_is) at c.requires.may.newest in (
       waiting_more a (after g c) kept r e bundle (omega arith) newest next is (ring_after g c) c.push_reserved.ensures.items c.push_reserved.ensures.capacity long can.free own others,
       lane_more a (after g c) kept r e bundle (omega arith) newest next is (ring_after g c) c.push_reserved.ensures.items c.push_reserved.ensures.capacity long can.free own others,
     )
@@ -87,9 +93,6 @@ invariant_of-self-else-is_ok g c =
     let ring : c.append-outcome.new.self ≡ c.self.inside.ring = rw ok at c.append-outcome.ensures.ring in
     subst (λ (v : RingState). IsKeptLane (record { ring = v; entries = c.self.inside.entries; writes = c.self.inside.writes })) (sym ring) c.self.invariant
 
-pub returns-then-is_ok-clause-full : goal.returns-then-is_ok-clause-full
-returns-then-is_ok-clause-full g c = rw (← c.self.view_is) (rw (used_same c.self.inside.ring.logged (waiting_in_lane c.self.inside) (extents_kept c.self.inside c.self.invariant)) at c.append-outcome.ensures.full)
-
 pub returns-then-is_ok-clause-untouched : goal.returns-then-is_ok-clause-untouched
 returns-then-is_ok-clause-untouched g c = rw (← c.self.view_is) (rw (used_same c.self.inside.ring.logged (waiting_in_lane c.self.inside) (extents_kept c.self.inside c.self.invariant)) at c.append-outcome.ensures.untouched)
 
@@ -100,23 +103,27 @@ returns-then-is_ok-clause-lane g c =
     rw (ok, ← c.self.view_is) (ap (λ (v : RingState). record { ring = v; waiting = waiting_in_lane (after g c) }) (ring_after g c)
     ∙ ap (λ (rs : List RedoBundle). record { ring = with_record c.args.r.now a.ring; waiting = rs }) (more g c).0)
 
-pub returns-then-is_ok-clause-can : goal.returns-then-is_ok-clause-can
-returns-then-is_ok-clause-can g c = rw (← c.self.view_is) (rw (used_same c.self.inside.ring.logged (waiting_in_lane c.self.inside) (extents_kept c.self.inside c.self.invariant)) at c.append-outcome.ensures.can)
-
-pub returns-then-is_ok-clause-over : goal.returns-then-is_ok-clause-over
-returns-then-is_ok-clause-over g c = rw (← c.self.view_is) (newest_logged (first_of c.args.r.now) c.self.inside.ring.logged (waiting_in_lane c.self.inside) (extents_kept c.self.inside c.self.invariant) (rw (← c.self.view_is) at c.requires.newest))
-
-pub returns-else-is_ok-clause-full : goal.returns-else-is_ok-clause-full
-returns-else-is_ok-clause-full g c = rw (← c.self.view_is) (rw (used_same c.self.inside.ring.logged (waiting_in_lane c.self.inside) (extents_kept c.self.inside c.self.invariant)) at c.append-outcome.ensures.full)
-
-pub returns-else-is_ok-clause-fault : goal.returns-else-is_ok-clause-fault
-returns-else-is_ok-clause-fault g c = rw (← c.self.view_is) (rw (used_same c.self.inside.ring.logged (waiting_in_lane c.self.inside) (extents_kept c.self.inside c.self.invariant)) at c.append-outcome.ensures.fault)
-
 pub returns-else-is_ok-clause-untouched : goal.returns-else-is_ok-clause-untouched
 returns-else-is_ok-clause-untouched g c = rw (← c.self.view_is) (rw (used_same c.self.inside.ring.logged (waiting_in_lane c.self.inside) (extents_kept c.self.inside c.self.invariant)) at c.append-outcome.ensures.untouched)
 
-pub returns-else-is_ok-clause-can : goal.returns-else-is_ok-clause-can
-returns-else-is_ok-clause-can g c = rw (← c.self.view_is) (rw (used_same c.self.inside.ring.logged (waiting_in_lane c.self.inside) (extents_kept c.self.inside c.self.invariant)) at c.append-outcome.ensures.can)
+pub returns-then-is_ok-clause-cause : goal.returns-then-is_ok-clause-cause
+returns-then-is_ok-clause-cause g c = rw (← c.self.view_is) (rw (used_same c.self.inside.ring.logged (waiting_in_lane c.self.inside) (extents_kept c.self.inside c.self.invariant)) at c.append-outcome.ensures.cause)
 
-pub returns-else-is_ok-clause-over : goal.returns-else-is_ok-clause-over
-returns-else-is_ok-clause-over g c = rw (← c.self.view_is) (newest_logged (first_of c.args.r.now) c.self.inside.ring.logged (waiting_in_lane c.self.inside) (extents_kept c.self.inside c.self.invariant) (rw (← c.self.view_is) at c.requires.newest))
+pub returns-then-is_ok-clause-can : goal.returns-then-is_ok-clause-can
+returns-then-is_ok-clause-can g c =
+    let a = c.self.inside in
+    record {
+      room = rw (← c.self.view_is) (rw (used_same a.ring.logged (waiting_in_lane a) (extents_kept a c.self.invariant)) at c.append-outcome.ensures.safe.can);
+      over = rw (← c.self.view_is) (newest_logged (first_of c.args.r.now) a.ring.logged (waiting_in_lane a) (extents_kept a c.self.invariant) (rw (← c.self.view_is) at c.requires.may.newest));
+    }
+
+pub returns-else-is_ok-clause-cause : goal.returns-else-is_ok-clause-cause
+returns-else-is_ok-clause-cause g c = rw (← c.self.view_is) (rw (used_same c.self.inside.ring.logged (waiting_in_lane c.self.inside) (extents_kept c.self.inside c.self.invariant)) at c.append-outcome.ensures.cause)
+
+pub returns-else-is_ok-clause-can : goal.returns-else-is_ok-clause-can
+returns-else-is_ok-clause-can g c =
+    let a = c.self.inside in
+    record {
+      room = rw (← c.self.view_is) (rw (used_same a.ring.logged (waiting_in_lane a) (extents_kept a c.self.invariant)) at c.append-outcome.ensures.safe.can);
+      over = rw (← c.self.view_is) (newest_logged (first_of c.args.r.now) a.ring.logged (waiting_in_lane a) (extents_kept a c.self.invariant) (rw (← c.self.view_is) at c.requires.may.newest));
+    }
