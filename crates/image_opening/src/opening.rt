@@ -85,7 +85,8 @@ fn settle_image<M: Medium>(
     settle_home(m, place, words)?;
     settle_group(m, &[(MARK, number)], &[MARK / LINE])?;
     clear_heads(m, stale)?;
-    raise_version(m, version)
+    raise_version(m, version)?;
+    Ok(())
 }
 
 // Puts the newest version in the place of the first one, and makes it durable.

@@ -21,6 +21,13 @@ returns-in_err-clear_heads-clause-made g c =
     let err : is_ok c.from_residual-in_err-clear_heads.result ≡ false = search rules in
     rw err (made_then c.in_ok-settle_home.ensures.made (made_then c.in_ok-settle_group.ensures.made (made_stop _ c.in_err-clear_heads.ensures.made)))
 
+pub returns-in_err-raise_version-clause-made : goal.returns-in_err-raise_version-clause-made
+unfolding opening_calls
+returns-in_err-raise_version-clause-made g c =
+    let err : is_ok c.from_residual-in_err-raise_version.result ≡ false = search rules in
+    rw err (made_then c.in_ok-settle_home.ensures.made (made_then c.in_ok-settle_group.ensures.made (made_then c.in_ok-clear_heads.ensures.made c.in_err-raise_version.ensures.made)))
+
 pub returns-clause-made : goal.returns-clause-made
 unfolding opening_calls
-returns-clause-made g c = made_then c.in_ok-settle_home.ensures.made (made_then c.in_ok-settle_group.ensures.made (made_then c.in_ok-clear_heads.ensures.made c.raise_version.ensures.made))
+returns-clause-made g c =
+    made_then c.in_ok-settle_home.ensures.made (made_then c.in_ok-settle_group.ensures.made (made_then c.in_ok-clear_heads.ensures.made c.in_ok-raise_version.ensures.made))
