@@ -1,4 +1,5 @@
 pub mod Causes
 pub mod FormatCalls
+pub mod Formats
 pub mod NewImages
 pub mod Texts

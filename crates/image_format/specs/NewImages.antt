@@ -1,9 +1,11 @@
 -- What a new image recovers to, and how its medium rests.
-use Rattle.std.specs.Prelude.{◌≡◌, ◌⊎◌, ℕ, List, [], ◌∷◌, ◌++◌, length}
+use Rattle.std.specs.Prelude.{◌≡◌, ◌⊎◌, ℕ, IsTrue, List, [], ◌∷◌, ◌++◌, length}
 use Rattle.dude_base.specs.declared.sizes.Sizes.{Sizes}
-use Rattle.pmem_trait.specs.Words.{State}
+use Rattle.pmem_trait.specs.Words.{IsSettled, State}
+use Rattle.pmem_trait.specs.Sights.{AtEveryMoment, Sight, state_now}
 use Rattle.tatp_model.specs.Population.{population}
 use Rattle.tatp_layout.specs.StandsFor.{StandsFor}
+use Rattle.tatp_population.specs.Populated.{IsPopulated}
 use Rattle.image_recovery.specs.Recovered.{RecoversTo}
 use Rattle.back_store.specs.Images.{IsIdleMedium}
 
@@ -17,3 +19,21 @@ pub record IsNewImage (sizes : Sizes) (home : List ℕ) (old new : State) : Type
   pub stands : StandsFor sizes home (population sizes.subscribers)
   pub told : new.told ≡ old.told ++ 0 ∷ []
   pub idle : IsIdleMedium (length old.told) sizes 0 home new
+
+-- The home of a new image.
+pub record IsNewHome (sizes : Sizes) (home : List ℕ) : Type 0 where
+  -- it stands for the population
+  pub stands : StandsFor sizes home (population sizes.subscribers)
+  -- there is one such home
+  pub populated : IsPopulated sizes home
+
+-- How a medium that is visible rests behind the calls that make an image with this home.
+pub record RestsNew (sizes : Sizes) (home : List ℕ) (s t : Sight) : Type 0 where
+  -- it is settled at the image, and 0 was told
+  pub image : IsTrue s.is_visible → IsNewImage sizes home (state_now s) (state_now t)
+  -- all words are settled, also those behind the image
+  pub settled : IsTrue s.is_visible → IsSettled s.len (state_now t)
+
+-- from the moment that 0 is told on, each image recovers to 0 and the population
+abbrev pub ShowsNewImage : Sizes → Sight → Sight → Type 0
+ShowsNewImage sizes s t = AtEveryMoment (RecoversOnceTold sizes (state_now s).told) s t

@@ -1,3 +1,5 @@
+//! Why no image was made.
+
 use dude_base::field::Field;
 use dude_base::size_fault::SizeFault;
 use pmem_trait::Failed;

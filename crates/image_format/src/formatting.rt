@@ -1,11 +1,10 @@
-ghost use Rattle.std.specs.Prelude.{◌≡◌, ℕ, List, IfOk, IfErr, IsTrue, MatchResult, true};
-ghost use Rattle.pmem_trait.specs.Words.{IsSettled};
-ghost use Rattle.pmem_trait.specs.Sights.{state_now, AtEveryMoment};
-ghost use Rattle.tatp_model.specs.Population.{population};
-ghost use Rattle.tatp_layout.specs.StandsFor.{StandsFor};
-ghost use Rattle.tatp_population.specs.Populated.{IsPopulated};
-ghost use Rattle.image_format.specs.Causes.{FitsImage, HasFormatCause, FormatCallsMade, FormatsSome, fault_result};
-ghost use Rattle.image_format.specs.NewImages.{RecoversOnceTold, IsNewImage};
+//! A new image is made on a medium, where it fits.
+
+ghost use Rattle.std.specs.Prelude.{◌≡◌, IfOk, IfErr};
+ghost use Rattle.image_recovery.specs.Media.{IsAtRest};
+ghost use Rattle.image_format.specs.Causes.{FitsImage, HasFormatCause, FormatCallsMade};
+ghost use Rattle.image_format.specs.Formats.{FormatsTo, NoFormat};
+ghost use Rattle.image_format.specs.NewImages.{IsNewHome, RestsNew, ShowsNewImage};
 
 use crate::format_fault::FormatFault;
 use crate::writing::write_image;
@@ -20,18 +19,9 @@ use tatp_population::populate;
 ///
 /// After `Device` the medium that is given back holds some of a new image. After another fault it is as it was.
 pub fn format<M: Medium>(alloc: Global, medium: M, sizes: &Sizes) -> Result<M, (FormatFault, M)>
-    requires settled { IsTrue (M.sight medium).is_visible → IsSettled (M.sight medium).len (state_now (M.sight medium)) }
-    ensures fits { IfOk result (λ made. FitsImage sizes.now (M.sight medium).len) }
-    ensures cause { IfErr result (λ refused. HasFormatCause sizes.now (M.sight medium) (M.sight refused.1) refused.0) }
-    ensures calls { MatchResult result (λ made. FormatsSome sizes.now true (M.sight medium) (M.sight made))
-        (λ refused. FormatCallsMade sizes.now (fault_result refused.0) (M.sight medium) (M.sight refused.1)) }
-    ensures len { MatchResult result (λ made. (M.sight made).len ≡ (M.sight medium).len) (λ refused. (M.sight refused.1).len ≡ (M.sight medium).len) }
-    // From the moment that 0 is told on, each image recovers to 0 and the population.
-    ensures images { MatchResult result (λ made. AtEveryMoment (RecoversOnceTold sizes.now (state_now (M.sight medium)).told) (M.sight medium) (M.sight made))
-        (λ refused. AtEveryMoment (RecoversOnceTold sizes.now (state_now (M.sight medium)).told) (M.sight medium) (M.sight refused.1)) }
-    ensures rests { IfOk result (λ made. IsTrue (M.sight medium).is_visible → (home : List ℕ) × IsNewImage sizes.now home (state_now (M.sight medium)) (state_now (M.sight made))) }
-    // All words of the medium are settled then, also those behind the image.
-    ensures settled { IfOk result (λ made. IsTrue (M.sight medium).is_visible → IsSettled (M.sight medium).len (state_now (M.sight made))) }
+    requires settled { IsAtRest (M.sight medium) }
+    ensures made { IfOk result (λ made. FormatsTo sizes.now (M.sight medium) (M.sight made)) }
+    ensures refused { IfErr result (λ r. NoFormat sizes.now r.0 (M.sight medium) (M.sight r.1)) }
 {
     let mut medium = medium;
     match make_image(alloc, &mut medium, sizes) {
@@ -49,19 +39,14 @@ pub fn make_image<M: Medium>(
     m: &mut M,
     sizes: &Sizes,
 ) -> Result<Vec<u64>, FormatFault>
-    requires settled { IsTrue (M.sight m.old).is_visible → IsSettled (M.sight m.old).len (state_now (M.sight m.old)) }
+    requires settled { IsAtRest (M.sight m.old) }
     ensures len { (M.sight m.new).len ≡ (M.sight m.old).len }
     ensures fits { IfOk result (λ words. FitsImage sizes.now (M.sight m.old).len) }
-    ensures home { IfOk result (λ words. StandsFor sizes.now words.items (population sizes.now.subscribers)) }
-    // There is one such home.
-    ensures populated { IfOk result (λ words. IsPopulated sizes.now words.items) }
+    ensures home { IfOk result (λ words. IsNewHome sizes.now words.items) }
     ensures cause { IfErr result (HasFormatCause sizes.now (M.sight m.old) (M.sight m.new)) }
     ensures calls { FormatCallsMade sizes.now result (M.sight m.old) (M.sight m.new) }
-    // From the moment that 0 is told on, each image recovers to 0 and the population.
-    ensures images { AtEveryMoment (RecoversOnceTold sizes.now (state_now (M.sight m.old)).told) (M.sight m.old) (M.sight m.new) }
-    ensures rests { IfOk result (λ words. IsTrue (M.sight m.old).is_visible → IsNewImage sizes.now words.items (state_now (M.sight m.old)) (state_now (M.sight m.new))) }
-    // All words of the medium are settled then, also those behind the image.
-    ensures settled { IfOk result (λ words. IsTrue (M.sight m.old).is_visible → IsSettled (M.sight m.old).len (state_now (M.sight m.new))) }
+    ensures images { ShowsNewImage sizes.now (M.sight m.old) (M.sight m.new) }
+    ensures rests { IfOk result (λ w. RestsNew sizes.now w.items (M.sight m.old) (M.sight m.new)) }
 {
     let lay = Layout::of(sizes)?;
     let place = Place::of(sizes);

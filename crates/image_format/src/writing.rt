@@ -1,12 +1,9 @@
 //! The writes that make an image: four groups, each put, flushed and fenced before the next, and then the tell.
 
-ghost use Rattle.std.specs.Prelude.{◌≡◌, ◌*◌, ◌≤◌, is_ok, length, [], ◌∷◌, ◌++◌};
-ghost use Rattle.std.specs.List.{enumerate_from};
-ghost use Rattle.dude_base.specs.declared.limits.TheConstants.{HEADER, PAGE};
-ghost use Rattle.dude_base.specs.Image.{home_word, image_words};
-ghost use Rattle.pmem_trait.specs.Sights.{CallsMade};
-ghost use Rattle.pmem_trait.specs.Groups.{put_pairs, flush_lines, group_calls};
-ghost use Rattle.image_format.specs.FormatCalls.{empty_cells, content_writes, content_lines, header_writes, format_calls};
+ghost use Rattle.std.specs.Prelude.{◌≡◌, ◌*◌, ◌≤◌, length};
+ghost use Rattle.dude_base.specs.declared.limits.TheConstants.{PAGE};
+ghost use Rattle.dude_base.specs.Image.{image_words};
+ghost use Rattle.image_format.specs.FormatCalls.{FlushesContents, PutsCells, PutsHome, SettlesContents, SettlesHeader, WritesImage};
 
 use dude_base::limits::{HEADER, LINE, MAGIC, MARK, VERSION};
 use dude_base::place::Place;
@@ -16,7 +13,7 @@ use pmem_trait::{Failed, Medium, settle_group};
 fn clear_cells<M: Medium>(m: &mut M, place: &Place) -> Result<(), Failed>
     requires room { image_words place.now ≤ (M.sight m.old).len }
     ensures len { (M.sight m.new).len ≡ (M.sight m.old).len }
-    ensures made { CallsMade (put_pairs (enumerate_from HEADER (empty_cells place.now))) (is_ok result) (M.sight m.old) (M.sight m.new) }
+    ensures made { PutsCells place.now result (M.sight m.old) (M.sight m.new) }
 {
     let sizes = place.sizes();
     for word in HEADER..HEADER + sizes.rings * sizes.cells * LINE {
@@ -30,7 +27,7 @@ fn put_home<M: Medium>(m: &mut M, place: &Place, home: &[u64]) -> Result<(), Fai
     requires room { image_words place.now ≤ (M.sight m.old).len }
     requires whole { length home.now ≡ place.now.pages * PAGE }
     ensures len { (M.sight m.new).len ≡ (M.sight m.old).len }
-    ensures made { CallsMade (put_pairs (enumerate_from (home_word place.now 0) home.now)) (is_ok result) (M.sight m.old) (M.sight m.new) }
+    ensures made { PutsHome place.now home.now result (M.sight m.old) (M.sight m.new) }
 {
     for word in 0..home.len() {
         m.put(place.home(word as u64), home[word])?;
@@ -42,7 +39,7 @@ fn put_home<M: Medium>(m: &mut M, place: &Place, home: &[u64]) -> Result<(), Fai
 fn flush_contents<M: Medium>(m: &mut M, place: &Place) -> Result<(), Failed>
     requires room { image_words place.now ≤ (M.sight m.old).len }
     ensures len { (M.sight m.new).len ≡ (M.sight m.old).len }
-    ensures made { CallsMade (flush_lines (content_lines place.now)) (is_ok result) (M.sight m.old) (M.sight m.new) }
+    ensures made { FlushesContents place.now result (M.sight m.old) (M.sight m.new) }
 {
     for line in 1..place.words() / LINE {
         m.flush(line)?;
@@ -56,7 +53,7 @@ fn settle_contents<M: Medium>(m: &mut M, place: &Place, home: &[u64]) -> Result<
     requires room { image_words place.now ≤ (M.sight m.old).len }
     requires whole { length home.now ≡ place.now.pages * PAGE }
     ensures len { (M.sight m.new).len ≡ (M.sight m.old).len }
-    ensures made { CallsMade (group_calls (content_writes place.now home.now) (content_lines place.now)) (is_ok result) (M.sight m.old) (M.sight m.new) }
+    ensures made { SettlesContents place.now home.now result (M.sight m.old) (M.sight m.new) }
 {
     m.put(MARK, 0)?;
     clear_cells(m, place)?;
@@ -69,7 +66,7 @@ fn settle_contents<M: Medium>(m: &mut M, place: &Place, home: &[u64]) -> Result<
 fn settle_header<M: Medium>(m: &mut M, place: &Place) -> Result<(), Failed>
     requires room { image_words place.now ≤ (M.sight m.old).len }
     ensures len { (M.sight m.new).len ≡ (M.sight m.old).len }
-    ensures made { CallsMade (group_calls (header_writes place.now) (0 ∷ [])) (is_ok result) (M.sight m.old) (M.sight m.new) }
+    ensures made { SettlesHeader place.now result (M.sight m.old) (M.sight m.new) }
 {
     let sizes = place.sizes();
     let header = [
@@ -93,7 +90,7 @@ pub fn write_image<M: Medium>(m: &mut M, place: &Place, home: &[u64]) -> Result<
     requires room { image_words place.now ≤ (M.sight m.old).len }
     requires whole { length home.now ≡ place.now.pages * PAGE }
     ensures len { (M.sight m.new).len ≡ (M.sight m.old).len }
-    ensures made { CallsMade (format_calls place.now home.now) (is_ok result) (M.sight m.old) (M.sight m.new) }
+    ensures made { WritesImage place.now home.now result (M.sight m.old) (M.sight m.new) }
 {
     settle_group(m, &[(0, 0)], &[0])?;
     settle_contents(m, place, home)?;

@@ -10,7 +10,7 @@ use Rattle.dude_base.specs.Sizes.{IsAccepted}
 use Rattle.dude_base.specs.Image.{Cell, cell_start, header_words, home_word, image_words}
 use Rattle.dude_base.specs.Records.{RedoBundle, first_of, Covers, overwritten_by_all}
 use Rattle.dude_base.proofs.Overwriting.{length-overwritten_by_all}
-use Rattle.redo_record.specs.Tags.{kind_of, number_of, IsHeadOver}
+use Rattle.redo_record.specs.Tags.{kind_of, IsHeadOver}
 use Rattle.redo_record.specs.Cells.{IsCell, word_at}
 use Rattle.redo_record.specs.Record.{cells_for, count_of}
 use Rattle.redo_record.specs.Images.{sizes_of, version_of, mark_of, home_of, tag_of, word_in_image, bundle_at, IsComplete, IsNewHead, IsSound}
@@ -21,7 +21,7 @@ use Rattle.redo_record.proofs.CellPlaces.{first_cell}
 use Rattle.redo_record.proofs.HeldRecords.{AreSame, word_one_same, complete_same, record_same}
 use Rattle.redo_record.proofs.HeldLog.{in_cells, tag_number}
 use Rattle.redo_record.proofs.Recovered.{recovery_law}
-use Rattle.redo_record.proofs.WaitingRecords.{Reached, consecutive_up, consecutive_reach}
+use Rattle.redo_record.proofs.WaitingRecords.{consecutive_up, consecutive_reach}
 use Rattle.image_recovery.proofs.Homes.{length-home_of, index-home_of}
 use Rattle.image_opening.proofs.MixedHomes.{mixed_home}
 

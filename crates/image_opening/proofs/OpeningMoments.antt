@@ -2,7 +2,7 @@
 use Rattle.std.proofs.Common.{◌≡◌, inl, inr, ℕ, ◌≤◌, Bool, true, false, IsTrue, List, ◌++◌, map, refl, sym, ap, ◌∙◌, subst, arith}
 use Rattle.std.specs.List.{range_with_len}
 use Rattle.std.proofs.lemmas.List.FromFn.{length-map-range_with_len, get_or-map-range_with_len}
-use Rattle.dude_base.specs.declared.limits.TheConstants.{MAX_NUMBER}
+use Rattle.dude_base.specs.declared.limits.TheConstants.{MAX_NUMBER, VERSION}
 use Rattle.dude_base.specs.declared.sizes.Sizes.{Sizes}
 use Rattle.pmem_trait.specs.declared.call.Call.TheVariants.{Read}
 use Rattle.pmem_trait.specs.Words.{State, value_of, IsContent, IsSettled, IsSettledWord, EveryImage, AfterEachCall, AtLeast, after_all}
@@ -15,11 +15,12 @@ use Rattle.redo_record.specs.Images.{version_of}
 use Rattle.tatp_model.specs.Database.{Database}
 use Rattle.tatp_layout.specs.StandsFor.{StandsFor, IsLawful}
 use Rattle.back_store.specs.Images.{IsIdleMedium}
+use Rattle.back_store.proofs.RestingHome.{home_is, idle_keeps}
 use Rattle.image_recovery.specs.declared.open_fault.OpenFault.{OpenFault}
 use Rattle.image_recovery.specs.declared.open_fault.OpenFault.TheVariants.{Unformatted, Damaged, NotDb, Device, NoMemory}
-use Rattle.image_recovery.specs.Recovered.{RecoversArray, RecoversTo}
+use Rattle.image_recovery.specs.Recovered.{IsRecovered, RecoversArray, RecoversTo}
 use Rattle.image_recovery.proofs.OneRecovery.{same_replay}
-use Rattle.image_opening.specs.Answers.{Opens, LeftBy, StopsBy, StillRecovers}
+use Rattle.image_opening.specs.Answers.{Opens, OpensAt, LeftBy, StopsBy, StillRecovers}
 use Rattle.image_opening.specs.Opened.{HasToldNoMore}
 use Rattle.image_opening.specs.OpeningCalls.{stale_lines, opening_calls}
 use Rattle.image_opening.specs.OpeningLaw.{StillRecoversArray, IsOpenedState}
@@ -110,6 +111,32 @@ opens_rests {sizes} {number} {words} {s} {t} settled small recovered opens befor
 -- what is visible behind an opening was so before it
 pub opens_visible : {ok : Bool} {sizes : Sizes} {number : ℕ} {words : List ℕ} {s t : Sight} → Opens ok sizes number words s t → IsTrue t.is_visible → IsTrue s.is_visible
 opens_visible opens visible = sym ((made_later opens.made).is_visible ∙ (made_later opens.reads.made).is_visible) ∙ visible
+
+-- what an opening leaves
+pub opened_at : {sizes : Sizes} {number : ℕ} {words : List ℕ} {s t : Sight} → (IsTrue s.is_visible → IsSettled s.len (state_now s)) → IsRecovered s.len sizes number words
+    → ContentHas (RecoversArray sizes number words) s → t.len ≡ s.len → Opens true sizes number words s t → OpensAt sizes number words s t
+opened_at {sizes} {number} {words} {s} {t} settled is recovered len opens =
+    let rests = opens_rests settled is.small recovered opens in
+    record {
+      recovered = recovered;
+      len = len;
+      calls = opens_calls opens;
+      made = opens;
+      rests = rests;
+      holds = λ before told. record {
+        keeps = idle_keeps before sizes number words t is.accepted is.small (λ visible. rests before told (opens_visible opens visible));
+        home = λ visible. home_is VERSION sizes number words (state_now t) (rests before told (opens_visible opens visible)).rest;
+      };
+      moments = opens_moments settled is.small recovered opens;
+    }
+
+-- the same with equal parts
+pub opened_same : {sizes z : Sizes} {number n : ℕ} {words l : List ℕ} {s t u : Sight} → z ≡ sizes → n ≡ number → l ≡ words → u ≡ t → OpensAt sizes number words s t → OpensAt z n l s u
+opened_same {sizes} {z} {number} {n} {words} {l} {s} {t} {u} same_sizes same_number same_words same opens =
+    subst (λ (z : Sizes). OpensAt z n l s u) (sym same_sizes)
+    (subst (λ (n : ℕ). OpensAt sizes n l s u) (sym same_number)
+    (subst (λ (l : List ℕ). OpensAt sizes number l s u) (sym same_words)
+    (subst (λ (u : Sight). OpensAt sizes number words s u) (sym same) opens)))
 
 -- what was recovered to a lawful array recovers to a database
 pub array_recovers : (s : Sight) {sizes : Sizes} {number : ℕ} {words : List ℕ} → ContentHas (RecoversArray sizes number words) s → (lawful : IsLawful sizes words) → ContentHas (λ content. RecoversTo content number sizes lawful.0) s

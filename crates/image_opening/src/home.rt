@@ -1,11 +1,9 @@
 //! The recovered home is put in place.
 
-ghost use Rattle.std.specs.Prelude.{◌≡◌, ◌*◌, ◌≤◌, length, is_ok};
+ghost use Rattle.std.specs.Prelude.{◌≡◌, ◌*◌, ◌≤◌, length};
 ghost use Rattle.dude_base.specs.declared.limits.TheConstants.{PAGE};
 ghost use Rattle.dude_base.specs.Image.{image_words};
-ghost use Rattle.pmem_trait.specs.Sights.{CallsMade};
-ghost use Rattle.pmem_trait.specs.Groups.{flush_lines, group_calls, put_pairs};
-ghost use Rattle.image_opening.specs.OpeningCalls.{home_lines, home_puts};
+ghost use Rattle.image_opening.specs.OpeningCalls.{FlushesHome, PutsHome, SettlesHome};
 
 use dude_base::limits::{LINE, PAGE};
 use dude_base::place::Place;
@@ -16,7 +14,7 @@ fn put_home<M: Medium>(m: &mut M, place: &Place, words: &[u64]) -> Result<(), Fa
     requires count { length words.now ≡ place.now.pages * PAGE }
     requires room { image_words place.now ≤ (M.sight m.old).len }
     ensures len { (M.sight m.new).len ≡ (M.sight m.old).len }
-    ensures made { CallsMade (put_pairs (home_puts place.now words.now)) (is_ok result) (M.sight m.old) (M.sight m.new) }
+    ensures made { PutsHome place.now words.now result (M.sight m.old) (M.sight m.new) }
 {
     for (i, word) in words.iter().enumerate() {
         m.put(place.home(i as u64), *word)?;
@@ -28,7 +26,7 @@ fn put_home<M: Medium>(m: &mut M, place: &Place, words: &[u64]) -> Result<(), Fa
 fn flush_home<M: Medium>(m: &mut M, place: &Place) -> Result<(), Failed>
     requires { image_words place.now ≤ (M.sight m.old).len }
     ensures len { (M.sight m.new).len ≡ (M.sight m.old).len }
-    ensures made { CallsMade (flush_lines (home_lines place.now)) (is_ok result) (M.sight m.old) (M.sight m.new) }
+    ensures made { FlushesHome place.now result (M.sight m.old) (M.sight m.new) }
 {
     for i in 0..place.sizes().pages * (PAGE / LINE) {
         m.flush(place.home(i * LINE) / LINE)?;
@@ -42,7 +40,7 @@ pub fn settle_home<M: Medium>(m: &mut M, place: &Place, words: &[u64]) -> Result
     requires count { length words.now ≡ place.now.pages * PAGE }
     requires room { image_words place.now ≤ (M.sight m.old).len }
     ensures len { (M.sight m.new).len ≡ (M.sight m.old).len }
-    ensures made { CallsMade (group_calls (home_puts place.now words.now) (home_lines place.now)) (is_ok result) (M.sight m.old) (M.sight m.new) }
+    ensures made { SettlesHome place.now words.now result (M.sight m.old) (M.sight m.new) }
 {
     put_home(m, place, words)?;
     flush_home(m, place)?;

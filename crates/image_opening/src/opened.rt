@@ -1,14 +1,12 @@
 //! An image that can be run on.
 
-ghost use Rattle.std.specs.Prelude.{◌≡◌, ℕ, ◌≤◌, IfOk, IsTrue, MatchResult};
+ghost use Rattle.std.specs.Prelude.{◌≡◌, ◌≤◌, IfOk, MatchResult};
 ghost use Rattle.dude_base.specs.declared.limits.TheConstants.{MAX_NUMBER};
 ghost use Rattle.dude_base.specs.Sizes.{IsAccepted};
 ghost use Rattle.dude_base.specs.Image.{image_words};
-ghost use Rattle.pmem_trait.specs.Sights.{state_now};
 ghost use Rattle.tatp_layout.specs.StandsFor.{IsLawful};
 ghost use Rattle.back_store.specs.BackView.{medium_of};
-ghost use Rattle.back_store.specs.Images.{IsIdleMedium};
-ghost use Rattle.image_opening.specs.Opened.{HoldsOpened, IsOpened};
+ghost use Rattle.image_opening.specs.Opened.{HasParts, HoldsWhereIdle, IsOpened};
 
 use back_store::Back;
 use dude_base::sizes::Sizes;
@@ -42,12 +40,9 @@ impl<M: Medium> Opened<M> {
         requires small { number ≤ MAX_NUMBER }
         requires lawful { IsLawful lay words.items }
         ensures opened { IfOk result IsOpened }
-        ensures parts { IfOk result (λ o. (o.sizes ≡ lay) × (o.number ≡ number) × (o.words.items ≡ words.items)) }
-        ensures medium { MatchResult result (λ o. medium_of o.back ≡ medium) (λ refused. refused.1 ≡ medium) }
-        // Where the medium is settled at the image, with the mark at the number and no head over it.
-        ensures holds { IfOk result (λ o. (before : ℕ)
-            → (IsTrue (M.sight medium).is_visible → IsIdleMedium before lay number words.items (state_now (M.sight medium)))
-            → HoldsOpened before lay number words.items (M.sight medium)) }
+        ensures parts { IfOk result (HasParts lay number words.items) }
+        ensures medium { MatchResult result (λ o. medium_of o.back ≡ medium) (λ r. r.1 ≡ medium) }
+        ensures holds { IfOk result (λ o. HoldsWhereIdle lay number words.items (M.sight medium)) }
     {
         let sizes = lay.sizes();
         match Back::new(alloc, medium, &sizes, number) {

@@ -1,13 +1,11 @@
 //! Heads with numbers over the recovered one: which there are, and their clearing.
 
-ghost use Rattle.std.specs.Prelude.{◌≡◌, ◌⊎◌, ◌+◌, ◌<◌, ◌≤◌, cond, [], ◌∷◌, ◌++◌, IfOk, IfErr, is_ok, vec_capacity, vec_len};
+ghost use Rattle.std.specs.Prelude.{◌≡◌, ◌⊎◌, ◌+◌, ◌<◌, ◌≤◌, IfOk, IfErr, vec_capacity, vec_len};
 ghost use Rattle.dude_base.specs.Image.{image_words};
-ghost use Rattle.pmem_trait.specs.Sights.{CallsMade};
-ghost use Rattle.pmem_trait.specs.Groups.{LinesFit, put_pairs};
-ghost use Rattle.pmem_trait.specs.Reads.{ContentHas};
+ghost use Rattle.pmem_trait.specs.Groups.{LinesFit};
 ghost use Rattle.image_recovery.specs.declared.open_fault.OpenFault.TheVariants.{Device, NoMemory};
 ghost use Rattle.image_recovery.specs.Faults.{ReadsMade};
-ghost use Rattle.image_opening.specs.OpeningCalls.{clear_calls, clear_puts, is_head_over, stale_lines};
+ghost use Rattle.image_opening.specs.OpeningCalls.{AreStaleLines, ClearsHeads, PutsZeros, is_head_over, with_stale};
 
 use dude_base::limits::{HEADER, LINE};
 use dude_base::place::Place;
@@ -26,7 +24,7 @@ fn is_head_over(number: u64, tag: u64) -> bool
 // Adds a line, where its cell has the tag of such a head.
 fn add_stale(lines: &mut Vec<u64>, line: u64, number: u64, tag: u64)
     requires { vec_len lines.old < vec_capacity lines.old }
-    ensures items { lines.new.items ≡ lines.old.items ++ cond (is_head_over number tag) (line ∷ []) [] }
+    ensures items { lines.new.items ≡ with_stale line number tag lines.old.items }
     ensures len { vec_len lines.new ≤ vec_len lines.old + 1 }
     ensures capacity { vec_capacity lines.new ≡ vec_capacity lines.old }
 {
@@ -48,7 +46,7 @@ pub fn stale_lines<M: Medium>(
     ensures reads { ReadsMade result (M.sight m.old) (M.sight m.new) }
     ensures fault { IfErr result (λ fault. (fault ≡ Device) ⊎ (fault ≡ NoMemory)) }
     ensures fit { IfOk result (λ lines. LinesFit (M.sight m.old).len lines.items) }
-    ensures lines { IfOk result (λ lines. ContentHas (λ content. lines.items ≡ stale_lines place.now number content) (M.sight m.old)) }
+    ensures lines { IfOk result (λ l. AreStaleLines place.now number (M.sight m.old) l.items) }
 {
     let sizes = place.sizes();
     let cells = sizes.rings * sizes.cells;
@@ -65,7 +63,7 @@ pub fn stale_lines<M: Medium>(
 fn clear_words<M: Medium>(m: &mut M, lines: &[u64]) -> Result<(), Failed>
     requires { LinesFit (M.sight m.old).len lines.now }
     ensures len { (M.sight m.new).len ≡ (M.sight m.old).len }
-    ensures made { CallsMade (put_pairs (clear_puts lines.now)) (is_ok result) (M.sight m.old) (M.sight m.new) }
+    ensures made { PutsZeros lines.now result (M.sight m.old) (M.sight m.new) }
 {
     for line in lines {
         m.put(*line * LINE, 0)?;
@@ -78,7 +76,7 @@ fn clear_words<M: Medium>(m: &mut M, lines: &[u64]) -> Result<(), Failed>
 pub fn clear_heads<M: Medium>(m: &mut M, lines: &[u64]) -> Result<(), Failed>
     requires { LinesFit (M.sight m.old).len lines.now }
     ensures len { (M.sight m.new).len ≡ (M.sight m.old).len }
-    ensures made { CallsMade (clear_calls lines.now) (is_ok result) (M.sight m.old) (M.sight m.new) }
+    ensures made { ClearsHeads lines.now result (M.sight m.old) (M.sight m.new) }
 {
     if lines.is_empty() {
         return Ok(());

@@ -1,44 +1,48 @@
--- The faults of a recovery: what they were at a replay or a check.
-use Rattle.std.proofs.Common.{◌≡◌, ℕ, ap, refl}
+-- What a fault of a recovery says of the image: as the replay, the check, or the recovery over a medium said.
+use Rattle.std.proofs.Common.{◌≡◌, ℕ, List, Result, Err, IfErr, sym, refl, subst}
+use Rattle.pmem_trait.specs.Sights.{Sight}
+use Rattle.pmem_trait.specs.Reads.{ContentHas}
 use Rattle.table_check.specs.declared.check_fault.CheckFault.{CheckFault}
 use Rattle.table_check.specs.declared.check_fault.CheckFault.TheVariants as check
 use Rattle.image_recovery.specs.declared.replay_fault.ReplayFault.{ReplayFault}
 use Rattle.image_recovery.specs.declared.replay_fault.ReplayFault.TheVariants as replay
 use Rattle.image_recovery.specs.declared.open_fault.OpenFault.{OpenFault}
 use Rattle.image_recovery.specs.declared.open_fault.OpenFault.TheVariants.{Unformatted, Damaged, NotDb, Device, NoMemory}
-use Rattle.image_recovery.specs.Faults.{fault_of_replay, fault_of_check, in_memory}
+use Rattle.image_recovery.specs.Faults.{IsFaultOf, IsFaultOn, fault_of_replay, fault_of_check, in_memory}
+use Rattle.image_recovery.specs.Recovered.{IsNoDatabase}
+use Rattle.image_recovery.specs.ReplayFaults.{NamesDamage, NamesNoImage}
 
-pub damaged_by_replay : (fault : ReplayFault) (line : ℕ) → fault_of_replay fault ≡ Damaged line → fault ≡ replay.Damaged line
-damaged_by_replay replay.Unformatted line is = absurd (cc)
-damaged_by_replay (replay.Damaged k) line is = let same : k ≡ line = cc in ap (λ (n : ℕ). replay.Damaged n) same
-damaged_by_replay replay.Device line is = absurd (cc)
-damaged_by_replay replay.NoMemory line is = absurd (cc)
+-- a fault of the replay
+pub refused_by_replay : {X Y : Type 0} (r : Result X OpenFault) (q : Result Y ReplayFault) (fault : ReplayFault) (m : Sight)
+    → r ≡ Err (fault_of_replay fault) → q ≡ Err fault → NamesNoImage q m → NamesDamage q m → IfErr r (IsFaultOn m)
+refused_by_replay {X} r q fault m r_is q_is unformatted damaged =
+    subst (λ (r : Result X OpenFault). IfErr r (IsFaultOn m)) (sym r_is) (by fault q_is)
+  where
+    by : (fault : ReplayFault) → q ≡ Err fault → IsFaultOn m (fault_of_replay fault)
+    by replay.Unformatted is = unformatted is
+    by (replay.Damaged line) is = damaged line is
+    by replay.Device is = λ visible content holds. tt
+    by replay.NoMemory is = λ visible content holds. tt
 
-pub wrong_by_check : (fault : CheckFault) (word : ℕ) → fault_of_check fault ≡ NotDb word → fault ≡ check.NotDb word
-wrong_by_check (check.NotDb k) word is = let same : k ≡ word = cc in ap (λ (n : ℕ). check.NotDb n) same
-wrong_by_check check.NoMemory word is = absurd (cc)
+-- a fault of the check
+pub refused_by_check : {X : Type 0} (r : Result X OpenFault) (fault : CheckFault) (m : Sight) → r ≡ Err (fault_of_check fault)
+    → ((word : ℕ) → fault ≡ check.NotDb word → ContentHas (IsNoDatabase word) m) → IfErr r (IsFaultOn m)
+refused_by_check {X} r fault m r_is wrong = subst (λ (r : Result X OpenFault). IfErr r (IsFaultOn m)) (sym r_is) (by fault wrong)
+  where
+    by : (fault : CheckFault) → ((word : ℕ) → fault ≡ check.NotDb word → ContentHas (IsNoDatabase word) m) → IsFaultOn m (fault_of_check fault)
+    by (check.NotDb word) wrong = wrong word refl
+    by check.NoMemory wrong = λ visible content holds. tt
 
--- the fault of an image in memory
-pub unformatted_in_memory : (fault : OpenFault) → in_memory fault ≡ Unformatted → fault ≡ Unformatted
-unformatted_in_memory Unformatted is = refl
-unformatted_in_memory (Damaged line) is = absurd (cc)
-unformatted_in_memory (NotDb word) is = absurd (cc)
-unformatted_in_memory Device is = absurd (cc)
-unformatted_in_memory NoMemory is = absurd (cc)
-
-pub damaged_in_memory : (fault : OpenFault) (line : ℕ) → in_memory fault ≡ Damaged line → fault ≡ Damaged line
-damaged_in_memory Unformatted line is = absurd (cc)
-damaged_in_memory (Damaged k) line is = is
-damaged_in_memory (NotDb word) line is = absurd (cc)
-damaged_in_memory Device line is = absurd (cc)
-damaged_in_memory NoMemory line is = absurd (cc)
-
-pub wrong_in_memory : (fault : OpenFault) (word : ℕ) → in_memory fault ≡ NotDb word → fault ≡ NotDb word
-wrong_in_memory Unformatted word is = absurd (cc)
-wrong_in_memory (Damaged line) word is = absurd (cc)
-wrong_in_memory (NotDb k) word is = is
-wrong_in_memory Device word is = absurd (cc)
-wrong_in_memory NoMemory word is = absurd (cc)
+-- a fault of an image in memory
+pub refused_in_memory : (image : List ℕ) (fault own : OpenFault) → own ≡ in_memory fault → IsFaultOf image fault → IsFaultOf image own
+refused_in_memory image fault own is holds = subst (IsFaultOf image) (sym is) (by fault holds)
+  where
+    by : (fault : OpenFault) → IsFaultOf image fault → IsFaultOf image (in_memory fault)
+    by Unformatted holds = holds
+    by (Damaged line) holds = holds
+    by (NotDb word) holds = holds
+    by Device holds = tt
+    by NoMemory holds = tt
 
 pub never_device : (fault : OpenFault) → in_memory fault ≡ Device → ⊥
 never_device Unformatted is = cc
@@ -46,3 +50,16 @@ never_device (Damaged line) is = cc
 never_device (NotDb word) is = cc
 never_device Device is = cc
 never_device NoMemory is = cc
+
+-- a failed call and want of memory say nothing of the image
+pub refused_at_device : {X : Type 0} (r : Result X OpenFault) (m : Sight) → r ≡ Err Device → IfErr r (IsFaultOn m)
+refused_at_device {X} r m is = subst (λ (r : Result X OpenFault). IfErr r (IsFaultOn m)) (sym is) (λ visible content holds. tt)
+
+pub refused_without_memory : {X : Type 0} (r : Result X OpenFault) (m : Sight) → r ≡ Err NoMemory → IfErr r (IsFaultOn m)
+refused_without_memory {X} r m is = subst (λ (r : Result X OpenFault). IfErr r (IsFaultOn m)) (sym is) (λ visible content holds. tt)
+
+-- the same fault with another type of answer
+pub refused_again : {X Y : Type 0} (r : Result X OpenFault) (q : Result Y OpenFault) (fault : OpenFault) (m : Sight)
+    → r ≡ Err fault → q ≡ Err fault → IfErr q (IsFaultOn m) → IfErr r (IsFaultOn m)
+refused_again {X} {Y} r q fault m r_is q_is holds =
+    subst (λ (r : Result X OpenFault). IfErr r (IsFaultOn m)) (sym r_is) (subst (λ (q : Result Y OpenFault). IfErr q (IsFaultOn m)) q_is holds)

@@ -1,13 +1,28 @@
--- The faults of a recovery, and which reads were made where one is answered.
-use Rattle.std.specs.Prelude.{true, false, Result, Ok, Err}
+-- The faults of a recovery: what each says of the image, and which reads were made where it is answered.
+use Rattle.std.specs.Prelude.{ℕ, true, false, List, Result, Ok, Err}
 use Rattle.pmem_trait.specs.Sights.{Sight}
-use Rattle.pmem_trait.specs.Reads.{OnlyReads}
+use Rattle.pmem_trait.specs.Reads.{ContentHas, OnlyReads}
+use Rattle.redo_record.specs.Recovery.{IsFormatted, IsDamaged}
 use Rattle.table_check.specs.declared.check_fault.CheckFault.{CheckFault}
 use Rattle.table_check.specs.declared.check_fault.CheckFault.TheVariants as check
 use Rattle.image_recovery.specs.declared.replay_fault.ReplayFault.{ReplayFault}
 use Rattle.image_recovery.specs.declared.replay_fault.ReplayFault.TheVariants as replay
 use Rattle.image_recovery.specs.declared.open_fault.OpenFault.{OpenFault}
 use Rattle.image_recovery.specs.declared.open_fault.OpenFault.TheVariants.{Unformatted, Damaged, NotDb, Device, NoMemory}
+use Rattle.image_recovery.specs.Recovered.{IsNoDatabase}
+
+-- What a fault says of the image: it isn't formatted; it is damaged at this line; or this is the first wrong word of its home. A
+-- failed call and want of memory say nothing.
+abbrev pub IsFaultOf : List ℕ → OpenFault → Type 0
+IsFaultOf image Unformatted = ¬ IsFormatted image
+IsFaultOf image (Damaged line) = IsFormatted image × IsDamaged image line
+IsFaultOf image (NotDb word) = IsNoDatabase word image
+IsFaultOf image Device = Unit {0}
+IsFaultOf image NoMemory = Unit {0}
+
+-- what the fault says holds of the content, where the medium is visible
+abbrev pub IsFaultOn : Sight → OpenFault → Type 0
+IsFaultOn m fault = ContentHas (λ content. IsFaultOf content fault) m
 
 -- what a fault of a replay is for the recovery
 abbrev pub fault_of_replay : ReplayFault → OpenFault

@@ -1,8 +1,11 @@
 -- The header of an image: the words before the mark.
-use Rattle.std.specs.Prelude.{◌≡◌, ℕ, ◌≤◌, List, Option, Some, None}
+use Rattle.std.specs.Prelude.{◌≡◌, ℕ, ◌<◌, ◌≤◌, List, Option, Some, None, slice_index}
+use Rattle.dude_base.specs.declared.limits.TheConstants.{MARK}
 use Rattle.dude_base.specs.declared.sizes.Sizes.{Sizes}
 use Rattle.dude_base.specs.Sizes.{IsAccepted}
 use Rattle.dude_base.specs.Image.{header_words, image_words}
+use Rattle.pmem_trait.specs.Sights.{Sight}
+use Rattle.pmem_trait.specs.Reads.{ContentHas}
 use Rattle.redo_record.specs.Images.{sizes_of, version_of}
 use Rattle.redo_record.specs.Recovery.{IsVersion}
 
@@ -18,3 +21,7 @@ pub record NamesSizes (len : ℕ) (header : List ℕ) : Type 0 where
 abbrev pub AreSizes : ℕ → List ℕ → Option Sizes → Type 0
 AreSizes len header None = ¬ NamesSizes len header
 AreSizes len header (Some s) = NamesSizes len header × (s ≡ sizes_of header)
+
+-- these are the words before the mark, where the medium is visible
+abbrev pub IsHeaderOf : Sight → List ℕ → Type 0
+IsHeaderOf m header = ContentHas (λ content. (i : ℕ) → i < MARK → slice_index header i ≡ slice_index content i) m

@@ -1,7 +1,8 @@
--- The faults of a replay, and which reads were made where one is answered.
-use Rattle.std.specs.Prelude.{true, false, Result, Ok, Err}
+-- The faults of a replay: what each says of the image, and which reads were made where it is answered.
+use Rattle.std.specs.Prelude.{ℕ, true, false, IsErrOf, Result, Ok, Err}
 use Rattle.pmem_trait.specs.Sights.{Sight}
-use Rattle.pmem_trait.specs.Reads.{OnlyReads}
+use Rattle.pmem_trait.specs.Reads.{ContentHas, OnlyReads}
+use Rattle.redo_record.specs.Recovery.{IsFormatted, IsDamaged}
 use Rattle.log_ring.specs.declared.scan_fault.ScanFault.{ScanFault}
 use Rattle.log_ring.specs.declared.scan_fault.ScanFault.TheVariants as scan
 use Rattle.image_recovery.specs.declared.replay_fault.ReplayFault.{ReplayFault}
@@ -27,3 +28,12 @@ IsReadFault Unformatted = ⊥
 IsReadFault (Damaged line) = ⊥
 IsReadFault Device = Unit {0}
 IsReadFault NoMemory = Unit {0}
+
+-- at Unformatted the content, where the medium is visible, isn't formatted
+abbrev pub NamesNoImage : {X : Type 0} → Result X ReplayFault → Sight → Type 0
+NamesNoImage result m = IsErrOf result Unformatted → ContentHas (λ content. ¬ IsFormatted content) m
+
+-- at Damaged it is formatted, and damaged at this line
+abbrev pub NamesDamage : {X : Type 0} → Result X ReplayFault → Sight → Type 0
+NamesDamage result m =
+    (line : ℕ) → IsErrOf result (Damaged line) → ContentHas (λ content. IsFormatted content × IsDamaged content line) m

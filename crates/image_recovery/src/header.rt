@@ -1,10 +1,10 @@
 //! The header of an image is read for the sizes that it names.
 
-ghost use Rattle.std.specs.Prelude.{◌≡◌, ℕ, ◌+◌, ◌<◌, ◌≤◌, length, is_ok, slice_index, IfOk, IfSome, OnOk};
+ghost use Rattle.std.specs.Prelude.{◌≡◌, ◌+◌, ◌≤◌, is_ok, IfOk, IfSome, OnOk};
 ghost use Rattle.dude_base.specs.Sizes.{IsAccepted};
 ghost use Rattle.dude_base.specs.Image.{image_words};
 ghost use Rattle.pmem_trait.specs.Reads.{OnlyReads, ContentHas};
-ghost use Rattle.image_recovery.specs.Header.{AreSizes};
+ghost use Rattle.image_recovery.specs.Header.{AreSizes, IsHeaderOf};
 ghost use Rattle.image_recovery.specs.Replays.{HasSizes};
 
 use dude_base::limits::{HEADER, MAGIC, MARK, MAX_RINGS_ONE, VERSION, VERSION_ONE};
@@ -44,7 +44,7 @@ fn read_words<M: Medium>(m: &mut M, header: &mut [u64; MARK as usize]) -> Result
     ensures len { (M.sight m.new).len ≡ (M.sight m.old).len }
     ensures reads { OnlyReads (is_ok result) (M.sight m.old) (M.sight m.new) }
     ensures few { (M.sight m.new).now ≤ (M.sight m.old).now + 8 }
-    ensures words { OnOk result (ContentHas (λ content. (i : ℕ) → i < MARK → slice_index header.new i ≡ slice_index content i) (M.sight m.old)) }
+    ensures words { OnOk result (IsHeaderOf (M.sight m.old) header.new) }
 {
     for at in 0..MARK {
         header[at as usize] = m.read(at)?;

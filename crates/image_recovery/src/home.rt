@@ -3,9 +3,8 @@
 ghost use Rattle.std.specs.Prelude.{◌≡◌, ◌+◌, ◌*◌, ◌≤◌, length, IfOk, IfErr};
 ghost use Rattle.dude_base.specs.declared.limits.TheConstants.{PAGE};
 ghost use Rattle.dude_base.specs.Image.{image_words};
-ghost use Rattle.pmem_trait.specs.Reads.{ContentHas};
-ghost use Rattle.redo_record.specs.Images.{home_of};
 ghost use Rattle.image_recovery.specs.ReplayFaults.{ReadsMade, IsReadFault};
+ghost use Rattle.image_recovery.specs.Replays.{IsHomeOf};
 
 use crate::replay_fault::ReplayFault;
 use dude_base::limits::PAGE;
@@ -25,7 +24,7 @@ pub fn read_home<M: Medium>(
     ensures fault { IfErr result IsReadFault }
     ensures few { (M.sight m.new).now ≤ (M.sight m.old).now + place.now.pages * PAGE }
     ensures size { IfOk result (λ words. length words.items ≡ place.now.pages * PAGE) }
-    ensures words { IfOk result (λ words. ContentHas (λ content. words.items ≡ home_of place.now content) (M.sight m.old)) }
+    ensures words { IfOk result (λ words. IsHomeOf place.now (M.sight m.old) words.items) }
 {
     let count = place.sizes().pages * PAGE;
     let mut words = Vec::with_capacity(alloc, count as usize)?;

@@ -15,10 +15,8 @@ pub struct PlainImage<'a> {
 }
 
 impl<'a> PlainImage<'a> {
-    ghost use Rattle.std.specs.Prelude.{◌≡◌, false};
-    ghost use Rattle.pmem_trait.specs.declared.call.Call.{Call};
-    ghost use Rattle.pmem_trait.specs.Sights.{OneCall};
-    ghost use Rattle.image_recovery.specs.PlainImages.{still_sight};
+    ghost use Rattle.std.specs.Prelude.{◌≡◌};
+    ghost use Rattle.image_recovery.specs.PlainImages.{FailsEachCall, still_sight};
 
     /// The image at moment 0.
     pub fn new(image: &'a [u64]) -> PlainImage<'a>
@@ -26,7 +24,7 @@ impl<'a> PlainImage<'a> {
         ensures now { result.now ≡ 0 }
         ensures faults { result.faults.count ≡ 0 }
     {
-        // Read for the proof alone: a slice has fewer than 2^64 words.
+        // A slice has fewer than 2^64 words.
         let _len = image.len();
         PlainImage {
             image,
@@ -37,7 +35,9 @@ impl<'a> PlainImage<'a> {
 
     // One moment passes, where one is left, and the call fails.
     fn refuse(&mut self) -> Failed
-        ensures { (c : Call) → OneCall c false (still_sight self.old.image.now self.old.now self.old.faults.count) (still_sight self.new.image.now self.new.now self.new.faults.count) }
+        ensures { FailsEachCall
+            (still_sight self.old.image.now self.old.now self.old.faults.count)
+            (still_sight self.new.image.now self.new.now self.new.faults.count) }
     {
         self.now = self.now.saturating_add(1);
         self.faults.rise();

@@ -1,15 +1,13 @@
 //! The image on a medium, or one in memory, is recovered, or refused for the first reason that fits.
 
-ghost use Rattle.std.specs.Prelude.{◌≡◌, ℕ, ◌+◌, ◌≤◌, IfOk, IsErrOf};
+ghost use Rattle.std.specs.Prelude.{◌≡◌, ◌+◌, ◌≤◌, IfErr, IfOk, IsErrOf};
 ghost use Rattle.pmem_trait.specs.Sights.{Risen};
-ghost use Rattle.pmem_trait.specs.Reads.{ContentHas};
 ghost use Rattle.redo_record.specs.Images.{sizes_of};
-ghost use Rattle.redo_record.specs.Recovery.{IsFormatted, IsDamaged};
 ghost use Rattle.tatp_layout.specs.StandsFor.{IsLawful};
 ghost use Rattle.image_recovery.specs.Replays.{replay_reads};
-ghost use Rattle.image_recovery.specs.declared.open_fault.OpenFault.TheVariants.{Unformatted, Damaged, NotDb, Device};
-ghost use Rattle.image_recovery.specs.Faults.{ReadsMade, in_memory};
-ghost use Rattle.image_recovery.specs.Recovered.{IsNoDatabase, IsRecovered, RecoversArray};
+ghost use Rattle.image_recovery.specs.declared.open_fault.OpenFault.TheVariants.{Device};
+ghost use Rattle.image_recovery.specs.Faults.{IsFaultOf, IsFaultOn, ReadsMade, in_memory};
+ghost use Rattle.image_recovery.specs.Found.{IsFoundIn, IsFoundOn, IsRecoveryOf};
 
 use crate::layouts::layout_of;
 use crate::open_fault::OpenFault;
@@ -29,11 +27,9 @@ pub fn recover<M: Medium>(alloc: Global, m: &mut M) -> Result<(Layout, Recovered
     ensures reads { ReadsMade result (M.sight m.old) (M.sight m.new) }
     ensures few { (M.sight m.new).now ≤ (M.sight m.old).now + replay_reads }
     ensures cause { IsErrOf result Device → Risen (M.sight m.old).faults (M.sight m.new).faults }
-    ensures lawful { IfOk result (λ found. IsRecovered (M.sight m.old).len found.0 found.1.number found.1.words.items) }
-    ensures recovered { IfOk result (λ found. ContentHas (RecoversArray found.0 found.1.number found.1.words.items) (M.sight m.old)) }
-    ensures unformatted { IsErrOf result Unformatted → ContentHas (λ content. ¬ IsFormatted content) (M.sight m.old) }
-    ensures damaged { (line : ℕ) → IsErrOf result (Damaged line) → ContentHas (λ content. IsFormatted content × IsDamaged content line) (M.sight m.old) }
-    ensures not_db { (word : ℕ) → IsErrOf result (NotDb word) → ContentHas (IsNoDatabase word) (M.sight m.old) }
+    ensures lawful { IfOk result (IsFoundOn (M.sight m.old)) }
+    ensures recovered { IfOk result (IsFoundIn (M.sight m.old)) }
+    ensures refused { IfErr result (IsFaultOn (M.sight m.old)) }
 {
     let replayed = replay(alloc, m)?;
     let lay = layout_of(&replayed.sizes);
@@ -60,11 +56,9 @@ fn in_memory(fault: OpenFault) -> OpenFault
 
 /// Recovers an image in memory.
 pub fn image_of(alloc: Global, words: &[u64]) -> Result<Recovered, OpenFault>
-    ensures recovered { IfOk result (λ found. RecoversArray (sizes_of words.now) found.number found.words.items words.now) }
+    ensures recovered { IfOk result (IsRecoveryOf words.now) }
     ensures lawful { IfOk result (λ found. IsLawful (sizes_of words.now) found.words.items) }
-    ensures unformatted { IsErrOf result Unformatted → ¬ IsFormatted words.now }
-    ensures damaged { (line : ℕ) → IsErrOf result (Damaged line) → IsFormatted words.now × IsDamaged words.now line }
-    ensures not_db { (word : ℕ) → IsErrOf result (NotDb word) → IsNoDatabase word words.now }
+    ensures refused { IfErr result (IsFaultOf words.now) }
     ensures never_device { ¬ IsErrOf result Device }
 {
     let mut image = PlainImage::new(words);

@@ -1,11 +1,10 @@
 //! The image on a medium is replayed, or refused for the first reason that fits.
 
-ghost use Rattle.std.specs.Prelude.{◌≡◌, ℕ, ◌+◌, ◌≤◌, IfOk, IsErrOf};
+ghost use Rattle.std.specs.Prelude.{◌≡◌, ◌+◌, ◌≤◌, IfOk, IsErrOf};
 ghost use Rattle.pmem_trait.specs.Sights.{Risen};
 ghost use Rattle.pmem_trait.specs.Reads.{ContentHas};
-ghost use Rattle.redo_record.specs.Recovery.{IsFormatted, IsDamaged};
-ghost use Rattle.image_recovery.specs.declared.replay_fault.ReplayFault.TheVariants.{Unformatted, Damaged, Device};
-ghost use Rattle.image_recovery.specs.ReplayFaults.{ReadsMade};
+ghost use Rattle.image_recovery.specs.declared.replay_fault.ReplayFault.TheVariants.{Device};
+ghost use Rattle.image_recovery.specs.ReplayFaults.{NamesDamage, NamesNoImage, ReadsMade};
 ghost use Rattle.image_recovery.specs.Replays.{IsReplay, IsReplayOf, replay_reads};
 
 use crate::apply::apply_consecutive;
@@ -22,8 +21,8 @@ use std::alloc::Global;
 /// Replays the image on a medium, which is only read.
 ///
 /// The home is overwritten by the records of the numbers that follow the mark without a gap; records behind a gap are
-/// passed over. One record at a time is in memory. What the image is refused for is the first that fits: it isn't formatted, the mark is too great, the log
-/// is damaged.
+/// passed over. One record at a time is in memory. It is refused for the first reason that fits: it isn't formatted, the mark
+/// is too great, the log is damaged.
 pub fn replay<M: Medium>(alloc: Global, m: &mut M) -> Result<ReplayedImage, ReplayFault>
     ensures len { (M.sight m.new).len ≡ (M.sight m.old).len }
     ensures reads { ReadsMade result (M.sight m.old) (M.sight m.new) }
@@ -31,8 +30,8 @@ pub fn replay<M: Medium>(alloc: Global, m: &mut M) -> Result<ReplayedImage, Repl
     ensures cause { IsErrOf result Device → Risen (M.sight m.old).faults (M.sight m.new).faults }
     ensures whole { IfOk result (IsReplay (M.sight m.old).len) }
     ensures replayed { IfOk result (λ r. ContentHas (IsReplayOf r) (M.sight m.old)) }
-    ensures unformatted { IsErrOf result Unformatted → ContentHas (λ content. ¬ IsFormatted content) (M.sight m.old) }
-    ensures damaged { (line : ℕ) → IsErrOf result (Damaged line) → ContentHas (λ content. IsFormatted content × IsDamaged content line) (M.sight m.old) }
+    ensures unformatted { NamesNoImage result (M.sight m.old) }
+    ensures damaged { NamesDamage result (M.sight m.old) }
 {
     let Some(sizes) = read_sizes(m)? else {
         return Err(ReplayFault::Unformatted);

@@ -6,7 +6,11 @@ use crate::shape::Shape;
 
 /// The word at this place, or 0 past the end.
 pub fn word_at(image: &[u64], at: u64) -> u64 {
-    image.get(at as usize).copied().unwrap_or(0)
+    if at < image.len() as u64 {
+        image[at as usize]
+    } else {
+        0
+    }
 }
 
 /// A word of the cell so many steps after this one, in the same ring.
@@ -34,7 +38,9 @@ pub fn last_number(image: &[u64], shape: &Shape, cell: u64) -> u64
 pub fn first_number(image: &[u64], shape: &Shape, head: u64) -> u64
     requires { head < 65536 }
 {
-    last_number(image, shape, head).saturating_sub(cell_word(image, shape, head, 0, 1) / 256)
+    let last = last_number(image, shape, head);
+    let before = cell_word(image, shape, head, 0, 1) / 256;
+    if before < last { last - before } else { 0 }
 }
 
 /// How many writes a head counts.
@@ -71,6 +77,19 @@ fn is_allowed(image: &[u64], shape: &Shape, head: u64, mark: u64) -> bool
         && count.div_ceil(3).max(1) <= shape.cells
 }
 
+// Whether one of the first writes of the record of a head, so many of them, is of this home word.
+fn is_written_before(image: &[u64], shape: &Shape, head: u64, count: u64, at: u64) -> bool
+    requires head { head < 65536 }
+    requires few { count < 97 }
+{
+    for k in 0..count {
+        if write(image, shape, head, k).0 == at {
+            return true;
+        }
+    }
+    false
+}
+
 // Whether the cells behind a head go on with its record, and its writes are of distinct home words.
 fn is_complete(image: &[u64], shape: &Shape, head: u64, mark: u64) -> bool
     requires { head < 65536 }
@@ -88,7 +107,7 @@ fn is_complete(image: &[u64], shape: &Shape, head: u64, mark: u64) -> bool
             return false;
         }
         let (at, _) = write(image, shape, head, k);
-        if at >= shape.home || (0..k).any(|before| write(image, shape, head, before).0 == at) {
+        if at >= shape.home || is_written_before(image, shape, head, k, at) {
             return false;
         }
     }

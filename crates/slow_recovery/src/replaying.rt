@@ -7,7 +7,7 @@ use crate::shape::Shape;
 use std::alloc::{AllocError, Global};
 
 /// What the replay of an image gives.
-#[derive(Debug, PartialEq, Eq, Drop)]
+#[derive(Drop)]
 pub enum Replay {
     /// The image is no image of a version that is read, or too short for its sizes.
     Unformatted,

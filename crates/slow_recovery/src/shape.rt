@@ -22,16 +22,19 @@ pub struct Shape {
 impl Shape {
     /// The shape that an image names, where it is formatted.
     pub fn of(image: &[u64]) -> Option<Shape> {
-        let word = |at: usize| image.get(at).copied().unwrap_or(0);
-        let known = word(0) == 0x4D45_4D54_4544_5544 && word(7) == 0;
-        let rings = match word(1) {
+        if image.len() < 8 || image[0] != 0x4D45_4D54_4544_5544 || image[7] != 0 {
+            return None;
+        }
+        let rings = match image[1] {
             1 => 8,
             2 => 16,
             _ => return None,
         };
-        let shape = Shape::of_sizes(word(1), word(2), word(3), word(4), word(5), word(6))?;
-        let whole = image.len() as u64 >= shape.home_start() + shape.home;
-        (known && word(4) <= rings && whole).then_some(shape)
+        let shape = Shape::of_sizes(image[1], image[2], image[3], image[4], image[5], image[6])?;
+        if image[4] > rings || (image.len() as u64) < shape.home_start() + shape.home {
+            return None;
+        }
+        Some(shape)
     }
 
     // The shape of these sizes, where they are accepted.
@@ -77,7 +80,7 @@ fn pages_for(subscribers: u64, calls: u64) -> u64
     let rows = table_words(subscribers, 8 * subscribers)
         + table_words(subscribers, 4 * subscribers);
     let parts = 2 * table_words(4 * subscribers, 16 * subscribers);
-    (rows + parts + table_words(calls, 4 * calls)).div_ceil(64)
+    (rows + parts + table_words(calls, 4 * calls) + 63) / 64
 }
 
 // A line, the links of the buckets, the records: each in whole lines.
@@ -86,5 +89,5 @@ fn table_words(buckets: u64, records: u64) -> u64
     requires small { records ≤ 480000 }
     ensures { result ≤ buckets + records + 22 }
 {
-    8 + buckets.div_ceil(8) * 8 + records.div_ceil(8) * 8
+    8 + (buckets + 7) / 8 * 8 + (records + 7) / 8 * 8
 }

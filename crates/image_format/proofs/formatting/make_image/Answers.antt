@@ -29,6 +29,11 @@ room_same layout room = subst (λ (s : Sizes). population_calls s.subscribers �
 populated_same : {l s : Sizes} {xs : List ℕ} → l ≡ s → IsPopulated l xs → IsPopulated s xs
 populated_same {xs = xs} layout populated = subst (λ (s : Sizes). IsPopulated s xs) layout populated
 
+pub returns-then-has-needs-clause-cause : goal.returns-then-has-needs-clause-cause
+returns-then-has-needs-clause-cause g c =
+    let words = ap image_words c.of-place.ensures in
+    (c.in_ok-lay.ensures.ok.1, omega arith, omega arith, c.if-has-needs.true)
+
 pub returns-in_err-write_image-clause-cause : goal.returns-in_err-write_image-clause-cause
 returns-in_err-write_image-clause-cause g c =
     let is : c.from_residual-in_err-write_image.result ≡ Err Device = search rules in
@@ -55,19 +60,15 @@ returns-clause-images g c =
 
 pub returns-clause-rests : goal.returns-clause-rests
 returns-clause-rests g c =
-    let old = state_now (g.M.Medium.sight c.args.m.now) in
-    let P : State → Type 0 = λ q. IsNewImage c.args.sizes.now c.in_ok-home.home.items old q in
-    let made = made_same c.of-place.ensures c.deref.ensures.value c.in_ok-write_image.ensures.made in
-    let layout = c.in_ok-lay.ensures.ok in
-    λ visible. subst P (sym (made_here made visible)) (new_image (stands_same layout.0 c.in_ok-home.ensures.stands) old)
-
-pub returns-clause-settled : goal.returns-clause-settled
-returns-clause-settled g c =
     let old = g.M.Medium.sight c.args.m.now in
-    let P : State → Type 0 = λ q. IsSettled old.len q in
+    let P : State → Type 0 = λ q. IsNewImage c.args.sizes.now c.in_ok-home.home.items (state_now old) q in
+    let Q : State → Type 0 = λ q. IsSettled old.len q in
     let made = made_same c.of-place.ensures c.deref.ensures.value c.in_ok-write_image.ensures.made in
-    let layout = c.in_ok-lay.ensures.ok in
-    λ visible. subst P (sym (made_here made visible)) (new_settled (stands_same layout.0 c.in_ok-home.ensures.stands) (state_now old) old.len (c.requires.settled visible))
+    let stands = stands_same c.in_ok-lay.ensures.ok.0 c.in_ok-home.ensures.stands in
+    record {
+      image = λ visible. subst P (sym (made_here made visible)) (new_image stands (state_now old));
+      settled = λ visible. subst Q (sym (made_here made visible)) (new_settled stands (state_now old) old.len (c.requires.settled visible));
+    }
 
 pub returns-in_err-lay-clause-fits : goal.returns-in_err-lay-clause-fits
 returns-in_err-lay-clause-fits g c = IfOk-from_err _ _ c.from_residual.ensures.0
@@ -75,14 +76,8 @@ returns-in_err-lay-clause-fits g c = IfOk-from_err _ _ c.from_residual.ensures.0
 pub returns-in_err-lay-clause-home : goal.returns-in_err-lay-clause-home
 returns-in_err-lay-clause-home g c = IfOk-from_err _ _ c.from_residual.ensures.0
 
-pub returns-in_err-lay-clause-populated : goal.returns-in_err-lay-clause-populated
-returns-in_err-lay-clause-populated g c = IfOk-from_err _ _ c.from_residual.ensures.0
-
 pub returns-in_err-lay-clause-rests : goal.returns-in_err-lay-clause-rests
 returns-in_err-lay-clause-rests g c = IfOk-from_err _ _ c.from_residual.ensures.0
-
-pub returns-in_err-lay-clause-settled : goal.returns-in_err-lay-clause-settled
-returns-in_err-lay-clause-settled g c = IfOk-from_err _ _ c.from_residual.ensures.0
 
 pub returns-in_err-home-clause-fits : goal.returns-in_err-home-clause-fits
 returns-in_err-home-clause-fits g c = IfOk-from_err _ _ c.from_residual-in_err-home.ensures.0
@@ -90,14 +85,8 @@ returns-in_err-home-clause-fits g c = IfOk-from_err _ _ c.from_residual-in_err-h
 pub returns-in_err-home-clause-home : goal.returns-in_err-home-clause-home
 returns-in_err-home-clause-home g c = IfOk-from_err _ _ c.from_residual-in_err-home.ensures.0
 
-pub returns-in_err-home-clause-populated : goal.returns-in_err-home-clause-populated
-returns-in_err-home-clause-populated g c = IfOk-from_err _ _ c.from_residual-in_err-home.ensures.0
-
 pub returns-in_err-home-clause-rests : goal.returns-in_err-home-clause-rests
 returns-in_err-home-clause-rests g c = IfOk-from_err _ _ c.from_residual-in_err-home.ensures.0
-
-pub returns-in_err-home-clause-settled : goal.returns-in_err-home-clause-settled
-returns-in_err-home-clause-settled g c = IfOk-from_err _ _ c.from_residual-in_err-home.ensures.0
 
 pub returns-in_err-write_image-clause-fits : goal.returns-in_err-write_image-clause-fits
 returns-in_err-write_image-clause-fits g c = IfOk-from_err _ _ c.from_residual-in_err-write_image.ensures.0
@@ -105,14 +94,8 @@ returns-in_err-write_image-clause-fits g c = IfOk-from_err _ _ c.from_residual-i
 pub returns-in_err-write_image-clause-home : goal.returns-in_err-write_image-clause-home
 returns-in_err-write_image-clause-home g c = IfOk-from_err _ _ c.from_residual-in_err-write_image.ensures.0
 
-pub returns-in_err-write_image-clause-populated : goal.returns-in_err-write_image-clause-populated
-returns-in_err-write_image-clause-populated g c = IfOk-from_err _ _ c.from_residual-in_err-write_image.ensures.0
-
 pub returns-in_err-write_image-clause-rests : goal.returns-in_err-write_image-clause-rests
 returns-in_err-write_image-clause-rests g c = IfOk-from_err _ _ c.from_residual-in_err-write_image.ensures.0
-
-pub returns-in_err-write_image-clause-settled : goal.returns-in_err-write_image-clause-settled
-returns-in_err-write_image-clause-settled g c = IfOk-from_err _ _ c.from_residual-in_err-write_image.ensures.0
 
 pub returns-in_err-lay-clause-len : goal.returns-in_err-lay-clause-len
 returns-in_err-lay-clause-len g c = refl
@@ -133,10 +116,10 @@ returns-clause-fits g c =
     record { accepted = layout.1; room = omega arith; calls = room_same layout.0 c.in_ok-home.ensures.room }
 
 pub returns-clause-home : goal.returns-clause-home
-returns-clause-home g c = stands_same c.in_ok-lay.ensures.ok.0 c.in_ok-home.ensures.stands
-
-pub returns-clause-populated : goal.returns-clause-populated
-returns-clause-populated g c = populated_same c.in_ok-lay.ensures.ok.0 c.in_ok-home.ensures.words
+returns-clause-home g c = record {
+  stands = stands_same c.in_ok-lay.ensures.ok.0 c.in_ok-home.ensures.stands;
+  populated = populated_same c.in_ok-lay.ensures.ok.0 c.in_ok-home.ensures.words;
+}
 
 pub returns-clause-calls : goal.returns-clause-calls
 returns-clause-calls g c =

@@ -1,13 +1,24 @@
-use Rattle.std.proofs.Common.{◌≡◌, Err, sym, ap, ◌∙◌, arith, rules}
+use Rattle.std.proofs.Common.{◌≡◌, sym, ap, ◌∙◌, arith, rules}
 use Rattle.dude_base.specs.declared.sizes.Sizes.{Sizes}
 use Rattle.pmem_trait.proofs.ReadRuns.{reads_then, read_alone, read_content, content_before}
-use Rattle.redo_record.specs.Images.{version_of}
+use Rattle.image_recovery.proofs.Reading.{refused_again, refused_at_device}
 use Rattle.image_opening.specs.OpeningCalls.{stale_lines}
-use Rattle.image_opening.proofs.OpeningFaults.{stops_again, stops_at_read, stops_on_the_way}
+use Rattle.image_opening.proofs.OpeningFaults.{refused_unread, stops_again, stops_at_read, stops_on_the_way}
 use Rattle.image_opening.proofs.opening.open_image.Goals as goal
 
-pub returns-in_err-lay-clause-damaged : goal.returns-in_err-lay-clause-damaged
-returns-in_err-lay-clause-damaged g c = λ line is. c.recover.ensures.damaged line (c.in_err-lay.was ∙ ap Err (search (rules, is)))
+pub returns-in_err-lay-clause-refused : goal.returns-in_err-lay-clause-refused
+returns-in_err-lay-clause-refused g c =
+    refused_again c.from_residual.result c.recover.result c.in_err-lay.field-0.0 (g.M.Medium.sight c.args.m.now) (search rules) c.in_err-lay.was c.recover.ensures.refused
+
+pub returns-in_err-stale-clause-refused : goal.returns-in_err-stale-clause-refused
+returns-in_err-stale-clause-refused g c =
+    refused_unread c.from_residual-in_err-stale.result c.stale_lines.result c.in_err-stale.field-0.0 (g.M.Medium.sight c.args.m.now) (search rules) c.in_err-stale.was c.stale_lines.ensures.fault
+
+pub returns-in_err-version-clause-refused : goal.returns-in_err-version-clause-refused
+returns-in_err-version-clause-refused g c = refused_at_device c.from_residual-in_err-version.result (g.M.Medium.sight c.args.m.now) (search rules)
+
+pub returns-in_err-settle_image-clause-refused : goal.returns-in_err-settle_image-clause-refused
+returns-in_err-settle_image-clause-refused g c = refused_at_device c.from_residual-in_err-settle_image.result (g.M.Medium.sight c.args.m.now) (search rules)
 
 pub returns-in_err-stale-clause-stopped : goal.returns-in_err-stale-clause-stopped
 returns-in_err-stale-clause-stopped g c =

@@ -1,4 +1,4 @@
-use Rattle.std.proofs.Common.{◌≡◌, arith, ne_eqb}
+use Rattle.std.proofs.Common.{arith, ne_eqb}
 use Rattle.pmem_trait.specs.Sights.{CallsMade.none}
 use Rattle.image_opening.proofs.opening.raise_version.Goals as goal
 

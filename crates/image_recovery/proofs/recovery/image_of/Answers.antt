@@ -1,10 +1,10 @@
-use Rattle.std.proofs.Common.{◌≡◌, ℕ, Err, List, length, refl, sym, ap, ◌∙◌, subst, rules}
+use Rattle.std.proofs.Common.{◌≡◌, ℕ, List, length, refl, sym, subst, rules}
 use Rattle.dude_base.specs.declared.sizes.Sizes.{Sizes}
 use Rattle.pmem_trait.specs.Words.{IsContent}
 use Rattle.tatp_layout.specs.StandsFor.{IsLawful}
 use Rattle.image_recovery.specs.PlainImages.{still_state}
 use Rattle.image_recovery.proofs.PlainContent.{own_content}
-use Rattle.image_recovery.proofs.Reading.{unformatted_in_memory, damaged_in_memory, wrong_in_memory, never_device}
+use Rattle.image_recovery.proofs.Reading.{refused_in_memory, never_device}
 use Rattle.image_recovery.proofs.recovery.image_of.Goals as goal
 
 -- the content of an image that was made of these words
@@ -22,20 +22,9 @@ returns-in-Ok-clause-lawful c =
     let P : Sizes → Type 0 = λ s. IsLawful s c.in-Ok.recovered.words.items in
     subst P (sym has.same_sizes) c.in-Ok.ensures.lawful.lawful
 
-pub returns-in-Err-clause-unformatted : goal.returns-in-Err-clause-unformatted
-returns-in-Err-clause-unformatted c = λ is.
-    let fault = unformatted_in_memory c.in-Err.fault (search (rules, is)) in
-    c.recover.ensures.unformatted (c.in-Err.is ∙ ap Err fault) refl c.args.words.now (made_content c.new-image.result.image.now c.args.words.now c.new-image.ensures.image)
-
-pub returns-in-Err-clause-damaged : goal.returns-in-Err-clause-damaged
-returns-in-Err-clause-damaged c = λ line is.
-    let fault = damaged_in_memory c.in-Err.fault line (search (rules, is)) in
-    c.recover.ensures.damaged line (c.in-Err.is ∙ ap Err fault) refl c.args.words.now (made_content c.new-image.result.image.now c.args.words.now c.new-image.ensures.image)
-
-pub returns-in-Err-clause-not_db : goal.returns-in-Err-clause-not_db
-returns-in-Err-clause-not_db c = λ word is.
-    let fault = wrong_in_memory c.in-Err.fault word (search (rules, is)) in
-    c.recover.ensures.not_db word (c.in-Err.is ∙ ap Err fault) refl c.args.words.now (made_content c.new-image.result.image.now c.args.words.now c.new-image.ensures.image)
+pub returns-in-Err-clause-refused : goal.returns-in-Err-clause-refused
+returns-in-Err-clause-refused c = refused_in_memory c.args.words.now c.in-Err.fault c.in_memory.result c.in_memory.ensures
+    (c.in-Err.ensures.refused refl c.args.words.now (made_content c.new-image.result.image.now c.args.words.now c.new-image.ensures.image))
 
 pub returns-in-Err-clause-never_device : goal.returns-in-Err-clause-never_device
 returns-in-Err-clause-never_device c = λ is. never_device c.in-Err.fault (search (rules, is))

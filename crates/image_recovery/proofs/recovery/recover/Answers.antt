@@ -1,18 +1,16 @@
-use Rattle.std.proofs.Common.{ℕ, Err, List, sym, ap, ◌∙◌, subst, rules}
+use Rattle.std.proofs.Common.{ℕ, List, sym, ◌∙◌, subst, rules}
 use Rattle.dude_base.specs.declared.sizes.Sizes.{Sizes}
 use Rattle.table_check.specs.Faults.{IsCause}
 use Rattle.tatp_check.specs.Order.{IsNotDb}
-use Rattle.image_recovery.proofs.Reading.{damaged_by_replay, wrong_by_check}
+use Rattle.image_recovery.proofs.Reading.{refused_by_replay, refused_by_check}
 use Rattle.image_recovery.proofs.recovery.recover.Goals as goal
 
-pub returns-in_err-replayed-clause-damaged : goal.returns-in_err-replayed-clause-damaged
-returns-in_err-replayed-clause-damaged g c = λ line is.
-    let fault = damaged_by_replay c.in_err-replayed.field-0.0 line (search (rules, is)) in
-    c.replay.ensures.damaged line (c.in_err-replayed.was ∙ ap Err fault)
+pub returns-in_err-replayed-clause-refused : goal.returns-in_err-replayed-clause-refused
+returns-in_err-replayed-clause-refused g c =
+    refused_by_replay c.from_residual.result c.replay.result c.in_err-replayed.field-0.0 (g.M.Medium.sight c.args.m.now) (search rules) c.in_err-replayed.was c.replay.ensures.unformatted c.replay.ensures.damaged
 
-pub returns-in_err-check-clause-not_db : goal.returns-in_err-check-clause-not_db
-returns-in_err-check-clause-not_db g c = λ word is told content holds.
-    let fault = wrong_by_check c.in_err-check.field-0.0 word (search (rules, is)) in
+pub returns-in_err-check-clause-refused : goal.returns-in_err-check-clause-refused
+returns-in_err-check-clause-refused g c = refused_by_check c.from_residual-in_err-check.result c.in_err-check.field-0.0 (g.M.Medium.sight c.args.m.now) (search rules) (λ word fault told content holds.
     let wrong = subst (λ fault. IsCause (IsNotDb c.layout_of-lay.result c.deref.result.now) fault) fault c.in_err-check.ensures.fault in
     let replayed = c.in_ok-replayed.ensures.replayed told content holds in
     record {
@@ -21,4 +19,4 @@ returns-in_err-check-clause-not_db g c = λ word is told content holds.
       recovered = replayed.recovered;
       wrong = subst (λ (s : Sizes). IsNotDb s c.in_ok-replayed.replayed.words.items word) (c.layout_of-lay.ensures ∙ sym replayed.same_sizes)
           (subst (λ (l : List ℕ). IsNotDb c.layout_of-lay.result l word) c.deref.ensures.value wrong);
-    }
+    })

@@ -53,6 +53,14 @@ returns-in_err-log-clause-damaged g c = λ line is told content holds.
     let at = content_before {P = λ l. IsDamagedAt c.of-place.result c.in_ok-mark.mark l line} before (c.heads.ensures.damaged line (c.in_err-log.was ∙ ap Err fault)) told content holds in
     (has.0, inr (omega arith, at_content c.of-place.result c.in_ok-mark.mark content (has.1 ∙ sym c.of-place.ensures) mark (λ s m. IsDamagedAt s m content line) at))
 
+pub apply_consecutive-requires : goal.apply_consecutive-requires
+apply_consecutive-requires g c = record {
+  in_limits = omega arith;
+  inside = search rules;
+  room = search rules;
+  size = search rules;
+}
+
 pub returns-in_err-words-clause-reads : goal.returns-in_err-words-clause-reads
 returns-in_err-words-clause-reads g c =
     made_again c.from_residual-in_err-words.result c.read_home.result c.in_err-words.field-0.0 _ (g.M.Medium.sight c.heads.new.m) _ (search rules) c.in_err-words.was
