@@ -24,7 +24,7 @@ TOWERS = [
     ("Home", ["tatp_core", "tatp_read tatp_check tatp_population tatp_rows", "tatp_layout", "table_check hash_table", "record_heap", "word_space"]),
     ("Texts", ["tatp_csv", "tatp_text"]),
     ("Base", ["dude_io", "file_pmem", "dude_base tatp_model pmem_trait"]),
-    ("Threads", ["tiny_stm", "core_table shadow_pages", "dude_core", "core_state state_lists", "core_moves", "core_steps", "core_view", "core_events"]),
+    ("Threads", ["tiny_stm", "core_table shadow_pages", "dude_core", "core_state", "core_steps", "core_view", "core_events"]),
 ]
 
 DEFINITION = re.compile(r"^(?:(?:abbrev|unfoldable) )?pub (?:(record|data) )?([^\s:({]+)")

@@ -7,10 +7,9 @@ use Rattle.core_events.specs.Views.{View, Word, the_threads, the_clock, the_turn
 use Rattle.core_events.specs.Words.{State, found, put}
 use Rattle.core_events.specs.Events.{Event, name, word_after, view_after}
 use Rattle.core_events.specs.Conditions.{May, Fits, IsAllowed}
-use Rattle.core_events.proofs.Lists.{there}
+use Rattle.core_events.proofs.Lists.{there, at_index}
 use Rattle.core_view.specs.Named.{Tells}
 use Rattle.core_state.specs.Steps.{moved}
-use Rattle.state_lists.proofs.Places.{at_index}
 
 pub inside_there : (l m : List View) (i : ℕ) (v : View) → l ≡ m → get_elem? m i ≡ some v → i < length l
 inside_there l m i v e at = there l i v (ap (λ (k : List View). get_elem? k i) e ∙ at)
