@@ -58,7 +58,8 @@ impl Pager {
     /// Empties the frame of a page that is in.
     pub fn drop_page(&mut self, page: u64)
         requires { IsIn self.old page }
-        ensures dropped { (frame : ℕ) → Holds self.old frame page → self.new ≡ map_with self.old frame None }
+        ensures dropped { (frame : ℕ) → Holds self.old frame page →
+            self.new ≡ map_with self.old frame None }
         ensures lawful { IsOneToOne self.new }
         ensures not_in { ¬ IsIn self.new page }
     {
