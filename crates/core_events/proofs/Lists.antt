@@ -1,5 +1,5 @@
 -- Lists that are read by `get_elem?`, and lists of keys with values.
-use Rattle.std.proofs.Common.{◌≡◌, ◌==◌, true, ◌≢◌, ℕ, zero, suc, ◌+◌, ◌<◌, ◌⊎◌, List, [], ◌∷◌, ◌++◌, length, set, map, refl, sym, ap, inl, inr, ⊎_elim, eq-eqb, ne_eqb, arith, All, ◌∙◌, subst}
+use Rattle.std.proofs.Common.{◌≡◌, ◌==◌, true, ◌≢◌, ℕ, zero, suc, ◌+◌, ◌<◌, ◌⊎◌, List, [], ◌∷◌, ◌++◌, length, get_or, set, map, refl, sym, ap, inl, inr, ⊎_elim, eq-eqb, ne_eqb, arith, All, ◌∙◌, subst}
 use Rattle.std.specs.Prelude.{Some, None}
 use Rattle.std.proofs.lemmas.List.{map-set}
 use Rattle.std.proofs.lemmas.Bool.{true≢false}
@@ -14,6 +14,12 @@ module _ {A : Type 0} where
   there [] i a e = absurd (some-ne-none a (sym e))
   there (x ∷ xs) zero a e = omega arith
   there (x ∷ xs) (suc i) a e = let h = there xs i a e in omega arith
+
+  -- what is read at a place within the list is there
+  pub at_index : (l : List A) (i : ℕ) (a : A) → i < length l → a ≡ get_or l i a → get_elem? l i ≡ some a
+  at_index [] i a h e = absurd (omega arith)
+  at_index (x ∷ xs) zero a h e = ap some (sym e)
+  at_index (x ∷ xs) (suc i) a h e = at_index xs i a (omega arith) e
 
   pub at_set : (l : List A) (i j : ℕ) (a b : A) → get_elem? (set l i a) j ≡ some b → ((j ≡ i) × (a ≡ b)) ⊎ ((j ≢ i) × (get_elem? l j ≡ some b))
   at_set [] i j a b e = absurd (some-ne-none b (sym e))

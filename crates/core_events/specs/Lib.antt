@@ -19,3 +19,5 @@ pub mod Kept
 pub mod Telling
 pub mod Plain
 pub mod OneCommit
+pub mod KeptLaws
+pub mod LayerLaws

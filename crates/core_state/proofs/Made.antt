@@ -21,6 +21,7 @@ use Rattle.core_view.specs.declared.deed.WriteDeed.TheVariants.{Take, Draw, Deci
 use Rattle.core_view.specs.declared.deed.PageDeed.{PageDeed}
 use Rattle.core_view.specs.declared.deed.PageDeed.TheVariants.{Entry, Pin, Unpin, Touch, LoadTouch, Evict, Fill, Show}
 use Rattle.core_view.specs.Named.{of_read, of_write, of_page}
+use Rattle.core_state.proofs.Places.{put_leaves}
 use Rattle.core_state.specs.Steps.{IsReady, IsMoved, moved}
 use Rattle.core_state.specs.BoxEvents.{IsPlain}
 
@@ -80,19 +81,6 @@ ready_beside z c d who e ps is r = subst (λ (s : State). IsReady z s who e) (sy
   may = r.may;
   told = subst (WordTold z e r.view) (sym (found_beside c (name z e r.view) ps)) r.told;
 })
-
--- what is put into a word leaves the records
-put_leaves : (c : State) (w : Word) (n : ℕ) (vs : List View) → record (put c w n) { views = vs } ≡ record (put c w n) { views = vs; records = c.records; persisted = c.persisted }
-put_leaves c the_threads n vs = refl
-put_leaves c the_clock n vs = refl
-put_leaves c the_turn n vs = refl
-put_leaves c the_durable n vs = refl
-put_leaves c the_reproduced n vs = refl
-put_leaves c (the_lock k) n vs = refl
-put_leaves c (the_entry k) n vs = refl
-put_leaves c (the_touch k) n vs = refl
-put_leaves c (the_cell k) n vs = refl
-put_leaves c (the_box k) n vs = refl
 
 same_view : (c : State) (who : ℕ) (v w : View) → get_elem? c.views who ≡ some v → get_elem? c.views who ≡ some w → w ≡ v
 same_view c who v w at also = some-injective w v (sym also ∙ at)

@@ -14,7 +14,7 @@ use Rattle.core_events.specs.Kept.{Kept}
 use Rattle.core_events.proofs.Lists.{there, at_map}
 use Rattle.core_events.proofs.Telling.{kept_seated, kept_sized}
 use Rattle.core_view.specs.Named.{Tells}
-use Rattle.state_lists.specs.Small.{AreSmall}
+use Rattle.core_state.specs.Small.{AreSmall}
 
 -- ---- where the tests say so
 pub split_tells : (c : State) (who draws : ℕ) (u : View) (b : Bool) → get_elem? c.views who ≡ some u → Tells b ((u.part.is_spent ≡ false) × (0 < u.part.splits) × (draws ≤ u.draws)) → Tells b ((v : View) × MaySplit c who v draws)

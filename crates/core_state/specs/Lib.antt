@@ -1,2 +1,4 @@
+pub mod Small
 pub mod Steps
 pub mod BoxEvents
+pub mod Views

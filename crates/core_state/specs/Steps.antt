@@ -1,5 +1,5 @@
 -- Events as steps of the definitions, and the parts that a step is made of.
-use Rattle.std.specs.Prelude.{◌≡◌, ℕ, slice_set}
+use Rattle.std.specs.Prelude.{◌≡◌, ◌↔◌, ℕ, slice_set, Result, IsErrOf}
 use mathlib.Core.Option.{some}
 use lib.ListN.{get_elem?}
 use Rattle.core_events.specs.Setups.{Setup}
@@ -7,12 +7,24 @@ use Rattle.core_events.specs.Views.{View}
 use Rattle.core_events.specs.Words.{State, found, put}
 use Rattle.core_events.specs.Events.{Event, name, word_after, view_after}
 use Rattle.core_events.specs.Conditions.{May}
-use Rattle.core_events.specs.Partings.{Step, Leads}
+use Rattle.core_events.specs.Partings.{Step, Leads, event}
 use Rattle.core_events.specs.Telling.{IsSeated, WordTold}
+use Rattle.core_view.specs.declared.deed.Deed.{Deed}
+use Rattle.core_view.specs.Named.{event_of}
+use Rattle.core_state.specs.declared.core_refusal.CoreRefusal.{CoreRefusal}
+use Rattle.core_state.specs.declared.core_refusal.CoreRefusal.TheVariants.{Off}
+
+-- the event that is made by the view `who`, as a step
+abbrev pub event_by : ℕ → Deed → Step
+event_by who d = event who (event_of d)
 
 -- the definitions don't allow the step
 abbrev pub IsOffAt : Setup → State → Step → Type 0
 IsOffAt z c s = (d : State) → Leads z c s d → ⊥
+
+-- a call is refused as off exactly where the definitions don't allow the step
+abbrev pub IsOffOnlyAt : {A : Type 0} → Result A CoreRefusal → Setup → State → Step → Type 0
+IsOffOnlyAt r z c s = IsErrOf r Off ↔ IsOffAt z c s
 
 -- the view `who` may make the event, and knows what it needs of the word
 pub record IsReady (z : Setup) (c : State) (who : ℕ) (e : Event) : Type 0 where

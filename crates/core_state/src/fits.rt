@@ -5,9 +5,9 @@ ghost use Rattle.core_events.specs.Entries.{value_at, all_entries};
 ghost use Rattle.core_events.specs.Conditions.{IsFree, IsPersistedUpTo};
 ghost use Rattle.core_view.specs.Named.{Tells};
 
+use crate::scans::{are_persisted, none_names, value_at};
 use crate::state::State;
 use core_view::setup::Setup;
-use state_lists::scans::{are_persisted, none_names, value_at};
 
 impl State {
     // No entry names the frame.

@@ -4,10 +4,15 @@
 
 mod box_event;
 pub mod core_refusal;
+mod first_lists;
 mod fits;
 mod moves;
+mod parted_views;
 mod partings;
+mod records;
+mod scans;
 mod start;
 pub mod state;
 mod steps;
 mod views;
+mod words;

@@ -1,24 +1,20 @@
 //! A step on one word by one view.
 
-ghost use Rattle.std.specs.Prelude.{◌≡◌, ◌<◌, ◌≤◌, true, slice_index, slice_set, OnOk, OnErr};
-ghost use mathlib.Core.Option.{some};
-ghost use lib.ListN.{get_elem?};
+ghost use Rattle.std.specs.Prelude.{◌≡◌, ◌<◌, ◌≤◌, slice_index, OnOk, OnErr};
 ghost use Rattle.core_events.specs.Views.{View as Seen};
-ghost use Rattle.core_events.specs.Words.{found as found_in};
-ghost use Rattle.core_events.specs.Entries.{value_at, all_entries};
-ghost use Rattle.core_events.specs.Events.{name, word_after, view_after};
-ghost use Rattle.core_events.specs.Conditions.{May, Fits, IsAllowed, IsPersistedUpTo};
+ghost use Rattle.core_events.specs.Events.{word_after};
+ghost use Rattle.core_events.specs.Conditions.{May, Fits, IsAllowed};
 ghost use Rattle.core_view.specs.Named.{Tells, word_of, event_of, of_turn, of_page};
 ghost use Rattle.core_state.specs.Steps.{IsReady, IsMoved};
+ghost use Rattle.core_state.specs.Views.{OfView, IsNameAt, IsFoundAt, HasAdvanced, MayBeDurable, IsReproduced};
 
 use crate::state::State;
-use core_moves::advance;
-use core_steps::{may, name, word_after};
+use crate::words::load;
+use core_steps::{advance, may, name, word_after};
 use core_view::deed::{Deed, PageDeed, TurnDeed};
 use core_view::setup::Setup;
 use core_view::view::View;
 use core_view::word::Word;
-use state_lists::words::load;
 use std::alloc::{AllocError, Global};
 
 impl State {
@@ -72,7 +68,7 @@ impl State {
     }
 
     fn may_be_durable(&self, z: &Setup, value: u64) -> bool
-        ensures { Tells result ((self.now.durable ≤ value) × IsPersistedUpTo z.now self.now.persisted value) }
+        ensures { Tells result (MayBeDurable z.now self.now value) }
     {
         self.durable <= value && self.is_persisted_up_to(z, value)
     }
@@ -109,7 +105,7 @@ impl State {
 
     // This is the value of the home word at the reproduced number.
     fn has_value(&self, z: &Setup, at: u64, value: u64) -> bool
-        ensures { Tells result (z.now.is_told ≡ true → value ≡ value_at z.now.opening (all_entries self.now.views) self.now.reproduced at) }
+        ensures { Tells result (IsReproduced z.now self.now at value) }
     {
         !z.is_told() || value == self.value_at(z, self.reproduced, at)
     }
@@ -136,15 +132,15 @@ impl State {
 
     fn name_of(&self, z: &Setup, who: u64, deed: &Deed) -> Word
         requires { IsReady z.now self.now who (event_of deed.now) }
-        ensures { (v : Seen) → get_elem? self.now.views who ≡ some v → word_of result ≡ name z.now (event_of deed.now) v }
+        ensures { IsNameAt z.now self.now who (event_of deed.now) (word_of result) }
     {
         name(&self.views[who as usize], z, deed)
     }
 
     fn word_after(&self, z: &Setup, who: u64, deed: &Deed, found: u64) -> u64
         requires ready { IsReady z.now self.now who (event_of deed.now) }
-        requires found { (v : Seen) → get_elem? self.now.views who ≡ some v → found ≡ found_in self.now (name z.now (event_of deed.now) v) }
-        ensures { (v : Seen) → get_elem? self.now.views who ≡ some v → result ≡ word_after (event_of deed.now) v found }
+        requires found { IsFoundAt z.now self.now who (event_of deed.now) found }
+        ensures { OfView self.now.views who (λ v. result ≡ word_after (event_of deed.now) v found) }
     {
         word_after(&self.views[who as usize], z, deed, found)
     }
@@ -159,9 +155,9 @@ impl State {
         found: u64,
     ) -> Result<(), AllocError>
         requires ready { IsReady z.now self.old who (event_of deed.now) }
-        requires name { (v : Seen) → get_elem? self.old.views who ≡ some v → word_of word ≡ name z.now (event_of deed.now) v }
-        requires found { (v : Seen) → get_elem? self.old.views who ≡ some v → found ≡ found_in self.old (name z.now (event_of deed.now) v) }
-        ensures ok { OnOk result ((v : Seen) → get_elem? self.old.views who ≡ some v → self.new ≡ record self.old { views = slice_set self.old.views who (view_after z.now (event_of deed.now) v found) }) }
+        requires name { IsNameAt z.now self.old who (event_of deed.now) (word_of word) }
+        requires found { IsFoundAt z.now self.old who (event_of deed.now) found }
+        ensures ok { OnOk result (HasAdvanced z.now self.old who deed.now found self.new) }
         ensures err { OnErr result (self.new ≡ self.old) }
     {
         advance(&mut self.views[who as usize], alloc, z, deed, word, found)?;

@@ -1,16 +1,16 @@
 //! Views that are split and joined, on the state.
 
-ghost use Rattle.std.specs.Prelude.{◌≡◌, ◌↔◌, OnOk, OnErr, IsErrOf};
+ghost use Rattle.std.specs.Prelude.{◌≡◌, OnOk, OnErr};
 ghost use Rattle.core_events.specs.Views.{View as Seen};
 ghost use Rattle.core_events.specs.Partings.{MaySplit, MayJoin, Leads, parting, joining};
 ghost use Rattle.core_events.specs.Kept.{Kept};
 ghost use Rattle.core_view.specs.Named.{Tells};
-ghost use Rattle.core_state.specs.Steps.{IsOffAt};
+ghost use Rattle.core_state.specs.Steps.{IsOffOnlyAt};
 
 use crate::core_refusal::CoreRefusal;
+use crate::parted_views::{join_into, split_off};
 use crate::state::State;
 use core_view::setup::Setup;
-use state_lists::partings::{join_into, split_off};
 use std::alloc::{AllocError, Global};
 
 impl State {
@@ -25,7 +25,7 @@ impl State {
     ) -> Result<(), CoreRefusal>
         ensures ok { OnOk result (Leads z.now self.old (parting who draws) self.new) }
         ensures err { OnErr result (self.new ≡ self.old) }
-        ensures off { IsErrOf result CoreRefusal.Off ↔ IsOffAt z.now self.old (parting who draws) }
+        ensures off { IsOffOnlyAt result z.now self.old (parting who draws) }
     {
         if !self.may_split(who, draws) {
             return Err(CoreRefusal::Off);
@@ -48,7 +48,7 @@ impl State {
         requires { Kept z.now self.old }
         ensures ok { OnOk result (Leads z.now self.old (joining who other) self.new) }
         ensures err { OnErr result (self.new ≡ self.old) }
-        ensures off { IsErrOf result CoreRefusal.Off ↔ IsOffAt z.now self.old (joining who other) }
+        ensures off { IsOffOnlyAt result z.now self.old (joining who other) }
     {
         if !self.may_join(who, other) {
             return Err(CoreRefusal::Off);

@@ -4,9 +4,9 @@ ghost use Rattle.std.specs.Prelude.{◌≡◌, IfOk};
 ghost use Rattle.core_events.specs.Setups.{IsSetup};
 ghost use Rattle.core_events.specs.Partings.{start};
 
+use crate::first_lists::{empty_records, first_cells, first_entries, first_views};
 use crate::state::State;
 use core_view::setup::Setup;
-use state_lists::start::{empty_records, first_cells, first_entries, first_views};
 use std::alloc::{AllocError, Global};
 
 impl State {

@@ -4,10 +4,10 @@ ghost use Rattle.std.specs.Prelude.{◌≡◌, slice_index_or};
 ghost use Rattle.core_events.specs.Words.{found, put};
 ghost use Rattle.core_view.specs.Named.{word_of};
 
+use crate::words::{load, store};
 use core_view::view::View;
 use core_view::word::Word;
 use dude_base::redo::Redo;
-use state_lists::words::{load, store};
 use std::marker::Model;
 
 /// The state of the machine: its words, its views, and the records in boxes and behind them.

@@ -1,23 +1,24 @@
 //! Events and partings of views, on the state.
 
-ghost use Rattle.std.specs.Prelude.{◌≡◌, ◌↔◌, ◌∷◌, ◌<◌, slice_index_or, slice_set, OnOk, OnErr, IsErrOf};
+ghost use Rattle.std.specs.Prelude.{◌≡◌, slice_index_or, slice_set, OnOk, OnErr};
 ghost use mathlib.Core.Option.{some};
 ghost use lib.ListN.{get_elem?};
 ghost use Rattle.core_events.specs.Views.{View as Seen};
-ghost use Rattle.core_events.specs.Events.{next_box, thread_of};
+ghost use Rattle.core_events.specs.Events.{next_box};
 ghost use Rattle.core_events.specs.Conditions.{IsAllowed, record_of, no_record};
-ghost use Rattle.core_events.specs.Partings.{Leads, event as step_event};
+ghost use Rattle.core_events.specs.Partings.{Leads};
 ghost use Rattle.core_events.specs.Kept.{Kept};
 ghost use Rattle.core_view.specs.Named.{event_of};
-ghost use Rattle.core_state.specs.Steps.{IsOffAt};
+ghost use Rattle.core_state.specs.Steps.{IsOffOnlyAt, event_by};
+ghost use Rattle.core_state.specs.Views.{OfView, HasBoxInside, persisted_from, HasForgotten};
 
 use crate::box_event::BoxEvent;
 use crate::core_refusal::CoreRefusal;
+use crate::records::record_at;
 use crate::state::State;
 use core_view::deed::Deed;
 use core_view::setup::Setup;
 use dude_base::redo::Redo;
-use state_lists::records::record_at;
 use std::alloc::{AllocError, Global};
 
 impl State {
@@ -31,9 +32,9 @@ impl State {
         deed: &Deed,
     ) -> Result<(), CoreRefusal>
         requires { Kept z.now self.old }
-        ensures ok { OnOk result (Leads z.now self.old (step_event who (event_of deed.now)) self.new) }
+        ensures ok { OnOk result (Leads z.now self.old (event_by who deed.now) self.new) }
         ensures err { OnErr result (self.new ≡ self.old) }
-        ensures off { IsErrOf result CoreRefusal.Off ↔ IsOffAt z.now self.old (step_event who (event_of deed.now)) }
+        ensures off { IsOffOnlyAt result z.now self.old (event_by who deed.now) }
     {
         if !self.allows(z, who, deed) {
             return Err(CoreRefusal::Off);
@@ -53,7 +54,7 @@ impl State {
     ) -> Result<(), AllocError>
         requires kept { Kept z.now self.old }
         requires allowed { (v : Seen) × IsAllowed z.now self.old who (event_of deed.now) v }
-        ensures ok { OnOk result (Leads z.now self.old (step_event who (event_of deed.now)) self.new) }
+        ensures ok { OnOk result (Leads z.now self.old (event_by who deed.now) self.new) }
         ensures err { OnErr result (self.new ≡ self.old) }
     {
         match BoxEvent::of(deed) {
@@ -88,15 +89,15 @@ impl State {
     // The record of the number that the view drew.
     fn record_of(&self, who: u64) -> Redo
         requires { (v : Seen) × (get_elem? self.now.views who ≡ some v) }
-        ensures { (v : Seen) → get_elem? self.now.views who ≡ some v → result ≡ record_of v.tx.hand }
+        ensures { OfView self.now.views who (λ v. result ≡ record_of v.tx.hand) }
     {
         self.views[who as usize].record()
     }
 
     fn next_box_of(&self, z: &Setup, who: u64) -> u64
         requires there { (v : Seen) × (get_elem? self.now.views who ≡ some v) }
-        requires inside { (v : Seen) → get_elem? self.now.views who ≡ some v → (thread_of v < z.now.threads) × (v.box.next < z.now.boxes) }
-        ensures { (v : Seen) → get_elem? self.now.views who ≡ some v → result ≡ next_box z.now v }
+        requires inside { OfView self.now.views who (λ v. HasBoxInside z.now v) }
+        ensures { OfView self.now.views who (λ v. result ≡ next_box z.now v) }
     {
         self.views[who as usize].next_box(z)
     }
@@ -111,7 +112,7 @@ impl State {
 
     // The record of the box joins those that left their boxes.
     fn persist(&mut self, at: u64) -> Result<(), AllocError>
-        ensures ok { OnOk result (self.new ≡ record self.old { persisted = slice_index_or self.old.records at no_record ∷ self.old.persisted }) }
+        ensures ok { OnOk result (self.new ≡ persisted_from self.old at) }
         ensures err { OnErr result (self.new ≡ self.old) }
     {
         let record = self.record_at(at);
@@ -127,7 +128,7 @@ impl State {
 
     // The last record that left its box is forgotten.
     fn forget_last(&mut self)
-        ensures { (r : _) (rs : _) → self.old.persisted ≡ r ∷ rs → self.new ≡ record self.old { persisted = rs } }
+        ensures { HasForgotten self.old self.new }
     {
         if !self.persisted.is_empty() {
             self.persisted.remove(0);

@@ -10,7 +10,7 @@ use Rattle.core_events.specs.Views.{View}
 use Rattle.core_events.specs.Setups.{Setup, page_of, lock_of}
 use Rattle.core_events.specs.Conditions.{Owns, Pins}
 use Rattle.core_view.proofs.Walks.{AllBelow, all_told, get_of}
-use Rattle.core_steps.specs.Held.{HoldsAll}
+use Rattle.core_steps.specs.Held.{Holds, HoldsAll}
 
 pub written_one : (ws : List Write) (i x : ℕ) → written ws i ≡ Some x → (j : ℕ) × (w : Write) × (j < length ws) × (slice_get ws j ≡ Some w) × (w.at ≡ i)
 written_one [] i x e = absurd (cc)
@@ -32,17 +32,14 @@ pub not_written : (P : ℕ → Type 0) (ws : List Write) (k : ℕ) (w : Write) �
 not_written P ws k w at never all = let r = one_written ws k w at in never (all w.at r.0 r.1)
 
 module _ (z : Setup) (v : View) where
-  abbrev pub Holds : Write → Type 0
-  Holds w = (w.at < z.pages * PAGE) × Owns v (lock_of z w.at) × Pins v (page_of w.at)
-
-  pub holds_told : (ws : List Write) (k : ℕ) → length ws ≤ k → AllBelow Holds ws k → HoldsAll z v ws
+  pub holds_told : (ws : List Write) (k : ℕ) → length ws ≤ k → AllBelow (Holds z v) ws k → HoldsAll z v ws
   holds_told ws k le below = record {
     inside = all_told (λ (w : Write). w.at < z.pages * PAGE) ws k le (λ j w lt e. (below j w lt e).0);
     owned = told_written (λ (i : ℕ). Owns v (lock_of z i)) ws k le (λ j w lt e. (below j w lt e).1);
     pinned = told_written (λ (i : ℕ). Pins v (page_of i)) ws k le (λ j w lt e. (below j w lt e).2);
   }
 
-  pub not_held : (ws : List Write) (k : ℕ) (w : Write) → k < length ws → slice_get ws k ≡ Some w → (Holds w → ⊥) → HoldsAll z v ws → ⊥
+  pub not_held : (ws : List Write) (k : ℕ) (w : Write) → k < length ws → slice_get ws k ≡ Some w → (Holds z v w → ⊥) → HoldsAll z v ws → ⊥
   not_held ws k w lt at never h =
       let is : get_or ws k w ≡ w = (let r = get_of ws k w lt in cc) in
       let r = one_written ws k w at in

@@ -3,7 +3,7 @@
 ghost use Rattle.core_events.specs.Events.{entry, pin, unpin, touch, load_touch, evict, fill, show};
 ghost use Rattle.core_events.specs.Conditions.{May, IsStoredAndTouched};
 ghost use Rattle.core_view.specs.Named.{Tells, of_page};
-ghost use Rattle.core_steps.specs.Held.{IsSettledIn};
+ghost use Rattle.core_steps.specs.Held.{HasSettledIn};
 
 use crate::scans::{settled_in, writes_in};
 use core_view::deed::PageDeed;
@@ -67,7 +67,7 @@ fn is_done_with(view: &View, page: u64) -> bool
 }
 
 fn has_settled_in(view: &View, page: u64) -> bool
-    ensures { Tells result (IsSettledIn view.now.tx.hand.writes view.now.tx.hand.stored view.now.paging.touched page) }
+    ensures { Tells result (HasSettledIn view.now page) }
 {
     let hand = &view.tx.hand;
     settled_in(&hand.writes, &hand.stored, &view.paging.touched, page)

@@ -5,6 +5,7 @@ ghost use Rattle.core_events.specs.Setups.{page_of};
 ghost use Rattle.core_events.specs.Events.{entry, pin, load_touch, evict, fill, show, name, view_after};
 ghost use Rattle.core_events.specs.Conditions.{May};
 ghost use Rattle.core_view.specs.Named.{word_of, of_page};
+ghost use Rattle.core_steps.specs.Moves.{Becomes};
 
 use core_view::deed::PageDeed;
 use core_view::setup::{Setup, frame_in};
@@ -13,7 +14,7 @@ use core_view::word::Word;
 use std::alloc::AllocError;
 
 /// Makes an event of a page or of a frame, where it found this in its word.
-pub fn page(
+pub(crate) fn page(
     view: &mut View,
     z: &Setup,
     deed: &PageDeed,
@@ -105,7 +106,7 @@ fn fill(
     found: u64,
 ) -> Result<(), AllocError>
     requires { page_of at ≡ page }
-    ensures ok { OnOk result (view.new ≡ view_after z.now (fill page frame at value) view.old found) }
+    ensures ok { OnOk result (Becomes z.now (fill page frame at value) view.old found view.new) }
     ensures err { OnErr result (view.new ≡ view.old) }
 {
     view.turn.filled.fill(page, frame, at)

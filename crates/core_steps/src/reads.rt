@@ -1,10 +1,9 @@
 //! Where a view allows the events of a transaction that reads.
 
-ghost use Rattle.std.specs.Prelude.{◌≡◌, ℕ, Some};
-ghost use Rattle.core_events.specs.Setups.{lock_of};
 ghost use Rattle.core_events.specs.Events.{number, begin, extend, look, load, check, finish};
 ghost use Rattle.core_events.specs.Conditions.{May, IsRecheck};
 ghost use Rattle.core_view.specs.Named.{Tells, of_read};
+ghost use Rattle.core_steps.specs.Held.{WaitsFor};
 
 use core_view::deed::ReadDeed;
 use core_view::setup::Setup;
@@ -68,7 +67,7 @@ fn may_check(view: &View, z: &Setup, lock: u64) -> bool
 
 // A value waits for the second look at this lock.
 fn waits_for(view: &View, z: &Setup, lock: u64) -> bool
-    ensures { Tells result ((i : ℕ) × (x : ℕ) × (view.now.tx.loaded ≡ Some (i, x)) × (lock ≡ lock_of z.now i)) }
+    ensures { Tells result (WaitsFor z.now view.now.tx lock) }
 {
     match view.tx.loaded {
         Some((at, _)) => lock == z.lock_of(at),

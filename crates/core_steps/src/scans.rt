@@ -1,11 +1,10 @@
 //! Scans over the writes of a number.
 
-ghost use Rattle.std.specs.Prelude.{◌≡◌, ℕ, true, Some};
-ghost use Rattle.dude_base.specs.Writes.{written};
-ghost use Rattle.core_events.specs.Setups.{lock_of, page_of};
+ghost use Rattle.std.specs.Prelude.{◌≡◌, true};
+ghost use Rattle.core_events.specs.Setups.{lock_of};
 ghost use Rattle.core_events.specs.Keyed.{has};
 ghost use Rattle.core_view.specs.Named.{Tells};
-ghost use Rattle.core_steps.specs.Held.{IsStoredUnder, IsSettledIn};
+ghost use Rattle.core_steps.specs.Held.{IsStoredUnder, IsSettledAt, IsSettledIn, WritesIn};
 
 use core_view::numbers::Numbers;
 use core_view::setup::Setup;
@@ -43,14 +42,14 @@ pub(crate) fn settled_in(writes: &WriteList, stored: &Numbers, touched: &Numbers
 }
 
 fn is_settled(at: u64, stored: &Numbers, touched: &Numbers, page: u64) -> bool
-    ensures { Tells result (page_of at ≡ page → (has stored.now at ≡ true) × (has touched.now page ≡ true)) }
+    ensures { Tells result (IsSettledAt stored.now touched.now page at) }
 {
     at / PAGE != page || (stored.has(at) && touched.has(page))
 }
 
 /// Whether a word of the page is written.
 pub(crate) fn writes_in(writes: &WriteList, page: u64) -> bool
-    ensures { Tells result ((i : ℕ) × ((x : ℕ) × (written writes.now i ≡ Some x)) × (page_of i ≡ page)) }
+    ensures { Tells result (WritesIn writes.now page) }
 {
     for k in 0..writes.len() {
         if writes.get(k).at / PAGE == page {

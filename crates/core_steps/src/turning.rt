@@ -18,7 +18,7 @@ use tatp_model::reply::Reply;
 use tatp_model::request::Request;
 
 /// Makes an event of a box or of the turn, where it found this in its word.
-pub fn turn(
+pub(crate) fn turn(
     view: &mut View,
     z: &Setup,
     deed: &TurnDeed,
@@ -34,7 +34,7 @@ pub fn turn(
     ensures err { OnErr result (view.new ≡ view.old) }
 {
     match deed {
-        TurnDeed::SeeBox => see_box(view, word, found),
+        TurnDeed::SeeBox => see_box(view, z, word, found),
         TurnDeed::Post => post(view, z, found),
         TurnDeed::TakeTurn => take_turn(view, z, found),
         TurnDeed::GiveTurn { failed } => give_turn(view, z, *failed, found),
@@ -50,9 +50,10 @@ pub fn turn(
     Ok(())
 }
 
-fn see_box(view: &mut View, word: Word, found: u64)
-    requires { view.old.count < 2 ^ 64 - 1 }
-    ensures { (z : _) → word_of word ≡ name z see_box view.old → view.new ≡ view_after z see_box view.old found }
+fn see_box(view: &mut View, z: &Setup, word: Word, found: u64)
+    requires room { view.old.count < 2 ^ 64 - 1 }
+    requires name { word_of word ≡ name z.now see_box view.old }
+    ensures { view.new ≡ view_after z.now see_box view.old found }
 {
     view.drop_transaction();
     view.boxes.is_empty = found == 0;

@@ -1,12 +1,12 @@
 //! What an event of a view makes of the word that it finds.
 
-ghost use Rattle.std.specs.Prelude.{◌≡◌, ◌==◌, ◌*◌, ◌<◌, ◌≤◌};
+ghost use Rattle.std.specs.Prelude.{◌≡◌, ◌*◌, ◌<◌, ◌≤◌};
 ghost use Rattle.dude_base.specs.declared.limits.TheConstants.{MAX_NUMBER};
-ghost use Rattle.core_events.specs.Events.{take_turn, pin, evict, word_after, thread_of, own_word, looked_word};
-ghost use prog.Atomic.{either};
+ghost use Rattle.core_events.specs.Events.{take_turn, pin, evict, word_after, thread_of};
 ghost use Rattle.core_events.specs.Conditions.{May};
 ghost use Rattle.core_events.specs.Telling.{IsSeated, WordTold, EntryTold};
 ghost use Rattle.core_view.specs.Named.{event_of, of_read, of_write, of_turn, of_page};
+ghost use Rattle.core_steps.specs.Moves.{word_taken};
 
 use core_view::deed::{Deed, PageDeed, ReadDeed, TurnDeed, WriteDeed};
 use core_view::setup::Setup;
@@ -64,7 +64,7 @@ fn after_write(view: &View, z: &Setup, deed: &WriteDeed, found: u64) -> u64
 
 fn taken_word(view: &View, z: &Setup, found: u64) -> u64
     requires { thread_of view.now < z.now.threads }
-    ensures { result ≡ either (found == looked_word view.now.tx.look) (own_word view.now.part.thread) found }
+    ensures { result ≡ word_taken view.now found }
 {
     let _limits = z.threads();
     if found == view.looked_word() {

@@ -1,12 +1,9 @@
 //! Where a view allows the events of a transaction that writes.
 
-ghost use Rattle.std.specs.Prelude.{◌*◌, ◌<◌};
-ghost use Rattle.dude_base.specs.declared.limits.TheConstants.{PAGE as PAGE_WORDS};
-ghost use Rattle.core_events.specs.Setups.{lock_of, page_of};
 ghost use Rattle.core_events.specs.Events.{take, draw, decide, store, release, restore};
-ghost use Rattle.core_events.specs.Conditions.{May, Owns, Pins};
+ghost use Rattle.core_events.specs.Conditions.{May};
 ghost use Rattle.core_view.specs.Named.{Tells, of_write};
-ghost use Rattle.core_steps.specs.Held.{HoldsAll, IsStoredUnder};
+ghost use Rattle.core_steps.specs.Held.{Holds, HoldsAll, HasStoredUnder};
 
 use crate::scans::stored_under;
 use core_view::deed::WriteDeed;
@@ -60,7 +57,7 @@ fn holds_all(view: &View, z: &Setup, writes: &WriteList) -> bool
 }
 
 fn holds(view: &View, z: &Setup, w: Write) -> bool
-    ensures { Tells result ((w.at < z.now.pages * PAGE_WORDS) × Owns view.now (lock_of z.now w.at) × Pins view.now (page_of w.at)) }
+    ensures { Tells result (Holds z.now view.now w) }
 {
     w.at < z.pages() * PAGE && view.owns(z.lock_of(w.at)) && view.pins(w.at / PAGE)
 }
@@ -93,7 +90,7 @@ fn may_release(view: &View, z: &Setup, lock: u64) -> bool
 }
 
 fn has_stored_under(view: &View, z: &Setup, lock: u64) -> bool
-    ensures { Tells result (IsStoredUnder z.now view.now.tx.hand.writes view.now.tx.hand.stored lock) }
+    ensures { Tells result (HasStoredUnder z.now view.now lock) }
 {
     stored_under(&view.tx.hand.writes, &view.tx.hand.stored, z, lock)
 }

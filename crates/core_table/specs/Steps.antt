@@ -1,12 +1,19 @@
 -- What a step asks of its seat, and what it tells.
-use Rattle.std.specs.Prelude.{◌≡◌, ℕ, ◌∷◌}
-use Rattle.atomic_table.specs.Table.{Me}
+use Rattle.std.specs.Prelude.{◌≡◌, ℕ, ◌+◌, ◌-◌, ◌^◌, ◌<◌, ◌≤◌, List, [], ◌∷◌}
+use mathlib.Core.Option.{Option}
+use Rattle.atomic_table.specs.Table.{Me, Final, Seen}
 use Rattle.atomic_table.specs.declared.shared.Seat.{Seat}
 use Rattle.core_events.specs.Setups.{Setup}
-use Rattle.core_events.specs.Events.{Event}
+use Rattle.core_events.specs.Words.{State}
+use Rattle.core_events.specs.Events.{Event, name, word_after, view_after}
+use Rattle.core_events.specs.Conditions.{May}
+use Rattle.core_events.specs.Partings.{newcomer}
 use Rattle.core_events.specs.Telling.{IsSeated, IsTold}
 use Rattle.core_table.specs.Known.{Known, known_after}
 use Rattle.core_table.specs.Layout.{TableSight, IsSmall}
+use Rattle.core_table.specs.Places.{index, count}
+use Rattle.core_table.specs.Rules.{Holds, Outlasts, Foreseen}
+use Rattle.core_table.specs.Seats.{opener}
 
 -- ---- what a `Play` says
 module _ {S X : Type 0} where
@@ -25,6 +32,41 @@ pub record BelongsTo {S X : Type 0} (t : TableSight) (s : Seat S (Known X)) : Ty
   pub small : IsSmall t.setup
   pub seated : IsSeated t.setup s.me.0.view
 
+-- The seat may make the event: it is of this table, its view allows the event, and the fact of the slots outlasts it
+pub record MayStep {S X : Type 0} (slot_fact : Setup → State → List X → List (Option S) → Type 0) (t : TableSight) (e : Event) (s : Seat S (Known X)) : Type 0 where
+  pub seat : BelongsTo t s
+  pub may : May t.setup e s.me.0.view
+  pub slots : Outlasts slot_fact t.setup e
+
+-- whatever the table is while the seat knows this, the state has what the event asks of it beside the view
+abbrev pub IsForeseen : {S X : Type 0} → (Setup → State → List X → List (Option S) → Type 0) → TableSight → Event → Seat S (Known X) → Type 0
+IsForeseen slot_fact t e s = Foreseen slot_fact t.setup e s.id s.me.0
+
+module _ {S X : Type 0} (t : TableSight) (e : Event) (s : Seat S (Known X)) where
+  -- the place of the word that the event of the seat is a step on
+  abbrev pub place_at : ℕ
+  place_at = index t.setup (name t.setup e s.me.0.view)
+
+  -- whatever number the event may find in its word, this becomes of it
+  abbrev pub WordBecomes : (ℕ → ℕ) → Type 0
+  WordBecomes f = (n : ℕ) → IsTold t.setup e s.me.0.view n → word_after e s.me.0.view n ≡ f n
+
+  -- it becomes greater by so much, and is still a number of 64 bits
+  abbrev pub WordRises : ℕ → Type 0
+  WordRises more = (n : ℕ) → IsTold t.setup e s.me.0.view n → (word_after e s.me.0.view n ≡ n + more) × (n + more < 2 ^ 64)
+
+  -- it becomes less by so much, and had as much
+  abbrev pub WordFalls : ℕ → Type 0
+  WordFalls less = (n : ℕ) → IsTold t.setup e s.me.0.view n → (word_after e s.me.0.view n ≡ n - less) × (0 < less) × (less ≤ n)
+
+  -- what becomes of the view is the same whatever number was found
+  abbrev pub IsBlind : Type 0
+  IsBlind = (n : ℕ) → view_after t.setup e s.me.0.view n ≡ view_after t.setup e s.me.0.view 0
+
+  -- the view of the seat is as after the event, which found the number n
+  abbrev pub IsAfter : Seat S (Known X) → ℕ → Type 0
+  IsAfter new n = new.me.0.view ≡ view_after t.setup e s.me.0.view n
+
 -- The seat made the event, and keeps its number, what it has beside its view, and its slots
 pub record HasMade {S X : Type 0} (t : TableSight) (e : Event) (old new : Seat S (Known X)) : Type 0 where
   pub belongs : BelongsTo t new
@@ -37,3 +79,25 @@ pub record HasMade {S X : Type 0} (t : TableSight) (e : Event) (old new : Seat S
 pub record HasFound {S X : Type 0} (t : TableSight) (e : Event) (old new : Seat S (Known X)) (n : ℕ) : Type 0 where
   pub made : HasMade t e old new
   pub told : IsTold t.setup e old.me.0.view n
+
+-- ---- seats that are made, split and joined, and a table that ends
+module _ {S X : Type 0} (x : X) (t : TableSight) where
+  -- the table of this setup at its start, and its first seat, which has x beside its view
+  abbrev pub IsOpened : Setup → Seat S (Known X) → Type 0
+  IsOpened z s = (t.setup ≡ z) × BelongsTo t s × (s.me ≡ (record { view = opener z; beside = x; made = [] }, []))
+
+  -- a seat that was split off with so many draws, and has x beside its view
+  abbrev pub IsSplitOff : ℕ → Seat S (Known X) → Type 0
+  IsSplitOff draws s = BelongsTo t s × (s.me ≡ (record { view = newcomer t.setup 0 draws; beside = x; made = [] }, []))
+
+-- the seat is of this table, has kept its number and its slots, and knows this
+abbrev pub NowKnows : {S X : Type 0} → TableSight → Seat S (Known X) → Seat S (Known X) → Known X → Type 0
+NowKnows t old new k = BelongsTo t new × (new.id ≡ old.id) × (new.me ≡ (k, old.me.1))
+
+-- a table that ends has so many words and slots
+abbrev pub HasCounts : TableSight → ℕ → ℕ → Type 0
+HasCounts t words slots = (words ≡ count t.setup) × (slots ≡ t.id.slots)
+
+-- the words and slots of a table that ended are those of a state that keeps the rule, in which the seat knew what it knows
+abbrev pub EndsWith : {S X : Type 0} → (Setup → State → List X → List (Option S) → Type 0) → TableSight → Seat S (Known X) → List ℕ → List S → Type 0
+EndsWith slot_fact t s words slots = Final (Seen (Holds slot_fact t.setup) s.id s.me.0) words slots

@@ -1,11 +1,7 @@
 //! A table that no thread shares any more.
 
-ghost use Rattle.std.specs.Prelude.{◌≡◌};
 ghost use Rattle.std.specs.Mem.Slots.{slots_items, slots_len, IsFull};
-ghost use Rattle.atomic_table.specs.Table.{Final, Seen};
-ghost use Rattle.core_table.specs.Places.{count};
-ghost use Rattle.core_table.specs.Rules.{Holds};
-ghost use Rattle.core_table.specs.Steps.{BelongsTo};
+ghost use Rattle.core_table.specs.Steps.{BelongsTo, HasCounts, EndsWith};
 
 use crate::event_table::{EventTable, Seat};
 use crate::slot_rule::SlotRule;
@@ -17,8 +13,10 @@ impl<S, X, P: SlotRule<S, X>> EventTable<S, X, P> {
     /// rule, in which the seat knows what it knows.
     pub fn close(self, seat: Seat<S, X>) -> Closed<S, Global>
         requires { BelongsTo self seat }
-        ensures counts { (slots_len result.words ≡ count self.setup) × (slots_len result.slots ≡ self.id.slots) }
-        ensures values { IsFull result.words × IsFull result.slots × Final (Seen (Holds P.fact self.setup) seat.id seat.me.0) (slots_items result.words) (slots_items result.slots) }
+        ensures counts { HasCounts self (slots_len result.words) (slots_len result.slots) }
+        ensures full { IsFull result.words × IsFull result.slots }
+        ensures values { EndsWith P.fact self seat
+            (slots_items result.words) (slots_items result.slots) }
     {
         let EventTable {
             table,

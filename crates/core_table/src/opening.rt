@@ -5,8 +5,7 @@ ghost use mathlib.Core.Option.{some};
 ghost use Rattle.core_events.specs.Setups.{IsSetup, entry_with};
 ghost use Rattle.core_events.specs.Partings.{first_entries, start};
 ghost use Rattle.core_table.specs.Places.{flat};
-ghost use Rattle.core_table.specs.Seats.{opener};
-ghost use Rattle.core_table.specs.Steps.{BelongsTo};
+ghost use Rattle.core_table.specs.Steps.{IsOpened};
 
 use crate::event_table::{EventTable, Seat};
 use crate::places::ENTRY;
@@ -27,7 +26,7 @@ impl<S, X, P: SlotRule<S, X>> EventTable<S, X, P> {
         requires setup { IsSetup terms.now }
         requires pages { terms.now.pages ≤ 2 ^ 32 }
         requires slots { P.fact terms.now (start terms.now) (P.beside ∷ []) (map some slots.items) }
-        ensures ok { IfOk result (λ r. (r.0.setup ≡ terms.now) × BelongsTo r.0 r.1 × (r.1.me ≡ (record { view = opener terms.now; beside = P.beside; made = [] }, []))) }
+        ensures ok { IfOk result (λ r. IsOpened P.beside r.0 terms.now r.1) }
         ensures err { IfErr result (λ r. r.slots.items ≡ slots.items) }
     {
         let Ok(words) = start_words(alloc, terms) else {

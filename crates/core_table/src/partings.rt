@@ -1,10 +1,9 @@
 //! A seat is split in two, and two seats are joined.
 
 ghost use Rattle.std.specs.Prelude.{◌≡◌, []};
-ghost use Rattle.core_events.specs.Partings.{newcomer};
 ghost use Rattle.core_table.specs.Rules.{OutlastsSplit, OutlastsJoin};
 ghost use Rattle.core_table.specs.Seats.{CanSplit, CanJoin, known_left, known_both};
-ghost use Rattle.core_table.specs.Steps.{BelongsTo};
+ghost use Rattle.core_table.specs.Steps.{BelongsTo, IsSplitOff, NowKnows};
 
 use crate::cut::Cut;
 use crate::event_table::{EventTable, Seat};
@@ -18,8 +17,8 @@ impl<S, X, P: SlotRule<S, X>> EventTable<S, X, P> {
         requires seat { BelongsTo self.now seat.old }
         requires can { CanSplit seat.old.me.0.view C.draws }
         requires slots { OutlastsSplit P.fact self.now.setup C.draws P.beside }
-        ensures seat { BelongsTo self.now seat.new × (seat.new.id ≡ seat.old.id) × (seat.new.me ≡ (known_left C.draws seat.old.me.0, seat.old.me.1)) }
-        ensures other { BelongsTo self.now result × (result.me ≡ (record { view = newcomer self.now.setup 0 C.draws; beside = P.beside; made = [] }, [])) }
+        ensures seat { NowKnows self.now seat.old seat.new (known_left C.draws seat.old.me.0) }
+        ensures other { IsSplitOff P.beside self.now C.draws result }
     {
         self.table.shared.split_seat::<Splits<S, P, C>>(seat)
     }
@@ -31,7 +30,7 @@ impl<S, X, P: SlotRule<S, X>> EventTable<S, X, P> {
         requires other { BelongsTo self.now other × (other.me.1 ≡ []) }
         requires can { CanJoin seat.old.me.0.view other.me.0.view }
         requires slots { OutlastsJoin P.fact self.now.setup P.beside }
-        ensures { BelongsTo self.now seat.new × (seat.new.id ≡ seat.old.id) × (seat.new.me ≡ (known_both seat.old.me.0 other.me.0, seat.old.me.1)) }
+        ensures { NowKnows self.now seat.old seat.new (known_both seat.old.me.0 other.me.0) }
     {
         self.table.shared.join_seat::<Joins<S, P, C>>(seat, other)
     }

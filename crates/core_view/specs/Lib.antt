@@ -1,2 +1,5 @@
 pub mod SetupKept
 pub mod Named
+pub mod RunSetups
+pub mod Partings
+pub mod Values

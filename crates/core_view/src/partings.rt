@@ -1,10 +1,10 @@
 //! Views that are made, split and joined.
 
 ghost use Rattle.std.specs.Prelude.{◌≡◌, ◌+◌, ◌<◌, ◌≤◌, ◌^◌, ◌++◌, false, OnOk, OnErr, IfOk};
-ghost use Rattle.core_events.specs.Events.{next_box};
-ghost use Rattle.core_events.specs.Conditions.{IsIdle, record_of};
-ghost use Rattle.core_events.specs.Partings.{newcomer, spent, left_of, both_of, both_parts, thread_list};
+ghost use Rattle.core_events.specs.Conditions.{record_of};
+ghost use Rattle.core_events.specs.Partings.{newcomer, spent, left_of, both_of};
 ghost use Rattle.core_view.specs.Named.{Tells};
+ghost use Rattle.core_view.specs.Partings.{HasLeft, IsDone, ended_in};
 
 use crate::about::About;
 use crate::boxes::Boxes;
@@ -73,7 +73,7 @@ impl View {
 
     /// Whether so many draws, and a split, are left.
     pub fn may_split(&self, draws: u64) -> bool
-        ensures { Tells result ((self.now.part.is_spent ≡ false) × (0 < self.now.part.splits) × (draws ≤ self.now.draws)) }
+        ensures { Tells result (HasLeft self.now draws) }
     {
         !self.part.is_spent && 0 < self.part.splits && draws <= self.draws
     }
@@ -95,7 +95,7 @@ impl View {
 
     /// Whether the view may be joined into another.
     pub fn may_be_joined(&self) -> bool
-        ensures { Tells result ((self.now.part.is_spent ≡ false) × IsIdle self.now × (self.now.turn.has_it ≡ false)) }
+        ensures { Tells result (IsDone self.now) }
     {
         !self.part.is_spent && self.is_idle() && !self.turn.has_it
     }
@@ -129,7 +129,7 @@ impl View {
 impl Part {
     // The ended threads of both, with the thread of the other.
     fn ended_with(&self, alloc: Global, other: &Part) -> Result<Numbers, AllocError>
-        ensures { IfOk result (λ ended. ended ≡ self.now.ended ++ (thread_list other.now.thread ++ other.now.ended)) }
+        ensures { IfOk result (λ ended. ended ≡ ended_in self.now other.now) }
     {
         let mut ended = self.ended.copy(alloc)?;
         if let Some(thread) = other.thread {

@@ -7,6 +7,7 @@ ghost use Rattle.dude_base.specs.Sizes.{IsFrom};
 ghost use Rattle.core_events.specs.Setups.{IsSetup, lock_of, cell_of, box_of, entry_with, frame_in, without_pins};
 ghost use Rattle.core_events.specs.Events.{place_behind};
 ghost use Rattle.core_view.specs.Named.{Tells};
+ghost use Rattle.core_view.specs.RunSetups.{setup_of};
 
 use dude_base::limits::{MAX_BOXES, MAX_LOCKS, MAX_RINGS, MIN_FRAMES, PAGE};
 use dude_base::run::Run;
@@ -47,7 +48,8 @@ impl Setup {
         requires pages { pages ≤ 2 ^ 32 }
         requires words { length words.items ≡ pages * PAGE_WORDS }
         requires number { number ≤ MAX_NUMBER }
-        ensures some { IfSome result (λ z. IsSetup z × (z ≡ record { threads = threads; locks = run.now.locks; pages = pages; frames = run.now.frames; boxes = run.now.boxes; opening = words.items; first = number; is_told = true; may_fail = false })) }
+        ensures some { IfSome result (λ z. z ≡ setup_of words.items pages run.now threads number) }
+        ensures within { IfSome result (λ z. IsSetup z) }
         ensures none { IfNone result (IsFrom 1 MAX_RINGS threads × IsRunWithin pages run.now → ⊥) }
     {
         if !is_run_within(pages, run) || threads < 1 || MAX_RINGS < threads {

@@ -1,10 +1,7 @@
 //! What the entries of a view say of numbers and their writes.
 
-ghost use Rattle.std.specs.Prelude.{◌≡◌, ◌⊎◌, ◌<◌, ◌≤◌, ℕ, List, ◌++◌, true, IfSome, IfNone};
-ghost use Rattle.std.specs.List.{Contains};
-ghost use Rattle.dude_base.specs.Writes.{written};
-ghost use Rattle.core_events.specs.Views.{Entry as Left};
-ghost use Rattle.core_events.specs.Entries.{writes_of};
+ghost use Rattle.std.specs.Prelude.{◌≤◌, IfSome, IfNone};
+ghost use Rattle.core_view.specs.Values.{NoneWrote, IsNoneOrWrote, Wrote, WroteNone};
 
 use crate::entry::Entry;
 use crate::view::View;
@@ -13,8 +10,8 @@ impl View {
     /// The greatest number up to `most` with which one of the entries wrote; 0 where none did.
     pub fn last_number(&self, most: u64) -> u64
         ensures upto { result ≤ most }
-        ensures last { (n : ℕ) (es : List Left) → result < n → n ≤ most → writes_of (self.now.entries ++ es) n ≡ writes_of es n }
-        ensures wrote { (result ≡ 0) ⊎ ((e : Left) × Contains self.now.entries e × (e.wrote ≡ true) × (e.number ≡ result)) }
+        ensures last { NoneWrote self.now.entries result most }
+        ensures wrote { IsNoneOrWrote self.now.entries result }
     {
         last_number(&self.entries, most)
     }
@@ -22,8 +19,8 @@ impl View {
     /// What the entry that wrote with this number put into the home word, if it did; `None` where
     /// no entry here wrote with it.
     pub fn written_with(&self, number: u64, at: u64) -> Option<Option<u64>>
-        ensures some { IfSome result (λ x. (es : List Left) → x ≡ written (writes_of (self.now.entries ++ es) number) at) }
-        ensures none { IfNone result ((es : List Left) → writes_of (self.now.entries ++ es) number ≡ writes_of es number) }
+        ensures some { IfSome result (λ x. Wrote self.now.entries number at x) }
+        ensures none { IfNone result (WroteNone self.now.entries number) }
     {
         written_with(&self.entries, number, at)
     }
@@ -31,8 +28,8 @@ impl View {
 
 fn last_number(entries: &Vec<Entry>, most: u64) -> u64
     ensures upto { result ≤ most }
-    ensures last { (n : ℕ) (es : List Left) → result < n → n ≤ most → writes_of (entries.now.items ++ es) n ≡ writes_of es n }
-    ensures wrote { (result ≡ 0) ⊎ ((e : Left) × Contains entries.now.items e × (e.wrote ≡ true) × (e.number ≡ result)) }
+    ensures last { NoneWrote entries.now.items result most }
+    ensures wrote { IsNoneOrWrote entries.now.items result }
 {
     let mut last = 0;
     for entry in entries {
@@ -42,8 +39,8 @@ fn last_number(entries: &Vec<Entry>, most: u64) -> u64
 }
 
 fn written_with(entries: &Vec<Entry>, number: u64, at: u64) -> Option<Option<u64>>
-    ensures some { IfSome result (λ x. (es : List Left) → x ≡ written (writes_of (entries.now.items ++ es) number) at) }
-    ensures none { IfNone result ((es : List Left) → writes_of (entries.now.items ++ es) number ≡ writes_of es number) }
+    ensures some { IfSome result (λ x. Wrote entries.now.items number at x) }
+    ensures none { IfNone result (WroteNone entries.now.items number) }
 {
     for entry in entries {
         if entry.wrote_with(number) {

@@ -1,9 +1,9 @@
 -- The events as steps of the definitions.
-use Rattle.std.specs.Prelude.{ℕ, true, false, List, map}
+use Rattle.std.specs.Prelude.{◌≡◌, ℕ, true, false, List, map}
 use Rattle.tatp_model.specs.declared.request.Request.{Request}
 use Rattle.tatp_model.specs.declared.reply.Reply.{Reply}
 use Rattle.core_events.specs.Views.{About}
-use Rattle.core_events.specs.Events.{number, begin, extend, look, load, check, finish, take, draw, decide, store, release, restore, see_box, post, take_turn, give_turn, see_full, empty_box, raise_durable, raise_reproduced, entry, pin, unpin, touch, load_touch, evict, fill, show}
+use Rattle.core_events.specs.Events.{Event as Made, number, begin, extend, look, load, check, finish, take, draw, decide, store, release, restore, see_box, post, take_turn, give_turn, see_full, empty_box, raise_durable, raise_reproduced, entry, pin, unpin, touch, load_touch, evict, fill, show}
 use Rattle.core_events.specs.Partings.{Step, event, parting, joining}
 use Rattle.dude_core.specs.declared.event.Event.{Event}
 use Rattle.dude_core.specs.declared.event.Event.TheVariants.{Split, Join, Number, Clock, Look, Load, Check, Finish, Take, Draw, Decide, Store, Release, Restore, SeeBox, Post, TakeTurn, GiveTurn, SeeFull, EmptyBox, RaiseDurable, RaiseReproduced, Entry, Pin, Unpin, Touch, LoadTouch, Evict, Fill, Show}
@@ -45,6 +45,10 @@ step_of who (LoadTouch p) = event who (load_touch p)
 step_of who (Evict p) = event who (evict p)
 step_of who (Fill p f i x) = event who (fill p f i x)
 step_of who (Show p f) = event who (show p f)
+
+-- it is this event of the definitions, whoever makes it
+abbrev pub IsEventOf : Event → Made → Type 0
+IsEventOf d e = (who : ℕ) → step_of who d ≡ event who e
 
 -- each event with the view that makes it
 abbrev pub steps_of : List (ℕ × Event) → List Step

@@ -1,9 +1,8 @@
 //! Events as those that a view makes by itself, a group at a time.
 
-ghost use Rattle.std.specs.Prelude.{◌≡◌, ◌≢◌, ℕ, IfSome, IfNone};
-ghost use Rattle.core_events.specs.Partings.{event as step_event};
+ghost use Rattle.std.specs.Prelude.{◌≡◌, ◌≢◌, IfSome, IfNone};
 ghost use Rattle.core_view.specs.Named.{event_of, of_read, of_write, of_turn, of_page};
-ghost use Rattle.dude_core.specs.Steps.{step_of, group_of, parting_group, reading, writing, turning, paging};
+ghost use Rattle.dude_core.specs.Steps.{IsEventOf, group_of, parting_group, reading, writing, turning, paging};
 
 use crate::event::Event;
 use core_view::about::About;
@@ -14,7 +13,7 @@ use dude_base::write_list::WriteList;
 /// The event as one that a view makes by itself.
 pub(crate) fn deed_of(event: &Event) -> Deed
     requires { group_of event.now ≢ parting_group }
-    ensures { (who : ℕ) → step_of who event.now ≡ step_event who (event_of result) }
+    ensures { IsEventOf event.now (event_of result) }
 {
     if let Some(deed) = read_deed(event) {
         return Deed::Read(deed);
@@ -32,7 +31,7 @@ pub(crate) fn deed_of(event: &Event) -> Deed
 }
 
 fn read_deed(event: &Event) -> Option<ReadDeed>
-    ensures some { IfSome result (λ deed. (who : ℕ) → step_of who event.now ≡ step_event who (of_read deed)) }
+    ensures some { IfSome result (λ deed. IsEventOf event.now (of_read deed)) }
     ensures none { IfNone result (group_of event.now ≢ reading) }
 {
     match event {
@@ -60,7 +59,7 @@ fn read_deed(event: &Event) -> Option<ReadDeed>
 }
 
 fn write_deed(event: &Event) -> Option<WriteDeed>
-    ensures some { IfSome result (λ deed. (who : ℕ) → step_of who event.now ≡ step_event who (of_write deed)) }
+    ensures some { IfSome result (λ deed. IsEventOf event.now (of_write deed)) }
     ensures none { IfNone result (group_of event.now ≢ writing) }
 {
     match event {
@@ -84,7 +83,7 @@ fn write_deed(event: &Event) -> Option<WriteDeed>
 }
 
 fn turn_deed(event: &Event) -> Option<TurnDeed>
-    ensures some { IfSome result (λ deed. (who : ℕ) → step_of who event.now ≡ step_event who (of_turn deed)) }
+    ensures some { IfSome result (λ deed. IsEventOf event.now (of_turn deed)) }
     ensures none { IfNone result (group_of event.now ≢ turning) }
 {
     match event {
@@ -107,7 +106,7 @@ fn turn_deed(event: &Event) -> Option<TurnDeed>
 }
 
 fn page_deed(event: &Event) -> Option<PageDeed>
-    ensures some { IfSome result (λ deed. (who : ℕ) → step_of who event.now ≡ step_event who (of_page deed)) }
+    ensures some { IfSome result (λ deed. IsEventOf event.now (of_page deed)) }
     ensures none { IfNone result (group_of event.now ≢ paging) }
 {
     match event {

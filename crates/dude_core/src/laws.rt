@@ -1,15 +1,6 @@
 //! What holds after any list of events.
 
-ghost use Rattle.std.specs.Prelude.{◌≡◌, ℕ, true, List};
-ghost use Rattle.core_events.specs.Setups.{Setup, IsSetup};
-ghost use Rattle.core_events.specs.Keyed.{total};
-ghost use Rattle.core_events.specs.Views.{Entry};
-ghost use Rattle.core_events.specs.Words.{State};
-ghost use Rattle.core_events.specs.Entries.{all_entries, IsLegal};
-ghost use Rattle.core_events.specs.Partings.{AllLead, all_made, start};
-ghost use Rattle.core_events.specs.Kept.{Kept};
-ghost use Rattle.dude_core.specs.declared.event.Event.{Event};
-ghost use Rattle.dude_core.specs.Steps.{steps_of};
+ghost use Rattle.dude_core.specs.EventLaws.{LawOfKeptState, LawOfLegality, LawOfOnce};
 
 use core_events::law_of_steps;
 
@@ -17,9 +8,9 @@ use core_events::law_of_steps;
 /// all views are legal, where it is known what the medium gives. They are the entries that the
 /// events made, each once: however entries are weighed, both weigh the same.
 pub fn law_of_events()
-    ensures kept { (z : Setup) (es : List (ℕ × Event)) (c : State) → IsSetup z → AllLead z (start z) (steps_of es) c → Kept z c }
-    ensures legal { (z : Setup) (es : List (ℕ × Event)) (c : State) → IsSetup z → z.is_told ≡ true → AllLead z (start z) (steps_of es) c → IsLegal z.first z.opening (all_entries c.views) }
-    ensures once { (z : Setup) (es : List (ℕ × Event)) (c : State) (h : AllLead z (start z) (steps_of es) c) (f : Entry → ℕ) → total f (all_entries c.views) ≡ total f (all_made z (steps_of es) (start z) c h) }
+    ensures kept { LawOfKeptState }
+    ensures legal { LawOfLegality }
+    ensures once { LawOfOnce }
 {
     law_of_steps();
 }

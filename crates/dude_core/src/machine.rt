@@ -1,18 +1,16 @@
 //! The machine: made over home words, read, and led on by one event after another.
 
-ghost use Rattle.std.specs.Prelude.{◌≡◌, ◌↔◌, ◌⊎◌, ◌*◌, ◌≤◌, length, slice_get, option_map, IfOk, IfErr, OnOk, OnErr, IsErrOf};
-ghost use Rattle.dude_base.specs.declared.limits.TheConstants.{PAGE as PAGE_WORDS, MAX_RINGS, MAX_NUMBER};
-ghost use Rattle.dude_base.specs.Run.{IsRunWithin};
-ghost use Rattle.dude_base.specs.Sizes.{IsAccepted, IsFrom};
+ghost use Rattle.std.specs.Prelude.{◌≡◌, ◌*◌, ◌≤◌, length, slice_get, option_map, IfOk, IfErr, OnOk, OnErr};
+ghost use Rattle.dude_base.specs.declared.limits.TheConstants.{PAGE as PAGE_WORDS, MAX_NUMBER};
+ghost use Rattle.dude_base.specs.Sizes.{IsAccepted};
 ghost use Rattle.core_events.specs.Setups.{IsSetup};
 ghost use Rattle.core_events.specs.Words.{found};
-ghost use Rattle.core_events.specs.Partings.{Leads};
 ghost use Rattle.core_events.specs.Kept.{Kept};
 ghost use Rattle.core_view.specs.Named.{Tells};
-ghost use Rattle.core_state.specs.Steps.{IsOffAt};
-ghost use Rattle.dude_core.specs.declared.core_fault.CoreFault.TheVariants.{Size, NoMemory};
+ghost use Rattle.core_state.specs.Steps.{IsOffOnlyAt};
+ghost use Rattle.dude_core.specs.CoreState.{LeadsTo};
 ghost use Rattle.dude_core.specs.CoreWords.{HasWord, word_at};
-ghost use Rattle.dude_core.specs.MadeCores.{setup_of, core_of};
+ghost use Rattle.dude_core.specs.MadeCores.{IsCoreAt, RefusesSize, IsFaultOf, size_fault};
 ghost use Rattle.dude_core.specs.Steps.{step_of};
 
 use crate::core_fault::CoreFault;
@@ -51,7 +49,8 @@ impl Model for Core {
 }
 
 impl Core {
-    /// The machine at its start over these home words, whose first pages are in frames.
+    /// The machine at its start over these home words, whose first pages are in frames. Each thread
+    /// has a ring of the image for its records: there are at most as many threads as rings.
     pub fn new(
         alloc: Global,
         words: Vec<u64>,
@@ -63,21 +62,21 @@ impl Core {
         requires sizes { IsAccepted sizes.now }
         requires words { length words.items ≡ sizes.now.pages * PAGE_WORDS }
         requires number { number ≤ MAX_NUMBER }
-        ensures made { IfOk result (λ core. core ≡ core_of (setup_of words.items sizes.now.pages run.now threads number)) }
+        ensures made { IfOk result (IsCoreAt words.items sizes.now run.now threads number) }
         ensures setup { IfOk result (λ core. IsSetup core.setup) }
         ensures kept { IfOk result (λ core. Kept core.setup core.state) }
-        ensures size { IsErrOf result (Size run.now.frames sizes.now.pages) ↔ (IsFrom 1 MAX_RINGS threads × IsRunWithin sizes.now.pages run.now → ⊥) }
-        ensures fault { IfErr result (λ fault. (fault ≡ Size run.now.frames sizes.now.pages) ⊎ (fault ≡ NoMemory)) }
+        ensures size { RefusesSize result sizes.now run.now threads }
+        ensures fault { IfErr result (IsFaultOf sizes.now run.now) }
     {
+        if sizes.rings < threads {
+            return Err(size_fault(sizes, run));
+        }
         match Setup::new(words, sizes.pages, run, threads, number) {
             Some(setup) => {
                 let state = State::start(alloc, &setup)?;
                 Ok(Core { setup, state })
             }
-            None => Err(CoreFault::Size {
-                frames: run.frames,
-                pages: sizes.pages,
-            }),
+            None => Err(size_fault(sizes, run)),
         }
     }
 
@@ -114,14 +113,23 @@ impl Core {
     }
 }
 
+fn size_fault(sizes: &Sizes, run: &Run) -> CoreFault
+    ensures { result ≡ size_fault sizes.now run.now }
+{
+    CoreFault::Size {
+        frames: run.frames,
+        pages: sizes.pages,
+    }
+}
+
 /// Makes an event by the view `who`. It is `Off` exactly where the definitions don't allow it;
 /// after an `Err` the core is as it was.
 pub fn core_step(alloc: Global, core: &mut Core, who: u64, event: &Event) -> Result<(), CoreRefusal>
-    ensures ok { OnOk result (Leads core.old.setup core.old.state (step_of who event.now) core.new.state) }
+    ensures ok { OnOk result (LeadsTo core.old (step_of who event.now) core.new) }
     ensures setup { core.new.setup ≡ core.old.setup }
     ensures kept { Kept core.new.setup core.new.state }
     ensures err { OnErr result (core.new ≡ core.old) }
-    ensures off { IsErrOf result CoreRefusal.Off ↔ IsOffAt core.old.setup core.old.state (step_of who event.now) }
+    ensures off { IsOffOnlyAt result core.old.setup core.old.state (step_of who event.now) }
 {
     step(&mut core.state, alloc, &core.setup, who, event)
 }

@@ -1,11 +1,19 @@
 -- Which page is in which frame, and a hand that goes round the frames.
-use Rattle.std.specs.Prelude.{◌≡◌, ℕ, ◌+◌, ◌%◌, ◌<◌, List, length, Option, Some, None, slice_get}
+use Rattle.std.specs.Prelude.{◌≡◌, ℕ, ◌+◌, ◌%◌, ◌<◌, List, length, replicate, Option, Some, None, slice_get, slice_set}
 
 -- the number of pages; by frame, the page that is in it, if there is one; the hand, a frame
 pub record PageMap : Type 0 where
   pub pages : ℕ
   pub frames : List (Option ℕ)
   pub hand : ℕ
+
+-- so many empty frames, and the hand at frame 0
+abbrev pub empty_map : ℕ → ℕ → PageMap
+empty_map pages frames = record { pages = pages; frames = replicate frames None; hand = 0 }
+
+-- the map with this page, or none, in the frame
+abbrev pub map_with : PageMap → ℕ → Option ℕ → PageMap
+map_with map frame page = record map { frames = slice_set map.frames frame page }
 
 -- the page is in this frame
 abbrev pub Holds : PageMap → ℕ → ℕ → Type 0

@@ -1,7 +1,7 @@
 //! Pages are placed in frames and dropped, and the hand finds the next page to drop.
 
-ghost use Rattle.std.specs.Prelude.{◌≡◌, None, Some, ◌<◌, ◌≤◌, ◌↔◌, ℕ, replicate, slice_set, IfOk, IfSome, IsNone};
-ghost use Rattle.shadow_pages.specs.PageMap.{Holds, IsFree, IsIn, IsOccupied, HasFree, IsOneToOne, IsLeastFree, IsNextOccupied, IsVictim};
+ghost use Rattle.std.specs.Prelude.{◌≡◌, None, Some, ◌<◌, ◌≤◌, ◌↔◌, ℕ, IfOk, IfSome, IsNone};
+ghost use Rattle.shadow_pages.specs.PageMap.{empty_map, map_with, Holds, IsFree, IsIn, IsOccupied, HasFree, IsOneToOne, IsLeastFree, IsNextOccupied, IsVictim};
 
 use std::alloc::{AllocError, Global};
 use std::marker::Model;
@@ -33,7 +33,7 @@ impl Pager {
     pub fn new(alloc: Global, pages: u64, frames: u64) -> Result<Pager, AllocError>
         requires some { 1 ≤ frames }
         requires most { frames ≤ pages }
-        ensures empty { IfOk result (λ map. map ≡ record { pages = pages; frames = replicate frames None; hand = 0 }) }
+        ensures empty { IfOk result (λ map. map ≡ empty_map pages frames) }
         ensures lawful { IfOk result IsOneToOne }
     {
         Ok(Pager {
@@ -48,7 +48,7 @@ impl Pager {
         requires inside { page < self.old.pages }
         requires not_in { ¬ IsIn self.old page }
         requires free { IsFree self.old frame }
-        ensures placed { self.new ≡ record self.old { frames = slice_set self.old.frames frame (Some page) } }
+        ensures placed { self.new ≡ map_with self.old frame (Some page) }
         ensures lawful { IsOneToOne self.new }
     {
         self.by_frame[frame as usize] = Some(page);
@@ -59,7 +59,7 @@ impl Pager {
     pub fn drop_page(&mut self, page: u64)
         requires { IsIn self.old page }
         ensures dropped { (frame : ℕ) → Holds self.old frame page →
-            self.new ≡ record self.old { frames = slice_set self.old.frames frame None } }
+            self.new ≡ map_with self.old frame None }
         ensures lawful { IsOneToOne self.new }
         ensures not_in { ¬ IsIn self.new page }
     {

@@ -2,10 +2,8 @@
 
 ghost use Rattle.std.specs.Prelude.{◌≡◌, Some};
 ghost use Rattle.core_events.specs.Keyed.{find};
-ghost use Rattle.core_events.specs.Events.{entry, evict, fill, load_touch, pin, show, touch, unpin, view_after};
-ghost use Rattle.core_events.specs.Conditions.{May};
-ghost use Rattle.core_table.specs.Rules.{Foreseen, Outlasts};
-ghost use Rattle.core_table.specs.Steps.{BelongsTo, HasMade, HasFound};
+ghost use Rattle.core_events.specs.Events.{entry, evict, fill, load_touch, pin, show, touch, unpin};
+ghost use Rattle.core_table.specs.Steps.{MayStep, IsForeseen, IsAfter, HasMade, HasFound};
 
 use crate::stm::Stm;
 use core_table::event_table::Seat;
@@ -16,10 +14,8 @@ use std::marker::Brand;
 impl<S, X, P: SlotRule<S, X>> Stm<S, X, P> {
     /// Loads the entry of a page.
     pub fn entry(&self, seat: &mut Seat<S, X>, page: u64) -> u64
-        requires seat { BelongsTo self.now.events seat.old }
-        requires may { May self.now.events.setup (entry page) seat.old.me.0.view }
-        requires slots { Outlasts P.fact self.now.events.setup (entry page) }
-        ensures view { seat.new.me.0.view ≡ view_after self.now.events.setup (entry page) seat.old.me.0.view result }
+        requires may { MayStep P.fact self.now.events (entry page) seat.old }
+        ensures view { IsAfter self.now.events (entry page) seat.old seat.new result }
         ensures found { HasFound self.now.events (entry page) seat.old seat.new result }
     {
         self.events
@@ -28,11 +24,9 @@ impl<S, X, P: SlotRule<S, X>> Stm<S, X, P> {
 
     /// Pins a page, whose entry was `kept`.
     pub fn pin(&self, seat: &mut Seat<S, X>, page: u64, kept: u64) -> u64
-        requires seat { BelongsTo self.now.events seat.old }
         requires kept { find seat.old.me.0.view.paging.entries page ≡ Some kept }
-        requires may { May self.now.events.setup (pin page) seat.old.me.0.view }
-        requires slots { Outlasts P.fact self.now.events.setup (pin page) }
-        ensures view { seat.new.me.0.view ≡ view_after self.now.events.setup (pin page) seat.old.me.0.view result }
+        requires may { MayStep P.fact self.now.events (pin page) seat.old }
+        ensures view { IsAfter self.now.events (pin page) seat.old seat.new result }
         ensures found { HasFound self.now.events (pin page) seat.old seat.new result }
     {
         // Where the word is `kept`, it is the entry of a frame, and far from wrapping.
@@ -47,10 +41,8 @@ impl<S, X, P: SlotRule<S, X>> Stm<S, X, P> {
 
     /// Takes the pin of a page back.
     pub fn unpin(&self, seat: &mut Seat<S, X>, page: u64) -> u64
-        requires seat { BelongsTo self.now.events seat.old }
-        requires may { May self.now.events.setup (unpin page) seat.old.me.0.view }
-        requires slots { Outlasts P.fact self.now.events.setup (unpin page) }
-        ensures view { seat.new.me.0.view ≡ view_after self.now.events.setup (unpin page) seat.old.me.0.view result }
+        requires may { MayStep P.fact self.now.events (unpin page) seat.old }
+        ensures view { IsAfter self.now.events (unpin page) seat.old seat.new result }
         ensures found { HasFound self.now.events (unpin page) seat.old seat.new result }
     {
         self.events
@@ -59,11 +51,9 @@ impl<S, X, P: SlotRule<S, X>> Stm<S, X, P> {
 
     /// Raises the touch of a page to the number.
     pub fn touch(&self, seat: &mut Seat<S, X>, page: u64, number: u64)
-        requires seat { BelongsTo self.now.events seat.old }
         requires number { seat.old.me.0.view.tx.hand.number ≡ number }
-        requires may { May self.now.events.setup (touch page) seat.old.me.0.view }
-        requires slots { Outlasts P.fact self.now.events.setup (touch page) }
-        ensures view { seat.new.me.0.view ≡ view_after self.now.events.setup (touch page) seat.old.me.0.view 0 }
+        requires may { MayStep P.fact self.now.events (touch page) seat.old }
+        ensures view { IsAfter self.now.events (touch page) seat.old seat.new 0 }
         ensures made { HasMade self.now.events (touch page) seat.old seat.new }
     {
         self.events
@@ -72,10 +62,8 @@ impl<S, X, P: SlotRule<S, X>> Stm<S, X, P> {
 
     /// Loads the touch of a page.
     pub fn load_touch(&self, seat: &mut Seat<S, X>, page: u64) -> u64
-        requires seat { BelongsTo self.now.events seat.old }
-        requires may { May self.now.events.setup (load_touch page) seat.old.me.0.view }
-        requires slots { Outlasts P.fact self.now.events.setup (load_touch page) }
-        ensures view { seat.new.me.0.view ≡ view_after self.now.events.setup (load_touch page) seat.old.me.0.view result }
+        requires may { MayStep P.fact self.now.events (load_touch page) seat.old }
+        ensures view { IsAfter self.now.events (load_touch page) seat.old seat.new result }
         ensures found { HasFound self.now.events (load_touch page) seat.old seat.new result }
     {
         self.events
@@ -84,11 +72,9 @@ impl<S, X, P: SlotRule<S, X>> Stm<S, X, P> {
 
     /// Makes a page absent, whose entry was `kept`, unless it is pinned.
     pub fn evict(&self, seat: &mut Seat<S, X>, page: u64, kept: u64) -> u64
-        requires seat { BelongsTo self.now.events seat.old }
         requires kept { find seat.old.me.0.view.paging.entries page ≡ Some kept }
-        requires may { May self.now.events.setup (evict page) seat.old.me.0.view }
-        requires slots { Outlasts P.fact self.now.events.setup (evict page) }
-        ensures view { seat.new.me.0.view ≡ view_after self.now.events.setup (evict page) seat.old.me.0.view result }
+        requires may { MayStep P.fact self.now.events (evict page) seat.old }
+        ensures view { IsAfter self.now.events (evict page) seat.old seat.new result }
         ensures found { HasFound self.now.events (evict page) seat.old seat.new result }
     {
         self.events.exchange_as::<Brand, u64>(
@@ -102,11 +88,9 @@ impl<S, X, P: SlotRule<S, X>> Stm<S, X, P> {
 
     /// Stores a home word of an absent page in a free frame.
     pub fn fill(&self, seat: &mut Seat<S, X>, page: u64, frame: u64, at: u64, value: u64)
-        requires seat { BelongsTo self.now.events seat.old }
-        requires may { May self.now.events.setup (fill page frame at value) seat.old.me.0.view }
-        requires fits { Foreseen P.fact self.now.events.setup (fill page frame at value) seat.old.id seat.old.me.0 }
-        requires slots { Outlasts P.fact self.now.events.setup (fill page frame at value) }
-        ensures view { seat.new.me.0.view ≡ view_after self.now.events.setup (fill page frame at value) seat.old.me.0.view 0 }
+        requires may { MayStep P.fact self.now.events (fill page frame at value) seat.old }
+        requires fits { IsForeseen P.fact self.now.events (fill page frame at value) seat.old }
+        ensures view { IsAfter self.now.events (fill page frame at value) seat.old seat.new 0 }
         ensures made { HasMade self.now.events (fill page frame at value) seat.old seat.new }
     {
         self.events.store_as::<Brand, (u64, u64, u64, u64)>(
@@ -119,10 +103,8 @@ impl<S, X, P: SlotRule<S, X>> Stm<S, X, P> {
 
     /// Stores the entry of a page whose words are all filled in this frame.
     pub fn show(&self, seat: &mut Seat<S, X>, page: u64, frame: u64)
-        requires seat { BelongsTo self.now.events seat.old }
-        requires may { May self.now.events.setup (show page frame) seat.old.me.0.view }
-        requires slots { Outlasts P.fact self.now.events.setup (show page frame) }
-        ensures view { seat.new.me.0.view ≡ view_after self.now.events.setup (show page frame) seat.old.me.0.view 0 }
+        requires may { MayStep P.fact self.now.events (show page frame) seat.old }
+        ensures view { IsAfter self.now.events (show page frame) seat.old seat.new 0 }
         ensures made { HasMade self.now.events (show page frame) seat.old seat.new }
     {
         self.events.store_as::<Brand, (u64, u64)>(

@@ -3,13 +3,11 @@
 ghost use Rattle.std.specs.Prelude.{◌≡◌, ◌≤◌, ◌^◌, [], ◌∷◌, map, IfOk, IfErr};
 ghost use Rattle.std.specs.Mem.Slots.{slots_items, slots_len, IsFull};
 ghost use mathlib.Core.Option.{some};
-ghost use Rattle.atomic_table.specs.Table.{Final, Seen};
 ghost use Rattle.core_events.specs.Setups.{IsSetup};
-ghost use Rattle.core_events.specs.Partings.{newcomer, start};
-ghost use Rattle.core_table.specs.Places.{count};
-ghost use Rattle.core_table.specs.Rules.{Holds, OutlastsSplit, OutlastsJoin};
-ghost use Rattle.core_table.specs.Seats.{CanSplit, CanJoin, opener, known_left, known_both};
-ghost use Rattle.core_table.specs.Steps.{BelongsTo};
+ghost use Rattle.core_events.specs.Partings.{start};
+ghost use Rattle.core_table.specs.Rules.{OutlastsSplit, OutlastsJoin};
+ghost use Rattle.core_table.specs.Seats.{CanSplit, CanJoin, known_left, known_both};
+ghost use Rattle.core_table.specs.Steps.{BelongsTo, IsOpened, IsSplitOff, NowKnows, HasCounts, EndsWith};
 
 use crate::stm::Stm;
 use atomic_table::{Closed, Refused};
@@ -30,7 +28,7 @@ impl<S, X, P: SlotRule<S, X>> Stm<S, X, P> {
         requires setup { IsSetup terms.now }
         requires pages { terms.now.pages ≤ 2 ^ 32 }
         requires slots { P.fact terms.now (start terms.now) (P.beside ∷ []) (map some slots.items) }
-        ensures ok { IfOk result (λ r. (r.0.events.setup ≡ terms.now) × BelongsTo r.0.events r.1 × (r.1.me ≡ (record { view = opener terms.now; beside = P.beside; made = [] }, []))) }
+        ensures ok { IfOk result (λ r. IsOpened P.beside r.0.events terms.now r.1) }
         ensures err { IfErr result (λ r. r.slots.items ≡ slots.items) }
     {
         let (events, seat) = EventTable::new(alloc, terms, slots)?;
@@ -42,8 +40,8 @@ impl<S, X, P: SlotRule<S, X>> Stm<S, X, P> {
         requires seat { BelongsTo self.now.events seat.old }
         requires can { CanSplit seat.old.me.0.view draws }
         requires slots { OutlastsSplit P.fact self.now.events.setup draws P.beside }
-        ensures seat { BelongsTo self.now.events seat.new × (seat.new.id ≡ seat.old.id) × (seat.new.me ≡ (known_left draws seat.old.me.0, seat.old.me.1)) }
-        ensures other { BelongsTo self.now.events result × (result.me ≡ (record { view = newcomer self.now.events.setup 0 draws; beside = P.beside; made = [] }, [])) }
+        ensures seat { NowKnows self.now.events seat.old seat.new (known_left draws seat.old.me.0) }
+        ensures other { IsSplitOff P.beside self.now.events draws result }
     {
         self.events.split_as::<Brand>(seat, draws)
     }
@@ -54,7 +52,7 @@ impl<S, X, P: SlotRule<S, X>> Stm<S, X, P> {
         requires other { BelongsTo self.now.events other × (other.me.1 ≡ []) }
         requires can { CanJoin seat.old.me.0.view other.me.0.view }
         requires slots { OutlastsJoin P.fact self.now.events.setup P.beside }
-        ensures { BelongsTo self.now.events seat.new × (seat.new.id ≡ seat.old.id) × (seat.new.me ≡ (known_both seat.old.me.0 other.me.0, seat.old.me.1)) }
+        ensures { NowKnows self.now.events seat.old seat.new (known_both seat.old.me.0 other.me.0) }
     {
         self.events.join_as::<Brand>(seat, other);
     }
@@ -63,8 +61,10 @@ impl<S, X, P: SlotRule<S, X>> Stm<S, X, P> {
     /// rule, in which the seat knows what it knows.
     pub fn close(self, seat: Seat<S, X>) -> Closed<S, Global>
         requires { BelongsTo self.events seat }
-        ensures counts { (slots_len result.words ≡ count self.events.setup) × (slots_len result.slots ≡ self.events.id.slots) }
-        ensures values { IsFull result.words × IsFull result.slots × Final (Seen (Holds P.fact self.events.setup) seat.id seat.me.0) (slots_items result.words) (slots_items result.slots) }
+        ensures counts { HasCounts self.events (slots_len result.words) (slots_len result.slots) }
+        ensures full { IsFull result.words × IsFull result.slots }
+        ensures values { EndsWith P.fact self.events seat
+            (slots_items result.words) (slots_items result.slots) }
     {
         let Stm { events } = self;
         events.close(seat)

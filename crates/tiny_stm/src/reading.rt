@@ -3,11 +3,9 @@
 ghost use Rattle.std.specs.Prelude.{◌≡◌, Some};
 ghost use Rattle.core_events.specs.Setups.{page_of};
 ghost use Rattle.core_events.specs.Keyed.{find};
-ghost use Rattle.tiny_stm.specs.Abouts.{about};
-ghost use Rattle.core_events.specs.Events.{begin, check, extend, finish, load, look, number, view_after};
-ghost use Rattle.core_events.specs.Conditions.{May};
-ghost use Rattle.core_table.specs.Rules.{Outlasts};
-ghost use Rattle.core_table.specs.Steps.{BelongsTo, HasFound};
+ghost use Rattle.tiny_stm.specs.Abouts.{finishing};
+ghost use Rattle.core_events.specs.Events.{begin, check, extend, load, look, number};
+ghost use Rattle.core_table.specs.Steps.{MayStep, IsAfter, HasFound};
 
 use crate::stm::Stm;
 use core_table::event_table::Seat;
@@ -20,10 +18,8 @@ use tatp_model::request::Request;
 impl<S, X, P: SlotRule<S, X>> Stm<S, X, P> {
     /// Draws a number for the thread of this seat.
     pub fn number(&self, seat: &mut Seat<S, X>) -> u64
-        requires seat { BelongsTo self.now.events seat.old }
-        requires may { May self.now.events.setup number seat.old.me.0.view }
-        requires slots { Outlasts P.fact self.now.events.setup number }
-        ensures view { seat.new.me.0.view ≡ view_after self.now.events.setup number seat.old.me.0.view result }
+        requires may { MayStep P.fact self.now.events number seat.old }
+        ensures view { IsAfter self.now.events number seat.old seat.new result }
         ensures found { HasFound self.now.events number seat.old seat.new result }
     {
         self.events.add_as::<Brand, ()>(seat, THREADS, 1, &())
@@ -31,10 +27,8 @@ impl<S, X, P: SlotRule<S, X>> Stm<S, X, P> {
 
     /// Begins a transaction at the clock, its snapshot.
     pub fn clock(&self, seat: &mut Seat<S, X>) -> u64
-        requires seat { BelongsTo self.now.events seat.old }
-        requires may { May self.now.events.setup begin seat.old.me.0.view }
-        requires slots { Outlasts P.fact self.now.events.setup begin }
-        ensures view { seat.new.me.0.view ≡ view_after self.now.events.setup begin seat.old.me.0.view result }
+        requires may { MayStep P.fact self.now.events begin seat.old }
+        ensures view { IsAfter self.now.events begin seat.old seat.new result }
         ensures found { HasFound self.now.events begin seat.old seat.new result }
     {
         self.events.load_as::<Brand, ()>(seat, CLOCK, &())
@@ -42,10 +36,8 @@ impl<S, X, P: SlotRule<S, X>> Stm<S, X, P> {
 
     /// Begins an extension of the snapshot to the clock.
     pub fn extend(&self, seat: &mut Seat<S, X>) -> u64
-        requires seat { BelongsTo self.now.events seat.old }
-        requires may { May self.now.events.setup extend seat.old.me.0.view }
-        requires slots { Outlasts P.fact self.now.events.setup extend }
-        ensures view { seat.new.me.0.view ≡ view_after self.now.events.setup extend seat.old.me.0.view result }
+        requires may { MayStep P.fact self.now.events extend seat.old }
+        ensures view { IsAfter self.now.events extend seat.old seat.new result }
         ensures found { HasFound self.now.events extend seat.old seat.new result }
     {
         self.events.load_as::<Brand, ()>(seat, CLOCK, &())
@@ -53,10 +45,8 @@ impl<S, X, P: SlotRule<S, X>> Stm<S, X, P> {
 
     /// Looks at a lock.
     pub fn look(&self, seat: &mut Seat<S, X>, lock: u64) -> u64
-        requires seat { BelongsTo self.now.events seat.old }
-        requires may { May self.now.events.setup (look lock) seat.old.me.0.view }
-        requires slots { Outlasts P.fact self.now.events.setup (look lock) }
-        ensures view { seat.new.me.0.view ≡ view_after self.now.events.setup (look lock) seat.old.me.0.view result }
+        requires may { MayStep P.fact self.now.events (look lock) seat.old }
+        ensures view { IsAfter self.now.events (look lock) seat.old seat.new result }
         ensures found { HasFound self.now.events (look lock) seat.old seat.new result }
     {
         self.events
@@ -65,11 +55,9 @@ impl<S, X, P: SlotRule<S, X>> Stm<S, X, P> {
 
     /// Loads a home word, in the frame of its page, which the view pins.
     pub fn load(&self, seat: &mut Seat<S, X>, at: u64, frame: u64) -> u64
-        requires seat { BelongsTo self.now.events seat.old }
         requires frame { find seat.old.me.0.view.paging.pins (page_of at) ≡ Some frame }
-        requires may { May self.now.events.setup (load at) seat.old.me.0.view }
-        requires slots { Outlasts P.fact self.now.events.setup (load at) }
-        ensures view { seat.new.me.0.view ≡ view_after self.now.events.setup (load at) seat.old.me.0.view result }
+        requires may { MayStep P.fact self.now.events (load at) seat.old }
+        ensures view { IsAfter self.now.events (load at) seat.old seat.new result }
         ensures found { HasFound self.now.events (load at) seat.old seat.new result }
     {
         self.events
@@ -78,10 +66,8 @@ impl<S, X, P: SlotRule<S, X>> Stm<S, X, P> {
 
     /// Looks at a lock again.
     pub fn check(&self, seat: &mut Seat<S, X>, lock: u64) -> u64
-        requires seat { BelongsTo self.now.events seat.old }
-        requires may { May self.now.events.setup (check lock) seat.old.me.0.view }
-        requires slots { Outlasts P.fact self.now.events.setup (check lock) }
-        ensures view { seat.new.me.0.view ≡ view_after self.now.events.setup (check lock) seat.old.me.0.view result }
+        requires may { MayStep P.fact self.now.events (check lock) seat.old }
+        ensures view { IsAfter self.now.events (check lock) seat.old seat.new result }
         ensures found { HasFound self.now.events (check lock) seat.old seat.new result }
     {
         self.events
@@ -97,11 +83,12 @@ impl<S, X, P: SlotRule<S, X>> Stm<S, X, P> {
         request: &Request,
         reply: &Reply,
     ) -> u64
-        requires seat { BelongsTo self.now.events seat.old }
-        requires may { May self.now.events.setup (finish (about file index request.now reply.now)) seat.old.me.0.view }
-        requires slots { Outlasts P.fact self.now.events.setup (finish (about file index request.now reply.now)) }
-        ensures view { seat.new.me.0.view ≡ view_after self.now.events.setup (finish (about file index request.now reply.now)) seat.old.me.0.view result }
-        ensures found { HasFound self.now.events (finish (about file index request.now reply.now)) seat.old seat.new result }
+        requires may { MayStep P.fact self.now.events
+            (finishing file index request.now reply.now) seat.old }
+        ensures view { IsAfter self.now.events
+            (finishing file index request.now reply.now) seat.old seat.new result }
+        ensures found { HasFound self.now.events
+            (finishing file index request.now reply.now) seat.old seat.new result }
     {
         self.events
             .load_as::<Brand, (u64, u64, &Request, &Reply)>(

@@ -1,10 +1,8 @@
 //! The steps on boxes, and those of the turn.
 
 ghost use Rattle.std.specs.Prelude.{◌≡◌, Some};
-ghost use Rattle.core_events.specs.Events.{empty_box, give_turn, post, raise_durable, raise_reproduced, see_box, see_full, take_turn, view_after};
-ghost use Rattle.core_events.specs.Conditions.{May};
-ghost use Rattle.core_table.specs.Rules.{Foreseen, Outlasts};
-ghost use Rattle.core_table.specs.Steps.{BelongsTo, HasMade, HasFound};
+ghost use Rattle.core_events.specs.Events.{empty_box, give_turn, post, raise_durable, raise_reproduced, see_box, see_full, take_turn};
+ghost use Rattle.core_table.specs.Steps.{MayStep, IsForeseen, IsAfter, HasMade, HasFound};
 
 use crate::stm::Stm;
 use core_table::event_table::Seat;
@@ -15,12 +13,10 @@ use std::marker::Brand;
 impl<S, X, P: SlotRule<S, X>> Stm<S, X, P> {
     /// Loads the word of the thread's next box.
     pub fn see_box(&self, seat: &mut Seat<S, X>, thread: u64, place: u64) -> u64
-        requires seat { BelongsTo self.now.events seat.old }
         requires thread { seat.old.me.0.view.part.thread ≡ Some thread }
         requires place { seat.old.me.0.view.box.next ≡ place }
-        requires may { May self.now.events.setup see_box seat.old.me.0.view }
-        requires slots { Outlasts P.fact self.now.events.setup see_box }
-        ensures view { seat.new.me.0.view ≡ view_after self.now.events.setup see_box seat.old.me.0.view result }
+        requires may { MayStep P.fact self.now.events see_box seat.old }
+        ensures view { IsAfter self.now.events see_box seat.old seat.new result }
         ensures found { HasFound self.now.events see_box seat.old seat.new result }
     {
         self.events
@@ -29,13 +25,11 @@ impl<S, X, P: SlotRule<S, X>> Stm<S, X, P> {
 
     /// Stores the number in the thread's next box, and ends the transaction.
     pub fn post(&self, seat: &mut Seat<S, X>, thread: u64, place: u64, number: u64)
-        requires seat { BelongsTo self.now.events seat.old }
         requires thread { seat.old.me.0.view.part.thread ≡ Some thread }
         requires place { seat.old.me.0.view.box.next ≡ place }
         requires number { seat.old.me.0.view.tx.hand.number ≡ number }
-        requires may { May self.now.events.setup post seat.old.me.0.view }
-        requires slots { Outlasts P.fact self.now.events.setup post }
-        ensures view { seat.new.me.0.view ≡ view_after self.now.events.setup post seat.old.me.0.view 0 }
+        requires may { MayStep P.fact self.now.events post seat.old }
+        ensures view { IsAfter self.now.events post seat.old seat.new 0 }
         ensures made { HasMade self.now.events post seat.old seat.new }
     {
         self.events
@@ -44,11 +38,9 @@ impl<S, X, P: SlotRule<S, X>> Stm<S, X, P> {
 
     /// Takes the turn, where nobody has it.
     pub fn take_turn(&self, seat: &mut Seat<S, X>, thread: u64) -> u64
-        requires seat { BelongsTo self.now.events seat.old }
         requires thread { seat.old.me.0.view.part.thread ≡ Some thread }
-        requires may { May self.now.events.setup take_turn seat.old.me.0.view }
-        requires slots { Outlasts P.fact self.now.events.setup take_turn }
-        ensures view { seat.new.me.0.view ≡ view_after self.now.events.setup take_turn seat.old.me.0.view result }
+        requires may { MayStep P.fact self.now.events take_turn seat.old }
+        ensures view { IsAfter self.now.events take_turn seat.old seat.new result }
         ensures found { HasFound self.now.events take_turn seat.old seat.new result }
     {
         self.events
@@ -57,10 +49,8 @@ impl<S, X, P: SlotRule<S, X>> Stm<S, X, P> {
 
     /// Gives the turn back; `failed` says whether it met a fault.
     pub fn give_turn(&self, seat: &mut Seat<S, X>, failed: bool)
-        requires seat { BelongsTo self.now.events seat.old }
-        requires may { May self.now.events.setup (give_turn failed) seat.old.me.0.view }
-        requires slots { Outlasts P.fact self.now.events.setup (give_turn failed) }
-        ensures view { seat.new.me.0.view ≡ view_after self.now.events.setup (give_turn failed) seat.old.me.0.view 0 }
+        requires may { MayStep P.fact self.now.events (give_turn failed) seat.old }
+        ensures view { IsAfter self.now.events (give_turn failed) seat.old seat.new 0 }
         ensures made { HasMade self.now.events (give_turn failed) seat.old seat.new }
     {
         self.events.store_as::<Brand, bool>(seat, TURN, 0, &failed)
@@ -68,10 +58,8 @@ impl<S, X, P: SlotRule<S, X>> Stm<S, X, P> {
 
     /// Loads the word of a box, while the turn is had.
     pub fn see_full(&self, seat: &mut Seat<S, X>, thread: u64, place: u64) -> u64
-        requires seat { BelongsTo self.now.events seat.old }
-        requires may { May self.now.events.setup (see_full thread place) seat.old.me.0.view }
-        requires slots { Outlasts P.fact self.now.events.setup (see_full thread place) }
-        ensures view { seat.new.me.0.view ≡ view_after self.now.events.setup (see_full thread place) seat.old.me.0.view result }
+        requires may { MayStep P.fact self.now.events (see_full thread place) seat.old }
+        ensures view { IsAfter self.now.events (see_full thread place) seat.old seat.new result }
         ensures found { HasFound self.now.events (see_full thread place) seat.old seat.new result }
     {
         self.events.load_as::<Brand, (u64, u64)>(
@@ -83,11 +71,9 @@ impl<S, X, P: SlotRule<S, X>> Stm<S, X, P> {
 
     /// Empties a box, whose record was persisted.
     pub fn empty_box(&self, seat: &mut Seat<S, X>, thread: u64, place: u64)
-        requires seat { BelongsTo self.now.events seat.old }
-        requires may { May self.now.events.setup (empty_box thread place) seat.old.me.0.view }
-        requires fits { Foreseen P.fact self.now.events.setup (empty_box thread place) seat.old.id seat.old.me.0 }
-        requires slots { Outlasts P.fact self.now.events.setup (empty_box thread place) }
-        ensures view { seat.new.me.0.view ≡ view_after self.now.events.setup (empty_box thread place) seat.old.me.0.view 0 }
+        requires may { MayStep P.fact self.now.events (empty_box thread place) seat.old }
+        requires fits { IsForeseen P.fact self.now.events (empty_box thread place) seat.old }
+        ensures view { IsAfter self.now.events (empty_box thread place) seat.old seat.new 0 }
         ensures made { HasMade self.now.events (empty_box thread place) seat.old seat.new }
     {
         self.events.store_as::<Brand, (u64, u64)>(
@@ -100,11 +86,9 @@ impl<S, X, P: SlotRule<S, X>> Stm<S, X, P> {
 
     /// Stores the durable number.
     pub fn raise_durable(&self, seat: &mut Seat<S, X>, value: u64)
-        requires seat { BelongsTo self.now.events seat.old }
-        requires may { May self.now.events.setup (raise_durable value) seat.old.me.0.view }
-        requires fits { Foreseen P.fact self.now.events.setup (raise_durable value) seat.old.id seat.old.me.0 }
-        requires slots { Outlasts P.fact self.now.events.setup (raise_durable value) }
-        ensures view { seat.new.me.0.view ≡ view_after self.now.events.setup (raise_durable value) seat.old.me.0.view 0 }
+        requires may { MayStep P.fact self.now.events (raise_durable value) seat.old }
+        requires fits { IsForeseen P.fact self.now.events (raise_durable value) seat.old }
+        ensures view { IsAfter self.now.events (raise_durable value) seat.old seat.new 0 }
         ensures made { HasMade self.now.events (raise_durable value) seat.old seat.new }
     {
         self.events
@@ -113,11 +97,9 @@ impl<S, X, P: SlotRule<S, X>> Stm<S, X, P> {
 
     /// Stores the reproduced number.
     pub fn raise_reproduced(&self, seat: &mut Seat<S, X>, value: u64)
-        requires seat { BelongsTo self.now.events seat.old }
-        requires may { May self.now.events.setup (raise_reproduced value) seat.old.me.0.view }
-        requires fits { Foreseen P.fact self.now.events.setup (raise_reproduced value) seat.old.id seat.old.me.0 }
-        requires slots { Outlasts P.fact self.now.events.setup (raise_reproduced value) }
-        ensures view { seat.new.me.0.view ≡ view_after self.now.events.setup (raise_reproduced value) seat.old.me.0.view 0 }
+        requires may { MayStep P.fact self.now.events (raise_reproduced value) seat.old }
+        requires fits { IsForeseen P.fact self.now.events (raise_reproduced value) seat.old }
+        ensures view { IsAfter self.now.events (raise_reproduced value) seat.old seat.new 0 }
         ensures made { HasMade self.now.events (raise_reproduced value) seat.old seat.new }
     {
         self.events

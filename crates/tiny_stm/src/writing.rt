@@ -4,11 +4,9 @@ ghost use Rattle.std.specs.Prelude.{◌≡◌, ◌<◌, Some};
 ghost use Rattle.dude_base.specs.Writes.{written};
 ghost use Rattle.core_events.specs.Setups.{page_of};
 ghost use Rattle.core_events.specs.Keyed.{find};
-ghost use Rattle.tiny_stm.specs.Abouts.{about};
-ghost use Rattle.core_events.specs.Events.{decide, draw, release, restore, store, take, first_lock, view_after};
-ghost use Rattle.core_events.specs.Conditions.{May};
-ghost use Rattle.core_table.specs.Rules.{Outlasts};
-ghost use Rattle.core_table.specs.Steps.{BelongsTo, HasMade, HasFound};
+ghost use Rattle.tiny_stm.specs.Abouts.{drawing};
+ghost use Rattle.core_events.specs.Events.{decide, release, restore, store, take, first_lock};
+ghost use Rattle.core_table.specs.Steps.{MayStep, IsAfter, HasMade, HasFound};
 
 use crate::stm::Stm;
 use core_table::event_table::Seat;
@@ -22,12 +20,10 @@ use tatp_model::request::Request;
 impl<S, X, P: SlotRule<S, X>> Stm<S, X, P> {
     /// Takes a lock, whose word at the last look was `seen`.
     pub fn take(&self, seat: &mut Seat<S, X>, lock: u64, seen: u64, thread: u64) -> u64
-        requires seat { BelongsTo self.now.events seat.old }
         requires seen { seat.old.me.0.view.tx.look ≡ Some (lock, seen) }
         requires thread { seat.old.me.0.view.part.thread ≡ Some thread }
-        requires may { May self.now.events.setup (take lock) seat.old.me.0.view }
-        requires slots { Outlasts P.fact self.now.events.setup (take lock) }
-        ensures view { seat.new.me.0.view ≡ view_after self.now.events.setup (take lock) seat.old.me.0.view result }
+        requires may { MayStep P.fact self.now.events (take lock) seat.old }
+        ensures view { IsAfter self.now.events (take lock) seat.old seat.new result }
         ensures found { HasFound self.now.events (take lock) seat.old seat.new result }
     {
         self.events.exchange_as::<Brand, u64>(
@@ -49,11 +45,12 @@ impl<S, X, P: SlotRule<S, X>> Stm<S, X, P> {
         reply: &Reply,
         writes: &WriteList,
     ) -> u64
-        requires seat { BelongsTo self.now.events seat.old }
-        requires may { May self.now.events.setup (draw (about file index request.now reply.now) writes.now) seat.old.me.0.view }
-        requires slots { Outlasts P.fact self.now.events.setup (draw (about file index request.now reply.now) writes.now) }
-        ensures view { seat.new.me.0.view ≡ view_after self.now.events.setup (draw (about file index request.now reply.now) writes.now) seat.old.me.0.view result }
-        ensures found { HasFound self.now.events (draw (about file index request.now reply.now) writes.now) seat.old seat.new result }
+        requires may { MayStep P.fact self.now.events
+            (drawing file index request.now reply.now writes.now) seat.old }
+        ensures view { IsAfter self.now.events
+            (drawing file index request.now reply.now writes.now) seat.old seat.new result }
+        ensures found { HasFound self.now.events
+            (drawing file index request.now reply.now writes.now) seat.old seat.new result }
     {
         self.events
             .add_as::<Brand, (u64, u64, &Request, &Reply, &WriteList)>(
@@ -66,11 +63,9 @@ impl<S, X, P: SlotRule<S, X>> Stm<S, X, P> {
 
     /// Decides the number, by a load of the lock that was taken last.
     pub fn decide(&self, seat: &mut Seat<S, X>, lock: u64) -> u64
-        requires seat { BelongsTo self.now.events seat.old }
         requires lock { lock ≡ first_lock seat.old.me.0.view.tx.owned }
-        requires may { May self.now.events.setup decide seat.old.me.0.view }
-        requires slots { Outlasts P.fact self.now.events.setup decide }
-        ensures view { seat.new.me.0.view ≡ view_after self.now.events.setup decide seat.old.me.0.view result }
+        requires may { MayStep P.fact self.now.events decide seat.old }
+        ensures view { IsAfter self.now.events decide seat.old seat.new result }
         ensures found { HasFound self.now.events decide seat.old seat.new result }
     {
         self.events
@@ -79,12 +74,10 @@ impl<S, X, P: SlotRule<S, X>> Stm<S, X, P> {
 
     /// Stores a written value, in the frame of its page, which the view pins.
     pub fn store(&self, seat: &mut Seat<S, X>, at: u64, frame: u64, value: u64)
-        requires seat { BelongsTo self.now.events seat.old }
         requires frame { find seat.old.me.0.view.paging.pins (page_of at) ≡ Some frame }
         requires value { written seat.old.me.0.view.tx.hand.writes at ≡ Some value }
-        requires may { May self.now.events.setup (store at) seat.old.me.0.view }
-        requires slots { Outlasts P.fact self.now.events.setup (store at) }
-        ensures view { seat.new.me.0.view ≡ view_after self.now.events.setup (store at) seat.old.me.0.view 0 }
+        requires may { MayStep P.fact self.now.events (store at) seat.old }
+        ensures view { IsAfter self.now.events (store at) seat.old seat.new 0 }
         ensures made { HasMade self.now.events (store at) seat.old seat.new }
     {
         self.events
@@ -93,11 +86,9 @@ impl<S, X, P: SlotRule<S, X>> Stm<S, X, P> {
 
     /// Gives a lock back, with the number as its version.
     pub fn release(&self, seat: &mut Seat<S, X>, lock: u64, number: u64)
-        requires seat { BelongsTo self.now.events seat.old }
         requires number { seat.old.me.0.view.tx.hand.number ≡ number }
-        requires may { May self.now.events.setup (release lock) seat.old.me.0.view }
-        requires slots { Outlasts P.fact self.now.events.setup (release lock) }
-        ensures view { seat.new.me.0.view ≡ view_after self.now.events.setup (release lock) seat.old.me.0.view 0 }
+        requires may { MayStep P.fact self.now.events (release lock) seat.old }
+        ensures view { IsAfter self.now.events (release lock) seat.old seat.new 0 }
         ensures made { HasMade self.now.events (release lock) seat.old seat.new }
     {
         self.events
@@ -106,11 +97,9 @@ impl<S, X, P: SlotRule<S, X>> Stm<S, X, P> {
 
     /// Gives a lock back, with the word that it had.
     pub fn restore(&self, seat: &mut Seat<S, X>, lock: u64, old: u64)
-        requires seat { BelongsTo self.now.events seat.old }
         requires old { find seat.old.me.0.view.tx.owned lock ≡ Some old }
-        requires may { May self.now.events.setup (restore lock) seat.old.me.0.view }
-        requires slots { Outlasts P.fact self.now.events.setup (restore lock) }
-        ensures view { seat.new.me.0.view ≡ view_after self.now.events.setup (restore lock) seat.old.me.0.view 0 }
+        requires may { MayStep P.fact self.now.events (restore lock) seat.old }
+        ensures view { IsAfter self.now.events (restore lock) seat.old seat.new 0 }
         ensures made { HasMade self.now.events (restore lock) seat.old seat.new }
     {
         self.events

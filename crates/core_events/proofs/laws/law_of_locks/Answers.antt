@@ -2,10 +2,10 @@ use Rattle.core_events.proofs.LocksKept.{locks_keep, locks_split_keep, locks_joi
 use Rattle.core_events.proofs.laws.law_of_locks.Goals as goal
 
 pub returns-clause-event : goal.returns-clause-event
-returns-clause-event c = λ z e b who v g k0 k1 a. locks_keep z e b who v g k0 k1 a
+returns-clause-event c = λ z e b who v g o k a. locks_keep z e b who v g o k a
 
 pub returns-clause-split : goal.returns-clause-split
-returns-clause-split c = λ z b who draws v g k0 a. locks_split_keep z b who draws v g k0 a
+returns-clause-split c = λ z b who draws v g o k a. locks_split_keep z b who draws v g k a
 
 pub returns-clause-join : goal.returns-clause-join
-returns-clause-join c = λ z b who other v w g k0 a. locks_join_keep z b who other v w g k0 a
+returns-clause-join c = λ z b who other v w g o k a. locks_join_keep z b who other v w g k a

@@ -2,10 +2,10 @@ use Rattle.core_events.proofs.ThreadsKept.{threads_keep, threads_split_keep, thr
 use Rattle.core_events.proofs.laws.law_of_threads.Goals as goal
 
 pub returns-clause-event : goal.returns-clause-event
-returns-clause-event c = λ z e b who v g k0 a. threads_keep z e b who v g k0 a
+returns-clause-event c = λ z e b who v g o k a. threads_keep z e b who v g k a
 
 pub returns-clause-split : goal.returns-clause-split
-returns-clause-split c = λ z b who draws v g k0 a. threads_split_keep z b who draws v g k0 a
+returns-clause-split c = λ z b who draws v g o k a. threads_split_keep z b who draws v g k a
 
 pub returns-clause-join : goal.returns-clause-join
-returns-clause-join c = λ z b who other v w g k0 a. threads_join_keep z b who other v w g k0 a
+returns-clause-join c = λ z b who other v w g o k a. threads_join_keep z b who other v w g k a

@@ -1,6 +1,7 @@
 use Rattle.std.proofs.Common.{arith}
 use Rattle.core_view.proofs.Walks.{all_more}
-use Rattle.core_steps.proofs.Held.{holds_told, not_held, Holds}
+use Rattle.core_steps.specs.Held.{Holds}
+use Rattle.core_steps.proofs.Held.{holds_told, not_held}
 use Rattle.core_steps.proofs.writes.holds_all.Goals as goal
 
 pub returns-then-not-holds : goal.returns-then-not-holds

@@ -2,7 +2,7 @@ use Rattle.std.proofs.Common.{ap, arith}
 use Rattle.core_events.specs.Words.{State}
 use Rattle.core_view.specs.Named.{event_of}
 use Rattle.core_state.proofs.Places.{inside_there, allowed_tells, not_allowed}
-use Rattle.state_lists.proofs.Places.{at_index}
+use Rattle.core_events.proofs.Lists.{at_index}
 use Rattle.core_state.proofs.state.State.allows.Goals as goal
 
 pub returns-then-who-len : goal.returns-then-who-len

@@ -1,7 +1,7 @@
 use Rattle.std.proofs.Common.{ap, sym, arith}
 use Rattle.core_events.specs.Words.{State}
 use Rattle.core_state.proofs.Places.{inside_there}
-use Rattle.state_lists.proofs.Places.{at_index}
+use Rattle.core_events.proofs.Lists.{at_index}
 use Rattle.core_state.proofs.Parted.{join_tells, not_joined}
 use Rattle.core_state.proofs.state.State.may_join.Goals as goal
 use Rattle.core_state.proofs.state.State.may_join.Goals.{then-who-other-via-then-who-other, then-who-other-via-else-who-other+then-who-views, then-who-other-via-else-who-other+else-who-views+then-other-views}

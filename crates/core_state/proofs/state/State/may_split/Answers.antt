@@ -1,7 +1,7 @@
 use Rattle.std.proofs.Common.{ap, arith}
 use Rattle.core_events.specs.Words.{State}
 use Rattle.core_state.proofs.Places.{inside_there}
-use Rattle.state_lists.proofs.Places.{at_index}
+use Rattle.core_events.proofs.Lists.{at_index}
 use Rattle.core_state.proofs.Parted.{split_tells}
 use Rattle.core_state.proofs.state.State.may_split.Goals as goal
 

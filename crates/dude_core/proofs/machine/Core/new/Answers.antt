@@ -2,7 +2,7 @@ use Rattle.dude_core.proofs.Made.{kept_at_start}
 use Rattle.dude_core.proofs.machine.Core.new.Goals as goal
 
 pub invariant_of-result : goal.invariant_of-result
-invariant_of-result c = (c.in-Some.ensures.some.0, kept_at_start c.in-Some.setup c.in_ok-state-in-Some.state c.in-Some.ensures.some.0 c.in_ok-state-in-Some.ensures)
+invariant_of-result c = (c.in-Some.ensures.within, kept_at_start c.in-Some.setup c.in_ok-state-in-Some.state c.in-Some.ensures.within c.in_ok-state-in-Some.ensures)
 
 pub returns-in_ok-state-in-Some-clause-kept : goal.returns-in_ok-state-in-Some-clause-kept
-returns-in_ok-state-in-Some-clause-kept c = kept_at_start c.in-Some.setup c.in_ok-state-in-Some.state c.in-Some.ensures.some.0 c.in_ok-state-in-Some.ensures
+returns-in_ok-state-in-Some-clause-kept c = kept_at_start c.in-Some.setup c.in_ok-state-in-Some.state c.in-Some.ensures.within c.in_ok-state-in-Some.ensures

@@ -1,0 +1,26 @@
+-- What a view becomes by an event, and by the parts of a check.
+use Rattle.std.specs.Prelude.{◌≡◌, ◌==◌, ℕ, [], ◌∷◌, ◌++◌, None, if◌then◌else◌}
+use prog.Atomic.{either}
+use Rattle.core_events.specs.Setups.{Setup}
+use Rattle.core_events.specs.Views.{View}
+use Rattle.core_events.specs.Events.{Event, view_after, looked_word, own_word, is_good, extending, validating}
+
+-- the view v becomes w by the event, which found the number n
+abbrev pub Becomes : Setup → Event → View → ℕ → View → Type 0
+Becomes z e v n w = w ≡ view_after z e v n
+
+-- the value x of the home word i waited no longer: it joins the reads where the lock's word n is still the looked-at one
+abbrev pub confirmed : ℕ → ℕ → ℕ → View → View
+confirmed i x n v = record v { tx = record v.tx { reads = if n == looked_word v.tx.look then v.tx.reads ++ (i, x) ∷ [] else v.tx.reads; loaded = None } }
+
+-- in an extension to this number the word n of the lock was found
+abbrev pub extended : Setup → ℕ → ℕ → ℕ → View → View
+extended z goal lock n v = record v { tx = extending z (is_good v.part.thread v.tx.snapshot n) goal lock v.tx }
+
+-- after the draw the word n of the lock was found
+abbrev pub validated : ℕ → ℕ → View → View
+validated lock n v = record v { tx = validating (is_good v.part.thread v.tx.snapshot n) lock v.tx }
+
+-- what becomes of the word n of a lock that is taken: the thread's own word, where n is the looked-at one
+abbrev pub word_taken : View → ℕ → ℕ
+word_taken v n = either (n == looked_word v.tx.look) (own_word v.part.thread) n

@@ -1,0 +1,52 @@
+//! What becomes of a view by its events.
+
+ghost use Rattle.std.specs.Prelude.{◌≡◌, ◌<◌, ◌-◌, ◌^◌, OnOk, OnErr, IsTrue, ◌↔◌};
+ghost use Rattle.core_events.specs.Events.{name, view_after};
+ghost use Rattle.core_events.specs.Conditions.{May};
+ghost use Rattle.core_events.specs.Telling.{IsSeated, WordTold};
+ghost use Rattle.core_view.specs.Named.{word_of, event_of};
+
+use crate::paging::page;
+use crate::reading::read;
+use crate::turning::turn;
+use crate::writing::write;
+use core_view::deed::Deed;
+use core_view::setup::Setup;
+use core_view::view::View;
+use core_view::word::Word;
+use std::alloc::{AllocError, Global};
+
+/// Makes the event, where it found this in its word. A view whose counts of found words or of
+/// turns are as large as they can be has no memory for a greater one.
+pub fn advance(
+    view: &mut View,
+    alloc: Global,
+    z: &Setup,
+    deed: &Deed,
+    word: Word,
+    found: u64,
+) -> Result<(), AllocError>
+    requires seated { IsSeated z.now view.old }
+    requires may { May z.now (event_of deed.now) view.old }
+    requires told { WordTold z.now (event_of deed.now) view.old found }
+    requires name { word_of word ≡ name z.now (event_of deed.now) view.old }
+    ensures ok { OnOk result (view.new ≡ view_after z.now (event_of deed.now) view.old found) }
+    ensures err { OnErr result (view.new ≡ view.old) }
+{
+    if !can_count(view) {
+        return Err(AllocError);
+    }
+    match deed {
+        Deed::Read(deed) => read(view, alloc, z, deed, word, found),
+        Deed::Write(deed) => write(view, alloc, z, deed, word, found),
+        Deed::Turn(deed) => turn(view, z, deed, word, found),
+        Deed::Page(deed) => page(view, z, deed, word, found),
+    }
+}
+
+// The counts of found words and of turns can each rise by one.
+fn can_count(view: &View) -> bool
+    ensures { IsTrue result ↔ ((view.now.count < 2 ^ 64 - 1) × (view.now.turn.count < 2 ^ 64 - 1)) }
+{
+    view.count < u64::MAX && view.turn.count < u64::MAX
+}

@@ -1,4 +1,0 @@
-pub mod Walked
-pub mod Started
-pub mod Places
-pub mod Parted
