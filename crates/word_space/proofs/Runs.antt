@@ -129,13 +129,17 @@ module _ {S : Type 0} {sight : S → WordsSight} {turns_into : S → S → Type 
   used_write result writes turns = record { count = count_write result writes; turns = turns; last = last_write result writes; most = most_write result writes }
 
   -- calls behind calls that handed no Stop on
-  pub used_then : {k l m n : ℕ} {stop : Option Stop} {x y z : S} → WordsUsed sight turns_into k l None x y → WordsUsed sight turns_into m n stop y z → WordsUsed sight turns_into (k + m) (l + n) stop x z
-  used_then {stop = stop} a b = record {
+  pub used_behind : {k l m n : ℕ} {stop : Option Stop} {x y z : S} → WordsUsed sight turns_into k l None x y → WordsUsed sight turns_into m n stop y z → WordsUsed sight turns_into (k + m) (l + n) stop x z
+  used_behind {stop = stop} a b = record {
     count = b.count ∙ a.count;
     turns = λ w led. b.turns w (a.turns w led);
     last = last_then _ _ _ stop a.last b.last;
     most = most_then a.most b.most;
   }
+
+  -- where these handed no Stop on either
+  pub used_then : {k l m n : ℕ} {x y z : S} → WordsUsed sight turns_into k l None x y → WordsUsed sight turns_into m n None y z → WordsUsed sight turns_into (k + m) (l + n) None x z
+  used_then a b = used_behind {stop = None} a b
 
   -- more reads and writes are allowed
   pub used_more : {k l m n : ℕ} {stop : Option Stop} {x y : S} → WordsUsed sight turns_into k l stop x y → k ≤ m → l ≤ n → WordsUsed sight turns_into m n stop x y
@@ -151,24 +155,27 @@ module _ {S : Type 0} {sight : S → WordsSight} {turns_into : S → S → Type 
   used_handed {m = m} {n = n} {x = x} {y = y} r handed used reads writes = subst (λ o. WordsUsed sight turns_into m n (stop_of o) x y) (sym (is_err r handed)) (used_more used reads writes)
 
   -- an array that may lie below after calls may lie below before them
-  pub below_before : {m n : ℕ} {stop : Option Stop} {x y : S} {array : List ℕ} → WordsUsed sight turns_into m n stop x y → IsBelow (sight y) array → IsBelow (sight x) array
-  below_before {array = array} used below = record { size = below.size ∙ used.count; agrees = record { each = all_before (λ r. slice_index array r.0 ≡ r.1) _ used.most.noted (subst (λ q. All (λ r. slice_index array r.0 ≡ r.1) q) used.most.reads below.agrees.each) } }
+  pub below_behind : {m n : ℕ} {stop : Option Stop} {x y : S} {array : List ℕ} → WordsUsed sight turns_into m n stop x y → IsBelow (sight y) array → IsBelow (sight x) array
+  below_behind {array = array} used below = record { size = below.size ∙ used.count; agrees = record { each = all_before (λ r. slice_index array r.0 ≡ r.1) _ used.most.noted (subst (λ q. All (λ r. slice_index array r.0 ≡ r.1) q) used.most.reads below.agrees.each) } }
+
+  pub below_before : {m n : ℕ} {x y : S} {array : List ℕ} → WordsUsed sight turns_into m n None x y → IsBelow (sight y) array → IsBelow (sight x) array
+  below_before used below = below_behind {stop = None} used below
 
   -- calls that may write nothing leave the writes
   pub unwritten : {m : ℕ} {stop : Option Stop} {x y : S} → WordsUsed sight turns_into m 0 stop x y → (sight y).writes ≡ (sight x).writes
   unwritten used = none_made used.most.made used.most.few_writes used.most.writes
 
   -- and the words as they are seen
-  pub shown_same : {m : ℕ} {stop : Option Stop} {x y : S} → WordsUsed sight turns_into m 0 stop x y → (array : List ℕ) → shown (sight y) array ≡ shown (sight x) array
-  shown_same used array = ap (λ ws. overwritten ws array) (unwritten used)
+  pub shown_same : {m : ℕ} {x y : S} → WordsUsed sight turns_into m 0 None x y → (array : List ℕ) → shown (sight y) array ≡ shown (sight x) array
+  shown_same used array = ap (λ ws. overwritten ws array) (unwritten {stop = None} used)
 
   -- from no writes at most so many are pending
   pub few_pending : {m n : ℕ} {stop : Option Stop} {x y : S} → WordsUsed sight turns_into m n stop x y → (sight x).writes ≡ [] → length (sight y).writes ≤ n
   few_pending {x = x} used none = omega (arith, length-put_all (sight x).writes used.most.made, used.most.few_writes, ap length used.most.writes, ap length none)
 
   -- such calls made no write
-  pub wrote_none : {m : ℕ} {stop : Option Stop} {x y : S} → WordsUsed sight turns_into m 0 stop x y → Wrote 0 (sight x) (sight y)
-  wrote_none used = record { made = []; count = refl; writes = unwritten used }
+  pub wrote_none : {m : ℕ} {x y : S} → WordsUsed sight turns_into m 0 None x y → Wrote 0 (sight x) (sight y)
+  wrote_none used = record { made = []; count = refl; writes = unwritten {stop = None} used }
 
 -- as many words are seen as there are
 pub length_shown : {s : WordsSight} {array : List ℕ} → IsBelow s array → length (shown s array) ≡ s.count
