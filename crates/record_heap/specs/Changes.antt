@@ -10,3 +10,7 @@ IsNoneOf (word ∷ words) i = (i ≢ word) × IsNoneOf words i
 pub record ChangesOnly (words : List ℕ) (old new : List ℕ) : Type 0 where
   pub size : length new ≡ length old
   pub others : (i : ℕ) → IsNoneOf words i → slice_index new i ≡ slice_index old i
+
+-- no word but this one differs
+abbrev pub ChangesWord : ℕ → List ℕ → List ℕ → Unit {0} → Type 0
+ChangesWord word old new done = ChangesOnly (word ∷ []) old new
