@@ -1,15 +1,10 @@
 -- The replies, by what was learned of the tables.
-use Rattle.std.proofs.Common.{◌≡◌, ℕ, true, false, List, [], length, map, Option, refl, sym, ap, ◌∙◌, subst}
+use Rattle.std.proofs.Common.{◌≡◌, ℕ, true, false, length, map, Option, refl, sym, ap, ◌∙◌}
 use Rattle.std.specs.Prelude.{◌==◌, find, filter}
 use Rattle.std.specs.List.{list_any}
 use Rattle.std.specs.Option.{option_map_or}
 use Rattle.std.proofs.lemmas.Bool.{eqb-true, eqb-false}
 use Rattle.std.proofs.lemmas.List.{length-map}
-use Rattle.dude_base.specs.declared.sizes.Sizes.{Sizes}
-use Rattle.dude_base.specs.Writes.{overwritten}
-use Rattle.word_space.specs.declared.stop.Stop.{Stop}
-use Rattle.word_space.specs.Steps.{Looked}
-use Rattle.word_space.specs.Sights.{WordsSight, shown}
 use Rattle.tatp_model.specs.declared.access_row.AccessRow.{AccessRow}
 use Rattle.tatp_model.specs.declared.call_row.CallRow.{CallRow}
 use Rattle.tatp_model.specs.declared.numbers.Numbers.{Numbers}
@@ -21,15 +16,6 @@ use Rattle.tatp_model.specs.Database.{Database}
 use Rattle.tatp_model.specs.Numbers.{numbers_of}
 use Rattle.tatp_model.specs.Transaction.{is_subscriber, is_access, is_active_facility, forwards, reply_to}
 use Rattle.tatp_model.proofs.Rows.{list_any-from_none, list_any-from_some}
-use Rattle.tatp_layout.specs.StandsFor.{StandsFor}
-
--- where nothing is written, the words are seen as they are
-pub stands_bare : {sizes : Sizes} {array : List ℕ} {db : Database} (s : WordsSight) → s.writes ≡ [] → StandsFor sizes array db → StandsFor sizes (shown s array) db
-stands_bare {sizes} {array} {db} s bare stands = subst (λ ws. StandsFor sizes (overwritten ws array) db) (sym bare) stands
-
--- calls that wrote nothing leave it so
-pub stands_looked : {sizes : Sizes} {db : Database} {stop : Option Stop} {s t : WordsSight} (array : List ℕ) → Looked stop s t → StandsFor sizes (shown s array) db → StandsFor sizes (shown t array) db
-stands_looked {sizes} {db} array looked stands = subst (λ ws. StandsFor sizes (overwritten ws array) db) (sym looked.writes) stands
 
 module _ (limit : ℕ) (db : Database) {q : Request} where
   pub subscriber_reply : {s_id : ℕ} (row : Option SubRow) → q ≡ GetSubscriber s_id → row ≡ find (is_subscriber s_id) db.subscribers → option_map_or Subscriber row Missing ≡ reply_to limit db q
