@@ -1,6 +1,5 @@
 pub mod Answered
 pub mod Deleting
-pub mod Handed
 pub mod Inserting
 pub mod Lists
 pub mod Locations

@@ -141,6 +141,10 @@ module _ {S : Type 0} {sight : S → WordsSight} {turns_into : S → S → Type 
   pub used_then : {k l m n : ℕ} {x y z : S} → WordsUsed sight turns_into k l None x y → WordsUsed sight turns_into m n None y z → WordsUsed sight turns_into (k + m) (l + n) None x z
   used_then a b = used_behind {stop = None} a b
 
+  -- where these handed a Stop on
+  pub used_until : {e : Stop} {k l m n : ℕ} {x y z : S} → WordsUsed sight turns_into k l None x y → WordsUsed sight turns_into m n (Some e) y z → WordsUsed sight turns_into (k + m) (l + n) (Some e) x z
+  used_until {e} a b = used_behind {stop = Some e} a b
+
   -- more reads and writes are allowed
   pub used_more : {k l m n : ℕ} {stop : Option Stop} {x y : S} → WordsUsed sight turns_into k l stop x y → k ≤ m → l ≤ n → WordsUsed sight turns_into m n stop x y
   used_more a reads writes = record {

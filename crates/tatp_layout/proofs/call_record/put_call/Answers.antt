@@ -4,7 +4,7 @@ use Rattle.record_heap.specs.Pool.{IsRecord}
 use Rattle.hash_table.specs.declared.table.Table.{Table}
 use Rattle.tatp_layout.specs.Records.{HoldsRow, call_form}
 use Rattle.tatp_layout.proofs.Stored.{word_fits, call_set}
-use Rattle.word_space.proofs.Runs.{below_before, length_shown, used_behind, used_handed, used_then, wrote_none, wrote_one, wrote_then, shown_same}
+use Rattle.word_space.proofs.Runs.{below_before, length_shown, used_until, used_handed, used_then, wrote_none, wrote_one, wrote_then, shown_same}
 use Rattle.std.proofs.lemmas.Result.{IfOk-from_err}
 use Rattle.tatp_layout.proofs.call_record.put_call.Goals as goal
 
@@ -18,7 +18,7 @@ returns-in_err-write g c = record {
 
 pub returns-in_err-write-2 : goal.returns-in_err-write-2
 returns-in_err-write-2 g c = record {
-  uses = used_handed c.from_residual-in_err-write-2.result c.from_residual-in_err-write-2.ensures.1 (used_behind c.in_ok-write.ensures.uses c.in_err-write-2.ensures.uses) (lit≤ tt) (lit≤ tt);
+  uses = used_handed c.from_residual-in_err-write-2.result c.from_residual-in_err-write-2.ensures.1 (used_until c.in_ok-write.ensures.uses c.in_err-write-2.ensures.uses) (lit≤ tt) (lit≤ tt);
   wrote = IfOk-from_err _ _ c.from_residual-in_err-write-2.ensures.0;
   shown = IfOk-from_err _ _ c.from_residual-in_err-write-2.ensures.0;
   holds = IfOk-from_err _ _ c.from_residual-in_err-write-2.ensures.0;

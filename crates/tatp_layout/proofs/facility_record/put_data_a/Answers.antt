@@ -3,7 +3,7 @@ use Rattle.record_heap.specs.Pool.{IsRecord}
 use Rattle.hash_table.specs.declared.table.Table.{Table}
 use Rattle.tatp_layout.specs.Records.{HoldsRow, facility_form}
 use Rattle.tatp_layout.proofs.Stored.{word_fits, data_a_set}
-use Rattle.word_space.proofs.Runs.{below_before, length_shown, used_behind, used_handed, used_then, wrote_none, wrote_one, wrote_then, shown_same}
+use Rattle.word_space.proofs.Runs.{below_before, length_shown, used_until, used_handed, used_then, wrote_none, wrote_one, wrote_then, shown_same}
 use Rattle.std.proofs.lemmas.Result.{IfOk-from_err}
 use Rattle.tatp_layout.proofs.facility_record.put_data_a.Goals as goal
 
@@ -17,7 +17,7 @@ returns-in_err-word g c = record {
 
 pub returns-in_err-write : goal.returns-in_err-write
 returns-in_err-write g c = record {
-  uses = used_handed c.from_residual-in_err-write.result c.from_residual-in_err-write.ensures.1 (used_behind c.in_ok-word.ensures.uses c.in_err-write.ensures.uses) (lit≤ tt) (lit≤ tt);
+  uses = used_handed c.from_residual-in_err-write.result c.from_residual-in_err-write.ensures.1 (used_until c.in_ok-word.ensures.uses c.in_err-write.ensures.uses) (lit≤ tt) (lit≤ tt);
   wrote = IfOk-from_err _ _ c.from_residual-in_err-write.ensures.0;
   changes = IfOk-from_err _ _ c.from_residual-in_err-write.ensures.0;
   holds = IfOk-from_err _ _ c.from_residual-in_err-write.ensures.0;

@@ -3,7 +3,7 @@ use Rattle.std.proofs.lemmas.Bool.{cases_eq}
 use Rattle.std.proofs.lemmas.List.{length-replicate}
 use Rattle.std.specs.Prelude.{replicate}
 use Rattle.word_space.specs.Sights.{shown}
-use Rattle.word_space.proofs.Runs.{below_before, shown_same, used_behind, used_handed, used_more, used_then}
+use Rattle.word_space.proofs.Runs.{below_before, shown_same, used_until, used_handed, used_more, used_then}
 use Rattle.std.proofs.lemmas.Result.{IfOk-from_err}
 use Rattle.tatp_layout.proofs.record_words.read_record.Goals as goal
 
@@ -15,7 +15,7 @@ returns-in_err-words g c = record {
 
 pub returns-in_err-words-2 : goal.returns-in_err-words-2
 returns-in_err-words-2 g c = record {
-  uses = used_handed c.from_residual-in_err-words-2.result c.from_residual-in_err-words-2.ensures.1 (used_behind c.loop-k.invariant.uses c.in_err-words-2.ensures.uses) (omega arith) (lit≤ tt);
+  uses = used_handed c.from_residual-in_err-words-2.result c.from_residual-in_err-words-2.ensures.1 (used_until c.loop-k.invariant.uses c.in_err-words-2.ensures.uses) (omega arith) (lit≤ tt);
   words = IfOk-from_err _ _ c.from_residual-in_err-words-2.ensures.0;
 }
 

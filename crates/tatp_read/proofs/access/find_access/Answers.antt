@@ -1,6 +1,6 @@
 use Rattle.std.proofs.Common.{◌∙◌, ap, arith, lit≤}
 use Rattle.std.proofs.lemmas.Result.{IfOk-from_err}
-use Rattle.word_space.proofs.Runs.{below_before, shown_same, used_behind, used_handed, used_more, used_then}
+use Rattle.word_space.proofs.Runs.{below_before, shown_same, used_until, used_handed, used_more, used_then}
 use Rattle.hash_table.specs.Walk.{walk_reads}
 use Rattle.tatp_layout.proofs.Seen.{fits_still, record_at}
 use Rattle.tatp_read.proofs.Lookups.{access_absent, access_there}
@@ -26,7 +26,7 @@ returns-in_default-clause-row g c = λ array below db stands. access_absent c.ki
 
 pub returns-in_err-get_access : goal.returns-in_err-get_access
 returns-in_err-get_access g c = record {
-  uses = used_handed c.from_residual-in_err-get_access.result c.from_residual-in_err-get_access.ensures.1 (used_behind c.in_ok-at.ensures.uses c.in_err-get_access.ensures.uses) (omega (arith, ap walk_reads c.access.ensures.table)) (lit≤ tt);
+  uses = used_handed c.from_residual-in_err-get_access.result c.from_residual-in_err-get_access.ensures.1 (used_until c.in_ok-at.ensures.uses c.in_err-get_access.ensures.uses) (omega (arith, ap walk_reads c.access.ensures.table)) (lit≤ tt);
   row = IfOk-from_err _ _ c.from_residual-in_err-get_access.ensures.0;
 }
 

@@ -1,7 +1,7 @@
 use Rattle.std.proofs.Common.{◌∙◌, ap, arith, lit≤, true, false}
 use Rattle.std.proofs.lemmas.Result.{IfOk-from_err}
 use Rattle.std.proofs.lemmas.Bool.{lt-ltb, le-ltb}
-use Rattle.word_space.proofs.Runs.{below_before, shown_same, used_behind, used_handed, used_more, used_then}
+use Rattle.word_space.proofs.Runs.{below_before, shown_same, used_until, used_handed, used_more, used_then}
 use Rattle.hash_table.specs.Walk.{walk_reads}
 use Rattle.tatp_layout.proofs.Seen.{fits_still, record_at}
 use Rattle.tatp_read.proofs.Lookups.{call_absent, call_there}
@@ -27,7 +27,7 @@ returns-in_default-clause-numbers g c = λ array below db stands. call_absent c.
 
 pub returns-in_err-row : goal.returns-in_err-row
 returns-in_err-row g c = record {
-  uses = used_handed c.from_residual-in_err-row.result c.from_residual-in_err-row.ensures.1 (used_behind c.in_ok-at.ensures.uses c.in_err-row.ensures.uses) (omega (arith, ap walk_reads c.calls.ensures.table)) (lit≤ tt);
+  uses = used_handed c.from_residual-in_err-row.result c.from_residual-in_err-row.ensures.1 (used_until c.in_ok-at.ensures.uses c.in_err-row.ensures.uses) (omega (arith, ap walk_reads c.calls.ensures.table)) (lit≤ tt);
   numbers = IfOk-from_err _ _ c.from_residual-in_err-row.ensures.0;
 }
 

@@ -6,7 +6,7 @@ use Rattle.tatp_model.proofs.Calls.{eighth}
 use Rattle.tatp_read.specs.Forwarding.{numbers_within}
 use Rattle.tatp_read.proofs.Forwarding.{numbers_all, numbers_kept, numbers_none, numbers_pushed, one_look_up_more, three_look_ups}
 use Rattle.tatp_read.proofs.destination.destinations.Goals.{in-Some, in_default}
-use Rattle.word_space.proofs.Runs.{below_before, used_behind, used_handed, used_more, used_none, used_then}
+use Rattle.word_space.proofs.Runs.{below_before, used_until, used_handed, used_more, used_none, used_then}
 use Rattle.tatp_layout.proofs.Seen.{stands_still}
 use Rattle.tatp_read.specs.Lookups.{call_reads}
 use Rattle.tatp_read.proofs.destination.destinations.Goals as goal
@@ -18,7 +18,7 @@ returns-in_err-phone g c =
     let more = one_look_up_more c.loop-key.key c.first_call_key-first.result reads c.loop-key.auto.key in
     let all = three_look_ups (c.loop-key.key + 1 - c.first_call_key-first.result) reads (omega (arith, small)) in
     record {
-      uses = used_handed c.from_residual.result c.from_residual.ensures.1 (used_behind c.loop-key.invariant.uses c.in_err-phone.ensures.uses) (omega (arith, more, all)) (lit≤ tt);
+      uses = used_handed c.from_residual.result c.from_residual.ensures.1 (used_until c.loop-key.invariant.uses c.in_err-phone.ensures.uses) (omega (arith, more, all)) (lit≤ tt);
       numbers = IfOk-from_err _ _ c.from_residual.ensures.0;
     }
 

@@ -1,6 +1,6 @@
 use Rattle.std.proofs.Common.{◌∙◌, ap, arith, lit≤}
 use Rattle.std.proofs.lemmas.Result.{IfOk-from_err}
-use Rattle.word_space.proofs.Runs.{below_before, shown_same, used_behind, used_handed, used_more, used_then}
+use Rattle.word_space.proofs.Runs.{below_before, shown_same, used_until, used_handed, used_more, used_then}
 use Rattle.hash_table.specs.Walk.{walk_reads}
 use Rattle.tatp_layout.proofs.Seen.{fits_still, record_at}
 use Rattle.tatp_read.proofs.Lookups.{facility_absent, facility_there}
@@ -26,7 +26,7 @@ returns-in_default-clause-active g c = λ array below db stands. facility_absent
 
 pub returns-in_err-facility : goal.returns-in_err-facility
 returns-in_err-facility g c = record {
-  uses = used_handed c.from_residual-in_err-facility.result c.from_residual-in_err-facility.ensures.1 (used_behind c.in_ok-at.ensures.uses c.in_err-facility.ensures.uses) (omega (arith, ap walk_reads c.facilities.ensures.table)) (lit≤ tt);
+  uses = used_handed c.from_residual-in_err-facility.result c.from_residual-in_err-facility.ensures.1 (used_until c.in_ok-at.ensures.uses c.in_err-facility.ensures.uses) (omega (arith, ap walk_reads c.facilities.ensures.table)) (lit≤ tt);
   active = IfOk-from_err _ _ c.from_residual-in_err-facility.ensures.0;
 }
 

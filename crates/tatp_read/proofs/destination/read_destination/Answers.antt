@@ -1,6 +1,6 @@
 use Rattle.std.proofs.Common.{sym, ◌∙◌, arith, lit≤}
 use Rattle.std.proofs.lemmas.Result.{IfOk-from_err}
-use Rattle.word_space.proofs.Runs.{below_before, used_behind, used_handed, used_more, used_then}
+use Rattle.word_space.proofs.Runs.{below_before, used_until, used_handed, used_more, used_then}
 use Rattle.tatp_layout.proofs.Seen.{stands_bare, stands_still}
 use Rattle.tatp_read.proofs.Replies.{inactive_reply, no_destination_reply, destinations_reply}
 use Rattle.tatp_read.proofs.destination.read_destination.Goals as goal
@@ -25,7 +25,7 @@ returns-then-not-branch-clause-reply g c = λ array below db stands.
 
 pub returns-in_err-phones : goal.returns-in_err-phones
 returns-in_err-phones g c = record {
-  uses = used_handed c.from_residual-in_err-phones.result c.from_residual-in_err-phones.ensures.1 (used_behind c.in_ok-has_active_facility.ensures.uses c.in_err-phones.ensures.uses) (omega arith) (lit≤ tt);
+  uses = used_handed c.from_residual-in_err-phones.result c.from_residual-in_err-phones.ensures.1 (used_until c.in_ok-has_active_facility.ensures.uses c.in_err-phones.ensures.uses) (omega arith) (lit≤ tt);
   unchanged = IfOk-from_err _ _ c.from_residual-in_err-phones.ensures.0;
   reply = IfOk-from_err _ _ c.from_residual-in_err-phones.ensures.0;
 }

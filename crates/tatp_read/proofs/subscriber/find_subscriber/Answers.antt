@@ -1,6 +1,6 @@
 use Rattle.std.proofs.Common.{◌∙◌, ap, arith, lit≤}
 use Rattle.std.proofs.lemmas.Result.{IfOk-from_err}
-use Rattle.word_space.proofs.Runs.{below_before, shown_same, used_behind, used_handed, used_more, used_then}
+use Rattle.word_space.proofs.Runs.{below_before, shown_same, used_until, used_handed, used_more, used_then}
 use Rattle.hash_table.specs.Walk.{walk_reads}
 use Rattle.tatp_layout.proofs.Seen.{fits_still, record_at}
 use Rattle.tatp_read.proofs.Lookups.{subscriber_absent, subscriber_there}
@@ -26,7 +26,7 @@ returns-in_default-clause-row g c = λ array below db stands. subscriber_absent 
 
 pub returns-in_err-get_sub : goal.returns-in_err-get_sub
 returns-in_err-get_sub g c = record {
-  uses = used_handed c.from_residual-in_err-get_sub.result c.from_residual-in_err-get_sub.ensures.1 (used_behind c.in_ok-at.ensures.uses c.in_err-get_sub.ensures.uses) (omega (arith, ap walk_reads c.subscribers.ensures.table)) (lit≤ tt);
+  uses = used_handed c.from_residual-in_err-get_sub.result c.from_residual-in_err-get_sub.ensures.1 (used_until c.in_ok-at.ensures.uses c.in_err-get_sub.ensures.uses) (omega (arith, ap walk_reads c.subscribers.ensures.table)) (lit≤ tt);
   row = IfOk-from_err _ _ c.from_residual-in_err-get_sub.ensures.0;
 }
 

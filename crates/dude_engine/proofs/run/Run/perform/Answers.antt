@@ -17,14 +17,14 @@ use Rattle.dude_engine.proofs.run.Run.perform.Goals as goal
 pub returns-in-Err-NoMemory-clause-left : goal.returns-in-Err-NoMemory-clause-left
 returns-in-Err-NoMemory-clause-left g c opening words s run =
     let self = c.args.self.now in
-    let same : words_of c.run_request.new.w ≡ words_of self.words = c.run_request.ensures.turns self.words refl in
+    let same : words_of c.run_request.new.w ≡ words_of self.words = c.run_request.ensures.uses.turns self.words refl in
     subst (λ (current : List ℕ). IsRunning opening words self.lay self.log current self.done.items s (g.M.Medium.sight (log_medium self.log))) (sym (c.forget.ensures.words ∙ same)) run
 
 pub log_change-requires-clause-change : goal.log_change-requires-clause-change
 log_change-requires-clause-change g c =
     let self = c.args.self.now in
     let w = c.run_request.new.w in
-    let same : words_of w ≡ words_of self.words = c.run_request.ensures.turns self.words refl in
+    let same : words_of w ≡ words_of self.words = c.run_request.ensures.uses.turns self.words refl in
     record {
       alive = c.requires.ready.alive;
       sizes = c.requires.ready.sizes;
@@ -35,7 +35,7 @@ log_change-requires-clause-change g c =
 pub returns-in-Changed-clause-left : goal.returns-in-Changed-clause-left
 returns-in-Changed-clause-left g c opening words s run =
     let self = c.args.self.now in
-    let same : words_of c.run_request.new.w ≡ words_of self.words = c.run_request.ensures.turns self.words refl in
+    let same : words_of c.run_request.new.w ≡ words_of self.words = c.run_request.ensures.uses.turns self.words refl in
     c.log_change.ensures.left opening words s
     (subst (λ (current : List ℕ). IsRunning opening words self.lay self.log current self.done.items s (g.M.Medium.sight (log_medium self.log))) (sym same) run)
 
@@ -43,7 +43,7 @@ pub returns-in_default : goal.returns-in_default
 returns-in_default g c =
     let self = c.args.self.now in
     let w = c.run_request.new.w in
-    let same : words_of w ≡ words_of self.words = c.run_request.ensures.turns self.words refl in
+    let same : words_of w ≡ words_of self.words = c.run_request.ensures.uses.turns self.words refl in
     let d : Done = record { file = c.args.file; index = c.args.index; number = c.last-number.result; wrote = false; request = c.args.request.now; reply = c.in-Ok.reply } in
     let words_are : words_of c.note.new.self.words ≡ words_of self.words = ap (λ (f : Flat). words_of f) c.note.ensures.words ∙ c.forget-in_default.ensures.words ∙ same in
     let clean : flat_sight c.note.new.self.words ≡ fresh (words_of c.note.new.self.words) =

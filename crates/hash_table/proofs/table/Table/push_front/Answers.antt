@@ -1,5 +1,5 @@
 use Rattle.std.proofs.Common.{arith, lit≤}
-use Rattle.word_space.proofs.Runs.{used_behind, wrote_one, wrote_then, used_handed, used_more, used_then}
+use Rattle.word_space.proofs.Runs.{used_until, wrote_one, wrote_then, used_handed, used_more, used_then}
 use Rattle.std.proofs.lemmas.Result.{IfOk-from_err}
 use Rattle.hash_table.proofs.table.Table.push_front.Goals as goal
 
@@ -12,14 +12,14 @@ returns-in_err-write g c = record {
 
 pub returns-in_err-write-2 : goal.returns-in_err-write-2
 returns-in_err-write-2 g c = record {
-  uses = used_handed c.from_residual-in_err-write-2.result c.from_residual-in_err-write-2.ensures.1 (used_behind c.in_ok-write.ensures.uses c.in_err-write-2.ensures.uses) (lit≤ tt) (lit≤ tt);
+  uses = used_handed c.from_residual-in_err-write-2.result c.from_residual-in_err-write-2.ensures.1 (used_until c.in_ok-write.ensures.uses c.in_err-write-2.ensures.uses) (lit≤ tt) (lit≤ tt);
   wrote = IfOk-from_err _ _ c.from_residual-in_err-write-2.ensures.0;
   shown = IfOk-from_err _ _ c.from_residual-in_err-write-2.ensures.0;
 }
 
 pub returns-in_err-write-3 : goal.returns-in_err-write-3
 returns-in_err-write-3 g c = record {
-  uses = used_handed c.from_residual-in_err-write-3.result c.from_residual-in_err-write-3.ensures.1 (used_behind (used_then c.in_ok-write.ensures.uses c.in_ok-write-2.ensures.uses) c.in_err-write-3.ensures.uses) (lit≤ tt) (lit≤ tt);
+  uses = used_handed c.from_residual-in_err-write-3.result c.from_residual-in_err-write-3.ensures.1 (used_until (used_then c.in_ok-write.ensures.uses c.in_ok-write-2.ensures.uses) c.in_err-write-3.ensures.uses) (lit≤ tt) (lit≤ tt);
   wrote = IfOk-from_err _ _ c.from_residual-in_err-write-3.ensures.0;
   shown = IfOk-from_err _ _ c.from_residual-in_err-write-3.ensures.0;
 }

@@ -3,7 +3,7 @@ use Rattle.std.proofs.lemmas.Result.{IfOk-from_err}
 use Rattle.record_heap.specs.Pool.{IsRecord}
 use Rattle.hash_table.specs.Table.{FitsTable}
 use Rattle.hash_table.specs.declared.table.ChainPosition.{ChainPosition}
-use Rattle.word_space.proofs.Runs.{used_behind, below_before, shown_same, wrote_none, wrote_then, used_handed, used_more, used_then}
+use Rattle.word_space.proofs.Runs.{used_until, below_before, shown_same, wrote_none, wrote_then, used_handed, used_more, used_then}
 use Rattle.hash_table.proofs.Insertions.{found_first}
 use Rattle.hash_table.proofs.Removals.{drops_there}
 use Rattle.hash_table.proofs.Walks.{finds_none, finds_some}
@@ -22,7 +22,7 @@ returns-in_default-clause-uses g c = used_more c.in_ok-position.ensures.uses (om
 
 pub returns-in_err-unlink : goal.returns-in_err-unlink
 returns-in_err-unlink g c = record {
-  uses = used_handed c.from_residual-in_err-unlink.result c.from_residual-in_err-unlink.ensures.1 (used_behind c.in_ok-position.ensures.uses c.in_err-unlink.ensures.uses) (omega arith) (lit≤ tt);
+  uses = used_handed c.from_residual-in_err-unlink.result c.from_residual-in_err-unlink.ensures.1 (used_until c.in_ok-position.ensures.uses c.in_err-unlink.ensures.uses) (omega arith) (lit≤ tt);
   wrote = IfOk-from_err _ _ c.from_residual-in_err-unlink.ensures.0;
   finds = IfOk-from_err _ _ c.from_residual-in_err-unlink.ensures.0;
   removes = IfOk-from_err _ _ c.from_residual-in_err-unlink.ensures.0;

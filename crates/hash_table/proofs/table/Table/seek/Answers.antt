@@ -1,14 +1,14 @@
 use Rattle.std.proofs.Common.{None, Ok, arith, sym, ap, ◌∙◌, slice_index, lit≤}
 use Rattle.std.proofs.lemmas.Bool.{false≢true}
 use Rattle.std.proofs.lemmas.Result.{IfOk-from_err}
-use Rattle.word_space.proofs.Runs.{used_behind, used_then, below_before, shown_same, used_handed, used_more, used_none}
+use Rattle.word_space.proofs.Runs.{used_until, used_then, below_before, shown_same, used_handed, used_more, used_none}
 use Rattle.hash_table.specs.declared.table.ChainPosition.{ChainPosition}
 use Rattle.hash_table.proofs.Walks.{passes_from, passes_none, passes_more, seeks_end, seeks_found, seeks_out}
 use Rattle.hash_table.proofs.table.Table.seek.Goals as goal
 
 pub returns-in_err-record : goal.returns-in_err-record
 returns-in_err-record g c = record {
-  uses = used_handed c.from_residual.result c.from_residual.ensures.1 (used_behind c.loop.invariant.uses c.in_err-record.ensures.uses) (omega arith) (lit≤ tt);
+  uses = used_handed c.from_residual.result c.from_residual.ensures.1 (used_until c.loop.invariant.uses c.in_err-record.ensures.uses) (omega arith) (lit≤ tt);
   «record» = IfOk-from_err _ _ c.from_residual.ensures.0;
   link = IfOk-from_err _ _ c.from_residual.ensures.0;
   seeks = IfOk-from_err _ _ c.from_residual.ensures.0;
@@ -19,7 +19,7 @@ returns-then-not-has-clause-uses g c = used_more (used_then c.loop.invariant.use
 
 pub returns-in_err-read : goal.returns-in_err-read
 returns-in_err-read g c = record {
-  uses = used_handed c.from_residual-in_err-read.result c.from_residual-in_err-read.ensures.1 (used_behind (used_then c.loop.invariant.uses c.in_ok-record.ensures.uses) c.in_err-read.ensures.uses) (omega arith) (lit≤ tt);
+  uses = used_handed c.from_residual-in_err-read.result c.from_residual-in_err-read.ensures.1 (used_until (used_then c.loop.invariant.uses c.in_ok-record.ensures.uses) c.in_err-read.ensures.uses) (omega arith) (lit≤ tt);
   «record» = IfOk-from_err _ _ c.from_residual-in_err-read.ensures.0;
   link = IfOk-from_err _ _ c.from_residual-in_err-read.ensures.0;
   seeks = IfOk-from_err _ _ c.from_residual-in_err-read.ensures.0;

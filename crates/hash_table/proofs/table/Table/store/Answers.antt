@@ -1,7 +1,7 @@
 use Rattle.std.proofs.Common.{None, arith, IfSome, is_some, if◌then◌else◌, sym, subst, ap, ◌∙◌, slice_index, lit≤}
 use Rattle.std.proofs.lemmas.Result.{IfOk-from_err}
 use Rattle.word_space.specs.Sights.{shown}
-use Rattle.word_space.proofs.Runs.{used_behind, below_before, shown_same, length_shown, wrote_none, wrote_then, used_handed, used_more, used_then}
+use Rattle.word_space.proofs.Runs.{used_until, below_before, shown_same, length_shown, wrote_none, wrote_then, used_handed, used_more, used_then}
 use Rattle.word_space.specs.Steps.{Wrote}
 use Rattle.record_heap.specs.Pool.{FitsPool, IsPool, IsRecord, Takes, IsFirstFree}
 use Rattle.hash_table.specs.Table.{FitsTable, records_in}
@@ -19,7 +19,7 @@ returns-in_err-head g c = record {
 
 pub returns-in_err-at : goal.returns-in_err-at
 returns-in_err-at g c = record {
-  uses = used_handed c.from_residual-in_err-at.result c.from_residual-in_err-at.ensures.1 (used_behind c.in_ok-head.ensures.uses c.in_err-at.ensures.uses) (lit≤ tt) (lit≤ tt);
+  uses = used_handed c.from_residual-in_err-at.result c.from_residual-in_err-at.ensures.1 (used_until c.in_ok-head.ensures.uses c.in_err-at.ensures.uses) (lit≤ tt) (lit≤ tt);
   wrote = IfOk-from_err _ _ c.from_residual-in_err-at.ensures.0;
   puts = IfOk-from_err _ _ c.from_residual-in_err-at.ensures.0;
   «record» = IfOk-from_err _ _ c.from_residual-in_err-at.ensures.0;
@@ -31,7 +31,7 @@ returns-in_default-clause-uses g c = used_more (used_then c.in_ok-head.ensures.u
 
 pub returns-in_err-push_front : goal.returns-in_err-push_front
 returns-in_err-push_front g c = record {
-  uses = used_handed c.from_residual-in_err-push_front.result c.from_residual-in_err-push_front.ensures.1 (used_behind (used_then c.in_ok-head.ensures.uses c.in_ok-at.ensures.uses) c.in_err-push_front.ensures.uses) (lit≤ tt) (lit≤ tt);
+  uses = used_handed c.from_residual-in_err-push_front.result c.from_residual-in_err-push_front.ensures.1 (used_until (used_then c.in_ok-head.ensures.uses c.in_ok-at.ensures.uses) c.in_err-push_front.ensures.uses) (lit≤ tt) (lit≤ tt);
   wrote = IfOk-from_err _ _ c.from_residual-in_err-push_front.ensures.0;
   puts = IfOk-from_err _ _ c.from_residual-in_err-push_front.ensures.0;
   «record» = IfOk-from_err _ _ c.from_residual-in_err-push_front.ensures.0;

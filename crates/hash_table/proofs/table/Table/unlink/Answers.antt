@@ -1,7 +1,7 @@
 use Rattle.std.proofs.Common.{None, arith, sym, subst, lit≤}
 use Rattle.std.proofs.lemmas.Result.{IfOk-from_err}
 use Rattle.word_space.specs.Sights.{shown}
-use Rattle.word_space.proofs.Runs.{used_behind, below_before, shown_same, length_shown, wrote_none, wrote_one, wrote_then, used_handed, used_more, used_then}
+use Rattle.word_space.proofs.Runs.{used_until, below_before, shown_same, length_shown, wrote_none, wrote_one, wrote_then, used_handed, used_more, used_then}
 use Rattle.record_heap.specs.Pool.{FitsPool, Gives, IsPool}
 use Rattle.hash_table.specs.Table.{records_in}
 use Rattle.hash_table.proofs.Removals.{not_free, removes_found}
@@ -16,14 +16,14 @@ returns-in_err-next g c = record {
 
 pub returns-in_err-give : goal.returns-in_err-give
 returns-in_err-give g c = record {
-  uses = used_handed c.from_residual-in_err-give.result c.from_residual-in_err-give.ensures.1 (used_behind c.in_ok-next.ensures.uses c.in_err-give.ensures.uses) (lit≤ tt) (lit≤ tt);
+  uses = used_handed c.from_residual-in_err-give.result c.from_residual-in_err-give.ensures.1 (used_until c.in_ok-next.ensures.uses c.in_err-give.ensures.uses) (lit≤ tt) (lit≤ tt);
   wrote = IfOk-from_err _ _ c.from_residual-in_err-give.ensures.0;
   drops = IfOk-from_err _ _ c.from_residual-in_err-give.ensures.0;
 }
 
 pub returns-in_err-write : goal.returns-in_err-write
 returns-in_err-write g c = record {
-  uses = used_handed c.from_residual-in_err-write.result c.from_residual-in_err-write.ensures.1 (used_behind (used_then c.in_ok-next.ensures.uses c.in_ok-give.ensures.uses) c.in_err-write.ensures.uses) (lit≤ tt) (lit≤ tt);
+  uses = used_handed c.from_residual-in_err-write.result c.from_residual-in_err-write.ensures.1 (used_until (used_then c.in_ok-next.ensures.uses c.in_ok-give.ensures.uses) c.in_err-write.ensures.uses) (lit≤ tt) (lit≤ tt);
   wrote = IfOk-from_err _ _ c.from_residual-in_err-write.ensures.0;
   drops = IfOk-from_err _ _ c.from_residual-in_err-write.ensures.0;
 }

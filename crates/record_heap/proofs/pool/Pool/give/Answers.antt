@@ -1,5 +1,5 @@
 use Rattle.std.proofs.Common.{ap, ◌∙◌, ◌+◌, slice_set, sym, subst, arith, lit≤}
-use Rattle.word_space.proofs.Runs.{used_behind, below_before, length_shown, shown_same, used_handed, used_then, wrote_none, wrote_one, wrote_then}
+use Rattle.word_space.proofs.Runs.{used_until, below_before, length_shown, shown_same, used_handed, used_then, wrote_none, wrote_one, wrote_then}
 use Rattle.record_heap.specs.Pool.{FitsPool, with_header}
 use Rattle.record_heap.proofs.Pools.{gives_back}
 use Rattle.record_heap.proofs.pool.Pool.give.Goals as goal
@@ -17,11 +17,11 @@ pub returns-in_err-header-clause-uses : goal.returns-in_err-header-clause-uses
 returns-in_err-header-clause-uses g c = used_handed c.from_residual.result c.from_residual.ensures.1 c.in_err-header.ensures.uses (lit≤ tt) (lit≤ tt)
 
 pub returns-in_err-write-clause-uses : goal.returns-in_err-write-clause-uses
-returns-in_err-write-clause-uses g c = used_handed c.from_residual-in_err-write.result c.from_residual-in_err-write.ensures.1 (used_behind c.in_ok-header.ensures.uses c.in_err-write.ensures.uses) (lit≤ tt) (lit≤ tt)
+returns-in_err-write-clause-uses g c = used_handed c.from_residual-in_err-write.result c.from_residual-in_err-write.ensures.1 (used_until c.in_ok-header.ensures.uses c.in_err-write.ensures.uses) (lit≤ tt) (lit≤ tt)
 
 pub returns-in_err-put_header-clause-uses : goal.returns-in_err-put_header-clause-uses
 returns-in_err-put_header-clause-uses g c = used_handed c.from_residual-in_err-put_header.result c.from_residual-in_err-put_header.ensures.1
-    (used_behind (used_then c.in_ok-header.ensures.uses c.in_ok-write.ensures.uses) c.in_err-put_header.ensures.uses) (lit≤ tt) (lit≤ tt)
+    (used_until (used_then c.in_ok-header.ensures.uses c.in_ok-write.ensures.uses) c.in_err-put_header.ensures.uses) (lit≤ tt) (lit≤ tt)
 
 pub returns-clause-uses : goal.returns-clause-uses
 returns-clause-uses g c = used_then c.in_ok-header.ensures.uses (used_then c.in_ok-write.ensures.uses c.in_ok-put_header.ensures.uses)

@@ -1,5 +1,5 @@
 use Rattle.std.proofs.Common.{arith, ap, ◌∙◌, ◌+◌, slice_index, lit≤}
-use Rattle.word_space.proofs.Runs.{used_behind, below_before, shown_same, used_handed, used_then}
+use Rattle.word_space.proofs.Runs.{used_until, below_before, shown_same, used_handed, used_then}
 use Rattle.record_heap.proofs.pool.Pool.header.Goals as goal
 
 pub overflow_add-self : goal.overflow_add-self
@@ -12,7 +12,7 @@ pub returns-in_err-first-clause-uses : goal.returns-in_err-first-clause-uses
 returns-in_err-first-clause-uses g c = used_handed c.from_residual.result c.from_residual.ensures.1 c.in_err-first.ensures.uses (lit≤ tt) (lit≤ tt)
 
 pub returns-in_err-live-clause-uses : goal.returns-in_err-live-clause-uses
-returns-in_err-live-clause-uses g c = used_handed c.from_residual-in_err-live.result c.from_residual-in_err-live.ensures.1 (used_behind c.in_ok-first.ensures.uses c.in_err-live.ensures.uses) (lit≤ tt) (lit≤ tt)
+returns-in_err-live-clause-uses g c = used_handed c.from_residual-in_err-live.result c.from_residual-in_err-live.ensures.1 (used_until c.in_ok-first.ensures.uses c.in_err-live.ensures.uses) (lit≤ tt) (lit≤ tt)
 
 pub returns-clause-uses : goal.returns-clause-uses
 returns-clause-uses g c = used_then c.in_ok-first.ensures.uses c.in_ok-live.ensures.uses

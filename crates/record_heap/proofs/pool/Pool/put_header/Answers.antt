@@ -1,12 +1,12 @@
 use Rattle.std.proofs.Common.{◌+◌, slice_set, ap, ◌∙◌, arith, lit≤}
-use Rattle.word_space.proofs.Runs.{used_behind, used_handed, used_then, wrote_one, wrote_then}
+use Rattle.word_space.proofs.Runs.{used_until, used_handed, used_then, wrote_one, wrote_then}
 use Rattle.record_heap.proofs.pool.Pool.put_header.Goals as goal
 
 pub returns-in_err-write-clause-uses : goal.returns-in_err-write-clause-uses
 returns-in_err-write-clause-uses g c = used_handed c.from_residual.result c.from_residual.ensures.1 c.in_err-write.ensures.uses (lit≤ tt) (lit≤ tt)
 
 pub returns-in_err-write-2-clause-uses : goal.returns-in_err-write-2-clause-uses
-returns-in_err-write-2-clause-uses g c = used_handed c.from_residual-in_err-write-2.result c.from_residual-in_err-write-2.ensures.1 (used_behind c.in_ok-write.ensures.uses c.in_err-write-2.ensures.uses) (lit≤ tt) (lit≤ tt)
+returns-in_err-write-2-clause-uses g c = used_handed c.from_residual-in_err-write-2.result c.from_residual-in_err-write-2.ensures.1 (used_until c.in_ok-write.ensures.uses c.in_err-write-2.ensures.uses) (lit≤ tt) (lit≤ tt)
 
 pub returns-clause-uses : goal.returns-clause-uses
 returns-clause-uses g c = used_then c.in_ok-write.ensures.uses c.in_ok-write-2.ensures.uses

@@ -1,7 +1,7 @@
 use Rattle.std.proofs.Common.{None, ap, sym, ◌∙◌, ◌+◌, subst, slice_index, arith, lit≤}
 use Rattle.std.proofs.lemmas.Bool.{false≢true}
 use Rattle.word_space.specs.Sights.{shown}
-use Rattle.word_space.proofs.Runs.{used_behind, below_before, length_shown, shown_same, used_handed, used_more, used_then, wrote_none, wrote_then}
+use Rattle.word_space.proofs.Runs.{used_until, below_before, length_shown, shown_same, used_handed, used_more, used_then, wrote_none, wrote_then}
 use Rattle.record_heap.specs.Pool.{Takes, FitsPool, IsRecord, with_header}
 use Rattle.record_heap.proofs.Pools.{takes_none, takes_first}
 use Rattle.record_heap.proofs.pool.Pool.take.Goals as goal
@@ -36,11 +36,11 @@ returns-then-not-has-clause-takes g c = λ array below free taken lawful.
     (takes_none (seen.words array below).first (λ there. false≢true (c.if-not-has.ensures.1 there)) free taken lawful)
 
 pub returns-in_err-next-clause-uses : goal.returns-in_err-next-clause-uses
-returns-in_err-next-clause-uses g c = used_handed c.from_residual-in_err-next.result c.from_residual-in_err-next.ensures.1 (used_behind c.in_ok-header.ensures.uses c.in_err-next.ensures.uses) (lit≤ tt) (lit≤ tt)
+returns-in_err-next-clause-uses g c = used_handed c.from_residual-in_err-next.result c.from_residual-in_err-next.ensures.1 (used_until c.in_ok-header.ensures.uses c.in_err-next.ensures.uses) (lit≤ tt) (lit≤ tt)
 
 pub returns-in_err-put_header-clause-uses : goal.returns-in_err-put_header-clause-uses
 returns-in_err-put_header-clause-uses g c = used_handed c.from_residual-in_err-put_header.result c.from_residual-in_err-put_header.ensures.1
-    (used_behind (used_then c.in_ok-header.ensures.uses c.in_ok-next.ensures.uses) c.in_err-put_header.ensures.uses) (lit≤ tt) (lit≤ tt)
+    (used_until (used_then c.in_ok-header.ensures.uses c.in_ok-next.ensures.uses) c.in_err-put_header.ensures.uses) (lit≤ tt) (lit≤ tt)
 
 pub returns-clause-uses : goal.returns-clause-uses
 returns-clause-uses g c = used_then c.in_ok-header.ensures.uses (used_then c.in_ok-next.ensures.uses c.in_ok-put_header.ensures.uses)
