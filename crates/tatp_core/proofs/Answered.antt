@@ -23,7 +23,3 @@ removes_at {t} {u} {a} {b} {key} {k} {was} {answer} c table array keys is remove
 
 pub fits_at : {t u : Table} {n : ℕ} → t ≡ u → FitsTable t n → FitsTable u n
 fits_at {n = n} table fits = subst (λ x. FitsTable x n) table fits
-
--- the request that was taken apart
-pub serves_request : {s : Sizes} {db : Database} {request taken : Request} {reply : Reply} {new : List ℕ} → request ≡ taken → Serves s db taken reply new → Serves s db request reply new
-serves_request {s} {db} {reply = reply} {new = new} is serves = subst (λ q. Serves s db q reply new) (sym is) serves

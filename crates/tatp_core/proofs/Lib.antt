@@ -6,6 +6,5 @@ pub mod Locations
 pub mod OfKind
 pub mod Outcomes
 pub mod Phones
-pub mod Reading
+pub mod Serving
 pub mod Subscribers
-pub mod Writes

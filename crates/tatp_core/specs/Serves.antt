@@ -1,5 +1,5 @@
 -- What a request answers and leaves of an array that stands for tables, and how much it reads and writes at most.
-use Rattle.std.specs.Prelude.{◌≡◌, ◌≢◌, ℕ, ◌+◌, ◌↔◌, List, [], Result, IfOk}
+use Rattle.std.specs.Prelude.{◌≡◌, ◌≢◌, ℕ, ◌+◌, ◌≤◌, ◌↔◌, List, [], length, Result, IfOk}
 use Rattle.dude_base.specs.declared.sizes.Sizes.{Sizes}
 use Rattle.dude_base.specs.declared.write.Write.{Write}
 use Rattle.word_space.specs.declared.stop.Stop.{Stop}
@@ -55,3 +55,14 @@ most_writes _ = 0
 -- the words were used for a request: at most as many reads and writes were made as it may
 abbrev pub UsesFor : {S T : Type 0} → (S → WordsSight) → (S → S → Type 0) → Sizes → Request → Result T Stop → S → S → Type 0
 UsesFor sight turns_into s request result old new = UsesWords sight turns_into (most_reads s request) (most_writes request) result old new
+
+-- What serving a request leaves, by its result.
+pub record ServesRequest {S : Type 0} (sight : S → WordsSight) (turns_into : S → S → Type 0) (s : Sizes) (request : Request) (result : Result Reply Stop) (old new : S) : Type 0 where
+  -- at most as many reads and writes were made as it may
+  pub uses : UsesFor sight turns_into s request result old new
+  -- so many words are pending at most
+  pub few : length (sight new).writes ≤ most_writes request
+  -- a word is written exactly where the reply is Changed
+  pub wrote : IfOk result (λ reply. WritesIfChanged reply (sight new).writes)
+  -- as one thread would, for every lawful array that agrees with the reads made
+  pub serves : ServesBelow sight s request result new

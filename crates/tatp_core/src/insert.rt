@@ -1,10 +1,10 @@
 //! `INSERT_CALL_FORWARDING`.
 
-ghost use Rattle.std.specs.Prelude.{◌≡◌, ◌*◌, [], IfOk};
+ghost use Rattle.std.specs.Prelude.{◌≡◌, ◌*◌, []};
 ghost use Rattle.dude_base.specs.declared.limits.TheConstants.{PAGE};
 ghost use Rattle.tatp_model.specs.Request.{IsInRange};
 ghost use Rattle.tatp_core.specs.Kinds.{IsInsertCall};
-ghost use Rattle.tatp_core.specs.Serves.{ServesBelow, UsesFor, WritesIfChanged};
+ghost use Rattle.tatp_core.specs.Serves.{ServesRequest};
 
 use crate::phone::id_of;
 use hash_table::put::Put;
@@ -20,9 +20,7 @@ pub fn write_insert<W: Words>(lay: &Layout, w: &mut W, q: &Request) -> Result<Re
     requires in_range { IsInRange q.now }
     requires size { (W.sight w.old).count ≡ lay.now.pages * PAGE }
     requires no_writes { (W.sight w.old).writes ≡ [] }
-    ensures uses { UsesFor W.sight W.turns_into lay.now q.now result w.old w.new }
-    ensures wrote { IfOk result (λ reply. WritesIfChanged reply (W.sight w.new).writes) }
-    ensures serves { ServesBelow W.sight lay.now q.now result w.new }
+    ensures { ServesRequest W.sight W.turns_into lay.now q.now result w.old w.new }
 {
     let Request::InsertCall {
         sub_nbr,

@@ -1,10 +1,10 @@
 //! `UPDATE_LOCATION`.
 
-ghost use Rattle.std.specs.Prelude.{◌≡◌, ◌*◌, [], IfOk};
+ghost use Rattle.std.specs.Prelude.{◌≡◌, ◌*◌, []};
 ghost use Rattle.dude_base.specs.declared.limits.TheConstants.{PAGE};
 ghost use Rattle.tatp_model.specs.Request.{IsInRange};
 ghost use Rattle.tatp_core.specs.Kinds.{IsUpdateLocation};
-ghost use Rattle.tatp_core.specs.Serves.{ServesBelow, UsesFor, WritesIfChanged};
+ghost use Rattle.tatp_core.specs.Serves.{ServesRequest};
 
 use crate::phone::id_of;
 use tatp_layout::{Layout, put_vlr};
@@ -18,9 +18,7 @@ pub fn write_location<W: Words>(lay: &Layout, w: &mut W, q: &Request) -> Result<
     requires in_range { IsInRange q.now }
     requires size { (W.sight w.old).count ≡ lay.now.pages * PAGE }
     requires no_writes { (W.sight w.old).writes ≡ [] }
-    ensures uses { UsesFor W.sight W.turns_into lay.now q.now result w.old w.new }
-    ensures wrote { IfOk result (λ reply. WritesIfChanged reply (W.sight w.new).writes) }
-    ensures serves { ServesBelow W.sight lay.now q.now result w.new }
+    ensures { ServesRequest W.sight W.turns_into lay.now q.now result w.old w.new }
 {
     let Request::UpdateLocation { sub_nbr, vlr } = *q else {
         unreachable!()

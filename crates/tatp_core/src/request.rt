@@ -1,6 +1,6 @@
 //! A request is answered from the words of a home, and its writes are left pending in them.
 
-ghost use Rattle.std.specs.Prelude.{◌≡◌, ◌≢◌, ◌*◌, ◌≤◌, [], IfOk, length, false};
+ghost use Rattle.std.specs.Prelude.{◌≡◌, ◌≢◌, ◌*◌, [], IfOk, false};
 ghost use Rattle.dude_base.specs.declared.limits.TheConstants.{PAGE};
 ghost use Rattle.word_space.specs.Steps.{UsesWords};
 ghost use Rattle.tatp_model.specs.declared.reply.Reply.TheVariants.{Changed};
@@ -8,7 +8,7 @@ ghost use Rattle.tatp_model.specs.OneThread.{is_sync};
 ghost use Rattle.tatp_model.specs.Request.{IsInRange};
 ghost use Rattle.tatp_read.specs.Lookups.{RepliesBelow};
 ghost use Rattle.tatp_core.specs.Reads.{IsRead};
-ghost use Rattle.tatp_core.specs.Serves.{ServesBelow, UsesFor, WritesIfChanged, most_reads, most_writes};
+ghost use Rattle.tatp_core.specs.Serves.{ServesRequest, most_reads};
 
 use crate::delete::write_delete;
 use crate::insert::write_insert;
@@ -26,10 +26,7 @@ pub fn run_request<W: Words>(lay: &Layout, w: &mut W, q: &Request) -> Result<Rep
     requires in_range { IsInRange q.now }
     requires size { (W.sight w.old).count ≡ lay.now.pages * PAGE }
     requires no_writes { (W.sight w.old).writes ≡ [] }
-    ensures uses { UsesFor W.sight W.turns_into lay.now q.now result w.old w.new }
-    ensures few { length (W.sight w.new).writes ≤ most_writes q.now }
-    ensures wrote { IfOk result (λ reply. WritesIfChanged reply (W.sight w.new).writes) }
-    ensures serves { ServesBelow W.sight lay.now q.now result w.new }
+    ensures { ServesRequest W.sight W.turns_into lay.now q.now result w.old w.new }
 {
     match q {
         Request::UpdateSubscriber { .. } => write_subscriber(lay, w, q),

@@ -100,7 +100,8 @@ last_then : (s t u : WordsSight) (stop : Option Stop) → t.stopped ≡ s.stoppe
 last_then s t u None e h = h ∙ e
 last_then s t u (Some x) e h = h
 
-is_err : {T : Type 0} {e : Stop} (r : Result T Stop) → IsErrAnd r (λ f. f ≡ e) → r ≡ Err e
+-- the result that `?` hands on
+pub is_err : {T : Type 0} {e : Stop} (r : Result T Stop) → IsErrAnd r (λ f. f ≡ e) → r ≡ Err e
 is_err r handed = let p = err_from_is_err_and r handed in p.1 ∙ ap Err p.2
 
 all_before : {X : Type 0} (P : X → Type 0) (xs ys : List X) → All P (xs ++ ys) → All P xs

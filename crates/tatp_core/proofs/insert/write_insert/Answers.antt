@@ -1,18 +1,18 @@
 use Rattle.std.proofs.Common.{None, Some, ap, arith, subst, sym, ◌∙◌, IfSome, lit≤, lit<}
-use Rattle.std.proofs.lemmas.Result.{IfOk-from_err}
 use Rattle.hash_table.specs.Walk.{walk_reads}
 use Rattle.word_space.specs.Sights.{shown}
 use Rattle.word_space.specs.Steps.{Wrote}
 use Rattle.word_space.proofs.Runs.{below_before, shown_same, used_then, used_until, wrote_none, wrote_then}
 use Rattle.hash_table.specs.Table.{put_record, write_count}
 use Rattle.tatp_model.specs.Ranges.{IsId}
+use Rattle.tatp_model.specs.declared.reply.Reply.TheVariants.{Duplicate, FullTable, Missing, NoFacility}
 use Rattle.tatp_model.specs.Request.{IsInRange}
-use Rattle.tatp_layout.proofs.Seen.{fits_still, record_at, stands_bare}
+use Rattle.tatp_layout.proofs.Seen.{fits_still, record_at}
 use Rattle.tatp_core.proofs.OfKind.{is_insert}
-use Rattle.tatp_core.proofs.Answered.{finds_at, fits_at, inserts_at, serves_request}
+use Rattle.tatp_core.proofs.Answered.{finds_at, fits_at, inserts_at}
 use Rattle.tatp_core.proofs.Inserting.{serves_for_none, serves_full, serves_inserted, serves_nowhere, serves_twice}
 use Rattle.tatp_core.proofs.Phones.{tells_id}
-use Rattle.tatp_core.proofs.Writes.{handed_for, used_for, wrote_changed, wrote_nothing}
+use Rattle.tatp_core.proofs.Serving.{serves_changed, serves_stopped, serves_unchanged}
 use Rattle.tatp_core.proofs.insert.write_insert.Goals as goal
 
 pub unreachable-requires : goal.unreachable-requires
@@ -53,110 +53,65 @@ put_call-requires-clause-range g c =
     record { s_id = subst (λ o. IfSome o IsId) c.in-Some.is c.in_ok-s_id.ensures.range; sf_type = range.1; start_time = range.2; end_time = range.3; numberx = range.4 }
 
 pub returns-in_err-s_id : goal.returns-in_err-s_id
-returns-in_err-s_id g c = record {
-  uses = handed_for c.args.lay.now c.in-InsertCall.is c.from_residual.result c.from_residual.ensures.1 c.in_err-s_id.ensures.uses (omega (arith)) (lit≤ tt);
-  wrote = IfOk-from_err _ _ c.from_residual.ensures.0;
-  serves = IfOk-from_err _ _ c.from_residual.ensures.0;
-}
+returns-in_err-s_id g c = serves_stopped c.args.lay.now c.in-InsertCall.is c.from_residual.result c.from_residual.ensures.1 c.requires.no_writes c.in_err-s_id.ensures.uses (omega arith) (lit≤ tt)
 
-pub returns-in_default-2-clause-uses : goal.returns-in_default-2-clause-uses
-returns-in_default-2-clause-uses g c = used_for c.args.lay.now c.in-InsertCall.is c.in_ok-s_id.ensures.uses (omega (arith)) (lit≤ tt)
-
-pub returns-in_default-2-clause-wrote : goal.returns-in_default-2-clause-wrote
-returns-in_default-2-clause-wrote g c = wrote_nothing (wrote_none c.in_ok-s_id.ensures.uses) c.requires.no_writes (λ same. cc)
-
-pub returns-in_default-2-clause-serves : goal.returns-in_default-2-clause-serves
-returns-in_default-2-clause-serves g c = λ array below db stands.
+pub returns-in_default-2 : goal.returns-in_default-2
+returns-in_default-2 g c = serves_unchanged c.args.lay.now c.in-InsertCall.is Missing c.requires.no_writes c.requires.in_range c.in_ok-s_id.ensures.uses (omega arith) (lit≤ tt) (wrote_none c.in_ok-s_id.ensures.uses) (λ same. cc)
+    (λ range array below db stands.
     let q = c.in-InsertCall in
     let id = c.in_ok-s_id.ensures in
-    let stands_old = stands_bare (g.W.Words.sight c.args.w.now) c.requires.no_writes stands in
-    serves_request q.is (serves_for_none q.sub_nbr q.sf_type q.start_time q.end_time q.numberx (subst IsInRange q.is c.requires.in_range) stands_old
-    (tells_id q.sub_nbr stands_old None (sym c.in_default-2.is ∙ id.id array below db stands_old)) (shown_same id.uses array))
+    (serves_for_none q.sub_nbr q.sf_type q.start_time q.end_time q.numberx range stands
+    (tells_id q.sub_nbr stands None (sym c.in_default-2.is ∙ id.id array below db stands)) (shown_same id.uses array)))
 
 pub returns-in_err-find : goal.returns-in_err-find
-returns-in_err-find g c = record {
-  uses = handed_for c.args.lay.now c.in-InsertCall.is c.from_residual-in_err-find.result c.from_residual-in_err-find.ensures.1 (used_until c.in_ok-s_id.ensures.uses c.in_err-find.ensures.uses) (omega (arith, ap walk_reads c.facilities.ensures.table)) (lit≤ tt);
-  wrote = IfOk-from_err _ _ c.from_residual-in_err-find.ensures.0;
-  serves = IfOk-from_err _ _ c.from_residual-in_err-find.ensures.0;
-}
+returns-in_err-find g c = serves_stopped c.args.lay.now c.in-InsertCall.is c.from_residual-in_err-find.result c.from_residual-in_err-find.ensures.1 c.requires.no_writes (used_until c.in_ok-s_id.ensures.uses c.in_err-find.ensures.uses) (omega (arith, ap walk_reads c.facilities.ensures.table)) (lit≤ tt)
 
-pub returns-in_default-3-clause-uses : goal.returns-in_default-3-clause-uses
-returns-in_default-3-clause-uses g c = used_for c.args.lay.now c.in-InsertCall.is (used_then c.in_ok-s_id.ensures.uses c.in_ok-find.ensures.uses) (omega (arith, ap walk_reads c.facilities.ensures.table)) (lit≤ tt)
-
-pub returns-in_default-3-clause-wrote : goal.returns-in_default-3-clause-wrote
-returns-in_default-3-clause-wrote g c = wrote_nothing (wrote_none (used_then c.in_ok-s_id.ensures.uses c.in_ok-find.ensures.uses)) c.requires.no_writes (λ same. cc)
-
-pub returns-in_default-3-clause-serves : goal.returns-in_default-3-clause-serves
-returns-in_default-3-clause-serves g c = λ array below db stands.
+pub returns-in_default-3 : goal.returns-in_default-3
+returns-in_default-3 g c = serves_unchanged c.args.lay.now c.in-InsertCall.is NoFacility c.requires.no_writes c.requires.in_range (used_then c.in_ok-s_id.ensures.uses c.in_ok-find.ensures.uses) (omega (arith, ap walk_reads c.facilities.ensures.table)) (lit≤ tt) (wrote_none (used_then c.in_ok-s_id.ensures.uses c.in_ok-find.ensures.uses)) (λ same. cc)
+    (λ range array below db stands.
     let q = c.in-InsertCall in
     let id = c.in_ok-s_id.ensures in
     let find = c.in_ok-find.ensures in
-    let stands_old = stands_bare (g.W.Words.sight c.args.w.now) c.requires.no_writes stands in
-    serves_request q.is (serves_nowhere q.sub_nbr q.sf_type q.start_time q.end_time q.numberx (subst IsInRange q.is c.requires.in_range) stands_old c.in-Some.s_id
-    (tells_id q.sub_nbr stands_old (Some c.in-Some.s_id) (sym c.in-Some.is ∙ id.id array (below_before find.uses below) db stands_old))
+    (serves_nowhere q.sub_nbr q.sf_type q.start_time q.end_time q.numberx range stands c.in-Some.s_id
+    (tells_id q.sub_nbr stands (Some c.in-Some.s_id) (sym c.in-Some.is ∙ id.id array (below_before find.uses below) db stands))
     (finds_at c.facilities.ensures.table (shown_same id.uses array) c.kind_key.ensures c.in_default-3.is (find.found array below))
-    (shown_same (used_then id.uses find.uses) array))
+    (shown_same (used_then id.uses find.uses) array)))
 
 pub returns-in_err-insert : goal.returns-in_err-insert
-returns-in_err-insert g c = record {
-  uses = handed_for c.args.lay.now c.in-InsertCall.is c.from_residual-in_err-insert.result c.from_residual-in_err-insert.ensures.1 (used_until (used_then c.in_ok-s_id.ensures.uses c.in_ok-find.ensures.uses) c.in_err-insert.ensures.uses) (omega (arith, ap walk_reads c.facilities.ensures.table, ap walk_reads c.calls.ensures.table)) (lit≤ tt);
-  wrote = IfOk-from_err _ _ c.from_residual-in_err-insert.ensures.0;
-  serves = IfOk-from_err _ _ c.from_residual-in_err-insert.ensures.0;
-}
+returns-in_err-insert g c = serves_stopped c.args.lay.now c.in-InsertCall.is c.from_residual-in_err-insert.result c.from_residual-in_err-insert.ensures.1 c.requires.no_writes (used_until (used_then c.in_ok-s_id.ensures.uses c.in_ok-find.ensures.uses) c.in_err-insert.ensures.uses) (omega (arith, ap walk_reads c.facilities.ensures.table, ap walk_reads c.calls.ensures.table)) (lit≤ tt)
 
-pub returns-in-There-clause-uses : goal.returns-in-There-clause-uses
-returns-in-There-clause-uses g c = used_for c.args.lay.now c.in-InsertCall.is (used_then c.in_ok-s_id.ensures.uses (used_then c.in_ok-find.ensures.uses c.in_ok-insert.ensures.uses)) (omega (arith, ap walk_reads c.facilities.ensures.table, ap walk_reads c.calls.ensures.table)) (lit≤ tt)
-
-pub returns-in-There-clause-wrote : goal.returns-in-There-clause-wrote
-returns-in-There-clause-wrote g c = wrote_nothing (wrote_then (wrote_none (used_then c.in_ok-s_id.ensures.uses c.in_ok-find.ensures.uses)) (subst (λ p. Wrote (write_count p) (g.W.Words.sight c.find.new.w) (g.W.Words.sight c.insert.new.w)) c.in-There.is c.in_ok-insert.ensures.wrote)) c.requires.no_writes (λ same. cc)
-
-pub returns-in-There-clause-serves : goal.returns-in-There-clause-serves
-returns-in-There-clause-serves g c = λ array below db stands.
+pub returns-in-There : goal.returns-in-There
+returns-in-There g c = serves_unchanged c.args.lay.now c.in-InsertCall.is Duplicate c.requires.no_writes c.requires.in_range (used_then c.in_ok-s_id.ensures.uses (used_then c.in_ok-find.ensures.uses c.in_ok-insert.ensures.uses)) (omega (arith, ap walk_reads c.facilities.ensures.table, ap walk_reads c.calls.ensures.table)) (lit≤ tt) (wrote_then (wrote_none (used_then c.in_ok-s_id.ensures.uses c.in_ok-find.ensures.uses)) (subst (λ p. Wrote (write_count p) (g.W.Words.sight c.find.new.w) (g.W.Words.sight c.insert.new.w)) c.in-There.is c.in_ok-insert.ensures.wrote)) (λ same. cc)
+    (λ range array below db stands.
     let q = c.in-InsertCall in
     let id = c.in_ok-s_id.ensures in
     let find = c.in_ok-find.ensures in
     let insert = c.in_ok-insert.ensures in
     let below_find = below_before insert.uses below in
-    let stands_old = stands_bare (g.W.Words.sight c.args.w.now) c.requires.no_writes stands in
-    serves_request q.is (serves_twice q.sub_nbr q.sf_type q.start_time q.end_time q.numberx (subst IsInRange q.is c.requires.in_range) stands_old c.in-Some.s_id
-    (tells_id q.sub_nbr stands_old (Some c.in-Some.s_id) (sym c.in-Some.is ∙ id.id array (below_before find.uses below_find) db stands_old))
+    (serves_twice q.sub_nbr q.sf_type q.start_time q.end_time q.numberx range stands c.in-Some.s_id
+    (tells_id q.sub_nbr stands (Some c.in-Some.s_id) (sym c.in-Some.is ∙ id.id array (below_before find.uses below_find) db stands))
     (finds_at c.facilities.ensures.table (shown_same id.uses array) c.kind_key.ensures c.in-Some-2.is (find.found array below_find))
-    (inserts_at (shown (g.W.Words.sight c.insert.new.w) array) c.calls.ensures.table (shown_same (used_then id.uses find.uses) array) c.key.ensures c.in-There.is (insert.inserts array below)))
+    (inserts_at (shown (g.W.Words.sight c.insert.new.w) array) c.calls.ensures.table (shown_same (used_then id.uses find.uses) array) c.key.ensures c.in-There.is (insert.inserts array below))))
 
-pub returns-in-Full-clause-uses : goal.returns-in-Full-clause-uses
-returns-in-Full-clause-uses g c = used_for c.args.lay.now c.in-InsertCall.is (used_then c.in_ok-s_id.ensures.uses (used_then c.in_ok-find.ensures.uses c.in_ok-insert.ensures.uses)) (omega (arith, ap walk_reads c.facilities.ensures.table, ap walk_reads c.calls.ensures.table)) (lit≤ tt)
-
-pub returns-in-Full-clause-wrote : goal.returns-in-Full-clause-wrote
-returns-in-Full-clause-wrote g c = wrote_nothing (wrote_then (wrote_none (used_then c.in_ok-s_id.ensures.uses c.in_ok-find.ensures.uses)) (subst (λ p. Wrote (write_count p) (g.W.Words.sight c.find.new.w) (g.W.Words.sight c.insert.new.w)) c.in-Full.is c.in_ok-insert.ensures.wrote)) c.requires.no_writes (λ same. cc)
-
-pub returns-in-Full-clause-serves : goal.returns-in-Full-clause-serves
-returns-in-Full-clause-serves g c = λ array below db stands.
+pub returns-in-Full : goal.returns-in-Full
+returns-in-Full g c = serves_unchanged c.args.lay.now c.in-InsertCall.is FullTable c.requires.no_writes c.requires.in_range (used_then c.in_ok-s_id.ensures.uses (used_then c.in_ok-find.ensures.uses c.in_ok-insert.ensures.uses)) (omega (arith, ap walk_reads c.facilities.ensures.table, ap walk_reads c.calls.ensures.table)) (lit≤ tt) (wrote_then (wrote_none (used_then c.in_ok-s_id.ensures.uses c.in_ok-find.ensures.uses)) (subst (λ p. Wrote (write_count p) (g.W.Words.sight c.find.new.w) (g.W.Words.sight c.insert.new.w)) c.in-Full.is c.in_ok-insert.ensures.wrote)) (λ same. cc)
+    (λ range array below db stands.
     let q = c.in-InsertCall in
     let id = c.in_ok-s_id.ensures in
     let find = c.in_ok-find.ensures in
     let insert = c.in_ok-insert.ensures in
     let below_find = below_before insert.uses below in
-    let stands_old = stands_bare (g.W.Words.sight c.args.w.now) c.requires.no_writes stands in
-    serves_request q.is (serves_full q.sub_nbr q.sf_type q.start_time q.end_time q.numberx (subst IsInRange q.is c.requires.in_range) stands_old c.in-Some.s_id
-    (tells_id q.sub_nbr stands_old (Some c.in-Some.s_id) (sym c.in-Some.is ∙ id.id array (below_before find.uses below_find) db stands_old))
+    (serves_full q.sub_nbr q.sf_type q.start_time q.end_time q.numberx range stands c.in-Some.s_id
+    (tells_id q.sub_nbr stands (Some c.in-Some.s_id) (sym c.in-Some.is ∙ id.id array (below_before find.uses below_find) db stands))
     (finds_at c.facilities.ensures.table (shown_same id.uses array) c.kind_key.ensures c.in-Some-2.is (find.found array below_find))
-    (inserts_at (shown (g.W.Words.sight c.insert.new.w) array) c.calls.ensures.table (shown_same (used_then id.uses find.uses) array) c.key.ensures c.in-Full.is (insert.inserts array below)))
+    (inserts_at (shown (g.W.Words.sight c.insert.new.w) array) c.calls.ensures.table (shown_same (used_then id.uses find.uses) array) c.key.ensures c.in-Full.is (insert.inserts array below))))
 
 pub returns-in_err-put_call-in-Stored : goal.returns-in_err-put_call-in-Stored
-returns-in_err-put_call-in-Stored g c = record {
-  uses = handed_for c.args.lay.now c.in-InsertCall.is c.from_residual-in_err-put_call-in-Stored.result c.from_residual-in_err-put_call-in-Stored.ensures.1 (used_until (used_then c.in_ok-s_id.ensures.uses (used_then c.in_ok-find.ensures.uses c.in_ok-insert.ensures.uses)) c.in_err-put_call-in-Stored.ensures.uses) (omega (arith, ap walk_reads c.facilities.ensures.table, ap walk_reads c.calls.ensures.table)) (lit≤ tt);
-  wrote = IfOk-from_err _ _ c.from_residual-in_err-put_call-in-Stored.ensures.0;
-  serves = IfOk-from_err _ _ c.from_residual-in_err-put_call-in-Stored.ensures.0;
-}
+returns-in_err-put_call-in-Stored g c = serves_stopped c.args.lay.now c.in-InsertCall.is c.from_residual-in_err-put_call-in-Stored.result c.from_residual-in_err-put_call-in-Stored.ensures.1 c.requires.no_writes (used_until (used_then c.in_ok-s_id.ensures.uses (used_then c.in_ok-find.ensures.uses c.in_ok-insert.ensures.uses)) c.in_err-put_call-in-Stored.ensures.uses) (omega (arith, ap walk_reads c.facilities.ensures.table, ap walk_reads c.calls.ensures.table)) (lit≤ tt)
 
-pub returns-in_ok-put_call-in-Stored-clause-uses : goal.returns-in_ok-put_call-in-Stored-clause-uses
-returns-in_ok-put_call-in-Stored-clause-uses g c = used_for c.args.lay.now c.in-InsertCall.is (used_then c.in_ok-s_id.ensures.uses (used_then c.in_ok-find.ensures.uses (used_then c.in_ok-insert.ensures.uses c.in_ok-put_call-in-Stored.ensures.uses))) (omega (arith, ap walk_reads c.facilities.ensures.table, ap walk_reads c.calls.ensures.table)) (lit≤ tt)
-
-pub returns-in_ok-put_call-in-Stored-clause-wrote : goal.returns-in_ok-put_call-in-Stored-clause-wrote
-returns-in_ok-put_call-in-Stored-clause-wrote g c = wrote_changed (wrote_then (subst (λ p. Wrote (write_count p) (g.W.Words.sight c.find.new.w) (g.W.Words.sight c.insert.new.w)) c.in-Stored.is c.in_ok-insert.ensures.wrote) c.in_ok-put_call-in-Stored.ensures.wrote) (lit< tt)
-
-pub returns-in_ok-put_call-in-Stored-clause-serves : goal.returns-in_ok-put_call-in-Stored-clause-serves
-returns-in_ok-put_call-in-Stored-clause-serves g c = λ array below db stands.
+pub returns-in_ok-put_call-in-Stored : goal.returns-in_ok-put_call-in-Stored
+returns-in_ok-put_call-in-Stored g c = serves_changed c.args.lay.now c.in-InsertCall.is c.requires.no_writes c.requires.in_range (used_then c.in_ok-s_id.ensures.uses (used_then c.in_ok-find.ensures.uses (used_then c.in_ok-insert.ensures.uses c.in_ok-put_call-in-Stored.ensures.uses))) (omega (arith, ap walk_reads c.facilities.ensures.table, ap walk_reads c.calls.ensures.table)) (lit≤ tt) (wrote_then (wrote_none (used_then c.in_ok-s_id.ensures.uses c.in_ok-find.ensures.uses)) (wrote_then (subst (λ p. Wrote (write_count p) (g.W.Words.sight c.find.new.w) (g.W.Words.sight c.insert.new.w)) c.in-Stored.is c.in_ok-insert.ensures.wrote) c.in_ok-put_call-in-Stored.ensures.wrote)) (lit< tt)
+    (λ range array below db stands.
     let q = c.in-InsertCall in
     let id = c.in_ok-s_id.ensures in
     let find = c.in_ok-find.ensures in
@@ -164,10 +119,9 @@ returns-in_ok-put_call-in-Stored-clause-serves g c = λ array below db stands.
     let put = c.in_ok-put_call-in-Stored.ensures in
     let below_insert = below_before put.uses below in
     let below_find = below_before insert.uses below_insert in
-    let stands_old = stands_bare (g.W.Words.sight c.args.w.now) c.requires.no_writes stands in
-    serves_request q.is (serves_inserted q.sub_nbr q.sf_type q.start_time q.end_time q.numberx (subst IsInRange q.is c.requires.in_range) stands_old c.in-Some.s_id
-    (tells_id q.sub_nbr stands_old (Some c.in-Some.s_id) (sym c.in-Some.is ∙ id.id array (below_before find.uses below_find) db stands_old))
+    (serves_inserted q.sub_nbr q.sf_type q.start_time q.end_time q.numberx range stands c.in-Some.s_id
+    (tells_id q.sub_nbr stands (Some c.in-Some.s_id) (sym c.in-Some.is ∙ id.id array (below_before find.uses below_find) db stands))
     (finds_at c.facilities.ensures.table (shown_same id.uses array) c.kind_key.ensures c.in-Some-2.is (find.found array below_find))
     c.in-Stored.at (fits_at c.calls.ensures.table c.calls.ensures.fits)
     (inserts_at (shown (g.W.Words.sight c.insert.new.w) array) c.calls.ensures.table (shown_same (used_then id.uses find.uses) array) c.key.ensures c.in-Stored.is (insert.inserts array below_insert))
-    (put.shown array) (put.holds array below))
+    (put.shown array) (put.holds array below)))

@@ -1,17 +1,17 @@
 use Rattle.std.proofs.Common.{None, Some, ap, arith, slice_set, ◌+◌, subst, sym, refl, ◌∙◌, lit≤, lit<}
-use Rattle.std.proofs.lemmas.Result.{IfOk-from_err}
 use Rattle.hash_table.specs.Walk.{walk_reads}
 use Rattle.word_space.specs.Sights.{shown}
 use Rattle.word_space.proofs.Runs.{below_before, shown_same, used_then, used_until, wrote_none, wrote_then}
 use Rattle.tatp_model.specs.declared.sub_row.SubRow.{SubRow}
+use Rattle.tatp_model.specs.declared.reply.Reply.TheVariants.{Missing}
 use Rattle.tatp_model.specs.Request.{IsInRange}
 use Rattle.tatp_layout.specs.Records.{HoldsRow, subscriber_form}
-use Rattle.tatp_layout.proofs.Seen.{fits_still, record_at, stands_bare}
+use Rattle.tatp_layout.proofs.Seen.{fits_still, record_at}
 use Rattle.tatp_core.proofs.OfKind.{is_location}
-use Rattle.tatp_core.proofs.Answered.{finds_at, fits_at, serves_request}
+use Rattle.tatp_core.proofs.Answered.{finds_at, fits_at}
 use Rattle.tatp_core.proofs.Locations.{serves_location, serves_no_number, subscriber_is_there}
 use Rattle.tatp_core.proofs.Phones.{tells_id}
-use Rattle.tatp_core.proofs.Writes.{handed_for, used_for, wrote_changed, wrote_nothing}
+use Rattle.tatp_core.proofs.Serving.{serves_changed, serves_stopped, serves_unchanged}
 use Rattle.tatp_core.proofs.location.write_location.Goals as goal
 
 pub unreachable-requires : goal.unreachable-requires
@@ -36,75 +36,45 @@ pub put_vlr-requires-clause-range : goal.put_vlr-requires-clause-range
 put_vlr-requires-clause-range g c = (subst IsInRange c.in-UpdateLocation.is c.requires.in_range).1
 
 pub returns-in_err-s_id : goal.returns-in_err-s_id
-returns-in_err-s_id g c = record {
-  uses = handed_for c.args.lay.now c.in-UpdateLocation.is c.from_residual.result c.from_residual.ensures.1 c.in_err-s_id.ensures.uses (omega (arith)) (lit≤ tt);
-  wrote = IfOk-from_err _ _ c.from_residual.ensures.0;
-  serves = IfOk-from_err _ _ c.from_residual.ensures.0;
-}
+returns-in_err-s_id g c = serves_stopped c.args.lay.now c.in-UpdateLocation.is c.from_residual.result c.from_residual.ensures.1 c.requires.no_writes c.in_err-s_id.ensures.uses (omega arith) (lit≤ tt)
 
-pub returns-in_default-2-clause-uses : goal.returns-in_default-2-clause-uses
-returns-in_default-2-clause-uses g c = used_for c.args.lay.now c.in-UpdateLocation.is c.in_ok-s_id.ensures.uses (omega (arith)) (lit≤ tt)
-
-pub returns-in_default-2-clause-wrote : goal.returns-in_default-2-clause-wrote
-returns-in_default-2-clause-wrote g c = wrote_nothing (wrote_none c.in_ok-s_id.ensures.uses) c.requires.no_writes (λ same. cc)
-
-pub returns-in_default-2-clause-serves : goal.returns-in_default-2-clause-serves
-returns-in_default-2-clause-serves g c = λ array below db stands.
+pub returns-in_default-2 : goal.returns-in_default-2
+returns-in_default-2 g c = serves_unchanged c.args.lay.now c.in-UpdateLocation.is Missing c.requires.no_writes c.requires.in_range c.in_ok-s_id.ensures.uses (omega arith) (lit≤ tt) (wrote_none c.in_ok-s_id.ensures.uses) (λ same. cc)
+    (λ range array below db stands.
     let q = c.in-UpdateLocation in
     let id = c.in_ok-s_id.ensures in
-    let stands_old = stands_bare (g.W.Words.sight c.args.w.now) c.requires.no_writes stands in
-    serves_request q.is (serves_no_number q.sub_nbr q.vlr (subst IsInRange q.is c.requires.in_range) stands_old
-    (tells_id q.sub_nbr stands_old None (sym c.in_default-2.is ∙ id.id array below db stands_old)) (shown_same id.uses array))
+    (serves_no_number q.sub_nbr q.vlr range stands
+    (tells_id q.sub_nbr stands None (sym c.in_default-2.is ∙ id.id array below db stands)) (shown_same id.uses array)))
 
 pub returns-in_err-at : goal.returns-in_err-at
-returns-in_err-at g c = record {
-  uses = handed_for c.args.lay.now c.in-UpdateLocation.is c.from_residual-in_err-at.result c.from_residual-in_err-at.ensures.1 (used_until c.in_ok-s_id.ensures.uses c.in_err-at.ensures.uses) (omega (arith, ap walk_reads c.subscribers.ensures.table)) (lit≤ tt);
-  wrote = IfOk-from_err _ _ c.from_residual-in_err-at.ensures.0;
-  serves = IfOk-from_err _ _ c.from_residual-in_err-at.ensures.0;
-}
+returns-in_err-at g c = serves_stopped c.args.lay.now c.in-UpdateLocation.is c.from_residual-in_err-at.result c.from_residual-in_err-at.ensures.1 c.requires.no_writes (used_until c.in_ok-s_id.ensures.uses c.in_err-at.ensures.uses) (omega (arith, ap walk_reads c.subscribers.ensures.table)) (lit≤ tt)
 
-pub returns-in_default-3-clause-uses : goal.returns-in_default-3-clause-uses
-returns-in_default-3-clause-uses g c = used_for c.args.lay.now c.in-UpdateLocation.is (used_then c.in_ok-s_id.ensures.uses c.in_ok-at.ensures.uses) (omega (arith, ap walk_reads c.subscribers.ensures.table)) (lit≤ tt)
-
-pub returns-in_default-3-clause-wrote : goal.returns-in_default-3-clause-wrote
-returns-in_default-3-clause-wrote g c = wrote_nothing (wrote_none (used_then c.in_ok-s_id.ensures.uses c.in_ok-at.ensures.uses)) c.requires.no_writes (λ same. cc)
-
-pub returns-in_default-3-clause-serves : goal.returns-in_default-3-clause-serves
-returns-in_default-3-clause-serves g c = λ array below db stands.
+pub returns-in_default-3 : goal.returns-in_default-3
+returns-in_default-3 g c = serves_unchanged c.args.lay.now c.in-UpdateLocation.is Missing c.requires.no_writes c.requires.in_range (used_then c.in_ok-s_id.ensures.uses c.in_ok-at.ensures.uses) (omega (arith, ap walk_reads c.subscribers.ensures.table)) (lit≤ tt) (wrote_none (used_then c.in_ok-s_id.ensures.uses c.in_ok-at.ensures.uses)) (λ same. cc)
+    (λ range array below db stands.
     let q = c.in-UpdateLocation in
     let id = c.in_ok-s_id.ensures in
     let find = c.in_ok-at.ensures in
-    let stands_old = stands_bare (g.W.Words.sight c.args.w.now) c.requires.no_writes stands in
-    absurd (subscriber_is_there q.sub_nbr q.vlr (subst IsInRange q.is c.requires.in_range) stands_old c.in-Some.s_id
-    (tells_id q.sub_nbr stands_old (Some c.in-Some.s_id) (sym c.in-Some.is ∙ id.id array (below_before find.uses below) db stands_old))
-    (finds_at c.subscribers.ensures.table (shown_same id.uses array) refl c.in_default-3.is (find.found array below)))
+    absurd (subscriber_is_there q.sub_nbr q.vlr range stands c.in-Some.s_id
+    (tells_id q.sub_nbr stands (Some c.in-Some.s_id) (sym c.in-Some.is ∙ id.id array (below_before find.uses below) db stands))
+    (finds_at c.subscribers.ensures.table (shown_same id.uses array) refl c.in_default-3.is (find.found array below))))
 
 pub returns-in_err-put_vlr : goal.returns-in_err-put_vlr
-returns-in_err-put_vlr g c = record {
-  uses = handed_for c.args.lay.now c.in-UpdateLocation.is c.from_residual-in_err-put_vlr.result c.from_residual-in_err-put_vlr.ensures.1 (used_until (used_then c.in_ok-s_id.ensures.uses c.in_ok-at.ensures.uses) c.in_err-put_vlr.ensures.uses) (omega (arith, ap walk_reads c.subscribers.ensures.table)) (lit≤ tt);
-  wrote = IfOk-from_err _ _ c.from_residual-in_err-put_vlr.ensures.0;
-  serves = IfOk-from_err _ _ c.from_residual-in_err-put_vlr.ensures.0;
-}
+returns-in_err-put_vlr g c = serves_stopped c.args.lay.now c.in-UpdateLocation.is c.from_residual-in_err-put_vlr.result c.from_residual-in_err-put_vlr.ensures.1 c.requires.no_writes (used_until (used_then c.in_ok-s_id.ensures.uses c.in_ok-at.ensures.uses) c.in_err-put_vlr.ensures.uses) (omega (arith, ap walk_reads c.subscribers.ensures.table)) (lit≤ tt)
 
-pub returns-clause-uses : goal.returns-clause-uses
-returns-clause-uses g c = used_for c.args.lay.now c.in-UpdateLocation.is (used_then c.in_ok-s_id.ensures.uses (used_then c.in_ok-at.ensures.uses c.in_ok-put_vlr.ensures.uses)) (omega (arith, ap walk_reads c.subscribers.ensures.table)) (lit≤ tt)
-
-pub returns-clause-wrote : goal.returns-clause-wrote
-returns-clause-wrote g c = wrote_changed c.in_ok-put_vlr.ensures.wrote (lit< tt)
-
-pub returns-clause-serves : goal.returns-clause-serves
-returns-clause-serves g c = λ array below db stands.
+pub returns : goal.returns
+returns g c = serves_changed c.args.lay.now c.in-UpdateLocation.is c.requires.no_writes c.requires.in_range (used_then c.in_ok-s_id.ensures.uses (used_then c.in_ok-at.ensures.uses c.in_ok-put_vlr.ensures.uses)) (omega (arith, ap walk_reads c.subscribers.ensures.table)) (lit≤ tt) (wrote_then (wrote_none (used_then c.in_ok-s_id.ensures.uses c.in_ok-at.ensures.uses)) c.in_ok-put_vlr.ensures.wrote) (lit< tt)
+    (λ range array below db stands.
     let q = c.in-UpdateLocation in
     let id = c.in_ok-s_id.ensures in
     let find = c.in_ok-at.ensures in
     let put = c.in_ok-put_vlr.ensures in
     let below_find = below_before put.uses below in
-    let stands_old = stands_bare (g.W.Words.sight c.args.w.now) c.requires.no_writes stands in
     let same = shown_same (used_then id.uses find.uses) array in
     let new = shown (g.W.Words.sight c.put_vlr.new.w) array in
-    serves_request q.is (serves_location q.sub_nbr q.vlr (subst IsInRange q.is c.requires.in_range) stands_old c.in-Some.s_id
-    (tells_id q.sub_nbr stands_old (Some c.in-Some.s_id) (sym c.in-Some.is ∙ id.id array (below_before find.uses below_find) db stands_old))
+    (serves_location q.sub_nbr q.vlr range stands c.in-Some.s_id
+    (tells_id q.sub_nbr stands (Some c.in-Some.s_id) (sym c.in-Some.is ∙ id.id array (below_before find.uses below_find) db stands))
     c.in-Some-2.at (fits_at c.subscribers.ensures.table c.subscribers.ensures.fits)
     (finds_at c.subscribers.ensures.table (shown_same id.uses array) refl c.in-Some-2.is (find.found array below_find))
     (put.shown array ∙ ap (λ l. slice_set l (c.in-Some-2.at + 6) q.vlr) same)
-    (subst (λ l. (r : SubRow) → HoldsRow subscriber_form l c.in-Some-2.at r → HoldsRow subscriber_form new c.in-Some-2.at (record r { vlr = q.vlr })) same (put.holds array below)))
+    (subst (λ l. (r : SubRow) → HoldsRow subscriber_form l c.in-Some-2.at r → HoldsRow subscriber_form new c.in-Some-2.at (record r { vlr = q.vlr })) same (put.holds array below))))
