@@ -8,7 +8,7 @@ use Rattle.dude_base.specs.declared.write.Write.{Write}
 use Rattle.dude_base.specs.Writes.{overwritten}
 use Rattle.word_space.specs.declared.stop.Stop.{Stop}
 use Rattle.word_space.specs.Sights.{WordsSight, IsBelow, shown}
-use Rattle.word_space.specs.Steps.{UsesWords, WordsUsed, Wrote}
+use Rattle.word_space.specs.Steps.{WordsUsed, Wrote}
 use Rattle.word_space.proofs.Runs.{few_pending, is_err, unwritten, used_more, wrote_some, wrote_zero}
 use Rattle.tatp_model.specs.declared.reply.Reply.{Reply}
 use Rattle.tatp_model.specs.declared.reply.Reply.TheVariants.{Changed}
@@ -19,7 +19,7 @@ use Rattle.tatp_model.specs.Request.{IsInRange}
 use Rattle.tatp_model.specs.Transaction.{after_request}
 use Rattle.tatp_layout.specs.StandsFor.{StandsFor}
 use Rattle.tatp_layout.proofs.Seen.{stands_bare}
-use Rattle.tatp_read.specs.Lookups.{RepliesBelow}
+use Rattle.tatp_read.specs.Lookups.{AnswersRequest, reads_of}
 use Rattle.tatp_core.specs.Reads.{IsRead}
 use Rattle.tatp_core.specs.Serves.{Serves, ServesRequest, WritesIfChanged, most_reads, most_writes}
 
@@ -81,26 +81,32 @@ after_read limit db (GetDestination s_id sf_type start_time end_time) read = ref
 after_read limit db (GetAccess s_id ai_type) read = refl
 after_read limit db _ read = absurd read
 
+reads_within : (s : Sizes) (q : Request) → IsRead q → reads_of s q ≤ most_reads s q
+reads_within s (GetSubscriber s_id) read = omega arith
+reads_within s (GetDestination s_id sf_type start_time end_time) read = omega arith
+reads_within s (GetAccess s_id ai_type) read = omega arith
+reads_within s _ read = absurd read
+
 module _ {S : Type 0} {sight : S → WordsSight} {turns_into : S → S → Type 0} (s : Sizes) (q : Request) {x y : S} where
   -- it changes nothing, and what it was answered, it serves
-  pub serves_read : (result : Result Reply Stop) → IsRead q → (sight x).writes ≡ [] → UsesWords sight turns_into (most_reads s q) 0 result x y → IfOk result (λ reply. reply ≢ Changed) → RepliesBelow sight s q result y
+  pub serves_read : (result : Result Reply Stop) → IsRead q → (sight x).writes ≡ [] → AnswersRequest sight turns_into s q result x y
       → ServesRequest sight turns_into s q result x y
-  serves_read (Ok reply) read bare used other answered =
-      let none : (sight y).writes ≡ [] = unwritten used ∙ bare in
+  serves_read (Ok reply) read bare answers =
+      let none : (sight y).writes ≡ [] = unwritten answers.uses ∙ bare in
       record {
-        uses = used_more used (omega arith) zero-le;
+        uses = used_more answers.uses (reads_within s q read) zero-le;
         few = omega (arith, ap length none);
-        wrote = wrote_nothing none other;
+        wrote = wrote_nothing none answers.unchanged;
         serves = λ array below db stands.
             let same : shown (sight y) array ≡ array = ap (λ ws. overwritten ws array) none in
             record {
-              replies = answered array below db stands;
+              replies = answers.reply array below db stands;
               stands = subst (λ words. StandsFor s words (after_request s.calls db q)) (sym same) (subst (λ d. StandsFor s array d) (sym (after_read s.calls db q read)) stands);
             };
       }
-  serves_read (Err stop) read bare used other answered = record {
-    uses = used_more used (omega arith) zero-le;
-    few = omega (arith, ap length (unwritten used ∙ bare));
+  serves_read (Err stop) read bare answers = record {
+    uses = used_more answers.uses (reads_within s q read) zero-le;
+    few = omega (arith, ap length (unwritten answers.uses ∙ bare));
     wrote = tt;
     serves = tt;
   }

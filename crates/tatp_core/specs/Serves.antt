@@ -9,12 +9,12 @@ use Rattle.hash_table.specs.Walk.{insert_reads, remove_reads, walk_reads}
 use Rattle.tatp_model.specs.declared.reply.Reply.{Reply}
 use Rattle.tatp_model.specs.declared.reply.Reply.TheVariants.{Changed}
 use Rattle.tatp_model.specs.declared.request.Request.{Request}
-use Rattle.tatp_model.specs.declared.request.Request.TheVariants.{UpdateSubscriber, UpdateLocation, InsertCall, DeleteCall, GetSubscriber, GetDestination, GetAccess, Sync}
+use Rattle.tatp_model.specs.declared.request.Request.TheVariants.{UpdateSubscriber, UpdateLocation, InsertCall, DeleteCall}
 use Rattle.tatp_model.specs.Database.{Database}
 use Rattle.tatp_model.specs.Transaction.{reply_to, after_request}
 use Rattle.tatp_layout.specs.Layout.{call_table, facility_table, subscriber_table}
 use Rattle.tatp_layout.specs.StandsFor.{StandsFor}
-use Rattle.tatp_read.specs.Lookups.{destination_reads, kind_reads, subscriber_reads}
+use Rattle.tatp_read.specs.Lookups.{reads_of}
 use Rattle.tatp_core.specs.Phones.{id_reads}
 
 -- the reply is that of the transaction step, and the array stands for the step's tables afterwards
@@ -38,10 +38,7 @@ most_reads s (UpdateSubscriber s_id bit_1 sf_type data_a) = walk_reads (subscrib
 most_reads s (UpdateLocation sub_nbr vlr) = id_reads s + walk_reads (subscriber_table s)
 most_reads s (InsertCall sub_nbr sf_type start_time end_time numberx) = id_reads s + walk_reads (facility_table s) + insert_reads (call_table s)
 most_reads s (DeleteCall sub_nbr sf_type start_time) = id_reads s + remove_reads (call_table s)
-most_reads s (GetSubscriber s_id) = subscriber_reads s
-most_reads s (GetDestination s_id sf_type start_time end_time) = destination_reads s
-most_reads s (GetAccess s_id ai_type) = kind_reads s
-most_reads s Sync = 0
+most_reads s request = reads_of s request
 
 -- The most writes of a request: a word for each field that it changes; and for a call row that it inserts or deletes, the
 -- words of the chain and of the free list.

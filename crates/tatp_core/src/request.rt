@@ -1,14 +1,12 @@
 //! A request is answered from the words of a home, and its writes are left pending in them.
 
-ghost use Rattle.std.specs.Prelude.{◌≡◌, ◌≢◌, ◌*◌, [], IfOk, false};
+ghost use Rattle.std.specs.Prelude.{◌≡◌, ◌*◌, [], false};
 ghost use Rattle.dude_base.specs.declared.limits.TheConstants.{PAGE};
-ghost use Rattle.word_space.specs.Steps.{UsesWords};
-ghost use Rattle.tatp_model.specs.declared.reply.Reply.TheVariants.{Changed};
 ghost use Rattle.tatp_model.specs.OneThread.{is_sync};
 ghost use Rattle.tatp_model.specs.Request.{IsInRange};
-ghost use Rattle.tatp_read.specs.Lookups.{RepliesBelow};
+ghost use Rattle.tatp_read.specs.Lookups.{AnswersRequest};
 ghost use Rattle.tatp_core.specs.Reads.{IsRead};
-ghost use Rattle.tatp_core.specs.Serves.{ServesRequest, most_reads};
+ghost use Rattle.tatp_core.specs.Serves.{ServesRequest};
 
 use crate::delete::write_delete;
 use crate::insert::write_insert;
@@ -44,9 +42,7 @@ fn read_request<W: Words>(lay: &Layout, w: &mut W, q: &Request) -> Result<Reply,
     requires in_range { IsInRange q.now }
     requires size { (W.sight w.old).count ≡ lay.now.pages * PAGE }
     requires no_writes { (W.sight w.old).writes ≡ [] }
-    ensures uses { UsesWords W.sight W.turns_into (most_reads lay.now q.now) 0 result w.old w.new }
-    ensures unchanged { IfOk result (λ reply. reply ≢ Changed) }
-    ensures reply { RepliesBelow W.sight lay.now q.now result w.new }
+    ensures { AnswersRequest W.sight W.turns_into lay.now q.now result w.old w.new }
 {
     match q {
         Request::GetSubscriber { .. } => read_subscriber(lay, w, q),

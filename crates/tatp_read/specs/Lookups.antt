@@ -1,5 +1,5 @@
 -- What the look-ups of rows find in an array that stands for tables, and how many reads they make at most.
-use Rattle.std.specs.Prelude.{◌≡◌, ℕ, ◌+◌, ◌*◌, Bool, List, Option, Result, IfOk, map, filter, find}
+use Rattle.std.specs.Prelude.{◌≡◌, ◌≢◌, ℕ, ◌+◌, ◌*◌, Bool, List, Option, Result, IfOk, map, filter, find}
 use Rattle.std.specs.List.{list_any}
 use Rattle.std.specs.Option.{option_to_list}
 use Rattle.dude_base.specs.declared.sizes.Sizes.{Sizes}
@@ -7,8 +7,11 @@ use Rattle.word_space.specs.declared.stop.Stop.{Stop}
 use Rattle.word_space.specs.Sights.{WordsSight, IsBelow}
 use Rattle.tatp_model.specs.declared.access_row.AccessRow.{AccessRow}
 use Rattle.tatp_model.specs.declared.numbers.Numbers.{Numbers}
+use Rattle.word_space.specs.Steps.{UsesWords}
 use Rattle.tatp_model.specs.declared.reply.Reply.{Reply}
+use Rattle.tatp_model.specs.declared.reply.Reply.TheVariants.{Changed}
 use Rattle.tatp_model.specs.declared.request.Request.{Request}
+use Rattle.tatp_model.specs.declared.request.Request.TheVariants.{GetSubscriber, GetDestination, GetAccess}
 use Rattle.tatp_model.specs.declared.sub_row.SubRow.{SubRow}
 use Rattle.tatp_model.specs.Database.{Database}
 use Rattle.tatp_model.specs.Numbers.{numbers_of}
@@ -57,3 +60,19 @@ call_reads s = 2 * s.calls + 3
 -- of a facility and its call rows, which are at most three
 abbrev pub destination_reads : Sizes → ℕ
 destination_reads s = kind_reads s + 3 * call_reads s
+
+-- the most reads of a request that only reads
+abbrev pub reads_of : Sizes → Request → ℕ
+reads_of s (GetSubscriber s_id) = subscriber_reads s
+reads_of s (GetDestination s_id sf_type start_time end_time) = destination_reads s
+reads_of s (GetAccess s_id ai_type) = kind_reads s
+reads_of s _ = 0
+
+-- What answering a request that only reads leaves, by its result.
+pub record AnswersRequest {S : Type 0} (sight : S → WordsSight) (turns_into : S → S → Type 0) (s : Sizes) (request : Request) (result : Result Reply Stop) (old new : S) : Type 0 where
+  -- at most as many reads were made as it may, and no writes
+  pub uses : UsesWords sight turns_into (reads_of s request) 0 result old new
+  -- the reply isn't Changed
+  pub unchanged : IfOk result (λ reply. reply ≢ Changed)
+  -- it is that of one thread, for every lawful array that agrees with the reads made
+  pub reply : RepliesBelow sight s request result new

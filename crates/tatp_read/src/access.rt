@@ -1,13 +1,12 @@
 //! `GET_ACCESS_DATA`.
 
-ghost use Rattle.std.specs.Prelude.{◌≡◌, ◌≢◌, ◌*◌, [], IfOk};
+ghost use Rattle.std.specs.Prelude.{◌≡◌, ◌*◌, []};
 ghost use Rattle.dude_base.specs.declared.limits.TheConstants.{PAGE};
 ghost use Rattle.word_space.specs.Steps.{AnswersSeen, UsesWords};
-ghost use Rattle.tatp_model.specs.declared.reply.Reply.TheVariants.{Changed};
 ghost use Rattle.tatp_model.specs.Ranges.{IsId, IsKind};
 ghost use Rattle.tatp_model.specs.Request.{IsInRange};
 ghost use Rattle.tatp_read.specs.Kinds.{IsGetAccess};
-ghost use Rattle.tatp_read.specs.Lookups.{FindsAccess, RepliesBelow, kind_reads};
+ghost use Rattle.tatp_read.specs.Lookups.{AnswersRequest, FindsAccess, kind_reads};
 
 use tatp_layout::keys::kind_key;
 use tatp_layout::{Layout, get_access};
@@ -21,9 +20,7 @@ pub fn read_access<W: Words>(lay: &Layout, w: &mut W, q: &Request) -> Result<Rep
     requires in_range { IsInRange q.now }
     requires size { (W.sight w.old).count ≡ lay.now.pages * PAGE }
     requires no_writes { (W.sight w.old).writes ≡ [] }
-    ensures uses { UsesWords W.sight W.turns_into (kind_reads lay.now) 0 result w.old w.new }
-    ensures unchanged { IfOk result (λ reply. reply ≢ Changed) }
-    ensures reply { RepliesBelow W.sight lay.now q.now result w.new }
+    ensures { AnswersRequest W.sight W.turns_into lay.now q.now result w.old w.new }
 {
     let Request::GetAccess { s_id, ai_type } = *q else {
         unreachable!()

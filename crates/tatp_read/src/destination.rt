@@ -1,13 +1,12 @@
 //! `GET_NEW_DESTINATION`.
 
-ghost use Rattle.std.specs.Prelude.{◌≡◌, ◌≢◌, ◌*◌, [], IfOk};
+ghost use Rattle.std.specs.Prelude.{◌≡◌, ◌*◌, []};
 ghost use Rattle.dude_base.specs.declared.limits.TheConstants.{PAGE};
 ghost use Rattle.word_space.specs.Steps.{AnswersSeen, UsesWords};
-ghost use Rattle.tatp_model.specs.declared.reply.Reply.TheVariants.{Changed};
 ghost use Rattle.tatp_model.specs.Ranges.{IsId, IsKind, IsStartTime};
 ghost use Rattle.tatp_model.specs.Request.{IsInRange};
 ghost use Rattle.tatp_read.specs.Kinds.{IsGetDestination};
-ghost use Rattle.tatp_read.specs.Lookups.{FindsActive, FindsPhone, FindsPhones, RepliesBelow, call_reads, destination_reads, kind_reads};
+ghost use Rattle.tatp_read.specs.Lookups.{AnswersRequest, FindsActive, FindsPhone, FindsPhones, call_reads, kind_reads};
 
 use tatp_layout::keys::{first_call_key, kind_key};
 use tatp_layout::{Layout, get_call, get_fac};
@@ -22,9 +21,7 @@ pub fn read_destination<W: Words>(lay: &Layout, w: &mut W, q: &Request) -> Resul
     requires in_range { IsInRange q.now }
     requires size { (W.sight w.old).count ≡ lay.now.pages * PAGE }
     requires no_writes { (W.sight w.old).writes ≡ [] }
-    ensures uses { UsesWords W.sight W.turns_into (destination_reads lay.now) 0 result w.old w.new }
-    ensures unchanged { IfOk result (λ reply. reply ≢ Changed) }
-    ensures reply { RepliesBelow W.sight lay.now q.now result w.new }
+    ensures { AnswersRequest W.sight W.turns_into lay.now q.now result w.old w.new }
 {
     let Request::GetDestination {
         s_id,

@@ -1,12 +1,11 @@
 //! `GET_SUBSCRIBER_DATA`.
 
-ghost use Rattle.std.specs.Prelude.{◌≡◌, ◌≢◌, ◌*◌, [], IfOk};
+ghost use Rattle.std.specs.Prelude.{◌≡◌, ◌*◌, []};
 ghost use Rattle.dude_base.specs.declared.limits.TheConstants.{PAGE};
 ghost use Rattle.word_space.specs.Steps.{AnswersSeen, UsesWords};
-ghost use Rattle.tatp_model.specs.declared.reply.Reply.TheVariants.{Changed};
 ghost use Rattle.tatp_model.specs.Request.{IsInRange};
 ghost use Rattle.tatp_read.specs.Kinds.{IsGetSubscriber};
-ghost use Rattle.tatp_read.specs.Lookups.{FindsSubscriber, RepliesBelow, subscriber_reads};
+ghost use Rattle.tatp_read.specs.Lookups.{AnswersRequest, FindsSubscriber, subscriber_reads};
 
 use tatp_layout::{Layout, get_sub};
 use tatp_model::{Reply, Request, SubRow};
@@ -19,9 +18,7 @@ pub fn read_subscriber<W: Words>(lay: &Layout, w: &mut W, q: &Request) -> Result
     requires in_range { IsInRange q.now }
     requires size { (W.sight w.old).count ≡ lay.now.pages * PAGE }
     requires no_writes { (W.sight w.old).writes ≡ [] }
-    ensures uses { UsesWords W.sight W.turns_into (subscriber_reads lay.now) 0 result w.old w.new }
-    ensures unchanged { IfOk result (λ reply. reply ≢ Changed) }
-    ensures reply { RepliesBelow W.sight lay.now q.now result w.new }
+    ensures { AnswersRequest W.sight W.turns_into lay.now q.now result w.old w.new }
 {
     let Request::GetSubscriber { s_id } = *q else {
         unreachable!()

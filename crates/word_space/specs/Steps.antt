@@ -79,6 +79,10 @@ DoesRead at (Err e) s t = (e ≢ Wide) × (t ≡ record s { stopped = Some e })
 pub record ReadsWord (at : ℕ) (result : Result ℕ Stop) (s t : WordsSight) : Type 0 where
   pub does : DoesRead at result s t
 
+-- the same of any value that reads words
+abbrev pub MakesRead : {S : Type 0} → (S → WordsSight) → ℕ → Result ℕ Stop → S → S → Type 0
+MakesRead sight at result old new = ReadsWord at result (sight old) (sight new)
+
 -- the value of a read is the one that is seen at its word
 abbrev pub IsSeenAt : ℕ → List ℕ → ℕ → Type 0
 IsSeenAt at seen value = value ≡ slice_index seen at
@@ -92,3 +96,7 @@ DoesWrite at value (Err e) s t = ((e ≡ Wide) ↔ IsWide s.writes at) × (t ≡
 -- What a write of the value to the word `at` leaves, by its result: it did exactly what a write does.
 pub record WritesWord (at value : ℕ) (result : Result (Unit {0}) Stop) (s t : WordsSight) : Type 0 where
   pub does : DoesWrite at value result s t
+
+-- the same of any value that writes words
+abbrev pub MakesWrite : {S : Type 0} → (S → WordsSight) → ℕ → ℕ → Result (Unit {0}) Stop → S → S → Type 0
+MakesWrite sight at value result old new = WritesWord at value result (sight old) (sight new)

@@ -97,7 +97,7 @@ impl Words for Flat {
     ghost use Rattle.std.proofs.Common.{refl, ◌∙◌};
     ghost use Rattle.word_space.specs.declared.stop.Stop.{Stop};
     ghost use Rattle.word_space.specs.Flats.{flat_sight, flat_well_formed, HasSameWords};
-    ghost use Rattle.word_space.specs.Steps.{Shows, UsesWords, WritesWord};
+    ghost use Rattle.word_space.specs.Steps.{MakesWrite, Shows, UsesWords};
 
     ghost sight = { flat_sight };
 
@@ -131,7 +131,7 @@ impl Words for Flat {
     fn write(&mut self, at: u64, value: u64) -> Result<(), Stop>
         requires inside { at < (flat_sight self.old).count }
         ensures uses { UsesWords flat_sight HasSameWords 0 1 result self.old self.new }
-        ensures writes { WritesWord at value result (flat_sight self.old) (flat_sight self.new) }
+        ensures writes { MakesWrite flat_sight at value result self.old self.new }
         ensures shown { Shows flat_sight result self.old self.new (λ seen. slice_set seen at value) }
         ensures no_memory { IfErr result (λ stop. stop ≡ Stop.Wide) }
     {

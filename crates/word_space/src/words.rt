@@ -2,7 +2,7 @@
 
 ghost use Rattle.std.specs.Prelude.{◌≡◌, ◌<◌, slice_set};
 ghost use Rattle.word_space.specs.Sights.{WordsSight, IsWellFormed};
-ghost use Rattle.word_space.specs.Steps.{AnswersSeen, IsSeenAt, ReadsWord, Shows, UsesWords, WritesWord};
+ghost use Rattle.word_space.specs.Steps.{AnswersSeen, IsSeenAt, MakesRead, MakesWrite, Shows, UsesWords};
 
 use crate::stop::Stop;
 
@@ -28,7 +28,7 @@ pub trait Words {
     fn read(&mut self, at: u64) -> Result<u64, Stop>
         requires inside { at < (sight self.old).count }
         ensures uses { UsesWords sight turns_into 1 0 result self.old self.new }
-        ensures reads { ReadsWord at result (sight self.old) (sight self.new) }
+        ensures reads { MakesRead sight at result self.old self.new }
         ensures value { AnswersSeen sight result self.old self.new (IsSeenAt at) };
 
     /// Writes the word `at`; the write is pending. `Wide` comes exactly where it would be of a 25th
@@ -36,7 +36,7 @@ pub trait Words {
     fn write(&mut self, at: u64, value: u64) -> Result<(), Stop>
         requires inside { at < (sight self.old).count }
         ensures uses { UsesWords sight turns_into 0 1 result self.old self.new }
-        ensures writes { WritesWord at value result (sight self.old) (sight self.new) }
+        ensures writes { MakesWrite sight at value result self.old self.new }
         ensures shown { Shows sight result self.old self.new (λ seen. slice_set seen at value) };
 
     ghost well_formed: { (x : Self) → IsWellFormed (sight x) };

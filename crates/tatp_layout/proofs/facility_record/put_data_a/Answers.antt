@@ -8,20 +8,10 @@ use Rattle.std.proofs.lemmas.Result.{IfOk-from_err}
 use Rattle.tatp_layout.proofs.facility_record.put_data_a.Goals as goal
 
 pub returns-in_err-word : goal.returns-in_err-word
-returns-in_err-word g c = record {
-  uses = used_handed c.from_residual.result c.from_residual.ensures.1 c.in_err-word.ensures.uses (lit≤ tt) (lit≤ tt);
-  wrote = IfOk-from_err _ _ c.from_residual.ensures.0;
-  changes = IfOk-from_err _ _ c.from_residual.ensures.0;
-  holds = IfOk-from_err _ _ c.from_residual.ensures.0;
-}
+returns-in_err-word g c = let r = c.from_residual in record { uses = used_handed r.result r.ensures.1 c.in_err-word.ensures.uses (lit≤ tt) (lit≤ tt); wrote = IfOk-from_err _ _ r.ensures.0; changes = IfOk-from_err _ _ r.ensures.0; holds = IfOk-from_err _ _ r.ensures.0 }
 
 pub returns-in_err-write : goal.returns-in_err-write
-returns-in_err-write g c = record {
-  uses = used_handed c.from_residual-in_err-write.result c.from_residual-in_err-write.ensures.1 (used_until c.in_ok-word.ensures.uses c.in_err-write.ensures.uses) (lit≤ tt) (lit≤ tt);
-  wrote = IfOk-from_err _ _ c.from_residual-in_err-write.ensures.0;
-  changes = IfOk-from_err _ _ c.from_residual-in_err-write.ensures.0;
-  holds = IfOk-from_err _ _ c.from_residual-in_err-write.ensures.0;
-}
+returns-in_err-write g c = let r = c.from_residual-in_err-write in record { uses = used_handed r.result r.ensures.1 (used_until c.in_ok-word.ensures.uses c.in_err-write.ensures.uses) (lit≤ tt) (lit≤ tt); wrote = IfOk-from_err _ _ r.ensures.0; changes = IfOk-from_err _ _ r.ensures.0; holds = IfOk-from_err _ _ r.ensures.0 }
 
 pub returns-clause-uses : goal.returns-clause-uses
 returns-clause-uses g c = used_then c.in_ok-word.ensures.uses c.in_ok-write.ensures.uses

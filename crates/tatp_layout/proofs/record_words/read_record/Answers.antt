@@ -8,16 +8,10 @@ use Rattle.std.proofs.lemmas.Result.{IfOk-from_err}
 use Rattle.tatp_layout.proofs.record_words.read_record.Goals as goal
 
 pub returns-in_err-words : goal.returns-in_err-words
-returns-in_err-words g c = record {
-  uses = used_handed c.from_residual.result c.from_residual.ensures.1 c.in_err-words.ensures.uses (omega arith) (lit≤ tt);
-  words = IfOk-from_err _ _ c.from_residual.ensures.0;
-}
+returns-in_err-words g c = let r = c.from_residual in record { uses = used_handed r.result r.ensures.1 c.in_err-words.ensures.uses (omega arith) (lit≤ tt); words = IfOk-from_err _ _ r.ensures.0 }
 
 pub returns-in_err-words-2 : goal.returns-in_err-words-2
-returns-in_err-words-2 g c = record {
-  uses = used_handed c.from_residual-in_err-words-2.result c.from_residual-in_err-words-2.ensures.1 (used_until c.loop-k.invariant.uses c.in_err-words-2.ensures.uses) (omega arith) (lit≤ tt);
-  words = IfOk-from_err _ _ c.from_residual-in_err-words-2.ensures.0;
-}
+returns-in_err-words-2 g c = let r = c.from_residual-in_err-words-2 in record { uses = used_handed r.result r.ensures.1 (used_until c.loop-k.invariant.uses c.in_err-words-2.ensures.uses) (omega arith) (lit≤ tt); words = IfOk-from_err _ _ r.ensures.0 }
 
 pub returns-clause-uses : goal.returns-clause-uses
 returns-clause-uses g c = used_more c.loop-k.invariant.uses (omega arith) (lit≤ tt)

@@ -8,12 +8,7 @@ use Rattle.std.proofs.lemmas.Result.{IfOk-from_err}
 use Rattle.tatp_layout.proofs.subscriber_record.put_vlr.Goals as goal
 
 pub returns-in_err-write : goal.returns-in_err-write
-returns-in_err-write g c = record {
-  uses = used_handed c.from_residual.result c.from_residual.ensures.1 c.in_err-write.ensures.uses (lit≤ tt) (lit≤ tt);
-  wrote = IfOk-from_err _ _ c.from_residual.ensures.0;
-  shown = IfOk-from_err _ _ c.from_residual.ensures.0;
-  holds = IfOk-from_err _ _ c.from_residual.ensures.0;
-}
+returns-in_err-write g c = let r = c.from_residual in record { uses = used_handed r.result r.ensures.1 c.in_err-write.ensures.uses (lit≤ tt) (lit≤ tt); wrote = IfOk-from_err _ _ r.ensures.0; shown = IfOk-from_err _ _ r.ensures.0; holds = IfOk-from_err _ _ r.ensures.0 }
 
 pub returns-clause-uses : goal.returns-clause-uses
 returns-clause-uses g c = c.in_ok-write.ensures.uses

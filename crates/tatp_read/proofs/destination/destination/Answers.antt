@@ -14,10 +14,7 @@ pub get_call-requires : goal.get_call-requires
 get_call-requires g c = record { size = c.in_ok-at.ensures.uses.count ∙ c.requires.size; «record» = record_at c.calls.ensures.table c.in-Some.is c.in_ok-at.ensures.«record» }
 
 pub returns-in_err-at : goal.returns-in_err-at
-returns-in_err-at g c = record {
-  uses = used_handed c.from_residual.result c.from_residual.ensures.1 c.in_err-at.ensures.uses (omega (arith, ap walk_reads c.calls.ensures.table)) (lit≤ tt);
-  numbers = IfOk-from_err _ _ c.from_residual.ensures.0;
-}
+returns-in_err-at g c = let r = c.from_residual in record { uses = used_handed r.result r.ensures.1 c.in_err-at.ensures.uses (omega (arith, ap walk_reads c.calls.ensures.table)) (lit≤ tt); numbers = IfOk-from_err _ _ r.ensures.0 }
 
 pub returns-in_default-clause-uses : goal.returns-in_default-clause-uses
 returns-in_default-clause-uses g c = used_more c.in_ok-at.ensures.uses (omega (arith, ap walk_reads c.calls.ensures.table)) (lit≤ tt)
@@ -26,10 +23,7 @@ pub returns-in_default-clause-numbers : goal.returns-in_default-clause-numbers
 returns-in_default-clause-numbers g c = λ array below db stands. call_absent c.args.key stands (c.in_ok-at.ensures.found array below) c.args.end_time c.calls.ensures.table c.in_default.is
 
 pub returns-in_err-row : goal.returns-in_err-row
-returns-in_err-row g c = record {
-  uses = used_handed c.from_residual-in_err-row.result c.from_residual-in_err-row.ensures.1 (used_until c.in_ok-at.ensures.uses c.in_err-row.ensures.uses) (omega (arith, ap walk_reads c.calls.ensures.table)) (lit≤ tt);
-  numbers = IfOk-from_err _ _ c.from_residual-in_err-row.ensures.0;
-}
+returns-in_err-row g c = let r = c.from_residual-in_err-row in record { uses = used_handed r.result r.ensures.1 (used_until c.in_ok-at.ensures.uses c.in_err-row.ensures.uses) (omega (arith, ap walk_reads c.calls.ensures.table)) (lit≤ tt); numbers = IfOk-from_err _ _ r.ensures.0 }
 
 pub returns-then-end_time-row-clause-uses : goal.returns-then-end_time-row-clause-uses
 returns-then-end_time-row-clause-uses g c = used_more (used_then c.in_ok-at.ensures.uses c.in_ok-row.ensures.uses) (omega (arith, ap walk_reads c.calls.ensures.table)) (lit≤ tt)

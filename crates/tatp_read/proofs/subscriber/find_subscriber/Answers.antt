@@ -13,10 +13,7 @@ pub get_sub-requires : goal.get_sub-requires
 get_sub-requires g c = record { size = c.in_ok-at.ensures.uses.count ∙ c.requires.size; «record» = record_at c.subscribers.ensures.table c.in-Some.is c.in_ok-at.ensures.«record» }
 
 pub returns-in_err-at : goal.returns-in_err-at
-returns-in_err-at g c = record {
-  uses = used_handed c.from_residual.result c.from_residual.ensures.1 c.in_err-at.ensures.uses (omega (arith, ap walk_reads c.subscribers.ensures.table)) (lit≤ tt);
-  row = IfOk-from_err _ _ c.from_residual.ensures.0;
-}
+returns-in_err-at g c = let r = c.from_residual in record { uses = used_handed r.result r.ensures.1 c.in_err-at.ensures.uses (omega (arith, ap walk_reads c.subscribers.ensures.table)) (lit≤ tt); row = IfOk-from_err _ _ r.ensures.0 }
 
 pub returns-in_default-clause-uses : goal.returns-in_default-clause-uses
 returns-in_default-clause-uses g c = used_more c.in_ok-at.ensures.uses (omega (arith, ap walk_reads c.subscribers.ensures.table)) (lit≤ tt)
@@ -25,10 +22,7 @@ pub returns-in_default-clause-row : goal.returns-in_default-clause-row
 returns-in_default-clause-row g c = λ array below db stands. subscriber_absent c.args.s_id stands (c.in_ok-at.ensures.found array below) c.subscribers.ensures.table c.in_default.is
 
 pub returns-in_err-get_sub : goal.returns-in_err-get_sub
-returns-in_err-get_sub g c = record {
-  uses = used_handed c.from_residual-in_err-get_sub.result c.from_residual-in_err-get_sub.ensures.1 (used_until c.in_ok-at.ensures.uses c.in_err-get_sub.ensures.uses) (omega (arith, ap walk_reads c.subscribers.ensures.table)) (lit≤ tt);
-  row = IfOk-from_err _ _ c.from_residual-in_err-get_sub.ensures.0;
-}
+returns-in_err-get_sub g c = let r = c.from_residual-in_err-get_sub in record { uses = used_handed r.result r.ensures.1 (used_until c.in_ok-at.ensures.uses c.in_err-get_sub.ensures.uses) (omega (arith, ap walk_reads c.subscribers.ensures.table)) (lit≤ tt); row = IfOk-from_err _ _ r.ensures.0 }
 
 pub returns-clause-uses : goal.returns-clause-uses
 returns-clause-uses g c = used_more (used_then c.in_ok-at.ensures.uses c.in_ok-get_sub.ensures.uses) (omega (arith, ap walk_reads c.subscribers.ensures.table)) (lit≤ tt)

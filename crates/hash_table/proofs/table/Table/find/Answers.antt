@@ -6,12 +6,7 @@ use Rattle.word_space.proofs.Runs.{used_handed, used_more, used_then}
 use Rattle.hash_table.proofs.table.Table.find.Goals as goal
 
 pub returns-in_err-position : goal.returns-in_err-position
-returns-in_err-position g c = record {
-  uses = used_handed c.from_residual.result c.from_residual.ensures.1 c.in_err-position.ensures.uses (omega arith) (lit≤ tt);
-  finds = IfOk-from_err _ _ c.from_residual.ensures.0;
-  «record» = IfOk-from_err _ _ c.from_residual.ensures.0;
-  found = IfOk-from_err _ _ c.from_residual.ensures.0;
-}
+returns-in_err-position g c = let r = c.from_residual in record { uses = used_handed r.result r.ensures.1 c.in_err-position.ensures.uses (omega arith) (lit≤ tt); finds = IfOk-from_err _ _ r.ensures.0; «record» = IfOk-from_err _ _ r.ensures.0; found = IfOk-from_err _ _ r.ensures.0 }
 
 pub returns-in-Some-clause-uses : goal.returns-in-Some-clause-uses
 returns-in-Some-clause-uses g c = c.in_ok-position.ensures.uses

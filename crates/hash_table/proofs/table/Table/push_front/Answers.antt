@@ -4,25 +4,13 @@ use Rattle.std.proofs.lemmas.Result.{IfOk-from_err}
 use Rattle.hash_table.proofs.table.Table.push_front.Goals as goal
 
 pub returns-in_err-write : goal.returns-in_err-write
-returns-in_err-write g c = record {
-  uses = used_handed c.from_residual.result c.from_residual.ensures.1 c.in_err-write.ensures.uses (lit≤ tt) (lit≤ tt);
-  wrote = IfOk-from_err _ _ c.from_residual.ensures.0;
-  shown = IfOk-from_err _ _ c.from_residual.ensures.0;
-}
+returns-in_err-write g c = let r = c.from_residual in record { uses = used_handed r.result r.ensures.1 c.in_err-write.ensures.uses (lit≤ tt) (lit≤ tt); wrote = IfOk-from_err _ _ r.ensures.0; shown = IfOk-from_err _ _ r.ensures.0 }
 
 pub returns-in_err-write-2 : goal.returns-in_err-write-2
-returns-in_err-write-2 g c = record {
-  uses = used_handed c.from_residual-in_err-write-2.result c.from_residual-in_err-write-2.ensures.1 (used_until c.in_ok-write.ensures.uses c.in_err-write-2.ensures.uses) (lit≤ tt) (lit≤ tt);
-  wrote = IfOk-from_err _ _ c.from_residual-in_err-write-2.ensures.0;
-  shown = IfOk-from_err _ _ c.from_residual-in_err-write-2.ensures.0;
-}
+returns-in_err-write-2 g c = let r = c.from_residual-in_err-write-2 in record { uses = used_handed r.result r.ensures.1 (used_until c.in_ok-write.ensures.uses c.in_err-write-2.ensures.uses) (lit≤ tt) (lit≤ tt); wrote = IfOk-from_err _ _ r.ensures.0; shown = IfOk-from_err _ _ r.ensures.0 }
 
 pub returns-in_err-write-3 : goal.returns-in_err-write-3
-returns-in_err-write-3 g c = record {
-  uses = used_handed c.from_residual-in_err-write-3.result c.from_residual-in_err-write-3.ensures.1 (used_until (used_then c.in_ok-write.ensures.uses c.in_ok-write-2.ensures.uses) c.in_err-write-3.ensures.uses) (lit≤ tt) (lit≤ tt);
-  wrote = IfOk-from_err _ _ c.from_residual-in_err-write-3.ensures.0;
-  shown = IfOk-from_err _ _ c.from_residual-in_err-write-3.ensures.0;
-}
+returns-in_err-write-3 g c = let r = c.from_residual-in_err-write-3 in record { uses = used_handed r.result r.ensures.1 (used_until (used_then c.in_ok-write.ensures.uses c.in_ok-write-2.ensures.uses) c.in_err-write-3.ensures.uses) (lit≤ tt) (lit≤ tt); wrote = IfOk-from_err _ _ r.ensures.0; shown = IfOk-from_err _ _ r.ensures.0 }
 
 pub returns-clause-uses : goal.returns-clause-uses
 returns-clause-uses g c = used_then c.in_ok-write.ensures.uses (used_then c.in_ok-write-2.ensures.uses c.in_ok-write-3.ensures.uses)

@@ -10,23 +10,13 @@ use Rattle.hash_table.proofs.Walks.{finds_none, finds_some}
 use Rattle.hash_table.proofs.table.Table.remove.Goals as goal
 
 pub returns-in_err-position : goal.returns-in_err-position
-returns-in_err-position g c = record {
-  uses = used_handed c.from_residual.result c.from_residual.ensures.1 c.in_err-position.ensures.uses (omega arith) (lit≤ tt);
-  wrote = IfOk-from_err _ _ c.from_residual.ensures.0;
-  finds = IfOk-from_err _ _ c.from_residual.ensures.0;
-  removes = IfOk-from_err _ _ c.from_residual.ensures.0;
-}
+returns-in_err-position g c = let r = c.from_residual in record { uses = used_handed r.result r.ensures.1 c.in_err-position.ensures.uses (omega arith) (lit≤ tt); wrote = IfOk-from_err _ _ r.ensures.0; finds = IfOk-from_err _ _ r.ensures.0; removes = IfOk-from_err _ _ r.ensures.0 }
 
 pub returns-in_default-clause-uses : goal.returns-in_default-clause-uses
 returns-in_default-clause-uses g c = used_more c.in_ok-position.ensures.uses (omega arith) (lit≤ tt)
 
 pub returns-in_err-unlink : goal.returns-in_err-unlink
-returns-in_err-unlink g c = record {
-  uses = used_handed c.from_residual-in_err-unlink.result c.from_residual-in_err-unlink.ensures.1 (used_until c.in_ok-position.ensures.uses c.in_err-unlink.ensures.uses) (omega arith) (lit≤ tt);
-  wrote = IfOk-from_err _ _ c.from_residual-in_err-unlink.ensures.0;
-  finds = IfOk-from_err _ _ c.from_residual-in_err-unlink.ensures.0;
-  removes = IfOk-from_err _ _ c.from_residual-in_err-unlink.ensures.0;
-}
+returns-in_err-unlink g c = let r = c.from_residual-in_err-unlink in record { uses = used_handed r.result r.ensures.1 (used_until c.in_ok-position.ensures.uses c.in_err-unlink.ensures.uses) (omega arith) (lit≤ tt); wrote = IfOk-from_err _ _ r.ensures.0; finds = IfOk-from_err _ _ r.ensures.0; removes = IfOk-from_err _ _ r.ensures.0 }
 
 pub returns-clause-uses : goal.returns-clause-uses
 returns-clause-uses g c = used_then c.in_ok-position.ensures.uses c.in_ok-unlink.ensures.uses

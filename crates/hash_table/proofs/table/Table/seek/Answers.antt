@@ -7,23 +7,13 @@ use Rattle.hash_table.proofs.Walks.{passes_from, passes_none, passes_more, seeks
 use Rattle.hash_table.proofs.table.Table.seek.Goals as goal
 
 pub returns-in_err-record : goal.returns-in_err-record
-returns-in_err-record g c = record {
-  uses = used_handed c.from_residual.result c.from_residual.ensures.1 (used_until c.loop.invariant.uses c.in_err-record.ensures.uses) (omega arith) (lit≤ tt);
-  «record» = IfOk-from_err _ _ c.from_residual.ensures.0;
-  link = IfOk-from_err _ _ c.from_residual.ensures.0;
-  seeks = IfOk-from_err _ _ c.from_residual.ensures.0;
-}
+returns-in_err-record g c = let r = c.from_residual in record { uses = used_handed r.result r.ensures.1 (used_until c.loop.invariant.uses c.in_err-record.ensures.uses) (omega arith) (lit≤ tt); «record» = IfOk-from_err _ _ r.ensures.0; link = IfOk-from_err _ _ r.ensures.0; seeks = IfOk-from_err _ _ r.ensures.0 }
 
 pub returns-then-not-has-clause-uses : goal.returns-then-not-has-clause-uses
 returns-then-not-has-clause-uses g c = used_more (used_then c.loop.invariant.uses c.in_ok-record.ensures.uses) (omega arith) (lit≤ tt)
 
 pub returns-in_err-read : goal.returns-in_err-read
-returns-in_err-read g c = record {
-  uses = used_handed c.from_residual-in_err-read.result c.from_residual-in_err-read.ensures.1 (used_until (used_then c.loop.invariant.uses c.in_ok-record.ensures.uses) c.in_err-read.ensures.uses) (omega arith) (lit≤ tt);
-  «record» = IfOk-from_err _ _ c.from_residual-in_err-read.ensures.0;
-  link = IfOk-from_err _ _ c.from_residual-in_err-read.ensures.0;
-  seeks = IfOk-from_err _ _ c.from_residual-in_err-read.ensures.0;
-}
+returns-in_err-read g c = let r = c.from_residual-in_err-read in record { uses = used_handed r.result r.ensures.1 (used_until (used_then c.loop.invariant.uses c.in_ok-record.ensures.uses) c.in_err-read.ensures.uses) (omega arith) (lit≤ tt); «record» = IfOk-from_err _ _ r.ensures.0; link = IfOk-from_err _ _ r.ensures.0; seeks = IfOk-from_err _ _ r.ensures.0 }
 
 pub returns-then-branch-key-clause-uses : goal.returns-then-branch-key-clause-uses
 returns-then-branch-key-clause-uses g c = used_more (used_then c.loop.invariant.uses (used_then c.in_ok-record.ensures.uses c.in_ok-read.ensures.uses)) (omega arith) (lit≤ tt)

@@ -9,34 +9,16 @@ use Rattle.hash_table.proofs.Insertions.{inserts_full, inserts_stored}
 use Rattle.hash_table.proofs.table.Table.store.Goals as goal
 
 pub returns-in_err-head : goal.returns-in_err-head
-returns-in_err-head g c = record {
-  uses = used_handed c.from_residual.result c.from_residual.ensures.1 c.in_err-head.ensures.uses (lit≤ tt) (lit≤ tt);
-  wrote = IfOk-from_err _ _ c.from_residual.ensures.0;
-  puts = IfOk-from_err _ _ c.from_residual.ensures.0;
-  «record» = IfOk-from_err _ _ c.from_residual.ensures.0;
-  inserts = IfOk-from_err _ _ c.from_residual.ensures.0;
-}
+returns-in_err-head g c = let r = c.from_residual in record { uses = used_handed r.result r.ensures.1 c.in_err-head.ensures.uses (lit≤ tt) (lit≤ tt); wrote = IfOk-from_err _ _ r.ensures.0; puts = IfOk-from_err _ _ r.ensures.0; «record» = IfOk-from_err _ _ r.ensures.0; inserts = IfOk-from_err _ _ r.ensures.0 }
 
 pub returns-in_err-at : goal.returns-in_err-at
-returns-in_err-at g c = record {
-  uses = used_handed c.from_residual-in_err-at.result c.from_residual-in_err-at.ensures.1 (used_until c.in_ok-head.ensures.uses c.in_err-at.ensures.uses) (lit≤ tt) (lit≤ tt);
-  wrote = IfOk-from_err _ _ c.from_residual-in_err-at.ensures.0;
-  puts = IfOk-from_err _ _ c.from_residual-in_err-at.ensures.0;
-  «record» = IfOk-from_err _ _ c.from_residual-in_err-at.ensures.0;
-  inserts = IfOk-from_err _ _ c.from_residual-in_err-at.ensures.0;
-}
+returns-in_err-at g c = let r = c.from_residual-in_err-at in record { uses = used_handed r.result r.ensures.1 (used_until c.in_ok-head.ensures.uses c.in_err-at.ensures.uses) (lit≤ tt) (lit≤ tt); wrote = IfOk-from_err _ _ r.ensures.0; puts = IfOk-from_err _ _ r.ensures.0; «record» = IfOk-from_err _ _ r.ensures.0; inserts = IfOk-from_err _ _ r.ensures.0 }
 
 pub returns-in_default-clause-uses : goal.returns-in_default-clause-uses
 returns-in_default-clause-uses g c = used_more (used_then c.in_ok-head.ensures.uses c.in_ok-at.ensures.uses) (lit≤ tt) (lit≤ tt)
 
 pub returns-in_err-push_front : goal.returns-in_err-push_front
-returns-in_err-push_front g c = record {
-  uses = used_handed c.from_residual-in_err-push_front.result c.from_residual-in_err-push_front.ensures.1 (used_until (used_then c.in_ok-head.ensures.uses c.in_ok-at.ensures.uses) c.in_err-push_front.ensures.uses) (lit≤ tt) (lit≤ tt);
-  wrote = IfOk-from_err _ _ c.from_residual-in_err-push_front.ensures.0;
-  puts = IfOk-from_err _ _ c.from_residual-in_err-push_front.ensures.0;
-  «record» = IfOk-from_err _ _ c.from_residual-in_err-push_front.ensures.0;
-  inserts = IfOk-from_err _ _ c.from_residual-in_err-push_front.ensures.0;
-}
+returns-in_err-push_front g c = let r = c.from_residual-in_err-push_front in record { uses = used_handed r.result r.ensures.1 (used_until (used_then c.in_ok-head.ensures.uses c.in_ok-at.ensures.uses) c.in_err-push_front.ensures.uses) (lit≤ tt) (lit≤ tt); wrote = IfOk-from_err _ _ r.ensures.0; puts = IfOk-from_err _ _ r.ensures.0; «record» = IfOk-from_err _ _ r.ensures.0; inserts = IfOk-from_err _ _ r.ensures.0 }
 
 pub returns-clause-uses : goal.returns-clause-uses
 returns-clause-uses g c = used_then c.in_ok-head.ensures.uses (used_then c.in_ok-at.ensures.uses c.in_ok-push_front.ensures.uses)

@@ -8,25 +8,13 @@ use Rattle.hash_table.proofs.Removals.{not_free, removes_found}
 use Rattle.hash_table.proofs.table.Table.unlink.Goals as goal
 
 pub returns-in_err-next : goal.returns-in_err-next
-returns-in_err-next g c = record {
-  uses = used_handed c.from_residual.result c.from_residual.ensures.1 c.in_err-next.ensures.uses (lit≤ tt) (lit≤ tt);
-  wrote = IfOk-from_err _ _ c.from_residual.ensures.0;
-  drops = IfOk-from_err _ _ c.from_residual.ensures.0;
-}
+returns-in_err-next g c = let r = c.from_residual in record { uses = used_handed r.result r.ensures.1 c.in_err-next.ensures.uses (lit≤ tt) (lit≤ tt); wrote = IfOk-from_err _ _ r.ensures.0; drops = IfOk-from_err _ _ r.ensures.0 }
 
 pub returns-in_err-give : goal.returns-in_err-give
-returns-in_err-give g c = record {
-  uses = used_handed c.from_residual-in_err-give.result c.from_residual-in_err-give.ensures.1 (used_until c.in_ok-next.ensures.uses c.in_err-give.ensures.uses) (lit≤ tt) (lit≤ tt);
-  wrote = IfOk-from_err _ _ c.from_residual-in_err-give.ensures.0;
-  drops = IfOk-from_err _ _ c.from_residual-in_err-give.ensures.0;
-}
+returns-in_err-give g c = let r = c.from_residual-in_err-give in record { uses = used_handed r.result r.ensures.1 (used_until c.in_ok-next.ensures.uses c.in_err-give.ensures.uses) (lit≤ tt) (lit≤ tt); wrote = IfOk-from_err _ _ r.ensures.0; drops = IfOk-from_err _ _ r.ensures.0 }
 
 pub returns-in_err-write : goal.returns-in_err-write
-returns-in_err-write g c = record {
-  uses = used_handed c.from_residual-in_err-write.result c.from_residual-in_err-write.ensures.1 (used_until (used_then c.in_ok-next.ensures.uses c.in_ok-give.ensures.uses) c.in_err-write.ensures.uses) (lit≤ tt) (lit≤ tt);
-  wrote = IfOk-from_err _ _ c.from_residual-in_err-write.ensures.0;
-  drops = IfOk-from_err _ _ c.from_residual-in_err-write.ensures.0;
-}
+returns-in_err-write g c = let r = c.from_residual-in_err-write in record { uses = used_handed r.result r.ensures.1 (used_until (used_then c.in_ok-next.ensures.uses c.in_ok-give.ensures.uses) c.in_err-write.ensures.uses) (lit≤ tt) (lit≤ tt); wrote = IfOk-from_err _ _ r.ensures.0; drops = IfOk-from_err _ _ r.ensures.0 }
 
 pub returns-clause-uses : goal.returns-clause-uses
 returns-clause-uses g c = used_then c.in_ok-next.ensures.uses (used_then c.in_ok-give.ensures.uses c.in_ok-write.ensures.uses)
