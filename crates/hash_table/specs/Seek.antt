@@ -1,11 +1,11 @@
 -- What a walk along one chain finds.
-use Rattle.std.specs.Prelude.{◌≡◌, ◌≢◌, ℕ, ◌+◌, ◌%◌, List, ◌∷◌, ◌++◌, Option, Some, None, All, slice_index}
+use Rattle.std.specs.Prelude.{◌≡◌, ◌≢◌, ℕ, ◌+◌, ◌%◌, List, ◌∷◌, ◌++◌, Option, Some, None, All, slice_index, slice_set}
 use Rattle.record_heap.specs.Pool.{IsFirstFree}
 use Rattle.hash_table.specs.declared.put.Put.{Put}
 use Rattle.hash_table.specs.declared.put.Put.TheVariants.{There, Full, Stored}
 use Rattle.hash_table.specs.declared.table.ChainPosition.{ChainPosition}
 use Rattle.hash_table.specs.declared.table.Table.{Table}
-use Rattle.hash_table.specs.Table.{link_after}
+use Rattle.hash_table.specs.Table.{Drops, IsTable, chain_of, link_after}
 use Rattle.hash_table.specs.Walk.{IsChainOf}
 
 -- the first record with the key stands in the chain between these, and its link was met
@@ -33,3 +33,13 @@ abbrev pub PutsFree : Table → List ℕ → Put → Type 0
 PutsFree table array (There at) = ⊥
 PutsFree table array Full = IsFirstFree table.pool array None
 PutsFree table array (Stored at) = IsFirstFree table.pool array (Some at)
+
+-- the array with the key and the link of the old head in the record at this word, which its bucket links
+abbrev pub pushed_front : Table → ℕ → ℕ → ℕ → List ℕ → List ℕ
+pushed_front table key at head array = slice_set (slice_set (slice_set array at key) (at + 1) head) (table.at + key % table.buckets) at
+
+-- in every way in which the array is a table where a walk for a key meets this position, its record is dropped
+abbrev pub DropsAt : Table → ChainPosition → List ℕ → List ℕ → Unit {0} → Type 0
+DropsAt table position old new done =
+    (chains : List (List ℕ)) (free : List ℕ) (key : ℕ) → IsTable table old chains free
+    → IsAmid old (table.at + key % table.buckets) key (chain_of chains (key % table.buckets)) position → Drops table key chains free old new

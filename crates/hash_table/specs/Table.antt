@@ -96,3 +96,20 @@ pub record Drops (table : Table) (key : ℕ) (chains : List (List ℕ)) (free : 
 abbrev pub Removes : Table → ℕ → List (List ℕ) → List ℕ → Bool → List ℕ → List ℕ → Type 0
 Removes table key chains free false old new = (lookup old (records_in chains) key ≡ None) × (new ≡ old)
 Removes table key chains free true old new = Drops table key chains free old new
+
+-- in every way in which the array is this table, the answer is the record that has the key
+abbrev pub FindsAll : Table → List ℕ → ℕ → Option ℕ → Type 0
+FindsAll table array key r = (chains : List (List ℕ)) (free : List ℕ) → IsTable table array chains free → r ≡ lookup array (records_in chains) key
+
+-- in every way in which the array is this table, `insert` does so
+abbrev pub InsertsAll : Table → ℕ → List ℕ → List ℕ → Put → Type 0
+InsertsAll table key old new put = (chains : List (List ℕ)) (free : List ℕ) → IsTable table old chains free → Inserts table key chains free put old new
+
+-- the same where the key isn't there
+abbrev pub InsertsNew : Table → ℕ → List ℕ → List ℕ → Put → Type 0
+InsertsNew table key old new put =
+    (chains : List (List ℕ)) (free : List ℕ) → IsTable table old chains free → lookup old (records_in chains) key ≡ None → Inserts table key chains free put old new
+
+-- in every way in which the array is this table, `remove` does so
+abbrev pub RemovesAll : Table → ℕ → List ℕ → List ℕ → Bool → Type 0
+RemovesAll table key old new was = (chains : List (List ℕ)) (free : List ℕ) → IsTable table old chains free → Removes table key chains free was old new

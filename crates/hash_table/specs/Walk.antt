@@ -1,5 +1,5 @@
 -- What the calls see in any array, also in one that is no lawful table.
-use Rattle.std.specs.Prelude.{◌≡◌, ℕ, ◌+◌, ◌%◌, ◌<◌, ◌≤◌, List, [], ◌∷◌, length, Bool, true, false, Option, Some, None, All, slice_index}
+use Rattle.std.specs.Prelude.{◌≡◌, ℕ, ◌+◌, ◌*◌, ◌%◌, ◌<◌, ◌≤◌, List, [], ◌∷◌, length, Bool, true, false, Option, Some, None, All, slice_index}
 use Rattle.record_heap.specs.declared.pool.Pool.{Pool}
 use Rattle.record_heap.specs.Pool.{IsFirstFree, IsRecord}
 use Rattle.hash_table.specs.declared.put.Put.{Put}
@@ -40,3 +40,15 @@ abbrev pub PutsFirst : Table → ℕ → List ℕ → Put → Type 0
 PutsFirst table key array (There at) = FindsFirst table key array (Some at)
 PutsFirst table key array Full = FindsFirst table key array None × IsFirstFree table.pool array None
 PutsFirst table key array (Stored at) = FindsFirst table key array None × IsFirstFree table.pool array (Some at)
+
+-- the most reads of a walk along a chain: two for each record of the pool
+abbrev pub walk_reads : Table → ℕ
+walk_reads table = 2 * table.pool.count
+
+-- the most reads of `insert`: the walk, the bucket's link, and the free list
+abbrev pub insert_reads : Table → ℕ
+insert_reads table = walk_reads table + 4
+
+-- the most reads of `remove`: the walk, the record's link, and the header
+abbrev pub remove_reads : Table → ℕ
+remove_reads table = walk_reads table + 3

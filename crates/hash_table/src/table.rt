@@ -1,13 +1,11 @@
 //! Tables over an array of words: a key is found, inserted and removed.
 
-ghost use Rattle.std.specs.Prelude.{◌≡◌, Some, ◌+◌, ◌*◌, ◌%◌, ◌^◌, ◌<◌, ◌≤◌, ℕ, List, None, if◌then◌else◌, IfOk, IfErr, IfSome, OnOk, slice_set};
-ghost use Rattle.word_space.specs.Sights.{IsBelow, shown};
-ghost use Rattle.word_space.specs.Steps.{WordsGoOn, Looked, RanOn, stop_of};
-ghost use Rattle.record_heap.specs.Changes.{MadeAtMost, Wrote};
+ghost use Rattle.std.specs.Prelude.{◌≡◌, ◌+◌, ◌%◌, ◌^◌, ◌<◌, if◌then◌else◌, IfOk, IfSome};
+ghost use Rattle.word_space.specs.Steps.{AnswersSeen, ChangesSeen, Shows, UsesWords, WritesAsMany};
 ghost use Rattle.record_heap.specs.Pool.{IsRecord};
-ghost use Rattle.hash_table.specs.Seek.{IsAmid, PutsFree, SeeksFirst};
-ghost use Rattle.hash_table.specs.Table.{Drops, FitsTable, Inserts, IsTable, Removes, chain_of, lookup, put_record, records_in, write_count};
-ghost use Rattle.hash_table.specs.Walk.{FindsFirst, PutsFirst, RemovesFirst};
+ghost use Rattle.hash_table.specs.Seek.{DropsAt, PutsFree, SeeksFirst, pushed_front};
+ghost use Rattle.hash_table.specs.Table.{FindsAll, FitsTable, InsertsAll, InsertsNew, RemovesAll, put_record, write_count};
+ghost use Rattle.hash_table.specs.Walk.{FindsFirst, PutsFirst, RemovesFirst, insert_reads, remove_reads, walk_reads};
 
 use crate::put::Put;
 use record_heap::pool::Pool;
@@ -38,20 +36,13 @@ struct ChainPosition {
 
 impl Table {
     /// The record with this key.
-    #[tactic(auto, using(record_heap::proofs::Calls::calling))]
     pub fn find<W: Words>(&self, w: &mut W, key: u64) -> Result<Option<u64>, Stop>
         requires fits { FitsTable self.now (W.sight w.old).count }
-        ensures looked { Looked (stop_of result) (W.sight w.old) (W.sight w.new) }
-        ensures turns { WordsGoOn W.turns_into w.old w.new }
-        ensures last { IfErr result (λ stop. (W.sight w.new).stopped ≡ Some stop) }
-        ensures most { MadeAtMost (2 * self.now.pool.count) 0 (W.sight w.old) (W.sight w.new) }
+        ensures uses { UsesWords W.sight W.turns_into (walk_reads self.now) 0 result w.old w.new }
         // In any array the answer is that of the chain of the key's bucket, and a record.
-        ensures finds { IfOk result (λ r. (array : List ℕ) → IsBelow (W.sight w.new) array →
-            FindsFirst self.now key (shown (W.sight w.old) array) r) }
+        ensures finds { AnswersSeen W.sight result w.old w.new (FindsFirst self.now key) }
         ensures record { IfOk result (λ r. IfSome r (IsRecord self.now.pool)) }
-        ensures found { IfOk result (λ r. (array : List ℕ) → IsBelow (W.sight w.new) array → (chains : List (List ℕ)) (free : List ℕ) →
-            IsTable self.now (shown (W.sight w.old) array) chains free →
-            r ≡ lookup (shown (W.sight w.old) array) (records_in chains) key) }
+        ensures found { AnswersSeen W.sight result w.old w.new (λ a r. FindsAll self.now a key r) }
     {
         match self.seek(w, key)? {
             Some(position) => Ok(Some(position.record)),
@@ -63,21 +54,14 @@ impl Table {
     ///
     /// The other words of the record are left as they were. After a Stop the writes made before it
     /// are still pending, here as in `remove`: the caller drops them.
-    #[tactic(auto, using(record_heap::proofs::Calls::calling))]
     pub fn insert<W: Words>(&self, w: &mut W, key: u64) -> Result<Put, Stop>
         requires fits { FitsTable self.now (W.sight w.old).count }
-        ensures ran { RanOn (stop_of result) (W.sight w.old) (W.sight w.new) }
-        ensures turns { WordsGoOn W.turns_into w.old w.new }
-        ensures last { IfErr result (λ stop. (W.sight w.new).stopped ≡ Some stop) }
-        ensures most { MadeAtMost (2 * self.now.pool.count + 4) 5 (W.sight w.old) (W.sight w.new) }
-        ensures wrote { IfOk result (λ put. Wrote (write_count put) (W.sight w.old) (W.sight w.new)) }
+        ensures uses { UsesWords W.sight W.turns_into (insert_reads self.now) 5 result w.old w.new }
+        ensures wrote { WritesAsMany W.sight result w.old w.new write_count }
         // In any array the answer is that of the chain of the key's bucket and of the first free record, and a record.
-        ensures puts { IfOk result (λ put. (array : List ℕ) → IsBelow (W.sight w.new) array →
-            PutsFirst self.now key (shown (W.sight w.old) array) put) }
+        ensures puts { AnswersSeen W.sight result w.old w.new (PutsFirst self.now key) }
         ensures record { IfOk result (λ put. IfSome (put_record put) (IsRecord self.now.pool)) }
-        ensures inserts { IfOk result (λ put. (array : List ℕ) → IsBelow (W.sight w.new) array → (chains : List (List ℕ)) (free : List ℕ) →
-            IsTable self.now (shown (W.sight w.old) array) chains free →
-            Inserts self.now key chains free put (shown (W.sight w.old) array) (shown (W.sight w.new) array)) }
+        ensures inserts { ChangesSeen W.sight result w.old w.new (InsertsAll self.now key) }
     {
         match self.seek(w, key)? {
             Some(position) => Ok(Put::There(position.record)),
@@ -87,20 +71,13 @@ impl Table {
 
     /// Takes the record with this key out of its chain and gives it back to the pool. Answers
     /// whether the key was there.
-    #[tactic(auto, using(record_heap::proofs::Calls::calling))]
     pub fn remove<W: Words>(&self, w: &mut W, key: u64) -> Result<bool, Stop>
         requires fits { FitsTable self.now (W.sight w.old).count }
-        ensures ran { RanOn (stop_of result) (W.sight w.old) (W.sight w.new) }
-        ensures turns { WordsGoOn W.turns_into w.old w.new }
-        ensures last { IfErr result (λ stop. (W.sight w.new).stopped ≡ Some stop) }
-        ensures most { MadeAtMost (2 * self.now.pool.count + 3) 4 (W.sight w.old) (W.sight w.new) }
-        ensures wrote { IfOk result (λ was. Wrote (if was then 4 else 0) (W.sight w.old) (W.sight w.new)) }
+        ensures uses { UsesWords W.sight W.turns_into (remove_reads self.now) 4 result w.old w.new }
+        ensures wrote { WritesAsMany W.sight result w.old w.new (λ was. if was then 4 else 0) }
         // In any array the answer is that of the chain of the key's bucket.
-        ensures finds { IfOk result (λ was. (array : List ℕ) → IsBelow (W.sight w.new) array →
-            RemovesFirst self.now key (shown (W.sight w.old) array) was) }
-        ensures removes { IfOk result (λ was. (array : List ℕ) → IsBelow (W.sight w.new) array → (chains : List (List ℕ)) (free : List ℕ) →
-            IsTable self.now (shown (W.sight w.old) array) chains free →
-            Removes self.now key chains free was (shown (W.sight w.old) array) (shown (W.sight w.new) array)) }
+        ensures finds { AnswersSeen W.sight result w.old w.new (RemovesFirst self.now key) }
+        ensures removes { ChangesSeen W.sight result w.old w.new (RemovesAll self.now key) }
     {
         let Some(position) = self.seek(w, key)? else {
             return Ok(false);
@@ -119,17 +96,12 @@ impl Table {
     }
 
     // Walks along the key's chain to the record with the key.
-    #[tactic(auto, using(record_heap::proofs::Calls::calling))]
     fn seek<W: Words>(&self, w: &mut W, key: u64) -> Result<Option<ChainPosition>, Stop>
         requires fits { FitsTable self.now (W.sight w.old).count }
-        ensures looked { Looked (stop_of result) (W.sight w.old) (W.sight w.new) }
-        ensures turns { WordsGoOn W.turns_into w.old w.new }
-        ensures last { IfErr result (λ stop. (W.sight w.new).stopped ≡ Some stop) }
-        ensures most { MadeAtMost (2 * self.now.pool.count) 0 (W.sight w.old) (W.sight w.new) }
+        ensures uses { UsesWords W.sight W.turns_into (walk_reads self.now) 0 result w.old w.new }
         ensures record { IfOk result (λ r. IfSome r (λ p. IsRecord self.now.pool p.record)) }
         ensures link { IfOk result (λ r. IfSome r (λ p. p.link < (W.sight w.old).count)) }
-        ensures seeks { IfOk result (λ r. (array : List ℕ) → IsBelow (W.sight w.new) array →
-            SeeksFirst self.now key (shown (W.sight w.old) array) r) }
+        ensures seeks { AnswersSeen W.sight result w.old w.new (SeeksFirst self.now key) }
     {
         let mut link = self.link_of(key);
         for _ in 0..self.pool.count {
@@ -146,20 +118,13 @@ impl Table {
     }
 
     // Puts the key, which isn't there, into the first free record.
-    #[tactic(auto, using(record_heap::proofs::Calls::calling))]
     fn store<W: Words>(&self, w: &mut W, key: u64) -> Result<Put, Stop>
         requires fits { FitsTable self.now (W.sight w.old).count }
-        ensures ran { RanOn (stop_of result) (W.sight w.old) (W.sight w.new) }
-        ensures turns { WordsGoOn W.turns_into w.old w.new }
-        ensures last { IfErr result (λ stop. (W.sight w.new).stopped ≡ Some stop) }
-        ensures most { MadeAtMost 4 5 (W.sight w.old) (W.sight w.new) }
-        ensures wrote { IfOk result (λ put. Wrote (write_count put) (W.sight w.old) (W.sight w.new)) }
-        ensures puts { IfOk result (λ put. (array : List ℕ) → IsBelow (W.sight w.new) array →
-            PutsFree self.now (shown (W.sight w.old) array) put) }
+        ensures uses { UsesWords W.sight W.turns_into 4 5 result w.old w.new }
+        ensures wrote { WritesAsMany W.sight result w.old w.new write_count }
+        ensures puts { AnswersSeen W.sight result w.old w.new (PutsFree self.now) }
         ensures record { IfOk result (λ put. IfSome (put_record put) (IsRecord self.now.pool)) }
-        ensures inserts { IfOk result (λ put. (array : List ℕ) → IsBelow (W.sight w.new) array → (chains : List (List ℕ)) (free : List ℕ) →
-            IsTable self.now (shown (W.sight w.old) array) chains free → lookup (shown (W.sight w.old) array) (records_in chains) key ≡ None →
-            Inserts self.now key chains free put (shown (W.sight w.old) array) (shown (W.sight w.new) array)) }
+        ensures inserts { ChangesSeen W.sight result w.old w.new (InsertsNew self.now key) }
     {
         let head = w.read(self.link_of(key))?;
         let Some(at) = self.pool.take(w)? else {
@@ -170,17 +135,12 @@ impl Table {
     }
 
     // Writes the key and the link into the record at `at`, and makes it the first of its chain.
-    #[tactic(auto, using(record_heap::proofs::Calls::calling))]
     fn push_front<W: Words>(&self, w: &mut W, key: u64, at: u64, head: u64) -> Result<(), Stop>
         requires fits { FitsTable self.now (W.sight w.old).count }
         requires record { IsRecord self.now.pool at }
-        ensures ran { RanOn (stop_of result) (W.sight w.old) (W.sight w.new) }
-        ensures turns { WordsGoOn W.turns_into w.old w.new }
-        ensures last { IfErr result (λ stop. (W.sight w.new).stopped ≡ Some stop) }
-        ensures most { MadeAtMost 0 3 (W.sight w.old) (W.sight w.new) }
-        ensures wrote { OnOk result (Wrote 3 (W.sight w.old) (W.sight w.new)) }
-        ensures shown { OnOk result ((array : List ℕ) → shown (W.sight w.new) array ≡
-            slice_set (slice_set (slice_set (shown (W.sight w.old) array) at key) (at + 1) head) (self.now.at + key % self.now.buckets) at) }
+        ensures uses { UsesWords W.sight W.turns_into 0 3 result w.old w.new }
+        ensures wrote { WritesAsMany W.sight result w.old w.new (λ done. 3) }
+        ensures shown { Shows W.sight result w.old w.new (pushed_front self.now key at head) }
     {
         w.write(at, key)?;
         w.write(at + 1, head)?;
@@ -189,20 +149,13 @@ impl Table {
     }
 
     // Takes the record at this position out of its chain and gives it back to the pool.
-    #[tactic(auto, using(record_heap::proofs::Calls::calling))]
     fn unlink<W: Words>(&self, w: &mut W, position: ChainPosition) -> Result<(), Stop>
         requires fits { FitsTable self.now (W.sight w.old).count }
         requires record { IsRecord self.now.pool position.record }
         requires link { position.link < (W.sight w.old).count }
-        ensures ran { RanOn (stop_of result) (W.sight w.old) (W.sight w.new) }
-        ensures turns { WordsGoOn W.turns_into w.old w.new }
-        ensures last { IfErr result (λ stop. (W.sight w.new).stopped ≡ Some stop) }
-        ensures most { MadeAtMost 3 4 (W.sight w.old) (W.sight w.new) }
-        ensures wrote { OnOk result (Wrote 4 (W.sight w.old) (W.sight w.new)) }
-        ensures drops { OnOk result ((array : List ℕ) → IsBelow (W.sight w.new) array → (chains : List (List ℕ)) (free : List ℕ) (key : ℕ) →
-            IsTable self.now (shown (W.sight w.old) array) chains free →
-            IsAmid (shown (W.sight w.old) array) (self.now.at + key % self.now.buckets) key (chain_of chains (key % self.now.buckets)) position →
-            Drops self.now key chains free (shown (W.sight w.old) array) (shown (W.sight w.new) array)) }
+        ensures uses { UsesWords W.sight W.turns_into 3 4 result w.old w.new }
+        ensures wrote { WritesAsMany W.sight result w.old w.new (λ done. 4) }
+        ensures drops { ChangesSeen W.sight result w.old w.new (DropsAt self.now position) }
     {
         let next = w.read(position.record + 1)?;
         self.pool.give(w, position.record)?;

@@ -1,7 +1,8 @@
 -- A pool of records over an array of words: its records, and which of them are free.
-use Rattle.std.specs.Prelude.{◌≡◌, ℕ, ◌+◌, ◌*◌, ◌<◌, ◌≤◌, ◌⊎◌, List, [], ◌∷◌, ◌++◌, length, map, Option, Some, None, slice_index}
+use Rattle.std.specs.Prelude.{◌≡◌, ℕ, ◌+◌, ◌*◌, ◌<◌, ◌≤◌, ◌⊎◌, List, [], ◌∷◌, ◌++◌, Contains, length, map, Option, Some, None, is_some, if◌then◌else◌, slice_index, slice_set}
 use Rattle.std.specs.List.{range_with_len}
 use Rattle.std.specs.List.Sorted.{IsPermutation}
+use Rattle.record_heap.specs.declared.pool.Header.{Header}
 use Rattle.record_heap.specs.declared.pool.Pool.{Pool}
 use Rattle.record_heap.specs.Changes.{ChangesOnly}
 use Rattle.record_heap.specs.Links.{Linked}
@@ -62,3 +63,27 @@ pub record Gives (pool : Pool) (at : ℕ) (free taken : List ℕ) (old new : Lis
   pub were : IsPermutation taken (at ∷ others)
   pub lawful : IsPool pool new (at ∷ free) others
   pub changes : ChangesOnly ((at + 1) ∷ pool.base ∷ (pool.base + 1) ∷ []) old new
+
+-- in every way in which the array is a pool, `take` does so
+abbrev pub TakesFree : Pool → List ℕ → List ℕ → Option ℕ → Type 0
+TakesFree pool old new result = (free taken : List ℕ) → IsPool pool old free taken → Takes pool free taken result old new
+
+-- how many words `take` writes: none where no record is free
+abbrev pub take_writes : Option ℕ → ℕ
+take_writes result = if is_some result then 2 else 0
+
+-- in every way in which the array is a pool where the record is not free, `give` does so
+abbrev pub GivesBack : Pool → ℕ → List ℕ → List ℕ → Unit {0} → Type 0
+GivesBack pool at old new done = (free taken : List ℕ) → IsPool pool old free taken → ¬ Contains free at → Gives pool at free taken old new
+
+-- in every way in which the array is a pool, so many records are taken
+abbrev pub CountsTaken : Pool → List ℕ → ℕ → Type 0
+CountsTaken pool array n = (free taken : List ℕ) → IsPool pool array free taken → n ≡ length taken
+
+-- the header that was read is that of this array
+abbrev pub HasHeader : Pool → List ℕ → Header → Type 0
+HasHeader pool array header = IsHeader pool array header.first header.live
+
+-- the array with another header
+abbrev pub with_header : Pool → Header → List ℕ → List ℕ
+with_header pool header array = slice_set (slice_set array pool.base header.first) (pool.base + 1) header.live

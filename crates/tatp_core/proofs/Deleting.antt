@@ -2,7 +2,7 @@
 use Rattle.std.proofs.Common.{◌≡◌, ℕ, ◌+◌, ◌-◌, ◌*◌, ◌/◌, true, false, List, Some, None, sym, arith}
 use Rattle.std.specs.Prelude.{find}
 use Rattle.dude_base.specs.declared.sizes.Sizes.{Sizes}
-use Rattle.hash_table.specs.Table.{FitsTable}
+use Rattle.hash_table.specs.Table.{FitsTable, RemovesAll}
 use Rattle.tatp_model.specs.declared.call_row.CallRow.{CallRow}
 use Rattle.tatp_model.specs.declared.reply.Reply.TheVariants.{Changed, Missing}
 use Rattle.tatp_model.specs.declared.request.Request.TheVariants.{DeleteCall}
@@ -17,7 +17,6 @@ use Rattle.tatp_layout.proofs.Found.{TestsKey, any_found, any_none, rising_apart
 use Rattle.tatp_layout.proofs.Tables.{call_room, calls_changed, tables_of}
 use Rattle.tatp_core.specs.Serves.{Serves}
 use Rattle.tatp_core.proofs.Lists.{drops_named}
-use Rattle.tatp_core.proofs.Answered.{RemovesAll}
 use Rattle.tatp_core.proofs.Phones.{HasPhone}
 use Rattle.tatp_core.proofs.Outcomes.{deletes_for_none, deletes_none, deletes_one, serves_by, serves_same}
 
@@ -35,12 +34,12 @@ module _ {s : Sizes} {a : List ℕ} {db : Database} (sub_nbr sf_type start_time 
     named_call = tests_call db.calls row stands.in_order.calls_in_range (record { s_id = tells.range; sf_type = range.1; start_time = range.2; end_time = (omega arith, omega arith); numberx = omega arith })
 
     -- the key is not there
-    pub serves_none : {b : List ℕ} → RemovesAll (call_table s) (3 * (4 * s_id + sf_type - 1) + start_time / 8) false a b → Serves s db (DeleteCall sub_nbr sf_type start_time) Missing b
+    pub serves_none : {b : List ℕ} → RemovesAll (call_table s) (3 * (4 * s_id + sf_type - 1) + start_time / 8) a b false → Serves s db (DeleteCall sub_nbr sf_type start_time) Missing b
     serves_none removes = serves_same (DeleteCall sub_nbr sf_type start_time) Missing stands range (removes stands.calls.chains stands.calls.free stands.calls.lawful).1
         (deletes_none s.calls db sub_nbr sf_type start_time s_id tells (any_none (is_call s_id sf_type start_time) named_call (told_call stands (call_key row) None (λ chains free lawful. sym (removes chains free lawful).0))))
 
     -- its record was given back
-    pub serves_deleted : {b : List ℕ} {n : ℕ} → FitsTable (call_table s) n → RemovesAll (call_table s) (3 * (4 * s_id + sf_type - 1) + start_time / 8) true a b → Serves s db (DeleteCall sub_nbr sf_type start_time) Changed b
+    pub serves_deleted : {b : List ℕ} {n : ℕ} → FitsTable (call_table s) n → RemovesAll (call_table s) (3 * (4 * s_id + sf_type - 1) + start_time / 8) a b true → Serves s db (DeleteCall sub_nbr sf_type start_time) Changed b
     serves_deleted fits removes =
         let drops = removes stands.calls.chains stands.calls.free stands.calls.lawful in
         let found = tells_at (call_key row) (Some drops.at) stands.calls (rising_apart call_key db.calls stands.in_order.calls_rise) (dropped_at fits stands.calls drops) in

@@ -5,7 +5,7 @@ use Rattle.std.proofs.lemmas.Bool.{le-leb, lt-leb}
 use Rattle.std.specs.Prelude.{find}
 use Rattle.dude_base.specs.declared.sizes.Sizes.{Sizes}
 use Rattle.hash_table.specs.declared.put.Put.TheVariants.{There, Full, Stored}
-use Rattle.hash_table.specs.Table.{FitsTable}
+use Rattle.hash_table.specs.Table.{FindsAll, FitsTable, InsertsAll}
 use Rattle.tatp_model.specs.declared.call_row.CallRow.{CallRow}
 use Rattle.tatp_model.specs.declared.reply.Reply.TheVariants.{Changed, Duplicate, FullTable, Missing, NoFacility}
 use Rattle.tatp_model.specs.declared.request.Request.TheVariants.{InsertCall}
@@ -15,14 +15,13 @@ use Rattle.tatp_model.specs.Transaction.{has_phone, is_call, is_facility}
 use Rattle.tatp_layout.specs.Layout.{call_table, facility_table}
 use Rattle.tatp_layout.specs.Records.{HoldsRow, call_form, facility_form}
 use Rattle.tatp_layout.specs.StandsFor.{StandsFor}
-use Rattle.tatp_layout.proofs.Found.{FindsAll, TestsKey, any_found, any_none, tests_call, tests_facility, told_call, told_facility}
+use Rattle.tatp_layout.proofs.Found.{TestsKey, any_found, any_none, tests_call, tests_facility, told_call, told_facility}
 use Rattle.tatp_layout.proofs.Rewritten.{ChangesRow, changes_row-set, changes_row-table, changes_row-then}
 use Rattle.tatp_layout.proofs.Stays.{changes_table-then}
 use Rattle.tatp_layout.proofs.Added.{rows_fewer, rows_full, rows_stored, stored_key, stored_record, stored_table}
 use Rattle.tatp_layout.proofs.Tables.{call_room, calls_changed, tables_of}
 use Rattle.tatp_core.specs.Serves.{Serves}
 use Rattle.tatp_core.proofs.Lists.{adds_call}
-use Rattle.tatp_core.proofs.Answered.{InsertsAll}
 use Rattle.tatp_core.proofs.Phones.{HasPhone}
 use Rattle.tatp_core.proofs.Outcomes.{inserts_for_none, inserts_full, inserts_nowhere, inserts_one, inserts_twice, serves_by, serves_same}
 
@@ -51,13 +50,13 @@ module _ {s : Sizes} {a : List ℕ} {db : Database} (sub_nbr sf_type start_time 
       facility_there = any_found (is_facility s_id sf_type) named_facility (told_facility stands (4 * s_id + sf_type - 1) (Some facility) finds)
 
       -- the key is there
-      pub serves_twice : {b : List ℕ} {at : ℕ} → InsertsAll (call_table s) (call_key row) (There at) a b → Serves s db (InsertCall sub_nbr sf_type start_time end_time numberx) Duplicate b
+      pub serves_twice : {b : List ℕ} {at : ℕ} → InsertsAll (call_table s) (call_key row) a b (There at) → Serves s db (InsertCall sub_nbr sf_type start_time end_time numberx) Duplicate b
       serves_twice {at} inserts = serves_same (InsertCall sub_nbr sf_type start_time end_time numberx) Duplicate stands range (inserts stands.calls.chains stands.calls.free stands.calls.lawful).1
           (inserts_twice s.calls db sub_nbr sf_type start_time end_time numberx s_id tells facility_there
           (any_found (is_call s_id sf_type start_time) named_call (told_call stands (call_key row) (Some at) (λ chains free lawful. sym (inserts chains free lawful).0))))
 
       -- as many call rows stand as there are records
-      pub serves_full : {b : List ℕ} → InsertsAll (call_table s) (call_key row) Full a b → Serves s db (InsertCall sub_nbr sf_type start_time end_time numberx) FullTable b
+      pub serves_full : {b : List ℕ} → InsertsAll (call_table s) (call_key row) a b Full → Serves s db (InsertCall sub_nbr sf_type start_time end_time numberx) FullTable b
       serves_full inserts =
           let full = inserts stands.calls.chains stands.calls.free stands.calls.lawful in
           serves_same (InsertCall sub_nbr sf_type start_time end_time numberx) FullTable stands range full.2
@@ -66,7 +65,7 @@ module _ {s : Sizes} {a : List ℕ} {db : Database} (sub_nbr sf_type start_time 
           (le-leb s.calls (length db.calls) (omega (arith, rows_full stands.calls full.1))))
 
       -- the key went into a free record, and the row's words were written behind it
-      pub serves_inserted : {b c : List ℕ} {n : ℕ} (at : ℕ) → FitsTable (call_table s) n → InsertsAll (call_table s) (call_key row) (Stored at) a b → c ≡ slice_set (slice_set b (at + 2) end_time) (at + 3) numberx → (slice_index b at ≡ call_key row → HoldsRow call_form c at row) → Serves s db (InsertCall sub_nbr sf_type start_time end_time numberx) Changed c
+      pub serves_inserted : {b c : List ℕ} {n : ℕ} (at : ℕ) → FitsTable (call_table s) n → InsertsAll (call_table s) (call_key row) a b (Stored at) → c ≡ slice_set (slice_set b (at + 2) end_time) (at + 3) numberx → (slice_index b at ≡ call_key row → HoldsRow call_form c at row) → Serves s db (InsertCall sub_nbr sf_type start_time end_time numberx) Changed c
       serves_inserted {b} {c} at fits inserts is holds =
           let stores = inserts stands.calls.chains stands.calls.free stands.calls.lawful in
           let absent = told_call stands (call_key row) None (λ chains free lawful. sym (inserts chains free lawful).absent) in

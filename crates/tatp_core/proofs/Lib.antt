@@ -1,12 +1,10 @@
 pub mod Answered
 pub mod Deleting
-pub mod Handed
 pub mod Inserting
 pub mod Lists
 pub mod Locations
 pub mod OfKind
 pub mod Outcomes
 pub mod Phones
-pub mod Reading
+pub mod Serving
 pub mod Subscribers
-pub mod Writes

@@ -11,8 +11,8 @@ use Rattle.tatp_model.specs.Transaction.{has_phone}
 use Rattle.tatp_layout.specs.Layout.{subscriber_table}
 use Rattle.tatp_layout.specs.Records.{HoldsRow, subscriber_form}
 use Rattle.tatp_layout.specs.StandsFor.{StandsFor}
-use Rattle.tatp_layout.proofs.Found.{FindsAll, told_subscriber}
-use Rattle.hash_table.specs.Table.{FitsTable}
+use Rattle.tatp_layout.proofs.Found.{told_subscriber}
+use Rattle.hash_table.specs.Table.{FindsAll, FitsTable}
 use Rattle.tatp_layout.proofs.Rewritten.{ChangesRow, NamesRow, changes_row-set, changes_row-table, record_row, rows_kept, rows_rewritten}
 use Rattle.tatp_layout.proofs.Stays.{taken_record}
 use Rattle.tatp_layout.proofs.Tables.{found_among, subscriber_room, subscribers_changed, tables_of}

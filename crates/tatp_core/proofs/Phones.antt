@@ -9,9 +9,10 @@ use Rattle.tatp_model.specs.Database.{Database, IsSubRow}
 use Rattle.tatp_model.specs.Ranges.{IsId}
 use Rattle.tatp_model.specs.Transaction.{has_phone}
 use Rattle.tatp_model.proofs.Rows.{All-find}
+use Rattle.hash_table.specs.Table.{FindsAll}
 use Rattle.tatp_layout.specs.Layout.{number_table}
 use Rattle.tatp_layout.specs.StandsFor.{StandsFor}
-use Rattle.tatp_layout.proofs.Found.{FindsAll, find_found, find_none, number_tells_id, same_row, tests_phone, told_number}
+use Rattle.tatp_layout.proofs.Found.{find_found, find_none, number_tells_id, same_row, tests_phone, told_number}
 use Rattle.tatp_core.specs.Phones.{id_by_phone}
 
 -- the one that a look-up of the number finds, and its id

@@ -14,9 +14,9 @@ use Rattle.tatp_model.specs.Transaction.{is_facility, is_subscriber}
 use Rattle.tatp_layout.specs.Layout.{facility_table, subscriber_table}
 use Rattle.tatp_layout.specs.Records.{HoldsRow, facility_form, subscriber_form}
 use Rattle.tatp_layout.specs.StandsFor.{StandsFor}
-use Rattle.tatp_layout.proofs.Found.{FindsAll, TestsKey, any_found, any_none, tests_facility, tests_subscriber, told_facility, told_subscriber}
+use Rattle.tatp_layout.proofs.Found.{TestsKey, any_found, any_none, tests_facility, tests_subscriber, told_facility, told_subscriber}
 use Rattle.tatp_layout.proofs.Places.{subscribers_facilities}
-use Rattle.hash_table.specs.Table.{FitsTable}
+use Rattle.hash_table.specs.Table.{FindsAll, FitsTable}
 use Rattle.tatp_layout.proofs.Rewritten.{ChangesRow, changes_record-then, changes_row-only, changes_row-table, record_beside, record_row, rows_kept, rows_rewritten}
 use Rattle.tatp_layout.proofs.Stays.{holds_same, row_beside, taken_record}
 use Rattle.tatp_layout.proofs.Tables.{facilities_changed, facility_room, found_among, subscriber_room, subscribers_changed, tables_of}

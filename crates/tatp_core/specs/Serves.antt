@@ -1,13 +1,21 @@
--- What a writing request answers and leaves of an array that stands for tables.
-use Rattle.std.specs.Prelude.{◌≡◌, ◌≢◌, ℕ, ◌↔◌, List, []}
+-- What a request answers and leaves of an array that stands for tables, and how much it reads and writes at most.
+use Rattle.std.specs.Prelude.{◌≡◌, ◌≢◌, ℕ, ◌+◌, ◌≤◌, ◌↔◌, List, [], length, Result, IfOk}
 use Rattle.dude_base.specs.declared.sizes.Sizes.{Sizes}
 use Rattle.dude_base.specs.declared.write.Write.{Write}
+use Rattle.word_space.specs.declared.stop.Stop.{Stop}
+use Rattle.word_space.specs.Sights.{WordsSight, IsBelow, shown}
+use Rattle.word_space.specs.Steps.{UsesWords}
+use Rattle.hash_table.specs.Walk.{insert_reads, remove_reads, walk_reads}
 use Rattle.tatp_model.specs.declared.reply.Reply.{Reply}
 use Rattle.tatp_model.specs.declared.reply.Reply.TheVariants.{Changed}
 use Rattle.tatp_model.specs.declared.request.Request.{Request}
+use Rattle.tatp_model.specs.declared.request.Request.TheVariants.{UpdateSubscriber, UpdateLocation, InsertCall, DeleteCall}
 use Rattle.tatp_model.specs.Database.{Database}
 use Rattle.tatp_model.specs.Transaction.{reply_to, after_request}
+use Rattle.tatp_layout.specs.Layout.{call_table, facility_table, subscriber_table}
 use Rattle.tatp_layout.specs.StandsFor.{StandsFor}
+use Rattle.tatp_read.specs.Lookups.{reads_of}
+use Rattle.tatp_core.specs.Phones.{id_reads}
 
 -- the reply is that of the transaction step, and the array stands for the step's tables afterwards
 pub record Serves (s : Sizes) (db : Database) (request : Request) (reply : Reply) (new : List ℕ) : Type 0 where
@@ -17,3 +25,41 @@ pub record Serves (s : Sizes) (db : Database) (request : Request) (reply : Reply
 -- a word is written exactly where the reply is Changed
 abbrev pub WritesIfChanged : Reply → List Write → Type 0
 WritesIfChanged reply writes = reply ≡ Changed ↔ writes ≢ []
+
+-- For every lawful array that agrees with the reads made, the reply is that of one thread, and with the writes made the
+-- array stands for the tables that one thread leaves.
+abbrev pub ServesBelow : {S : Type 0} → (S → WordsSight) → Sizes → Request → Result Reply Stop → S → Type 0
+ServesBelow sight s request result new = IfOk result (λ reply. (array : List ℕ) → IsBelow (sight new) array
+    → (db : Database) → StandsFor s array db → Serves s db request reply (shown (sight new) array))
+
+-- the most reads of a request: those of its look-ups and of the records that it finds
+abbrev pub most_reads : Sizes → Request → ℕ
+most_reads s (UpdateSubscriber s_id bit_1 sf_type data_a) = walk_reads (subscriber_table s) + walk_reads (facility_table s) + 2
+most_reads s (UpdateLocation sub_nbr vlr) = id_reads s + walk_reads (subscriber_table s)
+most_reads s (InsertCall sub_nbr sf_type start_time end_time numberx) = id_reads s + walk_reads (facility_table s) + insert_reads (call_table s)
+most_reads s (DeleteCall sub_nbr sf_type start_time) = id_reads s + remove_reads (call_table s)
+most_reads s request = reads_of s request
+
+-- The most writes of a request: a word for each field that it changes; and for a call row that it inserts or deletes, the
+-- words of the chain and of the free list.
+abbrev pub most_writes : Request → ℕ
+most_writes (UpdateSubscriber s_id bit_1 sf_type data_a) = 2
+most_writes (UpdateLocation sub_nbr vlr) = 1
+most_writes (InsertCall sub_nbr sf_type start_time end_time numberx) = 7
+most_writes (DeleteCall sub_nbr sf_type start_time) = 4
+most_writes _ = 0
+
+-- the words were used for a request: at most as many reads and writes were made as it may
+abbrev pub UsesFor : {S T : Type 0} → (S → WordsSight) → (S → S → Type 0) → Sizes → Request → Result T Stop → S → S → Type 0
+UsesFor sight turns_into s request result old new = UsesWords sight turns_into (most_reads s request) (most_writes request) result old new
+
+-- What serving a request leaves, by its result.
+pub record ServesRequest {S : Type 0} (sight : S → WordsSight) (turns_into : S → S → Type 0) (s : Sizes) (request : Request) (result : Result Reply Stop) (old new : S) : Type 0 where
+  -- at most as many reads and writes were made as it may
+  pub uses : UsesFor sight turns_into s request result old new
+  -- so many words are pending at most
+  pub few : length (sight new).writes ≤ most_writes request
+  -- a word is written exactly where the reply is Changed
+  pub wrote : IfOk result (λ reply. WritesIfChanged reply (sight new).writes)
+  -- as one thread would, for every lawful array that agrees with the reads made
+  pub serves : ServesBelow sight s request result new

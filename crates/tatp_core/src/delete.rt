@@ -1,13 +1,10 @@
-ghost use Rattle.std.specs.Prelude.{◌≡◌, ◌≤◌, ◌+◌, ◌*◌, ℕ, List, [], length, Some, IfOk, IfErr};
+//! `DELETE_CALL_FORWARDING`.
+
+ghost use Rattle.std.specs.Prelude.{◌≡◌, ◌*◌, []};
 ghost use Rattle.dude_base.specs.declared.limits.TheConstants.{PAGE};
-ghost use Rattle.word_space.specs.Sights.{IsBelow, shown};
-ghost use Rattle.word_space.specs.Steps.{WordsGoOn, RanOn, stop_of};
-ghost use Rattle.record_heap.specs.Changes.{MadeAtMost};
-ghost use Rattle.tatp_model.specs.Database.{Database};
 ghost use Rattle.tatp_model.specs.Request.{IsInRange};
-ghost use Rattle.tatp_layout.specs.StandsFor.{StandsFor};
 ghost use Rattle.tatp_core.specs.Kinds.{IsDeleteCall};
-ghost use Rattle.tatp_core.specs.Serves.{Serves, WritesIfChanged};
+ghost use Rattle.tatp_core.specs.Serves.{ServesRequest};
 
 use crate::phone::id_of;
 use tatp_layout::Layout;
@@ -22,15 +19,7 @@ pub fn write_delete<W: Words>(lay: &Layout, w: &mut W, q: &Request) -> Result<Re
     requires in_range { IsInRange q.now }
     requires size { (W.sight w.old).count ≡ lay.now.pages * PAGE }
     requires no_writes { (W.sight w.old).writes ≡ [] }
-    ensures ran { RanOn (stop_of result) (W.sight w.old) (W.sight w.new) }
-    ensures turns { WordsGoOn W.turns_into w.old w.new }
-    ensures last { IfErr result (λ stop. (W.sight w.new).stopped ≡ Some stop) }
-    ensures most { MadeAtMost (2 * lay.now.subscribers + 2 * lay.now.calls + 4) 4 (W.sight w.old) (W.sight w.new) }
-    ensures few { length (W.sight w.new).writes ≤ 7 }
-    ensures wrote { IfOk result (λ r. WritesIfChanged r (W.sight w.new).writes) }
-    // For every lawful array that agrees with the reads made, as one thread would.
-    ensures serves { IfOk result (λ r. (array : List ℕ) → IsBelow (W.sight w.new) array → (db : Database) →
-        StandsFor lay.now array db → Serves lay.now db q.now r (shown (W.sight w.new) array)) }
+    ensures { ServesRequest W.sight W.turns_into lay.now q.now result w.old w.new }
 {
     let Request::DeleteCall {
         sub_nbr,

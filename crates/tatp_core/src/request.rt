@@ -1,17 +1,12 @@
 //! A request is answered from the words of a home, and its writes are left pending in them.
 
-ghost use Rattle.std.specs.Prelude.{◌≡◌, ◌≢◌, ℕ, ◌*◌, ◌≤◌, List, [], Some, IfOk, IfErr, length, false};
+ghost use Rattle.std.specs.Prelude.{◌≡◌, ◌*◌, [], false};
 ghost use Rattle.dude_base.specs.declared.limits.TheConstants.{PAGE};
-ghost use Rattle.word_space.specs.Sights.{IsBelow, shown};
-ghost use Rattle.word_space.specs.Steps.{WordsGoOn, Looked, RanOn, stop_of};
-ghost use Rattle.tatp_model.specs.declared.reply.Reply.TheVariants.{Changed};
-ghost use Rattle.tatp_model.specs.Database.{Database};
 ghost use Rattle.tatp_model.specs.OneThread.{is_sync};
 ghost use Rattle.tatp_model.specs.Request.{IsInRange};
-ghost use Rattle.tatp_model.specs.Transaction.{reply_to};
-ghost use Rattle.tatp_layout.specs.StandsFor.{StandsFor};
-ghost use Rattle.tatp_core.specs.Serves.{Serves, WritesIfChanged};
+ghost use Rattle.tatp_read.specs.Lookups.{AnswersRequest};
 ghost use Rattle.tatp_core.specs.Reads.{IsRead};
+ghost use Rattle.tatp_core.specs.Serves.{ServesRequest};
 
 use crate::delete::write_delete;
 use crate::insert::write_insert;
@@ -29,15 +24,7 @@ pub fn run_request<W: Words>(lay: &Layout, w: &mut W, q: &Request) -> Result<Rep
     requires in_range { IsInRange q.now }
     requires size { (W.sight w.old).count ≡ lay.now.pages * PAGE }
     requires no_writes { (W.sight w.old).writes ≡ [] }
-    ensures ran { RanOn (stop_of result) (W.sight w.old) (W.sight w.new) }
-    ensures turns { WordsGoOn W.turns_into w.old w.new }
-    ensures last { IfErr result (λ stop. (W.sight w.new).stopped ≡ Some stop) }
-    ensures few { length (W.sight w.new).writes ≤ 7 }
-    ensures wrote { IfOk result (λ reply. WritesIfChanged reply (W.sight w.new).writes) }
-    // For every lawful array that agrees with the reads made, the reply is that of one thread, and with the writes made the
-    // array stands for the tables that one thread leaves.
-    ensures serves { IfOk result (λ reply. (array : List ℕ) → IsBelow (W.sight w.new) array → (db : Database) →
-        StandsFor lay.now array db → Serves lay.now db q.now reply (shown (W.sight w.new) array)) }
+    ensures { ServesRequest W.sight W.turns_into lay.now q.now result w.old w.new }
 {
     match q {
         Request::UpdateSubscriber { .. } => write_subscriber(lay, w, q),
@@ -55,12 +42,7 @@ fn read_request<W: Words>(lay: &Layout, w: &mut W, q: &Request) -> Result<Reply,
     requires in_range { IsInRange q.now }
     requires size { (W.sight w.old).count ≡ lay.now.pages * PAGE }
     requires no_writes { (W.sight w.old).writes ≡ [] }
-    ensures looked { Looked (stop_of result) (W.sight w.old) (W.sight w.new) }
-    ensures turns { WordsGoOn W.turns_into w.old w.new }
-    ensures last { IfErr result (λ stop. (W.sight w.new).stopped ≡ Some stop) }
-    ensures unchanged { IfOk result (λ reply. reply ≢ Changed) }
-    ensures reply { IfOk result (λ reply. (array : List ℕ) → IsBelow (W.sight w.new) array → (db : Database) →
-        StandsFor lay.now array db → reply ≡ reply_to lay.now.calls db q.now) }
+    ensures { AnswersRequest W.sight W.turns_into lay.now q.now result w.old w.new }
 {
     match q {
         Request::GetSubscriber { .. } => read_subscriber(lay, w, q),

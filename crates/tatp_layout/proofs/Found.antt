@@ -7,7 +7,7 @@ use Rattle.std.proofs.lemmas.Bool.{cases_Bool, cases_lt, both_ways, eqb-true, eq
 use Rattle.std.proofs.lemmas.List.{get_or_default}
 use Rattle.std.proofs.lemmas.List.Elements.{All-contains, Contains-append_right}
 use Rattle.hash_table.specs.declared.table.Table.{Table}
-use Rattle.hash_table.specs.Table.{IsTable, lookup, records_in}
+use Rattle.hash_table.specs.Table.{FindsAll, IsTable, lookup, records_in}
 use Rattle.hash_table.proofs.Maps.{IsAt, along, lookup-is_at}
 use Rattle.tatp_model.specs.declared.access_row.AccessRow.{AccessRow}
 use Rattle.tatp_model.specs.declared.call_row.CallRow.{CallRow}
@@ -130,10 +130,6 @@ tells {form = form} {array = array} {rows = rows} key (Some at) h apart is =
       holds = found.2;
       only = λ other there same. same_row form.key rows other found.0 apart there found.1 (same ∙ sym key_is);
     }
-
--- what `find` of a table answers, of every way in which the array is this table
-abbrev pub FindsAll : Table → List ℕ → ℕ → Option ℕ → Type 0
-FindsAll table array key r = (chains : List (List ℕ)) (free : List ℕ) → IsTable table array chains free → r ≡ lookup array (records_in chains) key
 
 pub tells_row : {R : Type 0} {form : RowForm R} {table : Table} {array : List ℕ} {rows : List R} (key : ℕ) (r : Option ℕ) → HasRows form table array rows → HasKeysApart form.key rows → FindsAll table array key r → TellsRow form array rows key r
 tells_row {array = array} key r h apart finds =

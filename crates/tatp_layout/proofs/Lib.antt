@@ -5,6 +5,7 @@ pub mod Dropped
 pub mod Found
 pub mod Places
 pub mod Rewritten
+pub mod Seen
 pub mod Stays
 pub mod Stored
 pub mod Tables

@@ -4,6 +4,9 @@ use Rattle.tatp_model.specs.declared.sub_row.SubRow.{SubRow}
 use Rattle.tatp_model.specs.declared.fac_row.FacRow.{FacRow}
 use Rattle.tatp_model.specs.declared.call_row.CallRow.{CallRow}
 use Rattle.tatp_model.specs.Database.{IsSubRow, IsFacRow, call_key}
+use Rattle.record_heap.specs.Pool.{IsRecord}
+use Rattle.hash_table.specs.declared.table.Table.{Table}
+use Rattle.hash_table.specs.Table.{FitsTable}
 use Rattle.tatp_layout.specs.Digits.{from_digits}
 use Rattle.tatp_layout.specs.Records.{HasWords, HoldsRow, subscriber_form, facility_form, call_form}
 
@@ -71,3 +74,9 @@ call_set a at {r} inside key =
       );
       lengths = tt;
     }
+
+-- a word of a record lies inside, in an array that is as long as the home
+pub word_fits : {t u : Table} {n at : ℕ} (array : List ℕ) (k : ℕ) → k < u.pool.size → t ≡ u → FitsTable t n → IsRecord u.pool at → length array ≡ n → at + k < length array
+word_fits {t} {u} {n} {at} array k under is fits there long =
+    let fits_other : FitsTable u n = subst (λ (x : Table). FitsTable x n) is fits in
+    omega (arith, fits_other.pool.inside at there, long, under)

@@ -3,7 +3,7 @@ use Rattle.std.proofs.Common.{◌≡◌, ℕ, ◌*◌, ◌≤◌, List, ◌++◌
 use Rattle.dude_base.specs.declared.limits.TheConstants.{PAGE}
 use Rattle.dude_base.specs.declared.sizes.Sizes.{Sizes}
 use Rattle.hash_table.specs.declared.table.Table.{Table}
-use Rattle.hash_table.specs.Table.{records_in}
+use Rattle.hash_table.specs.Table.{FindsAll, records_in}
 use Rattle.hash_table.proofs.Maps.{IsAt, along, lookup-is_at}
 use Rattle.record_heap.proofs.Records.{as_many}
 use Rattle.tatp_model.specs.declared.call_row.CallRow.{CallRow}
@@ -13,7 +13,6 @@ use Rattle.tatp_model.specs.Database.{Database, IsInOrder}
 use Rattle.tatp_layout.specs.Layout.{access_table, call_table, facility_table, number_table, subscriber_table}
 use Rattle.tatp_layout.specs.Records.{RowForm, access_form, call_form, facility_form, number_form, subscriber_form}
 use Rattle.tatp_layout.specs.StandsFor.{HasRows, StandsFor}
-use Rattle.tatp_layout.proofs.Found.{FindsAll}
 use Rattle.tatp_layout.proofs.Places.{access_calls, access_facilities, facilities_calls, numbers_calls, numbers_facilities, separate_flip, subscribers_access, subscribers_calls, subscribers_facilities, subscribers_numbers}
 use Rattle.tatp_layout.proofs.Stays.{ChangesTable, FitsRecord, rows_beside}
 

@@ -17,6 +17,10 @@ table_at base shape = record {
   pool = record { base = base; first = base + LINE + in_whole_lines shape.buckets; size = shape.size; count = shape.records };
 }
 
+-- the word behind a table whose records end in whole lines
+abbrev pub behind_table : Table → ℕ
+behind_table table = table.pool.first + in_whole_lines (table.pool.count * table.pool.size)
+
 -- a shape with as many buckets as records
 abbrev pub shape_of : ℕ → ℕ → TableShape
 shape_of records size = record { buckets = records; records = records; size = size }

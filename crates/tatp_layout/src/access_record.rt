@@ -1,16 +1,14 @@
 //! Access rows in their records.
 
-ghost use Rattle.std.specs.Prelude.{◌≡◌, Some, ◌*◌, ℕ, List, IfOk, IfErr, length};
+ghost use Rattle.std.specs.Prelude.{◌≡◌, ◌*◌, length};
 ghost use Rattle.dude_base.specs.declared.limits.TheConstants.{PAGE, ROW_WORDS};
-ghost use Rattle.word_space.specs.Sights.{IsBelow, shown};
-ghost use Rattle.word_space.specs.Steps.{WordsGoOn, Looked, stop_of};
-ghost use Rattle.record_heap.specs.Changes.{MadeAtMost};
+ghost use Rattle.word_space.specs.Steps.{AnswersSeen, UsesWords};
 ghost use Rattle.record_heap.specs.Pool.{IsRecord};
-ghost use Rattle.tatp_model.specs.declared.access_row.AccessRow.{AccessRow};
 ghost use Rattle.tatp_model.specs.Database.{IsAccessRow};
 ghost use Rattle.tatp_layout.specs.Decoding.{access_in};
 ghost use Rattle.tatp_layout.specs.Layout.{access_table};
-ghost use Rattle.tatp_layout.specs.Records.{HoldsRow, access_form};
+ghost use Rattle.tatp_layout.specs.RecordCalls.{IsHeldRow};
+ghost use Rattle.tatp_layout.specs.Records.{access_form};
 
 use crate::digits::digits;
 use crate::layout::Layout;
@@ -38,19 +36,13 @@ pub fn access_of(words: &[u64]) -> AccessRow
 }
 
 /// The row of the access record at the word `at`.
-#[tactic(auto, using(record_heap::proofs::Calls::calling))]
 pub fn get_access<W: Words>(lay: &Layout, w: &mut W, at: u64) -> Result<AccessRow, Stop>
     requires size { (W.sight w.old).count ≡ lay.now.pages * PAGE }
     requires record { IsRecord (access_table lay.now).pool at }
-    ensures looked { Looked (stop_of result) (W.sight w.old) (W.sight w.new) }
-    ensures turns { WordsGoOn W.turns_into w.old w.new }
-    ensures last { IfErr result (λ stop. (W.sight w.new).stopped ≡ Some stop) }
-    ensures most { MadeAtMost 3 0 (W.sight w.old) (W.sight w.new) }
+    ensures uses { UsesWords W.sight W.turns_into 3 0 result w.old w.new }
     // In any array the row is what the record's words tell.
-    ensures exact { IfOk result (λ row. (array : List ℕ) → IsBelow (W.sight w.new) array →
-        row ≡ access_in (shown (W.sight w.old) array) at) }
-    ensures row { IfOk result (λ row. (array : List ℕ) → IsBelow (W.sight w.new) array → (r : AccessRow) → IsAccessRow r →
-        HoldsRow access_form (shown (W.sight w.old) array) at r → row ≡ r) }
+    ensures exact { AnswersSeen W.sight result w.old w.new (λ a row. row ≡ access_in a at) }
+    ensures row { AnswersSeen W.sight result w.old w.new (IsHeldRow access_form IsAccessRow at) }
 {
     prove!(lay.access().pool.has(at));
     let words: [u64; 4] = read_record(w, at)?;

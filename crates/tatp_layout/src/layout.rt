@@ -5,7 +5,7 @@ ghost use Rattle.dude_base.specs.declared.limits.TheConstants.{PAGE};
 ghost use Rattle.dude_base.specs.Sizes.{IsAccepted, IsFirstOut};
 ghost use Rattle.dude_base.specs.Home.{in_whole_lines, table_words};
 ghost use Rattle.hash_table.specs.Table.{FitsTable};
-ghost use Rattle.tatp_layout.specs.Layout.{access_table, call_table, facility_table, number_table, subscriber_table, table_at};
+ghost use Rattle.tatp_layout.specs.Layout.{access_table, behind_table, call_table, facility_table, number_table, shape_of, subscriber_table, table_at};
 
 use dude_base::limits::{LINE, MAX_CALLS, MAX_ROWS, ROW_WORDS, SUBSCRIBER_WORDS};
 use dude_base::size_fault::SizeFault;
@@ -114,7 +114,7 @@ impl Layout {
 fn table_from(base: u64, records: u64, size: u64) -> Table
     requires base { base ≤ 16 * MAX_CALLS }
     requires few { records ≤ MAX_CALLS }
-    ensures { result ≡ table_at base (record { buckets = records; records = records; size = size }) }
+    ensures { result ≡ table_at base (shape_of records size) }
 {
     let at = base + LINE;
     Table {
@@ -133,7 +133,7 @@ fn table_from(base: u64, records: u64, size: u64) -> Table
 fn end_of(table: &Table) -> u64
     requires first { table.now.pool.first ≤ 32 * MAX_CALLS }
     requires small { table.now.pool.count * table.now.pool.size ≤ 8 * MAX_CALLS }
-    ensures { result ≡ table.now.pool.first + in_whole_lines (table.now.pool.count * table.now.pool.size) }
+    ensures { result ≡ behind_table table.now }
 {
     table.pool.first + in_lines(table.pool.count * table.pool.size)
 }

@@ -1,4 +1,3 @@
 pub mod Forwarding
-pub mod Handed
 pub mod Lookups
 pub mod Replies

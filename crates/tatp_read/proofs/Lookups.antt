@@ -5,6 +5,7 @@ use Rattle.std.specs.List.{list_any}
 use Rattle.std.proofs.lemmas.List.Elements.{All-contains}
 use Rattle.dude_base.specs.declared.sizes.Sizes.{Sizes}
 use Rattle.hash_table.specs.declared.table.Table.{Table}
+use Rattle.hash_table.specs.Table.{FindsAll}
 use Rattle.tatp_model.specs.declared.access_row.AccessRow.{AccessRow}
 use Rattle.tatp_model.specs.declared.call_row.CallRow.{CallRow}
 use Rattle.tatp_model.specs.declared.fac_row.FacRow.{FacRow}
@@ -15,7 +16,7 @@ use Rattle.tatp_model.specs.Transaction.{is_subscriber, is_access, is_facility, 
 use Rattle.tatp_layout.specs.Layout.{subscriber_table, access_table, facility_table, call_table}
 use Rattle.tatp_layout.specs.Records.{RowForm, HoldsRow, subscriber_form, access_form, facility_form, call_form}
 use Rattle.tatp_layout.specs.StandsFor.{StandsFor}
-use Rattle.tatp_layout.proofs.Found.{FindsAll, FoundRow, TellsRow, told_subscriber, told_access, told_facility, told_call, tests_subscriber, tests_access, tests_facility, find_found, find_none, any_both, any_neither}
+use Rattle.tatp_layout.proofs.Found.{FoundRow, TellsRow, told_subscriber, told_access, told_facility, told_call, tests_subscriber, tests_access, tests_facility, find_found, find_none, any_both, any_neither}
 use Rattle.tatp_read.specs.Forwarding.{numbers_at}
 use Rattle.tatp_read.proofs.Forwarding.{numbers_absent, numbers_found}
 

@@ -1,2 +1,3 @@
 pub mod Forwarding
 pub mod Kinds
+pub mod Lookups

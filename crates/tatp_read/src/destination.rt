@@ -1,21 +1,12 @@
 //! `GET_NEW_DESTINATION`.
 
-ghost use Rattle.std.specs.Prelude.{◌≡◌, ◌≢◌, ℕ, ◌+◌, ◌*◌, List, [], Some, map, filter, IfOk, IfErr};
-ghost use Rattle.std.specs.List.{list_any};
-ghost use Rattle.std.specs.Option.{option_to_list};
+ghost use Rattle.std.specs.Prelude.{◌≡◌, ◌*◌, []};
 ghost use Rattle.dude_base.specs.declared.limits.TheConstants.{PAGE};
-ghost use Rattle.word_space.specs.Sights.{IsBelow, shown};
-ghost use Rattle.word_space.specs.Steps.{WordsGoOn, Looked, stop_of};
-ghost use Rattle.record_heap.specs.Changes.{MadeAtMost};
-ghost use Rattle.tatp_model.specs.declared.reply.Reply.TheVariants.{Changed};
-ghost use Rattle.tatp_model.specs.Database.{Database};
-ghost use Rattle.tatp_model.specs.Numbers.{numbers_of};
+ghost use Rattle.word_space.specs.Steps.{AnswersSeen, UsesWords};
 ghost use Rattle.tatp_model.specs.Ranges.{IsId, IsKind, IsStartTime};
 ghost use Rattle.tatp_model.specs.Request.{IsInRange};
-ghost use Rattle.tatp_model.specs.Transaction.{forwards, is_active_facility, reply_to};
-ghost use Rattle.tatp_layout.specs.StandsFor.{StandsFor};
-ghost use Rattle.tatp_read.specs.Forwarding.{numbers_at};
 ghost use Rattle.tatp_read.specs.Kinds.{IsGetDestination};
+ghost use Rattle.tatp_read.specs.Lookups.{AnswersRequest, FindsActive, FindsPhone, FindsPhones, call_reads, kind_reads};
 
 use tatp_layout::keys::{first_call_key, kind_key};
 use tatp_layout::{Layout, get_call, get_fac};
@@ -23,22 +14,14 @@ use tatp_model::{Numbers, Reply, Request};
 use word_space::stop::Stop;
 use word_space::words::Words;
 
-/// Answers a `GetDestination` from the words of the facility's chain and record, and of those of at most three
-/// call rows.
-#[tactic(auto, using(record_heap::proofs::Calls::calling))]
+/// Answers a `GetDestination` from the words of the facility's chain and record, and of those of at
+/// most three call rows.
 pub fn read_destination<W: Words>(lay: &Layout, w: &mut W, q: &Request) -> Result<Reply, Stop>
     requires kind { IsGetDestination q.now }
     requires in_range { IsInRange q.now }
     requires size { (W.sight w.old).count ≡ lay.now.pages * PAGE }
     requires no_writes { (W.sight w.old).writes ≡ [] }
-    ensures looked { Looked (stop_of result) (W.sight w.old) (W.sight w.new) }
-    ensures turns { WordsGoOn W.turns_into w.old w.new }
-    ensures last { IfErr result (λ stop. (W.sight w.new).stopped ≡ Some stop) }
-    ensures most { MadeAtMost (8 * lay.now.subscribers + 3 + 3 * (2 * lay.now.calls + 3)) 0 (W.sight w.old) (W.sight w.new) }
-    ensures unchanged { IfOk result (λ r. r ≢ Changed) }
-    // For every lawful array that agrees with the reads made, the reply is that of one thread.
-    ensures reply { IfOk result (λ r. (array : List ℕ) → IsBelow (W.sight w.new) array → (db : Database) →
-        StandsFor lay.now array db → r ≡ reply_to lay.now.calls db q.now) }
+    ensures { AnswersRequest W.sight W.turns_into lay.now q.now result w.old w.new }
 {
     let Request::GetDestination {
         s_id,
@@ -60,7 +43,6 @@ pub fn read_destination<W: Words>(lay: &Layout, w: &mut W, q: &Request) -> Resul
 }
 
 // Whether the facility is there, and active.
-#[tactic(auto, using(record_heap::proofs::Calls::calling))]
 fn has_active_facility<W: Words>(
     lay: &Layout,
     w: &mut W,
@@ -70,12 +52,8 @@ fn has_active_facility<W: Words>(
     requires id { IsId s_id }
     requires kind { IsKind sf_type }
     requires size { (W.sight w.old).count ≡ lay.now.pages * PAGE }
-    ensures looked { Looked (stop_of result) (W.sight w.old) (W.sight w.new) }
-    ensures turns { WordsGoOn W.turns_into w.old w.new }
-    ensures last { IfErr result (λ stop. (W.sight w.new).stopped ≡ Some stop) }
-    ensures most { MadeAtMost (8 * lay.now.subscribers + 3) 0 (W.sight w.old) (W.sight w.new) }
-    ensures active { IfOk result (λ r. (array : List ℕ) → IsBelow (W.sight w.new) array → (db : Database) →
-        StandsFor lay.now (shown (W.sight w.old) array) db → r ≡ list_any (is_active_facility s_id sf_type) db.facilities) }
+    ensures uses { UsesWords W.sight W.turns_into (kind_reads lay.now) 0 result w.old w.new }
+    ensures active { AnswersSeen W.sight result w.old w.new (FindsActive lay.now s_id sf_type) }
 {
     let Some(at) = lay.facilities().find(w, kind_key(s_id, sf_type))? else {
         return Ok(false);
@@ -85,7 +63,6 @@ fn has_active_facility<W: Words>(
 }
 
 // The phone numbers to which the facility's calls from `start_time` to `end_time` are forwarded.
-#[tactic(auto, using(record_heap::proofs::Calls::calling))]
 fn destinations<W: Words>(
     lay: &Layout,
     w: &mut W,
@@ -98,13 +75,9 @@ fn destinations<W: Words>(
     requires kind { IsKind sf_type }
     requires start { IsStartTime start_time }
     requires size { (W.sight w.old).count ≡ lay.now.pages * PAGE }
-    ensures looked { Looked (stop_of result) (W.sight w.old) (W.sight w.new) }
-    ensures turns { WordsGoOn W.turns_into w.old w.new }
-    ensures last { IfErr result (λ stop. (W.sight w.new).stopped ≡ Some stop) }
-    ensures most { MadeAtMost (3 * (2 * lay.now.calls + 3)) 0 (W.sight w.old) (W.sight w.new) }
-    ensures numbers { IfOk result (λ phones. (array : List ℕ) → IsBelow (W.sight w.new) array → (db : Database) →
-        StandsFor lay.now (shown (W.sight w.old) array) db →
-        phones ≡ numbers_of (map (λ r. r.numberx) (filter (forwards s_id sf_type start_time end_time) db.calls))) }
+    ensures uses { UsesWords W.sight W.turns_into (3 * call_reads lay.now) 0 result w.old w.new }
+    ensures numbers { AnswersSeen W.sight result w.old w.new
+        (FindsPhones lay.now s_id sf_type start_time end_time) }
 {
     let first = first_call_key(s_id, sf_type);
     let mut phones = Numbers::new();
@@ -117,7 +90,6 @@ fn destinations<W: Words>(
 }
 
 // The phone number of the call row with this key, where that row ends after `end_time`.
-#[tactic(auto, using(record_heap::proofs::Calls::calling))]
 fn destination<W: Words>(
     lay: &Layout,
     w: &mut W,
@@ -125,12 +97,8 @@ fn destination<W: Words>(
     end_time: u64,
 ) -> Result<Option<u64>, Stop>
     requires size { (W.sight w.old).count ≡ lay.now.pages * PAGE }
-    ensures looked { Looked (stop_of result) (W.sight w.old) (W.sight w.new) }
-    ensures turns { WordsGoOn W.turns_into w.old w.new }
-    ensures last { IfErr result (λ stop. (W.sight w.new).stopped ≡ Some stop) }
-    ensures most { MadeAtMost (2 * lay.now.calls + 3) 0 (W.sight w.old) (W.sight w.new) }
-    ensures numbers { IfOk result (λ phone. (array : List ℕ) → IsBelow (W.sight w.new) array → (db : Database) →
-        StandsFor lay.now (shown (W.sight w.old) array) db → option_to_list phone ≡ numbers_at key end_time db.calls) }
+    ensures uses { UsesWords W.sight W.turns_into (call_reads lay.now) 0 result w.old w.new }
+    ensures numbers { AnswersSeen W.sight result w.old w.new (FindsPhone lay.now key end_time) }
 {
     let Some(at) = lay.calls().find(w, key)? else {
         return Ok(None);

@@ -1,16 +1,11 @@
 //! `GET_SUBSCRIBER_DATA`.
 
-ghost use Rattle.std.specs.Prelude.{◌≡◌, ◌≢◌, ℕ, ◌+◌, ◌*◌, List, [], Some, find, IfOk, IfErr};
+ghost use Rattle.std.specs.Prelude.{◌≡◌, ◌*◌, []};
 ghost use Rattle.dude_base.specs.declared.limits.TheConstants.{PAGE};
-ghost use Rattle.word_space.specs.Sights.{IsBelow, shown};
-ghost use Rattle.word_space.specs.Steps.{WordsGoOn, Looked, stop_of};
-ghost use Rattle.record_heap.specs.Changes.{MadeAtMost};
-ghost use Rattle.tatp_model.specs.declared.reply.Reply.TheVariants.{Changed};
-ghost use Rattle.tatp_model.specs.Database.{Database};
+ghost use Rattle.word_space.specs.Steps.{AnswersSeen, UsesWords};
 ghost use Rattle.tatp_model.specs.Request.{IsInRange};
-ghost use Rattle.tatp_model.specs.Transaction.{is_subscriber, reply_to};
-ghost use Rattle.tatp_layout.specs.StandsFor.{StandsFor};
 ghost use Rattle.tatp_read.specs.Kinds.{IsGetSubscriber};
+ghost use Rattle.tatp_read.specs.Lookups.{AnswersRequest, FindsSubscriber, subscriber_reads};
 
 use tatp_layout::{Layout, get_sub};
 use tatp_model::{Reply, Request, SubRow};
@@ -18,20 +13,12 @@ use word_space::stop::Stop;
 use word_space::words::Words;
 
 /// Answers a `GetSubscriber` from the words of the subscriber's chain and record.
-#[tactic(auto, using(record_heap::proofs::Calls::calling))]
 pub fn read_subscriber<W: Words>(lay: &Layout, w: &mut W, q: &Request) -> Result<Reply, Stop>
     requires kind { IsGetSubscriber q.now }
     requires in_range { IsInRange q.now }
     requires size { (W.sight w.old).count ≡ lay.now.pages * PAGE }
     requires no_writes { (W.sight w.old).writes ≡ [] }
-    ensures looked { Looked (stop_of result) (W.sight w.old) (W.sight w.new) }
-    ensures turns { WordsGoOn W.turns_into w.old w.new }
-    ensures last { IfErr result (λ stop. (W.sight w.new).stopped ≡ Some stop) }
-    ensures most { MadeAtMost (2 * lay.now.subscribers + 7) 0 (W.sight w.old) (W.sight w.new) }
-    ensures unchanged { IfOk result (λ r. r ≢ Changed) }
-    // For every lawful array that agrees with the reads made, the reply is that of one thread.
-    ensures reply { IfOk result (λ r. (array : List ℕ) → IsBelow (W.sight w.new) array → (db : Database) →
-        StandsFor lay.now array db → r ≡ reply_to lay.now.calls db q.now) }
+    ensures { AnswersRequest W.sight W.turns_into lay.now q.now result w.old w.new }
 {
     let Request::GetSubscriber { s_id } = *q else {
         unreachable!()
@@ -43,15 +30,10 @@ pub fn read_subscriber<W: Words>(lay: &Layout, w: &mut W, q: &Request) -> Result
 }
 
 // The subscriber with this id.
-#[tactic(auto, using(record_heap::proofs::Calls::calling))]
 fn find_subscriber<W: Words>(lay: &Layout, w: &mut W, s_id: u64) -> Result<Option<SubRow>, Stop>
     requires size { (W.sight w.old).count ≡ lay.now.pages * PAGE }
-    ensures looked { Looked (stop_of result) (W.sight w.old) (W.sight w.new) }
-    ensures turns { WordsGoOn W.turns_into w.old w.new }
-    ensures last { IfErr result (λ stop. (W.sight w.new).stopped ≡ Some stop) }
-    ensures most { MadeAtMost (2 * lay.now.subscribers + 7) 0 (W.sight w.old) (W.sight w.new) }
-    ensures row { IfOk result (λ r. (array : List ℕ) → IsBelow (W.sight w.new) array → (db : Database) →
-        StandsFor lay.now (shown (W.sight w.old) array) db → r ≡ find (is_subscriber s_id) db.subscribers) }
+    ensures uses { UsesWords W.sight W.turns_into (subscriber_reads lay.now) 0 result w.old w.new }
+    ensures row { AnswersSeen W.sight result w.old w.new (FindsSubscriber lay.now s_id) }
 {
     let Some(at) = lay.subscribers().find(w, s_id)? else {
         return Ok(None);

@@ -1,5 +1,6 @@
 -- What contracts see of a `Flat`.
-use Rattle.std.specs.Prelude.{ℕ, List, [], None, length, refl}
+use Rattle.std.specs.Prelude.{◌≡◌, ℕ, List, [], None, length, refl}
+use Rattle.dude_base.specs.Records.{RedoRecord}
 use Rattle.word_space.specs.declared.flat.Flat.{Flat}
 use Rattle.word_space.specs.Sights.{WordsSight, IsWellFormed, IsBelow}
 use Rattle.word_space.specs.Sound.{IsWideOrNoMemory}
@@ -11,6 +12,14 @@ words_of f = f.words.items
 -- what is seen of it as words
 abbrev pub flat_sight : Flat → WordsSight
 flat_sight f = record { count = length f.words.items; reads = f.reads; writes = f.writes; stopped = f.stopped }
+
+-- the array at rest is the same
+abbrev pub HasSameWords : Flat → Flat → Type 0
+HasSameWords x y = words_of y ≡ words_of x
+
+-- the pending writes as the redo record of this number
+abbrev pub redo_of : ℕ → Flat → RedoRecord
+redo_of number f = record { number = number; writes = (flat_sight f).writes }
 
 -- nothing was read or written, and no Stop was answered
 abbrev pub fresh : List ℕ → WordsSight

@@ -5,29 +5,28 @@ ghost use Rattle.word_space.specs.Sound.{IsSound};
 use crate::read_set::ReadSet;
 use crate::stop::Stop;
 use crate::words::Words;
-use crate::write_set::WriteSet;
 use dude_base::limits::MAX_WRITES;
 use dude_base::redo::Redo;
 use dude_base::wide::Wide;
 use dude_base::write::Write;
+use dude_base::write_list::WriteList;
 use std::alloc::AllocError;
-use std::mem;
 
 /// An array at rest, with the reads made from it and the writes that are pending over it.
 #[derive(Drop)]
 pub struct Flat {
     words: Vec<u64>,
     reads: ReadSet,
-    writes: WriteSet,
+    writes: WriteList,
     stopped: Option<Stop>,
     ghost sound: { IsSound words.items reads writes stopped },
 }
 
 impl Flat {
     ghost use Rattle.std.specs.Prelude.{◌≡◌, ◌↔◌, [], None, IsTrue};
-    ghost use Rattle.dude_base.specs.Writes.{overwritten, IsWide};
-    ghost use Rattle.word_space.specs.Flats.{words_of, flat_sight, fresh};
-    ghost use Rattle.word_space.specs.Sights.{IsBelow};
+    ghost use Rattle.dude_base.specs.Writes.{IsWide};
+    ghost use Rattle.word_space.specs.Flats.{words_of, flat_sight, fresh, redo_of};
+    ghost use Rattle.word_space.specs.Sights.{IsBelow, shown};
     ghost use Rattle.word_space.specs.Sound.{IsWideOrNoMemory};
 
     /// The array, with nothing read and nothing written yet.
@@ -39,7 +38,7 @@ impl Flat {
         Flat {
             words,
             reads: ReadSet::new(alloc),
-            writes: WriteSet::new(),
+            writes: WriteList::new(),
             stopped: None,
         }
     }
@@ -65,13 +64,12 @@ impl Flat {
     /// The pending writes as the record of this number. They are applied to the array, and both lists
     /// are cleared.
     pub fn take(&mut self, number: u64) -> Redo
-        ensures record { result ≡ record { number = number; writes = (flat_sight self.old).writes } }
-        ensures words { words_of self.new ≡ overwritten (flat_sight self.old).writes (words_of self.old) }
+        ensures record { result ≡ redo_of number self.old }
+        ensures words { words_of self.new ≡ shown (flat_sight self.old) (words_of self.old) }
         ensures fresh { flat_sight self.new ≡ fresh (words_of self.new) }
     {
-        let writes = mem::replace(&mut self.writes, WriteSet::new()).into_list();
-        self.reads.clear();
-        self.stopped = None;
+        let writes = self.writes.copy();
+        self.forget();
         writes.apply_to(&mut self.words);
         Redo::of(number, writes)
     }
@@ -81,7 +79,7 @@ impl Flat {
         ensures words { words_of self.new ≡ words_of self.old }
         ensures fresh { flat_sight self.new ≡ fresh (words_of self.old) }
     {
-        self.writes = WriteSet::new();
+        self.writes.clear();
         self.reads.clear();
         self.stopped = None;
     }
@@ -95,16 +93,15 @@ impl Flat {
 }
 
 impl Words for Flat {
-    ghost use Rattle.std.specs.Prelude.{◌≡◌, ◌<◌, IfErr, OnOk, List, ℕ, slice_set};
+    ghost use Rattle.std.specs.Prelude.{◌≡◌, ◌<◌, IfErr, slice_set};
     ghost use Rattle.std.proofs.Common.{refl, ◌∙◌};
     ghost use Rattle.word_space.specs.declared.stop.Stop.{Stop};
-    ghost use Rattle.word_space.specs.Flats.{words_of, flat_sight, flat_well_formed};
-    ghost use Rattle.word_space.specs.Sights.{shown};
-    ghost use Rattle.word_space.specs.Steps.{WritesWord, WordsGoOn};
+    ghost use Rattle.word_space.specs.Flats.{flat_sight, flat_well_formed, HasSameWords};
+    ghost use Rattle.word_space.specs.Steps.{MakesWrite, Shows, UsesWords};
 
     ghost sight = { flat_sight };
 
-    ghost turns_into = { λ x y. words_of y ≡ words_of x };
+    ghost turns_into = { HasSameWords };
 
     ghost well_formed = { flat_well_formed };
 
@@ -133,10 +130,9 @@ impl Words for Flat {
     // It takes no memory: the only Stop is that of a 25th different word.
     fn write(&mut self, at: u64, value: u64) -> Result<(), Stop>
         requires inside { at < (flat_sight self.old).count }
-        ensures writes { WritesWord at value result (flat_sight self.old) (flat_sight self.new) }
-        ensures shown { OnOk result ((array : List ℕ) → shown (flat_sight self.new) array
-            ≡ slice_set (shown (flat_sight self.old) array) at value) }
-        ensures turns { WordsGoOn (λ x y. words_of y ≡ words_of x) self.old self.new }
+        ensures uses { UsesWords flat_sight HasSameWords 0 1 result self.old self.new }
+        ensures writes { MakesWrite flat_sight at value result self.old self.new }
+        ensures shown { Shows flat_sight result self.old self.new (λ seen. slice_set seen at value) }
         ensures no_memory { IfErr result (λ stop. stop ≡ Stop.Wide) }
     {
         match self.writes.put(Write { at, value }) {

@@ -5,4 +5,3 @@ pub mod flat;
 pub mod read_set;
 pub mod stop;
 pub mod words;
-pub mod write_set;

@@ -1,8 +1,8 @@
 //! The trait of reads and writes over an array of words.
 
-ghost use Rattle.std.specs.Prelude.{◌≡◌, ℕ, ◌<◌, IfOk, OnOk, List, slice_index, slice_set};
-ghost use Rattle.word_space.specs.Sights.{WordsSight, IsBelow, shown, IsWellFormed};
-ghost use Rattle.word_space.specs.Steps.{ReadsWord, WritesWord, WordsGoOn};
+ghost use Rattle.std.specs.Prelude.{◌≡◌, ◌<◌, slice_set};
+ghost use Rattle.word_space.specs.Sights.{WordsSight, IsWellFormed};
+ghost use Rattle.word_space.specs.Steps.{AnswersSeen, IsSeenAt, MakesRead, MakesWrite, Shows, UsesWords};
 
 use crate::stop::Stop;
 
@@ -27,19 +27,17 @@ pub trait Words {
     /// array.
     fn read(&mut self, at: u64) -> Result<u64, Stop>
         requires inside { at < (sight self.old).count }
-        ensures reads { ReadsWord at result (sight self.old) (sight self.new) }
-        ensures value { IfOk result (λ v. (array : List ℕ) → IsBelow (sight self.new) array
-            → v ≡ slice_index (shown (sight self.old) array) at) }
-        ensures turns { WordsGoOn turns_into self.old self.new };
+        ensures uses { UsesWords sight turns_into 1 0 result self.old self.new }
+        ensures reads { MakesRead sight at result self.old self.new }
+        ensures value { AnswersSeen sight result self.old self.new (IsSeenAt at) };
 
     /// Writes the word `at`; the write is pending. `Wide` comes exactly where it would be of a 25th
     /// different word.
     fn write(&mut self, at: u64, value: u64) -> Result<(), Stop>
         requires inside { at < (sight self.old).count }
-        ensures writes { WritesWord at value result (sight self.old) (sight self.new) }
-        ensures shown { OnOk result ((array : List ℕ) → shown (sight self.new) array
-            ≡ slice_set (shown (sight self.old) array) at value) }
-        ensures turns { WordsGoOn turns_into self.old self.new };
+        ensures uses { UsesWords sight turns_into 0 1 result self.old self.new }
+        ensures writes { MakesWrite sight at value result self.old self.new }
+        ensures shown { Shows sight result self.old self.new (λ seen. slice_set seen at value) };
 
     ghost well_formed: { (x : Self) → IsWellFormed (sight x) };
 

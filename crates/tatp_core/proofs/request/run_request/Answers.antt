@@ -1,9 +1,9 @@
 use Rattle.std.proofs.Common.{rules}
 use Rattle.tatp_core.specs.Reads.{IsRead}
-use Rattle.tatp_core.proofs.Reading.{serves_read}
+use Rattle.tatp_core.proofs.Serving.{serves_read}
 use Rattle.tatp_core.proofs.request.run_request.Goals as goal
 
-pub returns-in_default-clause-serves : goal.returns-in_default-clause-serves
-returns-in_default-clause-serves g c =
+pub returns-in_default : goal.returns-in_default
+returns-in_default g c =
     let read : IsRead c.args.q.now = search rules in
-    serves_read c.read_request.result c.args.lay.now c.args.q.now read c.read_request.ensures.looked c.requires.no_writes c.read_request.ensures.reply
+    serves_read c.args.lay.now c.args.q.now c.read_request.result read c.requires.no_writes c.read_request.ensures

@@ -1,31 +1,31 @@
-use Rattle.std.proofs.Common.{◌∙◌, ◌+◌, slice_set, arith, sym, ap, subst}
+use Rattle.std.proofs.Common.{◌∙◌, ◌+◌, slice_set, arith, sym, ap, subst, lit≤, lit<}
 use Rattle.word_space.specs.Sights.{shown}
-use Rattle.word_space.proofs.Runs.{below_back}
-use Rattle.record_heap.proofs.Calls.{length_shown, most_more, most_then, most_write, wrote_one, wrote_then}
 use Rattle.record_heap.specs.Pool.{IsRecord}
 use Rattle.hash_table.specs.declared.table.Table.{Table}
 use Rattle.tatp_layout.specs.Records.{HoldsRow, call_form}
-use Rattle.tatp_layout.proofs.Stored.{call_set}
+use Rattle.tatp_layout.proofs.Stored.{word_fits, call_set}
+use Rattle.word_space.proofs.Runs.{below_before, length_shown, used_until, used_handed, used_then, wrote_none, wrote_one, wrote_then, shown_same}
+use Rattle.std.proofs.lemmas.Result.{IfOk-from_err}
 use Rattle.tatp_layout.proofs.call_record.put_call.Goals as goal
 
-pub returns-in_err-write-clause-most : goal.returns-in_err-write-clause-most
-returns-in_err-write-clause-most g c = most_more 0 2 (most_write c.in_err-write.ensures.writes) (omega arith) (omega arith)
+pub returns-in_err-write : goal.returns-in_err-write
+returns-in_err-write g c = let r = c.from_residual in record { uses = used_handed r.result r.ensures.1 c.in_err-write.ensures.uses (lit≤ tt) (lit≤ tt); wrote = IfOk-from_err _ _ r.ensures.0; shown = IfOk-from_err _ _ r.ensures.0; holds = IfOk-from_err _ _ r.ensures.0 }
 
-pub returns-in_err-write-2-clause-most : goal.returns-in_err-write-2-clause-most
-returns-in_err-write-2-clause-most g c = most_then (most_write c.in_ok-write.ensures.writes) (most_write c.in_err-write-2.ensures.writes)
+pub returns-in_err-write-2 : goal.returns-in_err-write-2
+returns-in_err-write-2 g c = let r = c.from_residual-in_err-write-2 in record { uses = used_handed r.result r.ensures.1 (used_until c.in_ok-write.ensures.uses c.in_err-write-2.ensures.uses) (lit≤ tt) (lit≤ tt); wrote = IfOk-from_err _ _ r.ensures.0; shown = IfOk-from_err _ _ r.ensures.0; holds = IfOk-from_err _ _ r.ensures.0 }
 
-pub returns-clause-most : goal.returns-clause-most
-returns-clause-most g c = most_then (most_write c.in_ok-write.ensures.writes) (most_write c.in_ok-write-2.ensures.writes)
+pub returns-clause-uses : goal.returns-clause-uses
+returns-clause-uses g c = used_then c.in_ok-write.ensures.uses c.in_ok-write-2.ensures.uses
 
 pub returns-clause-wrote : goal.returns-clause-wrote
 returns-clause-wrote g c = wrote_then (wrote_one c.in_ok-write.ensures.writes) (wrote_one c.in_ok-write-2.ensures.writes)
 
+pub returns-clause-shown : goal.returns-clause-shown
+returns-clause-shown g c = λ array. c.in_ok-write-2.ensures.shown array ∙ ap (λ seen. slice_set seen (c.args.at + 3) c.args.row.now.numberx) (c.in_ok-write.ensures.shown array)
+
 pub returns-clause-holds : goal.returns-clause-holds
 returns-clause-holds g c = λ array below key.
     let row = c.args.row.now in
-    let long = length_shown (below_back c.in_ok-write.ensures.writes.ran (below_back c.in_ok-write-2.ensures.writes.ran below)) in
-    let inside = c.calls.ensures.fits.pool.inside c.args.at (subst (λ (t : Table). IsRecord t.pool c.args.at) (sym c.calls.ensures.table) c.requires.record) in
-    let size = ap (λ (t : Table). t.pool.size) c.calls.ensures.table in
     let wrote = c.in_ok-write-2.ensures.shown array ∙ ap (λ seen. slice_set seen (c.args.at + 3) row.numberx) (c.in_ok-write.ensures.shown array) in
     subst (λ seen. HoldsRow call_form seen c.args.at row) (sym wrote)
-    (call_set (shown (g.W.Words.sight c.args.w.now) array) c.args.at (omega (arith, long, inside, size, c.requires.size)) key)
+    (call_set (shown (g.W.Words.sight c.args.w.now) array) c.args.at (word_fits _ 3 (lit< tt) c.calls.ensures.table c.calls.ensures.fits c.requires.record (length_shown (below_before (used_then c.in_ok-write.ensures.uses c.in_ok-write-2.ensures.uses) below) ∙ c.requires.size)) key)

@@ -1,11 +1,20 @@
-use Rattle.std.proofs.Common.{◌≡◌, None, Ok, ◌+◌, ◌≤◌, ◌<◌, ℕ, List, slice_set, length, length-set, slice_index, ap, sym, ◌∙◌, arith, get_or-set_other, get_or-set_same, inl, inr}
+use Rattle.std.proofs.Common.{◌≡◌, None, Ok, ◌+◌, ◌≤◌, ◌<◌, ℕ, List, slice_set, length, length-set, slice_index, ap, sym, ◌∙◌, arith, get_or-set_other, get_or-set_same, inl, inr, lit≤}
 use Rattle.std.proofs.lemmas.Bool.{cases_eq}
 use Rattle.std.proofs.lemmas.List.{length-replicate}
 use Rattle.std.specs.Prelude.{replicate}
-use Rattle.word_space.proofs.Runs.{looked_then, below_looked, shown_looked}
-use Rattle.record_heap.proofs.Calls.{most_more, most_read, most_then}
 use Rattle.word_space.specs.Sights.{shown}
+use Rattle.word_space.proofs.Runs.{below_before, shown_same, used_until, used_handed, used_more, used_then}
+use Rattle.std.proofs.lemmas.Result.{IfOk-from_err}
 use Rattle.tatp_layout.proofs.record_words.read_record.Goals as goal
+
+pub returns-in_err-words : goal.returns-in_err-words
+returns-in_err-words g c = let r = c.from_residual in record { uses = used_handed r.result r.ensures.1 c.in_err-words.ensures.uses (omega arith) (lit≤ tt); words = IfOk-from_err _ _ r.ensures.0 }
+
+pub returns-in_err-words-2 : goal.returns-in_err-words-2
+returns-in_err-words-2 g c = let r = c.from_residual-in_err-words-2 in record { uses = used_handed r.result r.ensures.1 (used_until c.loop-k.invariant.uses c.in_err-words-2.ensures.uses) (omega arith) (lit≤ tt); words = IfOk-from_err _ _ r.ensures.0 }
+
+pub returns-clause-uses : goal.returns-clause-uses
+returns-clause-uses g c = used_more c.loop-k.invariant.uses (omega arith) (lit≤ tt)
 
 -- one more field was read
 fields_more : (words array : List ℕ) (at k value : ℕ) → k < length words → value ≡ slice_index array (at + k)
@@ -17,28 +26,20 @@ fields_more words array at k value inside is before j from under =
       | inr other ↦ get_or-set_other words k j value 0 other ∙ before j from (omega arith)
     ]
 
-pub returns-in_err-words-clause-most : goal.returns-in_err-words-clause-most
-returns-in_err-words-clause-most g c = most_more _ 0 (most_read c.in_err-words.ensures.reads) (omega arith) (omega arith)
-
 pub loop-k-init : goal.loop-k-init
 loop-k-init g c =
     let read = c.in_ok-words.ensures in
     let none : List ℕ = replicate g.row.N 0 in
     let many : length none ≡ g.row.N = length-replicate {A = ℕ} g.row.N 0 in
     record {
-      looked = read.reads.looked;
-      turns = read.turns;
-      most = most_read {result = Ok c.in_ok-words.field-0} read.reads;
+      uses = read.uses;
       long = length-set none 0 c.in_ok-words.field-0 ∙ many;
       key = λ array below. get_or-set_same none 0 c.in_ok-words.field-0 0 (omega (arith, many, c.requires.wide)) ∙ read.value array below;
       fields = λ array below j from under. absurd (omega arith);
     }
 
 pub read-requires-in-loop-k : goal.read-requires-in-loop-k
-read-requires-in-loop-k g c = record { inside = omega (arith, c.loop-k.invariant.looked.ran.count) }
-
-pub returns-in_err-words-2-clause-most : goal.returns-in_err-words-2-clause-most
-returns-in_err-words-2-clause-most g c = most_more _ 0 (most_then c.loop-k.invariant.most (most_read c.in_err-words-2.ensures.reads)) (omega arith) (omega arith)
+read-requires-in-loop-k g c = record { inside = omega (arith, c.loop-k.invariant.uses.count) }
 
 pub loop-k-preserved : goal.loop-k-preserved
 loop-k-preserved g c =
@@ -47,15 +48,13 @@ loop-k-preserved g c =
     let value = c.in_ok-words-2.field-0 in
     let read = c.in_ok-words-2.ensures in
     record {
-      looked = looked_then {stop = None} before.looked read.reads.looked;
-      turns = λ x led. read.turns x (before.turns x led);
-      most = most_more _ 0 (most_then before.most (most_read {result = Ok value} read.reads)) (omega arith) (omega arith);
+      uses = used_more (used_then before.uses read.uses) (omega arith) (lit≤ tt);
       long = length-set c.loop-k.words k value ∙ before.long;
-      key = λ array below. get_or-set_other c.loop-k.words k 0 value 0 (omega arith) ∙ before.key array (below_looked {stop = None} read.reads.looked below);
+      key = λ array below. get_or-set_other c.loop-k.words k 0 value 0 (omega arith) ∙ before.key array (below_before read.uses below);
       fields = λ array below.
           fields_more c.loop-k.words (shown (g.W.Words.sight c.args.w.now) array) c.args.at k value (omega (arith, before.long))
-          (read.value array below ∙ ap (λ seen. slice_index seen (c.args.at + k)) (shown_looked {stop = None} before.looked array))
-          (before.fields array (below_looked {stop = None} read.reads.looked below));
+          (read.value array below ∙ ap (λ seen. slice_index seen (c.args.at + k)) (shown_same before.uses array))
+          (before.fields array (below_before read.uses below));
     }
 
 pub returns-clause-words : goal.returns-clause-words

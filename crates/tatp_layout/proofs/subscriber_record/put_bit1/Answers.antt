@@ -1,31 +1,28 @@
-use Rattle.std.proofs.Common.{◌∙◌, ◌+◌, ◌*◌, ◌/◌, slice_set, arith, sym, ap, subst}
-use Rattle.word_space.proofs.Runs.{below_back, below_looked, shown_looked}
-use Rattle.record_heap.proofs.Calls.{length_shown, most_more, most_read, most_then, most_write, wrote_none, wrote_one, wrote_then}
+use Rattle.std.proofs.Common.{◌∙◌, ◌+◌, ◌*◌, ◌/◌, slice_set, arith, sym, ap, subst, lit≤, lit<}
 use Rattle.record_heap.specs.Pool.{IsRecord}
 use Rattle.hash_table.specs.declared.table.Table.{Table}
 use Rattle.tatp_layout.specs.Records.{HoldsRow, subscriber_form}
-use Rattle.tatp_layout.proofs.Stored.{bit_set}
+use Rattle.tatp_layout.proofs.Stored.{word_fits, bit_set}
+use Rattle.word_space.proofs.Runs.{below_before, length_shown, used_until, used_handed, used_then, wrote_none, wrote_one, wrote_then, shown_same}
+use Rattle.std.proofs.lemmas.Result.{IfOk-from_err}
 use Rattle.tatp_layout.proofs.subscriber_record.put_bit1.Goals as goal
 
-pub returns-in_err-word-clause-most : goal.returns-in_err-word-clause-most
-returns-in_err-word-clause-most g c = most_more _ _ (most_read c.in_err-word.ensures.reads) (omega arith) (omega arith)
+pub returns-in_err-word : goal.returns-in_err-word
+returns-in_err-word g c = let r = c.from_residual in record { uses = used_handed r.result r.ensures.1 c.in_err-word.ensures.uses (lit≤ tt) (lit≤ tt); wrote = IfOk-from_err _ _ r.ensures.0; changes = IfOk-from_err _ _ r.ensures.0; holds = IfOk-from_err _ _ r.ensures.0 }
 
-pub returns-in_err-write-clause-most : goal.returns-in_err-write-clause-most
-returns-in_err-write-clause-most g c = most_then (most_read c.in_ok-word.ensures.reads) (most_write c.in_err-write.ensures.writes)
+pub returns-in_err-write : goal.returns-in_err-write
+returns-in_err-write g c = let r = c.from_residual-in_err-write in record { uses = used_handed r.result r.ensures.1 (used_until c.in_ok-word.ensures.uses c.in_err-write.ensures.uses) (lit≤ tt) (lit≤ tt); wrote = IfOk-from_err _ _ r.ensures.0; changes = IfOk-from_err _ _ r.ensures.0; holds = IfOk-from_err _ _ r.ensures.0 }
 
-pub returns-clause-most : goal.returns-clause-most
-returns-clause-most g c = most_then (most_read c.in_ok-word.ensures.reads) (most_write c.in_ok-write.ensures.writes)
+pub returns-clause-uses : goal.returns-clause-uses
+returns-clause-uses g c = used_then c.in_ok-word.ensures.uses c.in_ok-write.ensures.uses
 
 pub returns-clause-wrote : goal.returns-clause-wrote
-returns-clause-wrote g c = wrote_then (wrote_none c.in_ok-word.ensures.reads.looked) (wrote_one c.in_ok-write.ensures.writes)
+returns-clause-wrote g c = wrote_then (wrote_none c.in_ok-word.ensures.uses) (wrote_one c.in_ok-write.ensures.writes)
 
 pub returns-clause-holds : goal.returns-clause-holds
 returns-clause-holds g c = λ array below r range held.
-    let below_read = below_back c.in_ok-write.ensures.writes.ran below in
-    let long = length_shown (below_looked c.in_ok-word.ensures.reads.looked below_read) in
-    let inside = c.subscribers.ensures.fits.pool.inside c.args.at (subst (λ (t : Table). IsRecord t.pool c.args.at) (sym c.subscribers.ensures.table) c.requires.record) in
-    let size = ap (λ (t : Table). t.pool.size) c.subscribers.ensures.table in
-    let same = shown_looked c.in_ok-word.ensures.reads.looked array in
+    let below_read = below_before c.in_ok-write.ensures.uses below in
+    let same = shown_same c.in_ok-word.ensures.uses array in
     let wrote = c.in_ok-write.ensures.shown array ∙ ap (λ seen. slice_set seen (c.args.at + 2) (c.in_ok-word.word / 2 * 2 + c.args.bit)) same in
     subst (λ seen. HoldsRow subscriber_form seen c.args.at (record r { bits = slice_set r.bits 0 c.args.bit })) (sym wrote)
-    (bit_set c.in_ok-word.word c.args.bit (omega (arith, long, inside, size, c.requires.size)) (c.in_ok-word.ensures.value array below_read) range held)
+    (bit_set c.in_ok-word.word c.args.bit (word_fits _ 2 (lit< tt) c.subscribers.ensures.table c.subscribers.ensures.fits c.requires.record (length_shown (below_before c.in_ok-word.ensures.uses below_read) ∙ c.requires.size)) (c.in_ok-word.ensures.value array below_read) range held)

@@ -17,14 +17,14 @@ use Rattle.dude_engine.proofs.run.Run.perform.Goals as goal
 pub returns-in-Err-NoMemory-clause-leaves : goal.returns-in-Err-NoMemory-clause-leaves
 returns-in-Err-NoMemory-clause-leaves g c =
     let self = c.args.self.now in
-    let same : words_of c.run_request.new.w ≡ words_of self.words = c.run_request.ensures.turns self.words refl in
+    let same : words_of c.run_request.new.w ≡ words_of self.words = c.run_request.ensures.uses.turns self.words refl in
     record { ready = tt; lay = refl; room = refl; calls = tt; left = λ opening words s run. subst (λ (current : List ℕ). IsRunning opening words self.lay self.log current self.done.items s (g.M.Medium.sight (log_medium self.log))) (sym (c.forget.ensures.words ∙ same)) run }
 
 pub log_change-requires-clause-change : goal.log_change-requires-clause-change
 log_change-requires-clause-change g c =
     let self = c.args.self.now in
     let w = c.run_request.new.w in
-    let same : words_of w ≡ words_of self.words = c.run_request.ensures.turns self.words refl in
+    let same : words_of w ≡ words_of self.words = c.run_request.ensures.uses.turns self.words refl in
     record {
       alive = c.requires.may.ready.alive;
       sizes = c.requires.may.ready.sizes;
@@ -36,7 +36,7 @@ pub returns-in-Changed-clause-leaves : goal.returns-in-Changed-clause-leaves
 returns-in-Changed-clause-leaves g c =
     let self = c.args.self.now in
     let leaves = c.log_change.ensures.leaves in
-    let same : words_of c.run_request.new.w ≡ words_of self.words = c.run_request.ensures.turns self.words refl in
+    let same : words_of c.run_request.new.w ≡ words_of self.words = c.run_request.ensures.uses.turns self.words refl in
     record {
       ready = leaves.ready;
       lay = leaves.lay;
@@ -50,7 +50,7 @@ pub returns-in_default : goal.returns-in_default
 returns-in_default g c =
     let self = c.args.self.now in
     let w = c.run_request.new.w in
-    let same : words_of w ≡ words_of self.words = c.run_request.ensures.turns self.words refl in
+    let same : words_of w ≡ words_of self.words = c.run_request.ensures.uses.turns self.words refl in
     let d : Done = record { file = c.args.file; index = c.args.index; number = c.last-number.result; wrote = false; request = c.args.request.now; reply = c.in-Ok.reply } in
     let words_are : words_of c.note.new.self.words ≡ words_of self.words = ap (λ (f : Flat). words_of f) c.note.ensures.words ∙ c.forget-in_default.ensures.words ∙ same in
     let clean : flat_sight c.note.new.self.words ≡ fresh (words_of c.note.new.self.words) =

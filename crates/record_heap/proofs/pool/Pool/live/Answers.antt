@@ -1,5 +1,4 @@
-use Rattle.record_heap.proofs.Calls.{most_read}
 use Rattle.record_heap.proofs.pool.Pool.live.Goals as goal
 
-pub returns-clause-most : goal.returns-clause-most
-returns-clause-most g c = most_read c.read.ensures.reads
+pub returns-clause-uses : goal.returns-clause-uses
+returns-clause-uses g c = c.read.ensures.uses

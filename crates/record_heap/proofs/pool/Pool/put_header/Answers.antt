@@ -1,15 +1,18 @@
-use Rattle.std.proofs.Common.{arith}
-use Rattle.record_heap.proofs.Calls.{most_more, most_then, most_write, wrote_one, wrote_then}
+use Rattle.std.proofs.Common.{◌+◌, slice_set, ap, ◌∙◌, arith, lit≤}
+use Rattle.word_space.proofs.Runs.{used_until, used_handed, used_then, wrote_one, wrote_then}
 use Rattle.record_heap.proofs.pool.Pool.put_header.Goals as goal
+
+pub returns-in_err-write-clause-uses : goal.returns-in_err-write-clause-uses
+returns-in_err-write-clause-uses g c = used_handed c.from_residual.result c.from_residual.ensures.1 c.in_err-write.ensures.uses (lit≤ tt) (lit≤ tt)
+
+pub returns-in_err-write-2-clause-uses : goal.returns-in_err-write-2-clause-uses
+returns-in_err-write-2-clause-uses g c = used_handed c.from_residual-in_err-write-2.result c.from_residual-in_err-write-2.ensures.1 (used_until c.in_ok-write.ensures.uses c.in_err-write-2.ensures.uses) (lit≤ tt) (lit≤ tt)
+
+pub returns-clause-uses : goal.returns-clause-uses
+returns-clause-uses g c = used_then c.in_ok-write.ensures.uses c.in_ok-write-2.ensures.uses
 
 pub returns-clause-wrote : goal.returns-clause-wrote
 returns-clause-wrote g c = wrote_then (wrote_one c.in_ok-write.ensures.writes) (wrote_one c.in_ok-write-2.ensures.writes)
 
-pub returns-in_err-write-clause-most : goal.returns-in_err-write-clause-most
-returns-in_err-write-clause-most g c = most_more 0 2 (most_write c.in_err-write.ensures.writes) (omega arith) (omega arith)
-
-pub returns-in_err-write-2-clause-most : goal.returns-in_err-write-2-clause-most
-returns-in_err-write-2-clause-most g c = most_then (most_write c.in_ok-write.ensures.writes) (most_write c.in_err-write-2.ensures.writes)
-
-pub returns-clause-most : goal.returns-clause-most
-returns-clause-most g c = most_then (most_write c.in_ok-write.ensures.writes) (most_write c.in_ok-write-2.ensures.writes)
+pub returns-clause-shown : goal.returns-clause-shown
+returns-clause-shown g c = λ array. c.in_ok-write-2.ensures.shown array ∙ ap (λ seen. slice_set seen (c.args.self.now.base + 1) c.args.header.live) (c.in_ok-write.ensures.shown array)

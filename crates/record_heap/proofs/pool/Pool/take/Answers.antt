@@ -1,76 +1,70 @@
-use Rattle.std.proofs.Common.{arith, None, ap, sym, ◌∙◌, ◌+◌, subst, slice_index, slice_set}
+use Rattle.std.proofs.Common.{None, ap, sym, ◌∙◌, ◌+◌, subst, slice_index, arith, lit≤}
 use Rattle.std.proofs.lemmas.Bool.{false≢true}
 use Rattle.word_space.specs.Sights.{shown}
-use Rattle.word_space.proofs.Runs.{below_back, below_looked, shown_looked, looked_then, ran_then}
-use Rattle.record_heap.specs.Pool.{Takes, FitsPool, IsRecord}
-use Rattle.record_heap.proofs.Calls.{length_shown, most_more, most_read, most_then, wrote_none, wrote_then}
+use Rattle.word_space.proofs.Runs.{used_until, below_before, length_shown, shown_same, used_handed, used_more, used_then, wrote_none, wrote_then}
+use Rattle.record_heap.specs.Pool.{Takes, FitsPool, IsRecord, with_header}
 use Rattle.record_heap.proofs.Pools.{takes_none, takes_first}
 use Rattle.record_heap.proofs.pool.Pool.take.Goals as goal
-
-pub returns-then-not-has-clause-takes : goal.returns-then-not-has-clause-takes
-returns-then-not-has-clause-takes g c = λ array below free taken lawful.
-    let seen = c.in_ok-header.ensures in
-    let old = shown (g.W.Words.sight c.args.w.now) array in
-    subst (λ new. Takes c.args.self.now free taken None old new) (sym (shown_looked seen.looked array))
-    (takes_none (seen.words array below).first (λ there. false≢true (c.if-not-has.ensures.1 there)) free taken lawful)
-
-pub returns-clause-takes : goal.returns-clause-takes
-returns-clause-takes g c = λ array below free taken lawful.
-    let pool = c.args.self.now in
-    let first = c.in_ok-header.header.first in
-    let next = c.in_ok-next.next in
-    let more = c.saturating_add-live.result in
-    let header_step = c.in_ok-header.ensures in
-    let next_step = c.in_ok-next.ensures in
-    let put_step = c.in_ok-put_header.ensures in
-    let below_next = below_back put_step.ran below in
-    let below_header = below_looked next_step.reads.looked below_next in
-    let below_old = below_looked header_step.looked below_header in
-    takes_first c.requires.fits (g.met.W.Words.well_formed c.args.w.now).count (length_shown below_old)
-    (c.has.ensures.0 c.if-not-has.false)
-    (header_step.words array below_header)
-    (next_step.value array below_next ∙ ap (λ words. slice_index words (first + 1)) (shown_looked header_step.looked array))
-    c.saturating_add-live.ensures
-    (put_step.shown array ∙ ap (λ words. slice_set (slice_set words pool.base next) (pool.base + 1) more) (shown_looked (looked_then header_step.looked next_step.reads.looked) array))
-    free taken lawful
-
-pub returns-in_err-next-clause-most : goal.returns-in_err-next-clause-most
-returns-in_err-next-clause-most g c = most_more 3 2 (most_then c.in_ok-header.ensures.most (most_read c.in_err-next.ensures.reads)) (omega arith) (omega arith)
-
-pub returns-in_err-put_header-clause-most : goal.returns-in_err-put_header-clause-most
-returns-in_err-put_header-clause-most g c = most_then c.in_ok-header.ensures.most (most_then (most_read c.in_ok-next.ensures.reads) c.in_err-put_header.ensures.most)
-
-pub returns-clause-most : goal.returns-clause-most
-returns-clause-most g c = most_then c.in_ok-header.ensures.most (most_then (most_read c.in_ok-next.ensures.reads) c.in_ok-put_header.ensures.most)
-
-pub returns-in_err-header-clause-most : goal.returns-in_err-header-clause-most
-returns-in_err-header-clause-most g c = most_more 3 2 c.in_err-header.ensures.most (omega arith) (omega arith)
-
-pub returns-then-not-has-clause-most : goal.returns-then-not-has-clause-most
-returns-then-not-has-clause-most g c = most_more 3 2 c.in_ok-header.ensures.most (omega arith) (omega arith)
-
-pub returns-then-not-has-clause-wrote : goal.returns-then-not-has-clause-wrote
-returns-then-not-has-clause-wrote g c = wrote_none c.in_ok-header.ensures.looked
-
-pub returns-then-not-has-clause-first : goal.returns-then-not-has-clause-first
-returns-then-not-has-clause-first g c = λ array below there.
-    false≢true (c.if-not-has.ensures.1 (subst (IsRecord c.args.self.now) (sym (c.in_ok-header.ensures.words array below).first) there))
 
 pub overflow_add-header : goal.overflow_add-header
 overflow_add-header g c = omega (arith, c.requires.fits.inside _ (c.has.ensures.0 c.if-not-has.false), c.requires.fits.size, (g.met.W.Words.well_formed c.args.w.now).count)
 
 pub read-requires : goal.read-requires
-read-requires g c = record { inside = omega (arith, c.requires.fits.inside _ (c.has.ensures.0 c.if-not-has.false), c.requires.fits.size, c.in_ok-header.ensures.looked.ran.count) }
+read-requires g c = record { inside = omega (arith, c.requires.fits.inside _ (c.has.ensures.0 c.if-not-has.false), c.requires.fits.size, c.in_ok-header.ensures.uses.count) }
 
 pub put_header-requires : goal.put_header-requires
-put_header-requires g c = record { fits = subst (FitsPool c.args.self.now) (sym (c.in_ok-next.ensures.reads.looked.ran.count ∙ c.in_ok-header.ensures.looked.ran.count)) c.requires.fits }
+put_header-requires g c = record { fits = subst (FitsPool c.args.self.now) (sym (c.in_ok-next.ensures.uses.count ∙ c.in_ok-header.ensures.uses.count)) c.requires.fits }
 
-pub returns-clause-ran : goal.returns-clause-ran
-returns-clause-ran g c = ran_then {stop = None} (ran_then {stop = None} c.in_ok-header.ensures.looked.ran c.in_ok-next.ensures.reads.looked.ran) c.in_ok-put_header.ensures.ran
+pub returns-in_err-header-clause-uses : goal.returns-in_err-header-clause-uses
+returns-in_err-header-clause-uses g c = used_handed c.from_residual.result c.from_residual.ensures.1 c.in_err-header.ensures.uses (lit≤ tt) (lit≤ tt)
+
+pub returns-then-not-has-clause-uses : goal.returns-then-not-has-clause-uses
+returns-then-not-has-clause-uses g c = used_more c.in_ok-header.ensures.uses (lit≤ tt) (lit≤ tt)
+
+pub returns-then-not-has-clause-wrote : goal.returns-then-not-has-clause-wrote
+returns-then-not-has-clause-wrote g c = wrote_none c.in_ok-header.ensures.uses
+
+pub returns-then-not-has-clause-first : goal.returns-then-not-has-clause-first
+returns-then-not-has-clause-first g c = λ array below there.
+    false≢true (c.if-not-has.ensures.1 (subst (IsRecord c.args.self.now) (sym (c.in_ok-header.ensures.words array below).first) there))
+
+pub returns-then-not-has-clause-takes : goal.returns-then-not-has-clause-takes
+returns-then-not-has-clause-takes g c = λ array below free taken lawful.
+    let seen = c.in_ok-header.ensures in
+    let old = shown (g.W.Words.sight c.args.w.now) array in
+    subst (λ new. Takes c.args.self.now free taken None old new) (sym (shown_same seen.uses array))
+    (takes_none (seen.words array below).first (λ there. false≢true (c.if-not-has.ensures.1 there)) free taken lawful)
+
+pub returns-in_err-next-clause-uses : goal.returns-in_err-next-clause-uses
+returns-in_err-next-clause-uses g c = used_handed c.from_residual-in_err-next.result c.from_residual-in_err-next.ensures.1 (used_until c.in_ok-header.ensures.uses c.in_err-next.ensures.uses) (lit≤ tt) (lit≤ tt)
+
+pub returns-in_err-put_header-clause-uses : goal.returns-in_err-put_header-clause-uses
+returns-in_err-put_header-clause-uses g c = used_handed c.from_residual-in_err-put_header.result c.from_residual-in_err-put_header.ensures.1
+    (used_until (used_then c.in_ok-header.ensures.uses c.in_ok-next.ensures.uses) c.in_err-put_header.ensures.uses) (lit≤ tt) (lit≤ tt)
+
+pub returns-clause-uses : goal.returns-clause-uses
+returns-clause-uses g c = used_then c.in_ok-header.ensures.uses (used_then c.in_ok-next.ensures.uses c.in_ok-put_header.ensures.uses)
 
 pub returns-clause-wrote : goal.returns-clause-wrote
-returns-clause-wrote g c = wrote_then (wrote_none (looked_then {stop = None} c.in_ok-header.ensures.looked c.in_ok-next.ensures.reads.looked)) c.in_ok-put_header.ensures.wrote
+returns-clause-wrote g c = wrote_then (wrote_none (used_then c.in_ok-header.ensures.uses c.in_ok-next.ensures.uses)) c.in_ok-put_header.ensures.wrote
 
 pub returns-clause-first : goal.returns-clause-first
 returns-clause-first g c = λ array below.
-    (c.has.ensures.0 c.if-not-has.false, sym (c.in_ok-header.ensures.words array (below_looked {stop = None} c.in_ok-next.ensures.reads.looked (below_back {stop = None} c.in_ok-put_header.ensures.ran below))).first)
+    (c.has.ensures.0 c.if-not-has.false, sym (c.in_ok-header.ensures.words array (below_before (used_then c.in_ok-next.ensures.uses c.in_ok-put_header.ensures.uses) below)).first)
+
+pub returns-clause-takes : goal.returns-clause-takes
+returns-clause-takes g c = λ array below free taken lawful.
+    let pool = c.args.self.now in
+    let first = c.in_ok-header.header.first in
+    let header_step = c.in_ok-header.ensures in
+    let next_step = c.in_ok-next.ensures in
+    let put_step = c.in_ok-put_header.ensures in
+    let below_next = below_before put_step.uses below in
+    let below_header = below_before next_step.uses below_next in
+    takes_first c.requires.fits (g.met.W.Words.well_formed c.args.w.now).count (length_shown (below_before header_step.uses below_header))
+    (c.has.ensures.0 c.if-not-has.false)
+    (header_step.words array below_header)
+    (next_step.value array below_next ∙ ap (λ words. slice_index words (first + 1)) (shown_same header_step.uses array))
+    c.saturating_add-live.ensures
+    (put_step.shown array ∙ ap (with_header pool (record { first = c.in_ok-next.next; live = c.saturating_add-live.result })) (shown_same (used_then header_step.uses next_step.uses) array))
+    free taken lawful

@@ -1,10 +1,12 @@
-use Rattle.std.proofs.Common.{◌<◌, length, sym, subst, List, rules}
+use Rattle.std.proofs.Common.{◌<◌, length, sym, subst, List, Ok, Err, rules}
 use Rattle.dude_base.specs.declared.write.Write.{Write}
 use Rattle.dude_base.specs.Writes.{IsWide}
 use Rattle.dude_base.proofs.WriteLists.{All-put_write, IsWriteList-put_write}
+use Rattle.word_space.specs.declared.stop.Stop.TheVariants.{Wide}
 use Rattle.word_space.specs.Flats.{flat_sight}
 use Rattle.word_space.specs.Sound.{IsSound}
 use Rattle.word_space.proofs.Meets.{shown_write}
+use Rattle.word_space.proofs.Runs.{used_write}
 use Rattle.word_space.proofs.flat.FlatWords.write.Goals as goal
 
 pub invariant_of-self : goal.invariant_of-self
@@ -26,3 +28,9 @@ pub returns-in-Ok-clause-shown : goal.returns-in-Ok-clause-shown
 returns-in-Ok-clause-shown c =
     let s = flat_sight c.args.self.now in
     shown_write s (record s { writes = c.put.new.self }) c.args.at c.args.value (search rules)
+
+pub returns-in-Ok-clause-uses : goal.returns-in-Ok-clause-uses
+returns-in-Ok-clause-uses c = used_write {at = c.args.at} {value = c.args.value} (Ok tt) (record { does = search rules }) (λ x led. led)
+
+pub returns-in-Err-clause-uses : goal.returns-in-Err-clause-uses
+returns-in-Err-clause-uses c = used_write {at = c.args.at} {value = c.args.value} (Err Wide) (record { does = search rules }) (λ x led. led)

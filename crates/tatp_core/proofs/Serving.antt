@@ -1,0 +1,120 @@
+-- What serving a request leaves, by how it ended.
+use Rattle.std.proofs.Common.{◌≡◌, ◌≢◌, ℕ, ◌<◌, ◌≤◌, List, [], length, Some, None, Result, Ok, Err, refl, sym, ap, ◌∙◌, subst, arith, lit≤, zero-le}
+use Rattle.std.specs.Prelude.{IfOk}
+use Rattle.std.specs.Result.{IsErrAnd}
+use Rattle.std.proofs.lemmas.Result.{IfOk-from_err}
+use Rattle.dude_base.specs.declared.sizes.Sizes.{Sizes}
+use Rattle.dude_base.specs.declared.write.Write.{Write}
+use Rattle.dude_base.specs.Writes.{overwritten}
+use Rattle.word_space.specs.declared.stop.Stop.{Stop}
+use Rattle.word_space.specs.Sights.{WordsSight, IsBelow, shown}
+use Rattle.word_space.specs.Steps.{WordsUsed, Wrote}
+use Rattle.word_space.proofs.Runs.{few_pending, is_err, unwritten, used_more, wrote_some, wrote_zero}
+use Rattle.tatp_model.specs.declared.reply.Reply.{Reply}
+use Rattle.tatp_model.specs.declared.reply.Reply.TheVariants.{Changed}
+use Rattle.tatp_model.specs.declared.request.Request.{Request}
+use Rattle.tatp_model.specs.declared.request.Request.TheVariants.{UpdateSubscriber, UpdateLocation, InsertCall, DeleteCall, GetSubscriber, GetDestination, GetAccess}
+use Rattle.tatp_model.specs.Database.{Database}
+use Rattle.tatp_model.specs.Request.{IsInRange}
+use Rattle.tatp_model.specs.Transaction.{after_request}
+use Rattle.tatp_layout.specs.StandsFor.{StandsFor}
+use Rattle.tatp_layout.proofs.Seen.{stands_bare}
+use Rattle.tatp_read.specs.Lookups.{AnswersRequest, reads_of}
+use Rattle.tatp_core.specs.Reads.{IsRead}
+use Rattle.tatp_core.specs.Serves.{Serves, ServesRequest, WritesIfChanged, most_reads, most_writes}
+
+-- words were written
+wrote_changed : {n : ℕ} {s t : WordsSight} → Wrote n s t → 0 < n → WritesIfChanged Changed t.writes
+wrote_changed {t = t} wrote some = ((λ same none. omega (arith, wrote_some wrote some, ap length none)), λ some. refl)
+
+-- none were
+wrote_nothing : {reply : Reply} {writes : List Write} → writes ≡ [] → reply ≢ Changed → WritesIfChanged reply writes
+wrote_nothing none other = ((λ same. absurd (other same)), λ some. absurd (some none))
+
+-- what is served whatever array may lie below, where no word was written before
+abbrev pub ServesSeen : {S : Type 0} → (S → WordsSight) → Sizes → Request → Reply → S → S → Type 0
+ServesSeen sight s request reply x y = IsInRange request → (array : List ℕ) → IsBelow (sight y) array → (db : Database) → StandsFor s (shown (sight x) array) db → Serves s db request reply (shown (sight y) array)
+
+module _ {S : Type 0} {sight : S → WordsSight} {turns_into : S → S → Type 0} (s : Sizes) where
+  stopped_for : {taken : Request} {e : Stop} {k l : ℕ} {x y : S} → (sight x).writes ≡ [] → WordsUsed sight turns_into k l (Some e) x y → k ≤ most_reads s taken → l ≤ most_writes taken → ServesRequest sight turns_into s taken (Err e) x y
+  stopped_for bare used reads writes =
+      let within = used_more used reads writes in
+      record { uses = within; few = few_pending within bare; wrote = tt; serves = tt }
+
+  -- From here on the request was taken apart.
+  module _ {request taken : Request} (is : request ≡ taken) where
+    -- a Stop that `?` hands on
+    pub serves_stopped : {e : Stop} {k l : ℕ} {x y : S} (r : Result Reply Stop) → IsErrAnd r (λ f. f ≡ e) → (sight x).writes ≡ [] → WordsUsed sight turns_into k l (Some e) x y → k ≤ most_reads s taken → l ≤ most_writes taken
+        → ServesRequest sight turns_into s request r x y
+    serves_stopped {x = x} {y = y} r handed bare used reads writes =
+        subst (λ q. ServesRequest sight turns_into s q r x y) (sym is) (subst (λ o. ServesRequest sight turns_into s taken o x y) (sym (is_err r handed)) (stopped_for bare used reads writes))
+
+    -- a reply that isn't Changed, with no word written
+    pub serves_unchanged : {k l : ℕ} {x y : S} (reply : Reply) → (sight x).writes ≡ [] → IsInRange request → WordsUsed sight turns_into k l None x y → k ≤ most_reads s taken → l ≤ most_writes taken
+        → Wrote 0 (sight x) (sight y) → reply ≢ Changed → ServesSeen sight s taken reply x y → ServesRequest sight turns_into s request (Ok reply) x y
+    serves_unchanged {x = x} {y = y} reply bare range used reads writes wrote other serves =
+        let within = used_more used reads writes in
+        subst (λ q. ServesRequest sight turns_into s q (Ok reply) x y) (sym is) (record {
+          uses = within;
+          few = few_pending within bare;
+          wrote = wrote_nothing (wrote_zero wrote ∙ bare) other;
+          serves = λ array below db stands. serves (subst IsInRange is range) array below db (stands_bare (sight x) bare stands);
+        })
+
+    -- Changed, with some words written
+    pub serves_changed : {k l n : ℕ} {x y : S} → (sight x).writes ≡ [] → IsInRange request → WordsUsed sight turns_into k l None x y → k ≤ most_reads s taken → l ≤ most_writes taken
+        → Wrote n (sight x) (sight y) → 0 < n → ServesSeen sight s taken Changed x y → ServesRequest sight turns_into s request (Ok Changed) x y
+    serves_changed {x = x} {y = y} bare range used reads writes wrote some serves =
+        let within = used_more used reads writes in
+        subst (λ q. ServesRequest sight turns_into s q (Ok Changed) x y) (sym is) (record {
+          uses = within;
+          few = few_pending within bare;
+          wrote = wrote_changed wrote some;
+          serves = λ array below db stands. serves (subst IsInRange is range) array below db (stands_bare (sight x) bare stands);
+        })
+
+-- ---- a request that only reads
+
+after_read : (limit : ℕ) (db : Database) (q : Request) → IsRead q → after_request limit db q ≡ db
+after_read limit db (GetSubscriber s_id) read = refl
+after_read limit db (GetDestination s_id sf_type start_time end_time) read = refl
+after_read limit db (GetAccess s_id ai_type) read = refl
+after_read limit db _ read = absurd read
+
+reads_within : (s : Sizes) (q : Request) → IsRead q → reads_of s q ≤ most_reads s q
+reads_within s (GetSubscriber s_id) read = omega arith
+reads_within s (GetDestination s_id sf_type start_time end_time) read = omega arith
+reads_within s (GetAccess s_id ai_type) read = omega arith
+reads_within s _ read = absurd read
+
+module _ {S : Type 0} {sight : S → WordsSight} {turns_into : S → S → Type 0} (s : Sizes) (q : Request) {x y : S} where
+  -- it changes nothing, and what it was answered, it serves
+  pub serves_read : (result : Result Reply Stop) → IsRead q → (sight x).writes ≡ [] → AnswersRequest sight turns_into s q result x y
+      → ServesRequest sight turns_into s q result x y
+  serves_read (Ok reply) read bare answers =
+      let none : (sight y).writes ≡ [] = unwritten answers.uses ∙ bare in
+      record {
+        uses = used_more answers.uses (reads_within s q read) zero-le;
+        few = omega (arith, ap length none);
+        wrote = wrote_nothing none answers.unchanged;
+        serves = λ array below db stands.
+            let same : shown (sight y) array ≡ array = ap (λ ws. overwritten ws array) none in
+            record {
+              replies = answers.reply array below db stands;
+              stands = subst (λ words. StandsFor s words (after_request s.calls db q)) (sym same) (subst (λ d. StandsFor s array d) (sym (after_read s.calls db q read)) stands);
+            };
+      }
+  serves_read (Err stop) read bare answers = record {
+    uses = used_more answers.uses (reads_within s q read) zero-le;
+    few = omega (arith, ap length (unwritten answers.uses ∙ bare));
+    wrote = tt;
+    serves = tt;
+  }
+
+-- no request writes more words than an insertion
+pub most_writes_few : (request : Request) → most_writes request ≤ 7
+most_writes_few (UpdateSubscriber s_id bit_1 sf_type data_a) = lit≤ tt
+most_writes_few (UpdateLocation sub_nbr vlr) = lit≤ tt
+most_writes_few (InsertCall sub_nbr sf_type start_time end_time numberx) = lit≤ tt
+most_writes_few (DeleteCall sub_nbr sf_type start_time) = lit≤ tt
+most_writes_few _ = lit≤ tt
