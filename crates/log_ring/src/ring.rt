@@ -13,7 +13,7 @@ use crate::logged::Logged;
 use crate::ring_fault::RingFault;
 use dude_base::bundle::Bundle;
 use dude_base::place::Place;
-use pmem_trait::Medium;
+use pmem_trait::{Failed, Medium};
 use redo_record::{cells_of, slot_after};
 use std::alloc::{AllocError, Global};
 use std::marker::Model;
@@ -119,9 +119,13 @@ impl Ring {
         if used + need > self.place.sizes().cells {
             return Err(RingFault::Full { used, need });
         }
-        append_record(m, &self.place, self.ring, self.next, b)?;
-        self.note(b);
-        Ok(())
+        match append_record(m, &self.place, self.ring, self.next, b) {
+            Ok(()) => {
+                self.note(b);
+                Ok(())
+            }
+            Err(Failed) => Err(RingFault::Device),
+        }
     }
 
     /// Appends a record behind the others: its body is made durable, and then its head's tag.

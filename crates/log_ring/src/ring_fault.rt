@@ -1,7 +1,5 @@
 //! Why a record is not appended to its ring.
 
-use pmem_trait::Failed;
-
 /// Why a record wasn't appended.
 #[derive(Clone, Copy, Debug, PartialEq, Eq)]
 pub enum RingFault {
@@ -9,15 +7,4 @@ pub enum RingFault {
     Full { used: u64, need: u64 },
     /// A call on the medium failed. The record isn't in the ring, but a crash may leave it.
     Device,
-}
-
-impl From<Failed> for RingFault {
-    ghost use Rattle.std.specs.Prelude.{◌≡◌};
-    ghost use Rattle.log_ring.specs.declared.ring_fault.RingFault.TheVariants.{Device};
-
-    ghost from_gives = { λ _ fault. fault ≡ Device };
-
-    fn from(_failed: Failed) -> Self {
-        RingFault::Device
-    }
 }
