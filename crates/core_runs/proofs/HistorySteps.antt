@@ -7,13 +7,13 @@ use Rattle.core_events.specs.Setups.{Setup}
 use Rattle.core_events.specs.Keyed.{find, has}
 use Rattle.core_events.specs.Views.{View}
 use Rattle.core_events.specs.Words.{State}
-use Rattle.core_events.specs.Events.{Event, store, touch, take_turn, see_full, empty_box, see_box, raise_durable, raise_reproduced, view_after}
+use Rattle.core_events.specs.Events.{Event, store, touch, take_turn, see_full, empty_box, raise_durable, raise_reproduced, view_after}
 use Rattle.core_events.specs.Conditions.{May}
 use Rattle.core_events.specs.KeptNumbers.{numbers_of}
 use Rattle.core_table.specs.Known.{Known}
 use Rattle.core_table.specs.Rules.{Foreseen}
 use Rattle.core_table.proofs.Foreseen.{box_full, clock_upto, durable_drawn, durable_raised, drawn_persisted}
-use Rattle.core_runs.specs.Views.{two, decided, posted, after_all}
+use Rattle.core_runs.specs.Views.{two, decided, posted, emptied, after_all}
 
 pub can_store : May two (store 3) decided
 can_store = record { live = refl; threaded = (0, refl); named = omega arith; can = (refl, (7, refl), (0, refl), (0, refl)) }
@@ -24,11 +24,8 @@ can_touch = record { live = refl; threaded = (0, refl); named = omega arith; can
 abbrev pub turn_taken : View
 turn_taken = after_all ((take_turn, 0) ∷ (see_full 0 0, 1) ∷ []) posted
 
-abbrev pub box_seen : View
-box_seen = after_all ((empty_box 0 0, 0) ∷ (see_box, 0) ∷ []) turn_taken
-
 abbrev pub durable_one : View
-durable_one = view_after two (raise_durable 1) box_seen 0
+durable_one = view_after two (raise_durable 1) emptied 0
 
 only_one : (l : List ℕ) → has l 1 ≡ true → (n : ℕ) → 0 < n → n ≤ 1 → has l n ≡ true
 only_one l h n pos le = let e : n ≡ 1 = omega arith in rw e h
@@ -37,9 +34,9 @@ module _ {S X : Type 0} (slot_fact : Setup → State → List X → List (Option
   pub empty_fits : k.view ≡ turn_taken → Foreseen slot_fact two (empty_box 0 0) id k
   empty_fits is s h at = box_full slot_fact two id k s h at 0 1 (ap (λ (v : View). v.turn.has_it) is) (ap (λ (v : View). find v.turn.full 0) is)
 
-  pub durable_fits : k.view ≡ box_seen → Foreseen slot_fact two (raise_durable 1) id k
+  pub durable_fits : k.view ≡ emptied → Foreseen slot_fact two (raise_durable 1) id k
   durable_fits is s h at =
-      let draws : k.view.draws ≡ box_seen.draws = ap (λ (v : View). v.draws) is in
+      let draws : k.view.draws ≡ emptied.draws = ap (λ (v : View). v.draws) is in
       let up = clock_upto slot_fact two id k s h at 1 (omega arith) in let drawn = durable_drawn slot_fact two id k s h at in
       let number_is : k.view.tx.hand.number ≡ 0 = ap (λ (v : View). v.tx.hand.number) is in
       let kept = drawn_persisted slot_fact two id k s h at 1 (ap (λ (v : View). has v.drawn 1) is) (λ e. absurd (omega arith)) refl (ap (λ (v : View). v.box.is_empty) is) in

@@ -52,9 +52,13 @@ decided = after_all ((look 0, 0) ∷ (take 0, 0) ∷ (draw (about 0 1 Sync Durab
 abbrev pub posted : View
 posted = after_all ((store 3, 0) ∷ (touch 0, 0) ∷ (release 0, 0) ∷ (unpin 0, 65_537) ∷ (post, 0) ∷ []) decided
 
--- number 1 has left its box, and is durable and reproduced
+-- it has taken the turn, and number 1 has left its box
+abbrev pub emptied : View
+emptied = after_all ((take_turn, 0) ∷ (see_full 0 0, 1) ∷ (empty_box 0 0, 0) ∷ (see_box, 0) ∷ []) posted
+
+-- number 1 is durable and reproduced
 abbrev pub settled : View
-settled = after_all ((take_turn, 0) ∷ (see_full 0 0, 1) ∷ (empty_box 0 0, 0) ∷ (see_box, 0) ∷ (raise_durable 1, 0) ∷ (raise_reproduced 1, 0) ∷ (give_turn false, 0) ∷ []) posted
+settled = after_all ((raise_durable 1, 0) ∷ (raise_reproduced 1, 0) ∷ (give_turn false, 0) ∷ []) emptied
 
 -- the second seat has joined it
 abbrev pub joined : View

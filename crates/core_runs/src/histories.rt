@@ -3,7 +3,7 @@
 ghost use Rattle.std.specs.Prelude.{◌≡◌, IfOk, OnOk};
 ghost use Rattle.core_runs.specs.Views.{two, one_write};
 
-use crate::history::{Small, begin, begin_again, own, publish, read, read_again, settle};
+use crate::history::{Small, begin, begin_again, empty, own, publish, read, read_again, settle};
 use crate::others::{drop_page, give_back};
 use crate::output::{print_no_command, print_numbers};
 use crate::trouble::{Trouble, expect};
@@ -44,7 +44,8 @@ fn whole(alloc: Global) -> Result<(), Trouble> {
     begin_again(&stm, &mut seat)?;
     own(&stm, &mut seat, &writes)?;
     publish(&stm, &mut seat)?;
-    settle(&stm, &mut seat)?;
+    empty(&stm, &mut seat)?;
+    settle(&stm, &mut seat);
     stm.join(&mut seat, other);
     read_again(&stm, &mut seat)?;
     Ok(())

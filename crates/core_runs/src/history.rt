@@ -2,7 +2,7 @@
 
 ghost use Rattle.std.specs.Prelude.{◌≡◌, [], OnOk};
 ghost use Rattle.core_table.specs.Steps.{BelongsTo};
-ghost use Rattle.core_runs.specs.Views.{two, one_write, entered, looked, read_out, ready, decided, posted, settled, joined, read_back};
+ghost use Rattle.core_runs.specs.Views.{two, one_write, entered, looked, read_out, ready, decided, posted, emptied, settled, joined, read_back};
 
 use crate::trouble::{Trouble, expect};
 use core_table::event_table::Seat;
@@ -90,22 +90,31 @@ pub fn publish(stm: &Small, seat: &mut Seat<(), ()>) -> Result<(), Trouble>
     Ok(())
 }
 
-/// The thread takes the turn, empties its box and raises both numbers.
-pub fn settle(stm: &Small, seat: &mut Seat<(), ()>) -> Result<(), Trouble>
+/// The thread takes the turn and empties its box.
+pub fn empty(stm: &Small, seat: &mut Seat<(), ()>) -> Result<(), Trouble>
     requires setup { stm.now.events.setup ≡ two }
     requires seat { BelongsTo stm.now.events seat.old }
     requires view { seat.old.me.0.view ≡ posted }
     ensures seat { OnOk result (BelongsTo stm.now.events seat.new) }
-    ensures view { OnOk result (seat.new.me.0.view ≡ settled) }
+    ensures view { OnOk result (seat.new.me.0.view ≡ emptied) }
 {
     expect(stm.take_turn(seat, 0), 0)?;
     expect(stm.see_full(seat, 0, 0), 1)?;
     stm.empty_box(seat, 0, 0);
-    expect(stm.see_box(seat, 0, 0), 0)?;
+    expect(stm.see_box(seat, 0, 0), 0)
+}
+
+/// It raises both numbers and gives the turn back.
+pub fn settle(stm: &Small, seat: &mut Seat<(), ()>)
+    requires setup { stm.now.events.setup ≡ two }
+    requires seat { BelongsTo stm.now.events seat.old }
+    requires view { seat.old.me.0.view ≡ emptied }
+    ensures seat { BelongsTo stm.now.events seat.new }
+    ensures view { seat.new.me.0.view ≡ settled }
+{
     stm.raise_durable(seat, 1);
     stm.raise_reproduced(seat, 1);
     stm.give_turn(seat, false);
-    Ok(())
 }
 
 /// A later transaction finds the value.

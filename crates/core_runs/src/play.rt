@@ -47,13 +47,16 @@ impl Play {
         }
     }
 
-    /// Takes the sizes of a database and its first word, and prints how many pages it has.
+    /// Takes the sizes of a database, its first word, and how many rings its image has (as many as there may be, where they aren't
+    /// named), and prints how many pages it has.
     fn set_database(&mut self, rt: &HostRuntime, numbers: &[u64]) -> io::Result<()> {
-        let [subscribers, calls, first_word] = numbers else {
-            return print_no_command(rt);
+        let (sizes, first_word) = match numbers {
+            [subscribers, calls, word] => (sizes_of(*subscribers, *calls, MAX_RINGS), *word),
+            [subscribers, calls, word, rings] => (sizes_of(*subscribers, *calls, *rings), *word),
+            _ => return print_no_command(rt),
         };
-        self.first_word = *first_word;
-        self.sizes = sizes_of(*subscribers, *calls);
+        self.sizes = sizes;
+        self.first_word = first_word;
         match self.sizes {
             Some(sizes) => print_numbers(rt, "pages", &[sizes.pages]),
             None => rt.println("pages none"),
@@ -102,9 +105,9 @@ impl Play {
     }
 }
 
-/// The sizes of a database with as many rings as there may be threads, if there are such.
-fn sizes_of(subscribers: u64, calls: u64) -> Option<Sizes> {
-    Sizes::of(subscribers, calls, MAX_RINGS, 16).ok()
+/// The sizes of a database whose image has so many rings, if there are such.
+fn sizes_of(subscribers: u64, calls: u64, rings: u64) -> Option<Sizes> {
+    Sizes::of(subscribers, calls, rings, 16).ok()
 }
 
 fn print_set_up(rt: &HostRuntime, is_set_up: bool) -> io::Result<()> {
