@@ -1,4 +1,4 @@
--- What a command comes to before its output, from the beginning of its image and its run.
+-- What a command comes to before its output, from the opening of its image and its run.
 use Rattle.std.proofs.Common.{◌≡◌, ◌⊎◌, ℕ, ◌≤◌, Bool, true, false, IsTrue, List, [], refl, sym, subst, inl, inr, arith, Option, Some, None}
 use Rattle.std.specs.List.{All}
 use Rattle.std.proofs.lemmas.List.Elements.{All-nil}
@@ -19,7 +19,7 @@ use Rattle.dude_engine.specs.Opening.{Opening}
 use Rattle.dude_engine.specs.Plain.{IsWhole}
 use Rattle.command_edges.specs.declared.fault.Fault.{Fault}
 use Rattle.command_edges.specs.declared.fault.Fault.TheVariants.{Device, Memory}
-use Rattle.command_openings.specs.Begun.{Begins}
+use Rattle.command_openings.specs.Opens.{Opens}
 use Rattle.command_openings.specs.Openings.{IsOpeningOn, new_opening}
 use Rattle.command_openings.proofs.OneOpening.{one_opening}
 use Rattle.dude_program.specs.Opening.{RequestsAre, Starts, makes_image, runs_requests}
@@ -28,32 +28,32 @@ use Rattle.dude_program.specs.Causes.{RanUnlessDevice, RefusesFormat, RefusesOpe
 use Rattle.dude_program.specs.Work.{RanOver}
 use Rattle.dude_program.proofs.FilesRead.{FilesRead}
 use Rattle.dude_program.proofs.Contents.{fits_not_refused, makes_none}
-use Rattle.dude_program.proofs.Crashes.{begins_front, crash_front, crash_run, end_begun, end_run, last_from, last_over, reachable, sync_none, sync_run}
+use Rattle.dude_program.proofs.Crashes.{opens_prefix, crash_prefix, crash_run, end_opened, end_run, last_from, last_over, reachable, sync_none, sync_run}
 use Rattle.dude_program.proofs.Endings.{Came, CameBy, Finished}
 use Rattle.dude_program.proofs.Stops.{IsMaker, IsOpener}
 
--- The image of the command is begun at this opening.
-pub record ImageBegun (meaning : Meaning) (opening : Opening) (words : List ℕ) (s m : Sight) : Type 0 where
+-- The image of the command is opened at this opening.
+pub record ImageOpens (meaning : Meaning) (opening : Opening) (words : List ℕ) (s m : Sight) : Type 0 where
   pub starts : Starts meaning s opening
-  pub begins : Begins (makes_image meaning) opening words s m
+  pub is_open : Opens (makes_image meaning) opening words s m
   pub only : IsTrue s.is_visible → (other : Opening) → Starts meaning s other → other ≡ opening
   pub on : makes_image meaning ≡ false → IsOpeningOn s opening
   pub fits : (why : Fault) → RefusesFormat meaning s.len why → ⊥
 
-pub begun_new : {meaning : Meaning} {sizes : Sizes} {words : List ℕ} {s m : Sight} → IsMaker meaning sizes s → FitsImage sizes s.len → Begins true (new_opening sizes) words s m
-    → ImageBegun meaning (new_opening sizes) words s m
-begun_new {meaning} {sizes} {words} {s} {m} maker fits begins = record {
+pub opened_new : {meaning : Meaning} {sizes : Sizes} {words : List ℕ} {s m : Sight} → IsMaker meaning sizes s → FitsImage sizes s.len → Opens true (new_opening sizes) words s m
+    → ImageOpens meaning (new_opening sizes) words s m
+opened_new {meaning} {sizes} {words} {s} {m} maker fits is_open = record {
   starts = maker.starts;
-  begins = subst (λ (b : Bool). Begins b (new_opening sizes) words s m) (sym maker.makes) begins;
+  is_open = subst (λ (b : Bool). Opens b (new_opening sizes) words s m) (sym maker.makes) is_open;
   only = λ visible other starts. maker.only other starts;
   on = λ opens. absurd (let e = maker.makes in let no : ⊥ = cc in no);
   fits = λ why refuses. fits_not_refused meaning sizes s.len why maker.sized fits refuses;
 }
 
-pub begun_old : {meaning : Meaning} {opening : Opening} {words : List ℕ} {s m : Sight} → IsOpener meaning s → IsOpeningOn s opening → Begins false opening words s m → ImageBegun meaning opening words s m
-begun_old {meaning} {opening} {words} {s} {m} opener on begins = record {
+pub opened_old : {meaning : Meaning} {opening : Opening} {words : List ℕ} {s m : Sight} → IsOpener meaning s → IsOpeningOn s opening → Opens false opening words s m → ImageOpens meaning opening words s m
+opened_old {meaning} {opening} {words} {s} {m} opener on is_open = record {
   starts = opener.starts opening on;
-  begins = subst (λ (b : Bool). Begins b opening words s m) (sym opener.opens) begins;
+  is_open = subst (λ (b : Bool). Opens b opening words s m) (sym opener.opens) is_open;
   only = λ visible other starts. one_opening s other opening visible (opener.on other starts) on;
   on = λ opens. on;
   fits = λ why refuses. makes_none meaning s.len why opener.sized refuses;
@@ -71,23 +71,23 @@ replies_none meaning f opening are = record {
   syncs_from = All-nil (λ d. IsTrue (is_sync d.request) → opening.number ≤ d.number);
 }
 
-module _ {meaning : Meaning} {f g : FilesSight} {opening : Opening} {words : List ℕ} {s m : Sight} (files : FilesRead meaning f g) (begun : ImageBegun meaning opening words s m) where
-  begun_well : {fault : Option Fault} → (fault ≡ Some Device → ⊥) → RanUnlessDevice fault s m
-  begun_well other = (true, begun.begins.ran, (λ failed. absurd (let no : ⊥ = cc in no), λ is. absurd (other is)))
+module _ {meaning : Meaning} {f g : FilesSight} {opening : Opening} {words : List ℕ} {s m : Sight} (files : FilesRead meaning f g) (opened_image : ImageOpens meaning opening words s m) where
+  opened_well : {fault : Option Fault} → (fault ≡ Some Device → ⊥) → RanUnlessDevice fault s m
+  opened_well other = (true, opened_image.is_open.ran, (λ failed. absurd (let no : ⊥ = cc in no), λ is. absurd (other is)))
 
   -- nothing is done, for this fault or none
   came_none : (last : ℕ) (fault : Option Fault) → (fault ≡ Some Device → ⊥) → CameBy meaning f opening [] last s m fault → Came meaning f g opening [] last fault s m
   came_none last fault other by = record {
     files = files;
-    starts = begun.starts;
-    lawful = begun.begins.lawful;
-    only = begun.only;
-    on = begun.on;
-    fits = begun.fits;
+    starts = opened_image.starts;
+    lawful = opened_image.is_open.lawful;
+    only = opened_image.only;
+    on = opened_image.on;
+    fits = opened_image.fits;
     replies = inl refl;
-    crash = crash_front meaning opening s m (begins_front (makes_image meaning) opening words s m begun.begins);
+    crash = crash_prefix meaning opening s m (opens_prefix (makes_image meaning) opening words s m opened_image.is_open);
     sync = sync_none s m;
-    ran = begun_well other;
+    ran = opened_well other;
     nothing = λ opens told why refuses. refl;
     cause = by;
   }
@@ -102,7 +102,7 @@ module _ {meaning : Meaning} {f g : FilesSight} {opening : Opening} {words : Lis
     none_over = All-nil (λ d. d.number ≤ opening.number);
     from = omega arith;
     reachable = reachable meaning opening [] opening.number (omega arith);
-    end = λ visible. end_begun (makes_image meaning) opening words s m begun.begins visible;
+    end = λ visible. end_opened (makes_image meaning) opening words s m opened_image.is_open visible;
   })
 
   -- a command whose opened image is refused, or for whose requests there was no memory
@@ -110,7 +110,7 @@ module _ {meaning : Meaning} {f g : FilesSight} {opening : Opening} {words : Lis
   came_refused last why other by = came_none last (Some why) other by
 
   ran_behind : {fault : Option Fault} {t : Sight} → RanUnlessDevice fault m t → RanUnlessDevice fault s t
-  ran_behind ran = (ran.0, ran_then begun.begins.ran ran.1, ran.2)
+  ran_behind ran = (ran.0, ran_then opened_image.is_open.ran ran.1, ran.2)
 
   -- a command whose requests were run
   module _ {requests : List (List Request)} {done : List Done} {last : ℕ} {t : Sight} (runs : runs_requests meaning ≡ true) (are : RequestsAre meaning f opening requests)
@@ -121,14 +121,14 @@ module _ {meaning : Meaning} {f g : FilesSight} {opening : Opening} {words : Lis
     came_by : (fault : Option Fault) → RanOver opening words requests done last fault m t → CameBy meaning f opening done last s t fault → Came meaning f g opening done last fault s t
     came_by fault run by = record {
       files = files;
-      starts = begun.starts;
-      lawful = begun.begins.lawful;
-      only = begun.only;
-      on = begun.on;
-      fits = begun.fits;
+      starts = opened_image.starts;
+      lawful = opened_image.is_open.lawful;
+      only = opened_image.only;
+      on = opened_image.on;
+      fits = opened_image.fits;
       replies = inr (replies_run run);
-      crash = crash_run meaning opening words requests done s m t run.ran.0 runs begun.begins run.replies run.moments run.ran.1;
-      sync = sync_run (makes_image meaning) opening words done s m t begun.begins run.syncs_follow run.syncs_told;
+      crash = crash_run meaning opening words requests done s m t run.ran.0 runs opened_image.is_open run.replies run.moments run.ran.1;
+      sync = sync_run (makes_image meaning) opening words done s m t opened_image.is_open run.syncs_follow run.syncs_told;
       ran = ran_behind run.ran;
       nothing = λ opens told why refuses. absurd (passes opens told why refuses);
       cause = by;
@@ -144,8 +144,8 @@ module _ {meaning : Meaning} {f g : FilesSight} {opening : Opening} {words : Lis
           none_over = subst (λ (n : ℕ). All (λ d. d.number ≤ n) done) (sym whole.last_is) (last_over opening.number done);
           from = let up = last_from opening.number done in omega (arith, up, whole.last_is);
           reachable = reachable meaning opening done last (omega (arith, whole.last_is));
-          end = λ visible. end_run (makes_image meaning) opening words done last s m t begun.begins visible
-              (whole.end _ begun.begins.holds (subst (λ b. IsTrue b) (sym (made_later begun.begins.ran.1).is_visible) visible));
+          end = λ visible. end_run (makes_image meaning) opening words done last s m t opened_image.is_open visible
+              (whole.end _ opened_image.is_open.holds (subst (λ b. IsTrue b) (sym (made_later opened_image.is_open.ran.1).is_visible) visible));
         }
 
     pub came_ran : (fault : Option Fault) → RanOver opening words requests done last fault m t → Came meaning f g opening done last fault s t
@@ -160,5 +160,5 @@ module _ {meaning : Meaning} {f g : FilesSight} {opening : Opening} {words : Lis
         by : (fault ≡ None) ⊎ (fault ≡ Some Device) ⊎ (fault ≡ Some Memory) → Came meaning f g opening done last fault s t
         by (inl e) = subst Q (sym e) (came_by None (subst P e run) (finished (subst P e run)))
         by (inr (inl e)) = subst Q (sym e) (came_by (Some Device) (subst P e run)
-            (risen_later s.faults m.faults t.faults t.faults (made_later begun.begins.ran.1).faults (run.cause e) (omega arith)))
+            (risen_later s.faults m.faults t.faults t.faults (made_later opened_image.is_open.ran.1).faults (run.cause e) (omega arith)))
         by (inr (inr e)) = subst Q (sym e) (came_by (Some Memory) (subst P e run) tt)

@@ -1,4 +1,4 @@
--- What every image recovers to along a command, from its beginning and its run.
+-- What every image recovers to along a command, from its opening and its run.
 use Rattle.std.proofs.Common.{◌≡◌, ℕ, ◌<◌, ◌≤◌, max, Bool, true, false, cond, not, ◌&&◌, IsTrue, List, [], ◌∷◌, ◌++◌, length, drop, map, refl, sym, ◌∙◌, ap, subst, arith, inl, inr, append_assoc}
 use Rattle.std.specs.Prelude.{nat_le}
 use Rattle.std.specs.List.{All, filter}
@@ -22,7 +22,7 @@ use Rattle.command_words.specs.Command.{Meaning, Meaning.FreshRun, Meaning.Forma
 use Rattle.dude_engine.specs.Endings.{AreSyncsTold, End, WasToldLast}
 use Rattle.dude_engine.specs.Opening.{Opening, RecoversAt, RecoversFrom, last_of}
 use Rattle.dude_engine.specs.Plain.{RecoversOnTheRun}
-use Rattle.command_openings.specs.Begun.{Begins, IsBeginning, ShowsOpening, TellsAtMost}
+use Rattle.command_openings.specs.Opens.{Opens, OpensPartly, ShowsOpening, TellsAtMost}
 use Rattle.dude_program.specs.Opening.{IsReachable, makes_image, runs_requests}
 use Rattle.dude_program.specs.Headline.{Crash, RecoversSince, Sync, WasToldFirst}
 use Rattle.dude_program.specs.Causes.{IsLeftOpened}
@@ -111,34 +111,34 @@ told_first opening s t (inl same) = inl (ap (drop (length (state_now s).told)) s
 told_first opening s t (inr is) = inr ([], ap (drop (length (state_now s).told)) is ∙ drop-append_seam (state_now s).told (opening.number ∷ []))
 
 -- where nothing is done
-pub crash_front : (meaning : Meaning) (opening : Opening) (s t : Sight) → IsBeginning (makes_image meaning) opening s t → Crash meaning opening [] s t
-crash_front meaning opening s t front = record {
+pub crash_prefix : (meaning : Meaning) (opening : Opening) (s t : Sight) → OpensPartly (makes_image meaning) opening s t → Crash meaning opening [] s t
+crash_prefix meaning opening s t prefix = record {
   order = [];
   printed = printed_none;
-  keeps = every_moment_weaker (λ told image size shown. shows_since meaning (length (state_now s).told) opening [] told image refl shown) front.moments;
-  first_told = λ visible. told_first opening s t (front.told visible);
-  told_alone = λ alone visible. front.told visible;
+  keeps = every_moment_weaker (λ told image size shown. shows_since meaning (length (state_now s).told) opening [] told image refl shown) prefix.moments;
+  first_told = λ visible. told_first opening s t (prefix.told visible);
+  told_alone = λ alone visible. prefix.told visible;
 }
 
-pub begins_front : (makes : Bool) (opening : Opening) (words : List ℕ) (s t : Sight) → Begins makes opening words s t → IsBeginning makes opening s t
-begins_front makes opening words s t begins = record { moments = begins.moments; told = λ visible. inr (begins.told visible) }
+pub opens_prefix : (makes : Bool) (opening : Opening) (words : List ℕ) (s t : Sight) → Opens makes opening words s t → OpensPartly makes opening s t
+opens_prefix makes opening words s t is_open = record { moments = is_open.moments; told = λ visible. inr (is_open.told visible) }
 
 -- where requests were run
-pub crash_run : (meaning : Meaning) (opening : Opening) (words : List ℕ) (requests : List (List Request)) (done : List Done) (s m t : Sight) (ok : Bool) → runs_requests meaning ≡ true → Begins (makes_image meaning) opening words s m
+pub crash_run : (meaning : Meaning) (opening : Opening) (words : List ℕ) (requests : List (List Request)) (done : List Done) (s m t : Sight) (ok : Bool) → runs_requests meaning ≡ true → Opens (makes_image meaning) opening words s m
     → RepliesOfOneThread opening.number opening.sizes.calls opening.database requests done → RecoversOnTheRun opening words done m t → SomeCalls ok m t → Crash meaning opening done s t
-crash_run meaning opening words requests done s m t ok runs begins replies moments calls =
-    let run = moments (length (state_now s).told) begins.holds in
+crash_run meaning opening words requests done s m t ok runs is_open replies moments calls =
+    let run = moments (length (state_now s).told) is_open.holds in
     let start = none_at_opening opening.sizes.calls opening.number opening.database done run.0 run.1 replies.over in
     record {
       order = run.0;
       printed = run.1;
-      keeps = every_moment_then (every_moment_weaker (λ told image size shown. shows_since meaning (length (state_now s).told) opening run.0 told image start shown) begins.moments)
+      keeps = every_moment_then (every_moment_weaker (λ told image size shown. shows_since meaning (length (state_now s).told) opening run.0 told image start shown) is_open.moments)
           (every_moment_weaker (λ told image size shown. from_since meaning (length (state_now s).told) opening run.0 told image shown) run.2);
       first_told = λ visible.
-          let more = calls_told calls.1 (subst (λ b. IsTrue b) (sym (made_later begins.ran.1).is_visible) visible) in
+          let more = calls_told calls.1 (subst (λ b. IsTrue b) (sym (made_later is_open.ran.1).is_visible) visible) in
           inr (
             more.more,
-            ap (drop (length (state_now s).told)) (more.is ∙ (ap (λ (l : List ℕ). l ++ more.more) (begins.told visible) ∙ append_assoc (state_now s).told (opening.number ∷ []) more.more))
+            ap (drop (length (state_now s).told)) (more.is ∙ (ap (λ (l : List ℕ). l ++ more.more) (is_open.told visible) ∙ append_assoc (state_now s).told (opening.number ∷ []) more.more))
                 ∙ drop-append_seam (state_now s).told (opening.number ∷ more.more),
           );
       told_alone = λ alone visible. absurd (let no : ⊥ = cc in no);
@@ -172,48 +172,48 @@ told_later n s m t long told = (told.0, told.1, omega (arith, long, told.2))
 told_longer : (opening : Opening) (s m : Sight) → (state_now m).told ≡ (state_now s).told ++ opening.number ∷ [] → length (state_now s).told ≤ length (state_now m).told
 told_longer opening s m is = let long = ap length is ∙ length-append (state_now s).told (opening.number ∷ []) in omega (arith, long)
 
-pub sync_run : (makes : Bool) (opening : Opening) (words : List ℕ) (done : List Done) (s m t : Sight) → Begins makes opening words s m → SyncsFollow done
+pub sync_run : (makes : Bool) (opening : Opening) (words : List ℕ) (done : List Done) (s m t : Sight) → Opens makes opening words s m → SyncsFollow done
     → (IsTrue m.is_visible → AreSyncsTold done m t) → Sync done s t
-sync_run makes opening words done s m t begins follow told = record {
+sync_run makes opening words done s m t is_open follow told = record {
   over_earlier = follow;
   told = λ visible k d below sync.
-      let one = told (subst (λ b. IsTrue b) (sym (made_later begins.ran.1).is_visible) visible) k d below sync in
-      (one.0, told_later one.0 s m t (told_longer opening s m (begins.told visible)) one.1, one.2);
+      let one = told (subst (λ b. IsTrue b) (sym (made_later is_open.ran.1).is_visible) visible) k d below sync in
+      (one.0, told_later one.0 s m t (told_longer opening s m (is_open.told visible)) one.1, one.2);
 }
 
-pub end_run : (makes : Bool) (opening : Opening) (words : List ℕ) (done : List Done) (last : ℕ) (s m t : Sight) → Begins makes opening words s m → IsTrue s.is_visible → End opening done last m t → End opening done last s t
-end_run makes opening words done last s m t begins visible end = record {
-  told = told_later last s m t (told_longer opening s m (begins.told visible)) end.told;
+pub end_run : (makes : Bool) (opening : Opening) (words : List ℕ) (done : List Done) (last : ℕ) (s m t : Sight) → Opens makes opening words s m → IsTrue s.is_visible → End opening done last m t → End opening done last s t
+end_run makes opening words done last s m t is_open visible end = record {
+  told = told_later last s m t (told_longer opening s m (is_open.told visible)) end.told;
   order = end.order;
   printed = end.printed;
   images = end.images;
 }
 
 -- every image recovers to the opening
-images_begun : (makes : Bool) (opening : Opening) (words : List ℕ) (s t : Sight) → Begins makes opening words s t → IsTrue s.is_visible
+images_opened : (makes : Bool) (opening : Opening) (words : List ℕ) (s t : Sight) → Opens makes opening words s t → IsTrue s.is_visible
     → EveryImage t.len (λ told image. RecoversTo image opening.number opening.sizes opening.database) (state_now t)
-images_begun makes opening words s t begins visible =
+images_opened makes opening words s t is_open visible =
     let P : ℕ → Type 0 = λ len. EveryImage len (λ told image. RecoversTo image opening.number opening.sizes opening.database) (state_now t) in
-    subst P (sym begins.moments.later.len) (record {
-      each = λ image is. shown image ((begins.moments.each visible t.now begins.moments.later.now (omega arith)).each image is);
+    subst P (sym is_open.moments.later.len) (record {
+      each = λ image is. shown image ((is_open.moments.each visible t.now is_open.moments.later.now (omega arith)).each image is);
     })
   where
     shown : (image : List ℕ) → ShowsOpening makes (length (state_now s).told) opening (state_now t).told image → RecoversTo image opening.number opening.sizes opening.database
     shown image (inl none) =
-        let more : drop (length (state_now s).told) (state_now t).told ≡ opening.number ∷ [] = ap (drop (length (state_now s).told)) (begins.told visible) ∙ drop-append_seam (state_now s).told (opening.number ∷ []) in
+        let more : drop (length (state_now s).told) (state_now t).told ≡ opening.number ∷ [] = ap (drop (length (state_now s).told)) (is_open.told visible) ∙ drop-append_seam (state_now s).told (opening.number ∷ []) in
         let e = none.1 in
         absurd (let no : ⊥ = cc in no)
     shown image (inr is) = is.1
 
 -- the opening number was told last, and every image recovers to it
-pub end_begun : (makes : Bool) (opening : Opening) (words : List ℕ) (s t : Sight) → Begins makes opening words s t → IsTrue s.is_visible → End opening [] opening.number s t
-end_begun makes opening words s t begins visible = record {
-  told = ((state_now s).told, begins.told visible, omega arith);
+pub end_opened : (makes : Bool) (opening : Opening) (words : List ℕ) (s t : Sight) → Opens makes opening words s t → IsTrue s.is_visible → End opening [] opening.number s t
+end_opened makes opening words s t is_open visible = record {
+  told = ((state_now s).told, is_open.told visible, omega arith);
   order = [];
   printed = printed_none;
-  images = images_begun makes opening words s t begins visible;
+  images = images_opened makes opening words s t is_open visible;
 }
 
--- so an image that is refused behind its beginning is left opened
-pub left_opened : (makes : Bool) (opening : Opening) (words : List ℕ) (s t : Sight) → Begins makes opening words s t → IsTrue s.is_visible → IsLeftOpened opening s t
-left_opened makes opening words s t begins visible = record { told = begins.told visible; images = images_begun makes opening words s t begins visible }
+-- so an image that is refused behind its opening is left opened
+pub left_opened : (makes : Bool) (opening : Opening) (words : List ℕ) (s t : Sight) → Opens makes opening words s t → IsTrue s.is_visible → IsLeftOpened opening s t
+left_opened makes opening words s t is_open visible = record { told = is_open.told visible; images = images_opened makes opening words s t is_open visible }

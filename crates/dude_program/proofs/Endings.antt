@@ -44,7 +44,7 @@ CameBy meaning f opening done last s t (Some Device) = Risen s.faults t.faults
 CameBy meaning f opening done last s t (Some Memory) = ⊤
 CameBy meaning f opening done last s t (Some why) = (makes_image meaning ≡ false) × (done ≡ []) × RefusesOpening meaning f opening why × (IsTrue s.is_visible → IsLeftOpened opening s t)
 
--- What a command came to before its output: its files were read, and its image was begun at this opening.
+-- What a command came to before its output: its files were read, and its image was opened at this opening.
 pub record Came (meaning : Meaning) (f g : FilesSight) (opening : Opening) (done : List Done) (last : ℕ) (fault : Option Fault) (s t : Sight) : Type 0 where
   pub files : FilesRead meaning f g
   pub starts : Starts meaning s opening
@@ -73,9 +73,9 @@ ran_well ran other = (ran.0, ran.1, (λ failed. absurd (let e = ran.2.0 failed i
 -- the prefix of the output that was taken
 took_prefix : {text : List ℕ} {k l : SinkSight} {fault : Fault} → StopsIn text k l fault → TookPrefix k l text
 took_prefix {text} {k} stops visible = (
-  length stops.front,
-  omega (arith, stops.some, ap length stops.split, length-append stops.front stops.rest),
-  stops.took.taken visible ∙ ap (λ (x : List ℕ). k.taken ++ x) (sym (ap (take (length stops.front)) stops.split ∙ take-append_seam stops.front stops.rest)),
+  length stops.prefix,
+  omega (arith, stops.some, ap length stops.split, length-append stops.prefix stops.rest),
+  stops.took.taken visible ∙ ap (λ (x : List ℕ). k.taken ++ x) (sym (ap (take (length stops.prefix)) stops.split ∙ take-append_seam stops.prefix stops.rest)),
 )
 
 module _ {meaning : Meaning} {f g : FilesSight} {opening : Opening} {done : List Done} {last : ℕ} {earlier : Option Fault} {s t : Sight} (came : Came meaning f g opening done last earlier s t) where

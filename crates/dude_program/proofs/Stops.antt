@@ -1,4 +1,4 @@
--- How a command ends that stops before its image is begun.
+-- How a command ends that stops before its image is opened.
 use Rattle.std.proofs.Common.{◌≡◌, ◌⊎◌, Bool, true, false, IsTrue, List, [], length, map, refl, sym, ap, subst, inl, inr, Option, Some, None}
 use Rattle.std.specs.List.{All}
 use Rattle.std.proofs.Math.Seq.{drop-length}
@@ -21,18 +21,18 @@ use Rattle.command_edges.specs.Files as read
 use Rattle.dude_engine.specs.Opening.{Opening}
 use Rattle.command_edges.specs.declared.fault.Fault.{Fault}
 use Rattle.command_edges.specs.declared.fault.Fault.TheVariants.{Usage, File, Text, Small, TooFew, Unformatted, Damaged, NotDb, ManyFiles, Frames, FewSubscribers, Numbers, Device, Output, Memory}
-use Rattle.command_openings.specs.Begun.{IsBeginning, ShowsOpening}
+use Rattle.command_openings.specs.Opens.{OpensPartly, ShowsOpening}
 use Rattle.command_openings.specs.Faults.{HasFormatFault, HasOpenFault}
 use Rattle.command_openings.specs.Openings.{IsOpeningOn, new_opening}
-use Rattle.command_openings.proofs.Beginnings.{beginning_opened}
+use Rattle.command_openings.proofs.ImageOpened.{partly_opened}
 use Rattle.dude_program.specs.World.{world_of}
 use Rattle.dude_program.specs.Opening.{Starts, file_names, makes_image}
 use Rattle.dude_program.specs.Headline.{Headline, Printed}
-use Rattle.dude_program.specs.Causes.{HasCause, RanUnlessDevice, RefusesContent, RefusesFormat, RefusesInOrder, StoppedAtFiles, StoppedByOpening, Untouched, sizes_made}
+use Rattle.dude_program.specs.Causes.{HasCause, RanUnlessDevice, RefusesContent, RefusesFormat, RefusesInOrder, StoppedAtFiles, StoppedByOpening, StoppedReading, Untouched, sizes_made}
 use Rattle.dude_program.specs.Ending.{Ends}
 use Rattle.dude_program.proofs.FilesRead.{FilesRead, good_none_bad, one_bad, read_bad, read_good, read_missing}
 use Rattle.dude_program.proofs.Contents.{fits_not_refused, makes_none, one_content_fault, one_format_fault, opens_not_refused}
-use Rattle.dude_program.proofs.Crashes.{crash_front, sync_none}
+use Rattle.dude_program.proofs.Crashes.{crash_prefix, sync_none}
 use Rattle.dude_program.proofs.Endings.{sink_same}
 
 -- the calls behind which a fault isn't the medium's
@@ -49,12 +49,12 @@ reads_ran : {fault : Option Fault} {s t : Sight} → OnlyReads true s t → (fau
 reads_ran reads other = calls_well (map Read reads.words, reads.made) other
 
 -- the headline where nothing is done
-headline_none : (meaning : Meaning) {s t : Sight} {f g : FilesSight} {k : SinkSight} (fault : Fault) → ((opening : Opening) → Starts meaning s opening → IsBeginning (makes_image meaning) opening s t)
+headline_none : (meaning : Meaning) {s t : Sight} {f g : FilesSight} {k : SinkSight} (fault : Fault) → ((opening : Opening) → Starts meaning s opening → OpensPartly (makes_image meaning) opening s t)
     → Printed meaning (world_of s f k) (world_of t g k) [] (Some fault) → (((opening : Opening) → Starts meaning s opening → ⊥) → (ok : Bool) × OnlyReads ok s t)
     → Headline meaning (world_of s f k) (world_of t g k) [] (Some fault)
-headline_none meaning {s} {t} fault front printed reads = record {
+headline_none meaning {s} {t} fault prefix printed reads = record {
   replies = inl refl;
-  crash = λ opening starts. crash_front meaning opening s t (front opening starts);
+  crash = λ opening starts. crash_prefix meaning opening s t (prefix opening starts);
   sync = sync_none s t;
   printed = printed;
   only_read = reads;
@@ -63,20 +63,25 @@ headline_none meaning {s} {t} fault front printed reads = record {
 -- ---- at the files
 
 -- on a medium at rest
-module _ (meaning : Meaning) {s : Sight} {f g : FilesSight} {k : SinkSight} (front : (opening : Opening) → Starts meaning s opening → IsBeginning (makes_image meaning) opening s s) (stays : FilesStay f g) where
+module _ (meaning : Meaning) {s : Sight} {f g : FilesSight} {k : SinkSight} (prefix : (opening : Opening) → Starts meaning s opening → OpensPartly (makes_image meaning) opening s s) (stays : FilesStay f g) where
+  -- reading stopped for this fault
+  order_unread : (fault : Fault) → StoppedReading (Some fault) → StoppedAtFiles (Some fault) → StoppedByOpening (Some fault)
+      → RefusesInOrder meaning (world_of s f k) (Some fault)
+  order_unread fault unread at_files by_opening = record {
+    missing = λ visible misses. unread;
+    bad = λ visible number row field bad. inr unread;
+    format = λ why refuses. inr at_files;
+    content = λ opens visible why refuses. inr by_opening;
+    opening = λ opens visible told opening starts why refuses. inr by_opening;
+  }
+
   pub ends_at_files : (fault : Fault) → HasFileFault (file_names meaning) f g fault → (IsTrue f.is_visible → MissesFile (file_names meaning) f → read.StoppedReading fault)
       → Ends meaning (world_of s f k) (world_of s g k) [] (Some fault)
   ends_at_files (File n) has missing = record {
-    headline = headline_none meaning (File n) front refl (λ none. (true, reads_here s));
+    headline = headline_none meaning (File n) prefix refl (λ none. (true, reads_here s));
     causes = record {
       cause = has;
-      order = record {
-        missing = λ visible misses. tt;
-        bad = λ visible number row field bad. inr tt;
-        format = λ why refuses. inr tt;
-        content = λ opens visible why refuses. inr tt;
-        opening = λ opens visible told opening starts why refuses. inr tt;
-      };
+      order = order_unread (File n) tt tt tt;
       complete = λ good medium files output. absurd (files has.1);
       untouched = (refl, refl);
       spared = λ bad. (refl, refl);
@@ -87,7 +92,7 @@ module _ (meaning : Meaning) {s : Sight} {f g : FilesSight} {k : SinkSight} (fro
     };
   }
   ends_at_files (Text n r c) has missing = record {
-    headline = headline_none meaning (Text n r c) front refl (λ none. (true, reads_here s));
+    headline = headline_none meaning (Text n r c) prefix refl (λ none. (true, reads_here s));
     causes = record {
       cause = has.0;
       order = record {
@@ -107,16 +112,10 @@ module _ (meaning : Meaning) {s : Sight} {f g : FilesSight} {k : SinkSight} (fro
     };
   }
   ends_at_files Memory has missing = record {
-    headline = headline_none meaning Memory front (inl refl) (λ none. (true, reads_here s));
+    headline = headline_none meaning Memory prefix (inl refl) (λ none. (true, reads_here s));
     causes = record {
       cause = tt;
-      order = record {
-        missing = λ visible misses. tt;
-        bad = λ visible number row field bad. inr tt;
-        format = λ why refuses. inr tt;
-        content = λ opens visible why refuses. inr tt;
-        opening = λ opens visible told opening starts why refuses. inr tt;
-      };
+      order = order_unread Memory tt tt tt;
       complete = λ good medium files output. inr refl;
       untouched = tt;
       spared = λ bad. (refl, refl);
@@ -140,28 +139,28 @@ module _ (meaning : Meaning) {s : Sight} {f g : FilesSight} {k : SinkSight} (fro
   ends_at_files Output has missing = absurd has
 
 -- a medium that wasn't called
-front_new : (opening : Opening) (s : Sight) → IsBeginning true opening s s
-front_new opening s = record {
+prefix_new : (opening : Opening) (s : Sight) → OpensPartly true opening s s
+prefix_new opening s = record {
   moments = every_moment_here (ShowsOpening true (length (state_now s).told) opening) (λ visible. record { each = λ image is. inl (refl, drop-length (state_now s).told) });
   told = λ visible. inl refl;
 }
 
-front_old : (opening : Opening) (s : Sight) → (IsTrue s.is_visible → IsSettled s.len (state_now s)) → IsOpeningOn s opening → IsBeginning false opening s s
-front_old opening s settled on =
-    beginning_opened opening s s (every_moment_here (StillRecovers (state_now s).told opening.number opening.sizes opening.database) (content_kept s settled on))
+prefix_old : (opening : Opening) (s : Sight) → (IsTrue s.is_visible → IsSettled s.len (state_now s)) → IsOpeningOn s opening → OpensPartly false opening s s
+prefix_old opening s settled on =
+    partly_opened opening s s (every_moment_here (StillRecovers (state_now s).told opening.number opening.sizes opening.database) (content_kept s settled on))
 
-pub front_at_rest : (meaning : Meaning) (s : Sight) → (IsTrue s.is_visible → IsSettled s.len (state_now s)) → (opening : Opening) → Starts meaning s opening → IsBeginning (makes_image meaning) opening s s
-front_at_rest (FreshRun subscribers file) s settled opening starts = front_new opening s
-front_at_rest (FormatImage a b c d) s settled opening starts = front_new opening s
-front_at_rest (RunFiles frames locks files) s settled opening starts = front_old opening s settled starts
-front_at_rest RecoverImage s settled opening starts = front_old opening s settled starts
-front_at_rest DumpTables s settled opening starts = front_old opening s settled starts
-front_at_rest (DriveLoad seed count files) s settled opening starts = front_old opening s settled starts
+pub prefix_at_rest : (meaning : Meaning) (s : Sight) → (IsTrue s.is_visible → IsSettled s.len (state_now s)) → (opening : Opening) → Starts meaning s opening → OpensPartly (makes_image meaning) opening s s
+prefix_at_rest (FreshRun subscribers file) s settled opening starts = prefix_new opening s
+prefix_at_rest (FormatImage a b c d) s settled opening starts = prefix_new opening s
+prefix_at_rest (RunFiles frames locks files) s settled opening starts = prefix_old opening s settled starts
+prefix_at_rest RecoverImage s settled opening starts = prefix_old opening s settled starts
+prefix_at_rest DumpTables s settled opening starts = prefix_old opening s settled starts
+prefix_at_rest (DriveLoad seed count files) s settled opening starts = prefix_old opening s settled starts
 
 -- there was no memory for the words
 pub ends_at_words : (meaning : Meaning) (s : Sight) (f : FilesSight) (k : SinkSight) → (IsTrue s.is_visible → IsSettled s.len (state_now s)) → FilesStay f f
     → Ends meaning (world_of s f k) (world_of s f k) [] (Some Memory)
-ends_at_words meaning s f k settled stays = ends_at_files meaning (front_at_rest meaning s settled) stays Memory tt (λ visible misses. tt)
+ends_at_words meaning s f k settled stays = ends_at_files meaning (prefix_at_rest meaning s settled) stays Memory tt (λ visible misses. tt)
 
 -- ---- where an image is made
 
@@ -176,10 +175,10 @@ makes_both : (b : Bool) → b ≡ true → b ≡ false → ⊥
 makes_both b one other = let never : ⊥ = cc in never
 
 module _ {meaning : Meaning} {sizes : Sizes} {s t : Sight} {f g : FilesSight} (maker : IsMaker meaning sizes s) (files : FilesRead meaning f g)
-    (front : IsBeginning true (new_opening sizes) s t) where
-  front_each : (opening : Opening) → Starts meaning s opening → IsBeginning (makes_image meaning) opening s t
-  front_each opening starts =
-      subst (λ (b : Bool). IsBeginning b opening s t) (sym maker.makes) (subst (λ (o : Opening). IsBeginning true o s t) (sym (maker.only opening starts)) front)
+    (prefix : OpensPartly true (new_opening sizes) s t) where
+  prefix_each : (opening : Opening) → Starts meaning s opening → OpensPartly (makes_image meaning) opening s t
+  prefix_each opening starts =
+      subst (λ (b : Bool). OpensPartly b opening s t) (sym maker.makes) (subst (λ (o : Opening). OpensPartly true o s t) (sym (maker.only opening starts)) prefix)
 
   order_made : {k : SinkSight} (fault : Fault) → ((why : Fault) → RefusesFormat meaning s.len why → (◌≡◌ {A = Option Fault} (Some fault) (Some why)) ⊎ StoppedAtFiles (Some fault)) → RefusesInOrder meaning (world_of s f k) (Some fault)
   order_made fault format = record {
@@ -194,7 +193,7 @@ module _ {meaning : Meaning} {sizes : Sizes} {s t : Sight} {f g : FilesSight} (m
   ends_refused : {k : SinkSight} (why : Fault) → t ≡ s → (why_not : RefusesFormat meaning s.len why) → HasCause meaning (world_of s f k) (world_of t g k) (Some why) → Printed meaning (world_of s f k) (world_of t g k) [] (Some why)
       → Untouched (Some why) s t [] → (◌≡◌ {A = Option Fault} (Some why) (Some Device) → ⊥) → Ends meaning (world_of s f k) (world_of t g k) [] (Some why)
   ends_refused why same refuses cause printed untouched other = record {
-    headline = headline_none meaning why front_each printed (λ none. absurd (none (new_opening sizes) maker.starts));
+    headline = headline_none meaning why prefix_each printed (λ none. absurd (none (new_opening sizes) maker.starts));
     causes = record {
       cause = cause;
       order = order_made why (λ also r. inl (ap Some (one_format_fault meaning sizes s.len why also maker.sized refuses r)));
@@ -214,7 +213,7 @@ module _ {meaning : Meaning} {sizes : Sizes} {s t : Sight} {f g : FilesSight} (m
   ends_at_format (TooFew a b) has =
       ends_refused (TooFew a b) has.0 (sizes, maker.sized, has.1, has.2, has.3, has.4) (sizes, maker.sized, has.1, has.2, has.3, has.4) refl (has.0, refl) (λ e. let no : ⊥ = cc in no)
   ends_at_format Device has = record {
-    headline = headline_none meaning Device front_each refl (λ none. absurd (none (new_opening sizes) maker.starts));
+    headline = headline_none meaning Device prefix_each refl (λ none. absurd (none (new_opening sizes) maker.starts));
     causes = record {
       cause = has.1;
       order = order_made Device (λ why r. absurd (fits_not_refused meaning sizes s.len why maker.sized has.0 r));
@@ -228,7 +227,7 @@ module _ {meaning : Meaning} {sizes : Sizes} {s t : Sight} {f g : FilesSight} (m
     };
   }
   ends_at_format Memory has = record {
-    headline = headline_none meaning Memory front_each (inl refl) (λ none. absurd (none (new_opening sizes) maker.starts));
+    headline = headline_none meaning Memory prefix_each (inl refl) (λ none. absurd (none (new_opening sizes) maker.starts));
     causes = record {
       cause = tt;
       order = order_made Memory (λ why r. inr tt);
@@ -263,10 +262,10 @@ pub record IsOpener (meaning : Meaning) (s : Sight) : Type 0 where
   pub starts : (opening : Opening) → IsOpeningOn s opening → Starts meaning s opening
 
 module _ {meaning : Meaning} {s t : Sight} {f g : FilesSight} (opener : IsOpener meaning s) (files : FilesRead meaning f g)
-    (front : (opening : Opening) → IsOpeningOn s opening → IsBeginning false opening s t)
+    (prefix : (opening : Opening) → IsOpeningOn s opening → OpensPartly false opening s t)
     (reads : ((opening : Opening) → IsOpeningOn s opening → ⊥) → (ok : Bool) × OnlyReads ok s t) where
-  front_opened : (opening : Opening) → Starts meaning s opening → IsBeginning (makes_image meaning) opening s t
-  front_opened opening starts = subst (λ (b : Bool). IsBeginning b opening s t) (sym opener.opens) (front opening (opener.on opening starts))
+  prefix_opened : (opening : Opening) → Starts meaning s opening → OpensPartly (makes_image meaning) opening s t
+  prefix_opened opening starts = subst (λ (b : Bool). OpensPartly b opening s t) (sym opener.opens) (prefix opening (opener.on opening starts))
 
   reads_only : ((opening : Opening) → Starts meaning s opening → ⊥) → (ok : Bool) × OnlyReads ok s t
   reads_only none = reads (λ opening on. none opening (opener.starts opening on))
@@ -279,7 +278,7 @@ module _ {meaning : Meaning} {s t : Sight} {f g : FilesSight} (opener : IsOpener
       → Printed meaning (world_of s f k) (world_of t g k) [] (Some why) → Untouched (Some why) s t [] → (◌≡◌ {A = Option Fault} (Some why) (Some Device) → ⊥)
       → Ends meaning (world_of s f k) (world_of t g k) [] (Some why)
   ends_unopened why refuses read cause printed untouched other = record {
-    headline = headline_none meaning why front_opened printed reads_only;
+    headline = headline_none meaning why prefix_opened printed reads_only;
     causes = record {
       cause = cause;
       order = record {
@@ -313,7 +312,7 @@ module _ {meaning : Meaning} {s t : Sight} {f g : FilesSight} (opener : IsOpener
   ends_at_open (Damaged line) has = ends_unopened (Damaged line) has.0 has.1 (opener.opens, has.0) refl (has.1, refl) (λ e. let no : ⊥ = cc in no)
   ends_at_open (NotDb word) has = ends_unopened (NotDb word) has.0 has.1 (opener.opens, has.0) refl (has.1, refl) (λ e. let no : ⊥ = cc in no)
   ends_at_open Device has = record {
-    headline = headline_none meaning Device front_opened refl reads_only;
+    headline = headline_none meaning Device prefix_opened refl reads_only;
     causes = record {
       cause = has.0;
       order = order_stopped Device tt;
@@ -327,7 +326,7 @@ module _ {meaning : Meaning} {s t : Sight} {f g : FilesSight} (opener : IsOpener
     };
   }
   ends_at_open Memory has = record {
-    headline = headline_none meaning Memory front_opened (inl refl) reads_only;
+    headline = headline_none meaning Memory prefix_opened (inl refl) reads_only;
     causes = record {
       cause = tt;
       order = order_stopped Memory tt;

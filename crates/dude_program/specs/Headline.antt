@@ -21,7 +21,7 @@ use Rattle.command_edges.specs.declared.fault.Fault.{Fault}
 use Rattle.command_edges.specs.declared.fault.Fault.TheVariants.{Output, Memory}
 use Rattle.command_words.specs.Command.{Meaning}
 use Rattle.dude_program.specs.World.{World}
-use Rattle.command_openings.specs.Begun.{TellsAtMost}
+use Rattle.command_openings.specs.Opens.{TellsAtMost}
 use Rattle.dude_program.specs.Opening.{makes_image, runs_requests, Starts, RequestsAre, IsReachable, output_for}
 
 -- Replies: of the command's requests these are done, each file's first ones in its order, each once; and the replies are

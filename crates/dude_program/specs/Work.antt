@@ -1,11 +1,17 @@
 -- What becomes of a command's requests, and of its output.
-use Rattle.std.specs.Prelude.{◌≡◌, ◌⊎◌, ℕ, ◌<◌, ◌≤◌, ◌+◌, ◌*◌, Option, Some, None, IsTrue, List, All, ⊤}
+use Rattle.std.specs.Prelude.{◌≡◌, ◌⊎◌, ℕ, ◌<◌, ◌≤◌, ◌+◌, ◌*◌, Option, Some, None, IsTrue, List, length, All, ⊤}
+use Rattle.std.specs.Global.{Vec}
 use Rattle.dude_base.specs.declared.limits.TheConstants.{MAX_NUMBER}
 use Rattle.dude_base.specs.declared.sizes.Sizes.{Sizes}
+use Rattle.pmem_trait.specs.declared.medium.Medium.{Ghosts}
 use Rattle.pmem_trait.specs.Sights.{Sight, Risen}
+use Rattle.back_store.specs.BackView.{medium_of}
+use Rattle.image_opening.specs.declared.opened.Opened.{Opened}
 use Rattle.tatp_model.specs.declared.done.Done.{Done}
 use Rattle.tatp_model.specs.declared.request.Request.{Request}
 use Rattle.tatp_model.specs.OneThread.{is_sync, RepliesOfOneThread}
+use Rattle.tatp_text.specs.Output.{output_of}
+use Rattle.tatp_text.specs.Summary.{summary_of}
 use Rattle.dude_io.specs.Sink.{SinkSight, Took}
 use Rattle.run_order.specs.Runs.{SyncsFollow}
 use Rattle.dude_engine.specs.declared.ran.RanEnd.{RanEnd}
@@ -13,13 +19,17 @@ use Rattle.dude_engine.specs.declared.ran.RanEnd.TheVariants.{Whole, NoMemory}
 use Rattle.dude_engine.specs.declared.ran.RanEnd.TheVariants as ran
 use Rattle.dude_engine.specs.Endings.{AreSyncsTold}
 use Rattle.dude_engine.specs.Opening.{Opening}
-use Rattle.dude_engine.specs.Plain.{IsWhole, RecoversOnTheRun}
-use Rattle.dude_engine.specs.Requests.{request_count}
+use Rattle.dude_engine.specs.Plain.{IsOpeningOf, IsWhole, RecoversOnTheRun}
+use Rattle.dude_engine.specs.Requests.{AreInRange, request_count}
 use Rattle.command_edges.specs.declared.fault.Fault.{Fault}
 use Rattle.command_edges.specs.declared.fault.Fault.TheVariants.{ManyFiles, Frames, FewSubscribers, Numbers, Device, Memory}
 use Rattle.command_edges.specs.Printing.{StopsIn}
-use Rattle.command_words.specs.Command.{Meaning}
+use Rattle.command_edges.specs.Files.{requests_in}
+use Rattle.command_words.specs.Command.{Meaning, Meaning.RunFiles}
+use Rattle.dude_program.specs.declared.load.Load.{Load}
+use Rattle.dude_program.specs.declared.worked.Worked.{Worked}
 use Rattle.dude_program.specs.Causes.{RanUnlessDevice, WantsFrames}
+use Rattle.dude_program.specs.Opening.{load_of}
 
 -- the fault that a run ended with, if any
 abbrev pub fault_of_end : RanEnd → Option Fault
@@ -40,11 +50,47 @@ pub record RanOver (opening : Opening) (words : List ℕ) (requests : List (List
   pub cause : fault ≡ Some Device → Risen s.faults t.faults
   pub only : (fault ≡ None) ⊎ (fault ≡ Some Device) ⊎ (fault ≡ Some Memory)
 
--- A text was printed, unless a fault came before; or a front of it was; or there was no memory for it.
+-- A text was printed, unless a fault came before; or a prefix of it was; or there was no memory for it.
 abbrev pub PrintsText : List ℕ → Option Fault → Option Fault → SinkSight → SinkSight → Type 0
 PrintsText text (Some earlier) fault s t = (fault ≡ Some earlier) × (t ≡ s)
 PrintsText text None None s t = Took text s t
 PrintsText text None (Some fault) s t = StopsIn text s t fault ⊎ ((fault ≡ Memory) × (t ≡ s))
+
+-- the lines of what became of a command's requests
+abbrev pub lines_of : {M : Type 0} → Worked M → List ℕ
+lines_of worked = output_of worked.done.items worked.last
+
+-- the totals by kinds of what became of a command's requests
+abbrev pub totals_of : {M : Type 0} → Worked M → List ℕ
+totals_of worked = summary_of worked.done.items
+
+-- the text was printed so on a sink, seen so
+abbrev pub EndsBy : {K : Type 0} → (K → SinkSight) → List ℕ → Option Fault → Option Fault → K → K → Type 0
+EndsBy sight text earlier fault old new = PrintsText text earlier fault (sight old) (sight new)
+
+-- the requests were run so over an opened image, whose medium, seen so, is given back
+abbrev pub RanOverOpened : {M : Type 0} {ghosts : Ghosts M} → (M → Sight) → Opened M ghosts → List (Vec Request) → Worked M → Type 0
+RanOverOpened sight o files worked = (opening : Opening) → IsOpeningOf o opening
+    → RanOver opening o.words.items (requests_in files) worked.done.items worked.last worked.fault
+    (sight (medium_of o.back)) (sight worked.medium)
+
+-- no list has more than 100,000 requests
+abbrev pub EachIsFew : List (List Request) → Type 0
+EachIsFew requests = All (λ list. length list ≤ 100000) requests
+
+-- the numbers behind this one are enough for the requests
+abbrev pub HasNumbers : ℕ → List (List Request) → Type 0
+HasNumbers number requests = number + 65 * request_count requests ≤ MAX_NUMBER
+
+-- frames that are in their limits, or not said
+abbrev pub AllowsFrames : Option ℕ → ℕ → Type 0
+AllowsFrames frames pages =
+    (locks : Option ℕ) (files : List (List ℕ)) (wanted : ℕ) → ¬ WantsFrames (RunFiles frames locks files) wanted pages
+
+-- frames that are out of their limits
+abbrev pub RefusesFrames : Option ℕ → ℕ → Fault → Type 0
+RefusesFrames frames pages fault = (locks : Option ℕ) (files : List (List ℕ))
+    → (wanted : ℕ) × (fault ≡ Frames wanted pages) × WantsFrames (RunFiles frames locks files) wanted pages
 
 -- there are more files than rings
 abbrev pub HasManyFiles : ℕ → ℕ → Fault → Type 0
@@ -63,6 +109,11 @@ RefusesRun meaning files sizes number requests (Numbers first count) =
     × (count ≡ request_count requests) × (MAX_NUMBER < number + 65 * count)
 RefusesRun meaning files sizes number requests _ = ⊥
 
+-- why a run of these files, with these frames, is refused over an opened image
+abbrev pub RefusesFiles : Option ℕ → Sizes → ℕ → List (Vec Request) → Fault → Type 0
+RefusesFiles frames sizes number files fault = (locks : Option ℕ) (names : List (List ℕ))
+    → RefusesRun (RunFiles frames locks names) (length files) sizes number (requests_in files) fault
+
 -- Why a load is refused over an opened image: the first of these that fits; or there was no memory for it.
 abbrev pub RefusesLoad : (files : ℕ) → Sizes → ℕ → List (List Request) → Fault → Type 0
 RefusesLoad files sizes number requests (ManyFiles wanted rings) = (wanted ≡ files) × (rings ≡ sizes.rings) × (rings < wanted)
@@ -73,3 +124,22 @@ RefusesLoad files sizes number requests (Numbers first count) =
     × (count ≡ request_count requests) × (MAX_NUMBER < number + 65 * count)
 RefusesLoad files sizes number requests Memory = ⊤
 RefusesLoad files sizes number requests _ = ⊥
+
+-- the requests are those of the load of so many subscribers
+abbrev pub AreOfLoad : ℕ → Load → Vec (Vec Request) → Type 0
+AreOfLoad subscribers load lists = requests_in lists.items ≡ load_of subscribers load.seed load.count load.files
+
+-- a load that an opened image doesn't refuse: it is made, there are as many files as rings and subscribers at most, and the
+-- numbers are enough
+pub record IsLoadFor (sizes : Sizes) (number : ℕ) (load : Load) (lists : Vec (Vec Request)) : Type 0 where
+  pub requests : AreOfLoad sizes.subscribers load lists
+  pub rings : length lists.items ≤ sizes.rings
+  pub files : load.files ≤ sizes.rings
+  pub subscribers : load.files ≤ sizes.subscribers
+  pub in_range : AreInRange (requests_in lists.items)
+  pub numbers : HasNumbers number (requests_in lists.items)
+
+-- why a load is refused over an opened image
+abbrev pub RefusesLoadFor : Sizes → ℕ → Load → Fault → Type 0
+RefusesLoadFor sizes number load =
+    RefusesLoad load.files sizes number (load_of sizes.subscribers load.seed load.count load.files)

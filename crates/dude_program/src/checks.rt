@@ -1,14 +1,11 @@
 //! What an opened image refuses of a run: too many files, frames out of their limits, too few numbers.
 
-ghost use Rattle.std.specs.Prelude.{◌≡◌, ◌<◌, ◌≤◌, ◌+◌, ◌*◌, ℕ, List, Option, length, All, OnOk, IfErr};
+ghost use Rattle.std.specs.Prelude.{◌≡◌, ◌≤◌, length, OnOk, IfErr};
 ghost use Rattle.dude_base.specs.declared.limits.TheConstants.{MAX_NUMBER};
 ghost use Rattle.image_opening.specs.Opened.{IsOpened};
 ghost use Rattle.command_edges.specs.Files.{requests_in};
-ghost use Rattle.command_words.specs.Command.{Meaning.RunFiles};
 ghost use Rattle.dude_engine.specs.Requests.{request_count};
-ghost use Rattle.command_edges.specs.declared.fault.Fault.TheVariants.{Frames};
-ghost use Rattle.dude_program.specs.Causes.{WantsFrames};
-ghost use Rattle.dude_program.specs.Work.{HasFewNumbers, HasManyFiles, RefusesRun};
+ghost use Rattle.dude_program.specs.Work.{AllowsFrames, EachIsFew, HasFewNumbers, HasManyFiles, HasNumbers, RefusesFiles, RefusesFrames};
 
 use command_edges::Fault;
 use dude_base::limits::{MAX_NUMBER, MIN_FRAMES};
@@ -29,8 +26,8 @@ pub fn check_rings(files: u64, rings: u64) -> Result<(), Fault>
 
 /// Refuses frames out of their limits; without a word about them there are as many as pages.
 pub fn check_frames(frames: Option<u64>, pages: u64) -> Result<(), Fault>
-    ensures ok { OnOk result ((locks : Option ℕ) (files : List (List ℕ)) (wanted : ℕ) → ¬ WantsFrames (RunFiles frames locks files) wanted pages) }
-    ensures err { IfErr result (λ fault. (locks : Option ℕ) (files : List (List ℕ)) → (wanted : ℕ) × (fault ≡ Frames wanted pages) × WantsFrames (RunFiles frames locks files) wanted pages) }
+    ensures ok { OnOk result (AllowsFrames frames pages) }
+    ensures err { IfErr result (RefusesFrames frames pages) }
 {
     match frames {
         Some(frames) if frames > pages || frames < MIN_FRAMES.min(pages) => {
@@ -43,7 +40,7 @@ pub fn check_frames(frames: Option<u64>, pages: u64) -> Result<(), Fault>
 // How many requests there are in all.
 fn count_requests(files: &[Vec<Request>]) -> u64
     requires files { length files.now ≤ 16 }
-    requires few { All (λ list. length list ≤ 100000) (requests_in files.now) }
+    requires few { EachIsFew (requests_in files.now) }
     ensures total { result ≡ request_count (requests_in files.now) }
     ensures small { result ≤ 1600000 }
 {
@@ -58,8 +55,8 @@ fn count_requests(files: &[Vec<Request>]) -> u64
 pub fn check_numbers(number: u64, files: &[Vec<Request>]) -> Result<(), Fault>
     requires small { number ≤ MAX_NUMBER }
     requires files { length files.now ≤ 16 }
-    requires few { All (λ list. length list ≤ 100000) (requests_in files.now) }
-    ensures ok { OnOk result (number + 65 * request_count (requests_in files.now) ≤ MAX_NUMBER) }
+    requires few { EachIsFew (requests_in files.now) }
+    ensures ok { OnOk result (HasNumbers number (requests_in files.now)) }
     ensures err { IfErr result (HasFewNumbers number (requests_in files.now)) }
 {
     let requests = count_requests(files);
@@ -77,11 +74,11 @@ pub fn check_run<M: Medium>(
     files: &[Vec<Request>],
 ) -> Result<(), Fault>
     requires opened { IsOpened opened.now }
-    requires few { All (λ list. length list ≤ 100000) (requests_in files.now) }
+    requires few { EachIsFew (requests_in files.now) }
     ensures rings { OnOk result (length files.now ≤ opened.now.sizes.rings) }
-    ensures frames { OnOk result ((locks : Option ℕ) (names : List (List ℕ)) (wanted : ℕ) → ¬ WantsFrames (RunFiles frames locks names) wanted opened.now.sizes.pages) }
-    ensures numbers { OnOk result (opened.now.number + 65 * request_count (requests_in files.now) ≤ MAX_NUMBER) }
-    ensures err { IfErr result (λ fault. (locks : Option ℕ) (names : List (List ℕ)) → RefusesRun (RunFiles frames locks names) (length files.now) opened.now.sizes opened.now.number (requests_in files.now) fault) }
+    ensures frames { OnOk result (AllowsFrames frames opened.now.sizes.pages) }
+    ensures numbers { OnOk result (HasNumbers opened.now.number (requests_in files.now)) }
+    ensures err { IfErr result (RefusesFiles frames opened.now.sizes opened.now.number files.now) }
 {
     check_rings(files.len() as u64, opened.sizes.rings)?;
     if let Err(fault) = check_frames(frames, opened.sizes.pages) {

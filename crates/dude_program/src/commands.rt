@@ -1,9 +1,9 @@
 //! The six commands: each reads its files, makes or opens the image, does its work, and prints.
 
-ghost use Rattle.std.specs.Prelude.{◌≡◌, ◌≤◌, ℕ, Option, IsTrue, map};
+ghost use Rattle.std.specs.Prelude.{◌≡◌, ◌≤◌, ℕ, Option, map};
 ghost use Rattle.std.specs.Rc.{rc_str_bytes};
-ghost use Rattle.pmem_trait.specs.Words.{IsSettled};
-ghost use Rattle.pmem_trait.specs.Sights.{state_now};
+ghost use Rattle.dude_base.specs.declared.limits.TheConstants.{MAX_RINGS};
+ghost use Rattle.command_openings.specs.Openings.{IsAtRest};
 ghost use Rattle.command_words.specs.Command.{IsBetween, Meaning.FreshRun, Meaning.FormatImage, Meaning.RunFiles, Meaning.RecoverImage, Meaning.DumpTables, Meaning.DriveLoad};
 ghost use Rattle.dude_io.specs.Files.{FilesSight};
 ghost use Rattle.command_edges.specs.Fault.{status_of};
@@ -41,11 +41,13 @@ pub fn fresh<M: Medium, F: Files, K: Sink>(
     files: &mut F,
     out: &mut K,
 ) -> Ended<M>
-    requires settled { IsTrue (M.sight medium).is_visible → IsSettled (M.sight medium).len (state_now (M.sight medium)) }
+    requires settled { IsAtRest (M.sight medium) }
     requires subscribers { IsBetween 1 10_000 subscribers }
     ensures status { result.status ≡ status_of result.fault }
-    ensures ends { Ends (FreshRun subscribers file.now) (world_of (M.sight medium) (F.sight files.old) (K.sight out.old))
-        (world_of (M.sight result.medium) (F.sight files.new) (K.sight out.new)) result.done.items result.fault }
+    ensures ends { Ends (FreshRun subscribers file.now)
+        (world_of (M.sight medium) (F.sight files.old) (K.sight out.old))
+        (world_of (M.sight result.medium) (F.sight files.new) (K.sight out.new))
+        result.done.items result.fault }
 {
     let Ok(sizes) = Sizes::of(subscribers, 12 * subscribers, 1, 16) else {
         unreachable!()
@@ -68,14 +70,17 @@ pub fn format<M: Medium, K: Sink>(
     medium: M,
     out: &mut K,
 ) -> Ended<M>
-    requires settled { IsTrue (M.sight medium).is_visible → IsSettled (M.sight medium).len (state_now (M.sight medium)) }
+    requires settled { IsAtRest (M.sight medium) }
     requires subscribers { IsBetween 1 10_000 counts.subscribers }
     requires calls { IsBetween 1 120_000 counts.calls }
-    requires rings { IsBetween 1 16 counts.rings }
+    requires rings { IsBetween 1 MAX_RINGS counts.rings }
     requires cells { IsBetween 16 4_096 counts.cells }
     ensures status { result.status ≡ status_of result.fault }
-    ensures ends { (f : FilesSight) → Ends (FormatImage counts.subscribers counts.calls counts.rings counts.cells) (world_of (M.sight medium) f (K.sight out.old))
-        (world_of (M.sight result.medium) f (K.sight out.new)) result.done.items result.fault }
+    ensures ends { (f : FilesSight) → Ends
+        (FormatImage counts.subscribers counts.calls counts.rings counts.cells)
+        (world_of (M.sight medium) f (K.sight out.old))
+        (world_of (M.sight result.medium) f (K.sight out.new))
+        result.done.items result.fault }
 {
     let Ok(sizes) = Sizes::of(counts.subscribers, counts.calls, counts.rings, counts.cells) else {
         unreachable!()
@@ -95,10 +100,12 @@ pub fn run<M: Medium, F: Files, K: Sink>(
     files: &mut F,
     out: &mut K,
 ) -> Ended<M>
-    requires settled { IsTrue (M.sight medium).is_visible → IsSettled (M.sight medium).len (state_now (M.sight medium)) }
+    requires settled { IsAtRest (M.sight medium) }
     ensures status { result.status ≡ status_of result.fault }
-    ensures ends { (locks : Option ℕ) → Ends (RunFiles frames locks (map rc_str_bytes names.now)) (world_of (M.sight medium) (F.sight files.old) (K.sight out.old))
-        (world_of (M.sight result.medium) (F.sight files.new) (K.sight out.new)) result.done.items result.fault }
+    ensures ends { (locks : Option ℕ) → Ends (RunFiles frames locks (map rc_str_bytes names.now))
+        (world_of (M.sight medium) (F.sight files.old) (K.sight out.old))
+        (world_of (M.sight result.medium) (F.sight files.new) (K.sight out.new))
+        result.done.items result.fault }
 {
     let lists = match read_files(alloc, names, files) {
         Ok(lists) => lists,
@@ -116,9 +123,12 @@ pub fn run<M: Medium, F: Files, K: Sink>(
 
 /// Recovers the image.
 pub fn recover<M: Medium, K: Sink>(alloc: Global, medium: M, out: &mut K) -> Ended<M>
-    requires settled { IsTrue (M.sight medium).is_visible → IsSettled (M.sight medium).len (state_now (M.sight medium)) }
+    requires settled { IsAtRest (M.sight medium) }
     ensures status { result.status ≡ status_of result.fault }
-    ensures ends { (f : FilesSight) → Ends RecoverImage (world_of (M.sight medium) f (K.sight out.old)) (world_of (M.sight result.medium) f (K.sight out.new)) result.done.items result.fault }
+    ensures ends { (f : FilesSight) → Ends RecoverImage
+        (world_of (M.sight medium) f (K.sight out.old))
+        (world_of (M.sight result.medium) f (K.sight out.new))
+        result.done.items result.fault }
 {
     match open_and_announce(alloc, medium) {
         Ok(opened) => end_with_lines(alloc, idle(alloc, opened), out),
@@ -128,9 +138,12 @@ pub fn recover<M: Medium, K: Sink>(alloc: Global, medium: M, out: &mut K) -> End
 
 /// Prints the tables of the image.
 pub fn dump<M: Medium, K: Sink>(alloc: Global, medium: M, out: &mut K) -> Ended<M>
-    requires settled { IsTrue (M.sight medium).is_visible → IsSettled (M.sight medium).len (state_now (M.sight medium)) }
+    requires settled { IsAtRest (M.sight medium) }
     ensures status { result.status ≡ status_of result.fault }
-    ensures ends { (f : FilesSight) → Ends DumpTables (world_of (M.sight medium) f (K.sight out.old)) (world_of (M.sight result.medium) f (K.sight out.new)) result.done.items result.fault }
+    ensures ends { (f : FilesSight) → Ends DumpTables
+        (world_of (M.sight medium) f (K.sight out.old))
+        (world_of (M.sight result.medium) f (K.sight out.new))
+        result.done.items result.fault }
 {
     match open_and_announce(alloc, medium) {
         Ok(opened) => {
@@ -143,12 +156,14 @@ pub fn dump<M: Medium, K: Sink>(alloc: Global, medium: M, out: &mut K) -> Ended<
 
 /// Runs a load over the image: so many requests of each of so many files, made from a seed.
 pub fn drive<M: Medium, K: Sink>(alloc: Global, load: Load, medium: M, out: &mut K) -> Ended<M>
-    requires settled { IsTrue (M.sight medium).is_visible → IsSettled (M.sight medium).len (state_now (M.sight medium)) }
+    requires settled { IsAtRest (M.sight medium) }
     requires count { load.count ≤ 99_999 }
-    requires files { IsBetween 1 16 load.files }
+    requires files { IsBetween 1 MAX_RINGS load.files }
     ensures status { result.status ≡ status_of result.fault }
-    ensures ends { (f : FilesSight) → Ends (DriveLoad load.seed load.count load.files) (world_of (M.sight medium) f (K.sight out.old))
-        (world_of (M.sight result.medium) f (K.sight out.new)) result.done.items result.fault }
+    ensures ends { (f : FilesSight) → Ends (DriveLoad load.seed load.count load.files)
+        (world_of (M.sight medium) f (K.sight out.old))
+        (world_of (M.sight result.medium) f (K.sight out.new))
+        result.done.items result.fault }
 {
     let opened = match open_and_announce(alloc, medium) {
         Ok(opened) => opened,

@@ -1,12 +1,10 @@
 //! The load of `drive`, and what an opened image refuses of it.
 
-ghost use Rattle.std.specs.Prelude.{◌≡◌, ◌≤◌, ◌+◌, ◌*◌, length, All, IfOk, IfErr, OnOk};
-ghost use Rattle.dude_base.specs.declared.limits.TheConstants.{MAX_NUMBER};
+ghost use Rattle.std.specs.Prelude.{◌≡◌, ◌≤◌, length, IfOk, IfErr};
 ghost use Rattle.image_opening.specs.Opened.{IsOpened};
 ghost use Rattle.command_edges.specs.Files.{requests_in};
-ghost use Rattle.dude_engine.specs.Requests.{AreInRange, request_count};
-ghost use Rattle.dude_program.specs.Opening.{load_of};
-ghost use Rattle.dude_program.specs.Work.{RefusesLoad};
+ghost use Rattle.dude_engine.specs.Requests.{AreInRange};
+ghost use Rattle.dude_program.specs.Work.{AreOfLoad, EachIsFew, IsLoadFor, RefusesLoadFor};
 
 use crate::checks::{check_numbers, check_rings};
 use command_edges::Fault;
@@ -29,9 +27,9 @@ fn mix_files(alloc: Global, subscribers: u64, load: &Load) -> Result<Vec<Vec<Req
     requires each_has_one { load.now.files ≤ subscribers }
     requires limited { subscribers ≤ 10000 }
     requires few { load.now.count ≤ 99999 }
-    ensures load { IfOk result (λ lists. requests_in lists.items ≡ load_of subscribers load.now.seed load.now.count load.now.files) }
+    ensures load { IfOk result (AreOfLoad subscribers load.now) }
     ensures length { IfOk result (λ lists. length lists.items ≡ load.now.files) }
-    ensures few { IfOk result (λ lists. All (λ list. length list ≤ 100000) (requests_in lists.items)) }
+    ensures few { IfOk result (λ lists. EachIsFew (requests_in lists.items)) }
     ensures in_range { IfOk result (λ lists. AreInRange (requests_in lists.items)) }
 {
     let mut lists = Vec::new(alloc);
@@ -51,14 +49,8 @@ pub fn make_load<M: Medium>(
     requires opened { IsOpened opened.now }
     requires count { load.now.count ≤ 99999 }
     requires files { load.now.files ≤ 16 }
-    ensures load { IfOk result (λ lists. requests_in lists.items ≡ load_of opened.now.sizes.subscribers load.now.seed load.now.count load.now.files) }
-    ensures rings { IfOk result (λ lists. length lists.items ≤ opened.now.sizes.rings) }
-    ensures files { OnOk result (load.now.files ≤ opened.now.sizes.rings) }
-    ensures subscribers { OnOk result (load.now.files ≤ opened.now.sizes.subscribers) }
-    ensures in_range { IfOk result (λ lists. AreInRange (requests_in lists.items)) }
-    ensures numbers { IfOk result (λ lists. opened.now.number + 65 * request_count (requests_in lists.items) ≤ MAX_NUMBER) }
-    ensures err { IfErr result (RefusesLoad load.now.files opened.now.sizes opened.now.number
-        (load_of opened.now.sizes.subscribers load.now.seed load.now.count load.now.files)) }
+    ensures made { IfOk result (IsLoadFor opened.now.sizes opened.now.number load.now) }
+    ensures err { IfErr result (RefusesLoadFor opened.now.sizes opened.now.number load.now) }
 {
     check_rings(load.files, opened.sizes.rings)?;
     let subscribers = opened.sizes.subscribers;

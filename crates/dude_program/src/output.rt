@@ -3,12 +3,11 @@
 ghost use Rattle.std.specs.Prelude.{◌≡◌, None};
 ghost use Rattle.tatp_layout.specs.StandsFor.{StandsFor};
 ghost use Rattle.tatp_model.specs.Database.{Database, IsInOrder, database_of};
-ghost use Rattle.tatp_text.specs.Output.{output_of};
 ghost use Rattle.tatp_text.specs.Dump.{dump_text};
 ghost use Rattle.tatp_text.specs.Summary.{summary_of};
 ghost use Rattle.image_opening.specs.Opened.{IsOpened};
 ghost use Rattle.command_edges.specs.Fault.{status_of};
-ghost use Rattle.dude_program.specs.Work.{PrintsText};
+ghost use Rattle.dude_program.specs.Work.{EndsBy, lines_of, totals_of};
 
 use crate::ended::Ended;
 use crate::worked::Worked;
@@ -26,7 +25,7 @@ pub fn end_with_lines<M, K: Sink>(alloc: Global, worked: Worked<M>, out: &mut K)
     ensures status { result.status ≡ status_of result.fault }
     ensures medium { result.medium ≡ worked.medium }
     ensures done { result.done ≡ worked.done }
-    ensures printed { PrintsText (output_of worked.done.items worked.last) worked.fault result.fault (K.sight out.old) (K.sight out.new) }
+    ensures printed { EndsBy K.sight (lines_of worked) worked.fault result.fault out.old out.new }
 {
     let fault = match worked.fault {
         Some(fault) => Some(fault),
@@ -37,7 +36,7 @@ pub fn end_with_lines<M, K: Sink>(alloc: Global, worked: Worked<M>, out: &mut K)
 
 // Prints the summary of the requests done.
 fn print_summary<K: Sink>(alloc: Global, done: &[Done], out: &mut K) -> Option<Fault>
-    ensures { PrintsText (summary_of done.now) None result (K.sight out.old) (K.sight out.new) }
+    ensures { EndsBy K.sight (summary_of done.now) None result out.old out.new }
 {
     let mut text = Vec::new(alloc);
     if write_summary(done, &mut text).is_err() {
@@ -51,7 +50,7 @@ pub fn end_with_summary<M, K: Sink>(alloc: Global, worked: Worked<M>, out: &mut 
     ensures status { result.status ≡ status_of result.fault }
     ensures medium { result.medium ≡ worked.medium }
     ensures done { result.done ≡ worked.done }
-    ensures printed { PrintsText (summary_of worked.done.items) worked.fault result.fault (K.sight out.old) (K.sight out.new) }
+    ensures printed { EndsBy K.sight (totals_of worked) worked.fault result.fault out.old out.new }
 {
     let fault = match worked.fault {
         Some(fault) => Some(fault),
@@ -63,7 +62,7 @@ pub fn end_with_summary<M, K: Sink>(alloc: Global, worked: Worked<M>, out: &mut 
 // Prints tables, and the last number.
 fn print_tables<K: Sink>(alloc: Global, tables: &Tables, last: u64, out: &mut K) -> Option<Fault>
     requires { IsInOrder (database_of tables.now) }
-    ensures { PrintsText (dump_text (database_of tables.now) last) None result (K.sight out.old) (K.sight out.new) }
+    ensures { EndsBy K.sight (dump_text (database_of tables.now) last) None result out.old out.new }
 {
     let mut text = Vec::new(alloc);
     if write_dump(tables, last, &mut text).is_err() {
@@ -80,7 +79,7 @@ pub fn print_dump<M: Medium, K: Sink>(
 ) -> Option<Fault>
     requires opened { IsOpened opened.now }
     ensures { (db : Database) → StandsFor opened.now.sizes opened.now.words.items db
-        → PrintsText (dump_text db opened.now.number) None result (K.sight out.old) (K.sight out.new) }
+        → EndsBy K.sight (dump_text db opened.now.number) None result out.old out.new }
 {
     match tables_of(alloc, &opened.lay, &opened.words) {
         Ok(tables) => print_tables(alloc, &tables, opened.number, out),

@@ -1,14 +1,11 @@
 //! A command, carried out by its words; the contract of the whole program is here.
 
-ghost use Rattle.std.specs.Prelude.{◌≡◌, map, IsTrue, Some, None, IfSome};
+ghost use Rattle.std.specs.Prelude.{◌≡◌, map, IfSome};
 ghost use Rattle.std.specs.Rc.{rc_str_bytes};
-ghost use Rattle.pmem_trait.specs.Words.{IsSettled};
-ghost use Rattle.pmem_trait.specs.Sights.{state_now};
-ghost use Rattle.command_words.specs.Command.{IsInLimits, Meaning, meaning_of, meaning_of_command};
+ghost use Rattle.command_openings.specs.Openings.{IsAtRest};
+ghost use Rattle.command_words.specs.Command.{IsInLimits, meaning_of_command};
 ghost use Rattle.command_edges.specs.Fault.{status_of};
-ghost use Rattle.dude_program.specs.Causes.{Causes, RefusesWords};
-ghost use Rattle.dude_program.specs.Ending.{Ends};
-ghost use Rattle.dude_program.specs.Headline.{Headline};
+ghost use Rattle.dude_program.specs.Ending.{Ends, EndsByWords};
 ghost use Rattle.dude_program.specs.World.{world_of};
 
 use crate::commands::{ImageCounts, drive, dump, format, fresh, recover, run};
@@ -29,11 +26,13 @@ fn carry_out<M: Medium, F: Files, K: Sink>(
     files: &mut F,
     out: &mut K,
 ) -> Ended<M>
-    requires settled { IsTrue (M.sight medium).is_visible → IsSettled (M.sight medium).len (state_now (M.sight medium)) }
+    requires settled { IsAtRest (M.sight medium) }
     requires limits { IsInLimits command.now }
     ensures status { result.status ≡ status_of result.fault }
-    ensures ends { Ends (meaning_of_command command.now) (world_of (M.sight medium) (F.sight files.old) (K.sight out.old))
-        (world_of (M.sight result.medium) (F.sight files.new) (K.sight out.new)) result.done.items result.fault }
+    ensures ends { Ends (meaning_of_command command.now)
+        (world_of (M.sight medium) (F.sight files.old) (K.sight out.old))
+        (world_of (M.sight result.medium) (F.sight files.new) (K.sight out.new))
+        result.done.items result.fault }
 {
     match *command {
         Command::Fresh { subscribers, file } => {
@@ -77,20 +76,12 @@ pub fn dude<M: Medium + Send, F: Files, K: Sink>(
     files: &mut F,
     out: &mut K,
 ) -> Ended<M>
-    requires settled { IsTrue (M.sight medium).is_visible → IsSettled (M.sight medium).len (state_now (M.sight medium)) }
+    requires settled { IsAtRest (M.sight medium) }
     ensures status { result.status ≡ status_of result.fault }
-    // Words that mean nothing are refused.
-    ensures refused { meaning_of (map rc_str_bytes words.now) ≡ None
-        → RefusesWords (world_of (M.sight medium) (F.sight files.old) (K.sight out.old))
-        (world_of (M.sight result.medium) (F.sight files.new) (K.sight out.new)) result.done.items result.fault }
-    // What the command did, where the words mean one.
-    ensures headline { (own : Meaning) → meaning_of (map rc_str_bytes words.now) ≡ Some own
-        → Headline own (world_of (M.sight medium) (F.sight files.old) (K.sight out.old))
-        (world_of (M.sight result.medium) (F.sight files.new) (K.sight out.new)) result.done.items result.fault }
-    // When each fault comes, and what stays then.
-    ensures causes { (own : Meaning) → meaning_of (map rc_str_bytes words.now) ≡ Some own
-        → Causes own (world_of (M.sight medium) (F.sight files.old) (K.sight out.old))
-        (world_of (M.sight result.medium) (F.sight files.new) (K.sight out.new)) result.done.items result.fault }
+    ensures ends { EndsByWords (map rc_str_bytes words.now)
+        (world_of (M.sight medium) (F.sight files.old) (K.sight out.old))
+        (world_of (M.sight result.medium) (F.sight files.new) (K.sight out.new))
+        result.done.items result.fault }
 {
     match command_of(alloc, words) {
         Ok(Some(command)) => carry_out(alloc, &command, medium, files, out),

@@ -1,14 +1,11 @@
 //! What became of a command's requests, before its output.
 
-ghost use Rattle.std.specs.Prelude.{◌≡◌, ℕ, ◌+◌, ◌*◌, ◌≤◌, [], None, length};
-ghost use Rattle.dude_base.specs.declared.limits.TheConstants.{MAX_NUMBER};
+ghost use Rattle.std.specs.Prelude.{◌≡◌, ◌≤◌, [], None, length};
 ghost use Rattle.back_store.specs.BackView.{medium_of};
 ghost use Rattle.image_opening.specs.Opened.{IsOpened};
 ghost use Rattle.command_edges.specs.Files.{requests_in};
-ghost use Rattle.dude_engine.specs.Opening.{Opening};
-ghost use Rattle.dude_engine.specs.Plain.{IsOpeningOf};
-ghost use Rattle.dude_engine.specs.Requests.{AreInRange, request_count};
-ghost use Rattle.dude_program.specs.Work.{RanOver, fault_of_end};
+ghost use Rattle.dude_engine.specs.Requests.{AreInRange};
+ghost use Rattle.dude_program.specs.Work.{HasNumbers, RanOverOpened, fault_of_end};
 
 use command_edges::Fault;
 use dude_engine::{RanEnd, plain};
@@ -42,9 +39,8 @@ pub fn work<M: Medium>(alloc: Global, opened: Opened<M>, files: &[Vec<Request>])
     requires opened { IsOpened opened }
     requires rings { length files.now ≤ opened.sizes.rings }
     requires in_range { AreInRange (requests_in files.now) }
-    requires numbers { opened.number + 65 * request_count (requests_in files.now) ≤ MAX_NUMBER }
-    ensures { (opening : Opening) → IsOpeningOf opened opening
-        → RanOver opening opened.words.items (requests_in files.now) result.done.items result.last result.fault (M.sight (medium_of opened.back)) (M.sight result.medium) }
+    requires numbers { HasNumbers opened.number (requests_in files.now) }
+    ensures { RanOverOpened M.sight opened files.now result }
 {
     let ran = plain(alloc, opened, files);
     Worked {

@@ -7,7 +7,7 @@ use Rattle.dude_program.proofs.FilesRead.{no_files}
 use Rattle.dude_program.proofs.Endings.{ends_faulted, ends_printed}
 use Rattle.dude_program.proofs.Stops.{ends_at_open}
 use Rattle.dude_program.proofs.Crashes.{left_opened}
-use Rattle.dude_program.proofs.Came.{begun_old, came_ran, came_refused}
+use Rattle.dude_program.proofs.Came.{opened_old, came_ran, came_refused}
 use Rattle.dude_program.proofs.EachCommand.{drive_came, drive_opens, drive_passes, is_opening_of, opening_of}
 use Rattle.dude_program.proofs.commands.drive.Goals as goal
 
@@ -15,7 +15,7 @@ pub returns-in-Err-clause-ends : goal.returns-in-Err-clause-ends
 returns-in-Err-clause-ends g c f =
     let load = c.args.load in
     rw (c.refused.ensures.medium, c.refused.ensures.done, c.refused.ensures.fault)
-    (ends_at_open (drive_opens load.seed load.count load.files _) (no_files (DriveLoad load.seed load.count load.files) f refl) c.in-Err.ensures.front c.in-Err.ensures.only_read c.in-Err.fault c.in-Err.ensures.fault)
+    (ends_at_open (drive_opens load.seed load.count load.files _) (no_files (DriveLoad load.seed load.count load.files) f refl) c.in-Err.ensures.prefix c.in-Err.ensures.only_read c.in-Err.fault c.in-Err.ensures.fault)
 
 pub returns-in-Ok-make_load-clause-ends : goal.returns-in-Ok-make_load-clause-ends
 returns-in-Ok-make_load-clause-ends g c f =
@@ -24,10 +24,10 @@ returns-in-Ok-make_load-clause-ends g c f =
     let o = c.in-Ok.opened in
     let opened = c.in-Ok.ensures.opened in
     let opening = opening_of o opened in
-    let begins = c.in-Ok.ensures.begins opening (is_opening_of o opened) in
-    let made = c.in-Ok-make_load.ensures in
-    let are : requests_in lists ≡ load_of o.sizes.subscribers load.seed load.count load.files = ap requests_in c.deref.ensures.value ∙ made.load in
-    let came = came_ran (no_files (DriveLoad load.seed load.count load.files) f refl) (begun_old (drive_opens load.seed load.count load.files _) begins.0 begins.1) refl are
+    let is_open = c.in-Ok.ensures.is_open opening (is_opening_of o opened) in
+    let made = c.in-Ok-make_load.ensures.made in
+    let are : requests_in lists ≡ load_of o.sizes.subscribers load.seed load.count load.files = ap requests_in c.deref.ensures.value ∙ made.requests in
+    let came = came_ran (no_files (DriveLoad load.seed load.count load.files) f refl) (opened_old (drive_opens load.seed load.count load.files _) is_open.0 is_open.1) refl are
     (λ opens visible why refuses. drive_passes load.seed load.count load.files f opening (requests_in lists) are made.files made.subscribers (rw c.deref.ensures.value made.numbers) why refuses)
     c.work.result.fault (c.work.ensures opening (is_opening_of o opened)) in
     rw (c.end_with_summary.ensures.medium, c.end_with_summary.ensures.done) (ends_printed _ _ came c.end_with_summary.ensures.printed)
@@ -38,8 +38,8 @@ returns-in-Err-make_load-clause-ends g c f =
     let o = c.in-Ok.opened in
     let opened = c.in-Ok.ensures.opened in
     let opening = opening_of o opened in
-    let begins = c.in-Ok.ensures.begins opening (is_opening_of o opened) in
-    let why = drive_came load.seed load.count load.files f opening (load_of o.sizes.subscribers load.seed load.count load.files) refl 0 (g.M.Medium.sight c.args.medium) (g.M.Medium.sight (medium_of o.back)) (left_opened _ _ _ _ _ begins.1)
+    let is_open = c.in-Ok.ensures.is_open opening (is_opening_of o opened) in
+    let why = drive_came load.seed load.count load.files f opening (load_of o.sizes.subscribers load.seed load.count load.files) refl 0 (g.M.Medium.sight c.args.medium) (g.M.Medium.sight (medium_of o.back)) (left_opened _ _ _ _ _ is_open.1)
     c.in-Err-make_load.fault c.in-Err-make_load.ensures.err in
-    let came = came_refused (no_files (DriveLoad load.seed load.count load.files) f refl) (begun_old (drive_opens load.seed load.count load.files _) begins.0 begins.1) 0 c.in-Err-make_load.fault why.1 why.0 in
+    let came = came_refused (no_files (DriveLoad load.seed load.count load.files) f refl) (opened_old (drive_opens load.seed load.count load.files _) is_open.0 is_open.1) 0 c.in-Err-make_load.fault why.1 why.0 in
     rw (c.refused-in-Err-make_load.ensures.medium, c.refused-in-Err-make_load.ensures.done, c.refused-in-Err-make_load.ensures.fault, c.into_medium.ensures) (ends_faulted c.in-Err-make_load.fault came)

@@ -3,7 +3,7 @@ use Rattle.command_words.specs.Command.{Meaning.FormatImage}
 use Rattle.dude_program.proofs.FilesRead.{no_files}
 use Rattle.dude_program.proofs.Endings.{ends_printed}
 use Rattle.dude_program.proofs.Stops.{ends_at_format}
-use Rattle.dude_program.proofs.Came.{begun_new, came_idle}
+use Rattle.dude_program.proofs.Came.{opened_new, came_idle}
 use Rattle.dude_program.proofs.EachCommand.{format_makes, idle_prints}
 use Rattle.dude_program.proofs.commands.format.Goals as goal
 
@@ -12,7 +12,7 @@ returns-in-Ok-make_and_open-clause-ends g c f =
     let n = c.args.counts in
     let e = c.in-Ok-make_and_open.ensures in
     let maker = format_makes n.subscribers n.calls n.rings n.cells c.in-Ok.sizes (g.M.Medium.sight c.args.medium) c.in-Ok.ensures.ok.0 in
-    let came = came_idle (no_files (FormatImage n.subscribers n.calls n.rings n.cells) f refl) (begun_new maker e.fits e.begins) tt (λ opens. let no : ⊥ = cc in absurd no) in
+    let came = came_idle (no_files (FormatImage n.subscribers n.calls n.rings n.cells) f refl) (opened_new maker e.fits e.is_open) tt (λ opens. let no : ⊥ = cc in absurd no) in
     rw (c.end_with_lines.ensures.medium, c.end_with_lines.ensures.done, c.idle.ensures.medium, c.idle.ensures.done)
     (ends_printed _ _ came (idle_prints _ _ _ c.idle.ensures.done (c.idle.ensures.last ∙ sym e.opening.number) c.idle.ensures.fault c.end_with_lines.ensures.printed))
 
@@ -21,4 +21,4 @@ returns-in-Err-clause-ends g c f =
     let n = c.args.counts in
     let maker = format_makes n.subscribers n.calls n.rings n.cells c.in-Ok.sizes (g.M.Medium.sight c.args.medium) c.in-Ok.ensures.ok.0 in
     rw (c.refused.ensures.medium, c.refused.ensures.done, c.refused.ensures.fault)
-    (ends_at_format maker (no_files (FormatImage n.subscribers n.calls n.rings n.cells) f refl) c.in-Err.ensures.front c.in-Err.fault c.in-Err.ensures.fault)
+    (ends_at_format maker (no_files (FormatImage n.subscribers n.calls n.rings n.cells) f refl) c.in-Err.ensures.prefix c.in-Err.fault c.in-Err.ensures.fault)
