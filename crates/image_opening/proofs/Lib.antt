@@ -3,6 +3,7 @@ pub mod MixedHomes
 pub mod OpeningFaults
 pub mod OpeningImages
 pub mod OpeningMoments
+pub mod OpeningReads
 pub mod OpeningRuns
 pub mod OpeningStates
 pub mod SettledReads

@@ -1,9 +1,8 @@
-use Rattle.std.proofs.Common.{◌≡◌, sym, ap, ◌∙◌, arith, rules}
-use Rattle.dude_base.specs.declared.sizes.Sizes.{Sizes}
-use Rattle.pmem_trait.proofs.ReadRuns.{reads_then, read_alone, read_content, content_before}
+use Rattle.std.proofs.Common.{◌∙◌, arith, rules}
+use Rattle.pmem_trait.proofs.ReadRuns.{reads_then, read_alone}
 use Rattle.image_recovery.proofs.Reading.{refused_again, refused_at_device}
-use Rattle.image_opening.specs.OpeningCalls.{stale_lines}
 use Rattle.image_opening.proofs.OpeningFaults.{refused_unread, stops_again, stops_at_read, stops_on_the_way}
+use Rattle.image_opening.proofs.OpeningReads.{opens_behind}
 use Rattle.image_opening.proofs.opening.open_image.Goals as goal
 
 pub returns-in_err-lay-clause-refused : goal.returns-in_err-lay-clause-refused
@@ -28,38 +27,20 @@ pub returns-in_err-version-clause-stopped : goal.returns-in_err-version-clause-s
 returns-in_err-version-clause-stopped g c =
     stops_at_read c.from_residual-in_err-version.result (search rules) (reads_then (reads_then c.in_ok-lay.ensures.reads c.in_ok-stale.ensures.reads) (read_alone c.in_err-version.ensures.one_call))
 
--- the image was recovered, the stale heads were found, and the calls were made
+-- the image was recovered, the stale heads were found, the version was read, and the calls were made
 pub returns-in_err-settle_image-clause-stopped : goal.returns-in_err-settle_image-clause-stopped
 returns-in_err-settle_image-clause-stopped g c =
-    let same = c.of-place.ensures ∙ c.sizes.ensures.sizes in
     stops_on_the_way c.from_residual-in_err-settle_image.result (search rules) (record {
       sizes = c.in_ok-lay.lay;
       number = c.in_ok-lay.recovered.number;
       words = c.in_ok-lay.recovered.words.items;
       is = c.in_ok-lay.ensures.lawful;
       recovered = c.in_ok-lay.ensures.recovered;
-      opens = record {
-        read = g.M.Medium.sight c.read.new.self;
-        reads = reads_then (reads_then c.in_ok-lay.ensures.reads c.in_ok-stale.ensures.reads) (read_alone c.in_ok-version.ensures.one_call);
-        stale = c.in_ok-stale.stale.items;
-        heads = content_before {P = λ content. c.in_ok-stale.stale.items ≡ stale_lines c.in_ok-lay.lay c.in_ok-lay.recovered.number content} c.in_ok-lay.ensures.reads
-            (λ told content is. c.in_ok-stale.ensures.lines told content is ∙ ap (λ (s : Sizes). stale_lines s c.in_ok-lay.recovered.number content) same);
-        version = c.in_ok-version.version;
-        named = λ told content is. sym (read_content 1 (reads_then c.in_ok-lay.ensures.reads c.in_ok-stale.ensures.reads) (omega (arith, c.in_ok-lay.ensures.lawful.room)) c.in_ok-version.ensures.value told content is);
-        made = rw (← same, ← c.deref.ensures.value, ← c.deref-2.ensures.value) c.in_err-settle_image.ensures.made;
-      };
+      opens = opens_behind (c.of-place.ensures ∙ c.sizes.ensures.sizes) c.deref.ensures.value c.deref-2.ensures.value c.in_ok-lay.ensures.reads c.in_ok-stale.ensures.reads c.in_ok-version.ensures.one_call
+          (omega (arith, c.in_ok-lay.ensures.lawful.room)) c.in_ok-version.ensures.value c.in_ok-stale.ensures.lines c.in_err-settle_image.ensures.made;
     })
 
 pub returns-clause-made : goal.returns-clause-made
 returns-clause-made g c =
-    let same = c.of-place.ensures ∙ c.sizes.ensures.sizes in
-    record {
-      read = g.M.Medium.sight c.read.new.self;
-      reads = reads_then (reads_then c.in_ok-lay.ensures.reads c.in_ok-stale.ensures.reads) (read_alone c.in_ok-version.ensures.one_call);
-      stale = c.in_ok-stale.stale.items;
-      heads = content_before {P = λ content. c.in_ok-stale.stale.items ≡ stale_lines c.in_ok-lay.lay c.in_ok-lay.recovered.number content} c.in_ok-lay.ensures.reads
-          (λ told content is. c.in_ok-stale.ensures.lines told content is ∙ ap (λ (s : Sizes). stale_lines s c.in_ok-lay.recovered.number content) same);
-      version = c.in_ok-version.version;
-      named = λ told content is. sym (read_content 1 (reads_then c.in_ok-lay.ensures.reads c.in_ok-stale.ensures.reads) (omega (arith, c.in_ok-lay.ensures.lawful.room)) c.in_ok-version.ensures.value told content is);
-      made = rw (← same, ← c.deref.ensures.value, ← c.deref-2.ensures.value) c.in_ok-settle_image.ensures.made;
-    }
+    opens_behind (c.of-place.ensures ∙ c.sizes.ensures.sizes) c.deref.ensures.value c.deref-2.ensures.value c.in_ok-lay.ensures.reads c.in_ok-stale.ensures.reads c.in_ok-version.ensures.one_call
+    (omega (arith, c.in_ok-lay.ensures.lawful.room)) c.in_ok-version.ensures.value c.in_ok-stale.ensures.lines c.in_ok-settle_image.ensures.made
