@@ -1,13 +1,8 @@
 -- What the calls of tables ensure, at the tables and answers of a request.
-use Rattle.std.proofs.Common.{◌≡◌, ℕ, Bool, List, Option, subst, sym}
+use Rattle.std.proofs.Common.{◌≡◌, ℕ, Bool, List, Option, subst}
 use Rattle.hash_table.specs.declared.put.Put.{Put}
 use Rattle.hash_table.specs.declared.table.Table.{Table}
 use Rattle.hash_table.specs.Table.{FindsAll, FitsTable, InsertsAll, RemovesAll}
-use Rattle.dude_base.specs.declared.sizes.Sizes.{Sizes}
-use Rattle.tatp_model.specs.declared.reply.Reply.{Reply}
-use Rattle.tatp_model.specs.declared.request.Request.{Request}
-use Rattle.tatp_model.specs.Database.{Database}
-use Rattle.tatp_core.specs.Serves.{Serves}
 
 pub finds_at : {t u : Table} {a b : List ℕ} {key k : ℕ} {r o : Option ℕ} → t ≡ u → a ≡ b → key ≡ k → r ≡ o → FindsAll t a key r → FindsAll u b k o
 finds_at {t} {u} {a} {b} {key} {k} {r} {o} table array keys answer finds =

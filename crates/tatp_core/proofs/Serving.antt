@@ -1,8 +1,6 @@
 -- What serving a request leaves, by how it ended.
 use Rattle.std.proofs.Common.{◌≡◌, ◌≢◌, ℕ, ◌<◌, ◌≤◌, List, [], length, Some, None, Result, Ok, Err, refl, sym, ap, ◌∙◌, subst, arith, lit≤, zero-le}
-use Rattle.std.specs.Prelude.{IfOk}
 use Rattle.std.specs.Result.{IsErrAnd}
-use Rattle.std.proofs.lemmas.Result.{IfOk-from_err}
 use Rattle.dude_base.specs.declared.sizes.Sizes.{Sizes}
 use Rattle.dude_base.specs.declared.write.Write.{Write}
 use Rattle.dude_base.specs.Writes.{overwritten}
@@ -21,7 +19,18 @@ use Rattle.tatp_layout.specs.StandsFor.{StandsFor}
 use Rattle.tatp_layout.proofs.Seen.{stands_bare}
 use Rattle.tatp_read.specs.Lookups.{AnswersRequest, reads_of}
 use Rattle.tatp_core.specs.Reads.{IsRead}
-use Rattle.tatp_core.specs.Serves.{Serves, ServesRequest, WritesIfChanged, most_reads, most_writes}
+use Rattle.tatp_core.specs.Serves.{Serves, ServesRequest, WritesIfChanged, max_writes, most_reads, most_writes}
+
+-- no request writes more words than an insertion
+most_writes_few : (request : Request) → most_writes request ≤ max_writes
+most_writes_few (UpdateSubscriber s_id bit_1 sf_type data_a) = lit≤ tt
+most_writes_few (UpdateLocation sub_nbr vlr) = lit≤ tt
+most_writes_few (InsertCall sub_nbr sf_type start_time end_time numberx) = lit≤ tt
+most_writes_few (DeleteCall sub_nbr sf_type start_time) = lit≤ tt
+most_writes_few _ = lit≤ tt
+
+few_of : {n k : ℕ} (request : Request) → n ≤ k → k ≤ most_writes request → n ≤ max_writes
+few_of request less within = omega (arith, less, within, most_writes_few request)
 
 -- words were written
 wrote_changed : {n : ℕ} {s t : WordsSight} → Wrote n s t → 0 < n → WritesIfChanged Changed t.writes
@@ -37,9 +46,9 @@ ServesSeen sight s request reply x y = IsInRange request → (array : List ℕ) 
 
 module _ {S : Type 0} {sight : S → WordsSight} {turns_into : S → S → Type 0} (s : Sizes) where
   stopped_for : {taken : Request} {e : Stop} {k l : ℕ} {x y : S} → (sight x).writes ≡ [] → WordsUsed sight turns_into k l (Some e) x y → k ≤ most_reads s taken → l ≤ most_writes taken → ServesRequest sight turns_into s taken (Err e) x y
-  stopped_for bare used reads writes =
+  stopped_for {taken = taken} bare used reads writes =
       let within = used_more used reads writes in
-      record { uses = within; few = few_pending within bare; wrote = tt; serves = tt }
+      record { uses = within; few = few_of taken (few_pending used bare) writes; wrote = tt; serves = tt }
 
   -- From here on the request was taken apart.
   module _ {request taken : Request} (is : request ≡ taken) where
@@ -56,7 +65,7 @@ module _ {S : Type 0} {sight : S → WordsSight} {turns_into : S → S → Type 
         let within = used_more used reads writes in
         subst (λ q. ServesRequest sight turns_into s q (Ok reply) x y) (sym is) (record {
           uses = within;
-          few = few_pending within bare;
+          few = few_of taken (few_pending used bare) writes;
           wrote = wrote_nothing (wrote_zero wrote ∙ bare) other;
           serves = λ array below db stands. serves (subst IsInRange is range) array below db (stands_bare (sight x) bare stands);
         })
@@ -68,7 +77,7 @@ module _ {S : Type 0} {sight : S → WordsSight} {turns_into : S → S → Type 
         let within = used_more used reads writes in
         subst (λ q. ServesRequest sight turns_into s q (Ok Changed) x y) (sym is) (record {
           uses = within;
-          few = few_pending within bare;
+          few = few_of taken (few_pending used bare) writes;
           wrote = wrote_changed wrote some;
           serves = λ array below db stands. serves (subst IsInRange is range) array below db (stands_bare (sight x) bare stands);
         })
@@ -110,11 +119,3 @@ module _ {S : Type 0} {sight : S → WordsSight} {turns_into : S → S → Type 
     wrote = tt;
     serves = tt;
   }
-
--- no request writes more words than an insertion
-pub most_writes_few : (request : Request) → most_writes request ≤ 7
-most_writes_few (UpdateSubscriber s_id bit_1 sf_type data_a) = lit≤ tt
-most_writes_few (UpdateLocation sub_nbr vlr) = lit≤ tt
-most_writes_few (InsertCall sub_nbr sf_type start_time end_time numberx) = lit≤ tt
-most_writes_few (DeleteCall sub_nbr sf_type start_time) = lit≤ tt
-most_writes_few _ = lit≤ tt

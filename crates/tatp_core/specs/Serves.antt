@@ -40,12 +40,16 @@ most_reads s (InsertCall sub_nbr sf_type start_time end_time numberx) = id_reads
 most_reads s (DeleteCall sub_nbr sf_type start_time) = id_reads s + remove_reads (call_table s)
 most_reads s request = reads_of s request
 
+-- the most writes of any request: those of a call row that is inserted
+abbrev pub max_writes : ℕ
+max_writes = 7
+
 -- The most writes of a request: a word for each field that it changes; and for a call row that it inserts or deletes, the
 -- words of the chain and of the free list.
 abbrev pub most_writes : Request → ℕ
 most_writes (UpdateSubscriber s_id bit_1 sf_type data_a) = 2
 most_writes (UpdateLocation sub_nbr vlr) = 1
-most_writes (InsertCall sub_nbr sf_type start_time end_time numberx) = 7
+most_writes (InsertCall sub_nbr sf_type start_time end_time numberx) = max_writes
 most_writes (DeleteCall sub_nbr sf_type start_time) = 4
 most_writes _ = 0
 
@@ -57,8 +61,8 @@ UsesFor sight turns_into s request result old new = UsesWords sight turns_into (
 pub record ServesRequest {S : Type 0} (sight : S → WordsSight) (turns_into : S → S → Type 0) (s : Sizes) (request : Request) (result : Result Reply Stop) (old new : S) : Type 0 where
   -- at most as many reads and writes were made as it may
   pub uses : UsesFor sight turns_into s request result old new
-  -- so many words are pending at most
-  pub few : length (sight new).writes ≤ most_writes request
+  -- no more words are pending than any request may write
+  pub few : length (sight new).writes ≤ max_writes
   -- a word is written exactly where the reply is Changed
   pub wrote : IfOk result (λ reply. WritesIfChanged reply (sight new).writes)
   -- as one thread would, for every lawful array that agrees with the reads made

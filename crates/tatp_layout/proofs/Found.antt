@@ -7,7 +7,7 @@ use Rattle.std.proofs.lemmas.Bool.{cases_Bool, cases_lt, both_ways, eqb-true, eq
 use Rattle.std.proofs.lemmas.List.{get_or_default}
 use Rattle.std.proofs.lemmas.List.Elements.{All-contains, Contains-append_right}
 use Rattle.hash_table.specs.declared.table.Table.{Table}
-use Rattle.hash_table.specs.Table.{FindsAll, IsTable, lookup, records_in}
+use Rattle.hash_table.specs.Table.{FindsAll, records_in}
 use Rattle.hash_table.proofs.Maps.{IsAt, along, lookup-is_at}
 use Rattle.tatp_model.specs.declared.access_row.AccessRow.{AccessRow}
 use Rattle.tatp_model.specs.declared.call_row.CallRow.{CallRow}

@@ -1,5 +1,5 @@
 -- Tables and databases of the words as they are seen, before calls and after them.
-use Rattle.std.proofs.Common.{◌≡◌, ℕ, List, [], IfSome, Option, Some, None, sym, ◌∙◌, subst}
+use Rattle.std.proofs.Common.{◌≡◌, ℕ, List, [], IfSome, Option, Some, None, sym, subst}
 use Rattle.dude_base.specs.declared.sizes.Sizes.{Sizes}
 use Rattle.dude_base.specs.Writes.{overwritten}
 use Rattle.record_heap.specs.Pool.{IsRecord}

@@ -1,5 +1,5 @@
 -- The replies, by what was learned of the tables.
-use Rattle.std.proofs.Common.{◌≡◌, ◌≢◌, ℕ, ◌≤◌, true, false, List, [], length, map, Option, Some, None, Result, Ok, Err, refl, sym, ap, ◌∙◌, subst, zero-le}
+use Rattle.std.proofs.Common.{◌≡◌, ◌≢◌, ℕ, ◌≤◌, true, false, List, [], length, map, Option, Some, None, Result, Ok, refl, sym, ap, ◌∙◌, subst, zero-le}
 use Rattle.std.specs.Prelude.{◌==◌, find, filter}
 use Rattle.std.specs.List.{list_any}
 use Rattle.std.specs.Option.{option_map_or}

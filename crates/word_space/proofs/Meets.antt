@@ -4,7 +4,7 @@ use Rattle.std.proofs.lemmas.List.{get_or_push}
 use Rattle.dude_base.specs.Writes.{written, overwritten}
 use Rattle.dude_base.proofs.Overwriting.{index-overwritten, overwritten-put}
 use Rattle.word_space.specs.Sights.{WordsSight, IsBelow, shown}
-use Rattle.word_space.specs.Steps.{DoesRead, DoesWrite, ReadsWord, WritesWord}
+use Rattle.word_space.specs.Steps.{DoesRead, DoesWrite}
 
 value_by : (s t : WordsSight) (at v : ℕ) (found : Option ℕ) → written s.writes at ≡ found → at < s.count
     → MatchOption found (t ≡ record s { reads = s.reads ++ (at, v) ∷ [] }) (λ x. (v ≡ x) × (t ≡ s))

@@ -1,17 +1,16 @@
 -- Calls one after another: what they leave together.
-use Rattle.std.proofs.Common.{◌≡◌, ◌≢◌, ℕ, ◌+◌, ◌<◌, ◌≤◌, List, [], ◌∷◌, ◌++◌, length, length-append, All, slice_index, Option, Some, None, Result, Ok, Err, MatchOption, refl, sym, ap, ◌∙◌, subst, append_assoc, arith, lit≤}
+use Rattle.std.proofs.Common.{◌≡◌, ℕ, ◌+◌, ◌<◌, ◌≤◌, List, [], ◌∷◌, ◌++◌, length, length-append, All, slice_index, Option, Some, None, Result, Ok, Err, MatchOption, refl, sym, ap, ◌∙◌, subst, append_assoc, arith, lit≤}
 use Rattle.std.proofs.lemmas.List.{append-nil, get_or_append_left}
 use Rattle.std.specs.Result.{IsErrAnd}
 use Rattle.std.proofs.lemmas.Result.{err_from_is_err_and}
 use Rattle.dude_base.specs.declared.write.Write.{Write}
-use Rattle.dude_base.specs.Writes.{overwritten, put_all, put_write, written, IsWide}
+use Rattle.dude_base.specs.Writes.{overwritten, put_all, put_write, written}
 use Rattle.dude_base.proofs.Joining.{put_all-append, put_all-longer, length-put_all}
 use Rattle.dude_base.proofs.Overwriting.{length-overwritten}
 use Rattle.dude_base.proofs.WriteLists.{length-put_write}
 use Rattle.word_space.specs.declared.stop.Stop.{Stop}
-use Rattle.word_space.specs.declared.stop.Stop.TheVariants.{Wide}
 use Rattle.word_space.specs.Sights.{WordsSight, IsBelow, shown}
-use Rattle.word_space.specs.Steps.{stop_of, IsLastStop, MadeAtMost, WordsGoOn, WordsUsed, Wrote, DoesRead, DoesWrite, ReadsWord, WritesWord}
+use Rattle.word_space.specs.Steps.{stop_of, IsLastStop, MadeAtMost, WordsGoOn, WordsUsed, Wrote, ReadsWord, WritesWord}
 
 -- ---- at most so many reads and writes
 

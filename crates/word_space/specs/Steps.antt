@@ -69,6 +69,10 @@ ChangesSeen sight result old new P = IfOk result (λ r. (array : List ℕ) → I
 abbrev pub Shows : {S T : Type 0} → (S → WordsSight) → Result T Stop → S → S → (List ℕ → List ℕ) → Type 0
 Shows sight result old new after = OnOk result ((array : List ℕ) → shown (sight new) array ≡ after (shown (sight old) array))
 
+-- the array with this value in the word `at`
+abbrev pub with_word : ℕ → ℕ → List ℕ → List ℕ
+with_word at value array = slice_set array at value
+
 -- A read of a word that was written gives the written value and is no read of the array; another one is
 -- noted. After a Stop only the last Stop is new.
 abbrev pub DoesRead : ℕ → Result ℕ Stop → WordsSight → WordsSight → Type 0

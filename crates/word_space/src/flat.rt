@@ -93,11 +93,11 @@ impl Flat {
 }
 
 impl Words for Flat {
-    ghost use Rattle.std.specs.Prelude.{◌≡◌, ◌<◌, IfErr, slice_set};
+    ghost use Rattle.std.specs.Prelude.{◌≡◌, ◌<◌, IfErr};
     ghost use Rattle.std.proofs.Common.{refl, ◌∙◌};
     ghost use Rattle.word_space.specs.declared.stop.Stop.{Stop};
     ghost use Rattle.word_space.specs.Flats.{flat_sight, flat_well_formed, HasSameWords};
-    ghost use Rattle.word_space.specs.Steps.{MakesWrite, Shows, UsesWords};
+    ghost use Rattle.word_space.specs.Steps.{MakesWrite, Shows, UsesWords, with_word};
 
     ghost sight = { flat_sight };
 
@@ -132,7 +132,7 @@ impl Words for Flat {
         requires inside { at < (flat_sight self.old).count }
         ensures uses { UsesWords flat_sight HasSameWords 0 1 result self.old self.new }
         ensures writes { MakesWrite flat_sight at value result self.old self.new }
-        ensures shown { Shows flat_sight result self.old self.new (λ seen. slice_set seen at value) }
+        ensures shown { Shows flat_sight result self.old self.new (with_word at value) }
         ensures no_memory { IfErr result (λ stop. stop ≡ Stop.Wide) }
     {
         match self.writes.put(Write { at, value }) {

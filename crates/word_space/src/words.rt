@@ -1,8 +1,8 @@
 //! The trait of reads and writes over an array of words.
 
-ghost use Rattle.std.specs.Prelude.{◌≡◌, ◌<◌, slice_set};
+ghost use Rattle.std.specs.Prelude.{◌≡◌, ◌<◌};
 ghost use Rattle.word_space.specs.Sights.{WordsSight, IsWellFormed};
-ghost use Rattle.word_space.specs.Steps.{AnswersSeen, IsSeenAt, MakesRead, MakesWrite, Shows, UsesWords};
+ghost use Rattle.word_space.specs.Steps.{AnswersSeen, IsSeenAt, MakesRead, MakesWrite, Shows, UsesWords, with_word};
 
 use crate::stop::Stop;
 
@@ -37,7 +37,7 @@ pub trait Words {
         requires inside { at < (sight self.old).count }
         ensures uses { UsesWords sight turns_into 0 1 result self.old self.new }
         ensures writes { MakesWrite sight at value result self.old self.new }
-        ensures shown { Shows sight result self.old self.new (λ seen. slice_set seen at value) };
+        ensures shown { Shows sight result self.old self.new (with_word at value) };
 
     ghost well_formed: { (x : Self) → IsWellFormed (sight x) };
 

@@ -1,4 +1,4 @@
-use Rattle.std.proofs.Common.{Some, IfSome, arith, subst, ap, refl, slice_index, ◌+◌, ◌∙◌, lit≤}
+use Rattle.std.proofs.Common.{IfSome, arith, subst, ap, refl, slice_index, ◌+◌, ◌∙◌, lit≤}
 use Rattle.std.proofs.lemmas.Bool.{false≢true}
 use Rattle.std.proofs.lemmas.Result.{IfOk-from_err}
 use Rattle.word_space.proofs.Runs.{below_before, shown_same, used_handed, used_more, used_then, used_until}

@@ -1,4 +1,4 @@
-use Rattle.std.proofs.Common.{ap, arith, subst, refl, slice_set, ◌+◌, [], ◌∷◌, None, Some, sym, ◌∙◌, lit≤, lit<}
+use Rattle.std.proofs.Common.{ap, arith, subst, refl, slice_set, ◌+◌, [], ◌∷◌, ◌∙◌, lit≤, lit<}
 use Rattle.hash_table.specs.Walk.{walk_reads}
 use Rattle.word_space.specs.Sights.{shown}
 use Rattle.word_space.proofs.Runs.{below_before, shown_same, used_then, used_until, wrote_none, wrote_then}

@@ -1,6 +1,5 @@
-use Rattle.std.proofs.Common.{◌∙◌, ℕ, List, lit≤}
+use Rattle.std.proofs.Common.{◌∙◌, lit≤}
 use Rattle.std.proofs.lemmas.Result.{IfOk-from_err}
-use Rattle.word_space.specs.Sights.{IsBelow}
 use Rattle.word_space.proofs.Runs.{used_handed}
 use Rattle.tatp_layout.proofs.Decoded.{access_apart, access_back}
 use Rattle.tatp_layout.proofs.access_record.get_access.Goals as goal
@@ -9,6 +8,4 @@ pub returns-in_err-words : goal.returns-in_err-words
 returns-in_err-words g c = let r = c.from_residual in record { uses = used_handed r.result r.ensures.1 c.in_err-words.ensures.uses (lit≤ tt) (lit≤ tt); exact = IfOk-from_err _ _ r.ensures.0; row = IfOk-from_err _ _ r.ensures.0 }
 
 pub returns : goal.returns
-returns g c =
-    let exact = λ (array : List ℕ) (below : IsBelow (g.W.Words.sight c.read_record.new.w) array). c.access_of.ensures ∙ access_apart (c.in_ok-words.ensures.words array below) in
-    record { uses = c.in_ok-words.ensures.uses; exact = exact; row = λ array below r range held. exact array below ∙ access_back range held }
+returns g c = record { uses = c.in_ok-words.ensures.uses; exact = λ array below. c.access_of.ensures ∙ access_apart (c.in_ok-words.ensures.words array below); row = λ array below r range held. c.access_of.ensures ∙ access_apart (c.in_ok-words.ensures.words array below) ∙ access_back range held }

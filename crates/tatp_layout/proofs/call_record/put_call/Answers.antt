@@ -1,10 +1,8 @@
-use Rattle.std.proofs.Common.{◌∙◌, ◌+◌, slice_set, arith, sym, ap, subst, lit≤, lit<}
+use Rattle.std.proofs.Common.{◌∙◌, ◌+◌, slice_set, sym, ap, subst, lit≤, lit<}
 use Rattle.word_space.specs.Sights.{shown}
-use Rattle.record_heap.specs.Pool.{IsRecord}
-use Rattle.hash_table.specs.declared.table.Table.{Table}
 use Rattle.tatp_layout.specs.Records.{HoldsRow, call_form}
 use Rattle.tatp_layout.proofs.Stored.{word_fits, call_set}
-use Rattle.word_space.proofs.Runs.{below_before, length_shown, used_until, used_handed, used_then, wrote_none, wrote_one, wrote_then, shown_same}
+use Rattle.word_space.proofs.Runs.{below_before, length_shown, used_until, used_handed, used_then, wrote_one, wrote_then}
 use Rattle.std.proofs.lemmas.Result.{IfOk-from_err}
 use Rattle.tatp_layout.proofs.call_record.put_call.Goals as goal
 

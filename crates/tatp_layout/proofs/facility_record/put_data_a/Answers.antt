@@ -1,6 +1,4 @@
-use Rattle.std.proofs.Common.{◌∙◌, ◌+◌, ◌*◌, ◌/◌, ◌%◌, slice_set, arith, sym, ap, subst, lit≤, lit<}
-use Rattle.record_heap.specs.Pool.{IsRecord}
-use Rattle.hash_table.specs.declared.table.Table.{Table}
+use Rattle.std.proofs.Common.{◌∙◌, ◌+◌, ◌*◌, ◌/◌, ◌%◌, slice_set, sym, ap, subst, lit≤, lit<}
 use Rattle.tatp_layout.specs.Records.{HoldsRow, facility_form}
 use Rattle.tatp_layout.proofs.Stored.{word_fits, data_a_set}
 use Rattle.word_space.proofs.Runs.{below_before, length_shown, used_until, used_handed, used_then, wrote_none, wrote_one, wrote_then, shown_same}

@@ -1,4 +1,4 @@
-use Rattle.std.proofs.Common.{◌≡◌, None, Ok, ◌+◌, ◌≤◌, ◌<◌, ℕ, List, slice_set, length, length-set, slice_index, ap, sym, ◌∙◌, arith, get_or-set_other, get_or-set_same, inl, inr, lit≤}
+use Rattle.std.proofs.Common.{◌≡◌, ◌+◌, ◌≤◌, ◌<◌, ℕ, List, slice_set, length, length-set, slice_index, ap, sym, ◌∙◌, arith, get_or-set_other, get_or-set_same, inl, inr, lit≤}
 use Rattle.std.proofs.lemmas.Bool.{cases_eq}
 use Rattle.std.proofs.lemmas.List.{length-replicate}
 use Rattle.std.specs.Prelude.{replicate}

@@ -1,9 +1,7 @@
-use Rattle.std.proofs.Common.{arith, ap, sym, subst, ◌∙◌, lit≤, lit<}
-use Rattle.record_heap.specs.Pool.{IsRecord}
-use Rattle.hash_table.specs.declared.table.Table.{Table}
+use Rattle.std.proofs.Common.{sym, subst, ◌∙◌, lit≤, lit<}
 use Rattle.tatp_layout.specs.Records.{HoldsRow, subscriber_form}
 use Rattle.tatp_layout.proofs.Stored.{word_fits, vlr_set}
-use Rattle.word_space.proofs.Runs.{below_before, length_shown, used_behind, used_handed, used_then, wrote_none, wrote_one, wrote_then, shown_same}
+use Rattle.word_space.proofs.Runs.{below_before, length_shown, used_handed, wrote_one}
 use Rattle.std.proofs.lemmas.Result.{IfOk-from_err}
 use Rattle.tatp_layout.proofs.subscriber_record.put_vlr.Goals as goal
 

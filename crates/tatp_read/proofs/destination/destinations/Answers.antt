@@ -1,4 +1,4 @@
-use Rattle.std.proofs.Common.{◌≡◌, ◌<◌, ◌+◌, ◌/◌, ◌*◌, ◌-◌, None, arith, sym, ap, ◌∙◌, Some, lit≤}
+use Rattle.std.proofs.Common.{◌≡◌, ◌<◌, ◌+◌, ◌/◌, ◌-◌, arith, sym, ap, ◌∙◌, lit≤}
 use Rattle.std.proofs.lemmas.Result.{IfOk-from_err}
 use Rattle.tatp_model.specs.declared.numbers.Numbers.{Numbers}
 use Rattle.tatp_model.specs.Numbers.{numbers_of}

@@ -2,7 +2,7 @@ use Rattle.std.proofs.lemmas.Result.{IfOk-from_err}
 use Rattle.hash_table.proofs.Insertions.{found_first}
 use Rattle.hash_table.proofs.Walks.{finds_none, finds_some}
 use Rattle.std.proofs.Common.{arith, lit≤}
-use Rattle.word_space.proofs.Runs.{used_handed, used_more, used_then}
+use Rattle.word_space.proofs.Runs.{used_handed}
 use Rattle.hash_table.proofs.table.Table.find.Goals as goal
 
 pub returns-in_err-position : goal.returns-in_err-position

@@ -1,7 +1,7 @@
-use Rattle.std.proofs.Common.{None, subst, sym, arith, lit≤}
+use Rattle.std.proofs.Common.{subst, sym, arith, lit≤}
 use Rattle.std.proofs.lemmas.Result.{IfOk-from_err, IfOk-weaker}
 use Rattle.word_space.specs.Sights.{shown}
-use Rattle.word_space.proofs.Runs.{used_behind, below_behind, shown_same, used_handed, used_more, used_then}
+use Rattle.word_space.proofs.Runs.{used_behind, below_behind, shown_same, used_handed, used_more}
 use Rattle.hash_table.specs.Table.{FitsTable}
 use Rattle.hash_table.proofs.Insertions.{found_first, inserts_absent, puts_absent}
 use Rattle.hash_table.proofs.Walks.{finds_none, finds_some}

@@ -1,5 +1,5 @@
 use Rattle.std.proofs.Common.{arith, lit≤}
-use Rattle.word_space.proofs.Runs.{used_until, wrote_one, wrote_then, used_handed, used_more, used_then}
+use Rattle.word_space.proofs.Runs.{used_until, wrote_one, wrote_then, used_handed, used_then}
 use Rattle.std.proofs.lemmas.Result.{IfOk-from_err}
 use Rattle.hash_table.proofs.table.Table.push_front.Goals as goal
 

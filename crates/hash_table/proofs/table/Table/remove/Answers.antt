@@ -1,4 +1,4 @@
-use Rattle.std.proofs.Common.{◌<◌, None, IfSome, arith, subst, sym, lit≤}
+use Rattle.std.proofs.Common.{◌<◌, IfSome, arith, subst, sym, lit≤}
 use Rattle.std.proofs.lemmas.Result.{IfOk-from_err}
 use Rattle.record_heap.specs.Pool.{IsRecord}
 use Rattle.hash_table.specs.Table.{FitsTable}

@@ -1,4 +1,4 @@
-use Rattle.std.proofs.Common.{None, Ok, arith, sym, ap, ◌∙◌, slice_index, lit≤}
+use Rattle.std.proofs.Common.{arith, sym, ap, ◌∙◌, slice_index, lit≤}
 use Rattle.std.proofs.lemmas.Bool.{false≢true}
 use Rattle.std.proofs.lemmas.Result.{IfOk-from_err}
 use Rattle.word_space.proofs.Runs.{used_until, used_then, below_before, shown_same, used_handed, used_more, used_none}

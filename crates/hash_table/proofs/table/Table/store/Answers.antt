@@ -1,4 +1,4 @@
-use Rattle.std.proofs.Common.{None, arith, IfSome, is_some, if◌then◌else◌, sym, subst, ap, ◌∙◌, slice_index, lit≤}
+use Rattle.std.proofs.Common.{IfSome, is_some, if◌then◌else◌, sym, subst, ap, ◌∙◌, slice_index, lit≤}
 use Rattle.std.proofs.lemmas.Result.{IfOk-from_err}
 use Rattle.word_space.specs.Sights.{shown}
 use Rattle.word_space.proofs.Runs.{used_until, below_before, shown_same, length_shown, wrote_none, wrote_then, used_handed, used_more, used_then}

@@ -1,7 +1,7 @@
-use Rattle.std.proofs.Common.{None, arith, sym, subst, lit≤}
+use Rattle.std.proofs.Common.{arith, sym, subst, lit≤}
 use Rattle.std.proofs.lemmas.Result.{IfOk-from_err}
 use Rattle.word_space.specs.Sights.{shown}
-use Rattle.word_space.proofs.Runs.{used_until, below_before, shown_same, length_shown, wrote_none, wrote_one, wrote_then, used_handed, used_more, used_then}
+use Rattle.word_space.proofs.Runs.{used_until, below_before, shown_same, length_shown, wrote_none, wrote_one, wrote_then, used_handed, used_then}
 use Rattle.record_heap.specs.Pool.{FitsPool, Gives, IsPool}
 use Rattle.hash_table.specs.Table.{records_in}
 use Rattle.hash_table.proofs.Removals.{not_free, removes_found}

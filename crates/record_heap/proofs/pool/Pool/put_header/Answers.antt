@@ -1,4 +1,4 @@
-use Rattle.std.proofs.Common.{◌+◌, slice_set, ap, ◌∙◌, arith, lit≤}
+use Rattle.std.proofs.Common.{◌+◌, slice_set, ap, ◌∙◌, lit≤}
 use Rattle.word_space.proofs.Runs.{used_until, used_handed, used_then, wrote_one, wrote_then}
 use Rattle.record_heap.proofs.pool.Pool.put_header.Goals as goal
 
