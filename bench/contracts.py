@@ -383,11 +383,19 @@ class Book:
             own = re.match(r"(?:requires|ensures)\s*([\w-]*)", text[0])[1]
             cited = [self.find(it, call.imports) for it in cited_in(clause_text(text))]
             definitions = [it for it in cited if isinstance(it, Definition)]
-            if own == clause and (not field or any(re.match(rf"\s+(?:pub )?{field}\s*:", line) for it in definitions for line in it.text)):
+            if own == clause and (not field or any(self.has_field(it, field) for it in definitions)):
                 return True
             if not own and clause in [it.name for it in definitions]:
                 return True
         return False
+
+    def has_field(self, definition, field):
+        """Whether a definition has this field; one that is no record, by the records that it cites."""
+        if definition.text[0].startswith("pub record"):
+            return any(re.match(rf"\s+(?:pub )?{field}\s*:", line) for line in definition.text)
+        module = self.modules[definition.crate, definition.module]
+        cited = [self.find(it, module.imports, module) for it in cited_in(definition.text) if it != definition.name]
+        return any(self.has_field(it, field) for it in cited if isinstance(it, Definition) and it.text[0].startswith("pub record"))
 
     def miss(self, text):
         if text not in self.missing:

@@ -1,4 +1,4 @@
--- How a command that means something ended.
+-- How a command ended: one that means something, and one that is given by its words.
 use Rattle.std.specs.Prelude.{◌≡◌, ℕ, Option, Some, None, List}
 use Rattle.tatp_model.specs.declared.done.Done.{Done}
 use Rattle.command_edges.specs.declared.fault.Fault.{Fault}
@@ -12,9 +12,14 @@ pub record Ends (own : Meaning) (old new : World) (done : List Done) (fault : Op
   pub headline : Headline own old new done fault
   pub causes : Causes own old new done fault
 
--- How a command that is given by these words ended. Words that mean nothing are refused. Where they mean a command, what it
--- did is as the headline says, and when each fault comes, and what stays then, is as the causes say.
-pub record EndsByWords (words : List (List ℕ)) (old new : World) (done : List Done) (fault : Option Fault) : Type 0 where
-  pub refused : meaning_of words ≡ None → RefusesWords old new done fault
-  pub headline : (own : Meaning) → meaning_of words ≡ Some own → Headline own old new done fault
-  pub causes : (own : Meaning) → meaning_of words ≡ Some own → Causes own old new done fault
+-- Words that mean nothing are refused.
+abbrev pub RefusesNoCommand : List (List ℕ) → World → World → List Done → Option Fault → Type 0
+RefusesNoCommand words old new done fault = meaning_of words ≡ None → RefusesWords old new done fault
+
+-- Where the words mean a command, what it did is as the headline says.
+abbrev pub HeadlineByWords : List (List ℕ) → World → World → List Done → Option Fault → Type 0
+HeadlineByWords words old new done fault = (own : Meaning) → meaning_of words ≡ Some own → Headline own old new done fault
+
+-- Where the words mean a command, each fault comes when the causes say, and what stays then is as they say.
+abbrev pub CausesByWords : List (List ℕ) → World → World → List Done → Option Fault → Type 0
+CausesByWords words old new done fault = (own : Meaning) → meaning_of words ≡ Some own → Causes own old new done fault

@@ -5,7 +5,7 @@ ghost use Rattle.std.specs.Rc.{rc_str_bytes};
 ghost use Rattle.command_openings.specs.Openings.{IsAtRest};
 ghost use Rattle.command_words.specs.Command.{IsInLimits, meaning_of_command};
 ghost use Rattle.command_edges.specs.Fault.{status_of};
-ghost use Rattle.dude_program.specs.Ending.{Ends, EndsByWords};
+ghost use Rattle.dude_program.specs.Ending.{CausesByWords, Ends, HeadlineByWords, RefusesNoCommand};
 ghost use Rattle.dude_program.specs.World.{world_of};
 
 use crate::commands::{ImageCounts, drive, dump, format, fresh, recover, run};
@@ -78,7 +78,15 @@ pub fn dude<M: Medium + Send, F: Files, K: Sink>(
 ) -> Ended<M>
     requires settled { IsAtRest (M.sight medium) }
     ensures status { result.status ≡ status_of result.fault }
-    ensures ends { EndsByWords (map rc_str_bytes words.now)
+    ensures refused { RefusesNoCommand (map rc_str_bytes words.now)
+        (world_of (M.sight medium) (F.sight files.old) (K.sight out.old))
+        (world_of (M.sight result.medium) (F.sight files.new) (K.sight out.new))
+        result.done.items result.fault }
+    ensures headline { HeadlineByWords (map rc_str_bytes words.now)
+        (world_of (M.sight medium) (F.sight files.old) (K.sight out.old))
+        (world_of (M.sight result.medium) (F.sight files.new) (K.sight out.new))
+        result.done.items result.fault }
+    ensures causes { CausesByWords (map rc_str_bytes words.now)
         (world_of (M.sight medium) (F.sight files.old) (K.sight out.old))
         (world_of (M.sight result.medium) (F.sight files.new) (K.sight out.new))
         result.done.items result.fault }
