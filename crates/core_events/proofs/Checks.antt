@@ -19,7 +19,7 @@ use Rattle.core_events.specs.KeptThreads.{part_of, ThreadsCounted}
 use Rattle.core_events.specs.KeptLocks.{draws_of, Unwritten, Knows, LocksKept}
 use Rattle.core_events.proofs.Lists.{total_set, all_one, at_change}
 use Rattle.core_events.proofs.Values.{even_version, either_way}
-use Rattle.core_events.proofs.Stays.{empty_list, Moves, at_rest, together, alone, new_hand}
+use Rattle.core_events.proofs.Stays.{empty_list, Moves, at_rest, together, alone, new_hand, owned_on}
 use Rattle.core_events.proofs.Reading.{good_cases, mine_if}
 
 module _ (z : Setup) (q : Claims) (thread : ℕ → ℕ) (clock : ℕ) (locks : List ℕ) (views : List View) (k : LocksKept z q thread clock locks views) (threads : ℕ) (home : ℕ → ℕ) (seats : ThreadsCounted z.threads thread home threads (map part_of views))
@@ -224,14 +224,7 @@ module _ (z : Setup) (q : Claims) (thread : ℕ → ℕ) (clock : ℕ) (locks : 
       let sums = total_set draws_of views id v w at in
       let same : w.tx.hand.number ≡ num = ap (λ (y : Transaction). y.hand.number) tx in
       together z q thread clock locks views k id v w at voided_claims thread clock locks
-      record {
-        shows = k.owned.shows;
-        upto = k.owned.upto;
-        covered = λ x i y lt f. let o = k.owned.covered x i y lt f in ⊎_elim
-            (λ s. (o.0, o.1, w.tx.hand, o.3, s.2, same ∙ (sym (ap (λ (h : Hand). h.number) s.1) ∙ o.5)))
-            (λ s. (o.0, o.1, o.2, o.3, s.1, o.5))
-            (new_hand views id v w at o.0 o.2 o.4);
-      }
+      (owned_on z q.hist q.lock thread clock locks views id v w at same k.owned)
       record {
         waiting = λ x i y f. ⊎_elim
             (λ s. absurd (let e : written [] i ≡ Some y = rw s.1 at f in cc))

@@ -1,7 +1,6 @@
 -- The layer of locks and reads, where a view is split in two and where two are joined.
-use Rattle.std.proofs.Common.{◌≡◌, ◌≢◌, ℕ, ◌*◌, ◌≤◌, List, [], ◌∷◌, ◌++◌, length, set, map, refl, sym, ap, ◌∙◌, subst, inl, inr, ⊎_elim, arith, length-set, length-append}
-use Rattle.std.specs.Prelude.{Some, None}
-use Rattle.std.proofs.lemmas.Bool.{true≢false}
+use Rattle.std.proofs.Common.{◌≡◌, ◌≢◌, ℕ, ◌*◌, ◌≤◌, List, [], ◌∷◌, ◌++◌, length, set, map, refl, ap, ◌∙◌, subst, inl, inr, ⊎_elim, arith, length-set, length-append}
+use Rattle.std.specs.Prelude.{Some}
 use mathlib.Core.Option.{some}
 use lib.ListN.{get_elem?}
 use Rattle.core_events.specs.Setups.{Setup, lock_of}
@@ -12,7 +11,7 @@ use Rattle.core_events.specs.Ghosts.{taken, writing, Claims}
 use Rattle.core_events.specs.Partings.{newcomer, left_of, both_of, spent}
 use Rattle.core_events.specs.KeptLocks.{hand_of, draws_of, Knows, LocksKept}
 use Rattle.core_events.proofs.Lists.{at_set, at_snoc, set_else, unmoved, total_set}
-use Rattle.core_events.proofs.Stays.{new_hand}
+use Rattle.core_events.proofs.Stays.{new_hand, new_knows}
 use Rattle.core_events.proofs.Threads.{at_longer, total_snoc}
 
 map_snoc : (l : List View) (a : View) → map hand_of (l ++ a ∷ []) ≡ map hand_of l ++ hand_of a ∷ []
@@ -20,35 +19,6 @@ map_snoc [] a = refl
 map_snoc (x ∷ xs) a = ap (λ (h : List Hand). x.tx.hand ∷ h) (map_snoc xs a)
 
 module _ (z : Setup) (q : Claims) (thread : ℕ → ℕ) (clock : ℕ) (locks : List ℕ) (views : List View) (k : LocksKept z q thread clock locks views) where
-  -- a view that has done nothing, where no lock is its own
-  fresh : (j : ℕ) → ((i u : ℕ) → q.lock i ≡ taken j u → ⊥) → ((i u : ℕ) → q.lock i ≡ writing j u → ⊥) → Knows z q clock j None (newcomer z 0 0).tx
-  fresh j free calm = record {
-    owns = record {
-      owns = λ i o e. absurd (let f : None ≡ Some o = e in cc);
-      has_taken = λ i u e. absurd (free i u e);
-      has_writing = λ i u e. absurd (calm i u e);
-      owner = λ i o e. absurd (let f : None ≡ Some o = e in cc);
-      inside = λ i o e. absurd (let f : None ≡ Some o = e in cc);
-    };
-    number = record {
-      numbered = λ p. absurd (omega arith);
-      blank = λ _. (refl, refl);
-      undecided = λ f. absurd (let p = f.number in omega arith);
-      decided = λ f. absurd (true≢false (sym f));
-      voided = λ f. absurd (true≢false (sym f));
-    };
-    apart = record { apart = λ e. absurd (true≢false (sym e)) };
-    confirmed = record {
-      snap = λ e. absurd (true≢false (sym e));
-      extended = λ s e. absurd (let f : None ≡ Some s = e in cc);
-      valid = λ f. absurd (let p = f.number in omega arith);
-    };
-    look = record {
-      looked = λ i y u e _. absurd (let f : None ≡ Some (i, y) = e in cc);
-      waits = λ i x e. absurd (let f : None ≡ Some (i, x) = e in cc);
-    };
-  }
-
   pub locks_split : (id draws : ℕ) (v : View) → get_elem? views id ≡ some v → draws ≤ v.draws → LocksKept z q thread clock locks (set views id (left_of draws v) ++ newcomer z 0 draws ∷ [])
   locks_split id draws v at enough =
       let w = left_of draws v in let vs : List View = set views id w in
@@ -71,7 +41,7 @@ module _ (z : Setup) (q : Claims) (thread : ℕ → ℕ) (clock : ℕ) (locks : 
             (λ a. subst (λ (y : View). Knows z q clock j y.part.thread y.tx) a.1 (rw a.0 (k.each id v at)))
             (λ a. k.each j u a.1) (at_set views id j w u t))
             (λ t. subst (λ (y : View). Knows z q clock j y.part.thread y.tx) t.0
-            (fresh j (λ i x e2. let h = k.seated i j x (inl e2) in let n = t.1 in omega arith) (λ i x e2. let h = k.seated i j x (inr e2) in let n = t.1 in omega arith)))
+            (new_knows z q clock j (λ i x e2. let h = k.seated i j x (inl e2) in let n = t.1 in omega arith) (λ i x e2. let h = k.seated i j x (inr e2) in let n = t.1 in omega arith)))
             (at_snoc vs (newcomer z 0 draws) u j e);
         seated = λ i j u e. let h = k.seated i j u e in let n = length-append vs (newcomer z 0 draws ∷ []) in omega arith;
         bounded = let s = k.bounded in omega arith;
@@ -99,7 +69,7 @@ module _ (z : Setup) (q : Claims) (thread : ℕ → ℕ) (clock : ℕ) (locks : 
         undecided = record { waiting = λ n i x f. let o = k.undecided.waiting n i x f in (o.0, o.1, o.2, o.3, hand_on o.0 o.2 (taker (lock_of z i) o.0 o.1 o.3) o.4, o.5, o.6) };
         numbers = k.numbers;
         each = λ j u e. ⊎_elim
-            (λ t. subst (λ (y : View). Knows z q clock j y.part.thread y.tx) t.1 (rw t.0 (fresh other free calm)))
+            (λ t. subst (λ (y : View). Knows z q clock j y.part.thread y.tx) t.1 (rw t.0 (new_knows z q clock other free calm)))
             (λ t. ⊎_elim
             (λ a. subst (λ (y : View). Knows z q clock j y.part.thread y.tx) a.1 (rw a.0 m))
             (λ a. k.each j u a.1) (at_set views id j both u t.1))

@@ -15,7 +15,7 @@ use Rattle.core_events.specs.Events.{is_good, own_word}
 use Rattle.core_events.specs.Conditions.{IsIdle, IsSteady}
 use Rattle.core_events.specs.Ghosts.{free, taken, writing, Claims}
 use Rattle.core_events.specs.KeptThreads.{part_of, ThreadsCounted}
-use Rattle.core_events.specs.KeptLocks.{Knows, LocksKept}
+use Rattle.core_events.specs.KeptLocks.{LookPending, Knows, LocksKept}
 use Rattle.core_events.proofs.Lists.{view_there, at_map, pair_of}
 use Rattle.core_events.proofs.Values.{even_version, odd_owner}
 
@@ -106,9 +106,9 @@ module _ (z : Setup) (q : Claims) (thread : ℕ → ℕ) (clock : ℕ) (locks : 
       look = record { looked = m.look.looked; waits = λ i y e. absurd (let f : None ≡ Some (i, y) = e in cc) };
     }
 
-    -- the word of a lock becomes the last look
-    pub look_knows : (l : ℕ) → l < z.locks → IsSteady v.tx → Knows z q clock id v.part.thread (record v.tx { look = Some (l, get_or locks l 0); loaded = None })
-    look_knows l inside steady = record {
+    -- a steady transaction that changes its look or the value that waits
+    steady_knows : (look loaded : Option (ℕ × ℕ)) → IsSteady v.tx → LookPending z q.lock v.part.thread (record v.tx { look = look; loaded = loaded }) → Knows z q clock id v.part.thread (record v.tx { look = look; loaded = loaded })
+    steady_knows look loaded steady pending = record {
       owns = m.owns;
       number = m.number;
       apart = m.apart;
@@ -117,34 +117,28 @@ module _ (z : Setup) (q : Claims) (thread : ℕ → ℕ) (clock : ℕ) (locks : 
         extended = λ s e. absurd (let f : None ≡ Some s = sym steady.no_extension ∙ e in cc);
         valid = m.confirmed.valid;
       };
-      look = record {
-        looked = λ i y u e even. let same = pair_of (l, get_or locks l 0) (i, y) e in let here = same.0 in let word = same.1 in
-            let h : q.lock l ≡ free u = even_version thread (q.lock l) u (sym (k.owned.shows l inside) ∙ (word ∙ even)) in rw (← here, h) (omega arith);
-        waits = λ i y e. absurd (let f : None ≡ Some (i, y) = e in cc);
-      };
+      look = pending;
+    }
+
+    -- the word of a lock becomes the last look
+    pub look_knows : (l : ℕ) → l < z.locks → IsSteady v.tx → Knows z q clock id v.part.thread (record v.tx { look = Some (l, get_or locks l 0); loaded = None })
+    look_knows l inside steady = steady_knows (Some (l, get_or locks l 0)) None steady record {
+      looked = λ i y u e even. let same = pair_of (l, get_or locks l 0) (i, y) e in let here = same.0 in let word = same.1 in
+          let h : q.lock l ≡ free u = even_version thread (q.lock l) u (sym (k.owned.shows l inside) ∙ (word ∙ even)) in rw (← here, h) (omega arith);
+      waits = λ i y e. absurd (let f : None ≡ Some (i, y) = e in cc);
     }
 
     -- a value waits
     pub load_knows : (i x y t : ℕ) → v.part.thread ≡ Some t → IsSteady v.tx → v.tx.look ≡ Some (lock_of z i, y) → is_good v.part.thread v.tx.snapshot y ≡ true
         → Knows z q clock id v.part.thread (record v.tx { loaded = Some (i, x) })
-    load_knows i x y t thread_is steady is good = record {
-      owns = m.owns;
-      number = m.number;
-      apart = m.apart;
-      confirmed = record {
-        snap = m.confirmed.snap;
-        extended = λ s e. absurd (let f : None ≡ Some s = sym steady.no_extension ∙ e in cc);
-        valid = m.confirmed.valid;
-      };
-      look = record {
-        looked = m.look.looked;
-        waits = λ j b e. let here = (pair_of (i, x) (j, b) e).0 in (
-          record { is_open = steady.undrawn.is_open; no_number = steady.undrawn.no_number },
-          steady.no_extension,
-          rw (← here) (⊎_elim
-              (λ own. inr (is ∙ ap (λ (w : ℕ). Some (lock_of z i, w)) own, (t, thread_is)))
-              (λ f. inl (f.0, is ∙ ap (λ (w : ℕ). Some (lock_of z i, w)) f.1, f.2))
-              (good_cases v.part.thread v.tx.snapshot y good)),
-        );
-      };
+    load_knows i x y t thread_is steady is good = steady_knows v.tx.look (Some (i, x)) steady record {
+      looked = m.look.looked;
+      waits = λ j b e. let here = (pair_of (i, x) (j, b) e).0 in (
+        record { is_open = steady.undrawn.is_open; no_number = steady.undrawn.no_number },
+        steady.no_extension,
+        rw (← here) (⊎_elim
+            (λ own. inr (is ∙ ap (λ (w : ℕ). Some (lock_of z i, w)) own, (t, thread_is)))
+            (λ f. inl (f.0, is ∙ ap (λ (w : ℕ). Some (lock_of z i, w)) f.1, f.2))
+            (good_cases v.part.thread v.tx.snapshot y good)),
+      );
     }

@@ -30,6 +30,13 @@ module _ (z : Setup) (q : Claims) (thread : ℕ → ℕ) (clock : ℕ) (locks : 
   hands_stay : (w : View) → w.tx ≡ record v.tx { owned = without v.tx.owned l } → map hand_of (set views id w) ≡ map hand_of views
   hands_stay w tx = unmoved hand_of views id v w at (ap (λ (y : Transaction). y.hand) tx)
 
+  -- the words show the locks once the lock l is given back with the version n
+  shown_with : (n i : ℕ) → i < z.locks → get_or (set locks l (2 * n)) i 0 ≡ word_of thread (change q.lock l (free n) i)
+  shown_with n i lt = let sized = k.numbers.sized in ⊎_elim
+      (λ t. rw t.0 (get_or-set_same locks l (2 * n) 0 (omega arith) ∙ ap (word_of thread) (sym (ap (change q.lock l (free n)) (sym t.0) ∙ t.1))))
+      (λ t. get_or-set_other locks l i (2 * n) 0 t.0 ∙ (k.owned.shows i lt ∙ ap (word_of thread) (sym t.1)))
+      (at_change q.lock l (free n) i)
+
   -- what the view knows where it owns the lock l no longer, and the others stay as they are
   rest_knows : (lock2 : ℕ → Hold) → ((i : ℕ) → i ≢ l → lock2 i ≡ q.lock i) → ((i : ℕ) → version (q.lock i) ≤ version (lock2 i))
       → ((i u : ℕ) → lock2 i ≡ taken id u → (v.tx.hand.decided ≡ false) × (find (without v.tx.owned l) i ≡ Some (2 * u))) → ((i u : ℕ) → lock2 i ≡ writing id u → (v.tx.hand.decided ≡ true) × (find (without v.tx.owned l) i ≡ Some (2 * u)))
@@ -107,9 +114,7 @@ module _ (z : Setup) (q : Claims) (thread : ℕ → ℕ) (clock : ℕ) (locks : 
         let sums = total_set draws_of views id v w at in let hands = hands_stay w tx in let sized = k.numbers.sized in
         together z q thread clock locks views k id v w at released_claims thread clock (set locks l (2 * n))
         (rw hands record {
-          shows = λ i lt. ⊎_elim
-              (λ t. rw t.0 (get_or-set_same locks l (2 * n) 0 (omega arith) ∙ ap (word_of thread) (sym (ap lock2 (sym t.0) ∙ t.1))))
-              (λ t. get_or-set_other locks l i (2 * n) 0 t.0 ∙ (k.owned.shows i lt ∙ ap (word_of thread) (sym t.1))) (at2 i);
+          shows = shown_with n;
           upto = λ i. ⊎_elim (λ t. let e : version (lock2 i) ≡ n = ap version t.1 in let le = (m.number.numbered pos).1 in omega arith) (λ t. let e : version (lock2 i) ≡ version (q.lock i) = ap version t.1 in let le = k.owned.upto i in omega arith) (at2 i);
           covered = λ x i y lt f. ⊎_elim
               (λ t. let e : version (lock2 (lock_of z i)) ≡ n = ap version t.1 in absurd (none_after z q thread clock locks views k id v at can.0 l can.1.0 can.1.1 x i y t.0 (omega arith) f))
@@ -186,9 +191,7 @@ module _ (z : Setup) (q : Claims) (thread : ℕ → ℕ) (clock : ℕ) (locks : 
         let sums = total_set draws_of views id v w at in let hands = hands_stay w tx in let sized = k.numbers.sized in
         together z q thread clock locks views k id v w at restored_claims thread clock (set locks l (2 * u))
         (rw hands record {
-          shows = λ i lt. ⊎_elim
-              (λ t. rw t.0 (get_or-set_same locks l (2 * u) 0 (omega arith) ∙ ap (word_of thread) (sym (ap lock3 (sym t.0) ∙ t.1))))
-              (λ t. get_or-set_other locks l i (2 * u) 0 t.0 ∙ (k.owned.shows i lt ∙ ap (word_of thread) (sym t.1))) (at3 i);
+          shows = shown_with u;
           upto = λ i. let e = same_version i in let le = k.owned.upto i in omega arith;
           covered = λ n i x lt f. let e = same_version (lock_of z i) in let o = k.owned.covered n i x (omega arith) f in (o.0, o.1, o.2, writing_stays (lock_of z i) o.0 o.1 o.3, o.4, o.5);
         })

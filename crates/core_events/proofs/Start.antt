@@ -23,7 +23,7 @@ use Rattle.core_events.specs.KeptNumbers.{DrawnPlaced}
 use Rattle.core_events.specs.KeptPages.{entry_word, KnowsPages}
 use Rattle.core_events.specs.KeptValues.{ReadValues, EntryReads}
 use Rattle.core_events.specs.Layers.{ThreadsIn, LocksIn}
-use Rattle.core_events.proofs.Stays.{empty_list}
+use Rattle.core_events.proofs.Stays.{empty_list, new_knows}
 use Rattle.core_events.specs.Kept.{LayersKept, Kept}
 
 only_one : {A : Type 0} (a b : A) (j : ℕ) → get_elem? (a ∷ []) j ≡ some b → (j ≡ 0) × (a ≡ b)
@@ -82,29 +82,7 @@ module _ (z : Setup) (ok : IsSetup z) where
   none_some a e = cc
 
   knows0 : Knows z claims0 z.first 0 v0.part.thread v0.tx
-  knows0 = record {
-    owns = record {
-      owns = λ k o e. absurd (none_some o e);
-      has_taken = λ k u e. absurd cc;
-      has_writing = λ k u e. absurd cc;
-      owner = λ k o e. absurd (none_some o e);
-      inside = λ k o e. absurd (none_some o e);
-    };
-    number = record {
-      numbered = λ p. absurd (omega arith);
-      blank = λ _. (refl, refl);
-      undecided = λ u. absurd (let p = u.number in omega arith);
-      decided = λ e. absurd (no_bool e);
-      voided = λ e. absurd (no_bool e);
-    };
-    apart = record { apart = λ e. absurd (no_bool e) };
-    confirmed = record {
-      snap = λ e. absurd (no_bool e);
-      extended = λ n e. absurd (none_some n e);
-      valid = λ u. absurd (let p = u.number in omega arith);
-    };
-    look = record { looked = λ k y u e _. absurd (none_some (k, y) e); waits = λ i y e. absurd (none_some (i, y) e) };
-  }
+  knows0 = new_knows z claims0 z.first 0 (λ k u e. absurd cc) (λ k u e. absurd cc)
 
   threads0 : ThreadsIn z ghost0 (start z)
   threads0 = record {

@@ -1,6 +1,7 @@
 -- What a view knows of locks and reads outlasts the steps of the others.
-use Rattle.std.proofs.Common.{◌≡◌, [], ◌≢◌, ℕ, ◌+◌, ◌<◌, ◌≤◌, ◌⊎◌, List, true, get_or, set, map, refl, sym, ◌∙◌, subst, inl, inr, ⊎_elim, arith, length-set}
-use Rattle.std.specs.Prelude.{Option, None}
+use Rattle.std.proofs.Common.{◌≡◌, [], ◌≢◌, ℕ, ◌+◌, ◌<◌, ◌≤◌, ◌⊎◌, List, true, get_or, set, map, refl, sym, ap, ◌∙◌, subst, inl, inr, ⊎_elim, arith, length-set}
+use Rattle.std.specs.Prelude.{Option, None, Some}
+use Rattle.std.proofs.lemmas.Bool.{true≢false}
 use Rattle.std.proofs.lemmas.List.{map-set}
 use mathlib.Core.Option.{some, some-injective}
 use mathlib.Core.Logic.{dite}
@@ -13,6 +14,7 @@ use Rattle.core_events.specs.Keyed.{total}
 use Rattle.core_events.specs.Views.{Hand, Transaction, View}
 use Rattle.core_events.specs.Entries.{History}
 use Rattle.core_events.specs.Ghosts.{Hold, taken, writing, version, IsWriting, Claims}
+use Rattle.core_events.specs.Partings.{newcomer}
 use Rattle.core_events.specs.KeptLocks.{hand_of, draws_of, LocksOwned, UndecidedExclusive, NumbersBounded, Knows, LocksKept}
 use Rattle.core_events.proofs.Lists.{there, at_set, set_here, set_else, at_map, unmoved, total_set}
 
@@ -127,6 +129,47 @@ new_hand views id v w at j h e = dite (ℕ_discrete j id)
     (λ same. let here : get_elem? (map hand_of views) id ≡ some h = rw (← same) e in
     inl (same, some-injective h v.tx.hand (sym here ∙ at_map hand_of views id v at), rw same (at_map hand_of (set views id w) id w (set_here views id w (there views id v at)))))
     (λ other. inr (other, rw (map-set hand_of views id w) (set_else (map hand_of views) id j w.tx.hand other ∙ e)))
+
+-- where the number in a view's hand stays, each lock that covers a number still has its owner
+pub owned_on : (z : Setup) (hist : History) (lock : ℕ → Hold) (thread : ℕ → ℕ) (clock : ℕ) (locks : List ℕ) (views : List View) (id : ℕ) (v w : View) → get_elem? views id ≡ some v → w.tx.hand.number ≡ v.tx.hand.number
+    → LocksOwned z hist lock thread clock locks (map hand_of views) → LocksOwned z hist lock thread clock locks (map hand_of (set views id w))
+owned_on z hist lock thread clock locks views id v w at same k = record {
+  shows = k.shows;
+  upto = k.upto;
+  covered = λ x i y lt f. let o = k.covered x i y lt f in ⊎_elim
+      (λ s. (o.0, o.1, w.tx.hand, o.3, s.2, same ∙ (sym (ap (λ (h : Hand). h.number) s.1) ∙ o.5)))
+      (λ s. (o.0, o.1, o.2, o.3, s.1, o.5))
+      (new_hand views id v w at o.0 o.2 o.4);
+}
+
+-- a view that has done nothing, where no lock is its own
+pub new_knows : (z : Setup) (q : Claims) (clock j : ℕ) → ((i u : ℕ) → q.lock i ≡ taken j u → ⊥) → ((i u : ℕ) → q.lock i ≡ writing j u → ⊥) → Knows z q clock j None (newcomer z 0 0).tx
+new_knows z q clock j free calm = record {
+  owns = record {
+    owns = λ i o e. absurd (let f : None ≡ Some o = e in cc);
+    has_taken = λ i u e. absurd (free i u e);
+    has_writing = λ i u e. absurd (calm i u e);
+    owner = λ i o e. absurd (let f : None ≡ Some o = e in cc);
+    inside = λ i o e. absurd (let f : None ≡ Some o = e in cc);
+  };
+  number = record {
+    numbered = λ p. absurd (omega arith);
+    blank = λ _. (refl, refl);
+    undecided = λ f. absurd (let p = f.number in omega arith);
+    decided = λ f. absurd (true≢false (sym f));
+    voided = λ f. absurd (true≢false (sym f));
+  };
+  apart = record { apart = λ e. absurd (true≢false (sym e)) };
+  confirmed = record {
+    snap = λ e. absurd (true≢false (sym e));
+    extended = λ s e. absurd (let f : None ≡ Some s = e in cc);
+    valid = λ f. absurd (let p = f.number in omega arith);
+  };
+  look = record {
+    looked = λ i y u e _. absurd (let f : None ≡ Some (i, y) = e in cc);
+    waits = λ i x e. absurd (let f : None ≡ Some (i, x) = e in cc);
+  };
+}
 
 pub my_hand : (views : List View) (id : ℕ) (v w : View) → get_elem? views id ≡ some v → get_elem? (map hand_of (set views id w)) id ≡ some w.tx.hand
 my_hand views id v w at = at_map hand_of (set views id w) id w (set_here views id w (there views id v at))

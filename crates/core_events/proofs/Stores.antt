@@ -11,7 +11,7 @@ use Rattle.core_events.specs.Views.{Hand, Transaction, View}
 use Rattle.core_events.specs.Ghosts.{writing, version, Claims}
 use Rattle.core_events.specs.KeptLocks.{hand_of, draws_of, Knows, LocksKept}
 use Rattle.core_events.proofs.Lists.{total_set}
-use Rattle.core_events.proofs.Stays.{at_rest, together, new_hand}
+use Rattle.core_events.proofs.Stays.{at_rest, together, new_hand, owned_on}
 
 module _ (z : Setup) (q : Claims) (thread : ℕ → ℕ) (clock : ℕ) (locks : List ℕ) (views : List View) (k : LocksKept z q thread clock locks views) (id : ℕ) (v : View) (at : get_elem? views id ≡ some v) where
   abbrev m : Knows z q clock id v.part.thread v.tx
@@ -32,14 +32,7 @@ module _ (z : Setup) (q : Claims) (thread : ℕ → ℕ) (clock : ℕ) (locks : 
       let sums = total_set draws_of views id v w at in let dec = m.number.decided pos in
       let same : w.tx.hand.number ≡ v.tx.hand.number = ap (λ (y : Transaction). y.hand.number) tx in
       together z q thread clock locks views k id v w at q thread clock locks
-      record {
-        shows = k.owned.shows;
-        upto = k.owned.upto;
-        covered = λ y a x lt f. let o = k.owned.covered y a x lt f in ⊎_elim
-            (λ t. (o.0, o.1, w.tx.hand, o.3, t.2, same ∙ (sym (ap (λ (h : Hand). h.number) t.1) ∙ o.5)))
-            (λ t. (o.0, o.1, o.2, o.3, t.1, o.5))
-            (new_hand views id v w at o.0 o.2 o.4);
-      }
+      (owned_on z q.hist q.lock thread clock locks views id v w at same k.owned)
       record {
         waiting = λ y a x f. let o = k.undecided.waiting y a x f in ⊎_elim
             (λ t. (o.0, o.1, w.tx.hand, o.3, t.2, same ∙ (sym (ap (λ (h : Hand). h.number) t.1) ∙ o.5), o.6))
