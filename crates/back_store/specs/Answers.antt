@@ -83,26 +83,32 @@ pub record Announces (v : BackState) (result : Result ℕ BackFault) (s t : Sigh
 pub record ReproducedBy (v : BackState) (number : ℕ) (calls : List Call) : Type 0 where
   pub records : List RedoBundle
   pub writes : List Write
+  -- there is something to reproduce
   pub some : number ≢ v.log.reproduced
+  -- these records wait, and lead from the reproduced number to this one
   pub lead : Lead (waiting_now v) v.log.reproduced records number
+  -- these writes stand for the records
   pub stand : StandFor v.log.sizes records writes
+  -- the calls put them, and then the mark
   pub calls_are : calls ≡ reproduce_calls v.log.sizes writes number
   pub few : length calls ≤ 2 * length writes + 4
 
 -- The number is answered. Where there is nothing to do no call is made.
 pub record Reproduces (v : BackState) (number : ℕ) (result : Result ℕ BackFault) (s t : Sight) : Type 0 where
   pub calls : List Call
+  -- there is nothing to do; or these calls reproduce the records up to the number
   pub by : ((number ≡ v.log.reproduced) × (calls ≡ [])) ⊎ ReproducedBy v number calls
   pub answer : IfOk result (λ reached. reached ≡ number)
+  -- exactly these calls were made, or a prefix of them whose last one failed
   pub made : CallsAnswered result calls s t
 
--- The same for the number at which a reproduction of at most so many numbers stops.
+-- The records are reproduced up to where a reproduction of at most so many numbers stops, and that number is answered.
 pub record ReproducesUpTo (v : BackState) (most : ℕ) (result : Result ℕ BackFault) (s t : Sight) : Type 0 where
   pub stop : ℕ
   pub stops : StopsAfter v.log most stop
   pub made : Reproduces v stop result s t
 
--- so it is, but a dead back makes no call
+-- the records are reproduced up to where a reproduction of at most so many numbers stops; a dead back makes no call
 abbrev pub ReproducesUnlessDead : BackState → ℕ → Result ℕ BackFault → Sight → Sight → Type 0
 ReproducesUnlessDead v most (Ok number) s t = ReproducesUpTo v most (Ok number) s t
 ReproducesUnlessDead v most (Err Device) s t = ReproducesUpTo v most (Err Device) s t

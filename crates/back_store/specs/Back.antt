@@ -50,11 +50,11 @@ MayPersist v ring b = MayWait v.log ring b
 abbrev pub IsRingFull : BackState → ℕ → RedoBundle → Type 0
 IsRingFull v ring r = IsLaneFull (lane_at v.log.lanes ring) r
 
--- the fault that says so
+-- the fault that a ring has no room for a record, with both counts of cells
 abbrev pub ring_full : BackState → ℕ → RedoBundle → BackFault
 ring_full v ring r = RingFull (used_by (waiting_of_ring v ring)) (cells_for (length r.writes))
 
--- that fault, or the two of every call
+-- a fault of a persist: that its ring has no room, or one of the two that every call may answer
 abbrev pub IsPersistFault : BackState → ℕ → RedoBundle → BackFault → Type 0
 IsPersistFault v ring r fault = (fault ≡ ring_full v ring r) ⊎ (fault ≡ Device) ⊎ (fault ≡ Dead)
 

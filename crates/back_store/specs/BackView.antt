@@ -18,7 +18,7 @@ use Rattle.back_store.specs.declared.back_fault.BackFault.TheVariants.{Device, D
 abbrev pub medium_of : {M : Type 0} {ghosts : Ghosts M} → Back M ghosts → M
 medium_of b = b.medium
 
--- what clauses see of it
+-- what clauses see of the medium of a back
 abbrev pub sight_of : {M : Type 0} {ghosts : Ghosts M} → Back M ghosts → Sight
 sight_of {M} {ghosts} b = ghosts.sight b.medium
 

@@ -45,6 +45,6 @@ fault_words Device = codes "device"
 fault_words Output = codes "output"
 fault_words Memory = codes "memory"
 
--- its line, which ends in LF
+-- the line of a fault: its text, and LF
 abbrev pub fault_line : Fault → List ℕ
 fault_line fault = fault_words fault ++ 10 ∷ []

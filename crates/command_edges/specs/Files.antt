@@ -10,21 +10,21 @@ use Rattle.dude_io.specs.Files.{FilesSight}
 use Rattle.command_edges.specs.declared.fault.Fault.{Fault}
 use Rattle.command_edges.specs.declared.fault.Fault.TheVariants.{File, Text, Memory}
 
--- these are the requests of some text, and of the file of this name where the files tell
+-- these are the requests of some text, which is that of the file of this name where the files are visible
 abbrev pub OfFile : FilesSight → List ℕ → List Request → Type 0
 OfFile files name requests =
     (text : List ℕ) × (requests_of text ≡ Ok requests) × (IsTrue files.is_visible → files.text name ≡ Some text)
 
--- some text is first bad at this record and field, and so is that of the file of this name where the files tell
+-- some text is first bad at this record and field, and is that of the file of this name where the files are visible
 abbrev pub IsBadAt : FilesSight → List ℕ → ℕ → ℕ → Type 0
 IsBadAt files name row field =
     (text : List ℕ) × (requests_of text ≡ Err (row, field)) × (IsTrue files.is_visible → files.text name ≡ Some text)
 
--- the file of this name is there and holds requests, where the files tell
+-- the file of this name is there and holds requests, where the files are visible
 abbrev pub IsGoodFile : FilesSight → List ℕ → Type 0
 IsGoodFile files name = (requests : List Request) × OfFile files name requests
 
--- the file of this name is there and bad, where the files tell
+-- the file of this name is there and bad, where the files are visible
 abbrev pub IsBadFile : FilesSight → List ℕ → Type 0
 IsBadFile files name = (row : ℕ) × (field : ℕ) × IsBadAt files name row field
 
@@ -36,7 +36,7 @@ IsThere files name = IsSome (files.text name)
 abbrev pub MissesFile : List (List ℕ) → FilesSight → Type 0
 MissesFile names files = Any (λ name. files.text name ≡ None) names
 
--- some file is there and bad, where the files tell
+-- some file is there and bad, where the files are visible
 abbrev pub HasBadFile : List (List ℕ) → FilesSight → Type 0
 HasBadFile names files = Any (IsBadFile files) names
 
@@ -55,7 +55,7 @@ abbrev pub IsFirstBad : List (List ℕ) → FilesSight → ℕ → ℕ → ℕ �
 IsFirstBad names files number row field =
     IsFirst (IsGoodFile files) (λ name. IsBadAt files name row field) names number
 
--- the file of this number, from 1, couldn't be read, and each earlier one is there, where the files tell
+-- the file of this number, from 1, couldn't be read, and each earlier one is there, where the files are visible
 abbrev pub IsFirstUnread : List (List ℕ) → FilesSight → ℕ → Type 0
 IsFirstUnread names files number = IsFirst (λ name. IsTrue files.is_visible → IsThere files name) (λ name. ⊤) names number
 
@@ -101,10 +101,10 @@ IsReadFault sight names old new fault = HasReadFault names (sight old) (sight ne
 abbrev pub IsFileFault : {F : Type 0} → (F → FilesSight) → List (List ℕ) → F → F → Fault → Type 0
 IsFileFault sight names old new fault = HasFileFault names (sight old) (sight new) fault
 
--- where the files tell, one that isn't there ends the reading, before any is parsed
+-- where the files are visible, one that isn't there ends the reading, before any is parsed
 abbrev pub MissingStops : {X : Type 0} → FilesSight → List (List ℕ) → Result X Fault → Type 0
 MissingStops files names result = IsTrue files.is_visible → MissesFile names files → IsErrAnd result StoppedReading
 
--- where the files tell, a bad one is never passed over
+-- where the files are visible, a bad one is never passed over
 abbrev pub BadStops : {X : Type 0} → FilesSight → List (List ℕ) → Result X Fault → Type 0
 BadStops files names result = IsTrue files.is_visible → HasBadFile names files → IsErr result

@@ -24,7 +24,7 @@ pub record StopsIn (text : List ℕ) (s t : SinkSight) (fault : Fault) : Type 0 
   pub cause : fault ≡ Output → Risen s.faults t.faults
   pub only : (fault ≡ Output) ⊎ (fault ≡ Memory)
 
--- it was the sink that failed
+-- the text wasn't taken whole, but a prefix of it, since the sink failed
 abbrev pub FailsIn : List ℕ → SinkSight → SinkSight → Fault → Type 0
 FailsIn text s t fault = StopsIn text s t fault × (fault ≡ Output)
 

@@ -13,7 +13,7 @@ use Rattle.command_edges.specs.declared.fault.Fault.{Fault}
 use Rattle.command_edges.specs.declared.fault.Fault.TheVariants.{Text, Memory}
 use Rattle.command_edges.specs.Files.{IsFirst, requests_in}
 
--- this is the text of the file of this name, or it is too long, where the files tell
+-- this is the text of the file of this name, or it is too long, where the files are visible
 abbrev pub IsTextOf : FilesSight → List ℕ → FileText → Type 0
 IsTextOf files name text = IsFileText 16777216 files name text
 
@@ -26,13 +26,13 @@ abbrev pub meaning_of : FileText → Result (List Request) Place
 meaning_of (Whole bytes) = requests_of bytes.items
 meaning_of TooLong = Err (0, 0)
 
--- these are the requests of the text
+-- the text means these requests, each in range, and at most 100,000
 pub record HoldsRequests (text : FileText) (requests : List Request) : Type 0 where
   pub meant : meaning_of text ≡ Ok requests
   pub in_range : All IsInRange requests
   pub few : length requests ≤ 100000
 
--- these are the requests of each text
+-- each text means the requests of its list, each in range, and at most 100,000 of them
 abbrev pub HoldEachRequests : List FileText → Vec (Vec Request) → Type 0
 HoldEachRequests texts lists = AllZip HoldsRequests texts (requests_in lists.items)
 

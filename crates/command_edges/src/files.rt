@@ -26,7 +26,7 @@ pub fn read_files<F: Files, S: AsStr>(
     ensures few { IfOk result AreFew }
     ensures cause { IfErr result (IsFileFault F.sight (map S.text names.now) files.old files.new) }
 
-    // Where the files tell, a missing file is answered before a bad one, and a bad one is never passed over.
+    // Where the files are visible, a missing one is answered before a bad one, and a bad one is never passed over.
     ensures missing { MissingStops (F.sight files.old) (map S.text names.now) result }
     ensures bad { BadStops (F.sight files.old) (map S.text names.now) result }
 {

@@ -15,13 +15,13 @@ use Rattle.command_openings.specs.Opens.{ShowsOpening, TellsAtMost}
 abbrev pub medium_seen : {M : Type 0} {ghosts : Ghosts M} → (M → Sight) → Opened M ghosts → Sight
 medium_seen sight o = sight (medium_of o.back)
 
--- its sizes, its number and its words stay
+-- the sizes, the number and the words of an opened image stay
 pub record IsSameImage {M : Type 0} {ghosts : Ghosts M} (old new : Opened M ghosts) : Type 0 where
   pub sizes : new.sizes ≡ old.sizes
   pub number : new.number ≡ old.number
   pub words : new.words ≡ old.words
 
--- its number was told, and its medium holds the image as before
+-- the number of an opened image was told, and its medium holds the image as before
 pub record IsAnnounced {M : Type 0} {ghosts : Ghosts M} (sight : M → Sight) (old new : Opened M ghosts) : Type 0 where
   pub told : IsTrue (medium_seen sight old).is_visible
       → (state_now (medium_seen sight new)).told ≡ (state_now (medium_seen sight old)).told ++ old.number ∷ []

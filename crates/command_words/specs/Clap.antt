@@ -99,7 +99,7 @@ has_run_form given = is_number_or_absent given.frames && is_number_or_absent giv
 abbrev pub matched_rows : ArgMatches → List Row
 matched_rows matches = rows_of (found_of matches)
 
--- it gives matches of these words, or none where it refuses them
+-- `clap` gives matches of these words, or none exactly where it refuses them
 abbrev pub IsReading : App → List Text → Option ArgMatches → Type 0
 IsReading app words found =
     MatchOption found (fault_of app words ≢ []) (λ matches. (fault_of app words ≡ []) × (matched_rows matches ≡ matches_of app words))

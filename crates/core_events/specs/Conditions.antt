@@ -14,7 +14,7 @@ use Rattle.core_events.specs.Entries.{value_at, all_entries}
 use Rattle.core_events.specs.Events.{Event, number, begin, extend, look, load, check, finish, take, draw, decide, store, release, restore, see_box, post, take_turn, give_turn, see_full, empty_box, raise_durable, raise_reproduced, entry, pin, unpin, touch, load_touch, evict, fill, show, is_good, next_box, name, word_after, view_after}
 
 -- ---- what a view says
--- the pair (k, n) is kept
+-- the list has an entry for the key k
 abbrev pub Keeps : List (ℕ × ℕ) → ℕ → Type 0
 Keeps xs k = (n : ℕ) × (find xs k ≡ Some n)
 
@@ -33,7 +33,7 @@ pub record IsUndrawn (x : Transaction) : Type 0 where
   pub is_open : x.is_open ≡ true
   pub no_number : x.hand.number ≡ 0
 
--- and has no extension
+-- a transaction is open that has drawn no number and has no extension
 pub record IsSteady (x : Transaction) : Type 0 where
   pub undrawn : IsUndrawn x
   pub no_extension : x.extension ≡ None
@@ -48,7 +48,7 @@ pub record IsUndecided (h : Hand) : Type 0 where
 abbrev pub LooksGood : View → ℕ → Type 0
 LooksGood v k = (y : ℕ) × (v.tx.look ≡ Some (k, y)) × (is_good v.part.thread v.tx.snapshot y ≡ true)
 
--- and the lock was unowned
+-- the last look was of the lock k, which was unowned and no newer than the snapshot
 abbrev pub LooksUnowned : View → ℕ → Type 0
 LooksUnowned v k = (u : ℕ) × (v.tx.look ≡ Some (k, 2 * u)) × (u ≤ v.tx.snapshot)
 
@@ -94,7 +94,8 @@ pub record MayDraw (z : Setup) (ws : List Write) (v : View) : Type 0 where
 pub record IsStoredAndTouched (v : View) (p : ℕ) : Type 0 where
   pub each : (i x : ℕ) → v.tx.hand.decided ≡ true → written v.tx.hand.writes i ≡ Some x → page_of i ≡ p → (has v.tx.hand.stored i ≡ true) × (has v.paging.touched p ≡ true)
 
--- ---- the locks, words, pages, frames and boxes that the event names exist
+-- ---- what a view allows
+-- the locks, words, pages, frames and boxes that the event names exist
 abbrev pub Names : Setup → Event → Type 0
 Names z (look k) = k < z.locks
 Names z (load i) = i < z.pages * PAGE
@@ -115,7 +116,7 @@ Names z (fill p f i x) = (p < z.pages) × (f < z.frames) × (i < z.pages * PAGE)
 Names z (show p f) = (p < z.pages) × (f < z.frames)
 Names z e = Unit {0}
 
--- where the view allows the event
+-- the view allows the event
 abbrev pub Can : Setup → Event → View → Type 0
 Can z number v = v.part.thread ≡ None
 Can z begin v = IsIdle v
@@ -183,7 +184,7 @@ pub record IsAllowed (z : Setup) (c : State) (who : ℕ) (e : Event) (v : View) 
   pub may : May z e v
   pub fits : Fits z e c v
 
--- the table doesn't allow it
+-- the definitions don't allow the event
 abbrev pub IsOff : Setup → State → ℕ → Event → Type 0
 IsOff z c who e = (v : View) → IsAllowed z c who e v → ⊥
 

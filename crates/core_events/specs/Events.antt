@@ -156,11 +156,11 @@ word_after (show p f) v n = entry_with f 0
 abbrev pub noticed : Word → ℕ → View → View
 noticed x n v = record v { found = Some (x, n); count = v.count + 1 }
 
--- it was found where the exchange wasn't made
+-- the number n was found in the word, where the exchange wasn't made
 abbrev pub noticed_unless : Bool → Word → ℕ → View → View
 noticed_unless made x n v = record v { found = if made then v.found else Some (x, n); count = if made then v.count else (v.count + 1) }
 
--- a page entry so found is the kept one
+-- the number n was found in the entry of the page p, and is the one kept of it
 abbrev pub seen_entry : ℕ → ℕ → View → View
 seen_entry p n v = noticed (the_entry p) n (record v { paging = record v.paging { entries = (p, n) ∷ v.paging.entries } })
 
@@ -219,7 +219,7 @@ abbrev pub unfilled : ℕ → List (ℕ × ℕ) → List (ℕ × ℕ)
 unfilled p [] = []
 unfilled p (x ∷ xs) = if page_of x.0 == p then unfilled p xs else (x ∷ unfilled p xs)
 
--- and without those that other pages have in the frame f
+-- filled words without those that other pages than p have in the frame f
 abbrev pub refilled : ℕ → ℕ → List (ℕ × ℕ) → List (ℕ × ℕ)
 refilled p f [] = []
 refilled p f (x ∷ xs) = if (x.1 == f) && not (page_of x.0 == p) then refilled p f xs else (x ∷ refilled p f xs)

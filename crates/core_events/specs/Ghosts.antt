@@ -1,4 +1,4 @@
--- What the proofs keep beside the state, and what an event makes of it. No code has it.
+-- What stands beside the state, and what an event makes of it. No code has it.
 use Rattle.std.specs.Prelude.{◌≡◌, ◌==◌, ℕ, ◌+◌, ◌*◌, Bool, true, false, [], Option, Some, None, slice_index, if◌then◌else◌}
 use Rattle.core_events.specs.Setups.{Setup, box_of, without_pins}
 use Rattle.core_events.specs.Keyed.{change}

@@ -20,7 +20,7 @@ pub record LayersKept (z : Setup) (g : Ghost) (c : State) : Type 0 where
   pub turn : TurnKept z c
   pub pages : PagesKept z g c
 
--- The kept state: with some ghost beside it all layers hold, that of values only where values are told.
+-- The kept state: with some ghost beside it all layers hold, that of values only where what the medium gives is known.
 pub record Kept (z : Setup) (c : State) : Type 0 where
   pub ghost_is : Ghost
   pub layers : LayersKept z ghost_is c

@@ -37,11 +37,12 @@ LawOfShownPages = (z : Setup) (c : State) (who p f : ℕ) (v : View) → Kept z 
 abbrev pub LawOfSteps : Type 0
 LawOfSteps = (z : Setup) (ss : List Step) (c : State) → IsSetup z → AllLead z (start z) ss c → Kept z c
 
--- and the entries of all views are legal, where it is known what the medium gives
+-- after every list of allowed steps the entries of all views are legal, where it is known what the medium gives
 abbrev pub LawOfLegalEntries : Type 0
 LawOfLegalEntries = (z : Setup) (ss : List Step) (c : State) → IsSetup z → z.is_told ≡ true → AllLead z (start z) ss c → IsLegal z.first z.opening (all_entries c.views)
 
--- and they are the entries that the steps made, each once: however entries are weighed, both weigh the same
+-- after every list of allowed steps the views have the entries that the steps made, each once: however entries are
+-- weighed, both weigh the same
 abbrev pub LawOfEntriesMade : Type 0
 LawOfEntriesMade = (z : Setup) (ss : List Step) (c : State) (h : AllLead z (start z) ss c) (f : Entry → ℕ) → total f (all_entries c.views) ≡ total f (all_made z ss (start z) c h)
 

@@ -21,7 +21,7 @@ pub record ShownWords (z : Setup) (hist : History) (lock : ℕ → Hold) (frame 
       → (slice_index cells (cell_of f i) ≡ value z.opening hist clock i)
       ⊎ ((j : ℕ) × (u : ℕ) × (h : Hand) × (x : ℕ) × (lock (lock_of z i) ≡ writing j u) × (get_elem? hands j ≡ some h) × (written h.writes i ≡ Some x) × (has h.stored i ≡ false))
 
--- Confirmed reads are the values at the snapshot. A value that waits for its second look is too, or that look will tell:
+-- Confirmed reads are the values at the snapshot. A value that waits for its second look is too, or that look will show:
 -- the lock is being written, or its version rose, or the look was the thread's own word and the lock isn't its own
 pub record ReadValues (z : Setup) (hist : History) (lock : ℕ → Hold) (thread : Option ℕ) (x : Transaction) : Type 0 where
   pub read : x.is_open ≡ true → All (λ r. r.1 ≡ value z.opening hist x.snapshot r.0) x.reads

@@ -25,6 +25,6 @@ commit_events =
 abbrev pub commit_steps : List Step
 commit_steps = map (λ e. event 0 e) commit_events
 
--- what it leaves
+-- the entry that the commit leaves
 abbrev pub commit_entry : Entry
 commit_entry = record { number = 1; wrote = true; about = no_about; reads = (3, 0) ∷ []; writes = one_write }

@@ -100,7 +100,7 @@ entries_made (finish a) v = read_entry a v ∷ []
 entries_made decide v = write_entry v ∷ []
 entries_made e v = []
 
--- and those that a list of steps makes, in order
+-- the entries that a list of steps makes, in order
 abbrev pub all_made : (z : Setup) (ss : List Step) (c d : State) → AllLead z c ss d → List Entry
 all_made z [] c d h = []
 all_made z (event who e ∷ ss) c d h = entries_made e h.1.0 ++ all_made z ss h.0 d h.2

@@ -18,16 +18,16 @@ pub record Setup : Type 0 where
   -- the home words and the number at the start
   pub opening : List ℕ
   pub first : ℕ
-  -- whether it is known what the medium below gives; over one that doesn't tell, nothing is said of values
+  -- whether it is known what the medium below gives; where it isn't, nothing is said of values
   pub is_told : Bool
   -- whether a turn may end with a fault, as it may over a medium that fails
   pub may_fail : Bool
 
--- its frames, locks and boxes, whose limits are those of a run
+-- the frames, locks and boxes of a setup, whose limits are those of a run
 abbrev pub run_of : Setup → Run
 run_of z = record { frames = z.frames; locks = z.locks; boxes = z.boxes }
 
--- within the limits
+-- the sizes of a setup are within the limits
 pub record IsSetup (z : Setup) : Type 0 where
   pub threads : IsFrom 1 MAX_RINGS z.threads
   pub run : IsRunWithin z.pages (run_of z)

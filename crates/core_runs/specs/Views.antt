@@ -28,43 +28,43 @@ after_all (x ∷ xs) v = after_all xs (view_after two x.0 v x.1)
 abbrev pub entered : View
 entered = view_after two number (left_of 0 (opener two)) 0
 
--- of the second seat
+-- the second seat, once it has a number of a thread
 abbrev pub entered_too : View
 entered_too = view_after two number (newcomer two 0 0) 1
 
--- it has begun a transaction, pinned the page and looked at its lock
+-- the first seat, once it has begun a transaction, pinned the page and looked at its lock
 abbrev pub looked : View
 looked = after_all ((begin, 0) ∷ (entry 0, 65_536) ∷ (pin 0, 65_536) ∷ (look 0, 0) ∷ []) entered
 
--- it has read word 3 and answered that it only read
+-- the first seat, once it has read word 3 and answered that it only read
 abbrev pub read_out : View
 read_out = after_all ((load 3, 0) ∷ (check 0, 0) ∷ (unpin 0, 65_537) ∷ (finish (about 0 0 Sync Durable), 2) ∷ []) looked
 
--- it has seen its box empty, begun another one and pinned the page
+-- the first seat, once it has seen its box empty, begun another transaction and pinned the page
 abbrev pub ready : View
 ready = after_all ((see_box, 0) ∷ (begin, 0) ∷ (entry 0, 65_536) ∷ (pin 0, 65_536) ∷ []) read_out
 
--- it has drawn number 1, and decided it
+-- the first seat, once it has drawn number 1 and decided it
 abbrev pub decided : View
 decided = after_all ((look 0, 0) ∷ (take 0, 0) ∷ (draw (about 0 1 Sync Durable) one_write, 0) ∷ (decide, 1) ∷ []) ready
 
--- it has stored, shown and posted number 1
+-- the first seat, once it has stored, shown and posted number 1
 abbrev pub posted : View
 posted = after_all ((store 3, 0) ∷ (touch 0, 0) ∷ (release 0, 0) ∷ (unpin 0, 65_537) ∷ (post, 0) ∷ []) decided
 
--- it has taken the turn, and number 1 has left its box
+-- the first seat, once it has taken the turn and number 1 has left its box
 abbrev pub emptied : View
 emptied = after_all ((take_turn, 0) ∷ (see_full 0 0, 1) ∷ (empty_box 0 0, 0) ∷ (see_box, 0) ∷ []) posted
 
--- number 1 is durable and reproduced
+-- the first seat, once number 1 is durable and reproduced
 abbrev pub settled : View
 settled = after_all ((raise_durable 1, 0) ∷ (raise_reproduced 1, 0) ∷ (give_turn false, 0) ∷ []) emptied
 
--- the second seat has joined it
+-- the first seat, once the second one has joined it
 abbrev pub joined : View
 joined = both_of settled entered_too
 
--- it has read word 3 again, which has the 7
+-- the first seat, once it has read word 3 again, which has the 7
 abbrev pub read_back : View
 read_back = after_all ((begin, 1) ∷ (entry 0, 65_536) ∷ (pin 0, 65_536) ∷ (look 0, 2) ∷ (load 3, 7) ∷ (check 0, 2) ∷ []) joined
 
@@ -72,10 +72,10 @@ read_back = after_all ((begin, 1) ∷ (entry 0, 65_536) ∷ (pin 0, 65_536) ∷ 
 abbrev pub alone : View
 alone = view_after two number (opener two) 0
 
--- it has extended its snapshot, and given a lock back
+-- the one seat of that history, once it has extended its snapshot and given a lock back
 abbrev pub given_back : View
 given_back = after_all ((begin, 0) ∷ (extend, 0) ∷ (look 0, 0) ∷ (take 0, 0) ∷ (restore 0, 0) ∷ (finish (about 0 0 Sync Durable), 1) ∷ []) alone
 
--- it has evicted a page in its turn
+-- the one seat of that history, once it has evicted a page in its turn
 abbrev pub dropped : View
 dropped = after_all ((take_turn, 0) ∷ (entry 0, 65_536) ∷ (evict 0, 65_536) ∷ (load_touch 0, 0) ∷ (give_turn false, 0) ∷ []) given_back

@@ -12,6 +12,7 @@ use tatp_model::reply::Reply;
 use tatp_model::request::Request;
 use tiny_stm::stm::Stm;
 
+/// The machine of a short history, with nothing in its slots.
 pub type Small = Stm<(), (), AnySlots>;
 
 /// A transaction begins, pins the page of the word 3 and looks at its lock.

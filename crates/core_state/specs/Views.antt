@@ -60,7 +60,7 @@ NoneNames z entries frame = (p : ℕ) → p < z.pages → 0 < slice_index entrie
 abbrev pub MayBeDurable : Setup → State → ℕ → Type 0
 MayBeDurable z c x = (c.durable ≤ x) × IsPersistedUpTo z c.persisted x
 
--- where values are told, x is the value of the home word i at the reproduced number
+-- where it is known what the medium gives, x is the value of the home word i at the reproduced number
 abbrev pub IsReproduced : Setup → State → ℕ → ℕ → Type 0
 IsReproduced z c i x = z.is_told ≡ true → x ≡ value_at z.opening (all_entries c.views) c.reproduced i
 

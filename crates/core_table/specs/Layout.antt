@@ -19,7 +19,7 @@ pub record IsSmall (z : Setup) : Type 0 where
   pub frames : z.frames ≤ z.pages
   pub pages : z.pages ≤ 2 ^ 32
 
--- so many words, and the sizes are those of the setup
+-- a table has as many words as its setup needs, and these sizes are those of the setup
 pub record IsLaidOut (z : Setup) (words threads locks pages frames boxes : ℕ) : Type 0 where
   pub small : IsSmall z
   pub words_are : words ≡ count z

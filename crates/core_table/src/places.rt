@@ -10,15 +10,19 @@ use crate::event_table::EventTable;
 use crate::slot_rule::SlotRule;
 use dude_base::limits::PAGE;
 
-/// The places of the words that stand alone.
+/// The place of the count of threads that drew a number.
 pub const THREADS: usize = 0;
 
+/// The place of the clock, which is the last number drawn.
 pub const CLOCK: usize = 1;
 
+/// The place of the turn.
 pub const TURN: usize = 2;
 
+/// The place of the durable number.
 pub const DURABLE: usize = 3;
 
+/// The place of the reproduced number.
 pub const REPRODUCED: usize = 4;
 
 /// What the frame of a page entry is multiplied by; a pin counts 1.

@@ -4,11 +4,11 @@ use Rattle.core_events.specs.Views.{Part, View}
 use Rattle.core_events.specs.Conditions.{IsIdle}
 use Rattle.core_events.specs.Partings.{thread_list}
 
--- it is live, and has a split and so many draws left
+-- the view is live, and has a split and so many draws left
 abbrev pub HasLeft : View → ℕ → Type 0
 HasLeft v draws = (v.part.is_spent ≡ false) × (0 < v.part.splits) × (draws ≤ v.draws)
 
--- it is live and idle, and has not the turn
+-- the view is live and idle, and has not the turn
 abbrev pub IsDone : View → Type 0
 IsDone v = (v.part.is_spent ≡ false) × IsIdle v × (v.turn.has_it ≡ false)
 

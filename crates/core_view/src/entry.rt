@@ -11,9 +11,9 @@ use std::marker::Model;
 /// What a transaction leaves: its number, what it is about, and what it read and wrote.
 #[derive(Drop)]
 pub struct Entry {
-    /// Its number; of one that only read its snapshot.
+    /// Its number; where it only read, its snapshot.
     pub number: u64,
-    /// It wrote, with that number.
+    /// Whether it wrote, with that number.
     pub wrote: bool,
     /// What it is about.
     pub about: About,

@@ -10,9 +10,9 @@ use std::marker::Model;
 pub struct Hand {
     /// The number; 0 where there is none.
     pub number: u64,
-    /// Its writes count.
+    /// Whether its writes count.
     pub decided: bool,
-    /// A lock of its reads wasn't good, so it writes nothing.
+    /// Whether a lock of its reads wasn't good, so that it writes nothing.
     pub void: bool,
     /// The request that it is of, and the reply.
     pub about: About,

@@ -105,7 +105,7 @@ impl Pairs {
         true
     }
 
-    /// The same, told as a fact.
+    /// Whether each home word that is a key has its lock among these.
     pub fn all_found(&self, z: &Setup, locks: &Numbers) -> bool
         ensures { Tells result (All (λ r. has locks.now (lock_of z.now r.0) ≡ true) self.now) }
     {

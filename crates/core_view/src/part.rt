@@ -6,7 +6,7 @@ use std::marker::Model;
 /// Whose view it is.
 #[derive(Drop)]
 pub struct Part {
-    /// It was joined into another.
+    /// Whether it was joined into another.
     pub is_spent: bool,
     /// The thread that it is the view of.
     pub thread: Option<u64>,

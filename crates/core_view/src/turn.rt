@@ -6,7 +6,7 @@ use std::marker::Model;
 /// What the view keeps of the turn.
 #[derive(Drop)]
 pub struct Turn {
-    /// It has the turn.
+    /// Whether it has the turn.
     pub has_it: bool,
     /// How many turns it took.
     pub count: u64,

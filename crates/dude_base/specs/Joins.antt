@@ -8,7 +8,7 @@ use Rattle.dude_base.specs.declared.write.Write.{Write}
 use Rattle.dude_base.specs.Records.{RedoRecord, RedoBundle, with_next}
 use Rattle.dude_base.specs.Writes.{HasDistinctPlaces, written, overwritten, put_all}
 
--- how many different words the two write
+-- how many different words a bundle and a record write together
 abbrev pub places_of : RedoBundle → RedoRecord → ℕ
 places_of b r = length (put_all b.writes r.writes)
 
@@ -18,7 +18,7 @@ pub record CanJoin (b : RedoBundle) (r : RedoRecord) : Type 0 where
   pub short : b.span < MAX_SPAN
   pub narrow : places_of b r ≤ MAX_BUNDLE_WRITES
 
--- the first reason that it doesn't
+-- the first reason that a bundle doesn't take a record
 abbrev pub Refuses : NoJoin → RedoBundle → RedoRecord → Type 0
 Refuses (Gap last number) b r = (last ≡ b.last) × (number ≡ r.number) × (number ≢ last + 1)
 Refuses (Long span) b r = (r.number ≡ b.last + 1) × (span ≡ b.span) × (span ≡ MAX_SPAN)

@@ -21,7 +21,7 @@ pub record RedoBundle : Type 0 where
   pub span : ℕ
   pub writes : List Write
 
--- the first number that it covers
+-- the first number that a bundle covers
 abbrev pub first_of : RedoBundle → ℕ
 first_of b = b.last - b.span
 

@@ -22,7 +22,7 @@ pub record AreWrites (most : ℕ) (ws : List Write) : Type 0 where
   pub few : length ws ≤ most
   pub distinct : HasDistinctPlaces ws
 
--- those of one transaction
+-- the writes of one transaction: at most 24, of different words
 abbrev pub IsWriteList : List Write → Type 0
 IsWriteList ws = AreWrites MAX_WRITES ws
 
@@ -40,7 +40,7 @@ pub record IsTooMany (most : ℕ) (ws : List Write) (i : ℕ) : Type 0 where
   pub full : length ws ≡ most
   pub new : written ws i ≡ None
 
--- the same for one transaction
+-- a transaction has 24 writes and none of the word i, so that one more of it would be too many
 abbrev pub IsWide : List Write → ℕ → Type 0
 IsWide ws i = IsTooMany MAX_WRITES ws i
 

@@ -14,10 +14,11 @@ use Rattle.dude_core.specs.Steps.{steps_of}
 abbrev pub LawOfKeptState : Type 0
 LawOfKeptState = (z : Setup) (es : List (ℕ × Event)) (c : State) → IsSetup z → AllLead z (start z) (steps_of es) c → Kept z c
 
--- and the entries of all views are legal, where it is known what the medium gives
+-- after every list of allowed events the entries of all views are legal, where it is known what the medium gives
 abbrev pub LawOfLegality : Type 0
 LawOfLegality = (z : Setup) (es : List (ℕ × Event)) (c : State) → IsSetup z → z.is_told ≡ true → AllLead z (start z) (steps_of es) c → IsLegal z.first z.opening (all_entries c.views)
 
--- and they are the entries that the events made, each once: however entries are weighed, both weigh the same
+-- after every list of allowed events the views have the entries that the events made, each once: however entries are
+-- weighed, both weigh the same
 abbrev pub LawOfOnce : Type 0
 LawOfOnce = (z : Setup) (es : List (ℕ × Event)) (c : State) (h : AllLead z (start z) (steps_of es) c) (f : Entry → ℕ) → total f (all_entries c.views) ≡ total f (all_made z (steps_of es) (start z) c h)

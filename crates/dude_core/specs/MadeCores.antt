@@ -23,7 +23,7 @@ size_fault sizes run = Size run.frames sizes.pages
 abbrev pub RefusesSize : {A : Type 0} → Result A CoreFault → Sizes → Run → ℕ → Type 0
 RefusesSize r sizes run threads = IsErrOf r (size_fault sizes run) ↔ (FitsImage sizes run threads → ⊥)
 
--- it is that fault, or want of memory
+-- the fault of a run, or of a number of threads, that doesn't fit; or want of memory
 abbrev pub IsFaultOf : Sizes → Run → CoreFault → Type 0
 IsFaultOf sizes run fault = (fault ≡ size_fault sizes run) ⊎ (fault ≡ NoMemory)
 
@@ -31,6 +31,6 @@ IsFaultOf sizes run fault = (fault ≡ size_fault sizes run) ⊎ (fault ≡ NoMe
 abbrev pub core_of : Setup → CoreState
 core_of z = record { setup = z; state = start z }
 
--- it is the core at the start, of a run with so many threads over these home words and this number
+-- the core at the start of a run with so many threads, over these home words and this number
 abbrev pub IsCoreAt : List ℕ → Sizes → Run → ℕ → ℕ → CoreState → Type 0
 IsCoreAt words sizes run threads number core = core ≡ core_of (setup_of words sizes.pages run threads number)

@@ -46,7 +46,7 @@ step_of who (Evict p) = event who (evict p)
 step_of who (Fill p f i x) = event who (fill p f i x)
 step_of who (Show p f) = event who (show p f)
 
--- it is this event of the definitions, whoever makes it
+-- the event made is this one of the definitions, whoever makes it
 abbrev pub IsEventOf : Event → Made → Type 0
 IsEventOf d e = (who : ℕ) → step_of who d ≡ event who e
 

@@ -15,7 +15,7 @@ pub record Opening : Type 0 where
   pub sizes : Sizes
   pub database : Database
 
--- what holds of each opening
+-- what each opening has: a number in its range, accepted sizes, tables in order, and no more call rows than allowed
 pub record IsOpening (opening : Opening) : Type 0 where
   pub small : opening.number ≤ MAX_NUMBER
   pub accepted : IsAccepted opening.sizes

@@ -16,6 +16,6 @@ AreInRange files = All (All IsInRange) files
 abbrev pub HasNumbersFor : ℕ → List (List Request) → Type 0
 HasNumbersFor first files = first + 65 * request_count files ≤ MAX_NUMBER
 
--- one for each request
+-- the numbers behind this one are enough for one for each request
 abbrev pub HasNumberEach : ℕ → List (List Request) → Type 0
 HasNumberEach first files = first + request_count files ≤ MAX_NUMBER

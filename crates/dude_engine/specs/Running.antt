@@ -74,37 +74,56 @@ AreSyncsUpTo durable performed s t = All (λ d. IsTrue (is_sync d.request) → W
 -- Whatever the opening: the log is alive, and the words are at rest.
 pub record IsReady {M : Type 0} {ghosts : Ghosts M} (run : Run M ghosts) : Type 0 where
   pub alive : IsAlive run.log
+  -- the log and the words have one layout
   pub sizes : log_sizes run.log ≡ run.lay
+  -- no write of the words is pending
   pub clean : flat_sight run.words ≡ fresh (words_of run.words)
+  -- there are as many words as the home has
   pub count : length (words_of run.words) ≡ run.lay.pages * PAGE
 
 -- The run began at this opening with these words in the home, when its medium was as s; its medium is now as t. The current
 -- words stand for the tables behind the requests performed, and the log is at the last number.
 pub record IsRunning {M : Type 0} {ghosts : Ghosts M} (opening : Opening) (words : List ℕ) (lay : Sizes) (l : RunLog M ghosts) (current : List ℕ) (performed : List Done) (s t : Sight) : Type 0 where
+  -- the layout is that of the opening
   pub layout : opening.sizes ≡ lay
   pub sizes : log_sizes l ≡ opening.sizes
+  -- each request performed is answered as by one thread
   pub answered : AreAnswered opening performed
+  -- the log is at the last number
   pub last : log_last l ≡ last_performed opening.number performed
+  -- the current words stand for the tables behind the requests performed
   pub stands : StandsFor opening.sizes current (tables_after opening performed)
   pub len : t.len ≡ s.len
+  -- calls were made on the medium, and none failed
   pub ran : SomeCalls true s t
+  -- the durable number was told last, or it is the opening one and none was told
   pub tells : IsTrue s.is_visible → WereTold true opening.number (log_durable l) (state_now s).told (state_now t).told
+  -- the number of each `SYNC` is at most the durable one, which was told last
   pub syncs : IsTrue s.is_visible → AreSyncsUpTo (log_durable l) performed s t
+  -- where the medium was as the opening left it, the log follows the arrays of the run
   pub follows : (before : ℕ) → HoldsOpened before opening.sizes opening.number words s → FollowsRun before opening performed current l t
+  -- and at each moment every image recovers to the database behind a prefix of the requests
   pub moments : (before : ℕ) → HoldsOpened before opening.sizes opening.number words s → AtEveryMoment (RecoversSoFar before opening performed) s t
 
 -- a run that began at this opening, with these words in the home, stands between two requests
 abbrev pub Runs : {M : Type 0} {ghosts : Ghosts M} → Opening → List ℕ → Run M ghosts → Sight → Sight → Type 0
 Runs opening words run s t = IsRunning opening words run.lay run.log (words_of run.words) run.done.items s t
 
--- The same where the last call on the medium failed.
+-- What a run from this opening leaves where the last call on the medium failed: the requests performed are answered as
+-- by one thread, and at each moment every image recovers to the database behind a prefix of them.
 pub record HasFailed (opening : Opening) (words : List ℕ) (durable : ℕ) (performed : List Done) (s t : Sight) : Type 0 where
+  -- each request performed is answered as by one thread
   pub answered : AreAnswered opening performed
   pub len : t.len ≡ s.len
+  -- calls were made on the medium, and the last one failed
   pub ran : SomeCalls false s t
+  -- the medium's count of faults rose
   pub cause : Risen s.faults t.faults
+  -- numbers were told as in a run; the call that failed may have told one more, no less than the durable one
   pub tells : IsTrue s.is_visible → WereTold false opening.number durable (state_now s).told (state_now t).told
+  -- the number of each `SYNC` is at most the last one told
   pub syncs : IsTrue s.is_visible → AreSyncsTold performed s t
+  -- where the medium was as the opening left it, every image recovers so at each moment
   pub moments : (before : ℕ) → HoldsOpened before opening.sizes opening.number words s → AtEveryMoment (RecoversSoFar before opening performed) s t
 
 -- what is left of a run, by an answer
@@ -203,7 +222,7 @@ NumbersNoMore old new = log_last new.log + vec_len old.done ≤ log_last old.log
 abbrev pub NotesUnless : {M : Type 0} {ghosts : Ghosts M} → Result (Unit {0}) RunFault → ℕ → ℕ → Request → Run M ghosts → Run M ghosts → Type 0
 NotesUnless result file index request old new = AddsUnless result file index request old.done.items new.done.items
 
--- the same for the turn of a file, as `AddsTurn` says
+-- from one run to another the turn of a file is noted as done, as `AddsTurn` says
 abbrev pub NotesTurn : {M : Type 0} {ghosts : Ghosts M} → Result (Unit {0}) RunFault → ℕ → ℕ → List Request → Run M ghosts → Run M ghosts → Type 0
 NotesTurn result file index requests old new = AddsTurn result file index requests old.done.items new.done.items
 

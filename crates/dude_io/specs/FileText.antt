@@ -17,7 +17,7 @@ abbrev pub HoldsText : ℕ → FileText → List ℕ → Type 0
 HoldsText limit (Whole bytes) text = bytes.items ≡ text
 HoldsText limit TooLong text = limit < length text
 
--- what was read of the file of this name, where the texts are told: its whole text, or that it is longer than the limit
+-- what was read of the file of this name, where the files are visible: its whole text, or that it is over the limit
 abbrev pub IsFileText : ℕ → FilesSight → List ℕ → FileText → Type 0
 IsFileText limit files name found = IsTrue files.is_visible → IsSomeAnd (files.text name) (HoldsText limit found)
 

@@ -3,8 +3,8 @@ use Rattle.std.specs.Prelude.{◌≡◌, ℕ, ◌-◌, ◌≤◌, Bool, IsTrue, 
 use Rattle.pmem_trait.specs.declared.failed.Failed.{Failed}
 use Rattle.pmem_trait.specs.Sights.{Risen}
 
--- what may be known of files: the count of their faults, whether their texts are told, and the text of
--- each file by the bytes of its name, none where it isn't there
+-- what may be known of files: the count of their faults, whether their texts are visible, and the text of each file by
+-- the bytes of its name, none where it isn't there
 pub record FilesSight : Type 0 where
   pub faults : ℕ
   pub is_visible : Bool

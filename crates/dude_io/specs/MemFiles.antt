@@ -8,15 +8,15 @@ use Rattle.dude_io.specs.Files.{FilesSight, FileRead}
 use Rattle.dude_io.specs.MemFile.{text_of}
 use Rattle.dude_io.specs.FailPlan.{IsNewPlan, is_next_to_fail}
 
--- they tell their texts
+-- what is seen of files in memory: the count of their faults, and their texts
 abbrev pub files_sight : MemFiles → FilesSight
 files_sight m = record { faults = m.plan.faults.count; is_visible = true; text = text_of m.files.items }
 
--- which calls fail, and how much a read gives
+-- which calls on files in memory fail, and how much a read gives
 abbrev pub files_plan : MemFiles → FailPlan
 files_plan m = m.plan
 
--- these files, on which no call was made
+-- these files in memory, with this plan, on which no call was made yet
 pub record IsNewFiles (files : List MemFile) (most : ℕ) (failing : List ℕ) (m : MemFiles) : Type 0 where
   pub text : (files_sight m).text ≡ text_of files
   pub plan : IsNewPlan most failing (files_plan m)

@@ -5,19 +5,19 @@ use Rattle.dude_io.specs.declared.fail_plan.FailPlan.{FailPlan}
 use Rattle.dude_io.specs.Sink.{SinkSight}
 use Rattle.dude_io.specs.FailPlan.{IsNewPlan, is_next_to_fail}
 
--- it tells what it took
+-- what is seen of a sink in memory: the count of its faults, and the bytes that it took
 abbrev pub sink_sight : MemSink → SinkSight
 sink_sight m = record { faults = m.plan.faults.count; is_visible = true; taken = m.taken.items }
 
--- which calls fail, and how much a write takes
+-- which calls on a sink in memory fail, and how much a write takes
 abbrev pub sink_plan : MemSink → FailPlan
 sink_plan m = m.plan
 
--- how many bytes it still takes
+-- how many more bytes a sink in memory takes
 abbrev pub room_left : MemSink → ℕ
 room_left m = m.room - length m.taken.items
 
--- an empty sink of this room, on which no call was made
+-- an empty sink in memory of this room, with this plan, on which no call was made yet
 pub record IsNewSink (size most : ℕ) (failing : List ℕ) (m : MemSink) : Type 0 where
   pub taken : (sink_sight m).taken ≡ []
   pub room : room_left m ≡ size

@@ -1,4 +1,4 @@
--- What clauses see of files and sinks that tell no content: the count of their faults alone.
+-- What clauses see of files and sinks whose content isn't visible: the count of their faults alone.
 use Rattle.std.specs.Prelude.{◌≡◌, ℕ, false, List, [], None, Result, is_ok}
 use Rattle.pmem_trait.specs.declared.failed.Failed.{Failed}
 use Rattle.pmem_trait.specs.Faults.{faults_after}
@@ -15,11 +15,11 @@ silent_files faults = record { faults = faults; is_visible = false; text = λ _.
 abbrev pub silent_sink : ℕ → SinkSight
 silent_sink faults = record { faults = faults; is_visible = false; taken = [] }
 
--- the files of the system
+-- what is seen of the files of the system
 abbrev pub real_files_sight : {R F D : Type 0} → RealFiles R F D → FilesSight
 real_files_sight files = silent_files files.faults.count
 
--- standard output
+-- what is seen of standard output
 abbrev pub real_sink_sight : {R : Type 0} → RealSink R → SinkSight
 real_sink_sight sink = silent_sink sink.faults.count
 

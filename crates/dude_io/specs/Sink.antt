@@ -3,7 +3,7 @@ use Rattle.std.specs.Prelude.{◌≡◌, ℕ, ◌<◌, ◌≤◌, Bool, IsTrue, 
 use Rattle.pmem_trait.specs.declared.failed.Failed.{Failed}
 use Rattle.pmem_trait.specs.Sights.{Risen}
 
--- what may be known of a sink: the count of its faults, whether the bytes taken are told, and these bytes
+-- what may be known of a sink: the count of its faults, whether the bytes taken are visible, and these bytes
 pub record SinkSight : Type 0 where
   pub faults : ℕ
   pub is_visible : Bool

@@ -1,10 +1,10 @@
 //! Files, sinks and image files: the program's edge.
 //!
 //! Callers are generic over `Files` and `Sink`. Each has one ghost member of plain data, its sight: the count of its
-//! faults, and, where they are told, the texts of the files or the bytes taken. `read_file` and `write_all` are the
-//! loops over them. `MemFiles` and `MemSink` tell all, and their contracts say which calls fail.
+//! faults, and, where they are visible, the texts of the files or the bytes taken. `read_file` and `write_all` are the
+//! loops over them. `MemFiles` and `MemSink` show all, and their contracts say which calls fail.
 //!
-//! `RealFiles`, `RealSink` and `FilePmem` are the real edges. They tell no content: what is proved of them is that
+//! `RealFiles`, `RealSink` and `FilePmem` are the real edges. They show no content: what is proved of them is that
 //! they are safe, that each call returns, and that the count of faults rises exactly where a call fails, until it
 //! stands at its last value. What the system reads, writes and syncs is trusted.
 #![tactic(auto)]

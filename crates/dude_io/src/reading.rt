@@ -22,7 +22,7 @@ pub fn read_file<F: Files>(
     ensures stays { FilesStay (F.sight files.old) (F.sight files.new) }
     ensures bounded { IfOk result (IsBounded limit) }
 
-    // Where the texts are told, a file that isn't there has no text, and is too long exactly over the limit.
+    // Where the files are visible, one that isn't there has no text, and a text is too long exactly over the limit.
     ensures text { IfOk result (IsFileText limit (F.sight files.old) name.now) }
     ensures calm { OnOk result ((F.sight files.new).faults ≡ (F.sight files.old).faults) }
     ensures cause { IfErr result (IsReadFault (F.sight files.old) (F.sight files.new)) }

@@ -9,7 +9,7 @@ use std::io::{Read, Seek, SeekFrom};
 use std::rt::Files as FileSystem;
 use std::{fs, io};
 
-/// The files of the system, by their paths. What they hold is not told. Each read opens its file anew, so of a file
+/// The files of the system, by their paths. What they hold is not visible. Each read opens its file anew, so of a file
 /// that changes meanwhile a mix may be read.
 #[derive(Drop)]
 pub struct RealFiles<R: FileSystem> {

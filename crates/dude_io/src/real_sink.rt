@@ -6,7 +6,7 @@ ghost use Rattle.dude_io.specs.Silent.{silent_sink};
 use crate::Sink;
 use pmem_trait::{Failed, FaultCount};
 
-/// Standard output. What it took is not told.
+/// Standard output. What it took is not visible.
 #[derive(Drop)]
 pub struct RealSink<R: Print> {
     rt: R,

@@ -7,7 +7,7 @@ use pmem_trait::Failed;
 
 /// What takes the program's output.
 pub trait Sink {
-    /// What is known of the sink: the count of its faults, and the bytes taken where these are told.
+    /// What is known of the sink: the count of its faults, and the bytes taken where these are visible.
     ghost sight: { Self → SinkSight };
 
     /// Takes the first bytes of the piece, at least one, and answers how many. At an `Err` it took nothing.

@@ -38,7 +38,7 @@ abbrev pub WantsFrames : Meaning → ℕ → ℕ → Type 0
 WantsFrames (RunFiles (Some frames) locks files) wanted pages = (wanted ≡ frames) × ¬ IsFrom (min MIN_FRAMES pages) pages frames
 WantsFrames _ wanted pages = ⊥
 
--- it is a load of more files than there are subscribers
+-- the command is a load of more files than there are subscribers
 abbrev pub WantsSubscribers : Meaning → ℕ → ℕ → Type 0
 WantsSubscribers (DriveLoad seed count files) subscribers wanted = (wanted ≡ files) × (subscribers < files)
 WantsSubscribers _ subscribers wanted = ⊥
@@ -93,7 +93,9 @@ pub record RefusedBehind (meaning : Meaning) (old new : World) (fault : Fault) :
   pub opens : makes_image meaning ≡ false
   pub starts : Starts meaning old.medium opening
   pub lawful : IsOpening opening
+  -- the opened image refuses the command
   pub why : RefusesOpening meaning old.files opening fault
+  -- where the medium is visible, it is left opened
   pub left : IsTrue old.medium.is_visible → IsLeftOpened opening old.medium new.medium
 
 -- Why the command ended with this fault, if any. Want of memory is free.
@@ -118,12 +120,12 @@ StoppedReading (Some (File number)) = ⊤
 StoppedReading (Some Memory) = ⊤
 StoppedReading _ = ⊥
 
--- It ended with its files: so, or one is bad.
+-- The command ended with its files: one couldn't be read or is bad, or there was no memory.
 abbrev pub StoppedAtFiles : Option Fault → Type 0
 StoppedAtFiles (Some (Text number row field)) = ⊤
 StoppedAtFiles fault = StoppedReading fault
 
--- It ended with its files, or since the medium failed.
+-- The command ended with its files, or since the medium failed, or there was no memory.
 abbrev pub StoppedByOpening : Option Fault → Type 0
 StoppedByOpening (Some Device) = ⊤
 StoppedByOpening fault = StoppedAtFiles fault
@@ -190,13 +192,21 @@ RanUnlessDevice fault s t = (ok : Bool) × SomeCalls ok s t × ((ok ≡ false) �
 
 -- When a command that means something ends with which fault, and what stays.
 pub record Causes (meaning : Meaning) (old new : World) (done : List Done) (fault : Option Fault) : Type 0 where
+  -- the fault has its cause
   pub cause : HasCause meaning old new fault
+  -- what refuses the command is answered in its order
   pub order : RefusesInOrder meaning old fault
+  -- where nothing refuses it and no call fails, it ends well, or there was no memory
   pub complete : SucceedsIfGood meaning old new fault
+  -- what stays where it is refused
   pub untouched : Untouched fault old.medium new.medium done
+  -- where its files, or the length of its medium, refuse it, the medium stays and nothing is done, whatever is answered
   pub spared : SparesMedium meaning old new done
+  -- where an opened image is refused nothing is done, whatever is answered
   pub nothing : DoesNothingRefused meaning old done
+  -- no call on the medium failed but the last one, where the fault is `Device`
   pub ran : RanUnlessDevice fault old.medium new.medium
+  -- the files stay, and the count of their faults only rises
   pub files : FilesStay old.files new.files
   pub sink : SinkStays old.sink new.sink
 

@@ -63,23 +63,29 @@ pub record Sync (done : List Done) (s t : Sight) : Type 0 where
 -- All requests are done. The last number is at least the opening number and each number done; and of its output the sink
 -- took this much.
 pub record AllDone (meaning : Meaning) (old new : World) (done : List Done) (Taken : List ℕ → Type 0) : Type 0 where
+  -- the command starts from this opening
   pub opening : Opening
   pub starts : Starts meaning old.medium opening
   pub lawful : IsOpening opening
+  -- what is done is answered as by one thread
   pub replies : Replies meaning old.files opening done
   pub all : AllAreDone replies.requests done
+  -- the last number
   pub last : ℕ
   pub none_over : All (λ d. d.number ≤ last) done
   pub from : opening.number ≤ last
+  -- the command may come to it
   pub reachable : IsReachable meaning opening done last
+  -- at the end it was told last, and every image recovers to it
   pub end : IsTrue old.medium.is_visible → End opening done last old.medium new.medium
+  -- the sink took this much of the command's output
   pub bytes : Taken (output_for meaning opening done last)
 
 -- the sink took all of a text
 abbrev pub TookAll : SinkSight → SinkSight → List ℕ → Type 0
 TookAll s t text = IsTrue s.is_visible → t.taken ≡ s.taken ++ text
 
--- or a prefix of it, and not the whole
+-- the sink took a prefix of a text, and not the whole
 abbrev pub TookPrefix : SinkSight → SinkSight → List ℕ → Type 0
 TookPrefix s t text = IsTrue s.is_visible → (n : ℕ) × (n < length text) × (t.taken ≡ s.taken ++ take n text)
 
@@ -94,9 +100,14 @@ Printed meaning old new done (Some _) = new.sink ≡ old.sink
 -- The headline, of a command that means something and ended with this fault or none. Where it has no opening, it only
 -- read the medium.
 pub record Headline (meaning : Meaning) (old new : World) (done : List Done) (fault : Option Fault) : Type 0 where
+  -- nothing is done; or what is done is answered as by one thread that starts from the opening
   pub replies : (done ≡ [])
       ⊎ ((opening : Opening) × Starts meaning old.medium opening × IsOpening opening × Replies meaning old.files opening done)
+  -- what each image that a crash at any moment may leave recovers to, for each opening of the command
   pub crash : (opening : Opening) → Starts meaning old.medium opening → Crash meaning opening done old.medium new.medium
+  -- the number of each `SYNC` is at least that of each earlier request of its file, and at most the last number told
   pub sync : Sync done old.medium new.medium
+  -- what the sink took, and, where all is done, what the medium holds at the end
   pub printed : Printed meaning old new done fault
+  -- where the command has no opening, it only read the medium
   pub only_read : ((opening : Opening) → Starts meaning old.medium opening → ⊥) → (ok : Bool) × OnlyReads ok old.medium new.medium

@@ -40,14 +40,23 @@ fault_of_end NoMemory = Some Memory
 -- The requests were run over an image that was opened at this opening with these home words: what is done, the last number
 -- told, and the fault, if any.
 pub record RanOver (opening : Opening) (words : List ℕ) (requests : List (List Request)) (done : List Done) (last : ℕ) (fault : Option Fault) (s t : Sight) : Type 0 where
+  -- what is done is answered as by one thread along the printed order
   pub replies : RepliesOfOneThread opening.number opening.sizes.calls opening.database requests done
+  -- the number of a `SYNC` is at least that of each earlier request of its file
   pub syncs_follow : SyncsFollow done
+  -- and at least the opening number
   pub syncs_from : All (λ d. IsTrue (is_sync d.request) → opening.number ≤ d.number) done
+  -- and at most the last number told
   pub syncs_told : IsTrue s.is_visible → AreSyncsTold done s t
+  -- at each moment every image recovers to the database after a prefix of the printed order
   pub moments : RecoversOnTheRun opening words done s t
+  -- with no fault all is done, the last number was told, and every image recovers to it
   pub whole : fault ≡ None → IsWhole opening words requests done last s t
+  -- no call on the medium failed but the last one, where the fault is `Device`
   pub ran : RanUnlessDevice fault s t
+  -- at `Device` the medium's count of faults rose
   pub cause : fault ≡ Some Device → Risen s.faults t.faults
+  -- no other fault comes but want of memory
   pub only : (fault ≡ None) ⊎ (fault ≡ Some Device) ⊎ (fault ≡ Some Memory)
 
 -- A text was printed, unless a fault came before; or a prefix of it was; or there was no memory for it.
@@ -64,7 +73,7 @@ lines_of worked = output_of worked.done.items worked.last
 abbrev pub totals_of : {M : Type 0} → Worked M → List ℕ
 totals_of worked = summary_of worked.done.items
 
--- the text was printed so on a sink, seen so
+-- a sink, seen so, took a text, unless a fault came before; or a prefix of it; or there was no memory for it
 abbrev pub EndsBy : {K : Type 0} → (K → SinkSight) → List ℕ → Option Fault → Option Fault → K → K → Type 0
 EndsBy sight text earlier fault old new = PrintsText text earlier fault (sight old) (sight new)
 

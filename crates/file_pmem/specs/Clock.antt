@@ -1,11 +1,11 @@
--- What clauses see of a medium that tells no content.
+-- What clauses see of a medium whose content isn't visible.
 use Rattle.std.specs.Prelude.{◌≡◌, ℕ, Bool, false, []}
 use Rattle.pmem_trait.specs.Faults.{faults_after}
 use Rattle.pmem_trait.specs.Words.{settled_at}
 use Rattle.pmem_trait.specs.Sights.{Sight}
 use Rattle.file_pmem.specs.declared.clock.Clock.{Clock}
 
--- its length, its moment and its faults, and nothing else
+-- what is seen of a medium that isn't visible: its length, its moment and its count of faults, and nothing else
 abbrev pub silent_medium : ℕ → Clock → Sight
 silent_medium len clock = record {
   len = len;

@@ -13,11 +13,11 @@ use Rattle.file_pmem.specs.Line.{NotesLine}
 use Rattle.file_pmem.specs.Spill.{spill_more}
 use Rattle.file_pmem.specs.WriteCache.{note_room}
 
--- its length, its moment and its faults
+-- what is seen of a medium in a file: its length, its moment and its count of faults
 abbrev pub pmem_sight : {R F D : Type 0} → FilePmem R F D → Sight
 pmem_sight medium = silent_medium medium.cache.words.count medium.clock
 
--- its words as reads give them
+-- the words of the file, as reads give them
 abbrev pub cached_words : {R F D : Type 0} → FilePmem R F D → List ℕ
 cached_words medium = words_of medium.cache.words
 
@@ -49,7 +49,7 @@ pub record MakesCall {R F D : Type 0} (c : Call) (ok : Bool) (old new : FilePmem
 abbrev pub has_moment : {R F D : Type 0} → FilePmem R F D → Bool
 has_moment medium = nat_lt (pmem_sight medium).now (2 ^ 64 - 1)
 
--- its words once a value was put in one
+-- the words of the file, as reads give them, once a value was put in one
 abbrev pub words_put : {R F D : Type 0} → ℕ → ℕ → FilePmem R F D → List ℕ
 words_put at value medium = slice_set (cached_words medium) at value
 

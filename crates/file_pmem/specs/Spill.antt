@@ -3,13 +3,14 @@ use Rattle.std.specs.Prelude.{Bool, true, false}
 use Rattle.file_pmem.specs.declared.spill.Spill.{Spill}
 use Rattle.file_pmem.specs.declared.spill.Spill.TheVariants.{Synced, Unsynced, Lost}
 
--- once more lines were written so
+-- what became of the lines that were written for want of room, once there are more of them
 abbrev pub spill_more : Spill → Spill
 spill_more Synced = Unsynced
 spill_more Unsynced = Unsynced
 spill_more Lost = Lost
 
--- behind a fence: where it failed, what was not synced may be lost
+-- what became of the lines that were written for want of room, behind a fence: where it succeeded they are synced;
+-- where it failed, those that were not synced before may be lost
 abbrev pub spill_fenced : Bool → Spill → Spill
 spill_fenced true _ = Synced
 spill_fenced false Synced = Synced

@@ -1,4 +1,4 @@
-//! The lock that keeps other processes off a file.
+//! The lock that keeps other processes off a file (trusted).
 
 use std::fs::File;
 use std::io;

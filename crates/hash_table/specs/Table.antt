@@ -105,7 +105,7 @@ FindsAll table array key r = (chains : List (List ℕ)) (free : List ℕ) → Is
 abbrev pub InsertsAll : Table → ℕ → List ℕ → List ℕ → Put → Type 0
 InsertsAll table key old new put = (chains : List (List ℕ)) (free : List ℕ) → IsTable table old chains free → Inserts table key chains free put old new
 
--- the same where the key isn't there
+-- in every way in which the array is this table and the key isn't there, `insert` does so
 abbrev pub InsertsNew : Table → ℕ → List ℕ → List ℕ → Put → Type 0
 InsertsNew table key old new put =
     (chains : List (List ℕ)) (free : List ℕ) → IsTable table old chains free → lookup old (records_in chains) key ≡ None → Inserts table key chains free put old new

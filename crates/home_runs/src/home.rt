@@ -153,7 +153,7 @@ fn serve(lay: &Layout, flat: &mut Flat, request: &Request, page: &mut Page)
     }
 }
 
-/// A request that is done, of which its place, its number and its reply are told.
+/// A request that is done, by its place, its number and its reply.
 pub fn done_at(file: u64, index: u64, number: u64, reply: Reply) -> Done {
     Done {
         file,

@@ -229,7 +229,7 @@ fn is_of_updates(alloc: Global, medium: &MemPmem, moment: u64, picks: &[u64], la
     found.number <= last && found.words.get(LOCATION) == Some(&location)
 }
 
-/// Puts requests that are done, each told by its file, its index and its number, in the order of files, and prints them.
+/// Puts requests that are done, by file, index and number, in the order of files, and prints them.
 pub fn say_in_files(alloc: Global, numbers: &[u64], page: &mut Page) {
     let mut done = Vec::new(alloc);
     for place in numbers.chunks(3) {

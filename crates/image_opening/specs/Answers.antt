@@ -58,7 +58,7 @@ StopsBy NoMemory s t = OnlyReads true s t
 abbrev pub StillRecovers : List ℕ → ℕ → Sizes → Database → List ℕ → List ℕ → Type 0
 StillRecovers before number sizes db told image = (told ≡ before) × RecoversTo image number sizes db
 
--- so it is at every moment, whatever the content at entry recovers to
+-- at every moment every image recovers to the number and the database that the content at entry recovers to
 abbrev pub StillRecoversAll : Sight → Sight → Type 0
 StillRecoversAll s t = (number : ℕ) (sizes : Sizes) (db : Database) → ContentHas (λ content. RecoversTo content number sizes db) s
     → AtEveryMoment (StillRecovers (state_now s).told number sizes db) s t

@@ -83,6 +83,6 @@ ClearsHeads lines result = CallsMade (clear_calls lines) (is_ok result)
 abbrev pub RaisesVersion : ℕ → Result (Unit {0}) Failed → Sight → Sight → Type 0
 RaisesVersion version result = CallsMade (raise_calls version) (is_ok result)
 
--- all of these calls are made
+-- exactly the calls that settle the image were made; or a prefix of them, whose last failed
 abbrev pub SettlesImage : ℕ → Sizes → ℕ → List ℕ → List ℕ → Result (Unit {0}) Failed → Sight → Sight → Type 0
 SettlesImage version s number words stale result = CallsMade (opening_calls version s number words stale) (is_ok result)

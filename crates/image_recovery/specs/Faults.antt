@@ -45,7 +45,7 @@ ReadsMade (Err (NotDb word)) s t = OnlyReads true s t
 ReadsMade (Err NoMemory) s t = OnlyReads true s t
 ReadsMade (Err Device) s t = OnlyReads false s t
 
--- the same fault of an image in memory, where no call on a medium fails
+-- the fault of an image in memory, where no call on a medium fails
 abbrev pub in_memory : OpenFault → OpenFault
 in_memory Unformatted = Unformatted
 in_memory (Damaged line) = Damaged line

@@ -8,7 +8,7 @@ use Rattle.pmem_trait.specs.Sights.{Sight, OneCall}
 abbrev pub still_state : List ℕ → State
 still_state image = record { word = λ k. settled_at (slice_index image k); told = [] }
 
--- at each moment
+-- a medium that is settled at the image at each moment
 abbrev pub still_sight : List ℕ → ℕ → ℕ → Sight
 still_sight image now faults = record {
   len = length image;

@@ -29,7 +29,7 @@ pub record IsNoDatabase (word : ℕ) (image : List ℕ) : Type 0 where
   pub recovered : Recovers image number array
   pub wrong : IsNotDb (sizes_of image) array word
 
--- what recovery gives
+-- what recovery gives of an image: why there is no database, or a number with sizes and a database
 pub data Recovery : Type 0 where
   Unformatted : Recovery
   Damaged : ℕ → Recovery
@@ -43,7 +43,7 @@ Gives image (Damaged line) = IsFormatted image × IsDamaged image line
 Gives image (NotDb word) = IsNoDatabase word image
 Gives image (Recovered number sizes db) = RecoversTo image number sizes db
 
--- it gives one at most
+-- recovery gives at most one answer of an image
 abbrev pub LawOfOneRecovery : Type 0
 LawOfOneRecovery = (image : List ℕ) (one other : Recovery) → Gives image one → Gives image other → one ≡ other
 

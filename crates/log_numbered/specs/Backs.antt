@@ -34,7 +34,7 @@ pub record Carries (before : ℕ) (a : RunArrays) (v : BackState) (end : ℕ) (s
   pub keeps : HoldsStore before v s
   pub holds : IsTrue s.is_visible → HoldsArrays a v s
 
--- of any arrays
+-- this holds of any arrays
 abbrev pub Any : RunArrays → Type 0
 Any a = Unit {0}
 

@@ -13,15 +13,15 @@ use Rattle.log_numbered.specs.Arrays.{LeadsToLast}
 use Rattle.log_numbered.specs.Backs.{Any, CarriesOn, HomeIsAt, LogGoesOn, RecoversAlong, WasFull}
 use Rattle.log_numbered.specs.LogCalls.{BroughtHomeBy, BundlePersistedBy, Makes, PersistedBy, SettledBy, settled}
 
--- its medium
+-- the medium of the persisted part of a log
 abbrev pub kept_medium : {M : Type 0} {ghosts : Ghosts M} → BundleLog M ghosts → M
 kept_medium l = medium_of l.back
 
--- what clauses see of it
+-- what clauses see of the medium of the persisted part of a log
 abbrev pub kept_sight : {M : Type 0} {ghosts : Ghosts M} → BundleLog M ghosts → Sight
 kept_sight {M} {ghosts} l = ghosts.sight (kept_medium l)
 
--- its back, without the medium
+-- the back of the persisted part of a log, without its medium
 abbrev pub kept_back : {M : Type 0} {ghosts : Ghosts M} → BundleLog M ghosts → BackState
 kept_back l = state_of l.back
 
@@ -41,7 +41,8 @@ KeptGoesOn ok k l = LogGoesOn ok (kept_back k) (kept_sight k) (kept_back l) (kep
 abbrev pub KeptRecovers : {M : Type 0} {ghosts : Ghosts M} → BundleLog M ghosts → BundleLog M ghosts → Type 0
 KeptRecovers k l = RecoversAlong Any (kept_back k) k.end (kept_sight k) (kept_sight l)
 
--- the same, where the bundle leads to the last of the arrays
+-- at each moment every image recovers to a number from the last one persisted on, and to an array of those that the log
+-- has, where the bundle leads to the last of them
 abbrev pub RecoversWith : {M : Type 0} {ghosts : Ghosts M} → RedoBundle → BundleLog M ghosts → BundleLog M ghosts → Type 0
 RecoversWith b k l = RecoversAlong (λ a. LeadsToLast a k.end b) (kept_back k) k.end (kept_sight k) (kept_sight l)
 
@@ -65,11 +66,11 @@ pub record PersistsNext {M : Type 0} {ghosts : Ghosts M} (ring : ℕ) (b : RedoB
   -- the log has the arrays up to the one that the bundle leads to
   pub carries : CarriesOn (λ a. LeadsToLast a k.end b) (kept_back k) k.end (kept_sight k) (kept_back l) l.end (kept_sight l)
 
--- so it is where the ring had room
+-- where the ring had room, the bundle was persisted in it
 abbrev pub PersistsIf : {M : Type 0} {ghosts : Ghosts M} → Bool → ℕ → RedoBundle → BundleLog M ghosts → BundleLog M ghosts → Type 0
 PersistsIf room ring b k l = IsTrue room → PersistsNext ring b k l
 
--- else nothing was done
+-- where the ring had no room for the bundle, nothing was done
 abbrev pub WasFullUnless : {M : Type 0} {ghosts : Ghosts M} → Bool → ℕ → RedoBundle → BundleLog M ghosts → BundleLog M ghosts → Type 0
 WasFullUnless room ring b k l = room ≡ false → WasFull ring b (kept_back k) k.end (kept_sight k) (kept_back l) l.end (kept_sight l)
 
@@ -106,7 +107,7 @@ pub record AnnouncesLast {M : Type 0} {ghosts : Ghosts M} (k l : BundleLog M gho
   pub back : kept_back l ≡ announced (kept_back k) k.end
   -- just the call for that was made
   pub calls : CallsMade (announce_calls k.end) true (kept_sight k) (kept_sight l)
-  -- it alone was told
+  -- that number alone was told
   pub told : TellsOne k.end (kept_sight k) (kept_sight l)
   -- it is durable
   pub durable : (kept_back l).log.durable ≡ k.end
@@ -119,7 +120,7 @@ pub record MakesCheckpoint {M : Type 0} {ghosts : Ghosts M} (k l : BundleLog M g
   pub back : kept_back l ≡ settled (kept_back k) k.end
   -- just the calls for that were made
   pub calls : Makes (SettledBy (kept_back k) k.end) (kept_sight k) (kept_sight l)
-  -- it alone was told
+  -- that number alone was told
   pub told : TellsOne k.end (kept_sight k) (kept_sight l)
   -- all is durable, and in the home
   pub durable : (kept_back l).log.durable ≡ k.end

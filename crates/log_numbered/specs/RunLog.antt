@@ -18,15 +18,15 @@ use Rattle.log_numbered.specs.Backs.{Carries, LeadsUpTo, LogGoesOn}
 use Rattle.log_numbered.specs.BundleLog.{TellsNone, kept_back, kept_medium}
 use Rattle.log_numbered.specs.LogCalls.{AnnouncedBy, AppendedBy, CheckpointedBy, ClosedBy, Joins, LogParts, Makes, with_joined}
 
--- its medium
+-- the medium of the log of a run
 abbrev pub log_medium : {M : Type 0} {ghosts : Ghosts M} → RunLog M ghosts → M
 log_medium l = kept_medium l.log
 
--- what clauses see of it
+-- what clauses see of the medium of the log of a run
 abbrev pub log_sight : {M : Type 0} {ghosts : Ghosts M} → RunLog M ghosts → Sight
 log_sight {M} {ghosts} l = ghosts.sight (log_medium l)
 
--- its back, without the medium
+-- the back of the log of a run, without its medium
 abbrev pub log_back : {M : Type 0} {ghosts : Ghosts M} → RunLog M ghosts → BackState
 log_back l = kept_back l.log
 
@@ -38,11 +38,11 @@ log_end l = l.log.end
 abbrev pub log_last : {M : Type 0} {ghosts : Ghosts M} → RunLog M ghosts → ℕ
 log_last l = l.last
 
--- its open bundle
+-- the open bundle of the log of a run, if there is one
 abbrev pub log_open : {M : Type 0} {ghosts : Ghosts M} → RunLog M ghosts → Option OpenBundle
 log_open l = l.current
 
--- its back and its open bundle
+-- the back of the log of a run, without its medium, and its open bundle
 abbrev pub log_parts : {M : Type 0} {ghosts : Ghosts M} → RunLog M ghosts → LogParts
 log_parts l = record { back = log_back l; current = log_open l }
 
@@ -54,7 +54,7 @@ log_durable l = (log_back l).log.durable
 abbrev pub log_reproduced : {M : Type 0} {ghosts : Ghosts M} → RunLog M ghosts → ℕ
 log_reproduced l = (log_back l).log.reproduced
 
--- the sizes of its image
+-- the sizes of the image that the log of a run is in
 abbrev pub log_sizes : {M : Type 0} {ghosts : Ghosts M} → RunLog M ghosts → Sizes
 log_sizes l = (log_back l).log.sizes
 
@@ -67,7 +67,7 @@ pub record IsOpen (s : Sizes) (end last : ℕ) (o : OpenBundle) : Type 0 where
   pub short : cells_for (length o.bundle.writes) ≤ s.cells
   pub home : All (λ w. w.at < s.pages * PAGE) o.bundle.writes
 
--- where no bundle is open, all is persisted
+-- an open bundle covers exactly the numbers behind `end` up to `last`; where none is open there are no such numbers
 abbrev pub OpensUpTo : Sizes → ℕ → ℕ → Option OpenBundle → Type 0
 OpensUpTo s end last None = end ≡ last
 OpensUpTo s end last (Some o) = IsOpen s end last o

@@ -66,7 +66,7 @@ impl<M: Medium> RunLog<M> {
         ensures stays { result ≡ false → self.new ≡ self.old }
         ensures writes { IsWriteList r.now.writes }
     {
-        // Read for the proof alone: a record has few writes.
+        // A record has few writes, of different words.
         let _len = r.len();
         let cells = self.log.back.cells();
         match &mut self.current {

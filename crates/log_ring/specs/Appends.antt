@@ -25,7 +25,7 @@ AppendCalls (Err (Full used need)) calls s t = t ≡ s
 abbrev pub IsOverfull : RingState → RedoBundle → Type 0
 IsOverfull v r = v.sizes.cells < cells_used v.logged + cells_for (length r.writes)
 
--- the fault that says so
+-- the fault that a ring has no room for a record, with both counts of cells
 abbrev pub full_for : RingState → RedoBundle → RingFault
 full_for v r = Full (cells_used v.logged) (cells_for (length r.writes))
 

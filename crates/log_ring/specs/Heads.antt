@@ -1,4 +1,4 @@
--- The heads that a scan keeps, and what they tell of their bundles.
+-- The heads that a scan keeps, and what they say of their bundles.
 use Rattle.std.specs.Prelude.{ℕ, List, []}
 use Rattle.dude_base.specs.declared.sizes.Sizes.{Sizes}
 use Rattle.dude_base.specs.Records.{RedoBundle}

@@ -46,7 +46,7 @@ IsSeen s above image cell (Some h) = IsNewHead s above image cell × IsSound s a
 abbrev pub MeetsKept : ScanState → Head → Type 0
 MeetsKept found h = (n : ℕ) × (g : Head) × (number : ℕ) × (get nat_cmp found.heads n ≡ Some g) × Covers (numbers_of g) number × Covers (numbers_of h) number
 
--- none that is kept covers one
+-- no head that is kept covers a number that this one covers
 abbrev pub MissesKept : ScanState → Head → Type 0
 MissesKept found h = (n : ℕ) (g : Head) (number : ℕ) → get nat_cmp found.heads n ≡ Some g → Covers (numbers_of g) number → Covers (numbers_of h) number → ⊥
 
@@ -79,7 +79,7 @@ pub record KnowsBelow (s : Sizes) (above : ℕ) (image : List ℕ) (line : ℕ) 
 abbrev pub IsCountIn : ℕ → ℕ → ℕ → Type 0
 IsCountIn version word count = (count ≡ word % 256) × (count ≤ MAX_BUNDLE_WRITES) × (version ≡ VERSION_ONE → word ≤ MAX_WRITES)
 
--- word 1 of a head counts more
+-- word 1 of a head counts more writes than a record of this version has
 abbrev pub CountsTooMany : ℕ → ℕ → Type 0
 CountsTooMany version word = word % 256 ≤ MAX_BUNDLE_WRITES → (version ≡ VERSION_ONE → word ≤ MAX_WRITES) → ⊥
 
@@ -104,7 +104,7 @@ AreAllHeads found heads = (heads ≡ values found.heads) × (found.duplicate ≡
 abbrev pub VersionHas : ℕ → (List ℕ → Type 0) → Sight → Type 0
 VersionHas version P m = ContentHas (λ content. version_of content ≡ version → P content) m
 
--- it is undamaged and has just these heads over this number
+-- the log is undamaged and has just these heads over this number, where the content is visible and of this version
 abbrev pub HasHeads : Sizes → ℕ → ℕ → Sight → List Head → Type 0
 HasHeads s version above m heads = VersionHas version (λ content. AreHeads s above content heads) m
 

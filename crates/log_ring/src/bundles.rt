@@ -38,7 +38,7 @@ pub fn scan<M: Medium>(
     ensures records { IfOk result (λ bs. FindsBundles place.now above (M.sight m.old) bs.items) }
     ensures damaged { NamesDamage place.now above result (M.sight m.old) }
 {
-    // Read for the proof alone: there are few cells.
+    // The sizes are accepted, so there are few cells.
     let _sizes = place.sizes();
     let found = heads(alloc, m, place, above)?;
     read_bundles(alloc, m, place, &found)

@@ -61,7 +61,7 @@ impl Ring {
         ensures sizes { result ≡ self.now.sizes }
         ensures accepted { IsAccepted self.now.sizes }
     {
-        // Read for the proof alone: the sizes are accepted.
+        // The sizes are accepted.
         let _sizes = self.place.sizes();
         self.place
     }
@@ -91,7 +91,7 @@ impl Ring {
         requires newest { All (λ l. l.last < first_of b.now) self.old.logged }
         ensures { self.new ≡ with_record b.now self.old }
     {
-        // Read for the proof alone: what a bundle keeps.
+        // A bundle's numbers are in their limits, and its writes are few and distinct.
         let _len = b.len();
         let slot = self.next;
         let cells = cells_of(b);
@@ -141,7 +141,7 @@ impl Ring {
         ensures ring { self.new ≡ (if is_ok result then with_record b.now self.old else self.old) }
         ensures safe { AppendsSafely self.old b.now result (M.sight m.old) (M.sight m.new) }
     {
-        // Read for the proof alone: what the ring keeps of its sizes, and that a record's writes are few and distinct.
+        // The sizes are accepted, and a bundle's writes are few and distinct.
         let _kept = &self.place;
         let _count = b.len();
         self.lay(m, b)

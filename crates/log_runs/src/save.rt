@@ -22,7 +22,8 @@ fn save<M: Medium>(m: &mut M, value: u64, tell: bool) -> Result<(), Failed>
     settle_group(m, &[(8, value)], &[1])
 }
 
-/// The same, and what it keeps: word 0 holds the old value or the new one in every image at every moment.
+/// Settles a value in word 0; and, if it is to be told, tells it and settles it in word 8 too. Word 0 holds the old
+/// value or the new one in every image at every moment.
 pub fn save_safe<M: Medium>(m: &mut M, value: u64, tell: bool) -> Result<(), Failed>
     requires { 16 ≤ (M.sight m.old).len }
     ensures len { (M.sight m.new).len ≡ (M.sight m.old).len }

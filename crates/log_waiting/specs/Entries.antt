@@ -28,6 +28,6 @@ LeavesOthers cells slot count old new = (at : ℕ) (d : Write)
 abbrev pub bundle_in : ℕ → List Write → Entry → RedoBundle
 bundle_in cells writes e = record { last = e.last; span = e.span; writes = writes_in cells writes e.slot e.count }
 
--- the same bundle as one of the ring
+-- the bundle of an entry, as one of a ring
 abbrev pub logged_of : Entry → Logged
 logged_of e = record { last = e.last; span = e.span; slot = e.slot; cells = cells_for e.count }

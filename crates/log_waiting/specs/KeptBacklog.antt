@@ -7,7 +7,7 @@ use Rattle.log_waiting.specs.Backlog.{BacklogState, IsLawful}
 abbrev pub backlog_state : Inside → BacklogState
 backlog_state a = record { sizes = a.place; lanes = a.lanes.items; durable = a.durable; reproduced = a.reproduced }
 
--- it is lawful, and its group is one of the same image
+-- a backlog is lawful, and its group is one of the same image
 pub record IsKeptBacklog (a : Inside) : Type 0 where
   pub lawful : IsLawful (backlog_state a)
   pub group : a.group.sizes ≡ a.place

@@ -28,7 +28,7 @@ used_by rs = sum_by (λ r. cells_for (length r.writes)) rs
 abbrev pub IsLaneFull : LaneState → RedoBundle → Type 0
 IsLaneFull v r = v.ring.sizes.cells < used_by v.waiting + cells_for (length r.writes)
 
--- the fault that says so
+-- the fault that a lane has no room for a record, with both counts of cells
 abbrev pub full_lane : LaneState → RedoBundle → RingFault
 full_lane v r = Full (used_by v.waiting) (cells_for (length r.writes))
 
@@ -68,11 +68,11 @@ CountsWritesAt v k count = (d : RedoBundle) → count ≡ length (slice_index_or
 abbrev pub AreDistinctAt : LaneState → ℕ → Type 0
 AreDistinctAt v k = (d : RedoBundle) → HasDistinctPlaces (slice_index_or v.waiting k d).writes
 
--- a group has room for those writes
+-- a group has room for the writes of the record at index k
 abbrev pub HasRoomAt : LaneState → ℕ → GroupState → Type 0
 HasRoomAt v k group = (d : RedoBundle) → length group.taken + length (slice_index_or v.waiting k d).writes ≤ group.room
 
--- a group takes them
+-- a group takes the writes of the record at index k
 abbrev pub TakesThoseAt : LaneState → ℕ → GroupState → GroupState → Type 0
 TakesThoseAt v k old new = (d : RedoBundle) → new.taken ≡ old.taken ++ (slice_index_or v.waiting k d).writes
 

@@ -12,7 +12,7 @@ use Rattle.redo_record.specs.BackCalls.{home_writes, lines_touched}
 abbrev pub StartsLine : List (ℕ × ℕ) → ℕ → Type 0
 StartsLine puts k = (d : ℕ × ℕ) → lines_touched (take (k + 1) puts) ≡ lines_touched (take k puts) ++ ((slice_index_or puts k d).0 / LINE) ∷ []
 
--- it touches the line of the put before it
+-- the put at index k touches the line of the put before it
 abbrev pub SharesLine : List (ℕ × ℕ) → ℕ → Type 0
 SharesLine puts k = lines_touched (take (k + 1) puts) ≡ lines_touched (take k puts)
 

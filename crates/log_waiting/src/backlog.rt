@@ -67,7 +67,7 @@ impl Backlog {
         requires { number ≤ MAX_NUMBER }
         ensures { IfOk result (λ log. log ≡ empty_log place number) }
     {
-        // Read for the proof alone: the sizes are accepted.
+        // The sizes are accepted.
         let _sizes = place.sizes();
         Ok(Backlog {
             place,

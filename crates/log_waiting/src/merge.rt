@@ -34,7 +34,7 @@ pub fn last_end(place: &Place, lanes: &[Lane], from: u64, near: u64) -> u64
     ensures near { result ≤ near }
     ensures last { (n : ℕ) → IsEnd (waiting_of lanes.now) from n → n ≤ near → n ≤ result }
 {
-    // Read for the proof alone: there are few rings.
+    // The sizes are accepted, so there are few rings.
     let _sizes = place.sizes();
     let mut fronts = fronts_at(lanes, from);
     let mut end = from;
@@ -60,7 +60,7 @@ pub fn next_end(place: &Place, lanes: &[Lane], from: u64, to: u64) -> u64
     ensures over { from < result }
     ensures least { (n : ℕ) → IsEnd (waiting_of lanes.now) from n → from < n → result ≤ n }
 {
-    // Read for the proof alone: there are few rings.
+    // The sizes are accepted, so there are few rings.
     let _sizes = place.sizes();
     let fronts = fronts_at(lanes, from);
     let Some(k) = next_lane(lanes, &fronts, from) else {

@@ -39,7 +39,8 @@ impl MemPmem {
         MemPmem::start(alloc, words, budget, fail, false)
     }
 
-    /// The same, but a call whose count is in `fail` has its whole effect before it fails. One over `budget` does nothing.
+    /// A medium that is settled at these words, of which a call whose count is in `fail` has its whole effect before it
+    /// fails. One over `budget` fails and does nothing.
     pub fn late(
         alloc: Global,
         words: Vec<u64>,

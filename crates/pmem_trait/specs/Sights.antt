@@ -46,7 +46,9 @@ pub record OneCall (c : Call) (ok : Bool) (s t : Sight) : Type 0 where
   pub later : Extends s t
   pub time : (t.now ≡ s.now + 1) ⊎ ((s.now ≡ 2 ^ 64 - 1) × (t.now ≡ s.now) × (ok ≡ false))
   pub cause : ok ≡ false → Risen s.faults t.faults
+  -- where the states are visible, the call has its effect, or is half done where it failed
   pub does : IsTrue s.is_visible → t.now ≡ s.now + 1 → CallEffect c ok (state_now s) (state_now t)
+  -- where the calls are listed, this one comes last
   pub lists_calls : IsTrue t.lists_calls → IsTrue s.lists_calls × (t.made ≡ s.made ++ record { call = c; failed = not ok } ∷ [])
 
 -- Exactly these calls, from entry to exit; or, where ok is false, a prefix of them, whose last one failed.

@@ -1,9 +1,9 @@
 //! Byte-addressable persistent memory as a transaction system sees it: words in lines of eight, put, flushed and
 //! fenced, and what a crash at any moment may leave of them.
 //!
-//! A medium is told apart by one record of plain data, its sight (`specs/Sights`): the length, the moment, the count
-//! of faults, and, where these are visible, the state at each moment and the list of calls made. `proofs/` has the laws
-//! that callers compose.
+//! What clauses see of a medium is one record of plain data, its sight (`specs/Sights`): the length, the moment, the
+//! count of faults, and, where these are visible, the state at each moment and the list of calls made. `proofs/` has
+//! the laws that callers compose.
 #![tactic(auto)]
 
 mod call;

@@ -97,7 +97,7 @@ fn formatted(alloc: Global, scene: &Scene, sizes: &Sizes) -> Result<Outcome, All
     Outcome::new(alloc, scene.image, answer, medium)
 }
 
-/// The same by the call that gives the home.
+/// Makes an image of these sizes over the words of the one in memory, by the call that gives the home.
 fn made(alloc: Global, scene: &Scene, sizes: &Sizes) -> Result<Outcome, AllocError> {
     let mut medium = medium_of(alloc, scene)?;
     let answer = match make_image(alloc, &mut medium, sizes) {

@@ -106,7 +106,8 @@ LawOfPersist = (l : LogState) (head : Cell) (r : RedoBundle) (rings : ℕ → Ri
     × HoldsLog (with_waiting l rings waiting) (after_all (append_calls l.sizes head r) p)
     × ((after_all (append_calls l.sizes head r) p).told ≡ p.told)
 
--- The same of each state on the way of the append.
+-- In each state on the way of an append every image recovers to a number from the contiguous end without the record to
+-- that with it, and to the array there.
 abbrev pub LawOfPersisting : Type 0
 LawOfPersisting = (l : LogState) (head : Cell) (r : RedoBundle) (rings : ℕ → RingRecords) (waiting : List Waiting) (p q : State)
     → HoldsLog l p → CanPersist l head r → AddsLogged l.sizes head r l.rings rings → AddsWaiting (record { ring = head.ring; redo = r }) l.waiting waiting

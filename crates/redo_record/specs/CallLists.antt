@@ -16,19 +16,19 @@ use Rattle.redo_record.specs.Record.{cells_for}
 abbrev pub body_of : AppendCalls → List (ℕ × ℕ)
 body_of a = take (LINE * a.cells - 1) (drop 1 a.pairs)
 
--- the lines of its cells
+-- the lines of an append's cells
 abbrev pub body_lines_of : AppendCalls → List ℕ
 body_lines_of a = take a.cells a.lines
 
--- those of a bundle whose head stands at this cell
+-- the lines of a bundle's cells, where its head stands at this cell
 abbrev pub bundle_lines : Sizes → Cell → RedoBundle → List ℕ
 bundle_lines s head b = lines_from s head (cells_for (length b.writes))
 
--- the tag, with its word
+-- the tag of an append's head, with its word
 abbrev pub tag_of : AppendCalls → List (ℕ × ℕ)
 tag_of a = take 1 a.pairs
 
--- its line
+-- the line of the tag: the first of an append's lines
 abbrev pub tag_line_of : AppendCalls → List ℕ
 tag_line_of a = take 1 a.lines
 

@@ -15,11 +15,11 @@ use Rattle.redo_record.specs.Encoding.{encoded}
 abbrev pub cell_writes : Sizes → Cell → RedoBundle → ℕ → List (ℕ × ℕ)
 cell_writes s head r k = enumerate_from (cell_start s (cell_after s head k)) (encoded r k)
 
--- those of all its cells, in order of cell and word
+-- the writes that give all cells of a record their words, in order of cell and word
 abbrev pub record_writes : Sizes → Cell → RedoBundle → List (ℕ × ℕ)
 record_writes s head r = flat_map (cell_writes s head r) (range_with_len 0 (cells_for (length r.writes)))
 
--- all but the first, which is that of the head's tag
+-- the writes of a record's body: all but the first, which is that of the head's tag
 abbrev pub body_writes : Sizes → Cell → RedoBundle → List (ℕ × ℕ)
 body_writes s head r = drop 1 (record_writes s head r)
 
@@ -27,7 +27,7 @@ body_writes s head r = drop 1 (record_writes s head r)
 abbrev pub lines_from : Sizes → Cell → ℕ → List ℕ
 lines_from s head n = map (λ k. line_of s (cell_after s head k)) (range_with_len 0 n)
 
--- the first
+-- the write of a record's tag, in the first word of its head
 abbrev pub tag_write : Sizes → Cell → RedoBundle → List (ℕ × ℕ)
 tag_write s head r = (cell_start s head, head_tag r.last) ∷ []
 

@@ -33,7 +33,7 @@ encoded r k =
     ∷ (if k == 0 then length r.writes + 256 * r.span else k)
     ∷ three_writes r.writes (3 * k)
 
--- all its cells, one after another
+-- all cells of a record, one after another
 abbrev pub encoded_cells : RedoBundle → List ℕ
 encoded_cells r = flat_map (encoded r) (range_with_len 0 (cells_for (length r.writes)))
 

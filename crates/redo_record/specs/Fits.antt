@@ -16,11 +16,11 @@ pub record Logged : Type 0 where
   pub slot : ℕ
   pub cells : ℕ
 
--- its first number
+-- the first number that a bundle in a ring covers
 abbrev pub first_logged : Logged → ℕ
 first_logged l = l.last - l.span
 
--- the cell of its head
+-- the cell of a bundle's head in this ring
 abbrev pub head_of : ℕ → Logged → Cell
 head_of ring l = cell_at ring l.slot
 

@@ -17,11 +17,11 @@ use Rattle.redo_record.specs.Tags.{kind_of, number_of, IsNumber}
 abbrev pub cells_for : ℕ → ℕ
 cells_for count = max 1 ((count + 2) / 3)
 
--- the parts of the head's word 1: how many writes there are
+-- how many writes a record has: the lowest byte of word 1 of its head
 abbrev pub count_of : (ℕ → ℕ → ℕ) → ℕ
 count_of cells = cells 0 1 % 256
 
--- and how many numbers before the last are covered
+-- how many numbers before its last one a record covers: the other bytes of word 1 of its head
 abbrev pub span_of : (ℕ → ℕ → ℕ) → ℕ
 span_of cells = cells 0 1 / 256
 
@@ -54,7 +54,7 @@ pub record HoldRecord (cells : ℕ → ℕ → ℕ) : Type 0 where
   pub continued : (k : ℕ) → 1 ≤ k → k < cells_for (count_of cells) → IsContinuation (number_of (cells 0 0)) k (cells k)
   pub distinct : HasDistinctPlaces (writes_of cells)
 
--- And the ring has so many cells, and each write is one of a home word.
+-- The cells hold a complete record: a bundle whose cells fit in the ring, and each of whose writes is of a home word.
 pub record HoldComplete (s : Sizes) (cells : ℕ → ℕ → ℕ) : Type 0 where
   pub whole : HoldRecord cells
   pub room : cells_for (count_of cells) ≤ s.cells

@@ -14,7 +14,8 @@ pub record HasHome (version : ℕ) (s : Sizes) (number : ℕ) (home image : List
   pub words : (i : ℕ) → i < length home → slice_index image (home_word s i) ≡ slice_index home i
   pub whole : image_words s ≤ length image
 
--- The medium rests at such an image: these words of it are settled.
+-- The medium rests at an image with the header of this version and these sizes, the mark at this number, and these home
+-- words: they are settled.
 pub record RestsAt (version : ℕ) (s : Sizes) (number : ℕ) (home : List ℕ) (p : State) : Type 0 where
   pub header : (i : ℕ) → i < MARK → p.word i ≡ settled_at (slice_index (header_words version s) i)
   pub mark : p.word MARK ≡ settled_at number

@@ -88,7 +88,7 @@ pub struct AppendCalls {
 impl AppendCalls {
     ghost use Rattle.redo_record.specs.CallLists.{append_list, body_lines_of, body_of, bundle_lines, tag_line_of, tag_of};
 
-    /// Those of a bundle whose head is to stand in this slot.
+    /// The calls that append a bundle whose head is to stand in this slot.
     pub fn of(place: &Place, ring: u64, head: u64, b: &Bundle) -> AppendCalls
         requires ring { ring < place.now.rings }
         requires head { head < place.now.cells }
@@ -135,7 +135,7 @@ impl AppendCalls {
         &self.pairs[1..words]
     }
 
-    /// Their lines.
+    /// The lines that are flushed behind the words put first: those of all cells.
     pub fn body_lines(&self) -> &[u64]
         ensures { result.now ≡ body_lines_of self.now }
     {
@@ -149,7 +149,7 @@ impl AppendCalls {
         &self.pairs[..1]
     }
 
-    /// Its line.
+    /// The line of the head's tag.
     pub fn tag_line(&self) -> &[u64]
         ensures { result.now ≡ tag_line_of self.now }
     {

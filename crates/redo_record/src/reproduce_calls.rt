@@ -52,7 +52,7 @@ pub struct ReproduceCalls<'a> {
 impl<'a> ReproduceCalls<'a> {
     ghost use Rattle.redo_record.specs.CallLists.{reproduce_list};
 
-    /// Those of these writes and this number.
+    /// The calls that put these writes home and raise the mark to this number.
     pub fn of(place: &Place, writes: &'a [Write], number: u64) -> ReproduceCalls<'a>
         requires home { All (λ w. w.at < place.now.pages * PAGE) writes.now }
         requires few { length writes.now < 2 ^ 62 }

@@ -30,7 +30,7 @@ pub record Collects (files : List (List Request)) (performed done : List Done) :
   pub same : IsPermutation performed done
   pub held : HoldsPrefixes files done
 
--- `done` has a printed order, along which the database comes to what it was as they were performed
+-- `done` has a printed order, and the database at each number along it is what it was as the requests were performed
 pub record PrintedLike (limit : ℕ) (db : Database) (performed done : List Done) : Type 0 where
   pub order : List Done
   pub printed : IsPrintedOrder done order
@@ -40,7 +40,8 @@ pub record PrintedLike (limit : ℕ) (db : Database) (performed done : List Done
 abbrev pub SyncsFollow : List Done → Type 0
 SyncsFollow done = AllPairs (λ d e. d.file ≡ e.file → IsTrue (is_sync e.request) → d.number ≤ e.number) done
 
--- The law, for every run: what is performed so is answered as one thread answers along the printed order.
+-- The law, for every run: requests that are performed and collected so have the replies of one thread along the printed
+-- order. A `Sync` has no number below an earlier one of its file, and none below the one that the run starts from.
 abbrev pub LawOfRuns : Type 0
 LawOfRuns = (first limit : ℕ) (db : Database) (files : List (List Request)) (performed done : List Done)
     → Performs first limit db performed → Collects files performed done

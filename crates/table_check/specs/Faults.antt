@@ -32,7 +32,7 @@ abbrev pub IsWrongNext : (ℕ → ℕ → Type 0) → Table → List ℕ → ℕ
 IsWrongNext content table array bucket met link word =
     (IsWrongLink table array met link × (word ≡ link)) ⊎ IsWrongRecord content table array bucket met (slice_index array link) word
 
--- found in the chains
+-- the wrong word is found in the chains
 pub record IsInChains (content : ℕ → ℕ → Type 0) (table : Table) (array : List ℕ) (word : ℕ) : Type 0 where
   pub chains : List (List ℕ)
   pub part : List ℕ
@@ -47,7 +47,7 @@ pub record IsWrongFree (table : Table) (array taken : List ℕ) (word : ℕ) : T
   pub link : IsWrongLink table array (taken ++ free) word
   pub word_is : word ≡ link_after table.pool.base free
 
--- found in the free list
+-- the wrong word is found in the free list
 pub record IsInFreeList (content : ℕ → ℕ → Type 0) (table : Table) (array : List ℕ) (word : ℕ) : Type 0 where
   pub chains : List (List ℕ)
   pub met : HasMetChains content table array chains
@@ -74,7 +74,7 @@ abbrev pub IsFirstWrong : (ℕ → ℕ → Type 0) → Table → List ℕ → �
 IsFirstWrong content table array word =
     IsInChains content table array word ⊎ (IsInFreeList content table array word ⊎ (IsUnmet content table array word ⊎ IsMiscounted content table array word))
 
--- why a table was refused: that word; or want of memory, which is free
+-- why a table was refused: a word of which this holds; or want of memory, which is free
 abbrev pub IsCause : (ℕ → Type 0) → CheckFault → Type 0
 IsCause IsWord (NotDb word) = IsWord word
 IsCause IsWord NoMemory = Unit {0}

@@ -65,7 +65,7 @@ abbrev pub TakesIn : {T : Type 0} → (ℕ → ℕ → Type 0) → Table → Lis
 TakesIn content table array bucket at old r new =
     (met : List ℕ) → AreTaken array met old → OnOk r (TakesSound content table array bucket at met new)
 
--- where it is refused, that names its first word that doesn't hold what it has to, or memory is wanting
+-- where the record is refused, the answer is its first word that doesn't hold what it has to, or memory is wanting
 abbrev pub RefusesRecord : {T : Type 0} → (ℕ → ℕ → Type 0) → Table → List ℕ → ℕ → ℕ → Taken → Result T CheckFault → Type 0
 RefusesRecord content table array bucket at old r =
     (met : List ℕ) → AreTaken array met old → IsNew table.pool met at → IfErr r (IsCause (IsWrongRecord content table array bucket met at))
@@ -75,7 +75,7 @@ abbrev pub FollowsFree : {T : Type 0} → Table → List ℕ → Marks → Resul
 FollowsFree table array old r new =
     (taken : List ℕ) → AreApartMarked table taken old → OnOk r (KnowsFreeList table array taken new)
 
--- where it is refused, that names a wrong link in it
+-- where the free list is refused, the answer is a wrong link in it, or memory is wanting
 abbrev pub RefusesFree : {T : Type 0} → Table → List ℕ → Marks → Result T CheckFault → Type 0
 RefusesFree table array old r =
     (taken : List ℕ) → AreApartMarked table taken old → IfErr r (IsCause (IsWrongFree table array taken))

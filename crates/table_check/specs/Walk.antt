@@ -28,28 +28,28 @@ pub record HasMet (content : ℕ → ℕ → Type 0) (table : Table) (array : Li
   pub part_sound : All (IsSound content table array (length chains)) part
   pub keys_differ : AllPairs (λ x y. slice_index array x ≢ slice_index array y) (records_in chains ++ part)
 
--- the chains of all buckets
+-- a walk has met the chains of all buckets
 pub record HasMetChains (content : ℕ → ℕ → Type 0) (table : Table) (array : List ℕ) (chains : List (List ℕ)) : Type 0 where
   pub met : HasMet content table array chains []
   pub all : length chains ≡ table.buckets
 
--- behind these, the first records of the free list: none of them was met before
+-- behind the records taken, a walk has met these first ones of the free list, and none of them before
 pub record HasMetFree (table : Table) (array : List ℕ) (taken free : List ℕ) : Type 0 where
   pub path : IsPath array table.pool.base free
   pub places : All (IsRecord table.pool) free
   pub differ : AllPairs (λ x y. x ≢ y) (taken ++ free)
 
--- the whole free list
+-- behind the records taken, a walk has met the whole free list, which has these records
 pub record HasFreeList (table : Table) (array : List ℕ) (taken free : List ℕ) : Type 0 where
   pub met : HasMetFree table array taken free
   pub ended : Linked array table.pool.base free
 
--- all chains and the free list
+-- a walk has met all chains and the whole free list
 pub record HasMetLists (content : ℕ → ℕ → Type 0) (table : Table) (array : List ℕ) (chains : List (List ℕ)) (free : List ℕ) : Type 0 where
   pub met : HasMetChains content table array chains
   pub met_free : HasFreeList table array (records_in chains) free
 
--- and with them each record of the pool
+-- a walk has met all chains and the whole free list, and with them each record of the pool
 pub record HasMetAll (content : ℕ → ℕ → Type 0) (table : Table) (array : List ℕ) (chains : List (List ℕ)) (free : List ℕ) : Type 0 where
   pub met : HasMetLists content table array chains free
   pub every : (at : ℕ) → IsRecord table.pool at → Contains (records_in chains ++ free) at

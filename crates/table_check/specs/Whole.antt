@@ -13,7 +13,7 @@ pub record HasWhole (content : ℕ → ℕ → Type 0) (table : Table) (array : 
   pub whole : IsWhole content table array chains free
   pub taken_is : taken ≡ records_in chains
 
--- and they are found by their keys
+-- nothing is wrong in the table, and the records in its chains are found by their keys
 pub record KeepsWhole (content : ℕ → ℕ → Type 0) (table : Table) (array : List ℕ) (taken : Taken) : Type 0 where
   pub whole : HasWhole content table array (records_taken taken)
   pub keeps : AreTaken array (records_taken taken) taken

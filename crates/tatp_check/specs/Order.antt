@@ -22,13 +22,13 @@ pub record IsInTables (s : Sizes) (array : List ℕ) (word : ℕ) : Type 0 where
   pub before : (other : TableKind) → kind_rank other < kind_rank kind → (records : List ℕ) × IsWholeKind s array other records
   pub wrong : IsFirstWrongIn kind s array word
 
--- where nothing is wrong in the tables, the first reference that is wrong
+-- nothing is wrong in the five tables, and this is the word of the first record that refers to one that isn't there
 pub record IsInReferences (s : Sizes) (array : List ℕ) (word : ℕ) : Type 0 where
   pub records : TableKind → List ℕ
   pub whole : (kind : TableKind) → IsWholeKind s array kind (records kind)
   pub wrong : IsFirstUnbound array records word
 
--- the first wrong word: one of a table or, where nothing is wrong in the tables, one that tells a wrong reference
+-- the first wrong word: one of a table or, where nothing is wrong in the tables, one of a wrong reference
 abbrev pub IsFirstWord : Sizes → List ℕ → ℕ → Type 0
 IsFirstWord s array word = IsInTables s array word ⊎ IsInReferences s array word
 

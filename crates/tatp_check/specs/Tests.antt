@@ -1,4 +1,4 @@
--- The same of words of 64 bits, as tests.
+-- Which words of 64 bits the records of the five tables may hold, as tests.
 use Rattle.std.specs.Prelude.{ℕ, ◌==◌, ◌*◌, ◌/◌, ◌%◌, ◌^◌, Bool, true, ◌&&◌, nat_lt, nat_le, if◌then◌else◌}
 use Rattle.std.specs.List.{list_all}
 use Rattle.tatp_layout.specs.Digits.{to_digits}
@@ -11,7 +11,7 @@ is_id word = nat_le 1 word && nat_lt word (2 ^ 32)
 abbrev pub is_letter : ℕ → Bool
 is_letter byte = nat_le 65 byte && nat_le byte 90
 
--- so many letters, a byte each
+-- a word of so many letters, a byte each
 abbrev pub are_letters : ℕ → ℕ → Bool
 are_letters count word = nat_lt word (256 ^ count) && list_all is_letter (to_digits 256 count word)
 

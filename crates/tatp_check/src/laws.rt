@@ -1,4 +1,4 @@
-//! What is told of an array: one database and one first wrong word, as contracts of functions that do nothing.
+//! What an array has at most: one database and one first wrong word, as contracts of functions that do nothing.
 
 ghost use Rattle.tatp_check.specs.Laws.{LawOfFirstWord, LawOfOneDatabase};
 

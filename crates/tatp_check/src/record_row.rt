@@ -1,4 +1,4 @@
-//! The trait of rows that the words of a record tell.
+//! The trait of rows that the words of a record give.
 
 ghost use Rattle.std.specs.Prelude.{◌≡◌, ℕ, List, length};
 ghost use Rattle.dude_base.specs.declared.limits.TheConstants.{ROW_WORDS, SUBSCRIBER_WORDS};
@@ -10,7 +10,7 @@ use dude_base::limits::{ROW_WORDS, SUBSCRIBER_WORDS};
 use tatp_layout::{access_of, call_of, facility_of, subscriber_of};
 use tatp_model::{AccessRow, CallRow, FacRow, SubRow};
 
-// A row that is told by the words of its record.
+// A row that is known by the words of its record.
 pub(crate) trait RecordRow: Sized {
     ghost size: { ℕ };
 
@@ -20,12 +20,12 @@ pub(crate) trait RecordRow: Sized {
     fn size() -> u64
         ensures { result ≡ size };
 
-    // The row that these words tell.
+    // The row that these words give.
     fn of(words: &[u64]) -> Self
         requires { length words.now ≡ size }
         ensures { result ≡ row_in words.now 0 };
 
-    // It is told apart from the array too.
+    // A record's words give the row that the record has in the array, also where they stand apart from it.
     ghost apart: { (array words : List ℕ) (at : ℕ) → AreOfRecord size array at words → row_in words 0 ≡ row_in array at };
 }
 

@@ -72,7 +72,7 @@ fn has_at(a: &[u64], found: Option<u64>, offset: usize, word: u64) -> bool
     }
 }
 
-// The word that is named where the record refers to none: one that tells the reference.
+// At which offset the word stands that is named where the record refers to none: one that says what it refers to.
 fn reference_offset(kind: TableKind) -> u64
     ensures { result ≡ reference_offset kind }
 {

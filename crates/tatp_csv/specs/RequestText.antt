@@ -10,7 +10,7 @@ use Rattle.tatp_csv.specs.RequestFile.{requests_of}
 abbrev pub requests_text : List Request → List ℕ
 requests_text requests = flat_map request_line requests
 
--- as a request file, it means that list
+-- the text of a list of requests, read as a request file, means that list
 abbrev pub LawOfRequestText : Type 0
 LawOfRequestText =
     (requests : List Request) → length requests ≤ 100000 → All IsInRange requests → requests_of (requests_text requests) ≡ Ok requests

@@ -25,19 +25,19 @@ behind_table table = table.pool.first + in_whole_lines (table.pool.count * table
 abbrev pub shape_of : ℕ → ℕ → TableShape
 shape_of records size = record { buckets = records; records = records; size = size }
 
--- of the subscriber table: a record for each subscriber
+-- the shape of the subscriber table: a record for each subscriber
 abbrev pub subscriber_shape : Sizes → TableShape
 subscriber_shape s = shape_of s.subscribers SUBSCRIBER_WORDS
 
--- of the number table, which finds subscribers by their phone numbers: a record for each of them
+-- the shape of the number table, which finds subscribers by their phone numbers: a record for each of them
 abbrev pub number_shape : Sizes → TableShape
 number_shape s = shape_of s.subscribers ROW_WORDS
 
--- of the access table and of the facility table: MAX_ROWS records for each subscriber
+-- the shape of the access table and of the facility table: MAX_ROWS records for each subscriber
 abbrev pub kind_shape : Sizes → TableShape
 kind_shape s = shape_of (MAX_ROWS * s.subscribers) ROW_WORDS
 
--- of the table of call rows: as many records as the sizes say
+-- the shape of the table of call rows: as many records as the sizes say
 abbrev pub call_shape : Sizes → TableShape
 call_shape s = shape_of s.calls ROW_WORDS
 

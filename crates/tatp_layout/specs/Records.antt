@@ -18,7 +18,7 @@ abbrev pub HasWords : List ℕ → ℕ → List ℕ → Type 0
 HasWords array at [] = Unit {0}
 HasWords array at (word ∷ words) = (slice_index array at ≡ word) × HasWords array (at + 1) words
 
--- the record at this word has the row
+-- the record at this word has the row: its key and its other fields; and each of the row's arrays has its length
 pub record HoldsRow {R : Type 0} (form : RowForm R) (array : List ℕ) (at : ℕ) (row : R) : Type 0 where
   pub key : slice_index array at ≡ form.key row
   pub words : HasWords array (at + 2) (form.words row)

@@ -40,7 +40,7 @@ pub fn get_fac<W: Words>(lay: &Layout, w: &mut W, at: u64) -> Result<FacRow, Sto
     requires size { (W.sight w.old).count ≡ lay.now.pages * PAGE }
     requires record { IsRecord (facility_table lay.now).pool at }
     ensures uses { UsesWords W.sight W.turns_into 3 0 result w.old w.new }
-    // In any array the row is what the record's words tell.
+    // In any array the row is what the record's words say.
     ensures exact { AnswersSeen W.sight result w.old w.new (λ a row. row ≡ facility_in a at) }
     ensures row { AnswersSeen W.sight result w.old w.new (IsHeldRow facility_form IsFacRow at) }
 {

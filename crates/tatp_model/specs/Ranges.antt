@@ -17,7 +17,7 @@ IsKind n = (1 ≤ n) × (n ≤ 4)
 abbrev pub IsStartTime : ℕ → Type 0
 IsStartTime n = (n ≡ 0) ⊎ (n ≡ 8) ⊎ (n ≡ 16)
 
--- the hour at which it ends: from 1 to 24
+-- the hour at which a call forwarding ends: from 1 to 24
 abbrev pub IsEndTime : ℕ → Type 0
 IsEndTime n = (1 ≤ n) × (n ≤ 24)
 

@@ -17,7 +17,7 @@ IsInRange (InsertCall sub_nbr sf_type start_time end_time numberx) =
 IsInRange (DeleteCall sub_nbr sf_type start_time) = IsPhone sub_nbr × IsKind sf_type × IsStartTime start_time
 IsInRange Sync = ⊤
 
--- whether it may add a row
+-- whether the request may add a row
 abbrev pub is_insert : Request → Bool
 is_insert (InsertCall sub_nbr sf_type start_time end_time numberx) = true
 is_insert _ = false

@@ -61,11 +61,11 @@ pub record Outcome : Type 0 where
   pub reply : Reply
   pub after : Database
 
--- it answers, and leaves the tables as they were
+-- a request is answered with this reply, and leaves the tables as they were
 abbrev pub answers : Database → Reply → Outcome
 answers db reply = record { reply = reply; after = db }
 
--- it changes the tables
+-- a request is answered `Changed`, and leaves these tables
 abbrev pub changes : Database → Outcome
 changes db = record { reply = Changed; after = db }
 

@@ -1,6 +1,6 @@
 //! Rows of the access table.
 
-/// What an access row tells: two numbers, three letters and five letters.
+/// What an access row says: two numbers, three letters and five letters.
 #[derive(Clone, Copy, PartialEq, Eq)]
 pub struct AccessData {
     pub data1: u8,

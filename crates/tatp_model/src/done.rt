@@ -1,4 +1,4 @@
-//! What a run tells of a request that it served.
+//! What is known of a request that a run served.
 
 use crate::reply::Reply;
 use crate::request::Request;

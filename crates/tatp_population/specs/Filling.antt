@@ -17,7 +17,7 @@ entry_of form row = form.key row ∷ form.words row
 abbrev pub key_of : List ℕ → ℕ
 key_of entry = slice_index entry 0
 
--- they stand in the record at this word
+-- the words of a row's record without the link stand in the record at this word
 pub record HasEntry (array : List ℕ) (at : ℕ) (entry : List ℕ) : Type 0 where
   pub key : slice_index array at ≡ key_of entry
   pub fields : (j : ℕ) → 1 ≤ j → j < length entry → slice_index array (at + 1 + j) ≡ slice_index entry j

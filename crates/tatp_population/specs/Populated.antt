@@ -32,6 +32,6 @@ pub record IsPopulated (s : Sizes) (array : List ℕ) : Type 0 where
 abbrev pub StandsForPopulation : Sizes → List ℕ → Type 0
 StandsForPopulation s array = StandsFor s array (population s.subscribers)
 
--- The words of a new home are all told: there is one such array.
+-- The words of a new home are all known: there is one such array.
 abbrev pub LawOfPopulation : Type 0
 LawOfPopulation = (s : Sizes) (one other : List ℕ) → IsAccepted s → IsPopulated s one → IsPopulated s other → one ≡ other

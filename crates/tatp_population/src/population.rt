@@ -51,7 +51,7 @@ fn fill_home(words: &mut [u64], lay: &Layout)
     fill_table::<Calls>(words, lay);
 }
 
-/// The words of a new home are all told: there is one such array.
+/// The words of a new home are all known: there is one such array.
 pub fn law_of_population()
     ensures { LawOfPopulation }
 {}

@@ -49,15 +49,15 @@ RepliesBelow sight s request result new =
 abbrev pub subscriber_reads : Sizes → ℕ
 subscriber_reads s = 2 * s.subscribers + 7
 
--- of an access row, or of a facility: there are four for each subscriber
+-- the most reads of a look-up of an access row, or of a facility: there are four for each subscriber
 abbrev pub kind_reads : Sizes → ℕ
 kind_reads s = 8 * s.subscribers + 3
 
--- of a call row
+-- the most reads of a look-up of a call row
 abbrev pub call_reads : Sizes → ℕ
 call_reads s = 2 * s.calls + 3
 
--- of a facility and its call rows, which are at most three
+-- the most reads of a look-up of a facility and its call rows, which are at most three
 abbrev pub destination_reads : Sizes → ℕ
 destination_reads s = kind_reads s + 3 * call_reads s
 

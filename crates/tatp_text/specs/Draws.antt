@@ -10,7 +10,7 @@ use Rattle.tatp_model.specs.declared.request.Request.TheVariants.{GetSubscriber,
 abbrev pub word_of : Lcg → ℕ
 word_of g = (pcg32 g).0
 
--- the generator after it
+-- the generator once it has given that word
 abbrev pub next_of : Lcg → Lcg
 next_of g = (pcg32 g).1
 

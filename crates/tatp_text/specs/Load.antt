@@ -23,7 +23,7 @@ abbrev pub mixed : ℕ → ℕ → ℕ → ℕ → ℕ → List Request
 mixed seed file files subscribers count =
     requests_from file files (subscribers / files) count (generator seed file) ++ Sync ∷ []
 
--- these are the requests of that file
+-- these are the requests of one file of a load
 abbrev pub IsLoad : ℕ → ℕ → ℕ → ℕ → ℕ → Vec Request → Type 0
 IsLoad seed file files subscribers count requests = requests.items ≡ mixed seed file files subscribers count
 

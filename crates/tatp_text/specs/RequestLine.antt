@@ -6,7 +6,7 @@ use Rattle.tatp_model.specs.declared.request.Request.TheVariants.{GetSubscriber,
 use Rattle.tatp_text.specs.Number.{phone_text}
 use Rattle.tatp_text.specs.RecordText.{record_text}
 
--- the name and the fields of its record
+-- the fields of a request's record, its name first
 abbrev pub request_fields : Request → List (List ℕ)
 request_fields (GetSubscriber s_id) = codes "GET_SUBSCRIBER_DATA" ∷ decimal s_id ∷ []
 request_fields (GetDestination s_id sf_type start_time end_time) =
@@ -21,10 +21,10 @@ request_fields (DeleteCall sub_nbr sf_type start_time) =
     codes "DELETE_CALL_FORWARDING" ∷ phone_text sub_nbr ∷ decimal sf_type ∷ decimal start_time ∷ []
 request_fields Sync = codes "SYNC" ∷ []
 
--- its line
+-- the line of a request: its fields with commas between them, and LF
 abbrev pub request_line : Request → List ℕ
 request_line request = record_text (request_fields request)
 
--- the fields behind its name, each behind a comma
+-- the fields of a request behind its name, each behind a comma
 abbrev pub fields_text : Request → List ℕ
 fields_text request = flat_map (λ field. 44 ∷ field) (drop 1 (request_fields request))

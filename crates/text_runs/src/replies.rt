@@ -31,7 +31,7 @@ pub fn done_of(alloc: Global, words: &[&str], numbers: &[u64]) -> Result<Done, S
 }
 
 /// The reply of this name. Behind it stand the phone numbers of `destinations`, and the `vlr` of `subscriber`, whose other
-/// fields are those of a new database; `access` tells the first access row of such a one.
+/// fields are those of a new database; `access` gives the first access row of such a one.
 fn reply_of(name: &str, numbers: &[u64]) -> Option<Reply> {
     let count = numbers.len() as u64;
     let items = three_of(numbers);

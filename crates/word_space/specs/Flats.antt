@@ -9,7 +9,7 @@ use Rattle.word_space.specs.Sound.{IsWideOrNoMemory}
 abbrev pub words_of : Flat → List ℕ
 words_of f = f.words.items
 
--- what is seen of it as words
+-- what is seen of a `Flat` as words
 abbrev pub flat_sight : Flat → WordsSight
 flat_sight f = record { count = length f.words.items; reads = f.reads; writes = f.writes; stopped = f.stopped }
 
@@ -33,6 +33,6 @@ flat_well_formed f = record { count = f.sound.in_range; writes = f.sound.list; i
 pub flat_below : (f : Flat) → IsBelow (flat_sight f) (words_of f)
 flat_below f = record { size = refl; agrees = f.sound.agrees }
 
--- it answers no Stop but Wide and want of memory
+-- a `Flat` answers no Stop but `Wide` and want of memory
 pub flat_stops : (f : Flat) → IsWideOrNoMemory (flat_sight f).stopped
 flat_stops f = f.sound.stops

@@ -12,7 +12,7 @@ pub record WordsSight : Type 0 where
   pub writes : List Write
   pub stopped : Option Stop
 
--- what always holds of it
+-- what always holds of words as they are seen
 pub record IsWellFormed (s : WordsSight) : Type 0 where
   pub count : s.count < 2 ^ 64
   pub writes : IsWriteList s.writes

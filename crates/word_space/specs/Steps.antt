@@ -61,7 +61,8 @@ WritesAsMany sight result old new count = IfOk result (λ r. Wrote (count r) (si
 abbrev pub AnswersSeen : {S T : Type 0} → (S → WordsSight) → Result T Stop → S → S → (List ℕ → T → Type 0) → Type 0
 AnswersSeen sight result old new P = IfOk result (λ r. (array : List ℕ) → IsBelow (sight new) array → P (shown (sight old) array) r)
 
--- The same of the words as they were seen before the call, of those seen after it, and of the answer.
+-- This is so of the words as they were seen before the call, of those seen after it, and of the answer, whatever array
+-- may lie below afterwards.
 abbrev pub ChangesSeen : {S T : Type 0} → (S → WordsSight) → Result T Stop → S → S → (List ℕ → List ℕ → T → Type 0) → Type 0
 ChangesSeen sight result old new P = IfOk result (λ r. (array : List ℕ) → IsBelow (sight new) array → P (shown (sight old) array) (shown (sight new) array) r)
 
@@ -83,7 +84,7 @@ DoesRead at (Err e) s t = (e ≢ Wide) × (t ≡ record s { stopped = Some e })
 pub record ReadsWord (at : ℕ) (result : Result ℕ Stop) (s t : WordsSight) : Type 0 where
   pub does : DoesRead at result s t
 
--- the same of any value that reads words
+-- What a read of the word `at` leaves of any value that reads words, by its result.
 abbrev pub MakesRead : {S : Type 0} → (S → WordsSight) → ℕ → Result ℕ Stop → S → S → Type 0
 MakesRead sight at result old new = ReadsWord at result (sight old) (sight new)
 
@@ -101,6 +102,6 @@ DoesWrite at value (Err e) s t = ((e ≡ Wide) ↔ IsWide s.writes at) × (t ≡
 pub record WritesWord (at value : ℕ) (result : Result (Unit {0}) Stop) (s t : WordsSight) : Type 0 where
   pub does : DoesWrite at value result s t
 
--- the same of any value that writes words
+-- What a write of the value to the word `at` leaves of any value that writes words, by its result.
 abbrev pub MakesWrite : {S : Type 0} → (S → WordsSight) → ℕ → ℕ → Result (Unit {0}) Stop → S → S → Type 0
 MakesWrite sight at value result old new = WritesWord at value result (sight old) (sight new)
