@@ -7,9 +7,9 @@ use Rattle.pmem_trait.specs.Reads.{ContentHas}
 use Rattle.pmem_trait.proofs.Laws.{every_moment_then, every_moment_weaker}
 use Rattle.pmem_trait.proofs.Runs.{made_later, ran_here, ran_then}
 use Rattle.pmem_trait.proofs.Told.{last_image}
-use Rattle.redo_record.specs.Recovery.{IsFormatted, IsDamaged}
 use Rattle.tatp_layout.specs.StandsFor.{StandsFor}
-use Rattle.image_recovery.specs.Recovered.{IsNoDatabase, RecoversArray, RecoversTo}
+use Rattle.image_recovery.specs.Faults.{IsFaultOn}
+use Rattle.image_recovery.specs.Recovered.{RecoversArray, RecoversTo}
 use Rattle.image_recovery.specs.declared.open_fault.OpenFault.{OpenFault}
 use Rattle.image_recovery.specs.declared.open_fault.OpenFault.TheVariants as opening
 use Rattle.image_recovery.proofs.Accepted.{never_out}
@@ -75,15 +75,12 @@ on_content sizes number words opening s numbers same stands recovered visible co
 
 -- why an image couldn't be opened
 pub open_fault : (fault : OpenFault) (s t : Sight) → LeftBy fault s t
-    → (fault ≡ opening.Unformatted → ContentHas (λ content. ¬ IsFormatted content) s)
-    → ((line : ℕ) → fault ≡ opening.Damaged line → ContentHas (λ content. IsFormatted content × IsDamaged content line) s)
-    → ((word : ℕ) → fault ≡ opening.NotDb word → ContentHas (IsNoDatabase word) s)
-    → (fault ≡ opening.Device → Risen s.faults t.faults) → HasOpenFault s t (fault_of_opening fault)
-open_fault opening.Unformatted s t left unformatted damaged not_db device = (unformatted refl, left)
-open_fault (opening.Damaged line) s t left unformatted damaged not_db device = (damaged line refl, left)
-open_fault (opening.NotDb word) s t left unformatted damaged not_db device = (not_db word refl, left)
-open_fault opening.Device s t left unformatted damaged not_db device = (device refl, left)
-open_fault opening.NoMemory s t left unformatted damaged not_db device = left
+    → IsFaultOn s fault → (fault ≡ opening.Device → Risen s.faults t.faults) → HasOpenFault s t (fault_of_opening fault)
+open_fault opening.Unformatted s t left is device = (is, left)
+open_fault (opening.Damaged line) s t left is device = (is, left)
+open_fault (opening.NotDb word) s t left is device = (is, left)
+open_fault opening.Device s t left is device = (device refl, left)
+open_fault opening.NoMemory s t left is device = left
 
 -- why an image couldn't be made
 pub format_fault : (X : Type 0) (fault : FormatFault) (own : Fault) (sizes : Sizes) (s t : Sight) → HasFormatCause sizes s t fault → FormatCallsMade {X = X} sizes (Err fault) s t

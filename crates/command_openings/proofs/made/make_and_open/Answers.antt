@@ -12,14 +12,14 @@ pub returns-in-Err-clause-fault : goal.returns-in-Err-clause-fault
 returns-in-Err-clause-fault g c = format_fault (Vec ℕ Global) c.in-Err.fault _ c.args.sizes.now _ _ c.in-Err.ensures.cause c.in-Err.ensures.calls c.fault_of.ensures
 
 pub returns-in-Ok-new-clause-opening : goal.returns-in-Ok-new-clause-opening
-returns-in-Ok-new-clause-opening g c = made_opening c.in-Ok-new.opened c.args.sizes.now _ (c.in-Ok-new.ensures.parts.0 ∙ c.in-Ok.ensures.ok.0) c.in-Ok-new.ensures.parts.1 c.in-Ok-new.ensures.parts.2 c.in-Ok-make_image.ensures.home
+returns-in-Ok-new-clause-opening g c = made_opening c.in-Ok-new.opened c.args.sizes.now _ (c.in-Ok-new.ensures.parts.0 ∙ c.in-Ok.ensures.ok.0) c.in-Ok-new.ensures.parts.1 c.in-Ok-new.ensures.parts.2 c.in-Ok-make_image.ensures.home.stands
 
 pub returns-in-Ok-new-clause-is_open : goal.returns-in-Ok-new-clause-is_open
 returns-in-Ok-new-clause-is_open g c =
     let sizes = c.in-Ok.ensures.ok.0 in
     rw c.in-Ok-new.ensures.medium (made_opens_all c.in-Ok-new.opened c.args.sizes.now _ _ _ c.in-Ok-new.ensures.opened
-    (made_opening c.in-Ok-new.opened c.args.sizes.now _ (c.in-Ok-new.ensures.parts.0 ∙ sizes) c.in-Ok-new.ensures.parts.1 c.in-Ok-new.ensures.parts.2 c.in-Ok-make_image.ensures.home)
-    c.in-Ok-new.ensures.parts.2 c.in-Ok-make_image.ensures.images c.in-Ok-make_image.ensures.rests (rw (sym sizes) c.in-Ok-new.ensures.holds)
+    (made_opening c.in-Ok-new.opened c.args.sizes.now _ (c.in-Ok-new.ensures.parts.0 ∙ sizes) c.in-Ok-new.ensures.parts.1 c.in-Ok-new.ensures.parts.2 c.in-Ok-make_image.ensures.home.stands)
+    c.in-Ok-new.ensures.parts.2 c.in-Ok-make_image.ensures.images c.in-Ok-make_image.ensures.rests.image (rw (sym sizes) c.in-Ok-new.ensures.holds)
     (format_calls c.args.sizes.now c.in-Ok-make_image.ensures.calls.0, c.in-Ok-make_image.ensures.calls.2))
 
 pub returns-in-Err-new-clause-prefix : goal.returns-in-Err-new-clause-prefix

@@ -7,35 +7,35 @@ use Rattle.command_openings.proofs.opened.open_and_announce.Goals as goal
 pub returns-in-Ok-clause-is_open : goal.returns-in-Ok-clause-is_open
 returns-in-Ok-clause-is_open g c = if_ok c.announce.result (λ x is.
     let is_announced = ok_of _ is c.announce.ensures.announced in
-    announced_opens_all c.in-Ok.opened _ _ _ c.in-Ok.ensures.opened c.in-Ok.ensures.recovered c.in-Ok.ensures.calls c.in-Ok.ensures.holds c.in-Ok.ensures.moments
+    announced_opens_all c.in-Ok.opened _ _ _ c.in-Ok.ensures.opened c.in-Ok.ensures.opens.recovered c.in-Ok.ensures.opens.calls c.in-Ok.ensures.opens.holds c.in-Ok.ensures.opens.moments
     (λ opening before own held. match_ok _ _ is (c.announce.ensures.moments opening before own held)) x
     (ok_of _ is c.announce.ensures.same) (match_ok _ _ is c.announce.ensures.ran) is_announced.told is_announced.holds)
 
 pub returns-in-Ok-clause-prefix : goal.returns-in-Ok-clause-prefix
 returns-in-Ok-clause-prefix g c = if_err c.announce.result (λ r is.
     let failed = err_of _ is c.announce.ensures.failed in
-    announced_prefix c.in-Ok.opened _ _ _ c.in-Ok.ensures.opened c.in-Ok.ensures.recovered c.in-Ok.ensures.calls c.in-Ok.ensures.holds c.in-Ok.ensures.moments
+    announced_prefix c.in-Ok.opened _ _ _ c.in-Ok.ensures.opened c.in-Ok.ensures.opens.recovered c.in-Ok.ensures.opens.calls c.in-Ok.ensures.opens.holds c.in-Ok.ensures.opens.moments
     (λ opening before own held. match_err _ _ is (c.announce.ensures.moments opening before own held))
-    (made_later (ran_then c.in-Ok.ensures.calls (match_err _ _ is c.announce.ensures.ran)).1) failed.at_most)
+    (made_later (ran_then c.in-Ok.ensures.opens.calls (match_err _ _ is c.announce.ensures.ran)).1) failed.at_most)
 
 pub returns-in-Ok-clause-fault : goal.returns-in-Ok-clause-fault
 returns-in-Ok-clause-fault g c = if_err c.announce.result (λ r is.
     let failed = err_of _ is c.announce.ensures.failed in
-    announced_fault c.in-Ok.opened _ _ _ c.in-Ok.ensures.opened c.in-Ok.ensures.recovered c.in-Ok.ensures.calls c.in-Ok.ensures.holds c.in-Ok.ensures.moments
+    announced_fault c.in-Ok.opened _ _ _ c.in-Ok.ensures.opened c.in-Ok.ensures.opens.recovered c.in-Ok.ensures.opens.calls c.in-Ok.ensures.opens.holds c.in-Ok.ensures.opens.moments
     (λ opening before own held. match_err _ _ is (c.announce.ensures.moments opening before own held))
     r.0 failed.fault (err_of _ is c.announce.ensures.cause) (match_err _ _ is c.announce.ensures.ran))
 
 pub returns-in-Ok-clause-only_read : goal.returns-in-Ok-clause-only_read
 returns-in-Ok-clause-only_read g c none = if_err c.announce.result (λ r is. absurd (
-    announced_opens c.in-Ok.opened _ _ _ c.in-Ok.ensures.opened c.in-Ok.ensures.recovered c.in-Ok.ensures.calls c.in-Ok.ensures.holds c.in-Ok.ensures.moments
+    announced_opens c.in-Ok.opened _ _ _ c.in-Ok.ensures.opened c.in-Ok.ensures.opens.recovered c.in-Ok.ensures.opens.calls c.in-Ok.ensures.opens.holds c.in-Ok.ensures.opens.moments
     (λ opening before own held. match_err _ _ is (c.announce.ensures.moments opening before own held)) none))
 
 pub returns-in-Err-clause-prefix : goal.returns-in-Err-clause-prefix
-returns-in-Err-clause-prefix g c opening on = partly_opened opening _ _ (c.in-Err.ensures.moments opening.number opening.sizes opening.database on)
+returns-in-Err-clause-prefix g c opening on = partly_opened opening _ _ (c.in-Err.ensures.refused.moments opening.number opening.sizes opening.database on)
 
 pub returns-in-Err-clause-fault : goal.returns-in-Err-clause-fault
 returns-in-Err-clause-fault g c =
-    rw c.fault_of.ensures (open_fault c.in-Err.fault _ _ c.in-Err.ensures.calls c.in-Err.ensures.unformatted c.in-Err.ensures.damaged c.in-Err.ensures.not_db c.in-Err.ensures.cause)
+    rw c.fault_of.ensures (open_fault c.in-Err.fault _ _ c.in-Err.ensures.refused.calls c.in-Err.ensures.refused.content c.in-Err.ensures.refused.cause)
 
 pub returns-in-Err-clause-only_read : goal.returns-in-Err-clause-only_read
-returns-in-Err-clause-only_read g c none = c.in-Err.ensures.only_read (λ number sizes db on. none (opening_with number sizes db) on)
+returns-in-Err-clause-only_read g c none = c.in-Err.ensures.refused.only_read (λ number sizes db on. none (opening_with number sizes db) on)
