@@ -12,7 +12,7 @@ use Rattle.core_events.specs.Conditions.{Can}
 use Rattle.core_events.specs.Ghosts.{Hold, free, taken, writing, word_of, Claims}
 use Rattle.core_events.specs.KeptLocks.{hand_of, draws_of, Knows, LocksKept}
 use Rattle.core_events.proofs.Lists.{unmoved, total_set, at_change}
-use Rattle.core_events.proofs.Stays.{at_rest, together, new_hand}
+use Rattle.core_events.proofs.Stays.{at_rest, together, new_hand, none_open, none_read}
 
 word_case : (f g : ℕ → ℕ) (x : Hold) → ((j u : ℕ) → (x ≡ taken j u) ⊎ (x ≡ writing j u) → g j ≡ f j) → word_of f x ≡ word_of g x
 word_case f g (free u) same = refl
@@ -85,19 +85,9 @@ module _ (z : Setup) (q : Claims) (thread : ℕ → ℕ) (clock : ℕ) (locks : 
           owner = λ i o e. absurd (nothing i o e);
           inside = λ i o e. absurd (nothing i o e);
         };
-        number = record {
-          numbered = λ p. absurd (omega arith);
-          blank = λ y. (refl, refl);
-          undecided = λ f. absurd (let p = f.number in omega arith);
-          decided = λ f. absurd (true≢false (sym f));
-          voided = λ f. absurd (true≢false (sym f));
-        };
+        number = none_open _ _ _ _ _ _ _ _ _ refl refl refl;
         apart = record { apart = λ o. absurd (true≢false (sym o)) };
-        confirmed = record {
-          snap = λ o. absurd (true≢false (sym o));
-          extended = λ s e. absurd (let f : None ≡ Some s = e in cc);
-          valid = λ f. absurd (let p = f.number in omega arith);
-        };
+        confirmed = none_read _ _ _ _ _ refl refl refl;
         look = record { looked = m.look.looked; waits = λ i x e. absurd (let f : None ≡ Some (i, x) = e in cc) };
       })
       (let s = k.bounded in omega arith)

@@ -1,5 +1,5 @@
 -- What a view knows of locks and reads outlasts the steps of the others.
-use Rattle.std.proofs.Common.{◌≡◌, [], ◌≢◌, ℕ, ◌+◌, ◌<◌, ◌≤◌, ◌⊎◌, List, true, get_or, set, map, refl, sym, ap, ◌∙◌, subst, inl, inr, ⊎_elim, arith, length-set}
+use Rattle.std.proofs.Common.{◌≡◌, [], ◌≢◌, ℕ, ◌+◌, ◌<◌, ◌≤◌, ◌⊎◌, List, Bool, true, false, get_or, set, map, refl, sym, ap, ◌∙◌, subst, inl, inr, ⊎_elim, arith, length-set}
 use Rattle.std.specs.Prelude.{Option, None, Some}
 use Rattle.std.proofs.lemmas.Bool.{true≢false}
 use Rattle.std.proofs.lemmas.List.{map-set}
@@ -15,7 +15,7 @@ use Rattle.core_events.specs.Views.{Hand, Transaction, View}
 use Rattle.core_events.specs.Entries.{History}
 use Rattle.core_events.specs.Ghosts.{Hold, taken, writing, version, IsWriting, Claims}
 use Rattle.core_events.specs.Partings.{newcomer}
-use Rattle.core_events.specs.KeptLocks.{hand_of, draws_of, LocksOwned, UndecidedExclusive, NumbersBounded, Knows, LocksKept}
+use Rattle.core_events.specs.KeptLocks.{hand_of, draws_of, LocksOwned, UndecidedExclusive, NumbersBounded, OpenNumber, ReadsConfirmed, Knows, LocksKept}
 use Rattle.core_events.proofs.Lists.{there, at_set, set_here, set_else, at_map, unmoved, total_set}
 
 -- no write is a list of writes
@@ -142,6 +142,24 @@ owned_on z hist lock thread clock locks views id v w at same k = record {
       (new_hand views id v w at o.0 o.2 o.4);
 }
 
+-- no number is open
+pub none_open : (hist pending : History) (who : ℕ → ℕ) (settled : ℕ → Bool) (clock j : ℕ) (is_open : Bool) (snapshot : ℕ) (h : Hand) → h.number ≡ 0 → h.decided ≡ false → h.void ≡ false → OpenNumber hist pending who settled clock j is_open snapshot h
+none_open hist pending who settled clock j is_open snapshot h none undecided sound = record {
+  numbered = λ p. absurd (omega arith);
+  blank = λ _. (undecided, sound);
+  undecided = λ f. absurd (let p = f.number in omega arith);
+  decided = λ f. absurd (true≢false (sym f ∙ undecided));
+  voided = λ f. absurd (true≢false (sym f ∙ sound));
+}
+
+-- no transaction is open, and no number
+pub none_read : (z : Setup) (hist pending : History) (clock : ℕ) (x : Transaction) → x.is_open ≡ false → x.extension ≡ None → x.hand.number ≡ 0 → ReadsConfirmed z hist pending clock x
+none_read z hist pending clock x closed plain none = record {
+  snap = λ o. absurd (true≢false (sym o ∙ closed));
+  extended = λ s e. absurd (let f : None ≡ Some s = sym plain ∙ e in cc);
+  valid = λ f. absurd (let p = f.number in omega arith);
+}
+
 -- a view that has done nothing, where no lock is its own
 pub new_knows : (z : Setup) (q : Claims) (clock j : ℕ) → ((i u : ℕ) → q.lock i ≡ taken j u → ⊥) → ((i u : ℕ) → q.lock i ≡ writing j u → ⊥) → Knows z q clock j None (newcomer z 0 0).tx
 new_knows z q clock j free calm = record {
@@ -152,19 +170,9 @@ new_knows z q clock j free calm = record {
     owner = λ i o e. absurd (let f : None ≡ Some o = e in cc);
     inside = λ i o e. absurd (let f : None ≡ Some o = e in cc);
   };
-  number = record {
-    numbered = λ p. absurd (omega arith);
-    blank = λ _. (refl, refl);
-    undecided = λ f. absurd (let p = f.number in omega arith);
-    decided = λ f. absurd (true≢false (sym f));
-    voided = λ f. absurd (true≢false (sym f));
-  };
+  number = none_open _ _ _ _ _ _ _ _ _ refl refl refl;
   apart = record { apart = λ e. absurd (true≢false (sym e)) };
-  confirmed = record {
-    snap = λ e. absurd (true≢false (sym e));
-    extended = λ s e. absurd (let f : None ≡ Some s = e in cc);
-    valid = λ f. absurd (let p = f.number in omega arith);
-  };
+  confirmed = none_read _ _ _ _ _ refl refl refl;
   look = record {
     looked = λ i y u e _. absurd (let f : None ≡ Some (i, y) = e in cc);
     waits = λ i x e. absurd (let f : None ≡ Some (i, x) = e in cc);
