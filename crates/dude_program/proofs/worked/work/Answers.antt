@@ -5,14 +5,16 @@ use Rattle.dude_program.proofs.worked.work.Goals as goal
 pub returns : goal.returns
 returns g c opening own =
     let end = c.plain-ran.result.end in
+    let syncs = c.plain-ran.ensures.syncs in
+    let ends = c.plain-ran.ensures.end in
     rw c.fault_of.ensures (record {
-      replies = c.plain-ran.ensures.replies opening own;
-      syncs_follow = c.plain-ran.ensures.syncs_follow;
-      syncs_from = λ i d below sync. omega (arith, c.plain-ran.ensures.syncs_from i d below sync, own.number);
-      syncs_told = c.plain-ran.ensures.syncs_told;
+      replies = (c.plain-ran.ensures.replies opening own).replies;
+      syncs_follow = syncs.follow;
+      syncs_from = λ i d below sync. omega (arith, syncs.from i d below sync, own.number);
+      syncs_told = syncs.told;
       moments = c.plain-ran.ensures.moments opening own;
-      whole = λ none. c.plain-ran.ensures.whole (whole_end end none) opening own;
-      ran = ran_end end _ _ c.plain-ran.ensures.ran;
-      cause = λ is. c.plain-ran.ensures.cause (device_end end is);
+      whole = λ none. ends.whole (whole_end end none) opening own;
+      ran = ran_end end _ _ ends.ran;
+      cause = λ is. ends.cause (device_end end is);
       only = only_ends end;
     })
