@@ -4,6 +4,7 @@ ghost use Rattle.std.specs.Prelude.{◌≡◌};
 ghost use Rattle.pmem_fake.specs.declared.image_fault.ImageFault.TheVariants.{NoMemory};
 
 use std::alloc::AllocError;
+use std::fmt;
 
 /// Why there is no image.
 #[derive(Clone, Copy)]
@@ -12,6 +13,15 @@ pub enum ImageFault {
     Later { moment: u64, now: u64 },
     /// There is no memory for the image.
     NoMemory,
+}
+
+impl fmt::Display for ImageFault {
+    fn fmt<W: fmt::Write>(&self, f: &mut fmt::Formatter<W>) -> fmt::Result {
+        match self {
+            ImageFault::Later { moment, now } => write!(f, "moment {moment} is later than {now}"),
+            ImageFault::NoMemory => write!(f, "out of memory"),
+        }
+    }
 }
 
 impl From<AllocError> for ImageFault {

@@ -1,8 +1,7 @@
 //! The files of a command, read by their names.
 
-ghost use Rattle.std.specs.Prelude.{All, IfOk};
-ghost use Rattle.command_edges.specs.Files.{requests_in};
-ghost use Rattle.tatp_model.specs.Request.{IsInRange};
+ghost use Rattle.std.specs.Prelude.{IfOk};
+ghost use Rattle.command_edges.specs.Files.{AreInRange};
 
 use crate::page::push_count;
 use crate::requests::push_requests;
@@ -49,7 +48,7 @@ fn world_of(files: &[MemFile], fail: &[u64], out: &Vec<u8>) -> Result<MemFiles, 
 
 /// The requests of each file, or the fault.
 fn push_lists(lists: Result<Vec<Vec<Request>>, Fault>, out: &mut Vec<u8>) -> Result<(), AllocError>
-    requires { IfOk lists (λ lists. All (All IsInRange) (requests_in lists.items)) }
+    requires { IfOk lists AreInRange }
 {
     match lists {
         Ok(lists) => {

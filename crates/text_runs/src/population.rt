@@ -2,6 +2,7 @@
 
 ghost use Rattle.std.specs.Prelude.{◌≡◌, IfOk, length};
 ghost use Rattle.tatp_model.specs.Database.{database_of, IsInOrder};
+ghost use Rattle.text_runs.specs.Rows.{first_access, first_facility, first_call};
 
 use std::alloc::{AllocError, Global};
 use tatp_model::{AccessData, AccessRow, CallRow, FacRow, SubRow, Tables};
@@ -19,7 +20,7 @@ pub const FIRST_ROW: SubRow = SubRow {
 
 /// An access row of subscriber 1.
 pub const fn access(ai_type: u64, data1: u8, data2: u8, data3: [u8; 3], data4: [u8; 5]) -> AccessRow
-    ensures { result ≡ record { s_id = 1; ai_type = ai_type; info = record { data1 = data1; data2 = data2; data3 = data3; data4 = data4 } } }
+    ensures { result ≡ first_access ai_type data1 data2 data3 data4 }
 {
     AccessRow {
         s_id: 1,
@@ -34,7 +35,7 @@ pub const fn access(ai_type: u64, data1: u8, data2: u8, data3: [u8; 3], data4: [
 }
 
 const fn facility(sf_type: u64, error_cntrl: u8, data_a: u8, data_b: [u8; 5]) -> FacRow
-    ensures { result ≡ record { s_id = 1; sf_type = sf_type; is_active = 1; error_cntrl = error_cntrl; data_a = data_a; data_b = data_b } }
+    ensures { result ≡ first_facility sf_type error_cntrl data_a data_b }
 {
     FacRow {
         s_id: 1,
@@ -47,7 +48,7 @@ const fn facility(sf_type: u64, error_cntrl: u8, data_a: u8, data_b: [u8; 5]) ->
 }
 
 const fn call(sf_type: u64, start_time: u64, end_time: u64, numberx: u64) -> CallRow
-    ensures { result ≡ record { s_id = 1; sf_type = sf_type; start_time = start_time; end_time = end_time; numberx = numberx } }
+    ensures { result ≡ first_call sf_type start_time end_time numberx }
 {
     CallRow {
         s_id: 1,
