@@ -8,6 +8,7 @@ use crate::medium::Subject;
 use crate::records::{
     record_of, say_added, say_bundle, say_cells, say_combined, say_decoded, say_joined,
 };
+use crate::say::{say_back_fault, say_ring_fault};
 use crate::trial::{Step, Trial};
 use dude_base::bundle::Bundle;
 use dude_base::redo::Redo;
@@ -245,7 +246,7 @@ impl Bench {
         };
         match log.append(medium, bundle) {
             Some(Ok(())) => self.rt.println("ok"),
-            Some(Err(fault)) => self.rt.println(fault),
+            Some(Err(fault)) => say_ring_fault(self.rt, fault),
             None => self.rt.println("not allowed"),
         }
     }
@@ -280,7 +281,7 @@ impl Bench {
         self.steps.push(step)?;
         match answer {
             Some(Ok(number)) => self.rt.println(number),
-            Some(Err(fault)) => self.rt.println(fault),
+            Some(Err(fault)) => say_back_fault(self.rt, fault),
             None => self.rt.println("not allowed"),
         }
     }

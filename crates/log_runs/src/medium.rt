@@ -3,7 +3,7 @@
 use crate::faulty_host::FaultyHost;
 use crate::replays::{say_moments, say_replay, say_scan};
 use crate::save::save_safe;
-use crate::say::{say_done, say_words};
+use crate::say::{say_back_fault, say_done, say_words};
 use crate::trial::Trial;
 use dude_io::FilePmem;
 use pmem_fake::MemPmem;
@@ -140,7 +140,7 @@ fn on_back(rt: HostRuntime, trial: &mut Trial, name: &str, numbers: &[u64]) -> i
     match (name, numbers) {
         ("page", &[page]) if page < 15 => match trial.page(page) {
             Ok(words) => say_words(rt, &words),
-            Err(fault) => rt.println(fault),
+            Err(fault) => say_back_fault(rt, fault),
         },
         ("numbers", &[]) => {
             let durable = trial.back.durable();

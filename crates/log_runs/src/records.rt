@@ -111,7 +111,7 @@ pub fn say_cells(rt: HostRuntime, bundle: &Bundle) -> io::Result<()> {
 pub fn say_decoded(rt: HostRuntime, words: &[u64]) -> io::Result<()> {
     match decode(words) {
         Ok(bundle) => say_bundle(rt, &bundle),
-        Err(fault) => rt.println(fault),
+        Err(_) => rt.println("the words are no record's cells"),
     }
 }
 

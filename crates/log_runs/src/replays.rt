@@ -1,7 +1,7 @@
 //! Images that a crash leaves, replayed by a scan of their rings and by the slow replay.
 
 use crate::records::{WORDS, apply, say_bundle, small_sizes};
-use crate::say::say_words;
+use crate::say::{say_scan_fault, say_words};
 use dude_base::bundle::Bundle;
 use dude_base::place::Place;
 use log_ring::{ScanFault, scan};
@@ -47,7 +47,7 @@ pub fn say_scan(rt: HostRuntime, medium: &mut MemPmem, above: u64) -> io::Result
             }
             Ok(())
         }
-        Err(fault) => rt.println(fault),
+        Err(fault) => say_scan_fault(rt, fault),
     }
 }
 
