@@ -22,7 +22,8 @@ pub fn say_replay(rt: HostRuntime, medium: &MemPmem) -> io::Result<()> {
             println!(rt; "recovers to {number}")?;
             say_words(rt, &home)
         }
-        refused => println!(rt; "{refused:?}"),
+        Replay::Unformatted => rt.println("Unformatted"),
+        Replay::Damaged { line } => println!(rt; "Damaged {{ line: {line} }}"),
     }
 }
 
