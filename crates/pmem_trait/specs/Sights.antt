@@ -3,7 +3,7 @@ use Rattle.std.specs.Prelude.{◌≡◌, ◌⊎◌, ℕ, ◌+◌, ◌-◌, ◌^�
 use Rattle.pmem_trait.specs.declared.call.Call.{Call}
 use Rattle.pmem_trait.specs.declared.made.Made.{Made}
 use Rattle.pmem_trait.specs.Faults.{up_to_last}
-use Rattle.pmem_trait.specs.Words.{State, value_of, after, HalfDone, EveryImage}
+use Rattle.pmem_trait.specs.Words.{State, value_of, after, HalfDone, EveryImage, IsSettled}
 
 -- A medium: its length, its moment, its count of faults; whether its states are visible, and the state at each
 -- moment up to now; whether its calls are listed, and the list of them.
@@ -19,6 +19,10 @@ pub record Sight : Type 0 where
 -- the state now
 abbrev pub state_now : Sight → State
 state_now s = s.state s.now
+
+-- each word is settled, where the states are visible
+abbrev pub IsAtRest : Sight → Type 0
+IsAtRest s = IsTrue s.is_visible → IsSettled s.len (state_now s)
 
 -- a count of faults rose, or stands at its last value
 abbrev pub Risen : ℕ → ℕ → Type 0
