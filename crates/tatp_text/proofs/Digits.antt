@@ -38,5 +38,9 @@ digits_value-take_more text i at digit =
     let value : digit_value (get_or text i 0) ≡ get_or text i 0 - 48 = grind (arith, common_steps, nat_tests) in
     digits_value_more 10 text i at ∙ ap (λ d. digits_value 10 (take i text) * 10 + d) value
 
+-- one digit more makes a value that doesn't fit
+pub value_in_past_more : (text : List ℕ) (i : ℕ) → i < length text → is_ascii_digit (get_or text i 0) ≡ true → 2 ^ 64 ≤ digits_value 10 (take i text) * 10 + (get_or text i 0 - 48) → value_in text ≡ None
+value_in_past_more text i at digit past = value_in_past text (i + 1) (let more = digits_value-take_more text i at digit in omega arith)
+
 pub list_all-take_more : (text : List ℕ) (i : ℕ) → i < length text → list_all is_ascii_digit (take i text) ≡ true → is_ascii_digit (get_or text i 0) ≡ true → list_all is_ascii_digit (take (i + 1) text) ≡ true
 list_all-take_more text i at before digit = rw (list_all_more is_ascii_digit text i 0 at, before) digit

@@ -10,7 +10,7 @@ use Rattle.tatp_model.specs.Request.{IsInRange}
 use Rattle.tatp_model.specs.declared.request.Request.{Request}
 use Rattle.tatp_model.specs.declared.request.Request.TheVariants.{GetSubscriber, GetDestination, GetAccess, UpdateSubscriber, UpdateLocation, InsertCall, DeleteCall, Sync}
 use Rattle.tatp_text.specs.Number.{number_in, phone_in}
-use Rattle.tatp_text.specs.RequestRecord.{with_field, id_in, kind_in, start_time_in, end_time_in, bit_in, byte_in, location_in, get_subscriber_of, get_destination_of, get_access_of, update_subscriber_of, update_location_of, insert_call_of, delete_call_of, sync_of, request_of}
+use Rattle.tatp_text.specs.RequestRecord.{with_field, id_in, kind_in, start_time_in, end_time_in, bit_in, byte_in, location_in, of_one, of_two, of_three, of_four, of_five, get_subscriber_of, get_destination_of, get_access_of, update_subscriber_of, update_location_of, insert_call_of, delete_call_of, sync_of, request_of}
 use Rattle.tatp_text.proofs.Digits.{digits_value-lt_power}
 
 -- the field is there, and what comes next is good
@@ -53,82 +53,100 @@ start-of (Some h) n some = grind (arith, common_steps, nat_tests)
 in-start : (text : List ℕ) (n : ℕ) → start_time_in text ≡ Some n → IsStartTime n
 in-start text n some = start-of (number_in 10 0 16 text) n some
 
+-- what is read so is in this range
+abbrev GivesIn : (List ℕ → Option ℕ) → (ℕ → Type 0) → Type 0
+GivesIn read P = (text : List ℕ) (n : ℕ) → read text ≡ Some n → P n
+
+of_one-ranges : {P : ℕ → Type 0} (a : List ℕ → Option ℕ) (make : ℕ → Request)
+    → GivesIn a P
+    → ((k : ℕ) → P k → IsInRange (make k))
+    → (fields : List (List ℕ)) (request : Request) → of_one a make fields ≡ Ok request → IsInRange request
+of_one-ranges a make in-a good [] request ok = cc ok
+of_one-ranges a make in-a good (x ∷ more ∷ others) request ok = cc ok
+of_one-ranges a make in-a good (x ∷ []) request ok =
+    let f0 = with_field-Ok 2 (a x) _ request ok in
+    subst IsInRange (ok-inj (make f0.0) request f0.2) (good f0.0 (in-a x f0.0 f0.1))
+
+of_two-ranges : {P Q : ℕ → Type 0} (a b : List ℕ → Option ℕ) (make : ℕ → ℕ → Request)
+    → GivesIn a P → GivesIn b Q
+    → ((k l : ℕ) → P k → Q l → IsInRange (make k l))
+    → (fields : List (List ℕ)) (request : Request) → of_two a b make fields ≡ Ok request → IsInRange request
+of_two-ranges a b make in-a in-b good [] request ok = cc ok
+of_two-ranges a b make in-a in-b good (x ∷ []) request ok = cc ok
+of_two-ranges a b make in-a in-b good (x ∷ y ∷ more ∷ others) request ok = cc ok
+of_two-ranges a b make in-a in-b good (x ∷ y ∷ []) request ok =
+    let f0 = with_field-Ok 2 (a x) _ request ok in
+    let f1 = with_field-Ok 3 (b y) _ request f0.2 in
+    subst IsInRange (ok-inj (make f0.0 f1.0) request f1.2) (good f0.0 f1.0 (in-a x f0.0 f0.1) (in-b y f1.0 f1.1))
+
+of_three-ranges : {P Q R : ℕ → Type 0} (a b c : List ℕ → Option ℕ) (make : ℕ → ℕ → ℕ → Request)
+    → GivesIn a P → GivesIn b Q → GivesIn c R
+    → ((k l m : ℕ) → P k → Q l → R m → IsInRange (make k l m))
+    → (fields : List (List ℕ)) (request : Request) → of_three a b c make fields ≡ Ok request → IsInRange request
+of_three-ranges a b c make in-a in-b in-c good [] request ok = cc ok
+of_three-ranges a b c make in-a in-b in-c good (x ∷ []) request ok = cc ok
+of_three-ranges a b c make in-a in-b in-c good (x ∷ y ∷ []) request ok = cc ok
+of_three-ranges a b c make in-a in-b in-c good (x ∷ y ∷ z ∷ more ∷ others) request ok = cc ok
+of_three-ranges a b c make in-a in-b in-c good (x ∷ y ∷ z ∷ []) request ok =
+    let f0 = with_field-Ok 2 (a x) _ request ok in
+    let f1 = with_field-Ok 3 (b y) _ request f0.2 in
+    let f2 = with_field-Ok 4 (c z) _ request f1.2 in
+    subst IsInRange (ok-inj (make f0.0 f1.0 f2.0) request f2.2) (good f0.0 f1.0 f2.0 (in-a x f0.0 f0.1) (in-b y f1.0 f1.1) (in-c z f2.0 f2.1))
+
+of_four-ranges : {P Q R S : ℕ → Type 0} (a b c d : List ℕ → Option ℕ) (make : ℕ → ℕ → ℕ → ℕ → Request)
+    → GivesIn a P → GivesIn b Q → GivesIn c R → GivesIn d S
+    → ((k l m n : ℕ) → P k → Q l → R m → S n → IsInRange (make k l m n))
+    → (fields : List (List ℕ)) (request : Request) → of_four a b c d make fields ≡ Ok request → IsInRange request
+of_four-ranges a b c d make in-a in-b in-c in-d good [] request ok = cc ok
+of_four-ranges a b c d make in-a in-b in-c in-d good (x ∷ []) request ok = cc ok
+of_four-ranges a b c d make in-a in-b in-c in-d good (x ∷ y ∷ []) request ok = cc ok
+of_four-ranges a b c d make in-a in-b in-c in-d good (x ∷ y ∷ z ∷ []) request ok = cc ok
+of_four-ranges a b c d make in-a in-b in-c in-d good (x ∷ y ∷ z ∷ u ∷ more ∷ others) request ok = cc ok
+of_four-ranges a b c d make in-a in-b in-c in-d good (x ∷ y ∷ z ∷ u ∷ []) request ok =
+    let f0 = with_field-Ok 2 (a x) _ request ok in
+    let f1 = with_field-Ok 3 (b y) _ request f0.2 in
+    let f2 = with_field-Ok 4 (c z) _ request f1.2 in
+    let f3 = with_field-Ok 5 (d u) _ request f2.2 in
+    subst IsInRange (ok-inj (make f0.0 f1.0 f2.0 f3.0) request f3.2) (good f0.0 f1.0 f2.0 f3.0 (in-a x f0.0 f0.1) (in-b y f1.0 f1.1) (in-c z f2.0 f2.1) (in-d u f3.0 f3.1))
+
+of_five-ranges : {P Q R S T : ℕ → Type 0} (a b c d e : List ℕ → Option ℕ) (make : ℕ → ℕ → ℕ → ℕ → ℕ → Request)
+    → GivesIn a P → GivesIn b Q → GivesIn c R → GivesIn d S → GivesIn e T
+    → ((k l m n o : ℕ) → P k → Q l → R m → S n → T o → IsInRange (make k l m n o))
+    → (fields : List (List ℕ)) (request : Request) → of_five a b c d e make fields ≡ Ok request → IsInRange request
+of_five-ranges a b c d e make in-a in-b in-c in-d in-e good [] request ok = cc ok
+of_five-ranges a b c d e make in-a in-b in-c in-d in-e good (x ∷ []) request ok = cc ok
+of_five-ranges a b c d e make in-a in-b in-c in-d in-e good (x ∷ y ∷ []) request ok = cc ok
+of_five-ranges a b c d e make in-a in-b in-c in-d in-e good (x ∷ y ∷ z ∷ []) request ok = cc ok
+of_five-ranges a b c d e make in-a in-b in-c in-d in-e good (x ∷ y ∷ z ∷ u ∷ []) request ok = cc ok
+of_five-ranges a b c d e make in-a in-b in-c in-d in-e good (x ∷ y ∷ z ∷ u ∷ v ∷ more ∷ others) request ok = cc ok
+of_five-ranges a b c d e make in-a in-b in-c in-d in-e good (x ∷ y ∷ z ∷ u ∷ v ∷ []) request ok =
+    let f0 = with_field-Ok 2 (a x) _ request ok in
+    let f1 = with_field-Ok 3 (b y) _ request f0.2 in
+    let f2 = with_field-Ok 4 (c z) _ request f1.2 in
+    let f3 = with_field-Ok 5 (d u) _ request f2.2 in
+    let f4 = with_field-Ok 6 (e v) _ request f3.2 in
+    subst IsInRange (ok-inj (make f0.0 f1.0 f2.0 f3.0 f4.0) request f4.2) (good f0.0 f1.0 f2.0 f3.0 f4.0 (in-a x f0.0 f0.1) (in-b y f1.0 f1.1) (in-c z f2.0 f2.1) (in-d u f3.0 f3.1) (in-e v f4.0 f4.1))
+
 get_subscriber-ranges : (fields : List (List ℕ)) (request : Request) → get_subscriber_of fields ≡ Ok request → IsInRange request
-get_subscriber-ranges [] request ok = cc ok
-get_subscriber-ranges (a ∷ x ∷ more) request ok = cc ok
-get_subscriber-ranges (a ∷ []) request ok =
-    let f0 = with_field-Ok 2 (id_in a) _ request ok in
-    subst IsInRange (ok-inj (GetSubscriber f0.0) request f0.2) (in-id a f0.0 f0.1)
+get_subscriber-ranges = of_one-ranges id_in GetSubscriber in-id (λ k p. p)
 
 get_destination-ranges : (fields : List (List ℕ)) (request : Request) → get_destination_of fields ≡ Ok request → IsInRange request
-get_destination-ranges [] request ok = cc ok
-get_destination-ranges (a ∷ []) request ok = cc ok
-get_destination-ranges (a ∷ b ∷ []) request ok = cc ok
-get_destination-ranges (a ∷ b ∷ c ∷ []) request ok = cc ok
-get_destination-ranges (a ∷ b ∷ c ∷ d ∷ x ∷ more) request ok = cc ok
-get_destination-ranges (a ∷ b ∷ c ∷ d ∷ []) request ok =
-    let f0 = with_field-Ok 2 (id_in a) _ request ok in
-    let f1 = with_field-Ok 3 (kind_in b) _ request f0.2 in
-    let f2 = with_field-Ok 4 (start_time_in c) _ request f1.2 in
-    let f3 = with_field-Ok 5 (end_time_in d) _ request f2.2 in
-    subst IsInRange (ok-inj (GetDestination f0.0 f1.0 f2.0 f3.0) request f3.2) (in-id a f0.0 f0.1, in-kind b f1.0 f1.1, in-start c f2.0 f2.1, in-end d f3.0 f3.1)
+get_destination-ranges = of_four-ranges id_in kind_in start_time_in end_time_in GetDestination in-id in-kind in-start in-end (λ k l m n p q r s. (p, q, r, s))
 
 get_access-ranges : (fields : List (List ℕ)) (request : Request) → get_access_of fields ≡ Ok request → IsInRange request
-get_access-ranges [] request ok = cc ok
-get_access-ranges (a ∷ []) request ok = cc ok
-get_access-ranges (a ∷ b ∷ x ∷ more) request ok = cc ok
-get_access-ranges (a ∷ b ∷ []) request ok =
-    let f0 = with_field-Ok 2 (id_in a) _ request ok in
-    let f1 = with_field-Ok 3 (kind_in b) _ request f0.2 in
-    subst IsInRange (ok-inj (GetAccess f0.0 f1.0) request f1.2) (in-id a f0.0 f0.1, in-kind b f1.0 f1.1)
+get_access-ranges = of_two-ranges id_in kind_in GetAccess in-id in-kind (λ k l p q. (p, q))
 
 update_subscriber-ranges : (fields : List (List ℕ)) (request : Request) → update_subscriber_of fields ≡ Ok request → IsInRange request
-update_subscriber-ranges [] request ok = cc ok
-update_subscriber-ranges (a ∷ []) request ok = cc ok
-update_subscriber-ranges (a ∷ b ∷ []) request ok = cc ok
-update_subscriber-ranges (a ∷ b ∷ c ∷ []) request ok = cc ok
-update_subscriber-ranges (a ∷ b ∷ c ∷ d ∷ x ∷ more) request ok = cc ok
-update_subscriber-ranges (a ∷ b ∷ c ∷ d ∷ []) request ok =
-    let f0 = with_field-Ok 2 (id_in a) _ request ok in
-    let f1 = with_field-Ok 3 (bit_in b) _ request f0.2 in
-    let f2 = with_field-Ok 4 (kind_in c) _ request f1.2 in
-    let f3 = with_field-Ok 5 (byte_in d) _ request f2.2 in
-    subst IsInRange (ok-inj (UpdateSubscriber f0.0 f1.0 f2.0 f3.0) request f3.2) (in-id a f0.0 f0.1, in-bit b f1.0 f1.1, in-kind c f2.0 f2.1, in-byte d f3.0 f3.1)
+update_subscriber-ranges = of_four-ranges id_in bit_in kind_in byte_in UpdateSubscriber in-id in-bit in-kind in-byte (λ k l m n p q r s. (p, q, r, s))
 
 update_location-ranges : (fields : List (List ℕ)) (request : Request) → update_location_of fields ≡ Ok request → IsInRange request
-update_location-ranges [] request ok = cc ok
-update_location-ranges (a ∷ []) request ok = cc ok
-update_location-ranges (a ∷ b ∷ x ∷ more) request ok = cc ok
-update_location-ranges (a ∷ b ∷ []) request ok =
-    let f0 = with_field-Ok 2 (phone_in a) _ request ok in
-    let f1 = with_field-Ok 3 (location_in b) _ request f0.2 in
-    subst IsInRange (ok-inj (UpdateLocation f0.0 f1.0) request f1.2) (in-phone a f0.0 f0.1, in-location b f1.0 f1.1)
+update_location-ranges = of_two-ranges phone_in location_in UpdateLocation in-phone in-location (λ k l p q. (p, q))
 
 insert_call-ranges : (fields : List (List ℕ)) (request : Request) → insert_call_of fields ≡ Ok request → IsInRange request
-insert_call-ranges [] request ok = cc ok
-insert_call-ranges (a ∷ []) request ok = cc ok
-insert_call-ranges (a ∷ b ∷ []) request ok = cc ok
-insert_call-ranges (a ∷ b ∷ c ∷ []) request ok = cc ok
-insert_call-ranges (a ∷ b ∷ c ∷ d ∷ []) request ok = cc ok
-insert_call-ranges (a ∷ b ∷ c ∷ d ∷ e ∷ x ∷ more) request ok = cc ok
-insert_call-ranges (a ∷ b ∷ c ∷ d ∷ e ∷ []) request ok =
-    let f0 = with_field-Ok 2 (phone_in a) _ request ok in
-    let f1 = with_field-Ok 3 (kind_in b) _ request f0.2 in
-    let f2 = with_field-Ok 4 (start_time_in c) _ request f1.2 in
-    let f3 = with_field-Ok 5 (end_time_in d) _ request f2.2 in
-    let f4 = with_field-Ok 6 (phone_in e) _ request f3.2 in
-    subst IsInRange (ok-inj (InsertCall f0.0 f1.0 f2.0 f3.0 f4.0) request f4.2) (in-phone a f0.0 f0.1, in-kind b f1.0 f1.1, in-start c f2.0 f2.1, in-end d f3.0 f3.1, in-phone e f4.0 f4.1)
+insert_call-ranges = of_five-ranges phone_in kind_in start_time_in end_time_in phone_in InsertCall in-phone in-kind in-start in-end in-phone (λ k l m n o p q r s t. (p, q, r, s, t))
 
 delete_call-ranges : (fields : List (List ℕ)) (request : Request) → delete_call_of fields ≡ Ok request → IsInRange request
-delete_call-ranges [] request ok = cc ok
-delete_call-ranges (a ∷ []) request ok = cc ok
-delete_call-ranges (a ∷ b ∷ []) request ok = cc ok
-delete_call-ranges (a ∷ b ∷ c ∷ x ∷ more) request ok = cc ok
-delete_call-ranges (a ∷ b ∷ c ∷ []) request ok =
-    let f0 = with_field-Ok 2 (phone_in a) _ request ok in
-    let f1 = with_field-Ok 3 (kind_in b) _ request f0.2 in
-    let f2 = with_field-Ok 4 (start_time_in c) _ request f1.2 in
-    subst IsInRange (ok-inj (DeleteCall f0.0 f1.0 f2.0) request f2.2) (in-phone a f0.0 f0.1, in-kind b f1.0 f1.1, in-start c f2.0 f2.1)
+delete_call-ranges = of_three-ranges phone_in kind_in start_time_in DeleteCall in-phone in-kind in-start (λ k l m p q r. (p, q, r))
 
 sync-ranges : (fields : List (List ℕ)) (request : Request) → sync_of fields ≡ Ok request → IsInRange request
 sync-ranges [] request ok = subst IsInRange (ok-inj Sync request ok) tt

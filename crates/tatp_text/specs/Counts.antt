@@ -1,10 +1,12 @@
 -- How the requests of one kind were answered.
-use Rattle.std.specs.Prelude.{ℕ, ◌+◌, ◌<◌, ◌^◌, Bool, true, false, ◌&&◌, if◌then◌else◌, List, [], ◌∷◌, ◌++◌, length, filter, decimal}
+use Rattle.std.specs.Prelude.{ℕ, ◌+◌, ◌<◌, ◌^◌, Bool, true, false, ◌&&◌, if◌then◌else◌, List, [], ◌∷◌, ◌++◌, length, filter, codes, decimal}
+use Rattle.std.specs.Str.{bytes_eq}
 use Rattle.tatp_model.specs.declared.done.Done.{Done}
 use Rattle.tatp_model.specs.declared.request.Request.{Request}
 use Rattle.tatp_model.specs.declared.reply.Reply.{Reply}
-use Rattle.tatp_model.specs.declared.reply.Reply.TheVariants.{Subscriber, Destinations, Access, Changed, Missing, NoFacility, Duplicate, FullTable}
+use Rattle.tatp_model.specs.declared.reply.Reply.TheVariants.{Subscriber, Destinations, Access, Changed}
 use Rattle.tatp_text.specs.declared.counts.Counts.{Counts}
+use Rattle.tatp_text.specs.Reply.{reply_text}
 
 -- `OK`, with fields or without
 abbrev pub is_ok : Reply → Bool
@@ -14,25 +16,9 @@ is_ok (Access info) = true
 is_ok Changed = true
 is_ok _ = false
 
--- `NONE`
-abbrev pub is_missing : Reply → Bool
-is_missing Missing = true
-is_missing _ = false
-
--- `NOFAC`
-abbrev pub is_no_facility : Reply → Bool
-is_no_facility NoFacility = true
-is_no_facility _ = false
-
--- `DUP`
-abbrev pub is_duplicate : Reply → Bool
-is_duplicate Duplicate = true
-is_duplicate _ = false
-
--- `FULL`
-abbrev pub is_full : Reply → Bool
-is_full FullTable = true
-is_full _ = false
+-- the reply's text is this word
+abbrev pub is_answered : List ℕ → Reply → Bool
+is_answered word reply = bytes_eq (reply_text reply) word
 
 -- how many of these requests are of a kind, and were answered so
 abbrev pub count_of : (Request → Bool) → (Reply → Bool) → List Done → ℕ
@@ -43,10 +29,10 @@ abbrev pub counts_of : (Request → Bool) → List Done → Counts
 counts_of is_of_kind done = record {
   requests = count_of is_of_kind (λ r. true) done;
   ok = count_of is_of_kind is_ok done;
-  missing = count_of is_of_kind is_missing done;
-  no_facility = count_of is_of_kind is_no_facility done;
-  duplicate = count_of is_of_kind is_duplicate done;
-  full = count_of is_of_kind is_full done;
+  missing = count_of is_of_kind (is_answered (codes "NONE")) done;
+  no_facility = count_of is_of_kind (is_answered (codes "NOFAC")) done;
+  duplicate = count_of is_of_kind (is_answered (codes "DUP")) done;
+  full = count_of is_of_kind (is_answered (codes "FULL")) done;
 }
 
 -- one more of a number, where the test holds
@@ -58,10 +44,10 @@ abbrev pub with_reply : Counts → Reply → Counts
 with_reply counts reply = record {
   requests = counts.requests + 1;
   ok = more_if (is_ok reply) counts.ok;
-  missing = more_if (is_missing reply) counts.missing;
-  no_facility = more_if (is_no_facility reply) counts.no_facility;
-  duplicate = more_if (is_duplicate reply) counts.duplicate;
-  full = more_if (is_full reply) counts.full;
+  missing = more_if (is_answered (codes "NONE") reply) counts.missing;
+  no_facility = more_if (is_answered (codes "NOFAC") reply) counts.no_facility;
+  duplicate = more_if (is_answered (codes "DUP") reply) counts.duplicate;
+  full = more_if (is_answered (codes "FULL") reply) counts.full;
 }
 
 -- each count can be one more

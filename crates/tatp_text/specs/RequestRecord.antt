@@ -41,47 +41,61 @@ byte_in text = number_in 10 0 255 text
 abbrev pub location_in : List ℕ → Option ℕ
 location_in text = number_in 10 0 4294967295 text
 
+-- a record of one field behind the name, whose number makes the request
+abbrev pub of_one : (List ℕ → Option ℕ) → (ℕ → Request) → List (List ℕ) → Result Request ℕ
+of_one a make (x ∷ []) = with_field 2 (a x) (λ k. Ok (make k))
+of_one a make _ = Err 0
+
+-- of two fields
+abbrev pub of_two : (a b : List ℕ → Option ℕ) → (ℕ → ℕ → Request) → List (List ℕ) → Result Request ℕ
+of_two a b make (x ∷ y ∷ []) = with_field 2 (a x) (λ k. with_field 3 (b y) (λ l. Ok (make k l)))
+of_two a b make _ = Err 0
+
+-- of three fields
+abbrev pub of_three : (a b c : List ℕ → Option ℕ) → (ℕ → ℕ → ℕ → Request) → List (List ℕ) → Result Request ℕ
+of_three a b c make (x ∷ y ∷ z ∷ []) =
+    with_field 2 (a x) (λ k. with_field 3 (b y) (λ l. with_field 4 (c z) (λ m. Ok (make k l m))))
+of_three a b c make _ = Err 0
+
+-- of four fields
+abbrev pub of_four : (a b c d : List ℕ → Option ℕ) → (ℕ → ℕ → ℕ → ℕ → Request) → List (List ℕ) → Result Request ℕ
+of_four a b c d make (x ∷ y ∷ z ∷ u ∷ []) =
+    with_field 2 (a x) (λ k. with_field 3 (b y) (λ l. with_field 4 (c z) (λ m. with_field 5 (d u) (λ n. Ok (make k l m n)))))
+of_four a b c d make _ = Err 0
+
+-- of five fields
+abbrev pub of_five : (a b c d e : List ℕ → Option ℕ) → (ℕ → ℕ → ℕ → ℕ → ℕ → Request) → List (List ℕ) → Result Request ℕ
+of_five a b c d e make (x ∷ y ∷ z ∷ u ∷ v ∷ []) =
+    with_field 2 (a x) (λ k. with_field 3 (b y) (λ l. with_field 4 (c z) (λ m. with_field 5 (d u) (λ n. with_field 6 (e v) (λ o. Ok (make k l m n o))))))
+of_five a b c d e make _ = Err 0
+
 -- `GET_SUBSCRIBER_DATA` of the fields behind the name: s_id
 abbrev pub get_subscriber_of : List (List ℕ) → Result Request ℕ
-get_subscriber_of (s_id ∷ []) =
-    with_field 2 (id_in s_id) (λ s_id. Ok (GetSubscriber s_id))
-get_subscriber_of _ = Err 0
+get_subscriber_of fields = of_one id_in GetSubscriber fields
 
 -- `GET_NEW_DESTINATION` of the fields behind the name: s_id, sf_type, start_time, end_time
 abbrev pub get_destination_of : List (List ℕ) → Result Request ℕ
-get_destination_of (s_id ∷ sf_type ∷ start_time ∷ end_time ∷ []) =
-    with_field 2 (id_in s_id) (λ s_id. with_field 3 (kind_in sf_type) (λ sf_type. with_field 4 (start_time_in start_time) (λ start_time. with_field 5 (end_time_in end_time) (λ end_time. Ok (GetDestination s_id sf_type start_time end_time)))))
-get_destination_of _ = Err 0
+get_destination_of fields = of_four id_in kind_in start_time_in end_time_in GetDestination fields
 
 -- `GET_ACCESS_DATA` of the fields behind the name: s_id, ai_type
 abbrev pub get_access_of : List (List ℕ) → Result Request ℕ
-get_access_of (s_id ∷ ai_type ∷ []) =
-    with_field 2 (id_in s_id) (λ s_id. with_field 3 (kind_in ai_type) (λ ai_type. Ok (GetAccess s_id ai_type)))
-get_access_of _ = Err 0
+get_access_of fields = of_two id_in kind_in GetAccess fields
 
 -- `UPDATE_SUBSCRIBER_DATA` of the fields behind the name: s_id, bit_1, sf_type, data_a
 abbrev pub update_subscriber_of : List (List ℕ) → Result Request ℕ
-update_subscriber_of (s_id ∷ bit_1 ∷ sf_type ∷ data_a ∷ []) =
-    with_field 2 (id_in s_id) (λ s_id. with_field 3 (bit_in bit_1) (λ bit_1. with_field 4 (kind_in sf_type) (λ sf_type. with_field 5 (byte_in data_a) (λ data_a. Ok (UpdateSubscriber s_id bit_1 sf_type data_a)))))
-update_subscriber_of _ = Err 0
+update_subscriber_of fields = of_four id_in bit_in kind_in byte_in UpdateSubscriber fields
 
 -- `UPDATE_LOCATION` of the fields behind the name: sub_nbr, vlr
 abbrev pub update_location_of : List (List ℕ) → Result Request ℕ
-update_location_of (sub_nbr ∷ vlr ∷ []) =
-    with_field 2 (phone_in sub_nbr) (λ sub_nbr. with_field 3 (location_in vlr) (λ vlr. Ok (UpdateLocation sub_nbr vlr)))
-update_location_of _ = Err 0
+update_location_of fields = of_two phone_in location_in UpdateLocation fields
 
 -- `INSERT_CALL_FORWARDING` of the fields behind the name: sub_nbr, sf_type, start_time, end_time, numberx
 abbrev pub insert_call_of : List (List ℕ) → Result Request ℕ
-insert_call_of (sub_nbr ∷ sf_type ∷ start_time ∷ end_time ∷ numberx ∷ []) =
-    with_field 2 (phone_in sub_nbr) (λ sub_nbr. with_field 3 (kind_in sf_type) (λ sf_type. with_field 4 (start_time_in start_time) (λ start_time. with_field 5 (end_time_in end_time) (λ end_time. with_field 6 (phone_in numberx) (λ numberx. Ok (InsertCall sub_nbr sf_type start_time end_time numberx))))))
-insert_call_of _ = Err 0
+insert_call_of fields = of_five phone_in kind_in start_time_in end_time_in phone_in InsertCall fields
 
 -- `DELETE_CALL_FORWARDING` of the fields behind the name: sub_nbr, sf_type, start_time
 abbrev pub delete_call_of : List (List ℕ) → Result Request ℕ
-delete_call_of (sub_nbr ∷ sf_type ∷ start_time ∷ []) =
-    with_field 2 (phone_in sub_nbr) (λ sub_nbr. with_field 3 (kind_in sf_type) (λ sf_type. with_field 4 (start_time_in start_time) (λ start_time. Ok (DeleteCall sub_nbr sf_type start_time))))
-delete_call_of _ = Err 0
+delete_call_of fields = of_three phone_in kind_in start_time_in DeleteCall fields
 
 -- `SYNC`, which has no field behind the name
 abbrev pub sync_of : List (List ℕ) → Result Request ℕ

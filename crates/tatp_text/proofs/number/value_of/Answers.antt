@@ -1,27 +1,15 @@
-use Rattle.std.proofs.Common.{◌≡◌, ◌+◌, ◌^◌, ◌≤◌, true, take, get_or, sym, arith}
+use Rattle.std.proofs.Common.{◌≡◌, true, get_or, sym, arith}
 use Rattle.std.specs.Char.{is_ascii_digit}
-use Rattle.std.specs.Str.Parse.{digits_value}
 use Rattle.std.proofs.lemmas.Grind.{common_steps}
-use Rattle.tatp_text.proofs.Digits.{value_in_fits, value_in_past, digits_value-take_more, list_all-take_more}
+use Rattle.tatp_text.proofs.Digits.{value_in_fits, value_in_past_more, digits_value-take_more, list_all-take_more}
 use Rattle.tatp_text.proofs.number.value_of.Goals as goal
 
 pub returns-in_err-checked_mul : goal.returns-in_err-checked_mul
-returns-in_err-checked_mul c =
-    let text = c.args.text.now in
-    let i = c.loop-digit.digit-index in
-    let digit : is_ascii_digit (get_or text i 0) ≡ true = sym c.if-not-is_ascii_digit.ensures.value in
-    let more = digits_value-take_more text i (omega arith) digit in
-    let past : 2 ^ 64 ≤ digits_value 10 (take (i + 1) text) = omega (arith, c.in_err-checked_mul.ensures) in
-    rw c.from_residual.ensures (sym (value_in_past text (i + 1) past))
+returns-in_err-checked_mul c = rw c.from_residual.ensures (sym (value_in_past_more c.args.text.now c.loop-digit.digit-index (omega arith) (sym c.if-not-is_ascii_digit.ensures.value) (omega (arith, c.in_err-checked_mul.ensures))))
 
 pub returns-in_err-value : goal.returns-in_err-value
 returns-in_err-value c =
-    let text = c.args.text.now in
-    let i = c.loop-digit.digit-index in
-    let digit : is_ascii_digit (get_or text i 0) ≡ true = sym c.if-not-is_ascii_digit.ensures.value in
-    let more = digits_value-take_more text i (omega arith) digit in
-    let past : 2 ^ 64 ≤ digits_value 10 (take (i + 1) text) = omega (arith, c.in_err-value.ensures, c.in_ok-checked_mul.ensures) in
-    rw c.from_residual-in_err-value.ensures (sym (value_in_past text (i + 1) past))
+    rw c.from_residual-in_err-value.ensures (sym (value_in_past_more c.args.text.now c.loop-digit.digit-index (omega arith) (sym c.if-not-is_ascii_digit.ensures.value) (omega (arith, c.in_err-value.ensures, c.in_ok-checked_mul.ensures))))
 
 pub loop-digit-preserved : goal.loop-digit-preserved
 loop-digit-preserved c =
