@@ -15,21 +15,21 @@ now-unwrap_or None d = refl
 now-unwrap_or (Some s) d = refl
 
 -- the fields behind the name, of a record of five or six fields
-pub fields-five : (xs : List (List ℕ)) → length xs ≡ 5 → drop 1 xs ≡ get_or xs 1 [] ∷ get_or xs 2 [] ∷ get_or xs 3 [] ∷ get_or xs 4 [] ∷ []
-fields-five [] h = absurd (omega arith)
-fields-five (a ∷ []) h = absurd (omega arith)
-fields-five (a ∷ b ∷ []) h = absurd (omega arith)
-fields-five (a ∷ b ∷ c ∷ []) h = absurd (omega arith)
-fields-five (a ∷ b ∷ c ∷ d ∷ []) h = absurd (omega arith)
-fields-five (a ∷ b ∷ c ∷ d ∷ e ∷ []) h = refl
-fields-five (a ∷ b ∷ c ∷ d ∷ e ∷ f ∷ more) h = absurd (omega arith)
+pub fields_five : (xs : List (List ℕ)) → length xs ≡ 5 → drop 1 xs ≡ get_or xs 1 [] ∷ get_or xs 2 [] ∷ get_or xs 3 [] ∷ get_or xs 4 [] ∷ []
+fields_five [] h = absurd (omega arith)
+fields_five (a ∷ []) h = absurd (omega arith)
+fields_five (a ∷ b ∷ []) h = absurd (omega arith)
+fields_five (a ∷ b ∷ c ∷ []) h = absurd (omega arith)
+fields_five (a ∷ b ∷ c ∷ d ∷ []) h = absurd (omega arith)
+fields_five (a ∷ b ∷ c ∷ d ∷ e ∷ []) h = refl
+fields_five (a ∷ b ∷ c ∷ d ∷ e ∷ f ∷ more) h = absurd (omega arith)
 
-pub fields-six : (xs : List (List ℕ)) → length xs ≡ 6 → drop 1 xs ≡ get_or xs 1 [] ∷ get_or xs 2 [] ∷ get_or xs 3 [] ∷ get_or xs 4 [] ∷ get_or xs 5 [] ∷ []
-fields-six [] h = absurd (omega arith)
-fields-six (a ∷ []) h = absurd (omega arith)
-fields-six (a ∷ b ∷ []) h = absurd (omega arith)
-fields-six (a ∷ b ∷ c ∷ []) h = absurd (omega arith)
-fields-six (a ∷ b ∷ c ∷ d ∷ []) h = absurd (omega arith)
-fields-six (a ∷ b ∷ c ∷ d ∷ e ∷ []) h = absurd (omega arith)
-fields-six (a ∷ b ∷ c ∷ d ∷ e ∷ f ∷ []) h = refl
-fields-six (a ∷ b ∷ c ∷ d ∷ e ∷ f ∷ g ∷ more) h = absurd (omega arith)
+pub fields_six : (xs : List (List ℕ)) → length xs ≡ 6 → drop 1 xs ≡ get_or xs 1 [] ∷ get_or xs 2 [] ∷ get_or xs 3 [] ∷ get_or xs 4 [] ∷ get_or xs 5 [] ∷ []
+fields_six [] h = absurd (omega arith)
+fields_six (a ∷ []) h = absurd (omega arith)
+fields_six (a ∷ b ∷ []) h = absurd (omega arith)
+fields_six (a ∷ b ∷ c ∷ []) h = absurd (omega arith)
+fields_six (a ∷ b ∷ c ∷ d ∷ []) h = absurd (omega arith)
+fields_six (a ∷ b ∷ c ∷ d ∷ e ∷ []) h = absurd (omega arith)
+fields_six (a ∷ b ∷ c ∷ d ∷ e ∷ f ∷ []) h = refl
+fields_six (a ∷ b ∷ c ∷ d ∷ e ∷ f ∷ g ∷ more) h = absurd (omega arith)
