@@ -4,25 +4,23 @@ use Rattle.pmem_trait.specs.Sights.{Sight}
 use Rattle.pmem_trait.specs.Reads.{ContentHas}
 use Rattle.table_check.specs.declared.check_fault.CheckFault.{CheckFault}
 use Rattle.table_check.specs.declared.check_fault.CheckFault.TheVariants as check
-use Rattle.image_recovery.specs.declared.replay_fault.ReplayFault.{ReplayFault}
-use Rattle.image_recovery.specs.declared.replay_fault.ReplayFault.TheVariants as replay
 use Rattle.image_recovery.specs.declared.open_fault.OpenFault.{OpenFault}
 use Rattle.image_recovery.specs.declared.open_fault.OpenFault.TheVariants.{Unformatted, Damaged, NotDb, Device, NoMemory}
-use Rattle.image_recovery.specs.Faults.{IsFaultOf, IsFaultOn, fault_of_replay, fault_of_check, in_memory}
+use Rattle.image_recovery.specs.Faults.{IsFaultOf, IsFaultOn, IsReplayFaultOn, fault_of_check, in_memory}
 use Rattle.image_recovery.specs.Recovered.{IsNoDatabase}
-use Rattle.image_recovery.specs.ReplayFaults.{NamesDamage, NamesNoImage}
 
 -- a fault of the replay
-pub refused_by_replay : {X Y : Type 0} (r : Result X OpenFault) (q : Result Y ReplayFault) (fault : ReplayFault) (m : Sight)
-    → r ≡ Err (fault_of_replay fault) → q ≡ Err fault → NamesNoImage q m → NamesDamage q m → IfErr r (IsFaultOn m)
-refused_by_replay {X} r q fault m r_is q_is unformatted damaged =
-    subst (λ (r : Result X OpenFault). IfErr r (IsFaultOn m)) (sym r_is) (by fault q_is)
+pub refused_by_replay : {X Y : Type 0} (r : Result X OpenFault) (q : Result Y OpenFault) (fault : OpenFault) (m : Sight)
+    → r ≡ Err fault → q ≡ Err fault → IfErr q (IsReplayFaultOn m) → IfErr r (IsFaultOn m)
+refused_by_replay {X} {Y} r q fault m r_is q_is says =
+    subst (λ (r : Result X OpenFault). IfErr r (IsFaultOn m)) (sym r_is) (by fault (subst (λ (q : Result Y OpenFault). IfErr q (IsReplayFaultOn m)) q_is says))
   where
-    by : (fault : ReplayFault) → q ≡ Err fault → IsFaultOn m (fault_of_replay fault)
-    by replay.Unformatted is = unformatted is
-    by (replay.Damaged line) is = damaged line is
-    by replay.Device is = λ visible content holds. tt
-    by replay.NoMemory is = λ visible content holds. tt
+    by : (fault : OpenFault) → IsReplayFaultOn m fault → IsFaultOn m fault
+    by Unformatted says = says
+    by (Damaged line) says = says
+    by (NotDb word) says = absurd says
+    by Device says = says
+    by NoMemory says = says
 
 -- a fault of the check
 pub refused_by_check : {X : Type 0} (r : Result X OpenFault) (fault : CheckFault) (m : Sight) → r ≡ Err (fault_of_check fault)

@@ -1,12 +1,12 @@
 -- The faults of a recovery: what each says of the image, and which reads were made where it is answered.
-use Rattle.std.specs.Prelude.{ℕ, true, false, List, Result, Ok, Err}
+use Rattle.std.specs.Prelude.{◌≡◌, ◌⊎◌, ℕ, true, false, List, Result, Ok, Err}
 use Rattle.pmem_trait.specs.Sights.{Sight}
 use Rattle.pmem_trait.specs.Reads.{ContentHas, OnlyReads}
 use Rattle.redo_record.specs.Recovery.{IsFormatted, IsDamaged}
+use Rattle.log_ring.specs.declared.scan_fault.ScanFault.{ScanFault}
+use Rattle.log_ring.specs.declared.scan_fault.ScanFault.TheVariants as scan
 use Rattle.table_check.specs.declared.check_fault.CheckFault.{CheckFault}
 use Rattle.table_check.specs.declared.check_fault.CheckFault.TheVariants as check
-use Rattle.image_recovery.specs.declared.replay_fault.ReplayFault.{ReplayFault}
-use Rattle.image_recovery.specs.declared.replay_fault.ReplayFault.TheVariants as replay
 use Rattle.image_recovery.specs.declared.open_fault.OpenFault.{OpenFault}
 use Rattle.image_recovery.specs.declared.open_fault.OpenFault.TheVariants.{Unformatted, Damaged, NotDb, Device, NoMemory}
 use Rattle.image_recovery.specs.Recovered.{IsNoDatabase}
@@ -24,12 +24,20 @@ IsFaultOf image NoMemory = Unit {0}
 abbrev pub IsFaultOn : Sight → OpenFault → Type 0
 IsFaultOn m fault = ContentHas (λ content. IsFaultOf content fault) m
 
--- what a fault of a replay is for the recovery
-abbrev pub fault_of_replay : ReplayFault → OpenFault
-fault_of_replay replay.Unformatted = Unformatted
-fault_of_replay (replay.Damaged line) = Damaged line
-fault_of_replay replay.Device = Device
-fault_of_replay replay.NoMemory = NoMemory
+-- What the fault of a replay says holds of the content, where the medium is visible: no replay names a word of the home.
+abbrev pub IsReplayFaultOn : Sight → OpenFault → Type 0
+IsReplayFaultOn m (NotDb word) = ⊥
+IsReplayFaultOn m fault = IsFaultOn m fault
+
+-- a fault that has nothing to do with what the image is
+abbrev pub IsReadFault : OpenFault → Type 0
+IsReadFault fault = (fault ≡ Device) ⊎ (fault ≡ NoMemory)
+
+-- what a fault of a scan is for the recovery
+abbrev pub fault_of_scan : ScanFault → OpenFault
+fault_of_scan (scan.Damaged line) = Damaged line
+fault_of_scan scan.Device = Device
+fault_of_scan scan.NoMemory = NoMemory
 
 -- what a fault of a check is for the recovery
 abbrev pub fault_of_check : CheckFault → OpenFault

@@ -1,9 +1,7 @@
 pub mod Faults
 pub mod Found
 pub mod Header
-pub mod Media
 pub mod PlainImages
 pub mod Recovered
-pub mod ReplayFaults
 pub mod Replays
 pub mod Texts

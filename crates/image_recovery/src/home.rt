@@ -3,21 +3,17 @@
 ghost use Rattle.std.specs.Prelude.{◌≡◌, ◌+◌, ◌*◌, ◌≤◌, length, IfOk, IfErr};
 ghost use Rattle.dude_base.specs.declared.limits.TheConstants.{PAGE};
 ghost use Rattle.dude_base.specs.Image.{image_words};
-ghost use Rattle.image_recovery.specs.ReplayFaults.{ReadsMade, IsReadFault};
+ghost use Rattle.image_recovery.specs.Faults.{IsReadFault, ReadsMade};
 ghost use Rattle.image_recovery.specs.Replays.{IsHomeOf};
 
-use crate::replay_fault::ReplayFault;
+use crate::open_fault::OpenFault;
 use dude_base::limits::PAGE;
 use dude_base::place::Place;
 use pmem_trait::Medium;
 use std::alloc::Global;
 
 /// The home words of the image on a medium.
-pub fn read_home<M: Medium>(
-    alloc: Global,
-    m: &mut M,
-    place: &Place,
-) -> Result<Vec<u64>, ReplayFault>
+pub fn read_home<M: Medium>(alloc: Global, m: &mut M, place: &Place) -> Result<Vec<u64>, OpenFault>
     requires { image_words place.now ≤ (M.sight m.old).len }
     ensures len { (M.sight m.new).len ≡ (M.sight m.old).len }
     ensures reads { ReadsMade result (M.sight m.old) (M.sight m.new) }

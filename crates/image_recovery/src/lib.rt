@@ -12,7 +12,6 @@ mod plain_image;
 mod recovered;
 mod recovery;
 mod recovery_law;
-mod replay_fault;
 mod replayed_image;
 mod replaying;
 

@@ -1,6 +1,6 @@
 //! Why an image can't be opened.
 
-use crate::replay_fault::ReplayFault;
+use log_ring::ScanFault;
 use pmem_trait::Failed;
 use std::alloc::AllocError;
 use std::error::Error;
@@ -63,18 +63,17 @@ impl From<AllocError> for OpenFault {
     }
 }
 
-impl From<ReplayFault> for OpenFault {
+impl From<ScanFault> for OpenFault {
     ghost use Rattle.std.specs.Prelude.{◌≡◌};
-    ghost use Rattle.image_recovery.specs.Faults.{fault_of_replay};
+    ghost use Rattle.image_recovery.specs.Faults.{fault_of_scan};
 
-    ghost from_gives = { λ fault own. own ≡ fault_of_replay fault };
+    ghost from_gives = { λ fault own. own ≡ fault_of_scan fault };
 
-    fn from(fault: ReplayFault) -> Self {
+    fn from(fault: ScanFault) -> Self {
         match fault {
-            ReplayFault::Unformatted => OpenFault::Unformatted,
-            ReplayFault::Damaged { line } => OpenFault::Damaged { line },
-            ReplayFault::Device => OpenFault::Device,
-            ReplayFault::NoMemory => OpenFault::NoMemory,
+            ScanFault::Damaged { line } => OpenFault::Damaged { line },
+            ScanFault::Device => OpenFault::Device,
+            ScanFault::NoMemory => OpenFault::NoMemory,
         }
     }
 }

@@ -7,7 +7,7 @@ use Rattle.image_recovery.proofs.recovery.recover.Goals as goal
 
 pub returns-in_err-replayed-clause-refused : goal.returns-in_err-replayed-clause-refused
 returns-in_err-replayed-clause-refused g c =
-    refused_by_replay c.from_residual.result c.replay.result c.in_err-replayed.field-0.0 (g.M.Medium.sight c.args.m.now) (search rules) c.in_err-replayed.was c.replay.ensures.unformatted c.replay.ensures.damaged
+    refused_by_replay c.from_residual.result c.replay.result c.in_err-replayed.field-0.0 (g.M.Medium.sight c.args.m.now) (search rules) c.in_err-replayed.was c.replay.ensures.refused
 
 pub returns-in_err-check-clause-refused : goal.returns-in_err-check-clause-refused
 returns-in_err-check-clause-refused g c = refused_by_check c.from_residual-in_err-check.result c.in_err-check.field-0.0 (g.M.Medium.sight c.args.m.now) (search rules) (λ word fault told content holds.
