@@ -4,13 +4,16 @@ use Rattle.std.proofs.lemmas.List.{with_items_is}
 use Rattle.dude_base.specs.declared.sizes.Sizes.{Sizes}
 use Rattle.dude_base.specs.declared.write.Write.{Write}
 use Rattle.dude_base.specs.Records.{RedoBundle, first_of}
+use Rattle.redo_record.specs.AppendLaw.{CanAppend}
 use Rattle.redo_record.specs.Fits.{cells_used}
 use Rattle.redo_record.specs.Record.{cells_for}
-use Rattle.log_ring.specs.Ring.{RingState, with_record}
+use Rattle.log_ring.specs.Ring.{RingState, next_head, with_record}
+use Rattle.log_ring.specs.Appends.{IsOverfull}
 use Rattle.log_waiting.specs.declared.entry.Entry.{Entry}
 use Rattle.log_waiting.specs.declared.lane.Lane.TheInside.{Inside}
 use Rattle.log_waiting.specs.Entries.{write_place, writes_in}
 use Rattle.log_waiting.specs.KeptLane.{waiting_in_lane, IsKeptLane}
+use Rattle.log_waiting.specs.Lane.{CanTake}
 use Rattle.log_waiting.proofs.LaneRecords.{used_same, newest_logged, length-used, room_left}
 use Rattle.log_waiting.proofs.KeptLanes.{extents_kept, length_waiting, lane_more, waiting_more}
 use Rattle.log_waiting.proofs.lane.Lane.append.Given as given
@@ -109,21 +112,19 @@ returns-else-is_ok-clause-untouched g c = rw (← c.self.view_is) (rw (used_same
 pub returns-then-is_ok-clause-cause : goal.returns-then-is_ok-clause-cause
 returns-then-is_ok-clause-cause g c = rw (← c.self.view_is) (rw (used_same c.self.inside.ring.logged (waiting_in_lane c.self.inside) (extents_kept c.self.inside c.self.invariant)) at c.append-outcome.ensures.cause)
 
+-- the ring of a lane whose ring takes a record
+can_take : (a : Inside) (r : RedoBundle) → IsKeptLane a → ((mark : ℕ) → (IsOverfull a.ring r → ⊥) → CanAppend a.ring.sizes mark a.ring.logged (next_head a.ring) r)
+    → All (λ (q : RedoBundle). q.last < first_of r) (waiting_in_lane a) → CanTake (record { ring = a.ring; waiting = waiting_in_lane a }) r
+can_take a r kept can newest = record {
+  room = rw (used_same a.ring.logged (waiting_in_lane a) (extents_kept a kept)) at can;
+  over = newest_logged (first_of r) a.ring.logged (waiting_in_lane a) (extents_kept a kept) newest;
+}
+
 pub returns-then-is_ok-clause-can : goal.returns-then-is_ok-clause-can
-returns-then-is_ok-clause-can g c =
-    let a = c.self.inside in
-    record {
-      room = rw (← c.self.view_is) (rw (used_same a.ring.logged (waiting_in_lane a) (extents_kept a c.self.invariant)) at c.append-outcome.ensures.safe.can);
-      over = rw (← c.self.view_is) (newest_logged (first_of c.args.r.now) a.ring.logged (waiting_in_lane a) (extents_kept a c.self.invariant) (rw (← c.self.view_is) at c.requires.may.newest));
-    }
+returns-then-is_ok-clause-can g c = rw (← c.self.view_is) (can_take c.self.inside c.args.r.now c.self.invariant c.append-outcome.ensures.safe.can (rw (← c.self.view_is) at c.requires.may.newest))
 
 pub returns-else-is_ok-clause-cause : goal.returns-else-is_ok-clause-cause
 returns-else-is_ok-clause-cause g c = rw (← c.self.view_is) (rw (used_same c.self.inside.ring.logged (waiting_in_lane c.self.inside) (extents_kept c.self.inside c.self.invariant)) at c.append-outcome.ensures.cause)
 
 pub returns-else-is_ok-clause-can : goal.returns-else-is_ok-clause-can
-returns-else-is_ok-clause-can g c =
-    let a = c.self.inside in
-    record {
-      room = rw (← c.self.view_is) (rw (used_same a.ring.logged (waiting_in_lane a) (extents_kept a c.self.invariant)) at c.append-outcome.ensures.safe.can);
-      over = rw (← c.self.view_is) (newest_logged (first_of c.args.r.now) a.ring.logged (waiting_in_lane a) (extents_kept a c.self.invariant) (rw (← c.self.view_is) at c.requires.may.newest));
-    }
+returns-else-is_ok-clause-can g c = rw (← c.self.view_is) (can_take c.self.inside c.args.r.now c.self.invariant c.append-outcome.ensures.safe.can (rw (← c.self.view_is) at c.requires.may.newest))
