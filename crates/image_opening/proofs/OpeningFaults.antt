@@ -1,21 +1,13 @@
 -- The faults of an opening, and the reads made by then.
-use Rattle.std.proofs.Common.{◌≡◌, ◌⊎◌, inl, inr, true, false, Result, Err, IfErr, sym, ap, ◌∙◌, subst}
+use Rattle.std.proofs.Common.{◌≡◌, inl, inr, true, false, Result, Err, IfErr, sym, ap, ◌∙◌, subst}
 use Rattle.pmem_trait.specs.Sights.{Sight}
 use Rattle.pmem_trait.specs.Reads.{OnlyReads}
 use Rattle.pmem_trait.proofs.ReadRuns.{reads_then}
 use Rattle.image_recovery.specs.declared.open_fault.OpenFault.{OpenFault}
 use Rattle.image_recovery.specs.declared.open_fault.OpenFault.TheVariants.{Unformatted, Damaged, NotDb, Device, NoMemory}
-use Rattle.image_recovery.specs.Faults.{IsFaultOn, ReadsMade}
+use Rattle.image_recovery.specs.Faults.{IsFaultOn, IsReadFault, ReadsMade}
 use Rattle.image_recovery.proofs.Reading.{refused_at_device, refused_without_memory}
 use Rattle.image_opening.specs.Answers.{StopsBy, StopsOnTheWay}
-
--- a read failed
-pub made_at_device : {X : Type 0} (r : Result X OpenFault) {s t : Sight} → r ≡ Err Device → OnlyReads false s t → ReadsMade r s t
-made_at_device r {s} {t} is reads = subst (λ (r : Result _ OpenFault). ReadsMade r s t) (sym is) reads
-
--- there is no memory
-pub made_without_memory : {X : Type 0} (r : Result X OpenFault) {s t : Sight} → r ≡ Err NoMemory → OnlyReads true s t → ReadsMade r s t
-made_without_memory r {s} {t} is reads = subst (λ (r : Result _ OpenFault). ReadsMade r s t) (sym is) reads
 
 -- the same fault with another type of answer, behind some reads
 pub stops_again : {X Y : Type 0} (r : Result X OpenFault) (q : Result Y OpenFault) (fault : OpenFault) (s t u : Sight) → r ≡ Err fault → q ≡ Err fault → OnlyReads true s t → ReadsMade q t u → IfErr r (λ fault. StopsBy fault s u)
@@ -39,11 +31,11 @@ stops_on_the_way {X} r {s} {t} is way = subst (λ (r : Result X OpenFault). IfEr
 
 -- a fault of reads alone says nothing of the image
 pub refused_unread : {X Y : Type 0} (r : Result X OpenFault) (q : Result Y OpenFault) (fault : OpenFault) (m : Sight) → r ≡ Err fault → q ≡ Err fault
-    → IfErr q (λ fault. (fault ≡ Device) ⊎ (fault ≡ NoMemory)) → IfErr r (IsFaultOn m)
+    → IfErr q IsReadFault → IfErr r (IsFaultOn m)
 refused_unread {X} {Y} r q fault m r_is q_is unread =
-    by (subst (λ (q : Result Y OpenFault). IfErr q (λ fault. (fault ≡ Device) ⊎ (fault ≡ NoMemory))) q_is unread)
+    by (subst (λ (q : Result Y OpenFault). IfErr q IsReadFault) q_is unread)
   where
-    by : (fault ≡ Device) ⊎ (fault ≡ NoMemory) → IfErr r (IsFaultOn m)
+    by : IsReadFault fault → IfErr r (IsFaultOn m)
     by (inl is) = refused_at_device r m (r_is ∙ ap Err is)
     by (inr is) = refused_without_memory r m (r_is ∙ ap Err is)
 

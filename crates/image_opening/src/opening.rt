@@ -3,10 +3,10 @@
 ghost use Rattle.std.specs.Prelude.{◌≡◌, ◌*◌, ◌≤◌, length, IfOk, IfErr};
 ghost use Rattle.dude_base.specs.declared.limits.TheConstants.{LINE, PAGE};
 ghost use Rattle.dude_base.specs.Image.{image_words};
+ghost use Rattle.pmem_trait.specs.Sights.{IsAtRest};
 ghost use Rattle.pmem_trait.specs.Groups.{LinesFit};
 ghost use Rattle.image_recovery.specs.Faults.{IsFaultOn};
 ghost use Rattle.image_recovery.specs.Found.{IsFoundIn, IsFoundOn};
-ghost use Rattle.image_recovery.specs.Media.{IsAtRest};
 ghost use Rattle.image_opening.specs.Answers.{IsNotOpened, IsOpenedFrom, OpensFound, StopsBy};
 ghost use Rattle.image_opening.specs.Opened.{IsOpened};
 ghost use Rattle.image_opening.specs.OpeningCalls.{RaisesVersion, SettlesImage};

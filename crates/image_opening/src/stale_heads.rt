@@ -1,10 +1,9 @@
 //! Heads with numbers over the recovered one: which there are, and their clearing.
 
-ghost use Rattle.std.specs.Prelude.{◌≡◌, ◌⊎◌, ◌+◌, ◌<◌, ◌≤◌, IfOk, IfErr, vec_capacity, vec_len};
+ghost use Rattle.std.specs.Prelude.{◌≡◌, ◌+◌, ◌<◌, ◌≤◌, IfOk, IfErr, vec_capacity, vec_len};
 ghost use Rattle.dude_base.specs.Image.{image_words};
 ghost use Rattle.pmem_trait.specs.Groups.{LinesFit};
-ghost use Rattle.image_recovery.specs.declared.open_fault.OpenFault.TheVariants.{Device, NoMemory};
-ghost use Rattle.image_recovery.specs.Faults.{ReadsMade};
+ghost use Rattle.image_recovery.specs.Faults.{IsReadFault, ReadsMade};
 ghost use Rattle.image_opening.specs.OpeningCalls.{AreStaleLines, ClearsHeads, PutsZeros, is_head_over, with_stale};
 
 use dude_base::limits::{HEADER, LINE};
@@ -44,7 +43,7 @@ pub fn stale_lines<M: Medium>(
     requires room { image_words place.now ≤ (M.sight m.old).len }
     ensures len { (M.sight m.new).len ≡ (M.sight m.old).len }
     ensures reads { ReadsMade result (M.sight m.old) (M.sight m.new) }
-    ensures fault { IfErr result (λ fault. (fault ≡ Device) ⊎ (fault ≡ NoMemory)) }
+    ensures fault { IfErr result IsReadFault }
     ensures fit { IfOk result (λ lines. LinesFit (M.sight m.old).len lines.items) }
     ensures lines { IfOk result (λ l. AreStaleLines place.now number (M.sight m.old) l.items) }
 {

@@ -3,7 +3,7 @@ use Rattle.std.specs.List.{filter, range_with_len}
 use Rattle.pmem_trait.proofs.ReadRuns.{reads_then, read_alone, read_content}
 use Rattle.image_opening.specs.OpeningCalls.{is_head_over, stale_lines}
 use Rattle.image_opening.proofs.OpeningRuns.{lines_next, fit_next}
-use Rattle.image_opening.proofs.OpeningFaults.{made_at_device}
+use Rattle.image_recovery.proofs.ReplayReading.{made_at_device}
 use Rattle.image_opening.proofs.stale_heads.stale_lines.Goals as goal
 
 pub returns-in_err-tag-clause-reads : goal.returns-in_err-tag-clause-reads
