@@ -1,6 +1,7 @@
 -- What the calls of a new image leave, where its home stands for the population.
 use Rattle.std.proofs.Common.{ℕ, ◌≤◌, List, [], ◌∷◌, ◌++◌, length, refl, sym, ap, arith, inl, inr, subst}
 use Rattle.std.proofs.Math.Seq.{drop-append_seam}
+use Rattle.std.proofs.lemmas.Result.{IfOk-from_err}
 use Rattle.dude_base.specs.declared.sizes.Sizes.{Sizes}
 use Rattle.dude_base.specs.Sizes.{IsAccepted}
 use Rattle.dude_base.specs.Image.{image_words}
@@ -42,3 +43,6 @@ module _ {s : Sizes} {home : List ℕ} (stands : StandsFor s home (population s.
 
   pub new_settled : (p : State) (len : ℕ) → IsSettled len p → IsSettled len (after_all (format_calls s home) p)
   new_settled p len settled = subst (λ (q : State). IsSettled len q) (sym (format_is s home p)) (marked_settled s home stands.size p len settled)
+
+-- what is said of an answer that there isn't
+pub ruleset refusing = (IfOk-from_err)

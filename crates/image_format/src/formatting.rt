@@ -1,7 +1,7 @@
 //! A new image is made on a medium, where it fits.
 
 ghost use Rattle.std.specs.Prelude.{◌≡◌, IfOk, IfErr};
-ghost use Rattle.image_recovery.specs.Media.{IsAtRest};
+ghost use Rattle.pmem_trait.specs.Sights.{IsAtRest};
 ghost use Rattle.image_format.specs.Causes.{FitsImage, HasFormatCause, FormatCallsMade};
 ghost use Rattle.image_format.specs.Formats.{FormatsTo, NoFormat};
 ghost use Rattle.image_format.specs.NewImages.{IsNewHome, RestsNew, ShowsNewImage};
@@ -34,6 +34,7 @@ pub fn format<M: Medium>(alloc: Global, medium: M, sizes: &Sizes) -> Result<M, (
 ///
 /// The magic number is cleared first and put last, so that from the first fence on a crash leaves nothing that looks
 /// formatted, until the magic number is put again. After `Device` the medium holds some of a new image.
+#[tactic(auto, using(crate::proofs::NewImages::refusing))]
 pub fn make_image<M: Medium>(
     alloc: Global,
     m: &mut M,

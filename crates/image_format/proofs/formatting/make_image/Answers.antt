@@ -1,7 +1,7 @@
-use Rattle.std.proofs.Common.{◌≡◌, ◌≤◌, ℕ, Bool, true, false, List, Err, refl, sym, ap, arith, rules, subst}
-use Rattle.std.proofs.lemmas.Result.{IfOk-from_err}
+use Rattle.std.proofs.Common.{◌≡◌, ◌≤◌, ℕ, Bool, List, Err, refl, sym, ap, arith, rules, subst}
 use Rattle.dude_base.specs.declared.sizes.Sizes.{Sizes}
 use Rattle.dude_base.specs.Image.{image_words}
+use Rattle.dude_base.specs.Sizes.{IsAccepted}
 use Rattle.pmem_trait.specs.Words.{State, IsSettled}
 use Rattle.pmem_trait.specs.Sights.{Sight, state_now, CallsMade}
 use Rattle.pmem_trait.proofs.Runs.{made_here, made_cause}
@@ -11,7 +11,7 @@ use Rattle.tatp_layout.specs.StandsFor.{StandsFor}
 use Rattle.tatp_population.specs.Populated.{IsPopulated}
 use Rattle.image_format.specs.declared.format_fault.FormatFault.TheVariants.{Device}
 use Rattle.image_format.specs.FormatCalls.{format_calls}
-use Rattle.image_format.specs.NewImages.{IsNewImage}
+use Rattle.image_format.specs.NewImages.{IsNewImage, ShowsNewImage}
 use Rattle.image_format.proofs.NewImages.{new_images, new_image, new_settled}
 use Rattle.image_format.proofs.formatting.make_image.Goals as goal
 
@@ -44,19 +44,21 @@ returns-in_err-write_image-clause-cause g c =
       made_cause c.in_err-write_image.ensures.made,
     )
 
+-- after the calls of a new image, or some of them, each image is one of the old or the new
+images_made : {ok : Bool} {p l s : Sizes} {xs ys : List ℕ} {a b : Sight} → p ≡ s → xs ≡ ys → l ≡ s → IsAccepted s → image_words s ≤ a.len → StandsFor l ys (population l.subscribers)
+    → CallsMade (format_calls p xs) ok a b → ShowsNewImage s a b
+images_made {ok} place home layout accepted long stands made =
+    made_keep _ {ok = ok} (made_same place home made) (λ visible. new_images (stands_same layout stands) _ _ accepted long)
+
 pub returns-in_err-write_image-clause-images : goal.returns-in_err-write_image-clause-images
 returns-in_err-write_image-clause-images g c =
     let words = ap image_words c.of-place.ensures in
-    let layout = c.in_ok-lay.ensures.ok in
-    made_keep _ {ok = false} (made_same c.of-place.ensures c.deref.ensures.value c.in_err-write_image.ensures.made)
-    (λ visible. new_images (stands_same layout.0 c.in_ok-home.ensures.stands) _ _ layout.1 (omega arith))
+    images_made c.of-place.ensures c.deref.ensures.value c.in_ok-lay.ensures.ok.0 c.in_ok-lay.ensures.ok.1 (omega arith) c.in_ok-home.ensures.stands c.in_err-write_image.ensures.made
 
 pub returns-clause-images : goal.returns-clause-images
 returns-clause-images g c =
     let words = ap image_words c.of-place.ensures in
-    let layout = c.in_ok-lay.ensures.ok in
-    made_keep _ {ok = true} (made_same c.of-place.ensures c.deref.ensures.value c.in_ok-write_image.ensures.made)
-    (λ visible. new_images (stands_same layout.0 c.in_ok-home.ensures.stands) _ _ layout.1 (omega arith))
+    images_made c.of-place.ensures c.deref.ensures.value c.in_ok-lay.ensures.ok.0 c.in_ok-lay.ensures.ok.1 (omega arith) c.in_ok-home.ensures.stands c.in_ok-write_image.ensures.made
 
 pub returns-clause-rests : goal.returns-clause-rests
 returns-clause-rests g c =
@@ -69,33 +71,6 @@ returns-clause-rests g c =
       image = λ visible. subst P (sym (made_here made visible)) (new_image stands (state_now old));
       settled = λ visible. subst Q (sym (made_here made visible)) (new_settled stands (state_now old) old.len (c.requires.settled visible));
     }
-
-pub returns-in_err-lay-clause-fits : goal.returns-in_err-lay-clause-fits
-returns-in_err-lay-clause-fits g c = IfOk-from_err _ _ c.from_residual.ensures.0
-
-pub returns-in_err-lay-clause-home : goal.returns-in_err-lay-clause-home
-returns-in_err-lay-clause-home g c = IfOk-from_err _ _ c.from_residual.ensures.0
-
-pub returns-in_err-lay-clause-rests : goal.returns-in_err-lay-clause-rests
-returns-in_err-lay-clause-rests g c = IfOk-from_err _ _ c.from_residual.ensures.0
-
-pub returns-in_err-home-clause-fits : goal.returns-in_err-home-clause-fits
-returns-in_err-home-clause-fits g c = IfOk-from_err _ _ c.from_residual-in_err-home.ensures.0
-
-pub returns-in_err-home-clause-home : goal.returns-in_err-home-clause-home
-returns-in_err-home-clause-home g c = IfOk-from_err _ _ c.from_residual-in_err-home.ensures.0
-
-pub returns-in_err-home-clause-rests : goal.returns-in_err-home-clause-rests
-returns-in_err-home-clause-rests g c = IfOk-from_err _ _ c.from_residual-in_err-home.ensures.0
-
-pub returns-in_err-write_image-clause-fits : goal.returns-in_err-write_image-clause-fits
-returns-in_err-write_image-clause-fits g c = IfOk-from_err _ _ c.from_residual-in_err-write_image.ensures.0
-
-pub returns-in_err-write_image-clause-home : goal.returns-in_err-write_image-clause-home
-returns-in_err-write_image-clause-home g c = IfOk-from_err _ _ c.from_residual-in_err-write_image.ensures.0
-
-pub returns-in_err-write_image-clause-rests : goal.returns-in_err-write_image-clause-rests
-returns-in_err-write_image-clause-rests g c = IfOk-from_err _ _ c.from_residual-in_err-write_image.ensures.0
 
 pub returns-in_err-lay-clause-len : goal.returns-in_err-lay-clause-len
 returns-in_err-lay-clause-len g c = refl
