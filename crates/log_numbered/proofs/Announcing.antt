@@ -13,7 +13,7 @@ use Rattle.back_store.specs.declared.back_fault.BackFault.{BackFault}
 use Rattle.back_store.specs.declared.back_fault.BackFault.TheVariants.{Device, Dead}
 use Rattle.log_numbered.specs.Arrays.{RunArrays}
 use Rattle.log_numbered.specs.Backs.{Any, CarriesOn, LogGoesOn, HoldsArrays, LeadsUpTo}
-use Rattle.log_numbered.proofs.GoingOn.{by_device, failed, visible_before, went_on}
+use Rattle.log_numbered.proofs.GoingOn.{by_device, carried_on, failed, went_on}
 use Rattle.log_numbered.proofs.LedLogs.{durable_least, leads_announced}
 
 -- an announcement leaves the arrays
@@ -45,14 +45,8 @@ module _ (v w : BackState) (end : ℕ) (s t : Sight) (leads : LeadsUpTo v end) (
         tells
 
     pub announced_carries : LogGoesOn true v s w t → StillHoldsStore v w s t → HomeStays v s t → CarriesOn Any v end s w end t
-    announced_carries goes keeps stays before a any is = record {
-      from = is.from;
-      upto = is.upto;
-      keeps = keeps before is.keeps;
-      holds = λ visible.
-          let here = visible_before goes visible in
-          subst (λ x. HoldsArrays a x t) (sym state) (holds_announced v number a s t (stays before is.keeps leads.alive here) (is.holds here));
-    }
+    announced_carries goes keeps stays = carried_on v w end s t goes keeps
+        (λ before a is here. subst (λ x. HoldsArrays a x t) (sym state) (holds_announced v number a s t (stays before is.keeps leads.alive here) (is.holds here)))
 
   -- the call failed
   pub announce_failed : (fault : BackFault) → (fault ≡ Device) ⊎ (fault ≡ Dead) → (let result : Result ℕ BackFault = Err fault in IsErrOf result Dead ↔ (v.dead ≡ true)) → w ≡ answered (Err fault) (announced v) v

@@ -7,13 +7,13 @@ use Rattle.pmem_trait.specs.Sights.{Sight, state_now, AtEveryMoment, CallsMade, 
 use Rattle.pmem_trait.proofs.Laws.{every_moment_here, every_moment_then}
 use Rattle.pmem_trait.proofs.Runs.{made_cause, made_later, made_then, risen_later}
 use Rattle.back_store.specs.Back.{BackState, home_now}
-use Rattle.back_store.specs.Images.{RecoversOnTheWay}
+use Rattle.back_store.specs.Images.{RecoversOnTheWay, StillHoldsStore}
 use Rattle.back_store.specs.declared.back_fault.BackFault.{BackFault}
 use Rattle.back_store.specs.declared.back_fault.BackFault.TheVariants.{Device, Dead}
 use Rattle.back_store.proofs.KeptLogs.{images_here}
 use Rattle.log_numbered.specs.Arrays.{RecoversIn, RunArrays, array_at}
 use Rattle.back_store.specs.Told.{WereTold}
-use Rattle.log_numbered.specs.Backs.{Any, CarriesOn, LogGoesOn, HomeIsAt, LeadsUpTo, RecoversAlong}
+use Rattle.log_numbered.specs.Backs.{Any, Carries, CarriesOn, HoldsArrays, LogGoesOn, HomeIsAt, LeadsUpTo, RecoversAlong}
 use Rattle.log_numbered.proofs.HeldArrays.{moments_less, recovers_in}
 use Rattle.log_numbered.proofs.NoTells.{TellsNothing, told_same}
 use Rattle.back_store.proofs.ToldNumbers.{tells_none, tells_then}
@@ -54,6 +54,16 @@ failed_untold v w s t cs len is made nothing =
 -- the medium was as visible before
 pub visible_before : {ok : Bool} {v w : BackState} {s t : Sight} → LogGoesOn ok v s w t → IsTrue t.is_visible → IsTrue s.is_visible
 visible_before goes visible = sym (made_later goes.ran.1).is_visible ∙ visible
+
+-- a call that went well has the arrays again that it had, if those are held
+pub carried_on : (v w : BackState) (end : ℕ) (s t : Sight) → LogGoesOn true v s w t → StillHoldsStore v w s t
+    → ((before : ℕ) (a : RunArrays) → Carries before a v end s → IsTrue s.is_visible → HoldsArrays a w t) → CarriesOn Any v end s w end t
+carried_on v w end s t goes keeps holds before a any is = record {
+  from = is.from;
+  upto = is.upto;
+  keeps = keeps before is.keeps;
+  holds = λ visible. holds before a is (visible_before goes visible);
+}
 
 pub visible_after : {ok : Bool} {v w : BackState} {s t : Sight} → LogGoesOn ok v s w t → IsTrue s.is_visible → IsTrue t.is_visible
 visible_after goes visible = (made_later goes.ran.1).is_visible ∙ visible

@@ -13,7 +13,7 @@ use Rattle.back_store.specs.declared.back_fault.BackFault.{BackFault}
 use Rattle.back_store.specs.declared.back_fault.BackFault.TheVariants.{Device, Dead}
 use Rattle.log_numbered.specs.Arrays.{array_at}
 use Rattle.log_numbered.specs.Backs.{Any, CarriesOn, LogGoesOn, HomeIsAt, LeadsUpTo}
-use Rattle.log_numbered.proofs.GoingOn.{by_device, failed_untold, visible_before, went_on}
+use Rattle.log_numbered.proofs.GoingOn.{by_device, carried_on, failed_untold, went_on}
 use Rattle.log_numbered.proofs.HeldArrays.{holds_reproduced}
 use Rattle.log_numbered.proofs.LedLogs.{Reproduced, durable_least, leads_reproduced, none_waits, numbers_reproduced, reproduced_least, stop_last}
 use Rattle.log_numbered.proofs.NoTells.{TellsNothing, reproduce_tells_nothing, told_same}
@@ -52,14 +52,8 @@ module _ (v w : BackState) (end : ℕ) (s t : Sight) (alive : LeadsUpTo v end) (
     low = let d = durable_least v end alive in let e = reproduced_least v end alive in let there = is_last in omega arith
 
     pub reproduced_carries : LogGoesOn true v s w t → StillHoldsStore v w s t → HasReproduced v w number s t → CarriesOn Any v end s w end t
-    reproduced_carries goes keeps done before a any is = record {
-      from = is.from;
-      upto = is.upto;
-      keeps = keeps before is.keeps;
-      holds = λ visible.
-          let here = visible_before goes visible in
-          holds_reproduced v w number a s t numbers.sizes (numbers.reproduced ∙ sym is_last) low (none_waits w end reproduced_leads numbers.reproduced) (done before is.keeps alive.alive here) (is.holds here);
-    }
+    reproduced_carries goes keeps done = carried_on v w end s t goes keeps
+        (λ before a is here. holds_reproduced v w number a s t numbers.sizes (numbers.reproduced ∙ sym is_last) low (none_waits w end reproduced_leads numbers.reproduced) (done before is.keeps alive.alive here) (is.holds here))
 
     pub reproduced_home : HasReproduced v w number s t → HomeIsAt v end s t
     reproduced_home done before a is visible =
