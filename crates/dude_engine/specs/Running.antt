@@ -2,7 +2,6 @@
 use Rattle.std.specs.Prelude.{◌≡◌, ◌⊎◌, ℕ, ◌+◌, ◌*◌, ◌<◌, ◌≤◌, AllPairs, Bool, IsPermutation, OnOk, true, false, IsTrue, List, [], ◌∷◌, ◌++◌, length, map, fold, All, Result, Ok, Err, Some, slice_get, vec_capacity, vec_len}
 use Rattle.dude_base.specs.declared.limits.TheConstants.{MAX_NUMBER, PAGE}
 use Rattle.dude_base.specs.declared.sizes.Sizes.{Sizes}
-use Rattle.dude_base.specs.Writes.{overwritten}
 use Rattle.pmem_trait.specs.declared.medium.Medium.{Ghosts}
 use Rattle.pmem_trait.specs.Words.{AtLeast, EveryImage}
 use Rattle.pmem_trait.specs.Sights.{Sight, state_now, AtEveryMoment, Risen, SomeCalls}
@@ -14,7 +13,7 @@ use Rattle.tatp_model.specs.declared.reply.Reply.TheVariants.{Changed}
 use Rattle.tatp_model.specs.Database.{Database}
 use Rattle.tatp_model.specs.OneThread.{AllAreDone, PrecedesInFiles, RepliesAlong, after_number, after_requests, is_sync}
 use Rattle.tatp_layout.specs.StandsFor.{StandsFor}
-use Rattle.tatp_core.specs.Serves.{Serves}
+use Rattle.tatp_core.specs.Serves.{Answers}
 use Rattle.run_order.specs.Runs.{Collects, IsNumberedFrom, PrecedesInRounds}
 use Rattle.image_opening.specs.Opened.{HoldsOpened}
 use Rattle.log_numbered.specs.declared.run_log.RunLog.{RunLog}
@@ -144,7 +143,7 @@ pub record IsChanging {M : Type 0} {ghosts : Ghosts M} (request : Request) (run 
   pub alive : IsAlive run.log
   pub sizes : log_sizes run.log ≡ run.lay
   pub count : length (words_of run.words) ≡ run.lay.pages * PAGE
-  pub serves : (db : Database) → StandsFor run.lay (words_of run.words) db → Serves run.lay db request Changed (overwritten (flat_sight run.words).writes (words_of run.words))
+  pub answers : Answers run.lay request Changed (flat_sight run.words).reads (flat_sight run.words).writes
 
 -- a request done that wrote nothing
 abbrev pub silent_done : ℕ → ℕ → ℕ → Request → Reply → Done

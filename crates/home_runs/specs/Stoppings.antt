@@ -14,4 +14,4 @@ HasSameWords s t = words_of t.flat ≡ words_of s.flat
 
 -- what is seen of a `Stopping` is well formed
 pub stopping_well_formed : (s : Stopping) → IsWellFormed (stopping_sight s)
-stopping_well_formed s = let fits = flat_well_formed s.flat in record { count = fits.count; writes = fits.writes; inside = fits.inside }
+stopping_well_formed s = let fits = flat_well_formed s.flat in record { count = fits.count; reads_inside = fits.reads_inside; writes = fits.writes; inside = fits.inside }

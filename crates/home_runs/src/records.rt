@@ -37,10 +37,12 @@ pub fn say_redo(redo: &Redo, page: &mut Page) {
 pub fn say_reads(alloc: Global, reads: &[u64], page: &mut Page) {
     let mut set = ReadSet::new(alloc);
     for read in reads.chunks(2) {
-        if let [at, value] = *read
-            && set.add(at, value).is_err()
-        {
-            page.cut();
+        if let [at, value] = *read {
+            if set.room().is_err() {
+                page.cut();
+                break;
+            }
+            set.add(at, value);
         }
     }
     page.put(b"reads");

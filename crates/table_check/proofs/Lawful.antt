@@ -71,10 +71,10 @@ pub record HoldsContent (content : ℕ → ℕ → Type 0) (table : Table) (arra
 module _ (content : ℕ → ℕ → Type 0) (table : Table) (array : List ℕ) (wide : 2 ≤ table.pool.size) (chains : List (List ℕ)) (free : List ℕ) where
   module _ (whole : IsWhole content table array chains free) where
     met : HasMet content table array chains []
-    met = whole.met.met.met.met
+    met = whole.met.met
 
     each_bucket : length chains ≡ table.buckets
-    each_bucket = whole.met.met.met.all
+    each_bucket = whole.met.all
 
     -- each record in chains is sound in its bucket
     pub sound_at : (at : ℕ) → Contains (records_in chains) at → (bucket : ℕ) × IsSound content table array bucket at
@@ -96,7 +96,7 @@ module _ (content : ℕ → ℕ → Type 0) (table : Table) (array : List ℕ) (
     pub each_place : (x : ℕ) → Contains (records_in chains ++ free) x → IsRecord table.pool x
     each_place x c = elim (Contains-append_cases (records_in chains) free x c) [
       | inl taken ↦ (sound_at x taken).1.place
-      | inr is_free ↦ All-contains (IsRecord table.pool) free x whole.met.met.met_free.met.places is_free
+      | inr is_free ↦ All-contains (IsRecord table.pool) free x whole.pool.met.list.met.places is_free
     ]
 
     once : IsPermutation (records_of table.pool) (free ++ records_in chains)
@@ -104,8 +104,8 @@ module _ (content : ℕ → ℕ → Type 0) (table : Table) (array : List ℕ) (
         let all = records_of table.pool in
         let same = IsPermutation-refl all in
         IsPermutation-trans all (records_in chains ++ free) (free ++ records_in chains)
-        (same_elements all (records_in chains ++ free) (none_twice table.pool all same (omega (arith, wide))) (distinct_from_pairs (records_in chains ++ free) whole.met.met.met_free.met.differ)
-        (λ x c. whole.met.every x (All-contains (IsRecord table.pool) all x (All-from_recursion (IsRecord table.pool) all (each_is_record table.pool all same)) c))
+        (same_elements all (records_in chains ++ free) (none_twice table.pool all same (omega (arith, wide))) (distinct_from_pairs (records_in chains ++ free) whole.pool.met.list.met.differ)
+        (λ x c. whole.pool.met.every x (All-contains (IsRecord table.pool) all x (All-from_recursion (IsRecord table.pool) all (each_is_record table.pool all same)) c))
         (λ x c. has_record table.pool all same (each_place x c)))
         (IsPermutation-append_comm (records_in chains) free)
 
@@ -124,7 +124,7 @@ module _ (content : ℕ → ℕ → Type 0) (table : Table) (array : List ℕ) (
     -- it is a lawful table
     pub whole_table : IsTable table array chains free
     whole_table = record {
-      pool = record { links = whole.met.met.met_free.ended; live = whole.count; once = once };
+      pool = record { links = whole.pool.met.list.ended; live = whole.pool.count; once = once };
       buckets = each_bucket;
       links = λ bucket below. met.ended bucket (omega (arith, each_bucket, below));
       homes = λ bucket below k d inside. ((met.sound bucket (omega (arith, each_bucket, below)) k d inside).fits 0 (omega (arith, wide))).1;
@@ -162,17 +162,17 @@ module _ (content : ℕ → ℕ → Type 0) (table : Table) (array : List ℕ) (
     table_whole = record {
       met = record {
         met = record {
-          met = record {
-            met = record {
-              ended = λ bucket below. lawful.links bucket (omega (arith, lawful.buckets, below));
-              sound = sound_chain;
-              path = tt;
-              part_sound = λ k d below. absurd (omega (arith, below));
-              keys_differ = subst (AllPairs (λ x y. slice_index array x ≢ slice_index array y)) (sym (append-nil (records_in chains))) keys_differ;
-            };
-            all = lawful.buckets;
-          };
-          met_free = record {
+          ended = λ bucket below. lawful.links bucket (omega (arith, lawful.buckets, below));
+          sound = sound_chain;
+          path = tt;
+          part_sound = λ k d below. absurd (omega (arith, below));
+          keys_differ = subst (AllPairs (λ x y. slice_index array x ≢ slice_index array y)) (sym (append-nil (records_in chains))) keys_differ;
+        };
+        all = lawful.buckets;
+      };
+      pool = record {
+        met = record {
+          list = record {
             met = record {
               path = path_linked array table.pool.base free lawful.pool.links;
               places = λ k d below. each_record chains free lawful (get_or free k d) (Contains-append_left free (records_in chains) (get_or free k d) (Contains-get_or free k d below));
@@ -180,8 +180,8 @@ module _ (content : ℕ → ℕ → Type 0) (table : Table) (array : List ℕ) (
             };
             ended = lawful.pool.links;
           };
+          every = λ at r. has_record table.pool (records_in chains ++ free) turned r;
         };
-        every = λ at r. has_record table.pool (records_in chains ++ free) turned r;
+        count = lawful.pool.live;
       };
-      count = lawful.pool.live;
     }

@@ -5,5 +5,7 @@ pub mod Judged
 pub mod Lawful
 pub mod Mapped
 pub mod Marking
+pub mod OnePool
 pub mod OneWord
+pub mod PoolSteps
 pub mod Steps

@@ -1,19 +1,17 @@
 -- The first wrong word of a table is one, and there is none where nothing is wrong.
-use Rattle.std.proofs.Common.{◌≡◌, ◌≢◌, ◌⊎◌, inl, inr, ℕ, zero, suc, ◌+◌, ◌<◌, List, [], ◌∷◌, ◌++◌, length, All, AllPairs, Contains, slice_index, get_or, refl, sym, ap, ap₂, ◌∙◌, subst, arith, append_assoc}
+use Rattle.std.proofs.Common.{◌≡◌, ◌≢◌, ◌⊎◌, inl, inr, ℕ, zero, suc, ◌+◌, ◌<◌, List, [], ◌∷◌, ◌++◌, length, All, AllPairs, Contains, slice_index, get_or, refl, sym, ap, ◌∙◌, subst, arith}
 use Rattle.std.proofs.lemmas.Bool.{cases_order}
 use Rattle.std.proofs.lemmas.List.{append-nil, drop_all}
-use Rattle.std.proofs.lemmas.List.Elements.{All-contains, Contains-append_right, Contains-get_or}
+use Rattle.std.proofs.lemmas.List.Elements.{Contains-get_or}
 use Rattle.record_heap.specs.Pool.{IsRecord}
 use Rattle.hash_table.specs.declared.table.Table.{Table}
 use Rattle.hash_table.specs.Table.{link_after, records_in}
 use Rattle.hash_table.specs.Walk.{IsPath}
-use Rattle.table_check.specs.Faults.{FitsNew, IsWrongNext, IsInChains, IsWrongFree, IsInFreeList, IsUnmet, IsFirstWrong}
-use Rattle.table_check.specs.Marks.{IsNew}
-use Rattle.table_check.specs.Walk.{IsSound, HasMetChains, HasMetFree, HasFreeList, HasMetLists, HasMetAll, IsWhole}
-use Rattle.table_check.proofs.Compared.{pairs_across, path_in_linked, path_in_path, linked_one, ChainsGoOn, next_of, front_same, goes_further, goes_longer}
-
-first_contained : (x : ℕ) (xs : List ℕ) → Contains (x ∷ xs) x
-first_contained x xs = (0, omega arith, refl)
+use Rattle.table_check.specs.Faults.{FitsNew, IsWrongNext, IsInChains, IsFirstWrong}
+use Rattle.table_check.specs.Pools.{IsWrongPool}
+use Rattle.table_check.specs.Walk.{IsSound, HasMetChains, IsWhole}
+use Rattle.table_check.proofs.Compared.{pairs_across, path_in_path, ChainsGoOn, next_of, front_same, goes_further, goes_longer}
+use Rattle.table_check.proofs.OnePool.{first_contained, one_in_pool, right_pool}
 
 module _ (content : ℕ → ℕ → Type 0) (table : Table) (array : List ℕ) (none : ¬ IsRecord table.pool 0) where
   -- ---- chains
@@ -90,99 +88,20 @@ module _ (content : ℕ → ℕ → Type 0) (table : Table) (array : List ℕ) (
       let same : length cs ≡ length ds = first.all ∙ sym second.all in
       sym (front_same content table array none cs [] ds [] first.met second.met (omega (arith, same)) ∙ ap (λ l. cs ++ l) (drop_all (length cs) ds (omega (arith, same))) ∙ append-nil cs)
 
-  -- ---- the free list
-
-  free_some : (xs : List ℕ) → All (IsRecord table.pool) xs → All (λ x. x ≢ 0) xs
-  free_some xs places = λ k d below same. none (subst (IsRecord table.pool) same (places k d below))
-
-  -- a free record that comes next in another walk is new
-  free_new : (taken xs : List ℕ) (x : ℕ) (rest : List ℕ) (ys : List ℕ) → HasMetFree table array taken ys → ys ≡ xs ++ x ∷ rest → IsNew table.pool (taken ++ xs) x
-  free_new taken xs x rest ys met is =
-      let all : AllPairs (λ a b. a ≢ b) ((taken ++ xs) ++ x ∷ rest) = subst (AllPairs (λ a b. a ≢ b)) (ap (λ l. taken ++ l) is ∙ sym (append_assoc taken xs (x ∷ rest))) met.differ in
-      record {
-        place = All-contains (IsRecord table.pool) (xs ++ x ∷ rest) x (subst (All (IsRecord table.pool)) is met.places) (Contains-append_right xs (x ∷ rest) x (first_contained x rest));
-        unmet = λ c. pairs_across (λ a b. a ≢ b) (taken ++ xs) (x ∷ rest) x x all c (first_contained x rest) refl;
-      }
-
-  -- a wrong link of the free list is one
-  one_free : (taken : List ℕ) (v w : ℕ) → IsWrongFree table array taken v → IsWrongFree table array taken w → v ≡ w
-  one_free taken v w a b =
-      let next_a : link_after table.pool.base a.free ≡ v = sym a.word_is in
-      let next_b : link_after table.pool.base b.free ≡ w = sym b.word_is in
-      elim (path_in_path array table.pool.base a.free b.free a.met.path b.met.path) [
-        | inl same ↦ a.word_is ∙ ap (link_after table.pool.base) same ∙ next_b
-        | inr other ↦ elim other [
-          | inl longer ↦ absurd (a.link.astray (free_new taken a.free _ longer.0 b.free b.met (longer.1 ∙ ap (λ l. a.free ++ slice_index array l ∷ longer.0) next_a)))
-          | inr shorter ↦ absurd (b.link.astray (free_new taken b.free _ shorter.0 a.free a.met (shorter.1 ∙ ap (λ l. b.free ++ slice_index array l ∷ shorter.0) next_b)))
-        ]
-      ]
-
-  -- where the free list was followed, none of its links is wrong
-  right_free : (taken free : List ℕ) → HasFreeList table array taken free → (v : ℕ) → ¬ IsWrongFree table array taken v
-  right_free taken free list v a =
-      let next : link_after table.pool.base a.free ≡ v = sym a.word_is in
-      elim (path_in_linked array table.pool.base a.free free (free_some a.free a.met.places) a.met.path list.ended) [
-        | inl whole ↦ a.link.leads (ap (slice_index array) a.word_is ∙ whole.1)
-        | inr front ↦ a.link.astray (free_new taken a.free _ front.0 free list.met (front.1 ∙ ap (λ l. a.free ++ slice_index array l ∷ front.0) next))
-      ]
-
-  one_list : (taken xs ys : List ℕ) → HasFreeList table array taken xs → HasFreeList table array taken ys → xs ≡ ys
-  one_list taken xs ys first second = linked_one array table.pool.base xs ys (free_some xs first.met.places) (free_some ys second.met.places) first.ended second.ended
-
   -- ---- the whole table
 
-  -- each list of a table is one
-  pub one_lists : (cs ds : List (List ℕ)) (xs ys : List ℕ) → HasMetLists content table array cs xs → HasMetLists content table array ds ys → (cs ≡ ds) × (xs ≡ ys)
-  one_lists cs ds xs ys a b =
-      let same = one_chains cs ds a.met b.met in
-      (same, one_list (records_in ds) xs ys (subst (λ l. HasFreeList table array (records_in l) xs) same a.met_free) b.met_free)
-
-  same_free : (cs ds : List (List ℕ)) (w : ℕ) → HasMetChains content table array cs → HasMetChains content table array ds → IsWrongFree table array (records_in cs) w → IsWrongFree table array (records_in ds) w
-  same_free cs ds w a b wrong = subst (λ l. IsWrongFree table array (records_in l) w) (one_chains cs ds a b) wrong
-
-  right_lists : (cs : List (List ℕ)) (xs : List ℕ) → HasMetLists content table array cs xs → (v : ℕ) → ¬ IsInFreeList content table array v
-  right_lists cs xs lists v wrong = right_free (records_in cs) xs lists.met_free v (same_free wrong.chains cs v wrong.met lists.met wrong.wrong)
-
-  same_met : (cs ds : List (List ℕ)) (xs ys : List ℕ) → HasMetLists content table array cs xs → HasMetLists content table array ds ys → records_in cs ++ xs ≡ records_in ds ++ ys
-  same_met cs ds xs ys a b = let same = one_lists cs ds xs ys a b in ap₂ (λ l m. records_in l ++ m) same.0 same.1
-
-  right_all : (cs : List (List ℕ)) (xs : List ℕ) → HasMetAll content table array cs xs → (v : ℕ) → ¬ IsUnmet content table array v
-  right_all cs xs all v wrong = wrong.new.unmet (subst (λ l. Contains l v) (same_met cs wrong.chains xs wrong.free all.met wrong.met) (all.every v wrong.new.place))
-
-  one_unmet : (v w : ℕ) → IsUnmet content table array v → IsUnmet content table array w → v ≡ w
-  one_unmet v w a b =
-      let same = same_met a.chains b.chains a.free b.free a.met b.met in
-      elim (cases_order v w) [
-        | inl is ↦ is
-        | inr order ↦ elim order [
-          | inl less ↦ absurd (a.new.unmet (subst (λ l. Contains l v) (sym same) (b.lower v a.new.place less)))
-          | inr more ↦ absurd (b.new.unmet (subst (λ l. Contains l w) same (a.lower w b.new.place more)))
-        ]
-      ]
+  -- what is wrong behind the chains, whatever walk met them
+  same_pool : (cs ds : List (List ℕ)) (w : ℕ) → HasMetChains content table array cs → HasMetChains content table array ds → IsWrongPool table.pool array (records_in cs) w → IsWrongPool table.pool array (records_in ds) w
+  same_pool cs ds w a b wrong = subst (λ l. IsWrongPool table.pool array (records_in l) w) (one_chains cs ds a b) wrong
 
   -- the first wrong word is one
   pub one_wrong : (v w : ℕ) → IsFirstWrong content table array v → IsFirstWrong content table array w → v ≡ w
   one_wrong v w (inl a) (inl b) = one_in_chains v w a b
-  one_wrong v w (inl a) (inr (inl b)) = absurd (right_chains b.chains b.met v a)
-  one_wrong v w (inl a) (inr (inr (inl b))) = absurd (right_chains b.chains b.met.met v a)
-  one_wrong v w (inl a) (inr (inr (inr b))) = absurd (right_chains b.chains b.met.met.met v a)
-  one_wrong v w (inr (inl a)) (inl b) = absurd (right_chains a.chains a.met w b)
-  one_wrong v w (inr (inl a)) (inr (inl b)) = one_free (records_in b.chains) v w (same_free a.chains b.chains v a.met b.met a.wrong) b.wrong
-  one_wrong v w (inr (inl a)) (inr (inr (inl b))) = absurd (right_lists b.chains b.free b.met v a)
-  one_wrong v w (inr (inl a)) (inr (inr (inr b))) = absurd (right_lists b.chains b.free b.met.met v a)
-  one_wrong v w (inr (inr (inl a))) (inl b) = absurd (right_chains a.chains a.met.met w b)
-  one_wrong v w (inr (inr (inl a))) (inr (inl b)) = absurd (right_lists a.chains a.free a.met w b)
-  one_wrong v w (inr (inr (inl a))) (inr (inr (inl b))) = one_unmet v w a b
-  one_wrong v w (inr (inr (inl a))) (inr (inr (inr b))) = absurd (right_all b.chains b.free b.met v a)
-  one_wrong v w (inr (inr (inr a))) (inl b) = absurd (right_chains a.chains a.met.met.met w b)
-  one_wrong v w (inr (inr (inr a))) (inr (inl b)) = absurd (right_lists a.chains a.free a.met.met w b)
-  one_wrong v w (inr (inr (inr a))) (inr (inr (inl b))) = absurd (right_all a.chains a.free a.met w b)
-  one_wrong v w (inr (inr (inr a))) (inr (inr (inr b))) = a.word_is ∙ sym b.word_is
+  one_wrong v w (inl a) (inr b) = absurd (right_chains b.chains b.met v a)
+  one_wrong v w (inr a) (inl b) = absurd (right_chains a.chains a.met w b)
+  one_wrong v w (inr a) (inr b) = one_in_pool table.pool array none (records_in b.chains) v w (same_pool a.chains b.chains v a.met b.met a.wrong) b.wrong
 
   -- where nothing is wrong there is none
   pub none_wrong : (cs : List (List ℕ)) (xs : List ℕ) → IsWhole content table array cs xs → (w : ℕ) → ¬ IsFirstWrong content table array w
-  none_wrong cs xs whole w (inl b) = right_chains cs whole.met.met.met w b
-  none_wrong cs xs whole w (inr (inl b)) = right_lists cs xs whole.met.met w b
-  none_wrong cs xs whole w (inr (inr (inl b))) = right_all cs xs whole.met w b
-  none_wrong cs xs whole w (inr (inr (inr b))) =
-      b.differs (ap (slice_index array) b.word_is ∙ whole.count ∙ ap (λ l. length (records_in l)) (one_lists cs b.chains xs b.free whole.met.met b.met.met).0)
+  none_wrong cs xs whole w (inl b) = right_chains cs whole.met w b
+  none_wrong cs xs whole w (inr b) = right_pool table.pool array none (records_in cs) xs whole.pool w (same_pool b.chains cs w b.met whole.met b.wrong)

@@ -1,27 +1,22 @@
 -- One link more on the way through a table.
 use Rattle.std.proofs.Common.{◌≡◌, ◌≢◌, ℕ, ◌+◌, ◌<◌, List, [], ◌∷◌, ◌++◌, length, All, AllPairs, slice_index, refl, sym, ap, ◌∙◌, subst, arith, inl, inr, append_assoc}
 use Rattle.std.proofs.lemmas.Bool.{cases_eq}
-use Rattle.std.proofs.lemmas.List.{append-nil, get_or_append_left, get_or_default, get_or_push, length_push}
+use Rattle.std.proofs.lemmas.List.{append-nil, get_or_append_left, get_or_push, length_push}
 use Rattle.std.proofs.lemmas.List.Concat.{flat_map-append}
 use Rattle.std.proofs.lemmas.List.Elements.{All-nil, All-push}
 use Rattle.std.proofs.lemmas.List.Quantifiers.{all_pairs_push}
 use Rattle.record_heap.specs.Links.{Linked}
-use Rattle.record_heap.specs.Pool.{IsRecord}
 use Rattle.hash_table.specs.declared.table.Table.{Table}
-use Rattle.hash_table.specs.Table.{FitsTable, chain_of, link_after, records_in}
-use Rattle.hash_table.specs.Walk.{IsPath}
-use Rattle.hash_table.proofs.Walks.{link_after-push, path_append, linked_path}
-use Rattle.table_check.specs.declared.marks.Marks.{Marks}
+use Rattle.hash_table.specs.Table.{chain_of, link_after, records_in}
+use Rattle.hash_table.proofs.Walks.{link_after-push, linked_path}
 use Rattle.table_check.specs.declared.seen.Seen.{Seen}
-use Rattle.table_check.specs.Faults.{IsWrongLink, IsWrongRecord, IsWrongFree, IsInChains, IsWrongNext}
+use Rattle.table_check.specs.Faults.{IsWrongRecord, IsInChains, IsWrongNext}
 use Rattle.table_check.specs.Marks.{AreMarked, IsNew}
-use Rattle.table_check.specs.Seen.{AreApartMarked, KnowsMet, KnowsPart, KnowsChains, KnowsFree, KnowsFreeList, TakesSound}
+use Rattle.table_check.specs.Pools.{IsWrongLink}
+use Rattle.table_check.specs.Seen.{KnowsMet, KnowsPart, KnowsChains, TakesSound}
 use Rattle.table_check.specs.Taken.{AreTaken}
 use Rattle.table_check.specs.Walk.{IsSound}
-
--- a path, and the record that its last word links
-path_more : (array : List ℕ) (link : ℕ) (xs : List ℕ) (at : ℕ) → IsPath array link xs → slice_index array (link_after link xs) ≡ at → IsPath array link (xs ++ at ∷ [])
-path_more array link xs at path next = path_append array link xs (at ∷ []) path (next, tt)
+use Rattle.table_check.proofs.PoolSteps.{path_more}
 
 -- the records of chains to which one more was added
 pub records_push : (chains : List (List ℕ)) (chain : List ℕ) → records_in (chains ++ chain ∷ []) ≡ records_in chains ++ chain
@@ -72,7 +67,7 @@ module _ (content : ℕ → ℕ → Type 0) (table : Table) (array : List ℕ) w
     pub wrong_link : {link : ℕ} {seen : Seen} (known : KnowsPart content table array bucket link seen) → bucket < table.buckets → slice_index array link ≢ 0 → ¬ IsNew table.pool (met_of known) (slice_index array link)
         → IsInChains content table array link
     wrong_link {link} known below leads astray = in_chains known below (inl (
-      subst (IsWrongLink table array (met_of known)) (sym (next_word known)) (record { leads = leads; astray = astray }),
+      subst (IsWrongLink table.pool array (met_of known)) (sym (next_word known)) (record { leads = leads; astray = astray }),
       sym (next_word known),
     ))
 
@@ -133,47 +128,3 @@ module _ (content : ℕ → ℕ → Type 0) (table : Table) (array : List ℕ) w
               let lower : b < length chains = omega (arith, length_push chains part, below, differ) in
               subst (P b) (sym (get_or_append_left chains (part ∷ []) [] b lower)) (before b lower)
         ]
-
--- ---- the free list
-
-module _ (table : Table) (array taken : List ℕ) where
-  pub free_begins : (marks : Marks) → AreApartMarked table taken marks → KnowsFree table array taken table.pool.base marks
-  free_begins marks known =
-      let same = sym (append-nil taken) in
-      record {
-        free = [];
-        met = record { path = tt; places = All-nil (IsRecord table.pool); differ = subst (AllPairs (λ x y. x ≢ y)) same known.differ };
-        link_is = refl;
-        marked = subst (λ l. AreMarked table.pool l marks.marks.items) same known.marked;
-      }
-
-  pub wrong_free : {link : ℕ} {marks : Marks} (known : KnowsFree table array taken link marks) → slice_index array link ≢ 0 → ¬ IsNew table.pool (taken ++ known.free) (slice_index array link) → IsWrongFree table array taken link
-  wrong_free known leads astray = record { free = known.free; met = known.met; link = record { leads = leads; astray = astray }; word_is = known.link_is }
-
-  pub free_more : {link : ℕ} {marks : Marks} (known : KnowsFree table array taken link marks) (new : Marks) → IsNew table.pool (taken ++ known.free) (slice_index array link)
-      → AreMarked table.pool ((taken ++ known.free) ++ slice_index array link ∷ []) new.marks.items → KnowsFree table array taken (slice_index array link + 1) new
-  free_more {link} known new is_new marked =
-      let at = slice_index array link in
-      let assoc = append_assoc taken known.free (at ∷ []) in
-      record {
-        free = known.free ++ at ∷ [];
-        met = record {
-          path = path_more array _ known.free at known.met.path (ap (λ l. slice_index array l) (sym known.link_is));
-          places = All-push (IsRecord table.pool) known.free at known.met.places is_new.place;
-          differ = subst (AllPairs (λ x y. x ≢ y)) assoc (all_pairs_push (λ x y. x ≢ y) (taken ++ known.free) at known.met.differ
-              (λ k d below same. is_new.unmet (k, below, get_or_default (taken ++ known.free) k at d below ∙ same)));
-        };
-        link_is = sym (link_after-push table.pool.base known.free at);
-        marked = subst (λ l. AreMarked table.pool l new.marks.items) assoc marked;
-      }
-
-  pub free_ends : {link : ℕ} {marks : Marks} (known : KnowsFree table array taken link marks) → slice_index array link ≡ 0 → KnowsFreeList table array taken marks
-  free_ends known end = record {
-    free = known.free;
-    met = record { met = known.met; ended = linked_path array table.pool.base known.free known.met.path (ap (λ l. slice_index array l) (sym known.link_is) ∙ end) };
-    marked = known.marked;
-  }
-
--- the words of a record lie in the array
-pub word_inside : {table : Table} {n at : ℕ} (offset : ℕ) → FitsTable table n → IsRecord table.pool at → offset < table.pool.size → at + offset < n
-word_inside offset fits r below = omega (arith, fits.pool.inside _ r, below)

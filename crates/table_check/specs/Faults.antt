@@ -1,17 +1,12 @@
 -- The word at which a walk through a table first finds something wrong.
-use Rattle.std.specs.Prelude.{◌≡◌, ◌≢◌, ℕ, zero, suc, ◌+◌, ◌<◌, ◌⊎◌, List, ◌++◌, length, All, Contains, slice_index}
-use Rattle.record_heap.specs.Pool.{IsRecord}
+use Rattle.std.specs.Prelude.{◌≡◌, ◌≢◌, ℕ, zero, suc, ◌+◌, ◌<◌, ◌⊎◌, List, ◌++◌, length, All, slice_index}
 use Rattle.hash_table.specs.declared.table.Table.{Table}
 use Rattle.hash_table.specs.Table.{link_after, records_in}
 use Rattle.table_check.specs.declared.check_fault.CheckFault.{CheckFault}
 use Rattle.table_check.specs.declared.check_fault.CheckFault.TheVariants.{NotDb, NoMemory}
 use Rattle.table_check.specs.Marks.{IsNew}
-use Rattle.table_check.specs.Walk.{Fits, HasMet, HasMetChains, HasMetFree, HasMetLists, HasMetAll}
-
--- the word `link` leads on, but to no record, or to one that was met before
-pub record IsWrongLink (table : Table) (array met : List ℕ) (link : ℕ) : Type 0 where
-  pub leads : slice_index array link ≢ 0
-  pub astray : ¬ IsNew table.pool met (slice_index array link)
+use Rattle.table_check.specs.Pools.{IsWrongLink, IsWrongPool}
+use Rattle.table_check.specs.Walk.{Fits, HasMet, HasMetChains}
 
 -- what the offset has to hold of a record that comes behind those met: its key is also that of none of them
 abbrev pub FitsNew : (ℕ → ℕ → Type 0) → Table → List ℕ → ℕ → List ℕ → ℕ → ℕ → Type 0
@@ -30,7 +25,7 @@ pub record IsWrongRecord (content : ℕ → ℕ → Type 0) (table : Table) (arr
 -- what comes next behind the records met in the chains: a wrong link, or a link to a record that is wrong
 abbrev pub IsWrongNext : (ℕ → ℕ → Type 0) → Table → List ℕ → ℕ → List ℕ → ℕ → ℕ → Type 0
 IsWrongNext content table array bucket met link word =
-    (IsWrongLink table array met link × (word ≡ link)) ⊎ IsWrongRecord content table array bucket met (slice_index array link) word
+    (IsWrongLink table.pool array met link × (word ≡ link)) ⊎ IsWrongRecord content table array bucket met (slice_index array link) word
 
 -- the wrong word is found in the chains
 pub record IsInChains (content : ℕ → ℕ → Type 0) (table : Table) (array : List ℕ) (word : ℕ) : Type 0 where
@@ -40,41 +35,22 @@ pub record IsInChains (content : ℕ → ℕ → Type 0) (table : Table) (array 
   pub bucket : length chains < table.buckets
   pub next : IsWrongNext content table array (length chains) (records_in chains ++ part) (link_after (table.at + length chains) part) word
 
--- a wrong link in the free list, behind these taken records
-pub record IsWrongFree (table : Table) (array taken : List ℕ) (word : ℕ) : Type 0 where
-  pub free : List ℕ
-  pub met : HasMetFree table array taken free
-  pub link : IsWrongLink table array (taken ++ free) word
-  pub word_is : word ≡ link_after table.pool.base free
-
--- the wrong word is found in the free list
-pub record IsInFreeList (content : ℕ → ℕ → Type 0) (table : Table) (array : List ℕ) (word : ℕ) : Type 0 where
+-- the wrong word is found behind the chains, in the pool
+pub record IsInPool (content : ℕ → ℕ → Type 0) (table : Table) (array : List ℕ) (word : ℕ) : Type 0 where
   pub chains : List (List ℕ)
   pub met : HasMetChains content table array chains
-  pub wrong : IsWrongFree table array (records_in chains) word
-
--- the least record that is in no list
-pub record IsUnmet (content : ℕ → ℕ → Type 0) (table : Table) (array : List ℕ) (word : ℕ) : Type 0 where
-  pub chains : List (List ℕ)
-  pub free : List ℕ
-  pub met : HasMetLists content table array chains free
-  pub new : IsNew table.pool (records_in chains ++ free) word
-  pub lower : (at : ℕ) → IsRecord table.pool at → at < word → Contains (records_in chains ++ free) at
-
--- the header's count, where it isn't the number of records in chains
-pub record IsMiscounted (content : ℕ → ℕ → Type 0) (table : Table) (array : List ℕ) (word : ℕ) : Type 0 where
-  pub chains : List (List ℕ)
-  pub free : List ℕ
-  pub met : HasMetAll content table array chains free
-  pub word_is : word ≡ table.pool.base + 1
-  pub differs : slice_index array word ≢ length (records_in chains)
+  pub wrong : IsWrongPool table.pool array (records_in chains) word
 
 -- the first word at which something is wrong in the table
 abbrev pub IsFirstWrong : (ℕ → ℕ → Type 0) → Table → List ℕ → ℕ → Type 0
-IsFirstWrong content table array word =
-    IsInChains content table array word ⊎ (IsInFreeList content table array word ⊎ (IsUnmet content table array word ⊎ IsMiscounted content table array word))
+IsFirstWrong content table array word = IsInChains content table array word ⊎ IsInPool content table array word
 
 -- why a table was refused: a word of which this holds; or want of memory, which is free
 abbrev pub IsCause : (ℕ → Type 0) → CheckFault → Type 0
 IsCause IsWord (NotDb word) = IsWord word
 IsCause IsWord NoMemory = Unit {0}
+
+-- why an array was refused by a call that takes no memory: a word of which this holds
+abbrev pub NamesWord : (ℕ → Type 0) → CheckFault → Type 0
+NamesWord IsWord (NotDb word) = IsWord word
+NamesWord IsWord NoMemory = ⊥

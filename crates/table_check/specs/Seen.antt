@@ -1,15 +1,14 @@
 -- What is known on the way through a table.
-use Rattle.std.specs.Prelude.{◌≡◌, ◌≢◌, ℕ, ◌+◌, ◌<◌, ◌≤◌, Option, MatchOption, List, [], ◌∷◌, ◌++◌, length, All, AllPairs, slice_index, Result, OnOk, IfErr}
+use Rattle.std.specs.Prelude.{◌≡◌, ◌≢◌, ℕ, ◌+◌, ◌<◌, ◌≤◌, Option, MatchOption, List, [], ◌∷◌, ◌++◌, length, All, slice_index, Result, OnOk, IfErr}
 use Rattle.hash_table.specs.declared.table.Table.{Table}
 use Rattle.hash_table.specs.Table.{link_after, records_in}
-use Rattle.table_check.specs.declared.marks.Marks.{Marks}
 use Rattle.table_check.specs.declared.seen.Seen.{Seen}
 use Rattle.table_check.specs.declared.taken.Taken.{Taken}
 use Rattle.table_check.specs.declared.check_fault.CheckFault.{CheckFault}
-use Rattle.table_check.specs.Faults.{IsCause, IsWrongFree, IsWrongRecord}
+use Rattle.table_check.specs.Faults.{IsCause, IsWrongRecord}
 use Rattle.table_check.specs.Marks.{AreMarked, IsNew}
 use Rattle.table_check.specs.Taken.{AreTaken}
-use Rattle.table_check.specs.Walk.{HasMet, HasMetFree, HasFreeList, IsSound}
+use Rattle.table_check.specs.Walk.{HasMet, IsSound}
 
 -- the records met in chains are marked and taken
 pub record KnowsMet (table : Table) (array met : List ℕ) (seen : Seen) : Type 0 where
@@ -32,24 +31,6 @@ pub record KnowsChains (content : ℕ → ℕ → Type 0) (table : Table) (array
   pub met : HasMet content table array chains []
   pub knows : KnowsMet table array (records_in chains ++ []) seen
 
--- of the free list, behind these taken records, the word `link` comes next
-pub record KnowsFree (table : Table) (array taken : List ℕ) (link : ℕ) (marks : Marks) : Type 0 where
-  pub free : List ℕ
-  pub met : HasMetFree table array taken free
-  pub link_is : link ≡ link_after table.pool.base free
-  pub marked : AreMarked table.pool (taken ++ free) marks.marks.items
-
--- the free list was followed to its end
-pub record KnowsFreeList (table : Table) (array taken : List ℕ) (marks : Marks) : Type 0 where
-  pub free : List ℕ
-  pub met : HasFreeList table array taken free
-  pub marked : AreMarked table.pool (taken ++ free) marks.marks.items
-
--- the marks are those of these records, which differ from one another
-pub record AreApartMarked (table : Table) (taken : List ℕ) (marks : Marks) : Type 0 where
-  pub marked : AreMarked table.pool taken marks.marks.items
-  pub differ : AllPairs (λ x y. x ≢ y) taken
-
 -- a record of the bucket's chain was taken in: it is sound, and its key is a new one
 pub record TakesSound (content : ℕ → ℕ → Type 0) (table : Table) (array : List ℕ) (bucket at : ℕ) (met : List ℕ) (taken : Taken) : Type 0 where
   pub sound : IsSound content table array bucket at
@@ -69,16 +50,6 @@ TakesIn content table array bucket at old r new =
 abbrev pub RefusesRecord : {T : Type 0} → (ℕ → ℕ → Type 0) → Table → List ℕ → ℕ → ℕ → Taken → Result T CheckFault → Type 0
 RefusesRecord content table array bucket at old r =
     (met : List ℕ) → AreTaken array met old → IsNew table.pool met at → IfErr r (IsCause (IsWrongRecord content table array bucket met at))
-
--- where the free list is accepted, it was followed to its end, behind whatever records were marked before
-abbrev pub FollowsFree : {T : Type 0} → Table → List ℕ → Marks → Result T CheckFault → Marks → Type 0
-FollowsFree table array old r new =
-    (taken : List ℕ) → AreApartMarked table taken old → OnOk r (KnowsFreeList table array taken new)
-
--- where the free list is refused, the answer is a wrong link in it, or memory is wanting
-abbrev pub RefusesFree : {T : Type 0} → Table → List ℕ → Marks → Result T CheckFault → Type 0
-RefusesFree table array old r =
-    (taken : List ℕ) → AreApartMarked table taken old → IfErr r (IsCause (IsWrongFree table array taken))
 
 -- the first offset behind the link at which the record's word isn't one that it may hold
 abbrev pub IsFirstWrongBehind : (ℕ → ℕ → Type 0) → Table → List ℕ → ℕ → Option ℕ → Type 0

@@ -1,11 +1,12 @@
--- A walk through a table: bucket by bucket along the chains, and then along the free list. `content` says which words the
+-- A walk through a table: bucket by bucket along the chains, and then through its pool. `content` says which words the
 -- records may hold: at offset 0 a key that is in range, from offset 2 on the words behind the link.
-use Rattle.std.specs.Prelude.{◌≡◌, ◌≢◌, ℕ, zero, suc, ◌+◌, ◌%◌, ◌<◌, List, [], ◌++◌, length, All, AllPairs, Contains, slice_index}
+use Rattle.std.specs.Prelude.{◌≡◌, ◌≢◌, ℕ, zero, suc, ◌+◌, ◌%◌, ◌<◌, List, [], ◌++◌, length, All, AllPairs, slice_index}
 use Rattle.record_heap.specs.Links.{Linked}
 use Rattle.record_heap.specs.Pool.{IsRecord}
 use Rattle.hash_table.specs.declared.table.Table.{Table}
 use Rattle.hash_table.specs.Table.{chain_of, records_in}
 use Rattle.hash_table.specs.Walk.{IsPath}
+use Rattle.table_check.specs.Pools.{IsWholePool}
 
 -- What a record of this bucket's chain has to hold at each offset: a key that is in range and belongs to the bucket, and
 -- behind the link words that are in range.
@@ -33,28 +34,7 @@ pub record HasMetChains (content : ℕ → ℕ → Type 0) (table : Table) (arra
   pub met : HasMet content table array chains []
   pub all : length chains ≡ table.buckets
 
--- behind the records taken, a walk has met these first ones of the free list, and none of them before
-pub record HasMetFree (table : Table) (array : List ℕ) (taken free : List ℕ) : Type 0 where
-  pub path : IsPath array table.pool.base free
-  pub places : All (IsRecord table.pool) free
-  pub differ : AllPairs (λ x y. x ≢ y) (taken ++ free)
-
--- behind the records taken, a walk has met the whole free list, which has these records
-pub record HasFreeList (table : Table) (array : List ℕ) (taken free : List ℕ) : Type 0 where
-  pub met : HasMetFree table array taken free
-  pub ended : Linked array table.pool.base free
-
--- a walk has met all chains and the whole free list
-pub record HasMetLists (content : ℕ → ℕ → Type 0) (table : Table) (array : List ℕ) (chains : List (List ℕ)) (free : List ℕ) : Type 0 where
-  pub met : HasMetChains content table array chains
-  pub met_free : HasFreeList table array (records_in chains) free
-
--- a walk has met all chains and the whole free list, and with them each record of the pool
-pub record HasMetAll (content : ℕ → ℕ → Type 0) (table : Table) (array : List ℕ) (chains : List (List ℕ)) (free : List ℕ) : Type 0 where
-  pub met : HasMetLists content table array chains free
-  pub every : (at : ℕ) → IsRecord table.pool at → Contains (records_in chains ++ free) at
-
--- nothing is wrong in the table: the header counts the records in chains too
+-- nothing is wrong in the table: its chains are followed to their ends, and its pool has all else
 pub record IsWhole (content : ℕ → ℕ → Type 0) (table : Table) (array : List ℕ) (chains : List (List ℕ)) (free : List ℕ) : Type 0 where
-  pub met : HasMetAll content table array chains free
-  pub count : slice_index array (table.pool.base + 1) ≡ length (records_in chains)
+  pub met : HasMetChains content table array chains
+  pub pool : IsWholePool table.pool array (records_in chains) free

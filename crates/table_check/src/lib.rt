@@ -3,7 +3,8 @@
 
 pub mod check_fault;
 pub mod content;
-mod marks;
+pub mod marks;
+pub mod pool_walk;
 mod seen;
 pub mod taken;
 pub mod walk;

@@ -1,21 +1,22 @@
-//! A table is walked through, chain by chain and then along its free list, and the first wrong word is named.
+//! A table is walked through, chain by chain and then through its pool, and the first wrong word is named.
 
-ghost use Rattle.std.specs.Prelude.{◌≡◌, ◌+◌, ◌*◌, ◌<◌, ◌≤◌, IfOk, IfErr, length};
+ghost use Rattle.std.specs.Prelude.{◌<◌, IfOk, IfErr, length};
 ghost use Rattle.record_heap.specs.Pool.{IsRecord};
 ghost use Rattle.hash_table.specs.Table.{FitsTable};
 ghost use Rattle.table_check.specs.Faults.{IsCause, IsFirstWrong, IsInChains};
-ghost use Rattle.table_check.specs.Seen.{FollowsChain, FollowsFree, IsFirstWrongBehind, KnowsChains, RefusesFree, RefusesRecord, TakesIn};
+ghost use Rattle.table_check.specs.Seen.{FollowsChain, IsFirstWrongBehind, KnowsChains, RefusesRecord, TakesIn};
 ghost use Rattle.table_check.specs.Whole.{KeepsWhole};
 
 use crate::check_fault::CheckFault;
 use crate::content::Content;
 use crate::marks::Marks;
+use crate::pool_walk::check_pool;
 use crate::seen::Seen;
 use crate::taken::Taken;
 use hash_table::table::Table;
 use std::alloc::Global;
 
-/// Follows the chains of all buckets and the free list of a table; gives the records in its chains.
+/// Follows the chains of all buckets of a table and checks its pool; gives the records in its chains.
 ///
 /// It refuses the array where something is wrong in the table, and names the first such word.
 pub fn check_table<C: Content>(
@@ -35,14 +36,7 @@ pub fn check_table<C: Content>(
     for bucket in 0..table.buckets {
         follow_chain(table, content, a, bucket, &mut seen)?;
     }
-    follow_free(table, a, &mut seen.marks)?;
-    if let Some(word) = seen.marks.first_unmet(&table.pool) {
-        return Err(CheckFault::NotDb { word });
-    }
-    let count = table.pool.base + 1;
-    if a[count as usize] != seen.taken.records().len() as u64 {
-        return Err(CheckFault::NotDb { word: count });
-    }
+    check_pool(&table.pool, seen.taken.records(), &mut seen.marks, a)?;
     Ok(seen.taken)
 }
 
@@ -110,23 +104,4 @@ fn wrong_word<C: Content>(table: &Table, content: &C, a: &[u64], at: u64) -> Opt
         }
     }
     None
-}
-
-// Follows the free list to its end.
-fn follow_free(table: &Table, a: &[u64], marks: &mut Marks) -> Result<(), CheckFault>
-    requires fits { FitsTable table.now (length a.now) }
-    requires count { length marks.old.marks.items ≡ table.now.pool.count }
-    ensures count { length marks.new.marks.items ≡ table.now.pool.count }
-    ensures list { FollowsFree table.now a.now marks.old result marks.new }
-    ensures fault { RefusesFree table.now a.now marks.old result }
-{
-    let mut link = table.pool.base;
-    while a[link as usize] != 0 {
-        let at = a[link as usize];
-        if !marks.meet(&table.pool, at) {
-            return Err(CheckFault::NotDb { word: link });
-        }
-        link = at + 1;
-    }
-    Ok(())
 }

@@ -9,7 +9,7 @@ use Rattle.hash_table.specs.Table.{records_in}
 use Rattle.tatp_model.specs.Database.{Database}
 use Rattle.tatp_layout.specs.StandsFor.{StandsFor}
 use Rattle.table_check.specs.Faults.{IsFirstWrong}
-use Rattle.table_check.proofs.OneWord.{none_wrong, one_lists, one_wrong}
+use Rattle.table_check.proofs.OneWord.{none_wrong, one_chains, one_wrong}
 use Rattle.tatp_check.specs.declared.table_kind.TableKind.{TableKind}
 use Rattle.tatp_check.specs.declared.table_kind.TableKind.TheVariants.{Subscribers, Numbers, Access, Facilities, Calls}
 use Rattle.tatp_check.specs.Content.{content_of, table_of}
@@ -54,7 +54,7 @@ module _ (s : Sizes) (array : List ℕ) where
   -- the records of a table are one list
   pub same_records : (kind : TableKind) (xs ys : List ℕ) → IsWholeKind s array kind xs → IsWholeKind s array kind ys → xs ≡ ys
   same_records kind xs ys a b =
-      a.taken_is ∙ ap records_in (one_lists (content_of kind) (table_of kind s) array (no_record kind s) a.chains b.chains a.free b.free a.whole.met.met b.whole.met.met).0 ∙ sym b.taken_is
+      a.taken_is ∙ ap records_in (one_chains (content_of kind) (table_of kind s) array (no_record kind s) a.chains b.chains a.whole.met b.whole.met) ∙ sym b.taken_is
 
   -- ---- references
 

@@ -24,7 +24,7 @@ module _ (content : ℕ → ℕ → Type 0) (table : Table) (array : List ℕ) (
   one x y cx cy same = one_record content table array wide keeps.whole.chains keeps.whole.free keeps.whole.whole x y (among x cx) (among y cy) same
 
   pub apart : AllPairs (λ x y. x ≢ y) (records_taken taken)
-  apart = subst (AllPairs (λ x y. x ≢ y)) (sym keeps.whole.taken_is) (pairs_front (λ x y. x ≢ y) (records_in keeps.whole.chains) keeps.whole.free keeps.whole.whole.met.met.met_free.met.differ)
+  apart = subst (AllPairs (λ x y. x ≢ y)) (sym keeps.whole.taken_is) (pairs_front (λ x y. x ≢ y) (records_in keeps.whole.chains) keeps.whole.free keeps.whole.whole.pool.met.list.met.differ)
 
   -- the records in rising order of key are just those in chains
   pub ordered_in : (at : ℕ) → Contains (records_by_key taken) at → Contains (records_taken taken) at

@@ -1,12 +1,13 @@
 -- What serving a request leaves, by how it ended.
-use Rattle.std.proofs.Common.{◌≡◌, ◌≢◌, ℕ, ◌<◌, ◌≤◌, List, [], length, Some, None, Result, Ok, Err, refl, sym, ap, ◌∙◌, subst, arith, lit≤, zero-le}
+use Rattle.std.proofs.Common.{◌≡◌, ◌≢◌, ℕ, ◌*◌, ◌<◌, ◌≤◌, All, List, [], length, Some, None, Result, Ok, Err, IfOk, refl, sym, ap, ◌∙◌, subst, arith, lit≤, zero-le}
 use Rattle.std.specs.Result.{IsErrAnd}
 use Rattle.dude_base.specs.declared.sizes.Sizes.{Sizes}
 use Rattle.dude_base.specs.declared.write.Write.{Write}
 use Rattle.dude_base.specs.Writes.{overwritten}
 use Rattle.word_space.specs.declared.stop.Stop.{Stop}
-use Rattle.word_space.specs.Sights.{WordsSight, IsBelow, shown}
-use Rattle.word_space.specs.Steps.{WordsUsed, Wrote}
+use Rattle.dude_base.specs.declared.limits.TheConstants.{PAGE}
+use Rattle.word_space.specs.Sights.{WordsSight, IsBelow, IsWellFormed, shown}
+use Rattle.word_space.specs.Steps.{UsesWords, WordsUsed, Wrote, stop_of}
 use Rattle.word_space.proofs.Runs.{few_pending, is_err, unwritten, used_more, wrote_some, wrote_zero}
 use Rattle.tatp_model.specs.declared.reply.Reply.{Reply}
 use Rattle.tatp_model.specs.declared.reply.Reply.TheVariants.{Changed}
@@ -19,7 +20,7 @@ use Rattle.tatp_layout.specs.StandsFor.{StandsFor}
 use Rattle.tatp_layout.proofs.Seen.{stands_bare}
 use Rattle.tatp_read.specs.Lookups.{AnswersRequest, reads_of}
 use Rattle.tatp_core.specs.Reads.{IsRead}
-use Rattle.tatp_core.specs.Serves.{Serves, ServesRequest, WritesIfChanged, max_writes, most_reads, most_writes}
+use Rattle.tatp_core.specs.Serves.{Answers, Serves, ServesRequest, WritesIfChanged, max_reads, max_writes, most_reads, most_writes}
 
 -- no request writes more words than an insertion
 most_writes_few : (request : Request) → most_writes request ≤ max_writes
@@ -29,8 +30,16 @@ most_writes_few (InsertCall sub_nbr sf_type start_time end_time numberx) = lit�
 most_writes_few (DeleteCall sub_nbr sf_type start_time) = lit≤ tt
 most_writes_few _ = lit≤ tt
 
-few_of : {n k : ℕ} (request : Request) → n ≤ k → k ≤ most_writes request → n ≤ max_writes
-few_of request less within = omega (arith, less, within, most_writes_few request)
+-- and none reads more than this
+most_reads_few : (s : Sizes) (request : Request) → most_reads s request ≤ max_reads s
+most_reads_few s (UpdateSubscriber s_id bit_1 sf_type data_a) = omega arith
+most_reads_few s (UpdateLocation sub_nbr vlr) = omega arith
+most_reads_few s (InsertCall sub_nbr sf_type start_time end_time numberx) = omega arith
+most_reads_few s (DeleteCall sub_nbr sf_type start_time) = omega arith
+most_reads_few s (GetSubscriber s_id) = omega arith
+most_reads_few s (GetDestination s_id sf_type start_time end_time) = omega arith
+most_reads_few s (GetAccess s_id ai_type) = omega arith
+most_reads_few s _ = omega arith
 
 -- words were written
 wrote_changed : {n : ℕ} {s t : WordsSight} → Wrote n s t → 0 < n → WritesIfChanged Changed t.writes
@@ -45,42 +54,53 @@ abbrev pub ServesSeen : {S : Type 0} → (S → WordsSight) → Sizes → Reques
 ServesSeen sight s request reply x y = IsInRange request → (array : List ℕ) → IsBelow (sight y) array → (db : Database) → StandsFor s (shown (sight x) array) db → Serves s db request reply (shown (sight y) array)
 
 module _ {S : Type 0} {sight : S → WordsSight} {turns_into : S → S → Type 0} (s : Sizes) where
-  stopped_for : {taken : Request} {e : Stop} {k l : ℕ} {x y : S} → (sight x).writes ≡ [] → WordsUsed sight turns_into k l (Some e) x y → k ≤ most_reads s taken → l ≤ most_writes taken → ServesRequest sight turns_into s taken (Err e) x y
-  stopped_for {taken = taken} bare used reads writes =
-      let within = used_more used reads writes in
-      record { uses = within; few = few_of taken (few_pending used bare) writes; wrote = tt; serves = tt }
+  -- how the words were used bounds what is left
+  served : {taken : Request} {result : Result Reply Stop} {x y : S} → (sight x).writes ≡ [] → UsesWords sight turns_into (most_reads s taken) (most_writes taken) result x y
+      → IfOk result (λ reply. Answers s taken reply (sight y).reads (sight y).writes) → ServesRequest sight turns_into s taken result x y
+  served {taken = taken} {result = result} bare used answers = record {
+    uses = used;
+    most = (used_more {stop = stop_of result} used (most_reads_few s taken) (most_writes_few taken)).most;
+    few = omega (arith, few_pending {stop = stop_of result} used bare, most_writes_few taken);
+    answers = answers;
+  }
+
+  -- a reply to which the words bear witness
+  module _ (well : (z : S) → IsWellFormed (sight z)) where
+    replied : {taken : Request} {reply : Reply} {x y : S} → (sight x).count ≡ s.pages * PAGE → (sight x).writes ≡ [] → WordsUsed sight turns_into (most_reads s taken) (most_writes taken) None x y → WritesIfChanged reply (sight y).writes
+        → ((array : List ℕ) → IsBelow (sight y) array → (db : Database) → StandsFor s array db → Serves s db taken reply (shown (sight y) array)) → ServesRequest sight turns_into s taken (Ok reply) x y
+    replied {y = y} size bare used wrote serves =
+        let count : (sight y).count ≡ s.pages * PAGE = used.count ∙ size in
+        served {result = Ok _} bare used (record {
+          few = few_pending {stop = None} used bare;
+          wrote = wrote;
+          reads_inside = subst (λ n. All (λ r. r.0 < n) (sight y).reads) count (well y).reads_inside;
+          writes_inside = subst (λ n. All (λ w. w.at < n) (sight y).writes) count (well y).inside;
+          serves = λ array agrees db stands. serves array (record { size = stands.size ∙ sym count; agrees = agrees }) db stands;
+        })
 
   -- From here on the request was taken apart.
   module _ {request taken : Request} (is : request ≡ taken) where
     -- a Stop that `?` hands on
     pub serves_stopped : {e : Stop} {k l : ℕ} {x y : S} (r : Result Reply Stop) → IsErrAnd r (λ f. f ≡ e) → (sight x).writes ≡ [] → WordsUsed sight turns_into k l (Some e) x y → k ≤ most_reads s taken → l ≤ most_writes taken
         → ServesRequest sight turns_into s request r x y
-    serves_stopped {x = x} {y = y} r handed bare used reads writes =
-        subst (λ q. ServesRequest sight turns_into s q r x y) (sym is) (subst (λ o. ServesRequest sight turns_into s taken o x y) (sym (is_err r handed)) (stopped_for bare used reads writes))
+    serves_stopped {e} {x = x} {y = y} r handed bare used reads writes =
+        subst (λ q. ServesRequest sight turns_into s q r x y) (sym is)
+        (subst (λ o. ServesRequest sight turns_into s taken o x y) (sym (is_err r handed)) (served {result = Err e} bare (used_more {stop = Some e} used reads writes) tt))
 
-    -- a reply that isn't Changed, with no word written
-    pub serves_unchanged : {k l : ℕ} {x y : S} (reply : Reply) → (sight x).writes ≡ [] → IsInRange request → WordsUsed sight turns_into k l None x y → k ≤ most_reads s taken → l ≤ most_writes taken
-        → Wrote 0 (sight x) (sight y) → reply ≢ Changed → ServesSeen sight s taken reply x y → ServesRequest sight turns_into s request (Ok reply) x y
-    serves_unchanged {x = x} {y = y} reply bare range used reads writes wrote other serves =
-        let within = used_more used reads writes in
-        subst (λ q. ServesRequest sight turns_into s q (Ok reply) x y) (sym is) (record {
-          uses = within;
-          few = few_of taken (few_pending used bare) writes;
-          wrote = wrote_nothing (wrote_zero wrote ∙ bare) other;
-          serves = λ array below db stands. serves (subst IsInRange is range) array below db (stands_bare (sight x) bare stands);
-        })
+    module _ (well : (z : S) → IsWellFormed (sight z)) where
+      -- a reply that isn't Changed, with no word written
+      pub serves_unchanged : {k l : ℕ} {x y : S} (reply : Reply) → (sight x).count ≡ s.pages * PAGE → (sight x).writes ≡ [] → IsInRange request → WordsUsed sight turns_into k l None x y → k ≤ most_reads s taken → l ≤ most_writes taken
+          → Wrote 0 (sight x) (sight y) → reply ≢ Changed → ServesSeen sight s taken reply x y → ServesRequest sight turns_into s request (Ok reply) x y
+      serves_unchanged {x = x} {y = y} reply size bare range used reads writes wrote other serves =
+          subst (λ q. ServesRequest sight turns_into s q (Ok reply) x y) (sym is) (replied well size bare (used_more {stop = None} used reads writes) (wrote_nothing (wrote_zero wrote ∙ bare) other)
+          (λ array below db stands. serves (subst IsInRange is range) array below db (stands_bare (sight x) bare stands)))
 
-    -- Changed, with some words written
-    pub serves_changed : {k l n : ℕ} {x y : S} → (sight x).writes ≡ [] → IsInRange request → WordsUsed sight turns_into k l None x y → k ≤ most_reads s taken → l ≤ most_writes taken
-        → Wrote n (sight x) (sight y) → 0 < n → ServesSeen sight s taken Changed x y → ServesRequest sight turns_into s request (Ok Changed) x y
-    serves_changed {x = x} {y = y} bare range used reads writes wrote some serves =
-        let within = used_more used reads writes in
-        subst (λ q. ServesRequest sight turns_into s q (Ok Changed) x y) (sym is) (record {
-          uses = within;
-          few = few_of taken (few_pending used bare) writes;
-          wrote = wrote_changed wrote some;
-          serves = λ array below db stands. serves (subst IsInRange is range) array below db (stands_bare (sight x) bare stands);
-        })
+      -- Changed, with some words written
+      pub serves_changed : {k l n : ℕ} {x y : S} → (sight x).count ≡ s.pages * PAGE → (sight x).writes ≡ [] → IsInRange request → WordsUsed sight turns_into k l None x y → k ≤ most_reads s taken → l ≤ most_writes taken
+          → Wrote n (sight x) (sight y) → 0 < n → ServesSeen sight s taken Changed x y → ServesRequest sight turns_into s request (Ok Changed) x y
+      serves_changed {x = x} {y = y} size bare range used reads writes wrote some serves =
+          subst (λ q. ServesRequest sight turns_into s q (Ok Changed) x y) (sym is) (replied well size bare (used_more {stop = None} used reads writes) (wrote_changed wrote some)
+          (λ array below db stands. serves (subst IsInRange is range) array below db (stands_bare (sight x) bare stands)))
 
 -- ---- a request that only reads
 
@@ -96,26 +116,17 @@ reads_within s (GetDestination s_id sf_type start_time end_time) read = omega ar
 reads_within s (GetAccess s_id ai_type) read = omega arith
 reads_within s _ read = absurd read
 
-module _ {S : Type 0} {sight : S → WordsSight} {turns_into : S → S → Type 0} (s : Sizes) (q : Request) {x y : S} where
+module _ {S : Type 0} {sight : S → WordsSight} {turns_into : S → S → Type 0} (s : Sizes) (q : Request) {x y : S} (well : (z : S) → IsWellFormed (sight z)) where
   -- it changes nothing, and what it was answered, it serves
-  pub serves_read : (result : Result Reply Stop) → IsRead q → (sight x).writes ≡ [] → AnswersRequest sight turns_into s q result x y
+  pub serves_read : (result : Result Reply Stop) → IsRead q → (sight x).count ≡ s.pages * PAGE → (sight x).writes ≡ [] → AnswersRequest sight turns_into s q result x y
       → ServesRequest sight turns_into s q result x y
-  serves_read (Ok reply) read bare answers =
-      let none : (sight y).writes ≡ [] = unwritten answers.uses ∙ bare in
+  serves_read (Ok reply) read size bare answers =
+      let none : (sight y).writes ≡ [] = unwritten {stop = None} answers.uses ∙ bare in
+      replied s well size bare (used_more {stop = None} answers.uses (reads_within s q read) zero-le) (wrote_nothing none answers.unchanged)
+      (λ array below db stands.
+      let same : shown (sight y) array ≡ array = ap (λ ws. overwritten ws array) none in
       record {
-        uses = used_more answers.uses (reads_within s q read) zero-le;
-        few = omega (arith, ap length none);
-        wrote = wrote_nothing none answers.unchanged;
-        serves = λ array below db stands.
-            let same : shown (sight y) array ≡ array = ap (λ ws. overwritten ws array) none in
-            record {
-              replies = answers.reply array below db stands;
-              stands = subst (λ words. StandsFor s words (after_request s.calls db q)) (sym same) (subst (λ d. StandsFor s array d) (sym (after_read s.calls db q read)) stands);
-            };
-      }
-  serves_read (Err stop) read bare answers = record {
-    uses = used_more answers.uses (reads_within s q read) zero-le;
-    few = omega (arith, ap length (unwritten answers.uses ∙ bare));
-    wrote = tt;
-    serves = tt;
-  }
+        replies = answers.reply array below db stands;
+        stands = subst (λ words. StandsFor s words (after_request s.calls db q)) (sym same) (subst (λ d. StandsFor s array d) (sym (after_read s.calls db q read)) stands);
+      })
+  serves_read (Err stop) read size bare answers = served s {result = Err stop} bare (used_more {stop = Some stop} answers.uses (reads_within s q read) zero-le) tt

@@ -1,10 +1,12 @@
 -- What a request answers and leaves of an array that stands for tables, and how much it reads and writes at most.
-use Rattle.std.specs.Prelude.{◌≡◌, ◌≢◌, ℕ, ◌+◌, ◌≤◌, ◌↔◌, List, [], length, Result, IfOk}
+use Rattle.std.specs.Prelude.{◌≡◌, ◌≢◌, ℕ, ◌+◌, ◌*◌, ◌<◌, ◌≤◌, ◌↔◌, All, List, [], length, Result, IfOk}
+use Rattle.dude_base.specs.declared.limits.TheConstants.{PAGE}
 use Rattle.dude_base.specs.declared.sizes.Sizes.{Sizes}
 use Rattle.dude_base.specs.declared.write.Write.{Write}
+use Rattle.dude_base.specs.Writes.{overwritten}
 use Rattle.word_space.specs.declared.stop.Stop.{Stop}
-use Rattle.word_space.specs.Sights.{WordsSight, IsBelow, shown}
-use Rattle.word_space.specs.Steps.{UsesWords}
+use Rattle.word_space.specs.Sights.{WordsSight, Agrees}
+use Rattle.word_space.specs.Steps.{MadeAtMost, UsesWords}
 use Rattle.hash_table.specs.Walk.{insert_reads, remove_reads, walk_reads}
 use Rattle.tatp_model.specs.declared.reply.Reply.{Reply}
 use Rattle.tatp_model.specs.declared.reply.Reply.TheVariants.{Changed}
@@ -26,12 +28,6 @@ pub record Serves (s : Sizes) (db : Database) (request : Request) (reply : Reply
 abbrev pub WritesIfChanged : Reply → List Write → Type 0
 WritesIfChanged reply writes = reply ≡ Changed ↔ writes ≢ []
 
--- For every lawful array that agrees with the reads made, the reply is that of one thread, and with the writes made the
--- array stands for the tables that one thread leaves.
-abbrev pub ServesBelow : {S : Type 0} → (S → WordsSight) → Sizes → Request → Result Reply Stop → S → Type 0
-ServesBelow sight s request result new = IfOk result (λ reply. (array : List ℕ) → IsBelow (sight new) array
-    → (db : Database) → StandsFor s array db → Serves s db request reply (shown (sight new) array))
-
 -- the most reads of a request: those of its look-ups and of the records that it finds
 abbrev pub most_reads : Sizes → Request → ℕ
 most_reads s (UpdateSubscriber s_id bit_1 sf_type data_a) = walk_reads (subscriber_table s) + walk_reads (facility_table s) + 2
@@ -39,6 +35,10 @@ most_reads s (UpdateLocation sub_nbr vlr) = id_reads s + walk_reads (subscriber_
 most_reads s (InsertCall sub_nbr sf_type start_time end_time numberx) = id_reads s + walk_reads (facility_table s) + insert_reads (call_table s)
 most_reads s (DeleteCall sub_nbr sf_type start_time) = id_reads s + remove_reads (call_table s)
 most_reads s request = reads_of s request
+
+-- the most reads of any request: those of both its look-ups, and of a facility's call rows
+abbrev pub max_reads : Sizes → ℕ
+max_reads s = 10 * s.subscribers + 6 * s.calls + 12
 
 -- the most writes of any request: those of a call row that is inserted
 abbrev pub max_writes : ℕ
@@ -57,13 +57,27 @@ most_writes _ = 0
 abbrev pub UsesFor : {S T : Type 0} → (S → WordsSight) → (S → S → Type 0) → Sizes → Request → Result T Stop → S → S → Type 0
 UsesFor sight turns_into s request result old new = UsesWords sight turns_into (most_reads s request) (most_writes request) result old new
 
+-- What an answered request is, apart from whatever read and wrote the words: over the sizes, the request, its reply, and
+-- the reads and the writes made.
+pub record Answers (s : Sizes) (request : Request) (reply : Reply) (reads : List (ℕ × ℕ)) (writes : List Write) : Type 0 where
+  -- no more words are written than the request may write
+  pub few : length writes ≤ most_writes request
+  -- a word is written exactly where the reply is Changed
+  pub wrote : WritesIfChanged reply writes
+  -- each read is inside the home
+  pub reads_inside : All (λ r. r.0 < s.pages * PAGE) reads
+  -- and so is each write
+  pub writes_inside : All (λ w. w.at < s.pages * PAGE) writes
+  -- as one thread would, for every array that agrees with the reads and every database for which it stands
+  pub serves : (array : List ℕ) → Agrees reads array → (db : Database) → StandsFor s array db → Serves s db request reply (overwritten writes array)
+
 -- What serving a request leaves, by its result.
 pub record ServesRequest {S : Type 0} (sight : S → WordsSight) (turns_into : S → S → Type 0) (s : Sizes) (request : Request) (result : Result Reply Stop) (old new : S) : Type 0 where
   -- at most as many reads and writes were made as it may
   pub uses : UsesFor sight turns_into s request result old new
+  -- and no more than any request may
+  pub most : MadeAtMost (max_reads s) max_writes (sight old) (sight new)
   -- no more words are pending than any request may write
   pub few : length (sight new).writes ≤ max_writes
-  -- a word is written exactly where the reply is Changed
-  pub wrote : IfOk result (λ reply. WritesIfChanged reply (sight new).writes)
-  -- as one thread would, for every lawful array that agrees with the reads made
-  pub serves : ServesBelow sight s request result new
+  -- the request is answered by all reads made and by the writes that are pending
+  pub answers : IfOk result (λ reply. Answers s request reply (sight new).reads (sight new).writes)

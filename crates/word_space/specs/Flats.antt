@@ -11,7 +11,7 @@ words_of f = f.words.items
 
 -- what is seen of a `Flat` as words
 abbrev pub flat_sight : Flat → WordsSight
-flat_sight f = record { count = length f.words.items; reads = f.reads; writes = f.writes; stopped = f.stopped }
+flat_sight f = record { count = length f.words.items; reads = f.reads.reads; writes = f.writes; stopped = f.stopped }
 
 -- the array at rest is the same
 abbrev pub HasSameWords : Flat → Flat → Type 0
@@ -27,7 +27,7 @@ fresh words = record { count = length words; reads = []; writes = []; stopped = 
 
 -- what is seen of it is well formed at all times
 pub flat_well_formed : (f : Flat) → IsWellFormed (flat_sight f)
-flat_well_formed f = record { count = f.sound.in_range; writes = f.sound.list; inside = f.sound.inside }
+flat_well_formed f = record { count = f.sound.in_range; reads_inside = f.sound.reads_inside; writes = f.sound.list; inside = f.sound.inside }
 
 -- every list of reads that it makes agrees with its array
 pub flat_below : (f : Flat) → IsBelow (flat_sight f) (words_of f)

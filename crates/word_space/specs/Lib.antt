@@ -1,4 +1,5 @@
 pub mod Flats
+pub mod ReadSet
 pub mod Sights
 pub mod Sound
 pub mod Steps

@@ -12,9 +12,10 @@ pub record WordsSight : Type 0 where
   pub writes : List Write
   pub stopped : Option Stop
 
--- what always holds of words as they are seen
+-- what always holds of words as they are seen: their number fits 64 bits, and each read and each write is inside the array
 pub record IsWellFormed (s : WordsSight) : Type 0 where
   pub count : s.count < 2 ^ 64
+  pub reads_inside : All (λ r. r.0 < s.count) s.reads
   pub writes : IsWriteList s.writes
   pub inside : All (λ w. w.at < s.count) s.writes
 

@@ -12,10 +12,11 @@ pub record IsWideOrNoMemory (stopped : Option Stop) : Type 0 where
   pub not_out : (page : ℕ) → stopped ≢ Some (Out page)
   pub not_busy : (page seen : ℕ) → stopped ≢ Some (Busy page seen)
 
--- What a `Flat` keeps of its fields: its reads agree with the array, its writes are a list of writes inside the array,
--- and its last Stop, if there is one, is Wide or want of memory.
+-- What a `Flat` keeps of its fields: its reads are inside the array and agree with it, its writes are a list of writes inside
+-- the array, and its last Stop, if there is one, is Wide or want of memory.
 pub record IsSound (words : List ℕ) (reads : List (ℕ × ℕ)) (writes : List Write) (stopped : Option Stop) : Type 0 where
   pub in_range : length words < 2 ^ 64
+  pub reads_inside : All (λ r. r.0 < length words) reads
   pub list : IsWriteList writes
   pub inside : All (λ w. w.at < length words) writes
   pub agrees : Agrees reads words

@@ -10,7 +10,6 @@ use dude_base::redo::Redo;
 use dude_base::wide::Wide;
 use dude_base::write::Write;
 use dude_base::write_list::WriteList;
-use std::alloc::AllocError;
 
 /// An array at rest, with the reads made from it and the writes that are pending over it.
 #[derive(Drop)]
@@ -19,7 +18,7 @@ pub struct Flat {
     reads: ReadSet,
     writes: WriteList,
     stopped: Option<Stop>,
-    ghost sound: { IsSound words.items reads writes stopped },
+    ghost sound: { IsSound words.items reads.reads writes stopped },
 }
 
 impl Flat {
@@ -117,14 +116,13 @@ impl Words for Flat {
         if let Some(value) = self.writes.find(at) {
             return Ok(value);
         }
-        let value = self.words[at as usize];
-        match self.reads.add(at, value) {
-            Ok(()) => Ok(value),
-            Err(AllocError) => {
-                self.stopped = Some(Stop::NoMemory);
-                Err(Stop::NoMemory)
-            }
+        if self.reads.room().is_err() {
+            self.stopped = Some(Stop::NoMemory);
+            return Err(Stop::NoMemory);
         }
+        let value = self.words[at as usize];
+        self.reads.add(at, value);
+        Ok(value)
     }
 
     // It takes no memory: the only Stop is that of a 25th different word.

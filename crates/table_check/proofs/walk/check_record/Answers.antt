@@ -1,15 +1,15 @@
 use Rattle.std.proofs.Common.{arith, refl, sym, ◌∙◌}
 use Rattle.std.proofs.lemmas.Bool.{false≢true}
 use Rattle.table_check.proofs.Judged.{wrong_front, wrong_behind, takes_sound}
-use Rattle.table_check.proofs.Steps.{word_inside}
+use Rattle.table_check.proofs.PoolSteps.{word_inside}
 use Rattle.table_check.proofs.walk.check_record.Goals.{then-not-allows-via-then-not-allows, then-not-allows-via-else-not-allows+then-key-table, then-not-allows-via-else-not-allows+else-key-table+in_ok-take+then-not-branch}
 use Rattle.table_check.proofs.walk.check_record.Goals as goal
 
 pub offset_bounds-a-at : goal.offset_bounds-a-at
-offset_bounds-a-at g c = omega (arith, word_inside 0 c.requires.fits c.requires.place (omega (arith, c.requires.fits.pool.size)))
+offset_bounds-a-at g c = omega (arith, word_inside 0 c.requires.fits.pool c.requires.place (omega (arith, c.requires.fits.pool.size)))
 
 pub bounds-a-at : goal.bounds-a-at
-bounds-a-at g c = omega (arith, word_inside 0 c.requires.fits c.requires.place (omega (arith, c.requires.fits.pool.size)))
+bounds-a-at g c = omega (arith, word_inside 0 c.requires.fits.pool c.requires.place (omega (arith, c.requires.fits.pool.size)))
 
 pub returns-then-not-allows-clause-fault : goal.returns-then-not-allows-clause-fault
 returns-then-not-allows-clause-fault g c = λ met taken new.
@@ -23,7 +23,7 @@ returns-then-not-allows-clause-fault g c = λ met taken new.
     ])
 
 pub overflow_add-result : goal.overflow_add-result
-overflow_add-result g c = omega (arith, word_inside c.in-Some.offset c.requires.fits c.requires.place c.in-Some.ensures.1)
+overflow_add-result g c = omega (arith, word_inside c.in-Some.offset c.requires.fits.pool c.requires.place c.in-Some.ensures.1)
 
 pub returns-in-Some-clause-fault : goal.returns-in-Some-clause-fault
 returns-in-Some-clause-fault g c = λ met taken new.

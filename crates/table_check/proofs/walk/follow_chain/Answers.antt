@@ -1,7 +1,8 @@
 use Rattle.std.proofs.Common.{◌≡◌, Err, IfErr, arith, rules, sym, subst}
 use Rattle.table_check.specs.Faults.{IsCause, IsInChains}
 use Rattle.table_check.proofs.Ends.{cause_of}
-use Rattle.table_check.proofs.Steps.{chain_begins, wrong_link, wrong_record, chain_more, chain_ends, word_inside}
+use Rattle.table_check.proofs.Steps.{chain_begins, wrong_link, wrong_record, chain_more, chain_ends}
+use Rattle.table_check.proofs.PoolSteps.{word_inside}
 use Rattle.table_check.proofs.walk.follow_chain.Goals as goal
 
 pub loop-link-init : goal.loop-link-init
@@ -27,11 +28,11 @@ returns-in_err-check_record-clause-fault g c =
     (cause_of _ _ (λ word wrong. wrong_record _ _ _ _ known c.requires.bucket word wrong) c.in_err-check_record.field-0.0 (c.in_err-check_record.ensures.fault _ known.knows.taken met.0))
 
 pub overflow_add-link-in-loop-link : goal.overflow_add-link-in-loop-link
-overflow_add-link-in-loop-link g c = omega (arith, word_inside 1 c.requires.fits c.if-not-meet.ensures.place c.requires.fits.pool.size)
+overflow_add-link-in-loop-link g c = omega (arith, word_inside 1 c.requires.fits.pool c.if-not-meet.ensures.place c.requires.fits.pool.size)
 
 pub loop-link-preserved : goal.loop-link-preserved
 loop-link-preserved g c = record {
-  inside = word_inside 1 c.requires.fits c.if-not-meet.ensures.place (omega (arith, c.requires.fits.pool.size));
+  inside = word_inside 1 c.requires.fits.pool c.if-not-meet.ensures.place (omega (arith, c.requires.fits.pool.size));
   knows =
       let known = c.loop-link.invariant.knows in
       let met = c.if-not-meet.ensures.meets _ known.knows.marked in

@@ -44,7 +44,7 @@ pub returns-in_err-s_id : goal.returns-in_err-s_id
 returns-in_err-s_id g c = serves_stopped c.args.lay.now c.in-DeleteCall.is c.from_residual.result c.from_residual.ensures.1 c.requires.no_writes c.in_err-s_id.ensures.uses (omega arith) (lit≤ tt)
 
 pub returns-in_default-2 : goal.returns-in_default-2
-returns-in_default-2 g c = serves_unchanged c.args.lay.now c.in-DeleteCall.is Missing c.requires.no_writes c.requires.in_range c.in_ok-s_id.ensures.uses (omega arith) (lit≤ tt) (wrote_none c.in_ok-s_id.ensures.uses) (λ same. cc)
+returns-in_default-2 g c = serves_unchanged c.args.lay.now c.in-DeleteCall.is g.met.W.Words.well_formed Missing c.requires.size c.requires.no_writes c.requires.in_range c.in_ok-s_id.ensures.uses (omega arith) (lit≤ tt) (wrote_none c.in_ok-s_id.ensures.uses) (λ same. cc)
     (λ range array below db stands.
     let q = c.in-DeleteCall in
     let id = c.in_ok-s_id.ensures in
@@ -55,7 +55,7 @@ pub returns-in_err-remove : goal.returns-in_err-remove
 returns-in_err-remove g c = serves_stopped c.args.lay.now c.in-DeleteCall.is c.from_residual-in_err-remove.result c.from_residual-in_err-remove.ensures.1 c.requires.no_writes (used_until c.in_ok-s_id.ensures.uses c.in_err-remove.ensures.uses) (omega (arith, ap walk_reads c.calls.ensures.table)) (lit≤ tt)
 
 pub returns-then-branch : goal.returns-then-branch
-returns-then-branch g c = serves_changed c.args.lay.now c.in-DeleteCall.is c.requires.no_writes c.requires.in_range (used_then c.in_ok-s_id.ensures.uses c.in_ok-remove.ensures.uses) (omega (arith, ap walk_reads c.calls.ensures.table)) (lit≤ tt) (wrote_then (wrote_none c.in_ok-s_id.ensures.uses) (subst (λ b. Wrote (cond b 4 0) (g.W.Words.sight c.id_of.new.w) (g.W.Words.sight c.remove.new.w)) c.if-branch.true c.in_ok-remove.ensures.wrote)) (lit< tt)
+returns-then-branch g c = serves_changed c.args.lay.now c.in-DeleteCall.is g.met.W.Words.well_formed c.requires.size c.requires.no_writes c.requires.in_range (used_then c.in_ok-s_id.ensures.uses c.in_ok-remove.ensures.uses) (omega (arith, ap walk_reads c.calls.ensures.table)) (lit≤ tt) (wrote_then (wrote_none c.in_ok-s_id.ensures.uses) (subst (λ b. Wrote (cond b 4 0) (g.W.Words.sight c.id_of.new.w) (g.W.Words.sight c.remove.new.w)) c.if-branch.true c.in_ok-remove.ensures.wrote)) (lit< tt)
     (λ range array below db stands.
     let q = c.in-DeleteCall in
     let id = c.in_ok-s_id.ensures in
@@ -66,7 +66,7 @@ returns-then-branch g c = serves_changed c.args.lay.now c.in-DeleteCall.is c.req
     (removes_at (shown (g.W.Words.sight c.remove.new.w) array) c.calls.ensures.table (shown_same id.uses array) (ap (λ k. k + q.start_time / 8) c.first_call_key.ensures) c.if-branch.true (remove.removes array below))))
 
 pub returns-else-branch : goal.returns-else-branch
-returns-else-branch g c = serves_unchanged c.args.lay.now c.in-DeleteCall.is Missing c.requires.no_writes c.requires.in_range (used_then c.in_ok-s_id.ensures.uses c.in_ok-remove.ensures.uses) (omega (arith, ap walk_reads c.calls.ensures.table)) (lit≤ tt) (wrote_then (wrote_none c.in_ok-s_id.ensures.uses) (subst (λ b. Wrote (cond b 4 0) (g.W.Words.sight c.id_of.new.w) (g.W.Words.sight c.remove.new.w)) c.if-branch.false c.in_ok-remove.ensures.wrote)) (λ same. cc)
+returns-else-branch g c = serves_unchanged c.args.lay.now c.in-DeleteCall.is g.met.W.Words.well_formed Missing c.requires.size c.requires.no_writes c.requires.in_range (used_then c.in_ok-s_id.ensures.uses c.in_ok-remove.ensures.uses) (omega (arith, ap walk_reads c.calls.ensures.table)) (lit≤ tt) (wrote_then (wrote_none c.in_ok-s_id.ensures.uses) (subst (λ b. Wrote (cond b 4 0) (g.W.Words.sight c.id_of.new.w) (g.W.Words.sight c.remove.new.w)) c.if-branch.false c.in_ok-remove.ensures.wrote)) (λ same. cc)
     (λ range array below db stands.
     let q = c.in-DeleteCall in
     let id = c.in_ok-s_id.ensures in

@@ -56,7 +56,7 @@ pub returns-in_err-s_id : goal.returns-in_err-s_id
 returns-in_err-s_id g c = serves_stopped c.args.lay.now c.in-InsertCall.is c.from_residual.result c.from_residual.ensures.1 c.requires.no_writes c.in_err-s_id.ensures.uses (omega arith) (lit≤ tt)
 
 pub returns-in_default-2 : goal.returns-in_default-2
-returns-in_default-2 g c = serves_unchanged c.args.lay.now c.in-InsertCall.is Missing c.requires.no_writes c.requires.in_range c.in_ok-s_id.ensures.uses (omega arith) (lit≤ tt) (wrote_none c.in_ok-s_id.ensures.uses) (λ same. cc)
+returns-in_default-2 g c = serves_unchanged c.args.lay.now c.in-InsertCall.is g.met.W.Words.well_formed Missing c.requires.size c.requires.no_writes c.requires.in_range c.in_ok-s_id.ensures.uses (omega arith) (lit≤ tt) (wrote_none c.in_ok-s_id.ensures.uses) (λ same. cc)
     (λ range array below db stands.
     let q = c.in-InsertCall in
     let id = c.in_ok-s_id.ensures in
@@ -67,7 +67,7 @@ pub returns-in_err-find : goal.returns-in_err-find
 returns-in_err-find g c = serves_stopped c.args.lay.now c.in-InsertCall.is c.from_residual-in_err-find.result c.from_residual-in_err-find.ensures.1 c.requires.no_writes (used_until c.in_ok-s_id.ensures.uses c.in_err-find.ensures.uses) (omega (arith, ap walk_reads c.facilities.ensures.table)) (lit≤ tt)
 
 pub returns-in_default-3 : goal.returns-in_default-3
-returns-in_default-3 g c = serves_unchanged c.args.lay.now c.in-InsertCall.is NoFacility c.requires.no_writes c.requires.in_range (used_then c.in_ok-s_id.ensures.uses c.in_ok-find.ensures.uses) (omega (arith, ap walk_reads c.facilities.ensures.table)) (lit≤ tt) (wrote_none (used_then c.in_ok-s_id.ensures.uses c.in_ok-find.ensures.uses)) (λ same. cc)
+returns-in_default-3 g c = serves_unchanged c.args.lay.now c.in-InsertCall.is g.met.W.Words.well_formed NoFacility c.requires.size c.requires.no_writes c.requires.in_range (used_then c.in_ok-s_id.ensures.uses c.in_ok-find.ensures.uses) (omega (arith, ap walk_reads c.facilities.ensures.table)) (lit≤ tt) (wrote_none (used_then c.in_ok-s_id.ensures.uses c.in_ok-find.ensures.uses)) (λ same. cc)
     (λ range array below db stands.
     let q = c.in-InsertCall in
     let id = c.in_ok-s_id.ensures in
@@ -81,7 +81,7 @@ pub returns-in_err-insert : goal.returns-in_err-insert
 returns-in_err-insert g c = serves_stopped c.args.lay.now c.in-InsertCall.is c.from_residual-in_err-insert.result c.from_residual-in_err-insert.ensures.1 c.requires.no_writes (used_until (used_then c.in_ok-s_id.ensures.uses c.in_ok-find.ensures.uses) c.in_err-insert.ensures.uses) (omega (arith, ap walk_reads c.facilities.ensures.table, ap walk_reads c.calls.ensures.table)) (lit≤ tt)
 
 pub returns-in-There : goal.returns-in-There
-returns-in-There g c = serves_unchanged c.args.lay.now c.in-InsertCall.is Duplicate c.requires.no_writes c.requires.in_range (used_then c.in_ok-s_id.ensures.uses (used_then c.in_ok-find.ensures.uses c.in_ok-insert.ensures.uses)) (omega (arith, ap walk_reads c.facilities.ensures.table, ap walk_reads c.calls.ensures.table)) (lit≤ tt) (wrote_then (wrote_none (used_then c.in_ok-s_id.ensures.uses c.in_ok-find.ensures.uses)) (subst (λ p. Wrote (write_count p) (g.W.Words.sight c.find.new.w) (g.W.Words.sight c.insert.new.w)) c.in-There.is c.in_ok-insert.ensures.wrote)) (λ same. cc)
+returns-in-There g c = serves_unchanged c.args.lay.now c.in-InsertCall.is g.met.W.Words.well_formed Duplicate c.requires.size c.requires.no_writes c.requires.in_range (used_then c.in_ok-s_id.ensures.uses (used_then c.in_ok-find.ensures.uses c.in_ok-insert.ensures.uses)) (omega (arith, ap walk_reads c.facilities.ensures.table, ap walk_reads c.calls.ensures.table)) (lit≤ tt) (wrote_then (wrote_none (used_then c.in_ok-s_id.ensures.uses c.in_ok-find.ensures.uses)) (subst (λ p. Wrote (write_count p) (g.W.Words.sight c.find.new.w) (g.W.Words.sight c.insert.new.w)) c.in-There.is c.in_ok-insert.ensures.wrote)) (λ same. cc)
     (λ range array below db stands.
     let q = c.in-InsertCall in
     let id = c.in_ok-s_id.ensures in
@@ -94,7 +94,7 @@ returns-in-There g c = serves_unchanged c.args.lay.now c.in-InsertCall.is Duplic
     (inserts_at (shown (g.W.Words.sight c.insert.new.w) array) c.calls.ensures.table (shown_same (used_then id.uses find.uses) array) c.key.ensures c.in-There.is (insert.inserts array below))))
 
 pub returns-in-Full : goal.returns-in-Full
-returns-in-Full g c = serves_unchanged c.args.lay.now c.in-InsertCall.is FullTable c.requires.no_writes c.requires.in_range (used_then c.in_ok-s_id.ensures.uses (used_then c.in_ok-find.ensures.uses c.in_ok-insert.ensures.uses)) (omega (arith, ap walk_reads c.facilities.ensures.table, ap walk_reads c.calls.ensures.table)) (lit≤ tt) (wrote_then (wrote_none (used_then c.in_ok-s_id.ensures.uses c.in_ok-find.ensures.uses)) (subst (λ p. Wrote (write_count p) (g.W.Words.sight c.find.new.w) (g.W.Words.sight c.insert.new.w)) c.in-Full.is c.in_ok-insert.ensures.wrote)) (λ same. cc)
+returns-in-Full g c = serves_unchanged c.args.lay.now c.in-InsertCall.is g.met.W.Words.well_formed FullTable c.requires.size c.requires.no_writes c.requires.in_range (used_then c.in_ok-s_id.ensures.uses (used_then c.in_ok-find.ensures.uses c.in_ok-insert.ensures.uses)) (omega (arith, ap walk_reads c.facilities.ensures.table, ap walk_reads c.calls.ensures.table)) (lit≤ tt) (wrote_then (wrote_none (used_then c.in_ok-s_id.ensures.uses c.in_ok-find.ensures.uses)) (subst (λ p. Wrote (write_count p) (g.W.Words.sight c.find.new.w) (g.W.Words.sight c.insert.new.w)) c.in-Full.is c.in_ok-insert.ensures.wrote)) (λ same. cc)
     (λ range array below db stands.
     let q = c.in-InsertCall in
     let id = c.in_ok-s_id.ensures in
@@ -110,7 +110,7 @@ pub returns-in_err-put_call-in-Stored : goal.returns-in_err-put_call-in-Stored
 returns-in_err-put_call-in-Stored g c = serves_stopped c.args.lay.now c.in-InsertCall.is c.from_residual-in_err-put_call-in-Stored.result c.from_residual-in_err-put_call-in-Stored.ensures.1 c.requires.no_writes (used_until (used_then c.in_ok-s_id.ensures.uses (used_then c.in_ok-find.ensures.uses c.in_ok-insert.ensures.uses)) c.in_err-put_call-in-Stored.ensures.uses) (omega (arith, ap walk_reads c.facilities.ensures.table, ap walk_reads c.calls.ensures.table)) (lit≤ tt)
 
 pub returns-in_ok-put_call-in-Stored : goal.returns-in_ok-put_call-in-Stored
-returns-in_ok-put_call-in-Stored g c = serves_changed c.args.lay.now c.in-InsertCall.is c.requires.no_writes c.requires.in_range (used_then c.in_ok-s_id.ensures.uses (used_then c.in_ok-find.ensures.uses (used_then c.in_ok-insert.ensures.uses c.in_ok-put_call-in-Stored.ensures.uses))) (omega (arith, ap walk_reads c.facilities.ensures.table, ap walk_reads c.calls.ensures.table)) (lit≤ tt) (wrote_then (wrote_none (used_then c.in_ok-s_id.ensures.uses c.in_ok-find.ensures.uses)) (wrote_then (subst (λ p. Wrote (write_count p) (g.W.Words.sight c.find.new.w) (g.W.Words.sight c.insert.new.w)) c.in-Stored.is c.in_ok-insert.ensures.wrote) c.in_ok-put_call-in-Stored.ensures.wrote)) (lit< tt)
+returns-in_ok-put_call-in-Stored g c = serves_changed c.args.lay.now c.in-InsertCall.is g.met.W.Words.well_formed c.requires.size c.requires.no_writes c.requires.in_range (used_then c.in_ok-s_id.ensures.uses (used_then c.in_ok-find.ensures.uses (used_then c.in_ok-insert.ensures.uses c.in_ok-put_call-in-Stored.ensures.uses))) (omega (arith, ap walk_reads c.facilities.ensures.table, ap walk_reads c.calls.ensures.table)) (lit≤ tt) (wrote_then (wrote_none (used_then c.in_ok-s_id.ensures.uses c.in_ok-find.ensures.uses)) (wrote_then (subst (λ p. Wrote (write_count p) (g.W.Words.sight c.find.new.w) (g.W.Words.sight c.insert.new.w)) c.in-Stored.is c.in_ok-insert.ensures.wrote) c.in_ok-put_call-in-Stored.ensures.wrote)) (lit< tt)
     (λ range array below db stands.
     let q = c.in-InsertCall in
     let id = c.in_ok-s_id.ensures in

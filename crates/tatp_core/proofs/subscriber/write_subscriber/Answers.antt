@@ -55,7 +55,7 @@ pub returns-in_err-subscriber : goal.returns-in_err-subscriber
 returns-in_err-subscriber g c = serves_stopped c.args.lay.now c.in-UpdateSubscriber.is c.from_residual.result c.from_residual.ensures.1 c.requires.no_writes c.in_err-subscriber.ensures.uses (omega (arith, ap walk_reads c.subscribers.ensures.table)) (lit≤ tt)
 
 pub returns-in_default-2 : goal.returns-in_default-2
-returns-in_default-2 g c = serves_unchanged c.args.lay.now c.in-UpdateSubscriber.is Missing c.requires.no_writes c.requires.in_range c.in_ok-subscriber.ensures.uses (omega (arith, ap walk_reads c.subscribers.ensures.table)) (lit≤ tt) (wrote_none c.in_ok-subscriber.ensures.uses) (λ same. cc)
+returns-in_default-2 g c = serves_unchanged c.args.lay.now c.in-UpdateSubscriber.is g.met.W.Words.well_formed Missing c.requires.size c.requires.no_writes c.requires.in_range c.in_ok-subscriber.ensures.uses (omega (arith, ap walk_reads c.subscribers.ensures.table)) (lit≤ tt) (wrote_none c.in_ok-subscriber.ensures.uses) (λ same. cc)
     (λ range array below db stands.
     let q = c.in-UpdateSubscriber in
     let find = c.in_ok-subscriber.ensures in
@@ -66,7 +66,7 @@ pub returns-in_err-facility : goal.returns-in_err-facility
 returns-in_err-facility g c = serves_stopped c.args.lay.now c.in-UpdateSubscriber.is c.from_residual-in_err-facility.result c.from_residual-in_err-facility.ensures.1 c.requires.no_writes (used_until c.in_ok-subscriber.ensures.uses c.in_err-facility.ensures.uses) (omega (arith, ap walk_reads c.subscribers.ensures.table, ap walk_reads c.facilities.ensures.table)) (lit≤ tt)
 
 pub returns-in_default-3 : goal.returns-in_default-3
-returns-in_default-3 g c = serves_unchanged c.args.lay.now c.in-UpdateSubscriber.is Missing c.requires.no_writes c.requires.in_range (used_then c.in_ok-subscriber.ensures.uses c.in_ok-facility.ensures.uses) (omega (arith, ap walk_reads c.subscribers.ensures.table, ap walk_reads c.facilities.ensures.table)) (lit≤ tt) (wrote_none (used_then c.in_ok-subscriber.ensures.uses c.in_ok-facility.ensures.uses)) (λ same. cc)
+returns-in_default-3 g c = serves_unchanged c.args.lay.now c.in-UpdateSubscriber.is g.met.W.Words.well_formed Missing c.requires.size c.requires.no_writes c.requires.in_range (used_then c.in_ok-subscriber.ensures.uses c.in_ok-facility.ensures.uses) (omega (arith, ap walk_reads c.subscribers.ensures.table, ap walk_reads c.facilities.ensures.table)) (lit≤ tt) (wrote_none (used_then c.in_ok-subscriber.ensures.uses c.in_ok-facility.ensures.uses)) (λ same. cc)
     (λ range array below db stands.
     let q = c.in-UpdateSubscriber in
     let find = c.in_ok-subscriber.ensures in
@@ -83,7 +83,7 @@ pub returns-in_err-put_data_a : goal.returns-in_err-put_data_a
 returns-in_err-put_data_a g c = serves_stopped c.args.lay.now c.in-UpdateSubscriber.is c.from_residual-in_err-put_data_a.result c.from_residual-in_err-put_data_a.ensures.1 c.requires.no_writes (used_until (used_then c.in_ok-subscriber.ensures.uses (used_then c.in_ok-facility.ensures.uses c.in_ok-put_bit1.ensures.uses)) c.in_err-put_data_a.ensures.uses) (omega (arith, ap walk_reads c.subscribers.ensures.table, ap walk_reads c.facilities.ensures.table)) (lit≤ tt)
 
 pub returns : goal.returns
-returns g c = serves_changed c.args.lay.now c.in-UpdateSubscriber.is c.requires.no_writes c.requires.in_range (used_then c.in_ok-subscriber.ensures.uses (used_then c.in_ok-facility.ensures.uses (used_then c.in_ok-put_bit1.ensures.uses c.in_ok-put_data_a.ensures.uses))) (omega (arith, ap walk_reads c.subscribers.ensures.table, ap walk_reads c.facilities.ensures.table)) (lit≤ tt) (wrote_then (wrote_none (used_then c.in_ok-subscriber.ensures.uses c.in_ok-facility.ensures.uses)) (wrote_then c.in_ok-put_bit1.ensures.wrote c.in_ok-put_data_a.ensures.wrote)) (lit< tt)
+returns g c = serves_changed c.args.lay.now c.in-UpdateSubscriber.is g.met.W.Words.well_formed c.requires.size c.requires.no_writes c.requires.in_range (used_then c.in_ok-subscriber.ensures.uses (used_then c.in_ok-facility.ensures.uses (used_then c.in_ok-put_bit1.ensures.uses c.in_ok-put_data_a.ensures.uses))) (omega (arith, ap walk_reads c.subscribers.ensures.table, ap walk_reads c.facilities.ensures.table)) (lit≤ tt) (wrote_then (wrote_none (used_then c.in_ok-subscriber.ensures.uses c.in_ok-facility.ensures.uses)) (wrote_then c.in_ok-put_bit1.ensures.wrote c.in_ok-put_data_a.ensures.wrote)) (lit< tt)
     (λ range array below db stands.
     let q = c.in-UpdateSubscriber in
     let find = c.in_ok-subscriber.ensures in

@@ -7,7 +7,7 @@ use Rattle.tatp_model.specs.declared.done.Done.{Done}
 use Rattle.tatp_model.specs.declared.reply.Reply.TheVariants.{Changed}
 use Rattle.tatp_core.specs.Serves.{Serves}
 use Rattle.tatp_layout.specs.StandsFor.{StandsFor}
-use Rattle.word_space.specs.Flats.{words_of, flat_sight}
+use Rattle.word_space.specs.Flats.{words_of, flat_below, flat_sight}
 use Rattle.log_numbered.specs.RunLog.{log_durable, log_medium}
 use Rattle.dude_engine.specs.declared.run_fault.RunFault.TheVariants.{Device}
 use Rattle.dude_engine.specs.Running.{HasFailed, IsRunning, tables_after}
@@ -27,7 +27,7 @@ returns-in_err-append-clause-leaves g c =
       room = c.push_reserved.ensures.capacity;
       calls = fault_on_ok _ c.from_residual.result Device is;
       left = λ opening words s run.
-          let serves = c.requires.change.serves (tables_after opening self.done.items) (subst (λ z. StandsFor z (words_of self.words) (tables_after opening self.done.items)) run.layout run.stands) in
+          let serves = c.requires.change.answers.serves (words_of self.words) (flat_below self.words).agrees (tables_after opening self.done.items) (subst (λ z. StandsFor z (words_of self.words) (tables_after opening self.done.items)) run.layout run.stands) in
           let new_is : words_of c.take-redo.new.self ≡ overwritten (flat_sight self.words).writes (words_of self.words) = c.take-redo.ensures.words in
           let served : Serves self.lay (tables_after opening self.done.items) d.request d.reply (words_of c.take-redo.new.self) = subst (λ (l : List ℕ). Serves self.lay (tables_after opening self.done.items) d.request d.reply l) (sym new_is) serves in
           let next : IsNext opening self.done.items d = served_next opening self.lay self.done.items d (words_of c.take-redo.new.self) run.layout (ap (λ (n : ℕ). n + 1) (c.last-number.ensures ∙ run.last)) refl served in
@@ -55,7 +55,7 @@ returns-clause-leaves g c =
       room = c.push_reserved.ensures.capacity;
       calls = serves_logged self _ d c.take-redo.result (g.M.Medium.sight (log_medium self.log)) (g.M.Medium.sight (log_medium c.append.new.self)) c.push_reserved.ensures.items refl number c.in_ok-append.ensures.appends.calls;
       left = λ opening words s run.
-          let serves = c.requires.change.serves (tables_after opening self.done.items) (subst (λ z. StandsFor z (words_of self.words) (tables_after opening self.done.items)) run.layout run.stands) in
+          let serves = c.requires.change.answers.serves (words_of self.words) (flat_below self.words).agrees (tables_after opening self.done.items) (subst (λ z. StandsFor z (words_of self.words) (tables_after opening self.done.items)) run.layout run.stands) in
           let new_is : words_of c.take-redo.new.self ≡ overwritten (flat_sight self.words).writes (words_of self.words) = c.take-redo.ensures.words in
           let served : Serves self.lay (tables_after opening self.done.items) d.request d.reply (words_of c.take-redo.new.self) = subst (λ (l : List ℕ). Serves self.lay (tables_after opening self.done.items) d.request d.reply l) (sym new_is) serves in
           let next : IsNext opening self.done.items d = served_next opening self.lay self.done.items d (words_of c.take-redo.new.self) run.layout (ap (λ (n : ℕ). n + 1) (c.last-number.ensures ∙ run.last)) refl served in

@@ -3,7 +3,7 @@ use Rattle.dude_base.specs.Writes.{overwritten}
 use Rattle.dude_base.specs.declared.sizes.Sizes.{Sizes}
 use Rattle.tatp_model.specs.declared.done.Done.{Done}
 use Rattle.tatp_model.specs.declared.reply.Reply.{Reply}
-use Rattle.tatp_core.specs.Serves.{Serves}
+use Rattle.tatp_core.specs.Serves.{Answers, Serves}
 use Rattle.tatp_layout.specs.StandsFor.{StandsFor}
 use Rattle.word_space.specs.declared.flat.Flat.{Flat}
 use Rattle.word_space.specs.Flats.{words_of, flat_sight, flat_below, fresh}
@@ -29,7 +29,7 @@ log_change-requires-clause-change g c =
       alive = c.requires.may.ready.alive;
       sizes = c.requires.may.ready.sizes;
       count = ap length same ∙ c.requires.may.ready.count;
-      serves = λ db stands. subst (λ (reply : Reply). Serves self.lay db c.args.request.now reply (overwritten (flat_sight w).writes (words_of w))) c.in-Changed.is (c.in-Ok.ensures.serves (words_of w) (flat_below w) db stands);
+      answers = subst (λ (reply : Reply). Answers self.lay c.args.request.now reply (flat_sight w).reads (flat_sight w).writes) c.in-Changed.is c.in-Ok.ensures.answers;
     }
 
 pub returns-in-Changed-clause-leaves : goal.returns-in-Changed-clause-leaves
@@ -64,7 +64,7 @@ returns-in_default g c =
         left = λ opening words s run.
             let stands : StandsFor self.lay (words_of w) (tables_after opening self.done.items) =
             subst (λ (z : Sizes). StandsFor z (words_of w) (tables_after opening self.done.items)) run.layout (subst (λ (l : List ℕ). StandsFor opening.sizes l (tables_after opening self.done.items)) (sym same) run.stands) in
-            let served : Serves self.lay (tables_after opening self.done.items) d.request d.reply (overwritten (flat_sight w).writes (words_of w)) = c.in-Ok.ensures.serves (words_of w) (flat_below w) (tables_after opening self.done.items) stands in
+            let served : Serves self.lay (tables_after opening self.done.items) d.request d.reply (overwritten (flat_sight w).writes (words_of w)) = c.in-Ok.ensures.answers.serves (words_of w) (flat_below w).agrees (tables_after opening self.done.items) stands in
             let next : IsNext opening self.done.items d = served_next opening self.lay self.done.items d (overwritten (flat_sight w).writes (words_of w)) run.layout (c.last-number.ensures ∙ run.last) (unchanged c.in-Ok.reply c.in_default.not-Changed) served in
             runs_same opening words c.note.new.self self.lay self.log (words_of self.words) (self.done.items ++ d ∷ []) s (g.M.Medium.sight (log_medium self.log)) _
             c.note.ensures.lay c.note.ensures.log words_are c.note.ensures.done (ap (λ l. g.M.Medium.sight (log_medium l)) c.note.ensures.log)

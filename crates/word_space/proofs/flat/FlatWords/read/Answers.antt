@@ -13,10 +13,10 @@ returns-in-Some-clause-value c =
     let s = flat_sight c.args.self.now in
     value_read s s c.args.at c.in-Some.value c.requires.inside (search rules)
 
-pub returns-in-Ok-clause-value : goal.returns-in-Ok-clause-value
-returns-in-Ok-clause-value c =
+pub returns-clause-value : goal.returns-clause-value
+returns-clause-value c =
     let s = flat_sight c.args.self.now in
-    value_read s (record s { reads = c.add.new.self }) c.args.at c.index-value.result.now c.requires.inside (search rules)
+    value_read s (record s { reads = c.add.new.self.reads }) c.args.at c.index-value.result.now c.requires.inside (search rules)
 
-pub returns-in-Err-clause-uses : goal.returns-in-Err-clause-uses
-returns-in-Err-clause-uses c = used_read {at = c.args.at} (Err NoMemory) (record { does = search rules }) (λ x led. led)
+pub returns-then-is_err-clause-uses : goal.returns-then-is_err-clause-uses
+returns-then-is_err-clause-uses c = used_read {at = c.args.at} (Err NoMemory) (record { does = search rules }) (λ x led. led)

@@ -15,8 +15,9 @@ invariant_of-self c =
     let w : Write = record { at = c.args.at; value = c.args.value } in
     let narrow : ¬ IsWide f.writes c.args.at = λ wide. let refused = c.in-Ok.ensures.wide.1 wide in cc in
     record {
-      sound = subst (λ (ws : List Write). IsSound f.words.items f.reads ws f.stopped) (sym c.in-Ok.ensures.ok) (record {
+      sound = subst (λ (ws : List Write). IsSound f.words.items f.reads.reads ws f.stopped) (sym c.in-Ok.ensures.ok) (record {
         in_range = f.sound.in_range;
+        reads_inside = f.sound.reads_inside;
         list = IsWriteList-put_write w f.writes f.sound.list narrow;
         inside = All-put_write w (λ i. i < length f.words.items) c.requires.inside f.writes f.sound.inside;
         agrees = f.sound.agrees;

@@ -1,13 +1,13 @@
 use Rattle.std.proofs.Common.{◌≡◌, ℕ, ◌<◌, List, length}
 use Rattle.table_check.specs.Marks.{unmarked}
-use Rattle.table_check.specs.Seen.{AreApartMarked, KnowsFree}
-use Rattle.table_check.proofs.walk.follow_free.Given as goal
+use Rattle.table_check.specs.PoolWalk.{AreApartMarked, KnowsFree}
+use Rattle.table_check.proofs.pool_walk.follow_free.Given as goal
 
 abbrev pub invariant-loop-link : goal.invariant-loop-link
 invariant-loop-link l = record {
-  count : length l.marks.marks.items ≡ l.table.pool.count;
+  count : length l.marks.marks.items ≡ l.pool.count;
   inside : l.link < length l.a;
-  knows : (taken : List ℕ) → AreApartMarked l.table taken l.initial.marks → KnowsFree l.table l.a taken l.link l.marks;
+  knows : (taken : List ℕ) → AreApartMarked l.pool taken l.initial.marks → KnowsFree l.pool l.a taken l.link l.marks;
 }
 
 abbrev pub decreases-loop-link : goal.decreases-loop-link
