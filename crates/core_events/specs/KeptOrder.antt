@@ -11,8 +11,7 @@ use Rattle.core_events.specs.Ghosts.{Ghost}
 abbrev pub ComesBefore : ℕ → ℕ → ℕ → Type 0
 ComesBefore next i j = ((next ≤ i) × ((i < j) ⊎ (j < next))) ⊎ ((i < j) × (j < next))
 
--- Round the boxes of a thread, from its next place to the one before it, the numbers of full boxes rise. The first full one is the
--- next to be emptied
+-- Round the boxes of a thread, from its next place to the one before it, the numbers of full boxes rise: the first full one has the least
 pub record BoxOrder (z : Setup) (boxes : List ℕ) (t next : ℕ) : Type 0 where
   pub rising : (i j : ℕ) → i < z.boxes → j < z.boxes → ComesBefore next i j → 0 < slice_index boxes (box_of z t i) → 0 < slice_index boxes (box_of z t j)
       → slice_index boxes (box_of z t i) < slice_index boxes (box_of z t j)
