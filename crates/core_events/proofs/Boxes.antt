@@ -1,5 +1,5 @@
 -- Boxes of different threads stand at different places; words that are put to 0.
-use Rattle.std.proofs.Common.{◌≡◌, ℕ, zero, suc, ◌+◌, ◌*◌, ◌<◌, ◌≤◌, List, [], ◌∷◌, length, get_or, set, refl, sym, ap, arith, mul-le-mul_right, suc-mul}
+use Rattle.std.proofs.Common.{◌≡◌, ℕ, zero, suc, ◌+◌, ◌*◌, ◌<◌, ◌≤◌, ◌⊎◌, List, [], ◌∷◌, length, get_or, set, refl, sym, ap, inl, inr, arith, mul-le-mul_right, suc-mul}
 use mathlib.Core.Option.{some, some-injective, some-ne-none}
 use mathlib.Core.Logic.{dite}
 use native.Mathlib.Decide.{dec_lt}
@@ -34,3 +34,23 @@ pub there_read : (l : List ℕ) (k : ℕ) → k < length l → get_elem? l k ≡
 there_read [] k lt = absurd (omega arith)
 there_read (x ∷ xs) zero lt = refl
 there_read (x ∷ xs) (suc k) lt = there_read xs k (omega arith)
+
+-- a word that isn't 0 is there
+pub full_there : (l : List ℕ) (k : ℕ) → 0 < get_or l k 0 → get_elem? l k ≡ some (get_or l k 0)
+full_there [] k pos = absurd (omega arith)
+full_there (x ∷ xs) zero pos = refl
+full_there (x ∷ xs) (suc k) pos = full_there xs k pos
+
+-- a word that is put reads as that, or as 0 where there is none
+pub word_put : (l : List ℕ) (k a : ℕ) → (get_or (set l k a) k 0 ≡ a) ⊎ (get_or (set l k a) k 0 ≡ 0)
+word_put [] k a = inr refl
+word_put (x ∷ xs) zero a = inl refl
+word_put (x ∷ xs) (suc k) a = word_put xs k a
+
+-- where one word is put to 0, each reads as 0 or as it was
+pub word_cleared : (l : List ℕ) (k b : ℕ) → (get_or (set l k 0) b 0 ≡ 0) ⊎ (get_or (set l k 0) b 0 ≡ get_or l b 0)
+word_cleared [] k b = inl refl
+word_cleared (x ∷ xs) zero zero = inl refl
+word_cleared (x ∷ xs) zero (suc b) = inr refl
+word_cleared (x ∷ xs) (suc k) zero = inr refl
+word_cleared (x ∷ xs) (suc k) (suc b) = word_cleared xs k b

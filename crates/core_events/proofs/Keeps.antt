@@ -19,6 +19,7 @@ use Rattle.core_events.proofs.EntriesKept.{entries_keep, entries_split_keep, ent
 use Rattle.core_events.proofs.TurnKept.{turn_keep, turn_split_keep, turn_join_keep}
 use Rattle.core_events.proofs.PagesKept.{pages_keep, pages_split_keep, pages_join_keep}
 use Rattle.core_events.proofs.NumbersKept.{numbers_keep, numbers_split_keep, numbers_join_keep}
+use Rattle.core_events.proofs.OrderKept.{order_keep, order_split_keep, order_join_keep}
 use Rattle.core_events.proofs.ValuesKept.{values_keep, values_split_keep, values_join_keep}
 use Rattle.core_events.proofs.EntriesAll.{all_legal}
 
@@ -34,6 +35,7 @@ module _ (z : Setup) where
           numbers = numbers_keep z e c who v g l.threads l.locks l.turn l.numbers a;
           turn = turn_keep z e c who v g l.threads l.locks l.turn a;
           pages = pages_keep z e c who v g l.threads l.locks l.turn l.pages a;
+          order = order_keep z e c who v g l.threads l.locks l.turn l.numbers l.order a;
         };
         values = λ told. values_keep z e c who v g l.threads l.locks l.entries l.numbers l.turn l.pages told a (k.values told);
       }
@@ -49,6 +51,7 @@ module _ (z : Setup) where
           numbers = numbers_split_keep z c who draws v g l.numbers a;
           turn = turn_split_keep z c who draws v g l.threads l.turn a;
           pages = pages_split_keep z c who draws v g l.pages a;
+          order = order_split_keep z c who draws v g l.order a;
         };
         values = λ told. values_split_keep z c who draws v g (k.values told) a;
       }
@@ -64,6 +67,7 @@ module _ (z : Setup) where
           numbers = numbers_join_keep z c who other v w g l.numbers a;
           turn = turn_join_keep z c who other v w g l.threads l.turn a;
           pages = pages_join_keep z c who other v w g l.pages a;
+          order = order_join_keep z c who other v w g l.order a;
         };
         values = λ told. values_join_keep z c who other v w g l.locks (k.values told) a;
       }

@@ -21,6 +21,7 @@ pub mod Filled
 pub mod Pages
 pub mod PagesKept
 pub mod NumbersKept
+pub mod OrderKept
 pub mod ValuesStay
 pub mod ValuesRead
 pub mod EntriesAll
@@ -30,4 +31,5 @@ pub mod Start
 pub mod Telling
 pub mod ReadOut
 pub mod OneCommit
+pub mod Persists
 pub mod Plain

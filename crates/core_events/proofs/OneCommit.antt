@@ -194,7 +194,7 @@ abbrev s21 : State
 s21 = next s20 (raise_durable 1)
 
 a20 : IsAllowed smallest s20 0 (raise_durable 1) (view_in s20)
-a20 = record { is_there = refl; may = record { live = refl; threaded = (0, refl); named = tt; can = refl }; fits = (omega arith, (λ n lt le. only_one n lt le)) }
+a20 = record { is_there = refl; may = record { live = refl; threaded = (0, refl); named = tt; can = refl }; fits = (omega arith, omega arith) }
 
 abbrev s22 : State
 s22 = next s21 (raise_reproduced 1)

@@ -16,7 +16,7 @@ use Rattle.core_events.specs.KeptLocks.{hand_of}
 use Rattle.core_events.specs.KeptTurn.{Holder, holder_of}
 use Rattle.core_events.specs.KeptPages.{pins_of, pins_at, entry_word}
 use Rattle.core_events.specs.Kept.{LayersKept, Kept}
-use Rattle.core_events.specs.Plain.{IsView, PlainLocks, PlainUndecided, PlainPages, PlainValues, PlainTurn, IsPlain}
+use Rattle.core_events.specs.Plain.{IsView, PlainLocks, PlainUndecided, PlainPages, PlainValues, PlainTurn, PlainOrder, IsPlain}
 use Rattle.core_events.proofs.Lists.{at_map, of_map, view_there}
 use Rattle.core_events.proofs.Values.{even_version, odd_owner}
 use Rattle.core_events.proofs.Filled.{frame_of_entry, entry_positive}
@@ -130,8 +130,14 @@ module _ (z : Setup) (c : State) (k : Kept z c) where
             (y.shown.shown i f inside (framed (page_of i) f pins p few word (g.frame (page_of i)) refl).0);
       }
 
+  order_plain : PlainOrder z c
+  order_plain = record {
+    over = λ i t j v at. (l.order.each i v at).over t j;
+    rises = λ t. (g.next t, l.order.rises t, (λ i v at. (l.order.each i v at).at_place t));
+  }
+
   pub plain : IsPlain z c
-  plain = record { locks = locks_plain; undecided = undecided_plain; pages = pages_plain; turn = turn_plain; values = values_plain }
+  plain = record { locks = locks_plain; undecided = undecided_plain; pages = pages_plain; turn = turn_plain; order = order_plain; values = values_plain }
 
   -- each word of a page that is shown is the value at the clock
   pub page_shows : z.is_told ≡ true → (who p f : ℕ) (v : View) (a : IsAllowed z c who (show p f) v) (i : ℕ) → page_of i ≡ p

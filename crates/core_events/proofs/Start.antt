@@ -9,7 +9,7 @@ use native.Mathlib.Decide.{dec_lt}
 use lib.ListN.{get_elem?}
 use Rattle.dude_base.specs.declared.limits.TheConstants.{PAGE, MAX_NUMBER}
 use Rattle.dude_base.specs.Writes.{written}
-use Rattle.core_events.specs.Setups.{Setup, IsSetup, page_of, cell_of, entry_with}
+use Rattle.core_events.specs.Setups.{Setup, IsSetup, page_of, cell_of, box_of, entry_with}
 use Rattle.core_events.specs.Keyed.{find, has, Distinct}
 use Rattle.core_events.specs.Views.{Entry, Part, View}
 use Rattle.core_events.specs.Entries.{History, value, numbers_written}
@@ -21,6 +21,7 @@ use Rattle.core_events.specs.KeptEntries.{EntryLegal}
 use Rattle.core_events.specs.KeptTurn.{Holder, holder_of, KnowsTurn}
 use Rattle.core_events.specs.KeptNumbers.{DrawnPlaced}
 use Rattle.core_events.specs.KeptPages.{entry_word, KnowsPages}
+use Rattle.core_events.specs.KeptOrder.{KnowsOrderOf}
 use Rattle.core_events.specs.KeptValues.{ReadValues, EntryReads}
 use Rattle.core_events.specs.Layers.{ThreadsIn, LocksIn}
 use Rattle.core_events.proofs.Stays.{empty_list, new_knows}
@@ -34,6 +35,11 @@ in_replicate : {A : Type 0} (n j : ℕ) (a b : A) → get_elem? (replicate n a) 
 in_replicate zero j a b e = absurd (some-ne-none b (sym e))
 in_replicate (suc n) zero a b e = some-injective a b e
 in_replicate (suc n) (suc j) a b e = in_replicate n j a b e
+
+replicated_zero : (n k : ℕ) → let none_there : ℕ = get_or (replicate n 0) k 0 in none_there ≡ 0
+replicated_zero zero k = refl
+replicated_zero (suc n) zero = refl
+replicated_zero (suc n) (suc k) = replicated_zero n k
 
 length_entries : (frames p n : ℕ) → length (first_entries frames p n) ≡ n
 length_entries frames p zero = refl
@@ -67,7 +73,7 @@ module _ (z : Setup) (ok : IsSetup z) where
   claims0 = record { hist = no_history; pending = no_history; who = λ n. 0; settled = λ n. false; lock = λ k. free z.first }
 
   abbrev ghost0 : Ghost
-  ghost0 = record { claims = claims0; author = λ n. 0; place = λ n. behind_boxes; thread = λ j. 0; home = λ t. 0; frame = first_frame z.frames }
+  ghost0 = record { claims = claims0; author = λ n. 0; place = λ n. behind_boxes; thread = λ j. 0; home = λ t. 0; frame = first_frame z.frames; next = λ t. 0 }
 
   abbrev v0 : View
   v0 = newcomer z (z.threads - 1) (MAX_NUMBER - z.first)
@@ -180,7 +186,7 @@ module _ (z : Setup) (ok : IsSetup z) where
         holds = λ j h e has. absurd (no_bool (ap (λ (x : Holder). x.has_it) (only_one (holder_of v0) h j e).1 ∙ has));
         held = λ pos. absurd (omega arith);
       };
-      durable = record { from = omega arith; ordered = omega arith; persisted = λ n lt le. absurd (omega arith) };
+      durable = record { from = omega arith; ordered = omega arith; durable_from = omega arith; drawn = omega arith };
       sized = length-replicate (z.threads * z.boxes) 0;
       some_box = let a = ok.run.boxes.low in omega arith;
       each = λ j v e. let o = only_one v0 v j e in subst (λ (u : View). KnowsTurn z (start z).boxes z.first u) o.1 turn_knows0;
@@ -199,6 +205,15 @@ module _ (z : Setup) (ok : IsSetup z) where
       };
       each = λ j v e. let o = only_one v0 v j e in subst (λ (u : View). KnowsPages z (first_frame z.frames) (start z).touches u) o.1 pages_knows0;
       few = let a = ok.threads.high in omega arith;
+    };
+    order = record {
+      rises = λ t. record { rising = λ i j li lj before pi pj. absurd (let w = replicated_zero (z.threads * z.boxes) (box_of z t i) in omega arith) };
+      unborn = λ t le. refl;
+      each = λ j v e. subst (λ (u : View). KnowsOrderOf z (λ t. 0) (start z).boxes u) (only_one v0 v j e).1 record {
+        at_place = λ t is. refl;
+        at_first = λ is. refl;
+        over = λ t i is. absurd (none_some t is);
+      };
     };
   }
 

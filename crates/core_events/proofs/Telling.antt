@@ -13,12 +13,13 @@ use Rattle.core_events.specs.Words.{State, found}
 use Rattle.core_events.specs.Events.{Event, number, begin, extend, look, load, check, finish, take, draw, decide, store, release, restore, see_box, post, take_turn, give_turn, see_full, empty_box, raise_durable, raise_reproduced, entry, pin, unpin, touch, load_touch, evict, fill, show, name, own_word, first_lock, pinned_frame, next_box, view_after}
 use Rattle.core_events.specs.Conditions.{Owns, Pins, HasThread, May, IsAllowed, after}
 use Rattle.core_events.specs.Ghosts.{Hold, free, taken, writing, version, word_of, Ghost}
-use Rattle.core_events.specs.KeptThreads.{part_of, waiting_of}
+use Rattle.core_events.specs.KeptThreads.{part_of, waiting_of, splits_of}
 use Rattle.core_events.specs.KeptLocks.{draws_of}
 use Rattle.core_events.specs.KeptEntries.{entries_of}
 use Rattle.core_events.specs.KeptTurn.{Holder, holder_of}
 use Rattle.core_events.specs.KeptPages.{pins_of, pins_at, entry_word}
 use Rattle.core_events.specs.Kept.{LayersKept, Kept}
+use Rattle.core_events.specs.KeptLaws.{KeepsFull, LeavesDraws, HasDrawn, HasRaised}
 use Rattle.core_events.specs.Telling.{IsInside, IsSized, IsSeated, ClockTold, LockTold, EntryTold, WordTold, IsTold}
 use Rattle.core_events.proofs.Lists.{there, set_here, at_map, view_there}
 use Rattle.core_events.proofs.Filled.{counts_one, entry_positive}
@@ -44,12 +45,14 @@ module _ (z : Setup) where
       record {
         thread = λ t e. let lt = (l.threads.mine id t v.part (at_map part_of c.views id v at) e).2 in omega arith;
         snapshot = λ o. let s = m.confirmed.snap o in let up = s.1 in (s.0, omega arith);
-        owned = λ p o e. let r = m.owns.owns p o e in (m.owns.inside p o e, (r.0, r.1, r.2));
+        owned = λ p o e. let r = m.owns.owns p o e in let even = r.1 in let up = r.2 in (m.owns.inside p o e, omega arith, omega arith);
         number = λ pos. let n = m.number.numbered pos in let le = n.1 in (n.2, n.0, omega arith, (l.turn.each id v at).seen.drawn pos);
         no_number = m.number.blank;
         pins = λ p f e. l.pages.frames.inside p f (l.pages.pins.pinned id p f (pins_of v) (at_map pins_of c.views id v at) e);
         next = (l.turn.each id v at).seen.place;
         entries = λ j d lt. let up = (l.entries.legal id v.entries (at_map entries_of c.views id v at) j d lt).upto in omega arith;
+        draws = let one = counts_one draws_of c.views id v at in omega arith;
+        splits = let one = counts_one splits_of (map part_of c.views) id v.part (at_map part_of c.views id v at) in omega arith;
       }
 
   first_inside : (owned : List (ℕ × ℕ)) → 0 < z.locks → ((k o : ℕ) → find owned k ≡ Some o → k < z.locks) → first_lock owned < z.locks
@@ -201,7 +204,7 @@ module _ (z : Setup) where
     word_told (empty_box t j) a = (a.fits, (λ m e. ((l.turn.each id v at).seen.full_with a.may.can (box_of z t j) m e).0))
     word_told (raise_durable x) a =
         let raised = (l.turn.each id v at).raised in let bound = l.locks.bounded in let from = l.locks.numbers.from in
-        (raised, a.fits.0, dite (dec_lt z.first x) (λ lt. let b = (l.numbers.placed.of_persisted x (a.fits.1 x lt (omega arith))).2 in omega arith) (λ ge. omega arith))
+        (raised, a.fits.0, (let b = a.fits.1 in omega arith))
     word_told (raise_reproduced x) a = (l.turn.durable.from, a.fits.0)
     word_told (entry p) a = entry_told p a.may.named
     word_told (pin p) a = entry_told p a.may.named
@@ -215,6 +218,20 @@ module _ (z : Setup) where
         let none_there = (pages.filled_absent i f (a.may.can.1 i of_page)).0 in
         l.pages.pins.counted p a.may.named.0 ∙ ap (λ (o : Option ℕ). entry_word o (total (pins_at p) (map pins_of c.views))) (ap g.frame (sym of_page) ∙ none_there)
     word_told e a = tt
+
+  -- ---- what a view alone tells
+  module _ (c : State) (k : Kept z c) (id : ℕ) (v : View) (at : get_elem? c.views id ≡ some v) where
+    pub keeps_full : KeepsFull z c v
+    keeps_full has b n e = (k.layers.turn.each id v at).seen.full_with has b n e
+
+    pub leaves_draws : LeavesDraws z c v
+    leaves_draws x all = let one = counts_one draws_of c.views id v at in let bound = k.layers.locks.bounded in omega arith
+
+    pub has_drawn : HasDrawn z c v
+    has_drawn n e = (clock_told c k id v at).drawn n e
+
+    pub has_raised : HasRaised z c v
+    has_raised = let d = k.layers.turn.durable in record { durable = ((k.layers.turn.each id v at).raised, d.durable_from, d.drawn); reproduced = (d.from, d.ordered) }
 
   pub tells : (e : Event) (c : State) (id : ℕ) (v : View) → Kept z c → IsAllowed z c id e v → IsTold z e v (found c (name z e v))
   tells e c id v k a =

@@ -19,7 +19,7 @@ use Rattle.core_events.specs.KeptThreads.{part_of}
 use Rattle.core_events.specs.KeptTurn.{Holder, holder_of, TurnHeld, KnowsTurn, TurnKept}
 use Rattle.core_events.specs.Layers.{ThreadsIn, LocksIn}
 use Rattle.core_events.proofs.Lists.{at_set, at_snoc, set_here, set_else, there, at_map, of_map, unmoved, each_set, find_cons, find_gone, find_without}
-use Rattle.core_events.proofs.Threads.{or_right, at_longer}
+use Rattle.core_events.proofs.Threads.{at_longer}
 use Rattle.core_events.proofs.Boxes.{box_same, zero_stays}
 
 -- ---- what a check and a taking leave of the number
@@ -54,16 +54,17 @@ won v = record v { paging = forgetting true v.paging; turn = turning true v.turn
 
 module _ (z : Setup) where
   -- a state whose words of this layer are as they were, and a view that knows as much of them
-  turn_rest : (c d : State) (id : ℕ) (v w : View) → TurnKept z c → get_elem? c.views id ≡ some v → d.turn ≡ c.turn → d.durable ≡ c.durable → d.reproduced ≡ c.reproduced → d.boxes ≡ c.boxes → d.persisted ≡ c.persisted
-      → d.views ≡ set c.views id w → holder_of w ≡ holder_of v → KnowsTurn z c.boxes c.durable w → TurnKept z d
-  turn_rest c d id v w k at turn durable reproduced boxes persisted views same knows =
+  turn_rest : (c d : State) (id : ℕ) (v w : View) → TurnKept z c → get_elem? c.views id ≡ some v → d.turn ≡ c.turn → d.durable ≡ c.durable → d.reproduced ≡ c.reproduced → d.boxes ≡ c.boxes → d.views ≡ set c.views id w
+      → holder_of w ≡ holder_of v → c.clock ≤ d.clock → KnowsTurn z c.boxes c.durable w → TurnKept z d
+  turn_rest c d id v w k at turn durable reproduced boxes views same up knows =
       let holders : map holder_of d.views ≡ map holder_of c.views = ap (map holder_of) views ∙ unmoved holder_of c.views id v w at same in
       record {
         turn = rw (holders, turn) k.turn;
         durable = record {
           from = rw reproduced k.durable.from;
-          ordered = rw (reproduced, durable) k.durable.ordered;
-          persisted = rw (persisted, durable) k.durable.persisted;
+          ordered = (let o = k.durable.ordered in omega arith);
+          durable_from = rw durable k.durable.durable_from;
+          drawn = (let o = k.durable.drawn in omega arith);
         };
         sized = rw boxes k.sized;
         some_box = k.some_box;
@@ -148,8 +149,8 @@ module _ (z : Setup) where
   -- the box k gets another word
   post_turn : (g : Ghost) (c : State) (s : ThreadsIn z g c) (k : TurnKept z c) (id t : ℕ) (v w : View) → get_elem? c.views id ≡ some v → v.part.thread ≡ Some t → v.box.is_empty ≡ true → (n : ℕ)
       → holder_of w ≡ holder_of v → w.tx.hand.number ≡ 0 → w.box ≡ record { next = (v.box.next + 1) % z.boxes; is_empty = false } → w.turn ≡ v.turn
-      → (d : State) → d.turn ≡ c.turn → d.durable ≡ c.durable → d.reproduced ≡ c.reproduced → d.persisted ≡ c.persisted → d.boxes ≡ set c.boxes (next_box z v) n → d.views ≡ set c.views id w → TurnKept z d
-  post_turn g c s k id t v w at thread empty n same none_now box turn_same d turn durable reproduced persisted boxes views =
+      → (d : State) → d.turn ≡ c.turn → d.durable ≡ c.durable → d.reproduced ≡ c.reproduced → d.boxes ≡ set c.boxes (next_box z v) n → d.views ≡ set c.views id w → c.clock ≤ d.clock → TurnKept z d
+  post_turn g c s k id t v w at thread empty n same none_now box turn_same d turn durable reproduced boxes views up =
       let m = k.each id v at in let b : ℕ = next_box z v in
       let e0 = m.seen.empty empty in
       let t_is : e0.0 ≡ t = (let f : Some e0.0 ≡ Some t = sym e0.1 ∙ thread in cc) in
@@ -170,8 +171,9 @@ module _ (z : Setup) where
         turn = rw (ap (map holder_of) views, turn) (same_turn g c s k id v at w same);
         durable = record {
           from = rw reproduced k.durable.from;
-          ordered = rw (reproduced, durable) k.durable.ordered;
-          persisted = rw (persisted, durable) k.durable.persisted;
+          ordered = (let o = k.durable.ordered in omega arith);
+          durable_from = rw durable k.durable.durable_from;
+          drawn = (let o = k.durable.drawn in omega arith);
         };
         sized = rw boxes (length-set c.boxes b n ∙ k.sized);
         some_box = k.some_box;
@@ -189,7 +191,7 @@ module _ (z : Setup) where
   turn_keep number c id v g s l0 k a =
       let w : View = view_after z number v c.threads in let m = k.each id v a.is_there in record {
         turn = number_turn g c s k id v a.is_there c.threads a.may.can;
-        durable = record { from = k.durable.from; ordered = k.durable.ordered; persisted = k.durable.persisted };
+        durable = record { from = k.durable.from; ordered = k.durable.ordered; durable_from = k.durable.durable_from; drawn = k.durable.drawn };
         sized = k.sized;
         some_box = k.some_box;
         each = each_set (λ j u. KnowsTurn z c.boxes c.durable u) c.views id w (record {
@@ -204,24 +206,24 @@ module _ (z : Setup) where
       }
   turn_keep extend c id v g s l0 k a =
       let m = k.each id v a.is_there in let same = reaching_number (all_checked z [] v.tx.reads) c.clock (record v.tx { checked = []; loaded = None }) in
-      turn_rest c (after z c id v extend) id v (view_after z extend v c.clock) k a.is_there refl refl refl refl refl refl refl
+      turn_rest c (after z c id v extend) id v (view_after z extend v c.clock) k a.is_there refl refl refl refl refl refl (omega arith)
       record { seen = rw same m.seen; raised = m.raised }
   turn_keep (check l) c id v g s l0 k a =
       let m = k.each id v a.is_there in let n : ℕ = get_or c.locks l 0 in
-      turn_rest c (after z c id v (check l)) id v (view_after z (check l) v n) k a.is_there refl refl refl refl refl refl refl
+      turn_rest c (after z c id v (check l)) id v (view_after z (check l) v n) k a.is_there refl refl refl refl refl refl (omega arith)
       record { seen = rw (checking_number z v.tx.loaded v.tx.extension v.part.thread l n v.tx) m.seen; raised = m.raised }
   turn_keep (take l) c id v g s l0 k a =
       let m = k.each id v a.is_there in let n : ℕ = get_or c.locks l 0 in
-      turn_rest c (after z c id v (take l)) id v (view_after z (take l) v n) k a.is_there refl refl refl refl refl refl refl
+      turn_rest c (after z c id v (take l)) id v (view_after z (take l) v n) k a.is_there refl refl refl refl refl refl (omega arith)
       record { seen = rw (taking_number (n == looked_word v.tx.look) l n v.tx) m.seen; raised = m.raised }
   turn_keep (draw b ws) c id v g s l0 k a =
       let m = k.each id v a.is_there in
-      turn_rest c (after z c id v (draw b ws)) id v (view_after z (draw b ws) v c.clock) k a.is_there refl refl refl refl refl refl refl
+      turn_rest c (after z c id v (draw b ws)) id v (view_after z (draw b ws) v c.clock) k a.is_there refl refl refl refl refl refl (omega arith)
       record { seen = record { place = m.seen.place; empty = m.seen.empty; drawn = λ pos. a.may.can.box; full_with = m.seen.full_with }; raised = m.raised }
   turn_keep see_box c id v g s l0 k a =
       let m = k.each id v a.is_there in let b : ℕ = next_box z v in let n : ℕ = get_or c.boxes b 0 in let t = a.may.threaded in
       let b_is : b ≡ box_of z t.0 v.box.next = ap (λ (o : Option ℕ). box_of z (or_else o 0) v.box.next) t.1 in
-      turn_rest c (after z c id v see_box) id v (view_after z see_box v n) k a.is_there refl refl refl (set-get_or c.boxes b 0) refl refl refl
+      turn_rest c (after z c id v see_box) id v (view_after z see_box v n) k a.is_there refl refl refl (set-get_or c.boxes b 0) refl refl (omega arith)
       record {
         seen = record {
           place = m.seen.place;
@@ -233,13 +235,13 @@ module _ (z : Setup) where
       }
   turn_keep post c id v g s l0 k a =
       let m = k.each id v a.is_there in let t = a.may.threaded in
-      post_turn g c s k id t.0 v (view_after z post v (found c (name z post v))) a.is_there t.1 (m.seen.drawn (⊎_elim (λ y. ((l0.each id v a.is_there).number.decided y).0) (λ y. ((l0.each id v a.is_there).number.voided y).0) a.may.can.0)) v.tx.hand.number refl refl refl refl (after z c id v post) refl refl refl refl refl refl
+      post_turn g c s k id t.0 v (view_after z post v (found c (name z post v))) a.is_there t.1 (m.seen.drawn (⊎_elim (λ y. ((l0.each id v a.is_there).number.decided y).0) (λ y. ((l0.each id v a.is_there).number.voided y).0) a.may.can.0)) v.tx.hand.number refl refl refl refl (after z c id v post) refl refl refl refl refl (omega arith)
   turn_keep take_turn c id v g s l0 k a =
       let m = k.each id v a.is_there in let t = a.may.threaded in let n : ℕ = c.turn in
       dite (ℕ_discrete n 0)
       (λ hit. rw (eq-eqb n 0 hit) record {
         turn = subst (λ (y : ℕ). TurnHeld y (map holder_of (set c.views id (won v)))) (ap (λ (o : Option ℕ). or_else o 0 + 1) (sym t.1)) (taken_turn g c s k id v a.is_there (won v) t.0 hit t.1 refl);
-        durable = record { from = k.durable.from; ordered = k.durable.ordered; persisted = k.durable.persisted };
+        durable = record { from = k.durable.from; ordered = k.durable.ordered; durable_from = k.durable.durable_from; drawn = k.durable.drawn };
         sized = k.sized;
         some_box = k.some_box;
         each = each_set (λ j u. KnowsTurn z c.boxes c.durable u) c.views id (won v) (record {
@@ -247,12 +249,12 @@ module _ (z : Setup) where
           raised = m.raised;
         }) (λ j u other at2. k.each j u at2);
       })
-      (λ miss. rw (ne_eqb n 0 miss) (turn_rest c _ id v _ k a.is_there refl refl refl refl refl refl refl record { seen = m.seen; raised = m.raised }))
+      (λ miss. rw (ne_eqb n 0 miss) (turn_rest c _ id v _ k a.is_there refl refl refl refl refl refl (omega arith) record { seen = m.seen; raised = m.raised }))
   turn_keep (give_turn failed) c id v g s l0 k a =
       let m = k.each id v a.is_there in let w : View = view_after z (give_turn failed) v c.turn in
       record {
         turn = given_turn g c s k id v a.is_there w a.may.can.0 refl;
-        durable = record { from = k.durable.from; ordered = k.durable.ordered; persisted = k.durable.persisted };
+        durable = record { from = k.durable.from; ordered = k.durable.ordered; durable_from = k.durable.durable_from; drawn = k.durable.drawn };
         sized = k.sized;
         some_box = k.some_box;
         each = each_set (λ j u. KnowsTurn z c.boxes c.durable u) c.views id w (record {
@@ -262,7 +264,7 @@ module _ (z : Setup) where
       }
   turn_keep (see_full t j) c id v g s l0 k a =
       let m = k.each id v a.is_there in let b : ℕ = box_of z t j in let n : ℕ = get_or c.boxes b 0 in
-      turn_rest c (after z c id v (see_full t j)) id v (view_after z (see_full t j) v n) k a.is_there refl refl refl (set-get_or c.boxes b 0) refl refl refl
+      turn_rest c (after z c id v (see_full t j)) id v (view_after z (see_full t j) v n) k a.is_there refl refl refl (set-get_or c.boxes b 0) refl refl (omega arith)
       record {
         seen = record {
           place = m.seen.place;
@@ -281,7 +283,7 @@ module _ (z : Setup) where
       let m = k.each id v a.is_there in let b : ℕ = box_of z t j in let w : View = view_after z (empty_box t j) v (get_or c.boxes b 0) in let boxes2 : List ℕ = set c.boxes b 0 in
       record {
         turn = same_turn g c s k id v a.is_there w refl;
-        durable = record { from = k.durable.from; ordered = k.durable.ordered; persisted = λ n lt le. or_right _ _ (k.durable.persisted n lt le) };
+        durable = record { from = k.durable.from; ordered = k.durable.ordered; durable_from = k.durable.durable_from; drawn = k.durable.drawn };
         sized = length-set c.boxes b 0 ∙ k.sized;
         some_box = k.some_box;
         each = each_set (λ i u. KnowsTurn z boxes2 c.durable u) c.views id w (record {
@@ -304,7 +306,7 @@ module _ (z : Setup) where
       let m = k.each id v a.is_there in let w : View = view_after z (raise_durable x) v c.durable in let up = a.fits.0 in
       record {
         turn = same_turn g c s k id v a.is_there w refl;
-        durable = record { from = k.durable.from; ordered = (let o = k.durable.ordered in omega arith); persisted = a.fits.1 };
+        durable = record { from = k.durable.from; ordered = k.durable.ordered; durable_from = (let o = k.durable.durable_from in omega arith); drawn = a.fits.1 };
         sized = k.sized;
         some_box = k.some_box;
         each = each_set (λ i u. KnowsTurn z c.boxes x u) c.views id w (record {
@@ -316,14 +318,14 @@ module _ (z : Setup) where
       let m = k.each id v a.is_there in let up = a.fits.0 in
       record {
         turn = same_turn g c s k id v a.is_there v refl;
-        durable = record { from = (let o = k.durable.from in omega arith); ordered = a.fits.1; persisted = k.durable.persisted };
+        durable = record { from = (let o = k.durable.from in omega arith); ordered = a.fits.1; durable_from = k.durable.durable_from; drawn = k.durable.drawn };
         sized = k.sized;
         some_box = k.some_box;
         each = each_set (λ i u. KnowsTurn z c.boxes c.durable u) c.views id v m (λ i u other at2. k.each i u at2);
       }
   turn_keep e c id v g s l0 k a =
       let m = k.each id v a.is_there in
-      turn_rest c (after z c id v e) id v (view_after z e v (found c (name z e v))) k a.is_there refl refl refl refl refl refl refl record { seen = m.seen; raised = m.raised }
+      turn_rest c (after z c id v e) id v (view_after z e v (found c (name z e v))) k a.is_there refl refl refl refl refl refl (omega arith) record { seen = m.seen; raised = m.raised }
 
   -- a view that has done nothing knows nothing of the turn
   fresh_knows : (boxes : List ℕ) (durable : ℕ) (u : View) → 0 < z.boxes → z.first ≤ durable → u.box ≡ record { next = 0; is_empty = false } → u.tx.hand.number ≡ 0 → u.turn.has_it ≡ false → u.turn.durable ≡ z.first → KnowsTurn z boxes durable u
@@ -344,14 +346,14 @@ module _ (z : Setup) where
   pub turn_split_keep : (c : State) (id draws : ℕ) (v : View) (g : Ghost) → ThreadsIn z g c → TurnKept z c → MaySplit c id v draws → TurnKept z (split z c id v draws)
   turn_split_keep c id draws v g s k may =
       let w = left_of draws v in let n = newcomer z 0 draws in let m = k.each id v may.is_there in let vs : List View = set c.views id w in
-      let from : z.first ≤ c.durable = (let a = k.durable.from in let b = k.durable.ordered in omega arith) in
+      let from : z.first ≤ c.durable = k.durable.durable_from in
       let holders : map holder_of (vs ++ n ∷ []) ≡ map holder_of c.views ++ holder_of n ∷ [] = map_snoc vs n ∙ ap (λ (l : List Holder). l ++ holder_of n ∷ []) (unmoved holder_of c.views id v w may.is_there refl) in
       record {
         turn = rw holders record {
           holds = λ j h e has. ⊎_elim (λ t. k.turn.holds j h t has) (λ t. absurd (true≢false (sym has ∙ ap (λ (y : Holder). y.has_it) (sym t.0)))) (at_snoc (map holder_of c.views) (holder_of n) h j e);
           held = λ pos. let a = k.turn.held pos in (a.0, a.1, at_longer (map holder_of c.views) (holder_of n ∷ []) a.0 a.1 a.2, a.3);
         };
-        durable = record { from = k.durable.from; ordered = k.durable.ordered; persisted = k.durable.persisted };
+        durable = record { from = k.durable.from; ordered = k.durable.ordered; durable_from = k.durable.durable_from; drawn = k.durable.drawn };
         sized = k.sized;
         some_box = k.some_box;
         each = λ j u e. ⊎_elim
@@ -366,7 +368,7 @@ module _ (z : Setup) where
   pub turn_join_keep : (c : State) (id other : ℕ) (v w : View) (g : Ghost) → ThreadsIn z g c → TurnKept z c → MayJoin c id v other w → TurnKept z (join z c id v other w)
   turn_join_keep c id other v w g s k may =
       let both = both_of v w in let gone = spent z in let m = k.each id v may.is_there in let m2 = k.each other w may.other_there in let vs : List View = set c.views id both in
-      let from : z.first ≤ c.durable = (let a = k.durable.from in let b = k.durable.ordered in omega arith) in
+      let from : z.first ≤ c.durable = k.durable.durable_from in
       let one : map holder_of vs ≡ map holder_of c.views = unmoved holder_of c.views id v both may.is_there refl in
       let two : map holder_of (set vs other gone) ≡ set (map holder_of c.views) other (holder_of gone) = map-set holder_of vs other gone ∙ ap (λ (l : List Holder). set l other (holder_of gone)) one in
       record {
@@ -376,7 +378,7 @@ module _ (z : Setup) where
               let apart : a.0 ≢ other = λ e. let h = some-injective (holder_of w) a.1 (sym (at_map holder_of c.views other w may.other_there) ∙ (ap (get_elem? (map holder_of c.views)) (sym e) ∙ a.2)) in true≢false (sym (ap (λ (y : Holder). y.has_it) h ∙ a.3) ∙ may.no_turn) in
               (a.0, a.1, set_else (map holder_of c.views) other a.0 (holder_of gone) apart ∙ a.2, a.3);
         };
-        durable = record { from = k.durable.from; ordered = k.durable.ordered; persisted = k.durable.persisted };
+        durable = record { from = k.durable.from; ordered = k.durable.ordered; durable_from = k.durable.durable_from; drawn = k.durable.drawn };
         sized = k.sized;
         some_box = k.some_box;
         each = each_set (λ i y. KnowsTurn z c.boxes c.durable y) vs other gone (fresh_knows c.boxes c.durable gone k.some_box from refl refl refl refl)

@@ -6,7 +6,7 @@ use Rattle.std.proofs.lemmas.List.{map-set, set-get_or}
 use Rattle.std.proofs.lemmas.List.Elements.{All-append}
 use mathlib.Core.Option.{some, some-injective}
 use mathlib.Core.Logic.{dite}
-use native.Mathlib.Decide.{ℕ_discrete, dec_lt}
+use native.Mathlib.Decide.{ℕ_discrete}
 use lib.ListN.{get_elem?}
 use Rattle.dude_base.specs.declared.limits.TheConstants.{PAGE}
 use Rattle.dude_base.specs.declared.write.Write.{Write}
@@ -110,13 +110,10 @@ module _ (z : Setup) where
   same_sub fs i f e = e
 
   -- the value that is filled in is the one at the clock
-  fill_value : (c : State) (g : Ghost) → LocksIn z g c → EntriesKept z g c → NumbersKept z g c → TurnKept z c → PagesKept z g c → (p i x : ℕ) → page_of i ≡ p → g.frame p ≡ None → get_or c.touches p 0 ≤ c.reproduced
+  fill_value : (c : State) (g : Ghost) → LocksIn z g c → EntriesKept z g c → TurnKept z c → PagesKept z g c → (p i x : ℕ) → page_of i ≡ p → g.frame p ≡ None → get_or c.touches p 0 ≤ c.reproduced
       → x ≡ value_at z.opening (all_entries c.views) c.reproduced i → x ≡ value z.opening g.claims.hist c.clock i
-  fill_value c g l o nu t k p i x of_page absent old is =
-      let from = t.durable.from in let ordered = t.durable.ordered in
-      let below : c.reproduced ≤ c.clock = dite (dec_lt z.first c.durable)
-      (λ lt. let b = (nu.placed.of_persisted c.durable (t.durable.persisted c.durable lt (omega arith))).2 in omega arith)
-      (λ ge. let b = l.numbers.from in omega arith) in
+  fill_value c g l o t k p i x of_page absent old is =
+      let below : c.reproduced ≤ c.clock = t.durable.ordered in
       is ∙ (value_is z g c o c.reproduced i ∙ sym (value_still z.opening g.claims.hist c.reproduced c.clock i below
       (λ n lt le w f. ⊎_elim
       (λ b. absurd (let e : get_or c.touches (page_of i) 0 ≡ get_or c.touches p 0 = ap (λ (r : ℕ). get_or c.touches r 0) of_page in omega arith))
@@ -402,7 +399,7 @@ module _ (z : Setup) where
       let e0 = fill p f i x in let can = a.may.can in let cell : ℕ = cell_of f i in let w : View = view_after z e0 v (get_or c.cells cell 0) in let pages = (k.each id v a.is_there).turn can.0 in
       let absent = (pages.touches_with p can.2.0 can.2.1).0 in
       let old : get_or c.touches p 0 ≤ c.reproduced = (let b = (pages.touches_with p can.2.0 can.2.1).1 in let q = a.fits.1 can.2.0 can.2.1 in omega arith) in
-      let value_now = fill_value c g l o nu t k p i x can.1 absent old (a.fits.2 told) in
+      let value_now = fill_value c g l o t k p i x can.1 absent old (a.fits.2 told) in
       let knows = (pages_keep z e0 c id v g s l t k a).each id w (set_here c.views id w (there c.views id v a.is_there)) in let after_pages = knows.turn can.0 in
       let no_page = (after_pages.filled_absent i f (inl (refl, refl))).1 in
       let inside : cell < length c.cells = (let size = k.frames.sized in let small = a.may.named.1 in let off = mod-lt i {m = PAGE} (omega arith) in omega arith) in

@@ -160,21 +160,17 @@ pub record May (z : Setup) (e : Event) (v : View) : Type 0 where
   pub named : Names z e
   pub can : Can z e v
 
--- ---- what the event asks of the rest of the state, where no medium says it
+-- ---- what the event asks of the rest of the state
 -- no entry names the frame
 abbrev pub IsFree : Setup → State → ℕ → Type 0
 IsFree z c f = (p : ℕ) → p < z.pages → 0 < slice_index c.entries p → frame_in (slice_index c.entries p) ≢ f
 
--- all numbers over the opening one and up to x are persisted
-abbrev pub IsPersistedUpTo : Setup → List RedoRecord → ℕ → Type 0
-IsPersistedUpTo z rs x = (n : ℕ) → z.first < n → n ≤ x → has (map (λ r. r.number) rs) n ≡ true
-
--- a box that is emptied is full; the durable number rises within what is persisted, the reproduced one up to it; a word
+-- a box that is emptied is full; the durable and the reproduced number don't fall, and are numbers that were drawn; a word
 -- is filled into a free frame, once the home has all writes of its page; every other event asks nothing
 abbrev pub Fits : Setup → Event → State → View → Type 0
 Fits z (empty_box t j) c v = 0 < slice_index c.boxes (box_of z t j)
-Fits z (raise_durable x) c v = (c.durable ≤ x) × IsPersistedUpTo z c.persisted x
-Fits z (raise_reproduced x) c v = (c.reproduced ≤ x) × (x ≤ c.durable)
+Fits z (raise_durable x) c v = (c.durable ≤ x) × (x ≤ c.clock)
+Fits z (raise_reproduced x) c v = (c.reproduced ≤ x) × (x ≤ c.clock)
 Fits z (fill p f i x) c v = IsFree z c f × ((y : ℕ) → find v.turn.touches p ≡ Some y → y ≤ c.reproduced) × (z.is_told ≡ true → x ≡ value_at z.opening (all_entries c.views) c.reproduced i)
 Fits z e c v = Unit {0}
 

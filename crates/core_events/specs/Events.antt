@@ -6,6 +6,7 @@ use Rattle.tatp_model.specs.declared.request.Request.TheVariants.{Sync}
 use Rattle.tatp_model.specs.declared.reply.Reply.TheVariants.{Durable}
 use Rattle.dude_base.specs.declared.write.Write.{Write}
 use Rattle.dude_base.specs.Writes.{written}
+use Rattle.pmem_trait.specs.Faults.{up_to_last}
 use Rattle.core_events.specs.Setups.{Setup, lock_of, page_of, cell_of, box_of, entry_with, frame_in, without_pins}
 use Rattle.core_events.specs.Keyed.{find, without, has, or_else}
 use Rattle.core_events.specs.Views.{Word, the_threads, the_clock, the_turn, the_durable, the_reproduced, the_lock, the_entry, the_touch, the_cell, the_box, About, Entry, Hand, Transaction, Paging, Turn, View}
@@ -152,13 +153,17 @@ word_after (fill p f i x) v n = x
 word_after (show p f) v n = entry_with f 0
 
 -- ---- the view
+-- one more; a count stays at its last value
+abbrev pub one_more : ℕ → ℕ
+one_more count = up_to_last (count + 1)
+
 -- the word n was found
 abbrev pub noticed : Word → ℕ → View → View
-noticed x n v = record v { found = Some (x, n); count = v.count + 1 }
+noticed x n v = record v { found = Some (x, n); count = one_more v.count }
 
 -- the number n was found in the word, where the exchange wasn't made
 abbrev pub noticed_unless : Bool → Word → ℕ → View → View
-noticed_unless made x n v = record v { found = if made then v.found else Some (x, n); count = if made then v.count else (v.count + 1) }
+noticed_unless made x n v = record v { found = if made then v.found else Some (x, n); count = if made then v.count else one_more v.count }
 
 -- the number n was found in the entry of the page p, and is the one kept of it
 abbrev pub seen_entry : ℕ → ℕ → View → View
@@ -206,7 +211,7 @@ pinning false p n g = record g { entries = (p, n) ∷ g.entries }
 
 -- a turn begins, and what was kept in an earlier one is dropped
 abbrev pub turning : Bool → Turn → Turn
-turning true t = record t { has_it = true; count = t.count + 1; full = []; touches = []; filled = [] }
+turning true t = record t { has_it = true; count = one_more t.count; full = []; touches = []; filled = [] }
 turning false t = t
 
 -- where a turn begins, the page entries that were kept are dropped

@@ -5,7 +5,7 @@ use Rattle.core_events.specs.Keyed.{change}
 use Rattle.core_events.specs.Views.{View}
 use Rattle.core_events.specs.Words.{State}
 use Rattle.core_events.specs.Entries.{History}
-use Rattle.core_events.specs.Events.{Event, number, check, take, draw, decide, release, restore, post, empty_box, evict, show, looked_word, is_good, kept_entry, next_box}
+use Rattle.core_events.specs.Events.{Event, number, check, take, draw, decide, release, restore, post, empty_box, evict, show, looked_word, is_good, kept_entry, next_box, thread_of, place_behind}
 
 -- Who has a lock, by the number of its view, and the version under it. `writing` is an owner whose number is decided
 pub data Hold : Type 0 where
@@ -46,8 +46,8 @@ pub record Claims : Type 0 where
   pub settled : ℕ → Bool
   pub lock : ℕ → Hold
 
--- the claims, whose entries have each decided number, where each number is, the threads of views and the frames of
--- pages
+-- the claims, whose entries have each decided number, where each number is, the threads of views, the frames of pages
+-- and the places of threads
 pub record Ghost : Type 0 where
   pub claims : Claims
   -- in whose entries a decided number is
@@ -58,6 +58,8 @@ pub record Ghost : Type 0 where
   pub home : ℕ → ℕ
   -- the frame of each page that is in one
   pub frame : ℕ → Option ℕ
+  -- the place of each thread's next box
+  pub next : ℕ → ℕ
 
 -- the locks that the view id has taken become those of a writer
 abbrev pub promote : ℕ → Hold → Hold
@@ -120,6 +122,11 @@ frame_after frame c v (evict p) = if slice_index c.entries p == without_pins (ke
 frame_after frame c v (show p f) = change frame p (Some f)
 frame_after frame c v e = frame
 
+-- a post brings its thread to the following place
+abbrev pub next_after : Setup → (ℕ → ℕ) → View → Event → ℕ → ℕ
+next_after z next v post = change next (thread_of v) (place_behind z v.box.next)
+next_after z next v e = next
+
 -- what the event makes of all that is kept beside the state
 abbrev pub ghost_after : Setup → Ghost → State → ℕ → View → Event → Ghost
 ghost_after z g c who v e = record {
@@ -129,6 +136,7 @@ ghost_after z g c who v e = record {
   thread = thread_after g.thread c who e;
   home = home_after g.home c who e;
   frame = frame_after g.frame c v e;
+  next = next_after z g.next v e;
 }
 
 -- what was at the view `other` is at the view `who`

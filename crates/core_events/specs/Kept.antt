@@ -10,6 +10,7 @@ use Rattle.core_events.specs.KeptEntries.{EntriesKept}
 use Rattle.core_events.specs.KeptNumbers.{NumbersKept}
 use Rattle.core_events.specs.KeptTurn.{TurnKept}
 use Rattle.core_events.specs.KeptPages.{PagesKept}
+use Rattle.core_events.specs.KeptOrder.{OrderKept}
 
 -- the layers that say nothing of values
 pub record LayersKept (z : Setup) (g : Ghost) (c : State) : Type 0 where
@@ -19,6 +20,7 @@ pub record LayersKept (z : Setup) (g : Ghost) (c : State) : Type 0 where
   pub numbers : NumbersKept z g c
   pub turn : TurnKept z c
   pub pages : PagesKept z g c
+  pub order : OrderKept z g c
 
 -- The kept state: with some ghost beside it all layers hold, that of values only where what the medium gives is known.
 pub record Kept (z : Setup) (c : State) : Type 0 where

@@ -1,9 +1,10 @@
 -- What the laws of the kept state say: which steps keep it, what follows of entries, and what it tells a program that takes the steps.
-use Rattle.std.specs.Prelude.{◌≡◌, ℕ, ◌<◌, true, List, [], ◌∷◌, slice_index}
+use Rattle.std.specs.Prelude.{◌≡◌, ℕ, ◌+◌, ◌<◌, ◌≤◌, true, List, [], ◌∷◌, Some, slice_index}
 use mathlib.Core.Option.{some}
 use lib.ListN.{get_elem?}
+use Rattle.dude_base.specs.declared.limits.TheConstants.{MAX_NUMBER}
 use Rattle.core_events.specs.Setups.{Setup, IsSetup, page_of, cell_of}
-use Rattle.core_events.specs.Keyed.{total}
+use Rattle.core_events.specs.Keyed.{find, has, total}
 use Rattle.core_events.specs.Views.{Entry, View}
 use Rattle.core_events.specs.Words.{State, found}
 use Rattle.core_events.specs.Entries.{value_at, all_entries, IsLegal}
@@ -31,6 +32,10 @@ LawOfJoins = (z : Setup) (c : State) (who other : ℕ) (v w : View) → Kept z c
 abbrev pub LawOfShownPages : Type 0
 LawOfShownPages = (z : Setup) (c : State) (who p f : ℕ) (v : View) → Kept z c → z.is_told ≡ true → IsAllowed z c who (show p f) v → (i : ℕ) → page_of i ≡ p →
     let d = after z c who v (show p f) in slice_index d.cells (cell_of f i) ≡ value_at z.opening (all_entries d.views) c.clock i
+
+-- the entries of all views of a kept state are legal, where it is known what the medium gives
+abbrev pub LawOfKeptEntries : Type 0
+LawOfKeptEntries = (z : Setup) (c : State) → Kept z c → z.is_told ≡ true → IsLegal z.first z.opening (all_entries c.views)
 
 -- ---- any list of steps
 -- after every list of allowed steps the state is kept
@@ -62,6 +67,28 @@ LawOfFoundWords = (z : Setup) (e : Event) (c : State) (who : ℕ) (v : View) →
 -- a view that has all threads' numbers and all splits, and no number of its own open, has all entries
 abbrev pub LawOfReadOut : Type 0
 LawOfReadOut = (z : Setup) (c : State) (who : ℕ) (v : View) → Kept z c → get_elem? c.views who ≡ some v → HasAll z v → v.tx.hand.number ≡ 0 → IsReadOut z c v
+
+-- ---- what a view alone tells of the rest of a kept state
+-- what is said of each view of a kept state, by the view and the rest
+abbrev pub OfEachView : (Setup → State → View → Type 0) → Type 0
+OfEachView Says = (z : Setup) (c : State) (who : ℕ) (v : View) → Kept z c → get_elem? c.views who ≡ some v → Says z c v
+
+-- a box whose number the view with the turn keeps is full, with this number
+abbrev pub KeepsFull : Setup → State → View → Type 0
+KeepsFull z c v = v.turn.has_it ≡ true → (k n : ℕ) → find v.turn.full k ≡ Some n → (slice_index c.boxes k ≡ n) × (0 < n)
+
+-- where the view may draw all numbers over x, none of them was drawn
+abbrev pub LeavesDraws : Setup → State → View → Type 0
+LeavesDraws z c v = (x : ℕ) → MAX_NUMBER ≤ v.draws + x → c.clock ≤ x
+
+-- a number that the view drew isn't 0, and is at most the clock
+abbrev pub HasDrawn : Setup → State → View → Type 0
+HasDrawn z c v = (n : ℕ) → has v.drawn n ≡ true → (0 < n) × (n ≤ c.clock)
+
+-- the durable and the reproduced word are from the opening number to the clock, and the durable one is at least that of the view
+pub record HasRaised (z : Setup) (c : State) (v : View) : Type 0 where
+  pub durable : (v.turn.durable ≤ c.durable) × (z.first ≤ c.durable) × (c.durable ≤ c.clock)
+  pub reproduced : (z.first ≤ c.reproduced) × (c.reproduced ≤ c.clock)
 
 -- ---- one commit
 -- all steps of the commit are allowed and lead to this state, which has its one entry and its word, durable and reproduced

@@ -6,7 +6,6 @@ use Rattle.core_events.specs.Setups.{Setup, box_of}
 use Rattle.core_events.specs.Keyed.{find}
 use Rattle.core_events.specs.Views.{Boxes, View}
 use Rattle.core_events.specs.Words.{State}
-use Rattle.core_events.specs.Conditions.{IsPersistedUpTo}
 
 -- whose view it is, and whether it has the turn
 pub record Holder : Type 0 where
@@ -22,11 +21,12 @@ pub record TurnHeld (turn : ℕ) (holders : List Holder) : Type 0 where
   pub holds : (j : ℕ) (h : Holder) → get_elem? holders j ≡ some h → h.has_it ≡ true → (t : ℕ) × (h.thread ≡ Some t) × (turn ≡ t + 1)
   pub held : 0 < turn → (j : ℕ) × (h : Holder) × (get_elem? holders j ≡ some h) × (h.has_it ≡ true)
 
--- The reproduced word is at most the durable one, up to which all numbers are persisted. Where a medium is beside, it says more
+-- The reproduced and the durable word are numbers from the opening one to the clock. What is beside the machine says more
 pub record DurableOrdered (z : Setup) (c : State) : Type 0 where
   pub from : z.first ≤ c.reproduced
-  pub ordered : c.reproduced ≤ c.durable
-  pub persisted : IsPersistedUpTo z c.persisted c.durable
+  pub ordered : c.reproduced ≤ c.clock
+  pub durable_from : z.first ≤ c.durable
+  pub drawn : c.durable ≤ c.clock
 
 -- A box that a live view saw empty has the word 0; a view that drew a number saw its next box empty; the view with the turn keeps the
 -- numbers that boxes have

@@ -9,6 +9,7 @@ use Rattle.core_events.specs.Partings.{MaySplit, MayJoin, split, join}
 use Rattle.core_events.specs.Ghosts.{Ghost, ghost_after, ghost_joined}
 use Rattle.core_events.specs.Kept.{LayersKept}
 use Rattle.core_events.specs.KeptTurn.{TurnKept}
+use Rattle.core_events.specs.KeptNumbers.{NumbersKept}
 use Rattle.core_events.specs.Layers.{ThreadsIn, LocksIn}
 
 -- what a layer says of a state, with the ghost beside it
@@ -29,6 +30,13 @@ pub record OverTurn (z : Setup) (g : Ghost) (c : State) : Type 0 where
   pub threads : ThreadsIn z g c
   pub locks : LocksIn z g c
   pub turn : TurnKept z c
+
+-- the layers of threads, of locks, of the turn and of numbers hold
+pub record OverNumbers (z : Setup) (g : Ghost) (c : State) : Type 0 where
+  pub threads : ThreadsIn z g c
+  pub locks : LocksIn z g c
+  pub turn : TurnKept z c
+  pub numbers : NumbersKept z g c
 
 -- all layers that say nothing of values hold, and it is known what the medium gives
 pub record OverLayers (z : Setup) (g : Ghost) (c : State) : Type 0 where

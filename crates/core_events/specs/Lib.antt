@@ -12,10 +12,12 @@ pub mod KeptLocks
 pub mod KeptValues
 pub mod KeptEntries
 pub mod KeptNumbers
+pub mod KeptOrder
 pub mod KeptTurn
 pub mod KeptPages
 pub mod Layers
 pub mod Kept
+pub mod Persisted
 pub mod Telling
 pub mod Plain
 pub mod OneCommit

@@ -4,13 +4,14 @@ use mathlib.Core.Option.{some}
 use lib.ListN.{get_elem?}
 use Rattle.dude_base.specs.declared.limits.TheConstants.{PAGE}
 use Rattle.dude_base.specs.Writes.{written}
-use Rattle.core_events.specs.Setups.{Setup, lock_of, page_of, cell_of, entry_with, ENTRY}
+use Rattle.core_events.specs.Setups.{Setup, lock_of, page_of, cell_of, box_of, entry_with, ENTRY}
 use Rattle.core_events.specs.Keyed.{has, total}
 use Rattle.core_events.specs.Views.{View}
 use Rattle.core_events.specs.Words.{State}
 use Rattle.core_events.specs.Entries.{value_at, writes_of, all_entries}
 use Rattle.core_events.specs.Conditions.{IsUndecided, Owns, Pins}
 use Rattle.core_events.specs.KeptPages.{pins_of, pins_at}
+use Rattle.core_events.specs.KeptOrder.{BoxOrder}
 
 -- the view with this number
 abbrev pub IsView : State → ℕ → View → Type 0
@@ -47,11 +48,18 @@ pub record PlainTurn (c : State) : Type 0 where
   pub holds : (j : ℕ) (v : View) → IsView c j v → v.turn.has_it ≡ true → (t : ℕ) × (v.part.thread ≡ Some t) × (c.turn ≡ t + 1)
   pub held : (t : ℕ) → c.turn ≡ t + 1 → (j : ℕ) × (v : View) × IsView c j v × (v.part.thread ≡ Some t) × (v.turn.has_it ≡ true)
 
--- What the kept state says with no ghost: of locks, undecided numbers, pages and the turn, and of values where it is
--- known what the medium gives.
+-- The open number of a view is over all numbers in its thread's boxes. These rise round the boxes, from some place to the one before it; while
+-- a view has the thread's number, that place is its next box
+pub record PlainOrder (z : Setup) (c : State) : Type 0 where
+  pub over : (i t j : ℕ) (v : View) → IsView c i v → v.part.thread ≡ Some t → j < z.boxes → 0 < v.tx.hand.number → slice_index c.boxes (box_of z t j) < v.tx.hand.number
+  pub rises : (t : ℕ) → (next : ℕ) × BoxOrder z c.boxes t next × ((i : ℕ) (v : View) → IsView c i v → v.part.thread ≡ Some t → v.box.next ≡ next)
+
+-- What the kept state says with no ghost: of locks, undecided numbers, pages, the turn and the order in boxes, and of values
+-- where it is known what the medium gives.
 pub record IsPlain (z : Setup) (c : State) : Type 0 where
   pub locks : PlainLocks z c
   pub undecided : PlainUndecided z c
   pub pages : PlainPages z c
   pub turn : PlainTurn c
+  pub order : PlainOrder z c
   pub values : z.is_told ≡ true → PlainValues z c

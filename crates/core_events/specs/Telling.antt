@@ -1,6 +1,6 @@
 -- What a step of a kept state tells the view that makes it. A program that takes the steps knows its view alone; this is what it learns
 -- of the rest.
-use Rattle.std.specs.Prelude.{◌≡◌, ℕ, ◌+◌, ◌*◌, ◌<◌, ◌≤◌, ◌⊎◌, true, false, length, All, Some}
+use Rattle.std.specs.Prelude.{◌≡◌, ℕ, ◌+◌, ◌*◌, ◌/◌, ◌<◌, ◌≤◌, ◌⊎◌, true, false, length, All, Some}
 use mathlib.Core.Option.{some}
 use lib.ListN.{get_elem?}
 use Rattle.dude_base.specs.declared.limits.TheConstants.{PAGE, MAX_NUMBER}
@@ -33,16 +33,18 @@ pub record IsSized (z : Setup) (c : State) : Type 0 where
   pub boxes : length c.boxes ≡ z.threads * z.boxes
   pub records : length c.records ≡ z.threads * z.boxes
 
--- what holds of a view of a kept state
+-- What holds of a view of a kept state. An old word of a lock that it owns is even, and half of it is the version
 pub record IsSeated (z : Setup) (v : View) : Type 0 where
   pub thread : (t : ℕ) → v.part.thread ≡ Some t → t < z.threads
   pub snapshot : v.tx.is_open ≡ true → (z.first ≤ v.tx.snapshot) × (v.tx.snapshot ≤ MAX_NUMBER)
-  pub owned : (k o : ℕ) → find v.tx.owned k ≡ Some o → (k < z.locks) × ((u : ℕ) × (o ≡ 2 * u) × (u ≤ v.tx.snapshot))
+  pub owned : (k o : ℕ) → find v.tx.owned k ≡ Some o → (k < z.locks) × (o ≡ 2 * (o / 2)) × (o / 2 ≤ v.tx.snapshot)
   pub number : 0 < v.tx.hand.number → (v.tx.is_open ≡ true) × (v.tx.snapshot < v.tx.hand.number) × (v.tx.hand.number ≤ MAX_NUMBER) × (v.box.is_empty ≡ true)
   pub no_number : v.tx.hand.number ≡ 0 → (v.tx.hand.decided ≡ false) × (v.tx.hand.void ≡ false)
   pub pins : (p f : ℕ) → find v.paging.pins p ≡ Some f → (p < z.pages) × (f < z.frames)
   pub next : v.box.next < z.boxes
   pub entries : All (λ e. e.number ≤ MAX_NUMBER) v.entries
+  pub draws : v.draws ≤ MAX_NUMBER
+  pub splits : v.part.splits ≤ z.threads
 
 -- the clock, which is at least every number that the view saw, and leaves room for its draws
 pub record ClockTold (z : Setup) (v : View) (n : ℕ) : Type 0 where

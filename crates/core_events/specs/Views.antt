@@ -95,7 +95,7 @@ pub record Boxes : Type 0 where
 -- what a view keeps of the turn
 pub record Turn : Type 0 where
   pub has_it : Bool
-  -- how many turns it took
+  -- how many turns it took; the count stays at its last value
   pub count : ℕ
   -- the greatest durable number that it raised
   pub durable : ℕ
@@ -116,6 +116,6 @@ pub record View : Type 0 where
   pub box : Boxes
   pub turn : Turn
   pub entries : List Entry
-  -- the last found word, and how many were found
+  -- the last found word, and how many were found; the count stays at its last value
   pub found : Option (Word × ℕ)
   pub count : ℕ

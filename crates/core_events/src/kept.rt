@@ -5,12 +5,13 @@ ghost use Rattle.core_events.specs.Setups.{Setup, IsSetup};
 ghost use Rattle.core_events.specs.Words.{State};
 ghost use Rattle.core_events.specs.Partings.{start};
 ghost use Rattle.core_events.specs.Kept.{Kept};
-ghost use Rattle.core_events.specs.KeptLaws.{LawOfEvents, LawOfSplits, LawOfJoins, LawOfShownPages, LawOfSteps, LawOfLegalEntries, LawOfEntriesMade};
+ghost use Rattle.core_events.specs.KeptLaws.{LawOfEvents, LawOfSplits, LawOfJoins, LawOfShownPages, LawOfKeptEntries, LawOfSteps, LawOfLegalEntries, LawOfEntriesMade};
 ghost use Rattle.core_events.specs.Plain.{IsPlain};
 
 /// The state at the start is kept, and so is the state after each allowed event, each split and
 /// each join from a kept one. A kept state says what `IsPlain` says of its words and views alone.
-/// Each word of a page that is shown is then the value at the clock.
+/// Each word of a page that is shown is then the value at the clock. Where it is known what the
+/// medium gives, the entries of a kept state are legal, whatever led to it.
 pub fn law_of_keeping()
     ensures start { (z : Setup) → IsSetup z → Kept z (start z) }
     ensures event { LawOfEvents }
@@ -18,6 +19,7 @@ pub fn law_of_keeping()
     ensures join { LawOfJoins }
     ensures plain { (z : Setup) (c : State) → Kept z c → IsPlain z c }
     ensures shown { LawOfShownPages }
+    ensures legal { LawOfKeptEntries }
 {}
 
 /// After every list of steps that are allowed the state is kept. The entries of all views are

@@ -2,10 +2,11 @@
 
 ghost use Rattle.core_events.specs.KeptEntries.{EntriesKept};
 ghost use Rattle.core_events.specs.KeptNumbers.{NumbersKept};
+ghost use Rattle.core_events.specs.KeptOrder.{OrderKept};
 ghost use Rattle.core_events.specs.KeptPages.{PagesKept};
 ghost use Rattle.core_events.specs.KeptValues.{ValuesKept};
 ghost use Rattle.core_events.specs.Layers.{ThreadsIn, LocksIn};
-ghost use Rattle.core_events.specs.LayerLaws.{Alone, OverLocks, OverTurn, OverLayers, TurnIn, EventKeeps, SplitKeeps, JoinKeeps};
+ghost use Rattle.core_events.specs.LayerLaws.{Alone, OverLocks, OverTurn, OverNumbers, OverLayers, TurnIn, EventKeeps, SplitKeeps, JoinKeeps};
 
 /// Threads' numbers stay in one view each, and are counted.
 pub fn law_of_threads()
@@ -47,6 +48,13 @@ pub fn law_of_numbers()
     ensures event { EventKeeps OverTurn NumbersKept }
     ensures split { SplitKeeps Alone NumbersKept }
     ensures join { JoinKeeps Alone NumbersKept }
+{}
+
+/// The numbers in each thread's boxes rise, and the open number of its view stays over them.
+pub fn law_of_order()
+    ensures event { EventKeeps OverNumbers OrderKept }
+    ensures split { SplitKeeps Alone OrderKept }
+    ensures join { JoinKeeps Alone OrderKept }
 {}
 
 /// What is said of values stays, where it is known what the medium gives.

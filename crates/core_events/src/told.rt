@@ -4,7 +4,7 @@
 ghost use Rattle.core_events.specs.Setups.{Setup};
 ghost use Rattle.core_events.specs.Words.{State};
 ghost use Rattle.core_events.specs.Kept.{Kept};
-ghost use Rattle.core_events.specs.KeptLaws.{LawOfSeats, LawOfNames, LawOfFoundWords, LawOfReadOut};
+ghost use Rattle.core_events.specs.KeptLaws.{LawOfSeats, LawOfNames, LawOfFoundWords, LawOfReadOut, OfEachView, KeepsFull, LeavesDraws, HasDrawn, HasRaised};
 ghost use Rattle.core_events.specs.Telling.{IsSized};
 
 /// A kept state has its words, each view of it is as its thread may rely on, the word of an event
@@ -17,4 +17,14 @@ pub fn law_of_telling()
     ensures inside { LawOfNames }
     ensures told { LawOfFoundWords }
     ensures read_out { LawOfReadOut }
+{}
+
+/// What a view alone tells of the rest of a kept state, with no step: the boxes whose numbers it
+/// keeps are full, the clock is at most a number where it may draw all greater ones, the numbers
+/// that it drew are up to the clock, and the durable word is at least its own durable number.
+pub fn law_of_views()
+    ensures full { OfEachView KeepsFull }
+    ensures draws { OfEachView LeavesDraws }
+    ensures drawn { OfEachView HasDrawn }
+    ensures raised { OfEachView HasRaised }
 {}

@@ -6,8 +6,9 @@ use Rattle.core_events.specs.Setups.{Setup}
 use Rattle.core_events.specs.Views.{View}
 use Rattle.core_events.specs.Words.{State, found, put}
 use Rattle.core_events.specs.Events.{Event, name, word_after, view_after}
-use Rattle.core_events.specs.Conditions.{May}
-use Rattle.core_events.specs.Partings.{Step, Leads, event}
+use Rattle.core_events.specs.Conditions.{May, IsAllowed}
+use Rattle.core_events.specs.Partings.{Step, event}
+use Rattle.core_events.specs.Persisted.{RecordsAllow, RecordsLead}
 use Rattle.core_events.specs.Telling.{IsSeated, WordTold}
 use Rattle.core_view.specs.declared.deed.Deed.{Deed}
 use Rattle.core_view.specs.Named.{event_of}
@@ -18,13 +19,17 @@ use Rattle.core_state.specs.declared.core_refusal.CoreRefusal.TheVariants.{Off}
 abbrev pub event_by : ℕ → Deed → Step
 event_by who d = event who (event_of d)
 
--- the definitions don't allow the step
+-- the definitions, or what is persisted, don't allow the step
 abbrev pub IsOffAt : Setup → State → Step → Type 0
-IsOffAt z c s = (d : State) → Leads z c s d → ⊥
+IsOffAt z c s = (d : State) → RecordsLead z c s d → ⊥
 
--- a call is refused as off exactly where the definitions don't allow the step
+-- a call is refused as off exactly where the step isn't allowed
 abbrev pub IsOffOnlyAt : {A : Type 0} → Result A CoreRefusal → Setup → State → Step → Type 0
 IsOffOnlyAt r z c s = IsErrOf r Off ↔ IsOffAt z c s
+
+-- the view `who` may make the event, by the definitions and by what is persisted
+abbrev pub MayMake : Setup → State → ℕ → Event → Type 0
+MayMake z c who e = ((v : View) × IsAllowed z c who e v) × RecordsAllow z e c
 
 -- the view `who` may make the event, and knows what it needs of the word
 pub record IsReady (z : Setup) (c : State) (who : ℕ) (e : Event) : Type 0 where

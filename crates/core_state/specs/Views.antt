@@ -9,7 +9,7 @@ use Rattle.core_events.specs.Views.{View, Word, Entry}
 use Rattle.core_events.specs.Words.{State, found}
 use Rattle.core_events.specs.Entries.{value_at, writes_of, all_entries}
 use Rattle.core_events.specs.Events.{Event, name, view_after, thread_of}
-use Rattle.core_events.specs.Conditions.{IsPersistedUpTo, no_record}
+use Rattle.core_events.specs.Conditions.{no_record}
 use Rattle.core_events.specs.Partings.{newcomer, left_of, both_of}
 use Rattle.core_view.specs.declared.deed.Deed.{Deed}
 use Rattle.core_view.specs.Named.{event_of}
@@ -55,10 +55,6 @@ first_view z = newcomer z (z.threads - 1) (MAX_NUMBER - z.first)
 -- no entry of a page names the frame
 abbrev pub NoneNames : Setup → List ℕ → ℕ → Type 0
 NoneNames z entries frame = (p : ℕ) → p < z.pages → 0 < slice_index entries p → frame_in (slice_index entries p) ≢ frame
-
--- the durable number may rise to x
-abbrev pub MayBeDurable : Setup → State → ℕ → Type 0
-MayBeDurable z c x = (c.durable ≤ x) × IsPersistedUpTo z c.persisted x
 
 -- where it is known what the medium gives, x is the value of the home word i at the reproduced number
 abbrev pub IsReproduced : Setup → State → ℕ → ℕ → Type 0

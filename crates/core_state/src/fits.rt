@@ -1,12 +1,14 @@
-//! What an event asks of the rest of the state.
+//! What an event asks of the rest of the state, and of what is persisted.
 
-ghost use Rattle.std.specs.Prelude.{◌≡◌};
+ghost use Rattle.std.specs.Prelude.{◌≡◌, ◌≤◌};
 ghost use Rattle.core_events.specs.Entries.{value_at, all_entries};
-ghost use Rattle.core_events.specs.Conditions.{IsFree, IsPersistedUpTo};
-ghost use Rattle.core_view.specs.Named.{Tells};
+ghost use Rattle.core_events.specs.Conditions.{IsFree};
+ghost use Rattle.core_events.specs.Persisted.{IsPersistedUpTo, RecordsAllow};
+ghost use Rattle.core_view.specs.Named.{Tells, event_of, of_turn};
 
 use crate::scans::{are_persisted, none_names, value_at};
 use crate::state::State;
+use core_view::deed::{Deed, TurnDeed};
 use core_view::setup::Setup;
 
 impl State {
@@ -17,8 +19,47 @@ impl State {
         none_names(&self.entries, z, frame)
     }
 
+    // What is persisted allows the event.
+    pub(crate) fn records_allow(&self, z: &Setup, deed: &Deed) -> bool
+        ensures { Tells result (RecordsAllow z.now (event_of deed.now) self.now) }
+    {
+        match deed {
+            Deed::Read(_) => true,
+            Deed::Write(_) => true,
+            Deed::Turn(deed) => self.records_allow_turn(z, deed),
+            Deed::Page(_) => true,
+        }
+    }
+
+    fn records_allow_turn(&self, z: &Setup, deed: &TurnDeed) -> bool
+        ensures { Tells result (RecordsAllow z.now (of_turn deed.now) self.now) }
+    {
+        match deed {
+            TurnDeed::SeeBox => true,
+            TurnDeed::Post => true,
+            TurnDeed::TakeTurn => true,
+            TurnDeed::GiveTurn { failed: _ } => true,
+            TurnDeed::SeeFull {
+                thread: _,
+                place: _,
+            } => true,
+            TurnDeed::EmptyBox {
+                thread: _,
+                place: _,
+            } => true,
+            TurnDeed::RaiseDurable { value } => self.is_persisted_up_to(z, *value),
+            TurnDeed::RaiseReproduced { value } => self.is_durable(*value),
+        }
+    }
+
+    fn is_durable(&self, number: u64) -> bool
+        ensures { Tells result (number ≤ self.now.durable) }
+    {
+        number <= self.durable
+    }
+
     // All numbers over the opening one and up to this are persisted.
-    pub(crate) fn is_persisted_up_to(&self, z: &Setup, number: u64) -> bool
+    fn is_persisted_up_to(&self, z: &Setup, number: u64) -> bool
         ensures { Tells result (IsPersistedUpTo z.now self.now.persisted number) }
     {
         are_persisted(&self.persisted, z, number)

@@ -6,7 +6,7 @@ ghost use Rattle.core_events.specs.Events.{word_after};
 ghost use Rattle.core_events.specs.Conditions.{May, Fits, IsAllowed};
 ghost use Rattle.core_view.specs.Named.{Tells, word_of, event_of, of_turn, of_page};
 ghost use Rattle.core_state.specs.Steps.{IsReady, IsMoved};
-ghost use Rattle.core_state.specs.Views.{OfView, IsNameAt, IsFoundAt, HasAdvanced, MayBeDurable, IsReproduced};
+ghost use Rattle.core_state.specs.Views.{OfView, IsNameAt, IsFoundAt, HasAdvanced, IsReproduced};
 
 use crate::state::State;
 use crate::words::load;
@@ -18,8 +18,8 @@ use core_view::word::Word;
 use std::alloc::{AllocError, Global};
 
 impl State {
-    /// Whether the view `who` may make the event.
-    pub fn allows(&self, z: &Setup, who: u64, deed: &Deed) -> bool
+    // The view `who` may make the event.
+    pub(crate) fn allows(&self, z: &Setup, who: u64, deed: &Deed) -> bool
         ensures { Tells result ((v : Seen) × IsAllowed z.now self.now who (event_of deed.now) v) }
     {
         if who >= self.views.len() as u64 {
@@ -56,8 +56,8 @@ impl State {
                 place: _,
             } => true,
             TurnDeed::EmptyBox { thread, place } => self.is_full(z.box_of(*thread, *place)),
-            TurnDeed::RaiseDurable { value } => self.may_be_durable(z, *value),
-            TurnDeed::RaiseReproduced { value } => self.may_be_reproduced(*value),
+            TurnDeed::RaiseDurable { value } => self.may_rise(self.durable, *value),
+            TurnDeed::RaiseReproduced { value } => self.may_rise(self.reproduced, *value),
         }
     }
 
@@ -67,16 +67,11 @@ impl State {
         0 < load(&self.boxes, at)
     }
 
-    fn may_be_durable(&self, z: &Setup, value: u64) -> bool
-        ensures { Tells result (MayBeDurable z.now self.now value) }
+    // A number rises from this one to a number that was drawn.
+    fn may_rise(&self, from: u64, value: u64) -> bool
+        ensures { Tells result ((from ≤ value) × (value ≤ self.now.clock)) }
     {
-        self.durable <= value && self.is_persisted_up_to(z, value)
-    }
-
-    fn may_be_reproduced(&self, value: u64) -> bool
-        ensures { Tells result ((self.now.reproduced ≤ value) × (value ≤ self.now.durable)) }
-    {
-        self.reproduced <= value && value <= self.durable
+        from <= value && value <= self.clock
     }
 
     fn page_fits(&self, z: &Setup, view: &View, deed: &PageDeed) -> bool

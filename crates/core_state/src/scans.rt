@@ -4,7 +4,7 @@ ghost use Rattle.std.specs.Prelude.{◌≡◌, ◌≤◌, map};
 ghost use Rattle.dude_base.specs.Writes.{written};
 ghost use Rattle.core_events.specs.Keyed.{has};
 ghost use Rattle.core_events.specs.Entries.{value_at, writes_of, all_entries};
-ghost use Rattle.core_events.specs.Conditions.{IsPersistedUpTo};
+ghost use Rattle.core_events.specs.Persisted.{IsPersistedUpTo};
 ghost use Rattle.core_view.specs.Named.{Tells};
 ghost use Rattle.core_state.specs.Views.{NoneNames, NothingWritten};
 

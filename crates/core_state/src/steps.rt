@@ -7,9 +7,10 @@ ghost use Rattle.core_events.specs.Views.{View as Seen};
 ghost use Rattle.core_events.specs.Events.{next_box};
 ghost use Rattle.core_events.specs.Conditions.{IsAllowed, record_of, no_record};
 ghost use Rattle.core_events.specs.Partings.{Leads};
+ghost use Rattle.core_events.specs.Persisted.{RecordsLead};
 ghost use Rattle.core_events.specs.Kept.{Kept};
-ghost use Rattle.core_view.specs.Named.{event_of};
-ghost use Rattle.core_state.specs.Steps.{IsOffOnlyAt, event_by};
+ghost use Rattle.core_view.specs.Named.{Tells, event_of};
+ghost use Rattle.core_state.specs.Steps.{IsOffOnlyAt, MayMake, event_by};
 ghost use Rattle.core_state.specs.Views.{OfView, HasBoxInside, persisted_from, HasForgotten};
 
 use crate::box_event::BoxEvent;
@@ -22,8 +23,8 @@ use dude_base::redo::Redo;
 use std::alloc::{AllocError, Global};
 
 impl State {
-    /// Makes an event of the view `who` that a view makes by itself. It is `Off` only where the definitions don't allow it. After
-    /// an `Err` the state is as it was.
+    /// Makes an event of the view `who` that a view makes by itself. It is `Off` exactly where the
+    /// definitions, or what is persisted, don't allow it. After an `Err` the state is as it was.
     pub fn make(
         &mut self,
         alloc: Global,
@@ -32,17 +33,23 @@ impl State {
         deed: &Deed,
     ) -> Result<(), CoreRefusal>
         requires { Kept z.now self.old }
-        ensures ok { OnOk result (Leads z.now self.old (event_by who deed.now) self.new) }
+        ensures ok { OnOk result (RecordsLead z.now self.old (event_by who deed.now) self.new) }
         ensures err { OnErr result (self.new ≡ self.old) }
         ensures off { IsOffOnlyAt result z.now self.old (event_by who deed.now) }
     {
-        if !self.allows(z, who, deed) {
+        if !self.may_make(z, who, deed) {
             return Err(CoreRefusal::Off);
         }
         match self.make_allowed(alloc, z, who, deed) {
             Ok(()) => Ok(()),
             Err(AllocError) => Err(CoreRefusal::NoMemory),
         }
+    }
+
+    fn may_make(&self, z: &Setup, who: u64, deed: &Deed) -> bool
+        ensures { Tells result (MayMake z.now self.now who (event_of deed.now)) }
+    {
+        self.allows(z, who, deed) && self.records_allow(z, deed)
     }
 
     fn make_allowed(

@@ -1,6 +1,6 @@
 //! What becomes of a view by its events.
 
-ghost use Rattle.std.specs.Prelude.{◌≡◌, ◌<◌, ◌-◌, ◌^◌, OnOk, OnErr, IsTrue, ◌↔◌};
+ghost use Rattle.std.specs.Prelude.{◌≡◌, OnOk, OnErr};
 ghost use Rattle.core_events.specs.Events.{name, view_after};
 ghost use Rattle.core_events.specs.Conditions.{May};
 ghost use Rattle.core_events.specs.Telling.{IsSeated, WordTold};
@@ -16,8 +16,7 @@ use core_view::view::View;
 use core_view::word::Word;
 use std::alloc::{AllocError, Global};
 
-/// Makes the event, where it found this in its word. A view whose counts of found words or of
-/// turns are as large as they can be has no memory for a greater one.
+/// Makes the event, where it found this in its word.
 pub fn advance(
     view: &mut View,
     alloc: Global,
@@ -33,20 +32,10 @@ pub fn advance(
     ensures ok { OnOk result (view.new ≡ view_after z.now (event_of deed.now) view.old found) }
     ensures err { OnErr result (view.new ≡ view.old) }
 {
-    if !can_count(view) {
-        return Err(AllocError);
-    }
     match deed {
         Deed::Read(deed) => read(view, alloc, z, deed, word, found),
         Deed::Write(deed) => write(view, alloc, z, deed, word, found),
         Deed::Turn(deed) => turn(view, z, deed, word, found),
         Deed::Page(deed) => page(view, z, deed, word, found),
     }
-}
-
-// The counts of found words and of turns can each rise by one.
-fn can_count(view: &View) -> bool
-    ensures { IsTrue result ↔ ((view.now.count < 2 ^ 64 - 1) × (view.now.turn.count < 2 ^ 64 - 1)) }
-{
-    view.count < u64::MAX && view.turn.count < u64::MAX
 }

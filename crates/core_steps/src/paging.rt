@@ -1,6 +1,6 @@
 //! What becomes of a view by the events of pages and frames.
 
-ghost use Rattle.std.specs.Prelude.{◌≡◌, ◌<◌, ◌-◌, ◌^◌, OnOk, OnErr};
+ghost use Rattle.std.specs.Prelude.{◌≡◌, ◌<◌, OnOk, OnErr};
 ghost use Rattle.core_events.specs.Setups.{page_of};
 ghost use Rattle.core_events.specs.Events.{entry, pin, load_touch, evict, fill, show, name, view_after};
 ghost use Rattle.core_events.specs.Conditions.{May};
@@ -21,7 +21,6 @@ pub(crate) fn page(
     word: Word,
     found: u64,
 ) -> Result<(), AllocError>
-    requires room { view.old.count < 2 ^ 64 - 1 }
     requires may { May z.now (of_page deed.now) view.old }
     requires name { word_of word ≡ name z.now (of_page deed.now) view.old }
     ensures ok { OnOk result (view.new ≡ view_after z.now (of_page deed.now) view.old found) }
@@ -46,7 +45,6 @@ pub(crate) fn page(
 }
 
 fn see_entry(view: &mut View, z: &Setup, page: u64, found: u64) -> Result<(), AllocError>
-    requires { view.old.count < 2 ^ 64 - 1 }
     ensures ok { OnOk result (view.new ≡ view_after z.now (entry page) view.old found) }
     ensures err { OnErr result (view.new ≡ view.old) }
 {
@@ -56,7 +54,6 @@ fn see_entry(view: &mut View, z: &Setup, page: u64, found: u64) -> Result<(), Al
 }
 
 fn pin(view: &mut View, z: &Setup, page: u64, found: u64) -> Result<(), AllocError>
-    requires { view.old.count < 2 ^ 64 - 1 }
     ensures ok { OnOk result (view.new ≡ view_after z.now (pin page) view.old found) }
     ensures err { OnErr result (view.new ≡ view.old) }
 {
@@ -70,7 +67,6 @@ fn pin(view: &mut View, z: &Setup, page: u64, found: u64) -> Result<(), AllocErr
 }
 
 fn load_touch(view: &mut View, z: &Setup, page: u64, found: u64) -> Result<(), AllocError>
-    requires { view.old.count < 2 ^ 64 - 1 }
     ensures ok { OnOk result (view.new ≡ view_after z.now (load_touch page) view.old found) }
     ensures err { OnErr result (view.new ≡ view.old) }
 {
@@ -80,7 +76,6 @@ fn load_touch(view: &mut View, z: &Setup, page: u64, found: u64) -> Result<(), A
 }
 
 fn evict(view: &mut View, z: &Setup, page: u64, found: u64) -> Result<(), AllocError>
-    requires { view.old.count < 2 ^ 64 - 1 }
     ensures ok { OnOk result (view.new ≡ view_after z.now (evict page) view.old found) }
     ensures err { OnErr result (view.new ≡ view.old) }
 {

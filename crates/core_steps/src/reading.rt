@@ -1,6 +1,6 @@
 //! What becomes of a view by the events of a transaction that reads.
 
-ghost use Rattle.std.specs.Prelude.{◌≡◌, ◌<◌, ◌-◌, ◌^◌, OnOk, OnErr};
+ghost use Rattle.std.specs.Prelude.{◌≡◌, OnOk, OnErr};
 ghost use Rattle.core_events.specs.Events.{begin, extend, load, check, finish, look, name, view_after};
 ghost use Rattle.core_view.specs.Named.{word_of, of_read};
 ghost use Rattle.core_steps.specs.Moves.{confirmed, extended, validated};
@@ -22,7 +22,6 @@ pub(crate) fn read(
     word: Word,
     found: u64,
 ) -> Result<(), AllocError>
-    requires room { view.old.count < 2 ^ 64 - 1 }
     requires name { word_of word ≡ name z.now (of_read deed.now) view.old }
     ensures ok { OnOk result (view.new ≡ view_after z.now (of_read deed.now) view.old found) }
     ensures err { OnErr result (view.new ≡ view.old) }
@@ -40,7 +39,6 @@ pub(crate) fn read(
 }
 
 fn begin(view: &mut View, z: &Setup, found: u64)
-    requires { view.old.count < 2 ^ 64 - 1 }
     ensures { view.new ≡ view_after z.now begin view.old found }
 {
     view.tx.is_open = true;
@@ -53,7 +51,6 @@ fn begin(view: &mut View, z: &Setup, found: u64)
 
 // An extension without reads ends at once.
 fn extend(view: &mut View, z: &Setup, found: u64)
-    requires { view.old.count < 2 ^ 64 - 1 }
     ensures { view.new ≡ view_after z.now extend view.old found }
 {
     view.tx.checked.clear();
@@ -68,7 +65,6 @@ fn extend(view: &mut View, z: &Setup, found: u64)
 }
 
 fn look(view: &mut View, z: &Setup, lock: u64, found: u64)
-    requires { view.old.count < 2 ^ 64 - 1 }
     ensures { view.new ≡ view_after z.now (look lock) view.old found }
 {
     view.tx.look = Some((lock, found));
@@ -77,7 +73,6 @@ fn look(view: &mut View, z: &Setup, lock: u64, found: u64)
 }
 
 fn load(view: &mut View, z: &Setup, at: u64, word: Word, found: u64)
-    requires room { view.old.count < 2 ^ 64 - 1 }
     requires name { word_of word ≡ name z.now (load at) view.old }
     ensures { view.new ≡ view_after z.now (load at) view.old found }
 {
@@ -86,7 +81,6 @@ fn load(view: &mut View, z: &Setup, at: u64, word: Word, found: u64)
 }
 
 fn check(view: &mut View, z: &Setup, lock: u64, found: u64) -> Result<(), AllocError>
-    requires { view.old.count < 2 ^ 64 - 1 }
     ensures ok { OnOk result (view.new ≡ view_after z.now (check lock) view.old found) }
     ensures err { OnErr result (view.new ≡ view.old) }
 {
@@ -158,7 +152,6 @@ fn finish(
     about: &About,
     found: u64,
 ) -> Result<(), AllocError>
-    requires { view.old.count < 2 ^ 64 - 1 }
     ensures ok { OnOk result (view.new ≡ view_after z.now (finish about.now) view.old found) }
     ensures err { OnErr result (view.new ≡ view.old) }
 {

@@ -1,6 +1,6 @@
 //! What becomes of a view by the events of boxes and of the turn.
 
-ghost use Rattle.std.specs.Prelude.{◌≡◌, ◌<◌, ◌-◌, ◌^◌, OnOk, OnErr};
+ghost use Rattle.std.specs.Prelude.{◌≡◌, ◌<◌, OnOk, OnErr};
 ghost use Rattle.core_events.specs.Setups.{box_of};
 ghost use Rattle.core_events.specs.Events.{see_box, post, take_turn, give_turn, see_full, name, view_after};
 ghost use Rattle.core_events.specs.Conditions.{May};
@@ -25,8 +25,6 @@ pub(crate) fn turn(
     word: Word,
     found: u64,
 ) -> Result<(), AllocError>
-    requires room { view.old.count < 2 ^ 64 - 1 }
-    requires turns { view.old.turn.count < 2 ^ 64 - 1 }
     requires seated { IsSeated z.now view.old }
     requires may { May z.now (of_turn deed.now) view.old }
     requires name { word_of word ≡ name z.now (of_turn deed.now) view.old }
@@ -51,7 +49,6 @@ pub(crate) fn turn(
 }
 
 fn see_box(view: &mut View, z: &Setup, word: Word, found: u64)
-    requires room { view.old.count < 2 ^ 64 - 1 }
     requires name { word_of word ≡ name z.now see_box view.old }
     ensures { view.new ≡ view_after z.now see_box view.old found }
 {
@@ -77,8 +74,6 @@ fn post(view: &mut View, z: &Setup, found: u64)
 }
 
 fn take_turn(view: &mut View, z: &Setup, found: u64)
-    requires room { view.old.count < 2 ^ 64 - 1 }
-    requires turns { view.old.turn.count < 2 ^ 64 - 1 }
     ensures { view.new ≡ view_after z.now take_turn view.old found }
 {
     if found != 0 {
@@ -87,7 +82,7 @@ fn take_turn(view: &mut View, z: &Setup, found: u64)
     }
     view.paging.entries.clear();
     view.turn.has_it = true;
-    view.turn.count += 1;
+    view.turn.count = view.turn.count.saturating_add(1);
     view.turn.full.clear();
     view.turn.touches.clear();
     view.turn.filled.clear();
@@ -108,7 +103,6 @@ fn see_full(
     word: Word,
     found: u64,
 ) -> Result<(), AllocError>
-    requires room { view.old.count < 2 ^ 64 - 1 }
     requires thread { thread < z.now.threads }
     requires place { place < z.now.boxes }
     requires name { word_of word ≡ name z.now (see_full thread place) view.old }

@@ -25,7 +25,6 @@ pub(crate) fn write(
     word: Word,
     found: u64,
 ) -> Result<(), AllocError>
-    requires room { view.old.count < 2 ^ 64 - 1 }
     requires may { May z.now (of_write deed.now) view.old }
     requires told { WordTold z.now (of_write deed.now) view.old found }
     requires name { word_of word ≡ name z.now (of_write deed.now) view.old }
@@ -44,7 +43,6 @@ pub(crate) fn write(
 }
 
 fn take(view: &mut View, z: &Setup, lock: u64, found: u64) -> Result<(), AllocError>
-    requires { view.old.count < 2 ^ 64 - 1 }
     ensures ok { OnOk result (view.new ≡ view_after z.now (take lock) view.old found) }
     ensures err { OnErr result (view.new ≡ view.old) }
 {
@@ -91,7 +89,6 @@ fn decide(
     word: Word,
     found: u64,
 ) -> Result<(), AllocError>
-    requires room { view.old.count < 2 ^ 64 - 1 }
     requires name { word_of word ≡ name z.now decide view.old }
     ensures ok { OnOk result (view.new ≡ view_after z.now decide view.old found) }
     ensures err { OnErr result (view.new ≡ view.old) }

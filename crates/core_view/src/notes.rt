@@ -1,6 +1,6 @@
 //! What many events leave in a view.
 
-ghost use Rattle.std.specs.Prelude.{◌≡◌, ◌<◌, ◌-◌, ◌^◌};
+ghost use Rattle.std.specs.Prelude.{◌≡◌};
 ghost use Rattle.core_events.specs.Events.{noticed, dropped};
 ghost use Rattle.core_view.specs.Named.{word_of};
 
@@ -8,13 +8,12 @@ use crate::view::View;
 use crate::word::Word;
 
 impl View {
-    /// The word was found to hold this.
+    /// The word was found to hold this. The count of found words stays at its last value.
     pub fn notice(&mut self, word: Word, found: u64)
-        requires { self.old.count < 2 ^ 64 - 1 }
         ensures { self.new ≡ noticed (word_of word) found self.old }
     {
         self.found = Some((word, found));
-        self.count += 1;
+        self.count = self.count.saturating_add(1);
     }
 
     /// The transaction, which has no number, owns no lock and has no pin, is dropped.

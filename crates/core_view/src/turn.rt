@@ -8,7 +8,7 @@ use std::marker::Model;
 pub struct Turn {
     /// Whether it has the turn.
     pub has_it: bool,
-    /// How many turns it took.
+    /// How many turns it took; the count stays at its last value.
     pub count: u64,
     /// The greatest durable number that it raised.
     pub durable: u64,

@@ -31,7 +31,7 @@ pub struct View {
     pub entries: Vec<Entry>,
     /// The last word that it found, and what it held.
     pub found: Option<(Word, u64)>,
-    /// How many words it found.
+    /// How many words it found; the count stays at its last value.
     pub count: u64,
 }
 

@@ -6,6 +6,7 @@ ghost use Rattle.dude_base.specs.Sizes.{IsAccepted};
 ghost use Rattle.core_events.specs.Setups.{IsSetup};
 ghost use Rattle.core_events.specs.Words.{found};
 ghost use Rattle.core_events.specs.Kept.{Kept};
+ghost use Rattle.core_events.specs.Persisted.{DurablePersisted};
 ghost use Rattle.core_view.specs.Named.{Tells};
 ghost use Rattle.core_state.specs.Steps.{IsOffOnlyAt};
 ghost use Rattle.dude_core.specs.CoreState.{LeadsTo};
@@ -28,7 +29,8 @@ use dude_base::sizes::Sizes;
 use std::alloc::Global;
 use std::marker::Model;
 
-/// The machine: what it is set up with, within its limits, and its state, which is kept.
+/// The machine: what it is set up with, within its limits, and its state, which is kept. No medium is
+/// beside it: a record that left its box counts as persisted.
 #[derive(Drop)]
 pub struct Core {
     setup: Setup,
@@ -42,10 +44,11 @@ impl Model for Core {
 
     ghost use Rattle.core_events.specs.Setups.{IsSetup};
     ghost use Rattle.core_events.specs.Kept.{Kept};
+    ghost use Rattle.core_events.specs.Persisted.{DurablePersisted};
 
     ghost view = { λ a. record { setup = a.setup; state = a.state } };
 
-    ghost invariant = { λ a. IsSetup a.setup × Kept a.setup a.state };
+    ghost invariant = { λ a. IsSetup a.setup × Kept a.setup a.state × DurablePersisted a.setup a.state };
 }
 
 impl Core {
@@ -65,6 +68,7 @@ impl Core {
         ensures made { IfOk result (IsCoreAt words.items sizes.now run.now threads number) }
         ensures setup { IfOk result (λ core. IsSetup core.setup) }
         ensures kept { IfOk result (λ core. Kept core.setup core.state) }
+        ensures persisted { IfOk result (λ core. DurablePersisted core.setup core.state) }
         ensures size { RefusesSize result sizes.now run.now threads }
         ensures fault { IfErr result (IsFaultOf sizes.now run.now) }
     {
@@ -122,12 +126,13 @@ fn size_fault(sizes: &Sizes, run: &Run) -> CoreFault
     }
 }
 
-/// Makes an event by the view `who`. It is `Off` exactly where the definitions don't allow it;
-/// after an `Err` the core is as it was.
+/// Makes an event by the view `who`. It is `Off` exactly where the definitions, or what is
+/// persisted, don't allow it; after an `Err` the core is as it was.
 pub fn core_step(alloc: Global, core: &mut Core, who: u64, event: &Event) -> Result<(), CoreRefusal>
     ensures ok { OnOk result (LeadsTo core.old (step_of who event.now) core.new) }
     ensures setup { core.new.setup ≡ core.old.setup }
     ensures kept { Kept core.new.setup core.new.state }
+    ensures persisted { DurablePersisted core.new.setup core.new.state }
     ensures err { OnErr result (core.new ≡ core.old) }
     ensures off { IsOffOnlyAt result core.old.setup core.old.state (step_of who event.now) }
 {

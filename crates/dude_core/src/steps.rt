@@ -1,7 +1,7 @@
 //! An event made on the state.
 
 ghost use Rattle.std.specs.Prelude.{◌≡◌, ◌↔◌, OnOk, OnErr, IsErrOf};
-ghost use Rattle.core_events.specs.Partings.{Leads};
+ghost use Rattle.core_events.specs.Persisted.{RecordsLead};
 ghost use Rattle.core_events.specs.Kept.{Kept};
 ghost use Rattle.core_state.specs.Steps.{IsOffAt};
 ghost use Rattle.dude_core.specs.Steps.{step_of};
@@ -21,7 +21,7 @@ pub(crate) fn step(
     event: &Event,
 ) -> Result<(), CoreRefusal>
     requires { Kept z.now state.old }
-    ensures ok { OnOk result (Leads z.now state.old (step_of who event.now) state.new) }
+    ensures ok { OnOk result (RecordsLead z.now state.old (step_of who event.now) state.new) }
     ensures err { OnErr result (state.new ≡ state.old) }
     ensures off { IsErrOf result CoreRefusal.Off ↔ IsOffAt z.now state.old (step_of who event.now) }
 {

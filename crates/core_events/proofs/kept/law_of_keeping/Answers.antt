@@ -1,5 +1,5 @@
 use Rattle.core_events.proofs.Plain.{plain, page_shows}
-use Rattle.core_events.proofs.Keeps.{event_keeps, split_keeps, join_keeps}
+use Rattle.core_events.proofs.Keeps.{event_keeps, split_keeps, join_keeps, kept_legal}
 use Rattle.core_events.proofs.Start.{start_keeps}
 use Rattle.core_events.proofs.kept.law_of_keeping.Goals as goal
 
@@ -20,3 +20,6 @@ returns-clause-plain c = λ z b k. plain z b k
 
 pub returns-clause-shown : goal.returns-clause-shown
 returns-clause-shown c = λ z b who p f v k told a i of_page. page_shows z b k told who p f v a i of_page
+
+pub returns-clause-legal : goal.returns-clause-legal
+returns-clause-legal c = λ z b k told. kept_legal z b k told

@@ -1,5 +1,6 @@
 use Rattle.std.proofs.Common.{◌↔◌, OnOk, IsErrOf, sym, subst}
-use Rattle.core_events.specs.Partings.{Step, Leads}
+use Rattle.core_events.specs.Partings.{Step}
+use Rattle.core_events.specs.Persisted.{RecordsLead}
 use Rattle.core_state.specs.declared.core_refusal.CoreRefusal.TheVariants.{Off}
 use Rattle.core_state.specs.Steps.{IsOffAt}
 use Rattle.dude_core.specs.declared.event.Event.{Event}
@@ -14,7 +15,7 @@ returns-in-Join-clause-off c = subst (λ (e : Event). IsErrOf c.join.result Off 
 
 pub returns-in_default : goal.returns-in_default
 returns-in_default c = let same = sym (c.deed_of.ensures c.args.who) in record {
-  ok = subst (λ (s : Step). OnOk c.make.result (Leads c.args.z.now c.args.state.now s c.make.new.self)) same c.make.ensures.ok;
+  ok = subst (λ (s : Step). OnOk c.make.result (RecordsLead c.args.z.now c.args.state.now s c.make.new.self)) same c.make.ensures.ok;
   err = c.make.ensures.err;
   off = subst (λ (s : Step). IsErrOf c.make.result Off ↔ IsOffAt c.args.z.now c.args.state.now s) same c.make.ensures.off;
 }
