@@ -23,15 +23,24 @@ IsFirst-at P Q xs i d below earlier is = record {
   is_this = is;
 }
 
+-- what stands behind the element at this place of a mapped list, and how many stand before it
+pub place_in_map : {X Y : Type 0} (f : X → Y) (xs : List X) (i : ℕ) (d : X) → i < length xs
+    → (later : List Y) × (map f xs ≡ map f (take i xs) ++ f (get_or xs i d) ∷ later) × (i + 1 ≡ length (map f (take i xs)) + 1)
+place_in_map f xs i d below = (
+  map f (drop (i + 1) xs),
+  ap (map f) (split_at xs i d below) ∙ map-append f (take i xs) (get_or xs i d ∷ drop (i + 1) xs),
+  let long : length (map f (take i xs)) ≡ i = length-map (take i xs) f ∙ length-take-le i xs (omega arith) in omega (arith, long),
+)
+
 -- the same in a mapped list
 pub IsFirst-map-at : {X Y : Type 0} (f : X → Y) (P Q : Y → Type 0) (xs : List X) (i : ℕ) (d : X) → i < length xs
     → All P (map f (take i xs)) → Q (f (get_or xs i d)) → IsFirst P Q (map f xs) (i + 1)
 IsFirst-map-at f P Q xs i d below earlier is = record {
   earlier = map f (take i xs);
   this = f (get_or xs i d);
-  later = map f (drop (i + 1) xs);
-  split = ap (map f) (split_at xs i d below) ∙ map-append f (take i xs) (get_or xs i d ∷ drop (i + 1) xs);
-  counted = let long : length (map f (take i xs)) ≡ i = length-map (take i xs) f ∙ length-take-le i xs (omega arith) in omega (arith, long);
+  later = (place_in_map f xs i d below).0;
+  split = (place_in_map f xs i d below).1;
+  counted = (place_in_map f xs i d below).2;
   each_earlier = earlier;
   is_this = is;
 }

@@ -1,12 +1,12 @@
 -- What the files of a command hold, and why they give no requests.
-use Rattle.std.specs.Prelude.{◌≡◌, ℕ, ◌+◌, ◌≤◌, ⊤, IsTrue, Some, None, IsSome, Result, Ok, Err, IsErr, IsErrAnd, List, ◌∷◌, ◌++◌, length, map, All, Any}
+use Rattle.std.specs.Prelude.{◌≡◌, ℕ, ◌+◌, ◌≤◌, ⊤, true, IsTrue, Some, None, IsSome, Result, Ok, Err, IsErr, IsErrAnd, List, [], ◌∷◌, ◌++◌, length, map, All, Any}
 use Rattle.std.specs.List.{AllZip}
 use Rattle.std.specs.Global.{Vec}
 use Rattle.pmem_trait.specs.Sights.{Risen}
 use Rattle.tatp_model.specs.declared.request.Request.{Request}
 use Rattle.tatp_model.specs.Request.{IsInRange}
 use Rattle.tatp_csv.specs.RequestFile.{requests_of}
-use Rattle.dude_io.specs.Files.{FilesSight}
+use Rattle.dude_io.specs.Files.{FilesSight, ReadMade}
 use Rattle.command_edges.specs.declared.fault.Fault.{Fault}
 use Rattle.command_edges.specs.declared.fault.Fault.TheVariants.{File, Text, Memory}
 
@@ -55,13 +55,18 @@ abbrev pub IsFirstBad : List (List ℕ) → FilesSight → ℕ → ℕ → ℕ �
 IsFirstBad names files number row field =
     IsFirst (IsGoodFile files) (λ name. IsBadAt files name row field) names number
 
--- the file of this number, from 1, couldn't be read, and each earlier one is there, where the files are visible
-abbrev pub IsFirstUnread : List (List ℕ) → FilesSight → ℕ → Type 0
-IsFirstUnread names files number = IsFirst (λ name. IsTrue files.is_visible → IsThere files name) (λ name. ⊤) names number
+-- the last read is of the file of this name and failed, where reads are listed
+abbrev pub IsUnread : FilesSight → List ℕ → Type 0
+IsUnread files name = IsTrue files.lists_reads
+    → (earlier : List ReadMade) × (at : ℕ) × (files.reads ≡ earlier ++ record { name = name; at = at; failed = true } ∷ [])
+
+-- the file of this number, from 1, couldn't be read at last, and each earlier one is there, where the files are visible
+abbrev pub IsFirstUnread : List (List ℕ) → FilesSight → FilesSight → ℕ → Type 0
+IsFirstUnread names old new number = IsFirst (λ name. IsTrue old.is_visible → IsThere old name) (IsUnread new) names number
 
 -- Why the files weren't all read: reading one counted a fault, or there was no memory.
 abbrev pub HasReadFault : List (List ℕ) → FilesSight → FilesSight → Fault → Type 0
-HasReadFault names old new (File number) = IsFirstUnread names old number × Risen old.faults new.faults
+HasReadFault names old new (File number) = IsFirstUnread names old new number × Risen old.faults new.faults
 HasReadFault names old new Memory = ⊤
 HasReadFault names old new _ = ⊥
 

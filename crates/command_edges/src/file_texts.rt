@@ -1,8 +1,9 @@
 //! The texts of files.
 
 ghost use Rattle.std.specs.Prelude.{◌≡◌, map, OnOk, IfOk, IfErr};
-ghost use Rattle.dude_io.specs.Files.{FilesStay};
+ghost use Rattle.std.specs.Result.{result_err};
 ghost use Rattle.command_edges.specs.Files.{IsReadFault};
+ghost use Rattle.command_edges.specs.Reads.{ReadsInOrder};
 ghost use Rattle.command_edges.specs.Texts.{AreTextsOf};
 
 use crate::fault::Fault;
@@ -17,7 +18,8 @@ pub fn read_texts<F: Files, S: AsStr>(
     names: &[S],
     files: &mut F,
 ) -> Result<Vec<FileText>, Fault>
-    ensures stays { FilesStay (F.sight files.old) (F.sight files.new) }
+    ensures reads { ReadsInOrder (map S.text names.now) (result_err result)
+        (F.sight files.old) (F.sight files.new) }
     ensures calm { OnOk result ((F.sight files.new).faults ≡ (F.sight files.old).faults) }
     ensures read { IfOk result (AreTextsOf (F.sight files.old) (map S.text names.now)) }
     ensures cause { IfErr result (IsReadFault F.sight (map S.text names.now) files.old files.new) }

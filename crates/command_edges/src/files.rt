@@ -1,8 +1,9 @@
 //! The request files of a command are read, in order, before any of them is parsed.
 
 ghost use Rattle.std.specs.Prelude.{◌≡◌, map, OnOk, IfOk, IfErr};
-ghost use Rattle.dude_io.specs.Files.{FilesStay};
+ghost use Rattle.std.specs.Result.{result_err};
 ghost use Rattle.command_edges.specs.Files.{AreOfFiles, AreInRange, AreFew, IsFileFault, MissingStops, BadStops};
+ghost use Rattle.command_edges.specs.Reads.{ReadsInOrder};
 
 use crate::fault::Fault;
 use crate::file_texts::read_texts;
@@ -19,7 +20,8 @@ pub fn read_files<F: Files, S: AsStr>(
     names: &[S],
     files: &mut F,
 ) -> Result<Vec<Vec<Request>>, Fault>
-    ensures stays { FilesStay (F.sight files.old) (F.sight files.new) }
+    ensures reads { ReadsInOrder (map S.text names.now) (result_err result)
+        (F.sight files.old) (F.sight files.new) }
     ensures calm { OnOk result ((F.sight files.new).faults ≡ (F.sight files.old).faults) }
     ensures read { IfOk result (AreOfFiles (F.sight files.old) (map S.text names.now)) }
     ensures in_range { IfOk result AreInRange }

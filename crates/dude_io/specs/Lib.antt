@@ -1,6 +1,8 @@
 pub mod Files
 pub mod Sink
 pub mod FileText
+pub mod ReadsOfFile
+pub mod ReadList
 pub mod FailPlan
 pub mod MemFile
 pub mod MemFiles

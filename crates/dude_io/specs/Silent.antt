@@ -7,9 +7,9 @@ use Rattle.dude_io.specs.declared.real_sink.RealSink.{RealSink}
 use Rattle.dude_io.specs.Files.{FilesSight, FileRead}
 use Rattle.dude_io.specs.Sink.{SinkSight, WritesSink}
 
--- files of which clauses see the count of faults and no text
+-- files of which clauses see the count of faults, no text and no read
 abbrev pub silent_files : ℕ → FilesSight
-silent_files faults = record { faults = faults; is_visible = false; text = λ _. None }
+silent_files faults = record { faults = faults; is_visible = false; text = λ _. None; lists_reads = false; reads = [] }
 
 -- a sink of which clauses see the count of faults and no byte taken
 abbrev pub silent_sink : ℕ → SinkSight

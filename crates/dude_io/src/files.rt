@@ -7,7 +7,8 @@ use pmem_trait::Failed;
 
 /// Files that are read by name.
 pub trait Files {
-    /// What is known of the files: the count of their faults, and their texts where these are visible.
+    /// What is known of the files: the count of their faults, their texts where these are visible, and the reads made of them
+    /// where these are listed.
     ghost sight: { Self → FilesSight };
 
     /// Reads bytes of the file from byte `at` on to the start of `into`, and answers how many.

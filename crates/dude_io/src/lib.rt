@@ -1,8 +1,9 @@
 //! Files, sinks and image files: the program's edge.
 //!
 //! Callers are generic over `Files` and `Sink`. Each has one ghost member of plain data, its sight: the count of its
-//! faults, and, where they are visible, the texts of the files or the bytes taken. `read_file` and `write_all` are the
-//! loops over them. `MemFiles` and `MemSink` show all, and their contracts say which calls fail.
+//! faults, and, where they are visible, the texts of the files or the bytes taken; for files also the reads made, where these
+//! are listed. `read_file` and `write_all` are the loops over them. `MemFiles` and `MemSink` show all, and their contracts
+//! say which calls fail.
 //!
 //! `RealFiles`, `RealSink` and `FilePmem` are the real edges. They show no content: what is proved of them is that
 //! they are safe, that each call returns, and that the count of faults rises exactly where a call fails, until it
@@ -13,9 +14,11 @@ mod fail_plan;
 mod file_fault;
 mod file_text;
 mod files;
+mod listed_read;
 mod mem_file;
 mod mem_files;
 mod mem_sink;
+mod read_list;
 mod reading;
 mod real_files;
 mod real_sink;
@@ -26,6 +29,7 @@ pub use file_fault::FileFault;
 pub use file_pmem::{EdgeFault, FilePmem, Lock};
 pub use file_text::FileText;
 pub use files::Files;
+pub use listed_read::ListedRead;
 pub use mem_file::MemFile;
 pub use mem_files::MemFiles;
 pub use mem_sink::MemSink;

@@ -3,6 +3,7 @@
 ghost use Rattle.std.specs.Prelude.{◌≡◌, OnOk, IfOk, IfErr};
 ghost use Rattle.dude_io.specs.Files.{FilesStay};
 ghost use Rattle.dude_io.specs.FileText.{IsBounded, IsReadFault, IsFileText};
+ghost use Rattle.dude_io.specs.ReadsOfFile.{ReadsOnce};
 
 use crate::{FileFault, FileText, Files};
 use std::alloc::Global;
@@ -21,6 +22,9 @@ pub fn read_file<F: Files>(
 ) -> Result<FileText, FileFault>
     ensures stays { FilesStay (F.sight files.old) (F.sight files.new) }
     ensures bounded { IfOk result (IsBounded limit) }
+
+    // It makes reads of this file alone, from byte 0 on, each from where the one before ended, and none failed but the last.
+    ensures reads { ReadsOnce limit name.now result (F.sight files.old) (F.sight files.new) }
 
     // Where the files are visible, one that isn't there has no text, and a text is too long exactly over the limit.
     ensures text { IfOk result (IsFileText limit (F.sight files.old) name.now) }

@@ -6,11 +6,11 @@ use Rattle.pmem_trait.specs.Sights.{Sight, OneCall}
 use Rattle.file_pmem.specs.declared.file_pmem.FilePmem.{FilePmem}
 use Rattle.file_pmem.specs.declared.line.Line.{Line}
 use Rattle.file_pmem.specs.declared.spill.Spill.{Spill}
-use Rattle.file_pmem.specs.declared.spill.Spill.TheVariants.{Lost}
+use Rattle.file_pmem.specs.declared.spill.Spill.TheVariants.{Synced, Lost}
 use Rattle.file_pmem.specs.Clock.{silent_medium}
 use Rattle.file_pmem.specs.FileWords.{words_of}
 use Rattle.file_pmem.specs.Line.{NotesLine}
-use Rattle.file_pmem.specs.Spill.{spill_more}
+use Rattle.file_pmem.specs.Spill.{spill_more, spill_fenced}
 use Rattle.file_pmem.specs.WriteCache.{note_room}
 
 -- what is seen of a medium in a file: its length, its moment and its count of faults
@@ -29,16 +29,22 @@ noted_lines medium = medium.cache.noted.items
 abbrev pub pmem_room : {R F D : Type 0} → FilePmem R F D → ℕ
 pmem_room medium = note_room medium.cache
 
+-- what became of the lines that were written for want of room
+abbrev pub spill_of : {R F D : Type 0} → FilePmem R F D → Spill
+spill_of medium = medium.spill
+
 -- a fence failed that should have synced lines that are noted no more
 abbrev pub HasLostLines : {R F D : Type 0} → FilePmem R F D → Type 0
-HasLostLines medium = medium.spill ≡ Lost
+HasLostLines medium = spill_of medium ≡ Lost
 
--- a medium that was just opened: no call on it so far and no fault, no line noted, and room for all notes
+-- a medium that was just opened: no call on it so far and no fault, no line noted, room for all notes, and no line that waits
+-- for a sync or is lost
 pub record IsJustOpened {R F D : Type 0} (medium : FilePmem R F D) : Type 0 where
   pub now : (pmem_sight medium).now ≡ 0
   pub faults : (pmem_sight medium).faults ≡ 0
   pub room : pmem_room medium ≡ 4096
   pub noted : noted_lines medium ≡ []
+  pub spill : spill_of medium ≡ Synced
 
 -- one call: it is as the model has it, and a fault is counted exactly where it fails
 pub record MakesCall {R F D : Type 0} (c : Call) (ok : Bool) (old new : FilePmem R F D) : Type 0 where
@@ -67,4 +73,8 @@ NotesNext line old new = NotesLine (cached_words old) line (notes_left old) (not
 
 -- what became of lines once room was made, or that failed
 abbrev pub spill_made : {R F D : Type 0} → Bool → FilePmem R F D → Spill
-spill_made ok medium = if ok && pmem_room medium == 0 then spill_more medium.spill else medium.spill
+spill_made ok medium = if ok && pmem_room medium == 0 then spill_more (spill_of medium) else spill_of medium
+
+-- what became of lines behind a fence; one for which no moment is left does nothing
+abbrev pub spill_left : {R F D : Type 0} → Bool → FilePmem R F D → Spill
+spill_left ok medium = if has_moment medium then spill_fenced ok (spill_of medium) else spill_of medium

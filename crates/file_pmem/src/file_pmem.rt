@@ -9,6 +9,7 @@ use crate::write_cache::WriteCache;
 use pmem_trait::{Failed, Medium};
 use std::fs::OpenFile;
 use std::io;
+use std::os::unix::fs::FileExt;
 use std::rt::Files as FileSystem;
 
 /// A medium in a file, of words with their lowest byte first. The words stand in memory, and a fence writes the lines
@@ -57,23 +58,26 @@ where
     }
 }
 
-impl<R: FileSystem> FilePmem<R> {
+impl<R: FileSystem> FilePmem<R>
+where
+    R::File: FileExt,
+{
     ghost use Rattle.std.specs.Prelude.{◌≡◌, ◌<◌, OnOk, OnErr, IsOk, [], is_ok, false, if◌then◌else◌};
     ghost use Rattle.file_pmem.specs.Clock.{CountsOutcome};
-    ghost use Rattle.file_pmem.specs.FilePmem.{pmem_room, noted_lines, HasLostLines, room_made, notes_left, spill_made};
+    ghost use Rattle.file_pmem.specs.FilePmem.{pmem_room, noted_lines, HasLostLines, room_made, notes_left, spill_of, spill_made};
     ghost use Rattle.file_pmem.specs.Spill.{spill_fenced};
 
     /// Writes the noted lines and syncs the file. Nothing is synced where lines may be lost.
     fn write_and_sync(&mut self) -> io::Result<()>
         ensures lost { HasLostLines self.old → is_ok result ≡ false }
         ensures cache { self.new.cache ≡ self.old.cache }
-        ensures spill { self.new.spill ≡ self.old.spill }
+        ensures spill { spill_of self.new ≡ spill_of self.old }
         ensures clock { self.new.clock ≡ self.old.clock }
     {
         if matches!(self.spill, Spill::Lost) {
             return Err(io::ErrorKind::Other.into());
         }
-        image_file::write_lines(&mut self.file, self.cache.noted())?;
+        image_file::write_lines(&self.file, self.cache.noted())?;
         self.file.sync_data()
     }
 
@@ -84,7 +88,7 @@ impl<R: FileSystem> FilePmem<R> {
         ensures words { self.new.cache.words ≡ self.old.cache.words }
         ensures room { OnOk result (pmem_room self.new ≡ 4096) }
         ensures lost { HasLostLines self.old → is_ok result ≡ false }
-        ensures spill { self.new.spill ≡ spill_fenced (is_ok result) self.old.spill }
+        ensures spill { spill_of self.new ≡ spill_fenced (is_ok result) (spill_of self.old) }
         ensures clock { CountsOutcome (is_ok result) self.old.clock self.new.clock }
     {
         let settled = self.write_and_sync().is_ok();
@@ -104,13 +108,13 @@ impl<R: FileSystem> FilePmem<R> {
         ensures made { OnOk result (noted_lines self.new ≡ notes_left self.old) }
         ensures kept { OnErr result (noted_lines self.new ≡ noted_lines self.old) }
         ensures words { self.new.cache.words ≡ self.old.cache.words }
-        ensures spill { self.new.spill ≡ spill_made (is_ok result) self.old }
+        ensures spill { spill_of self.new ≡ spill_made (is_ok result) self.old }
         ensures clock { CountsOutcome (is_ok result) self.old.clock self.new.clock }
     {
         if !self.cache.is_full() {
             return Ok(());
         }
-        if image_file::write_lines(&mut self.file, self.cache.noted()).is_err() {
+        if image_file::write_lines(&self.file, self.cache.noted()).is_err() {
             self.clock.fault();
             return Err(Failed);
         }
@@ -120,10 +124,13 @@ impl<R: FileSystem> FilePmem<R> {
     }
 }
 
-impl<R: FileSystem + Eprint> Medium for FilePmem<R> {
+impl<R: FileSystem + Eprint> Medium for FilePmem<R>
+where
+    R::File: FileExt,
+{
     ghost use Rattle.std.specs.Prelude.{◌≡◌, ◌+◌, ◌-◌, ◌*◌, ◌<◌, ◌≤◌, is_ok, IfOk, OnOk, OnErr, false, [], slice_index, if◌then◌else◌};
     ghost use Rattle.pmem_trait.specs.declared.call.Call.TheVariants.{Read, Put, Flush, Fence, Tell};
-    ghost use Rattle.file_pmem.specs.FilePmem.{pmem_sight, pmem_room, cached_words, noted_lines, room_made, has_moment, HasLostLines, MakesCall, NotesNext, words_put};
+    ghost use Rattle.file_pmem.specs.FilePmem.{pmem_sight, pmem_room, cached_words, noted_lines, room_made, has_moment, HasLostLines, MakesCall, NotesNext, words_put, spill_of, spill_made, spill_left};
     ghost use Rattle.std.proofs.Common.{rules};
 
     ghost sight = { pmem_sight };
@@ -142,6 +149,7 @@ impl<R: FileSystem + Eprint> Medium for FilePmem<R> {
         ensures word { IfOk result (λ v. v ≡ slice_index (cached_words self.old) at) }
         ensures words { cached_words self.new ≡ cached_words self.old }
         ensures noted { noted_lines self.new ≡ noted_lines self.old }
+        ensures spill { spill_of self.new ≡ spill_of self.old }
     {
         self.clock.tick()?;
         Ok(self.cache.word(at))
@@ -153,6 +161,7 @@ impl<R: FileSystem + Eprint> Medium for FilePmem<R> {
         ensures put { OnOk result (cached_words self.new ≡ words_put at value self.old) }
         ensures not_put { OnErr result (cached_words self.new ≡ cached_words self.old) }
         ensures noted { noted_lines self.new ≡ noted_lines self.old }
+        ensures spill { spill_of self.new ≡ spill_of self.old }
     {
         self.clock.tick()?;
         self.cache.set(at, value);
@@ -171,6 +180,9 @@ impl<R: FileSystem + Eprint> Medium for FilePmem<R> {
         // Where there is room for the note, it fails only since no moment is left.
         ensures fails { 0 < pmem_room self.old → is_ok result ≡ has_moment self.old }
         ensures room { OnOk result (pmem_room self.new ≡ room_made self.old - 1) }
+
+        // Lines are lost by no flush; those that it writes for want of room wait for the next sync.
+        ensures spill { spill_of self.new ≡ spill_made (is_ok result) self.old }
     {
         self.clock.tick()?;
         self.make_room()?;
@@ -184,9 +196,9 @@ impl<R: FileSystem + Eprint> Medium for FilePmem<R> {
         ensures noted { noted_lines self.new ≡ (if is_ok result then [] else noted_lines self.old) }
         ensures room { OnOk result (pmem_room self.new ≡ 4096) }
 
-        // No fence says that lines are durable which may be lost.
+        // No fence says that lines are durable which may be lost. They are lost exactly where it fails while some wait.
         ensures lost { HasLostLines self.old → is_ok result ≡ false }
-        ensures stays_lost { HasLostLines self.old → HasLostLines self.new }
+        ensures spill { spill_of self.new ≡ spill_left (is_ok result) self.old }
     {
         self.clock.tick()?;
         self.write_noted()
@@ -196,6 +208,7 @@ impl<R: FileSystem + Eprint> Medium for FilePmem<R> {
         ensures one_call { MakesCall (Tell number) (is_ok result) self.old self.new }
         ensures words { cached_words self.new ≡ cached_words self.old }
         ensures noted { noted_lines self.new ≡ noted_lines self.old }
+        ensures spill { spill_of self.new ≡ spill_of self.old }
     {
         self.clock.tick()?;
         match eprintln!(self.rt; "durable {number}") {

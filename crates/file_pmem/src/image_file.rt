@@ -9,7 +9,8 @@ use crate::line::{BYTES, Line};
 use crate::lock::Lock;
 use std::alloc::Global;
 use std::fs::{File, OpenFile, OpenOptions};
-use std::io::{Read, Seek, SeekFrom, Write};
+use std::io::{Read, Write};
+use std::os::unix::fs::FileExt;
 use std::path::Path;
 use std::rt::Files as FileSystem;
 use std::{fs, io};
@@ -122,8 +123,8 @@ pub(crate) fn read_words<F: Read + OpenFile>(
     Ok(words)
 }
 
-/// Writes the lines in order, and doesn't sync them.
-pub(crate) fn write_lines<F: Write + Seek>(file: &mut F, lines: &[Line]) -> io::Result<()> {
+/// Writes the lines in order, and doesn't sync them. Lines that lie one behind another in the file are written at once.
+pub(crate) fn write_lines<F: FileExt>(file: &F, lines: &[Line]) -> io::Result<()> {
     let mut rest = lines;
     while !rest.is_empty() {
         let written = write_run(file, rest)?;
@@ -133,13 +134,12 @@ pub(crate) fn write_lines<F: Write + Seek>(file: &mut F, lines: &[Line]) -> io::
 }
 
 /// Writes the first lines, as far as they are one run, and answers how many.
-fn write_run<F: Write + Seek>(file: &mut F, lines: &[Line]) -> io::Result<usize>
+fn write_run<F: FileExt>(file: &F, lines: &[Line]) -> io::Result<usize>
     requires { 0 < length lines.now }
     ensures { IfOk result (λ n. IsRun n lines.now) }
 {
     let count = run_length(lines);
     let run = &lines[..count];
-    file.seek(SeekFrom::Start(BYTES as u64 * lines[0].number))?;
     if count <= SHORT_RUN {
         write_through(file, run, &mut [0; SHORT_RUN * BYTES])?;
     } else {
@@ -148,13 +148,14 @@ fn write_run<F: Write + Seek>(file: &mut F, lines: &[Line]) -> io::Result<usize>
     Ok(count)
 }
 
-/// Writes the bytes of these lines at the file's place, by way of these bytes.
-fn write_through<F: Write>(file: &mut F, lines: &[Line], through: &mut [u8]) -> io::Result<()>
-    requires { 64 * length lines.now ≤ length through.old }
+/// Writes the bytes of these lines, which are one run, at the place of the first one, by way of these bytes.
+fn write_through<F: FileExt>(file: &F, lines: &[Line], through: &mut [u8]) -> io::Result<()>
+    requires some { 0 < length lines.now }
+    requires room { 64 * length lines.now ≤ length through.old }
 {
     let run = &mut through[..BYTES * lines.len()];
     store_lines(lines, run);
-    file.write_all(run)
+    file.write_all_at(run, BYTES as u64 * lines[0].number)
 }
 
 /// How many of the first lines lie one behind another in the file, as far as they are written at once.

@@ -1,13 +1,13 @@
 use Rattle.std.proofs.Common.{◌≡◌, take, map}
 use Rattle.std.specs.List.{AllZip}
-use Rattle.dude_io.specs.Files.{FilesStay}
 use Rattle.command_edges.specs.Texts.{IsTextOf}
+use Rattle.command_edges.proofs.Order.{ReadWhole}
 use Rattle.command_edges.proofs.file_texts.read_texts.Given as goal
 
--- the texts so far are those of the first files
+-- the first files were read whole, and the texts so far are theirs
 abbrev pub invariant-loop-index : goal.invariant-loop-index
 invariant-loop-index g l = record {
-  stays : FilesStay (g.F.Files.sight l.initial.files) (g.F.Files.sight l.files);
   calm : (g.F.Files.sight l.files).faults ≡ (g.F.Files.sight l.initial.files).faults;
   read : AllZip (IsTextOf (g.F.Files.sight l.initial.files)) (map g.S.AsStr.text (take l.index l.names)) l.texts.items;
+  reads : ReadWhole (map g.S.AsStr.text (take l.index l.names)) (g.F.Files.sight l.initial.files) (g.F.Files.sight l.files);
 }

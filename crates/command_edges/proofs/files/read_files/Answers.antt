@@ -1,13 +1,21 @@
 use Rattle.std.proofs.Common.{List, length, ◌≤◌}
 use Rattle.std.specs.Prelude.{All}
+use Rattle.std.specs.Result.{result_err}
 use Rattle.tatp_model.specs.Request.{IsInRange}
 use Rattle.tatp_model.specs.declared.request.Request.{Request}
 use Rattle.command_edges.specs.Files.{OfFile, requests_in}
 use Rattle.command_edges.specs.Texts.{IsTextOf, HoldsRequests}
+use Rattle.command_edges.proofs.Order.{then_fault, parsed_reads}
 use Rattle.command_edges.proofs.Results.{ok_map, err_map, never_ok}
 use Rattle.command_edges.proofs.Told.{of_file, none_missing, none_bad, file_fault}
 use Rattle.command_edges.proofs.Zips.{AllZip-seconds, AllZip-then}
 use Rattle.command_edges.proofs.files.read_files.Goals as goal
+
+pub returns-clause-reads : goal.returns-clause-reads
+returns-clause-reads g c =
+    let all = c.in-Ok.ensures.reads in
+    let texts = rw c.deref.ensures.value at c.parse_texts.ensures.cause in
+    then_fault (result_err c.parse_texts.result) (parsed_reads _ c.parse_texts.result texts) all
 
 pub returns-clause-read : goal.returns-clause-read
 returns-clause-read g c =
