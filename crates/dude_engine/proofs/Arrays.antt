@@ -19,7 +19,7 @@ use Rattle.log_numbered.specs.Arrays.{RunArrays, RecoversIn, array_at, last_numb
 use Rattle.log_numbered.specs.RunLog.{Follows, IsAlive, RecoversOn, log_back, log_end, log_sizes}
 use Rattle.log_numbered.proofs.GoingOn.{recovers_here}
 use Rattle.dude_engine.specs.Opening.{Opening}
-use Rattle.dude_engine.specs.Running.{AreAnswered, HasArrays, FollowsRun, RecoversSoFar, last_performed, tables_after}
+use Rattle.dude_engine.specs.Running.{AreAnswered, HasArrays, FollowsRun, RecoversNearLast, RecoversSoFar, last_performed, tables_after}
 use Rattle.dude_engine.proofs.Numbering.{IsNext, last_push, last_rises, tables_at_last, tables_kept, number_unwritten, number_written, answered_push}
 
 -- ---- one array more
@@ -104,6 +104,22 @@ so_far_among before least opening performed words a told image has low among = r
   most = omega (arith, among.most, has.last_is);
   recovers = record { array = array_at a among.number; recovered = among.recovered; same_sizes = among.same_sizes; stands = has.stand among.number (omega (arith, low, among.from)) among.most };
 }
+
+-- and near the last number, where those arrays are
+near_among : (before least most : ℕ) (opening : Opening) (performed : List Done) (words : List ℕ) (a : RunArrays) (told image : List ℕ) → HasArrays opening performed words a → opening.number ≤ least → last_number a ≤ least + most
+    → RecoversIn opening.sizes a least before told image → RecoversNearLast most opening performed image
+near_among before least most opening performed words a told image has low near among = (
+  among.number,
+  omega (arith, near, among.from, has.last_is),
+  record { array = array_at a among.number; recovered = among.recovered; same_sizes = among.same_sizes; stands = has.stand among.number (omega (arith, low, among.from)) among.most },
+)
+
+pub near_at_end : (before least most : ℕ) (opening : Opening) (performed : List Done) (words : List ℕ) (a : RunArrays) (s t : Sight) → HasArrays opening performed words a → opening.number ≤ least → last_number a ≤ least + most → IsTrue s.is_visible
+    → AtEveryMoment (RecoversIn opening.sizes a least before) s t → EveryImage t.len (λ told image. RecoversNearLast most opening performed image) (state_now t)
+near_at_end before least most opening performed words a s t has low near visible moments =
+    let at = moments.each visible t.now moments.later.now (omega arith) in
+    subst (λ (n : ℕ). EveryImage n (λ told image. RecoversNearLast most opening performed image) (state_now t)) (sym moments.later.len)
+    (record { each = λ image is. near_among before least most opening performed words a (state_now t).told image has low near (at.each image is) })
 
 -- later requests leave what an image recovers to
 pub so_far_push : (before : ℕ) (opening : Opening) (performed : List Done) (d : Done) (told image : List ℕ) → IsNext opening performed d

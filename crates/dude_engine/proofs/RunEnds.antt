@@ -1,5 +1,5 @@
 -- What the end of a run says of all that was done, in the order of files and in the printed order.
-use Rattle.std.proofs.Common.{◌≡◌, ◌↔◌, ℕ, ◌≤◌, Bool, true, false, not, IsTrue, List, [], ◌∷◌, Result, Ok, Err, refl, sym, ap, ◌∙◌, subst, arith, ⊎_elim}
+use Rattle.std.proofs.Common.{◌≡◌, ◌↔◌, ℕ, ◌+◌, ◌≤◌, Bool, true, false, not, IsTrue, List, [], ◌∷◌, Result, Ok, Err, refl, sym, ap, ◌∙◌, subst, arith, ⊎_elim}
 use Rattle.std.specs.List.{All, AllPairs, filter}
 use Rattle.std.specs.Prelude.{IsPermutation, OnOk}
 use Rattle.std.proofs.lemmas.Bool.{cases_Bool, both_ways}
@@ -15,7 +15,7 @@ use Rattle.tatp_model.specs.Database.{Database}
 use Rattle.tatp_model.specs.OneThread.{AllAreDone, RepliesAlong, RepliesOfOneThread, is_changed, is_sync}
 use Rattle.tatp_model.specs.Transaction.{after_request}
 use Rattle.tatp_layout.specs.StandsFor.{StandsFor}
-use Rattle.run_order.specs.Runs.{Collects, Performs, PrecedesInRounds, PrintedLike, SyncsFollow}
+use Rattle.run_order.specs.Runs.{AreFirstInRounds, Collects, Performs, PrecedesInRounds, PrintedLike, SyncsFollow}
 use Rattle.run_order.proofs.Along.{sync_reply}
 use Rattle.run_order.proofs.Law.{law}
 use Rattle.dude_base.specs.declared.sizes.Sizes.{Sizes}
@@ -26,17 +26,21 @@ use Rattle.image_opening.specs.declared.opened.Opened.{Opened}
 use Rattle.image_opening.specs.Opened.{HoldsOpened, IsOpened}
 use Rattle.log_numbered.specs.declared.run_log.RunLog.{RunLog}
 use Rattle.back_store.specs.Told.{WereTold}
-use Rattle.log_numbered.specs.RunLog.{Follows, IsAlive, log_durable, log_end, log_last, log_sizes}
+use Rattle.log_numbered.specs.Arrays.{RecoversIn}
+use Rattle.log_numbered.specs.RunLog.{Follows, IsAlive, log_back, log_durable, log_end, log_last, log_sizes}
+use Rattle.log_numbered.proofs.Closing.{last_near}
+use Rattle.log_numbered.proofs.GoingOn.{recovers_here}
 use Rattle.dude_engine.specs.declared.run.Run.{Run}
 use Rattle.dude_engine.specs.declared.run_fault.RunFault.{RunFault}
 use Rattle.dude_engine.specs.declared.run_fault.RunFault.TheVariants.{Device, NoMemory}
 use Rattle.dude_engine.specs.declared.ran.RanEnd.TheVariants.{Whole, Device as EndsOnDevice}
 use Rattle.dude_engine.specs.Opening.{Opening, RecoversAt, RecoversFrom, last_of}
 use Rattle.dude_engine.specs.Endings.{AreSyncsTold, WasToldLast}
-use Rattle.dude_engine.specs.Plain.{IsOpeningOf, IsWhole, PerformsInRounds, RecoversOnTheRun, ran_well}
-use Rattle.dude_engine.specs.Running.{AreAnswered, HasFailed, IsLeft, IsRunning, IsSettledRun, RecoversSoFar, end_by, last_performed, went_well}
+use Rattle.dude_engine.specs.Plain.{IsOpeningOf, IsWhole, LosesFew, PerformsInRounds, RecoversOnTheRun, most_lost, most_lost_by, ran_well}
+use Rattle.dude_engine.specs.Running.{AreAnswered, EndsNearLast, HasFailed, IsLeft, IsRunning, IsSettledRun, RecoversSoFar, end_by, last_performed, went_well}
+use Rattle.dude_engine.proofs.Arrays.{near_at_end}
 use Rattle.dude_engine.proofs.Numbering.{all_kept, all_upto, first_upto, greatest_all, greatest_from, greatest_within, last_within}
-use Rattle.dude_engine.proofs.Steps.{running_start}
+use Rattle.dude_engine.proofs.Steps.{running_start, visible_on}
 use Rattle.dude_engine.proofs.Tellings.{syncs_told}
 
 -- what holds at the end of every run
@@ -57,13 +61,31 @@ module _ {M : Type 0} {ghosts : Ghosts M} (opening : Opening) (words : List ℕ)
 
   pub ended_by : (served : Result (Unit {0}) RunFault) → IsLeft served opening words run s t → Ended (went_well served) opening words (log_durable run.log) run.done.items s t
   ended_by (Ok done) left = running_ended left
-  ended_by (Err NoMemory) left = running_ended left
+  ended_by (Err NoMemory) left = running_ended left.0
   ended_by (Err Device) left = failed_ended left
 
   pub cause_by : (served : Result (Unit {0}) RunFault) → IsLeft served opening words run s t → end_by served ≡ EndsOnDevice → Risen s.faults t.faults
   cause_by (Ok done) left device = absurd (let no : ⊥ = cc in no)
   cause_by (Err NoMemory) left device = absurd (let no : ⊥ = cc in no)
   cause_by (Err Device) left device = left.cause
+
+-- which numbers every image recovers to at the end
+module _ {M : Type 0} {ghosts : Ghosts M} (opening : Opening) (words : List ℕ) (run : Run M ghosts) (s t : Sight) where
+  near_rest : image_words (log_sizes run.log) ≤ t.len → IsRunning opening words run.lay run.log (words_of run.words) run.done.items s t → IsAlive run.log → EndsNearLast (most_lost_by true) opening words run.done.items s t
+  near_rest room r alive before held visible =
+      let f = r.follows before held in
+      let low : opening.number ≤ log_end run.log = (let from = f.follows.carried.from in let first = f.has.first in omega arith) in
+      near_at_end before (log_end run.log) (most_lost_by true) opening run.done.items (words_of run.words) f.arrays t t f.has low (omega (arith, f.has.last_is, r.last, last_near run.log alive)) (visible_on r.ran visible)
+      (subst (λ (z : Sizes). AtEveryMoment (RecoversIn z f.arrays (log_end run.log) before) t t) r.sizes (recovers_here (log_back run.log) (log_end run.log) t room alive.leads before f.arrays tt f.follows.carried))
+
+  near_settled : (durable : ℕ) → IsSettledRun opening words durable run.done.items s t → EndsNearLast 0 opening words run.done.items s t
+  near_settled durable settled before held visible = record { each = λ image is. (durable, omega (arith, settled.durable_is), (settled.images before held visible).each image is) }
+
+  pub near_by : (served : Result (Unit {0}) RunFault) (durable : ℕ) → image_words (log_sizes run.log) ≤ t.len → IsLeft served opening words run s t → OnOk served (IsSettledRun opening words durable run.done.items s t)
+      → EndsNearLast (most_lost (end_by served)) opening words run.done.items s t
+  near_by (Ok done) durable room left settled = near_settled durable settled
+  near_by (Err NoMemory) durable room left settled = near_rest room left.0 left.1
+  near_by (Err Device) durable room left settled = left.near
 
 -- a call failed exactly where the run ends so
 pub device_by : (served : Result (Unit {0}) RunFault) → (went_well served ≡ false) ↔ (end_by served ≡ EndsOnDevice)
@@ -95,8 +117,8 @@ module _ (opening : Opening) (files : List (List Request)) (performed done : Lis
   performs_of : Performs opening.number opening.sizes.calls opening.database performed
   performs_of = record { numbered = answered.numbered; replies = answered.replies; rounds = rounds }
 
-  pub performs_in_rounds : PerformsInRounds opening files done
-  performs_in_rounds = record { performed = performed; performs = performs_of; collects = collects }
+  pub performs_in_rounds : AreFirstInRounds files done → PerformsInRounds opening files done
+  performs_in_rounds first = record { performed = performed; performs = performs_of; collects = collects; first = first }
 
   pub replies_of : RepliesOfOneThread opening.number opening.sizes.calls opening.database files done
   replies_of = (law opening.number opening.sizes.calls opening.database files performed done performs_of collects).0
@@ -162,6 +184,13 @@ module _ (opening : Opening) (files : List (List Request)) (performed done : Lis
       printed = printed_like.printed;
       images = record { each = λ image is. recovers_printed image durable ((settled.images before held visible).each image is) };
     };
+  }
+
+  pub few_lost_of : (most : ℕ) (words : List ℕ) (s t : Sight) → EndsNearLast most opening words performed s t → LosesFew most opening words done s t
+  few_lost_of most words s t near before held visible = record {
+    order = printed_like.order;
+    printed = printed_like.printed;
+    images = record { each = λ image is. let r = (near before held visible).each image is in (r.0, omega (arith, r.1, last_is_greatest), recovers_printed image r.0 r.2) };
   }
 
   pub syncs_of : (s t : Sight) → AreSyncsTold performed s t → AreSyncsTold done s t

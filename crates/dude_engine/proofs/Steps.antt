@@ -9,7 +9,7 @@ use Rattle.dude_base.specs.Writes.{overwritten}
 use Rattle.dude_base.specs.Image.{image_words}
 use Rattle.pmem_trait.specs.declared.medium.Medium.{Ghosts}
 use Rattle.pmem_trait.specs.Words.{IsImage}
-use Rattle.pmem_trait.specs.Sights.{Sight, state_now, SomeCalls}
+use Rattle.pmem_trait.specs.Sights.{AtEveryMoment, Sight, state_now, SomeCalls}
 use Rattle.pmem_trait.proofs.Laws.{every_moment_here, every_moment_weaker}
 use Rattle.pmem_trait.proofs.Runs.{made_later, ran_here, ran_then, risen_later}
 use Rattle.tatp_model.specs.declared.done.Done.{Done}
@@ -23,23 +23,25 @@ use Rattle.tatp_core.specs.Serves.{Serves}
 use Rattle.word_space.specs.Flats.{words_of, flat_sight, fresh}
 use Rattle.image_opening.specs.Opened.{HoldsOpened}
 use Rattle.log_numbered.specs.declared.run_log.RunLog.{RunLog}
-use Rattle.log_numbered.specs.Arrays.{RunArrays, RecoversIn, array_at, with_writes}
+use Rattle.log_numbered.specs.Arrays.{RunArrays, RecoversIn, array_at, last_number, with_writes}
 use Rattle.back_store.specs.Told.{WereTold}
 use Rattle.back_store.proofs.ToldNumbers.{tells_none, tells_then}
 use Rattle.log_numbered.specs.Backs.{LogGoesOn}
 use Rattle.log_numbered.specs.RunLog.{EndsAtLast, Follows, FollowsOn, IsAlive, RecoversOn, log_back, log_durable, log_end, log_last, log_sizes}
+use Rattle.log_numbered.proofs.Closing.{last_near}
 use Rattle.dude_engine.specs.declared.run.Run.{Run}
 use Rattle.dude_engine.specs.declared.run_fault.RunFault.{RunFault}
 use Rattle.dude_engine.specs.declared.run_fault.RunFault.TheVariants.{Device, NoMemory}
 use Rattle.dude_engine.specs.Opening.{Opening, RecoversAt}
 use Rattle.dude_engine.specs.Endings.{AreSyncsTold, WasToldLast}
+use Rattle.dude_engine.specs.Plain.{most_lost_by}
 use Rattle.dude_engine.specs.Running.{AreAnswered, AreSyncsUpTo, HasArrays, HasFailed, IsLeft, IsReady, IsRunning, IsSettledRun, RecoversSoFar, Runs, last_performed, tables_after}
-use Rattle.dude_engine.proofs.Arrays.{arrays_start, arrays_read, arrays_write, images_rest, moments_on, so_far_among, so_far_push}
+use Rattle.dude_engine.proofs.Arrays.{arrays_start, arrays_read, arrays_write, images_rest, moments_on, near_at_end, so_far_among, so_far_push}
 use Rattle.dude_engine.proofs.Numbering.{IsNext, answered_push, answered_start, first_upto, last_push, number_unwritten, number_written, tables_push, tables_unwritten}
 use Rattle.dude_engine.proofs.Tellings.{syncs_last, syncs_on, syncs_other, syncs_push, syncs_told_other, told_longer}
 
 -- the medium is visible all along
-visible_on : {s t : Sight} → SomeCalls true s t → IsTrue s.is_visible → IsTrue t.is_visible
+pub visible_on : {s t : Sight} → SomeCalls true s t → IsTrue s.is_visible → IsTrue t.is_visible
 visible_on ran visible = (made_later ran.1).is_visible ∙ visible
 
 module _ {M : Type 0} {ghosts : Ghosts M} (opening : Opening) (words : List ℕ) where
@@ -112,12 +114,12 @@ module _ {M : Type 0} {ghosts : Ghosts M} (opening : Opening) (words : List ℕ)
 
   -- a call that failed
   failed_call : (lay : Sizes) (l later : RunLog M ghosts) (current new : List ℕ) (performed done : List Done) (more : RunArrays → RunArrays) (s t u : Sight)
-      → AreAnswered opening done → (AreSyncsTold performed s u → AreSyncsTold done s u)
+      → IsAlive l → last_performed opening.number done ≤ log_last l + 1 → AreAnswered opening done → (AreSyncsTold performed s u → AreSyncsTold done s u)
       → ((before : ℕ) (told image : List ℕ) → RecoversSoFar before opening performed told image → RecoversSoFar before opening done told image)
       → ((a : RunArrays) → HasArrays opening performed current a → HasArrays opening done new (more a))
       → LogGoesOn false (log_back l) t (log_back later) u → RecoversOn more l t u
       → IsRunning opening words lay l current performed s t → HasFailed opening words (log_durable later) done s u
-  failed_call lay l later current new performed done more s t u answered syncs grows arrays goes recovers run = record {
+  failed_call lay l later current new performed done more s t u alive one answered syncs grows arrays goes recovers run = record {
     answered = answered;
     len = goes.len ∙ run.len;
     ran = ran_then run.ran goes.ran;
@@ -125,13 +127,19 @@ module _ {M : Type 0} {ghosts : Ghosts M} (opening : Opening) (words : List ℕ)
     tells = λ visible. tells_then false opening.number (log_durable l) (log_durable later) (state_now s).told (state_now t).told (state_now u).told (run.tells visible) (goes.tells (visible_on run.ran visible));
     syncs = λ visible. syncs (syncs_last false (log_durable l) (log_durable later) performed s t u goes.rises (run.syncs visible) (goes.tells (visible_on run.ran visible)));
     moments = λ before held. moments_on before opening performed done current new more l s t u run.sizes (grows before) arrays (run.moments before held) (run.follows before held) recovers;
+    near = λ before held visible.
+        let f = run.follows before held in
+        let has = arrays f.arrays f.has in
+        let low : opening.number ≤ log_end l = (let from = f.follows.carried.from in let first = f.has.first in omega arith) in
+        near_at_end before (log_end l) (most_lost_by false) opening done new (more f.arrays) t u has low (omega (arith, has.last_is, one, last_near l alive)) (visible_on run.ran visible)
+        (subst (λ (z : Sizes). AtEveryMoment (RecoversIn z (more f.arrays) (log_end l) before) t u) run.sizes (recovers before f.arrays f.follows));
   }
 
   -- an announcement or a settlement that failed
-  pub failed_same : (lay : Sizes) (l later : RunLog M ghosts) (current : List ℕ) (performed : List Done) (s t u : Sight) → LogGoesOn false (log_back l) t (log_back later) u → RecoversOn (λ a. a) l t u
+  pub failed_same : (lay : Sizes) (l later : RunLog M ghosts) (current : List ℕ) (performed : List Done) (s t u : Sight) → IsAlive l → LogGoesOn false (log_back l) t (log_back later) u → RecoversOn (λ a. a) l t u
       → IsRunning opening words lay l current performed s t → HasFailed opening words (log_durable later) performed s u
-  failed_same lay l later current performed s t u goes recovers run =
-      failed_call lay l later current current performed performed (λ a. a) s t u run.answered (λ syncs. syncs) (λ before told image so_far. so_far) (λ a has. has) goes recovers run
+  failed_same lay l later current performed s t u alive goes recovers run =
+      failed_call lay l later current current performed performed (λ a. a) s t u alive (omega (arith, run.last)) run.answered (λ syncs. syncs) (λ before told image so_far. so_far) (λ a has. has) goes recovers run
 
   -- the last number was told last
   told_last_one : (lay : Sizes) (l later : RunLog M ghosts) (current : List ℕ) (performed : List Done) (s t u : Sight) → log_durable later ≡ log_last l
@@ -169,9 +177,10 @@ module _ {M : Type 0} {ghosts : Ghosts M} (opening : Opening) (words : List ℕ)
         (λ before told image so_far. so_far_push before opening performed d told image next so_far)
         (λ a has. arrays_write opening performed d writes current new a run.answered next written is stands has) goes follows recovers run
 
-    pub failed_write : LogGoesOn false (log_back l) t (log_back later) u → HasFailed opening words (log_durable later) (performed ++ d ∷ []) s u
-    failed_write goes =
-        failed_call lay l later current new performed (performed ++ d ∷ []) (with_writes writes) s t u (answered_push opening performed d run.answered next)
+    pub failed_write : IsAlive l → LogGoesOn false (log_back l) t (log_back later) u → HasFailed opening words (log_durable later) (performed ++ d ∷ []) s u
+    failed_write alive goes =
+        failed_call lay l later current new performed (performed ++ d ∷ []) (with_writes writes) s t u alive
+        (omega (arith, run.last, number_written opening performed d next written, last_push opening.number performed d)) (answered_push opening performed d run.answered next)
         (λ syncs. syncs_told_other performed d s u other syncs)
         (λ before told image so_far. so_far_push before opening performed d told image next so_far)
         (λ a has. arrays_write opening performed d writes current new a run.answered next written is stands has) goes recovers run
@@ -222,8 +231,8 @@ module _ {M : Type 0} {ghosts : Ghosts M} (opening : Opening) (words : List ℕ)
   pub left_failed : (result : Result (Unit {0}) RunFault) (run : Run M ghosts) (s t : Sight) → result ≡ Err Device → HasFailed opening words (log_durable run.log) run.done.items s t → IsLeft result opening words run s t
   left_failed result run s t is failed = subst (λ (r : Result (Unit {0}) RunFault). IsLeft r opening words run s t) (sym is) failed
 
-  pub left_memory : (result : Result (Unit {0}) RunFault) (run : Run M ghosts) (s t : Sight) → result ≡ Err NoMemory → Runs opening words run s t → IsLeft result opening words run s t
-  left_memory result run s t is runs = subst (λ (r : Result (Unit {0}) RunFault). IsLeft r opening words run s t) (sym is) runs
+  pub left_memory : (result : Result (Unit {0}) RunFault) (run : Run M ghosts) (s t : Sight) → result ≡ Err NoMemory → Runs opening words run s t → IsAlive run.log → IsLeft result opening words run s t
+  left_memory result run s t is runs alive = subst (λ (r : Result (Unit {0}) RunFault). IsLeft r opening words run s t) (sym is) (runs, alive)
 
 -- a run whose log and words stay is ready still
 pub ready_same : {M : Type 0} {ghosts : Ghosts M} (run later : Run M ghosts) → later.log ≡ run.log → later.lay ≡ run.lay → flat_sight later.words ≡ fresh (words_of later.words) → words_of later.words ≡ words_of run.words → IsReady run → IsReady later

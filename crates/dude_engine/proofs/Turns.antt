@@ -1,14 +1,14 @@
 -- The turns of the files, round after round: how many requests there are, and what a turn adds.
-use Rattle.std.proofs.Common.{add-one, is_ok, true, false, ◌≡◌, ℕ, zero, suc, ◌+◌, ◌≤◌, ◌<◌, List, [], ◌∷◌, ◌++◌, length, length-append, map, take, fold, Some, Result, Ok, Err, refl, sym, ap, ◌∙◌, subst, arith, inl, inr}
-use Rattle.std.specs.List.{All, slice_get, enumerate_from}
-use Rattle.std.proofs.lemmas.List.{length-map, length-take}
+use Rattle.std.proofs.Common.{add-one, is_ok, true, false, ◌≡◌, ℕ, zero, suc, ◌+◌, ◌≤◌, ◌<◌, List, [], ◌∷◌, ◌++◌, length, length-append, map, take, fold, Some, Result, Ok, Err, refl, sym, ap, ◌∙◌, subst, arith, inl, inr, ◌⊎◌, ⊎_elim}
+use Rattle.std.specs.List.{All, Contains, slice_get, enumerate_from}
+use Rattle.std.proofs.lemmas.List.{length-map, length-take, map_push}
 use Rattle.std.proofs.lemmas.List.FromFn.{length-enumerate_from}
-use Rattle.std.proofs.lemmas.List.Elements.{All-head, All-push, All-tail, All-weaker}
+use Rattle.std.proofs.lemmas.List.Elements.{All-head, All-nil, All-push, All-tail, All-weaker, Contains-append_left, Contains-push}
 use Rattle.std.proofs.lemmas.List.Sorted.{length_permutation}
 use Rattle.tatp_model.specs.declared.done.Done.{Done}
 use Rattle.tatp_model.specs.declared.request.Request.{Request}
 use Rattle.tatp_model.specs.OneThread.{indexed_request_of, indexed_requests_from}
-use Rattle.run_order.proofs.FileOrder.{taken}
+use Rattle.run_order.specs.Runs.{first_rounds}
 use Rattle.run_order.proofs.Rounds.{Rounds, rounds_next, rounds_skip}
 use Rattle.pmem_trait.specs.declared.medium.Medium.{Ghosts}
 use Rattle.pmem_trait.specs.Sights.{Sight}
@@ -17,7 +17,7 @@ use Rattle.tatp_model.specs.declared.reply.Reply.TheVariants.{Durable}
 use Rattle.dude_engine.specs.declared.run.Run.{Run}
 use Rattle.dude_engine.specs.declared.run_fault.RunFault.{RunFault}
 use Rattle.dude_engine.specs.Opening.{Opening}
-use Rattle.dude_engine.specs.Requests.{request_count}
+use Rattle.dude_engine.specs.Requests.{HasLength, request_count}
 use Rattle.dude_engine.specs.Running.{Adds, AddsTurn, AddsUnless, IsReady, Runs, ServesMore}
 
 -- ---- how many requests there are
@@ -30,10 +30,10 @@ indexed_count n file (requests ∷ files) =
     let some : length here ≡ length requests = length-map (enumerate_from 0 requests) (λ (r : ℕ × Request). record { file = file; index = r.0; request = r.1 }) ∙ length-enumerate_from 0 requests in
     omega (arith, all, some, indexed_count (n + length requests) (file + 1) files)
 
-taken_count : (i k m n : ℕ) (files : List (List Request)) → m ≤ n → fold (λ count requests. count + length requests) m (taken i k files) ≤ fold (λ count requests. count + length requests) n files
-taken_count i k m n [] less = less
-taken_count i zero m n (requests ∷ files) less = taken_count i zero (m + length (take i requests)) (n + length requests) files (omega (arith, less, length-take i requests))
-taken_count i (suc k) m n (requests ∷ files) less = taken_count i k (m + length (take (i + 1) requests)) (n + length requests) files (omega (arith, less, length-take (i + 1) requests))
+rounds_below : (i k m n : ℕ) (files : List (List Request)) → m ≤ n → fold (λ count requests. count + length requests) m (first_rounds i k files) ≤ fold (λ count requests. count + length requests) n files
+rounds_below i k m n [] less = less
+rounds_below i zero m n (requests ∷ files) less = rounds_below i zero (m + length (take i requests)) (n + length requests) files (omega (arith, less, length-take i requests))
+rounds_below i (suc k) m n (requests ∷ files) less = rounds_below i k (m + length (take (i + 1) requests)) (n + length requests) files (omega (arith, less, length-take (i + 1) requests))
 
 count_next : (n : ℕ) (files : List (List Request)) (i : ℕ) (requests : List Request) → slice_get files i ≡ Some requests
     → fold (λ count file. count + length file) n (take (suc i) files) ≡ fold (λ count file. count + length file) n (take i files) + length requests
@@ -60,8 +60,8 @@ count_first n (suc i) (file ∷ files) = count_first (n + length file) i files
 -- no more is performed than there are requests
 pub rounds_count : (files : List (List Request)) (i k : ℕ) (performed : List Done) → Rounds files i k performed → length performed ≤ request_count files
 rounds_count files i k performed run =
-    let same = length_permutation (map indexed_request_of performed) (indexed_requests_from 0 (taken i k files)) run.same in
-    omega (arith, same, length-map performed indexed_request_of, indexed_count 0 0 (taken i k files), taken_count i k 0 0 files (omega arith))
+    let same = length_permutation (map indexed_request_of performed) (indexed_requests_from 0 (first_rounds i k files)) run.same in
+    omega (arith, same, length-map performed indexed_request_of, indexed_count 0 0 (first_rounds i k files), rounds_below i k 0 0 files (omega arith))
 
 -- ---- one turn
 
@@ -106,12 +106,32 @@ take_next files i requests there = rw add-one (next files i there)
     next (file ∷ files) zero there = let same : file ≡ requests = cc in ap (λ (l : List Request). l ∷ []) same
     next (file ∷ files) (suc i) there = ap (λ (l : List (List Request)). file ∷ l) (next files i there)
 
--- the bound of the files before one, and of that one
-pub next_within : (low high : ℕ) (files : List (List Request)) (i : ℕ) (requests : List Request) → slice_get files i ≡ Some requests → low ≤ high → length requests ≤ high
-    → All (λ file. length file ≤ low) (take i files) → All (λ file. length file ≤ high) (take (i + 1) files)
-next_within low high files i requests there up here all =
-    subst (λ (l : List (List Request)). All (λ file. length file ≤ high) l) (sym (take_next files i requests there))
-    (All-push (λ file. length file ≤ high) (take i files) requests (All-weaker (λ file. length file ≤ low) (λ file. length file ≤ high) (λ file h. omega (arith, h, up)) (take i files) all) here)
+-- No file is longer, and one is as long, or there is none that has a request.
+pub record IsLongest (longest : ℕ) (files : List (List Request)) : Type 0 where
+  pub none_longer : All (λ file. length file ≤ longest) files
+  pub one_as_long : (longest ≡ 0) ⊎ HasLength longest files
+
+pub longest_none : IsLongest 0 []
+longest_none = record { none_longer = All-nil (λ file. length file ≤ 0); one_as_long = inl refl }
+
+longest_push : (low count high : ℕ) (files : List (List Request)) (requests : List Request) → count ≡ length requests → low ≤ high → count ≤ high → (high ≡ low) ⊎ (high ≡ count) → IsLongest low files
+    → IsLongest high (files ++ requests ∷ [])
+longest_push low count high files requests len up here either is =
+    let pushed : map (λ (file : List Request). length file) (files ++ requests ∷ []) ≡ map (λ (file : List Request). length file) files ++ length requests ∷ [] = map_push (λ (file : List Request). length file) files requests in
+    record {
+      none_longer = All-push (λ file. length file ≤ high) files requests (All-weaker (λ file. length file ≤ low) (λ file. length file ≤ high) (λ file h. omega (arith, h, up)) files is.none_longer) (omega (arith, len, here));
+      one_as_long = ⊎_elim
+          (λ (same : high ≡ low). ⊎_elim (λ (zero_is : low ≡ 0). inl (same ∙ zero_is))
+          (λ has. inr (subst (λ (l : List ℕ). Contains l high) (sym pushed) (Contains-append_left (map (λ (file : List Request). length file) files) (length requests ∷ []) high (subst (λ (n : ℕ). HasLength n files) (sym same) has)))) is.one_as_long)
+          (λ (same : high ≡ count). inr (subst (λ (l : List ℕ). Contains l high) (sym pushed) (subst (λ (n : ℕ). Contains (map (λ (file : List Request). length file) files ++ length requests ∷ []) n) (sym (same ∙ len)) (Contains-push (map (λ (file : List Request). length file) files) (length requests)))))
+          either;
+    }
+
+-- the longest of the files before one, and of that one
+pub longest_more : (low count high : ℕ) (files : List (List Request)) (i : ℕ) (requests : List Request) → slice_get files i ≡ Some requests → count ≡ length requests → low ≤ high → count ≤ high → (high ≡ low) ⊎ (high ≡ count)
+    → IsLongest low (take i files) → IsLongest high (take (i + 1) files)
+longest_more low count high files i requests there len up here either is =
+    subst (λ (l : List (List Request)). IsLongest high l) (sym (take_next files i requests there)) (longest_push low count high (take i files) requests len up here either is)
 
 -- ---- a run that is in round i, where it is file k's turn
 

@@ -31,7 +31,11 @@ abbrev pub RecoversAt : Opening → List Done → List ℕ → ℕ → Type 0
 RecoversAt opening order image n = RecoversTo image n opening.sizes (after_number opening.sizes.calls opening.database order n)
 
 -- The image recovers so to a number from the opening one on that is at least every number told behind the first `before`
--- ones, and at most the greatest number done.
+-- ones, and one that the run may come to.
+abbrev pub RecoversAmong : (ℕ → Type 0) → ℕ → Opening → List Done → List ℕ → List ℕ → Type 0
+RecoversAmong Reaches before opening order told image =
+    (n : ℕ) × (opening.number ≤ n) × AtLeast before told n × Reaches n × RecoversAt opening order image n
+
+-- so where the run comes to no number over those done
 abbrev pub RecoversFrom : ℕ → Opening → List Done → List ℕ → List ℕ → Type 0
-RecoversFrom before opening order told image =
-    (n : ℕ) × (opening.number ≤ n) × AtLeast before told n × (n ≤ last_of opening.number order) × RecoversAt opening order image n
+RecoversFrom before opening order = RecoversAmong (λ n. n ≤ last_of opening.number order) before opening order

@@ -1,5 +1,6 @@
 -- The requests of several files.
-use Rattle.std.specs.Prelude.{ℕ, ◌+◌, ◌*◌, ◌≤◌, List, length, fold, All}
+use Rattle.std.specs.Prelude.{ℕ, ◌+◌, ◌*◌, ◌≤◌, List, length, map, fold, All}
+use Rattle.std.specs.List.{Contains}
 use Rattle.dude_base.specs.declared.limits.TheConstants.{MAX_NUMBER}
 use Rattle.tatp_model.specs.declared.request.Request.{Request}
 use Rattle.tatp_model.specs.Request.{IsInRange}
@@ -7,6 +8,10 @@ use Rattle.tatp_model.specs.Request.{IsInRange}
 -- how many requests there are in all
 abbrev pub request_count : List (List Request) → ℕ
 request_count files = fold (λ count file. count + length file) 0 files
+
+-- a file has so many requests
+abbrev pub HasLength : ℕ → List (List Request) → Type 0
+HasLength count files = Contains (map (λ file. length file) files) count
 
 -- each request of each file is in range
 abbrev pub AreInRange : List (List Request) → Type 0

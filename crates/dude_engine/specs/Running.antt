@@ -13,8 +13,7 @@ use Rattle.tatp_model.specs.declared.reply.Reply.TheVariants.{Changed}
 use Rattle.tatp_model.specs.Database.{Database}
 use Rattle.tatp_model.specs.OneThread.{AllAreDone, PrecedesInFiles, RepliesAlong, after_number, after_requests, is_sync}
 use Rattle.tatp_layout.specs.StandsFor.{StandsFor}
-use Rattle.tatp_core.specs.Serves.{Answers}
-use Rattle.run_order.specs.Runs.{Collects, IsNumberedFrom, PrecedesInRounds}
+use Rattle.run_order.specs.Runs.{AreFirstInRounds, Collects, IsNumberedFrom, PrecedesInRounds}
 use Rattle.image_opening.specs.Opened.{HoldsOpened}
 use Rattle.log_numbered.specs.declared.run_log.RunLog.{RunLog}
 use Rattle.log_numbered.specs.Arrays.{RunArrays, array_at, last_number}
@@ -28,7 +27,8 @@ use Rattle.dude_engine.specs.declared.run_fault.RunFault.{RunFault}
 use Rattle.dude_engine.specs.declared.run_fault.RunFault.TheVariants.{Device, NoMemory}
 use Rattle.dude_engine.specs.Opening.{Opening, RecoversAt}
 use Rattle.dude_engine.specs.Endings.{AreSyncsTold, WasToldLast}
-use Rattle.dude_engine.specs.RunCalls.{RunBy, ServedInTurn}
+use Rattle.dude_engine.specs.Plain.{most_lost_by}
+use Rattle.dude_engine.specs.RunCalls.{AreBodyWrites, RunBy, RunParts, ServedInTurn}
 
 -- the number of the last request performed, or the opening one
 abbrev pub last_performed : ℕ → List Done → ℕ
@@ -108,6 +108,15 @@ pub record IsRunning {M : Type 0} {ghosts : Ghosts M} (opening : Opening) (words
 abbrev pub Runs : {M : Type 0} {ghosts : Ghosts M} → Opening → List ℕ → Run M ghosts → Sight → Sight → Type 0
 Runs opening words run s t = IsRunning opening words run.lay run.log (words_of run.words) run.done.items s t
 
+-- the image recovers to a number that is at most so many under that of the last request performed
+abbrev pub RecoversNearLast : ℕ → Opening → List Done → List ℕ → Type 0
+RecoversNearLast most opening performed image = (n : ℕ) × (last_performed opening.number performed ≤ n + most) × RecoversAt opening performed image n
+
+-- where the medium was as the opening left it, every image recovers so at the end
+abbrev pub EndsNearLast : ℕ → Opening → List ℕ → List Done → Sight → Sight → Type 0
+EndsNearLast most opening words performed s t = (before : ℕ) → HoldsOpened before opening.sizes opening.number words s → IsTrue s.is_visible
+    → EveryImage t.len (λ told image. RecoversNearLast most opening performed image) (state_now t)
+
 -- What a run from this opening leaves where the last call on the medium failed: the requests performed are answered as
 -- by one thread, and at each moment every image recovers to the database behind a prefix of them.
 pub record HasFailed (opening : Opening) (words : List ℕ) (durable : ℕ) (performed : List Done) (s t : Sight) : Type 0 where
@@ -124,11 +133,13 @@ pub record HasFailed (opening : Opening) (words : List ℕ) (durable : ℕ) (per
   pub syncs : IsTrue s.is_visible → AreSyncsTold performed s t
   -- where the medium was as the opening left it, every image recovers so at each moment
   pub moments : (before : ℕ) → HoldsOpened before opening.sizes opening.number words s → AtEveryMoment (RecoversSoFar before opening performed) s t
+  -- and at the end near the last number
+  pub near : EndsNearLast (most_lost_by false) opening words performed s t
 
 -- what is left of a run, by an answer
 abbrev pub IsLeft : {M : Type 0} {ghosts : Ghosts M} → Result (Unit {0}) RunFault → Opening → List ℕ → Run M ghosts → Sight → Sight → Type 0
 IsLeft (Ok done) opening words run s t = Runs opening words run s t
-IsLeft (Err NoMemory) opening words run s t = Runs opening words run s t
+IsLeft (Err NoMemory) opening words run s t = Runs opening words run s t × IsAlive run.log
 IsLeft (Err Device) opening words run s t = HasFailed opening words (log_durable run.log) run.done.items s t
 
 -- The last number was told last in this call, and every image recovers to it.
@@ -138,12 +149,12 @@ pub record IsSettledRun (opening : Opening) (words : List ℕ) (durable : ℕ) (
   pub images : (before : ℕ) → HoldsOpened before opening.sizes opening.number words s → IsTrue s.is_visible
       → EveryImage t.len (λ told image. RecoversAt opening performed image durable) (state_now t)
 
--- The words have pending writes, by which the request is served; its reply is `Changed`.
+-- The words have pending writes, those of the request's body; its reply is `Changed`.
 pub record IsChanging {M : Type 0} {ghosts : Ghosts M} (request : Request) (run : Run M ghosts) : Type 0 where
   pub alive : IsAlive run.log
   pub sizes : log_sizes run.log ≡ run.lay
   pub count : length (words_of run.words) ≡ run.lay.pages * PAGE
-  pub answers : Answers run.lay request Changed (flat_sight run.words).reads (flat_sight run.words).writes
+  pub writes : AreBodyWrites run.lay (words_of run.words) request Changed (flat_sight run.words).writes
 
 -- a request done that wrote nothing
 abbrev pub silent_done : ℕ → ℕ → ℕ → Request → Reply → Done
@@ -169,11 +180,15 @@ AddsTurn (Ok done) file index requests old new =
 AddsTurn (Err fault) file index requests old new =
     ((request : Request) × (slice_get requests index ≡ Some request) × Adds file index request old new) ⊎ (new ≡ old)
 
+-- a run as its calls depend on it
+abbrev pub run_parts : {M : Type 0} {ghosts : Ghosts M} → Run M ghosts → RunParts
+run_parts run = record { words = words_of run.words; log = log_parts run.log }
+
 -- From one run to another some requests more are done, and exactly the calls that serve them were made.
 pub record ServesMore {M : Type 0} {ghosts : Ghosts M} (k : Run M ghosts) (s : Sight) (l : Run M ghosts) (t : Sight) : Type 0 where
   pub more : List Done
   pub done : l.done.items ≡ k.done.items ++ more
-  pub makes : Makes (ServedInTurn more (log_parts k.log) (log_parts l.log)) s t
+  pub makes : Makes (ServedInTurn k.lay more (run_parts k) (run_parts l)) s t
 
 -- how a run ended, by its answer
 abbrev pub end_by : Result (Unit {0}) RunFault → RanEnd
@@ -248,12 +263,14 @@ pub record PerformsFiles (result : Result (Unit {0}) RunFault) (files : List (Li
   pub rounds : AllPairs PrecedesInRounds performed
   -- put in the order of the files they are the first ones of each
   pub collects : (done : List Done) → IsPermutation performed done → AllPairs PrecedesInFiles done → Collects files performed done
+  -- and the first ones in the order of rounds
+  pub first : (done : List Done) → IsPermutation performed done → AllPairs PrecedesInFiles done → AreFirstInRounds files done
   -- at Ok all of them
   pub all : OnOk result ((done : List Done) → IsPermutation performed done → AllPairs PrecedesInFiles done → AllAreDone files done)
 
 -- exactly the calls of the run up to its last number were made
 abbrev pub MakesRun : {M : Type 0} {ghosts : Ghosts M} → Run M ghosts → Run M ghosts → Type 0
-MakesRun old new = Makes (RunBy (log_parts old.log) new.done.items (log_durable new.log)) (run_sight old) (run_sight new)
+MakesRun old new = Makes (RunBy old.lay (run_parts old) new.done.items (log_durable new.log)) (run_sight old) (run_sight new)
 
 -- from each opening on that the old run began at, the new one is settled
 abbrev pub SettlesRun : {M : Type 0} {ghosts : Ghosts M} → Run M ghosts → Run M ghosts → Type 0

@@ -1,12 +1,12 @@
 //! A run on one thread: it serves requests in rounds, logs what they write, and settles at the end.
 
-ghost use Rattle.std.specs.Prelude.{◌≡◌, ◌+◌, ◌<◌, ◌≤◌, [], ◌∷◌, ◌++◌, map, length, All, OnOk, false, vec_capacity};
+ghost use Rattle.std.specs.Prelude.{◌≡◌, ◌⊎◌, ◌+◌, ◌<◌, ◌≤◌, [], ◌∷◌, ◌++◌, map, length, All, OnOk, false, vec_capacity};
 ghost use Rattle.dude_base.specs.declared.limits.TheConstants.{MAX_NUMBER};
 ghost use Rattle.tatp_model.specs.declared.request.Request.TheVariants.{Sync};
 ghost use Rattle.tatp_model.specs.OneThread.{is_sync};
 ghost use Rattle.tatp_model.specs.Request.{IsInRange};
 ghost use Rattle.log_numbered.specs.RunLog.{log_last};
-ghost use Rattle.dude_engine.specs.Requests.{AreInRange, HasNumberEach, HasNumbersFor, request_count};
+ghost use Rattle.dude_engine.specs.Requests.{AreInRange, HasLength, HasNumberEach, HasNumbersFor, request_count};
 ghost use Rattle.dude_engine.specs.Running.{HasRoomToNote, IsAtStart, IsChanging, IsReady, LeavesOn, LeavesRun, MakesRun, MayServe, NotesTurn, NotesUnless, NumbersNoMore, PerformsFiles, SettlesRun, silent_done};
 
 use crate::run_fault::RunFault;
@@ -196,9 +196,10 @@ fn count_requests(files: &[Vec<Request>]) -> usize
     count
 }
 
-// How many requests the longest file has.
+// How many requests the longest file has; 0 where there is no file.
 fn longest_file(files: &[Vec<Request>]) -> usize
-    ensures { All (λ requests. length requests ≤ result) (map (λ f. f.items) files.now) }
+    ensures none_longer { All (λ requests. length requests ≤ result) (map (λ f. f.items) files.now) }
+    ensures one_as_long { (result ≡ 0) ⊎ HasLength result (map (λ f. f.items) files.now) }
 {
     let mut longest = 0;
     for requests in files {
@@ -210,6 +211,7 @@ fn longest_file(files: &[Vec<Request>]) -> usize
 fn greater(a: usize, b: usize) -> usize
     ensures first { a ≤ result }
     ensures second { b ≤ result }
+    ensures either { (result ≡ a) ⊎ (result ≡ b) }
 {
     if a < b { b } else { a }
 }

@@ -16,19 +16,18 @@ use Rattle.dude_io.specs.Files.{FilesSight}
 use Rattle.image_format.specs.Causes.{FitsImage}
 use Rattle.command_words.specs.Command.{Meaning}
 use Rattle.dude_engine.specs.Opening.{Opening}
-use Rattle.dude_engine.specs.Plain.{IsWhole}
 use Rattle.command_edges.specs.declared.fault.Fault.{Fault}
 use Rattle.command_edges.specs.declared.fault.Fault.TheVariants.{Device, Memory}
 use Rattle.command_openings.specs.Opens.{Opens}
 use Rattle.command_openings.specs.Openings.{IsOpeningOn, new_opening}
 use Rattle.command_openings.proofs.OneOpening.{one_opening}
-use Rattle.dude_program.specs.Opening.{RequestsAre, Starts, makes_image, runs_requests}
+use Rattle.dude_program.specs.Opening.{IsReachable, RequestsAre, Starts, makes_image, runs_requests}
 use Rattle.dude_program.specs.Headline.{Replies}
 use Rattle.dude_program.specs.Causes.{RanUnlessDevice, RefusesFormat, RefusesOpening}
-use Rattle.dude_program.specs.Work.{RanOver}
+use Rattle.dude_program.specs.Work.{EndsWhole, RanOver}
 use Rattle.dude_program.proofs.FilesRead.{FilesRead}
 use Rattle.dude_program.proofs.Contents.{fits_not_refused, makes_none}
-use Rattle.dude_program.proofs.Crashes.{opens_prefix, crash_prefix, crash_run, end_opened, end_run, last_from, last_over, reachable, sync_none, sync_run}
+use Rattle.dude_program.proofs.Crashes.{opens_prefix, crash_prefix, crash_run, end_opened, end_run, reachable, sync_none, sync_run}
 use Rattle.dude_program.proofs.Endings.{Came, CameBy, Finished}
 use Rattle.dude_program.proofs.Stops.{IsMaker, IsOpener}
 
@@ -113,12 +112,12 @@ module _ {meaning : Meaning} {f g : FilesSight} {opening : Opening} {words : Lis
   ran_behind ran = (ran.0, ran_then opened_image.is_open.ran ran.1, ran.2)
 
   -- a command whose requests were run
-  module _ {requests : List (List Request)} {done : List Done} {last : ℕ} {t : Sight} (runs : runs_requests meaning ≡ true) (are : RequestsAre meaning f opening requests)
+  module _ {Reaches : List Done → ℕ → Type 0} {requests : List (List Request)} {done : List Done} {last : ℕ} {t : Sight} (reaches : (order : List Done) (n : ℕ) → Reaches order n → IsReachable meaning opening order n) (runs : runs_requests meaning ≡ true) (are : RequestsAre meaning f opening requests)
       (passes : makes_image meaning ≡ false → IsTrue f.is_visible → (why : Fault) → RefusesOpening meaning f opening why → ⊥) where
-    abbrev replies_run : {fault : Option Fault} → RanOver opening words requests done last fault m t → Replies meaning f opening done
+    abbrev replies_run : {fault : Option Fault} → RanOver Reaches opening words requests done last fault m t → Replies meaning f opening done
     replies_run run = record { requests = requests; read = are; answered = run.replies; syncs_from = run.syncs_from }
 
-    came_by : (fault : Option Fault) → RanOver opening words requests done last fault m t → CameBy meaning f opening done last s t fault → Came meaning f g opening done last fault s t
+    came_by : (fault : Option Fault) → RanOver Reaches opening words requests done last fault m t → CameBy meaning f opening done last s t fault → Came meaning f g opening done last fault s t
     came_by fault run by = record {
       files = files;
       starts = opened_image.starts;
@@ -127,32 +126,32 @@ module _ {meaning : Meaning} {f g : FilesSight} {opening : Opening} {words : Lis
       on = opened_image.on;
       fits = opened_image.fits;
       replies = inr (replies_run run);
-      crash = crash_run meaning opening words requests done s m t run.ran.0 runs opened_image.is_open run.replies run.moments run.ran.1;
+      crash = crash_run Reaches meaning opening words requests done s m t runs opened_image.is_open reaches run.replies run.moments run.few_lost;
       sync = sync_run (makes_image meaning) opening words done s m t opened_image.is_open run.syncs_follow run.syncs_told;
       ran = ran_behind run.ran;
       nothing = λ opens told why refuses. absurd (passes opens told why refuses);
       cause = by;
     }
 
-    finished : RanOver opening words requests done last None m t → Finished meaning f opening done last s t
+    finished : RanOver Reaches opening words requests done last None m t → Finished meaning f opening done last s t
     finished run =
-        let whole : IsWhole opening words requests done last m t = run.whole refl in
+        let whole : EndsWhole Reaches opening words requests done last m t = run.whole refl in
         record {
           passes = passes;
           replies = replies_run run;
           all = whole.all;
-          none_over = subst (λ (n : ℕ). All (λ d. d.number ≤ n) done) (sym whole.last_is) (last_over opening.number done);
-          from = let up = last_from opening.number done in omega (arith, up, whole.last_is);
-          reachable = reachable meaning opening done last (omega (arith, whole.last_is));
+          none_over = whole.none_over;
+          from = whole.from;
+          reachable = reaches done last whole.reaches;
           end = λ visible. end_run (makes_image meaning) opening words done last s m t opened_image.is_open visible
               (whole.end _ opened_image.is_open.holds (subst (λ b. IsTrue b) (sym (made_later opened_image.is_open.ran.1).is_visible) visible));
         }
 
-    pub came_ran : (fault : Option Fault) → RanOver opening words requests done last fault m t → Came meaning f g opening done last fault s t
+    pub came_ran : (fault : Option Fault) → RanOver Reaches opening words requests done last fault m t → Came meaning f g opening done last fault s t
     came_ran fault run = by run.only
       where
         P : Option Fault → Type 0
-        P o = RanOver opening words requests done last o m t
+        P o = RanOver Reaches opening words requests done last o m t
 
         Q : Option Fault → Type 0
         Q o = Came meaning f g opening done last o s t

@@ -1,5 +1,5 @@
 -- What every image recovers to along a command, from its opening and its run.
-use Rattle.std.proofs.Common.{◌≡◌, ℕ, ◌<◌, ◌≤◌, max, Bool, true, false, cond, not, ◌&&◌, IsTrue, List, [], ◌∷◌, ◌++◌, length, drop, map, refl, sym, ◌∙◌, ap, subst, arith, inl, inr, append_assoc}
+use Rattle.std.proofs.Common.{◌≡◌, ℕ, ◌<◌, ◌≤◌, Bool, true, false, cond, not, ◌&&◌, IsTrue, List, [], ◌∷◌, ◌++◌, length, drop, map, refl, sym, ◌∙◌, ap, subst, arith, inl, inr, append_assoc}
 use Rattle.std.specs.Prelude.{nat_le}
 use Rattle.std.specs.List.{All, filter}
 use Rattle.std.proofs.lemmas.Bool.{lt-leb}
@@ -11,7 +11,7 @@ use Rattle.pmem_trait.specs.Words.{EveryImage}
 use Rattle.pmem_trait.specs.Sights.{Sight, state_now, AtEveryMoment, SomeCalls}
 use Rattle.pmem_trait.proofs.Laws.{every_moment_then, every_moment_weaker}
 use Rattle.pmem_trait.proofs.Told.{calls_told}
-use Rattle.pmem_trait.proofs.Runs.{made_later}
+use Rattle.pmem_trait.proofs.Runs.{made_later, ran_then}
 use Rattle.tatp_model.specs.declared.done.Done.{Done}
 use Rattle.tatp_model.specs.declared.request.Request.{Request}
 use Rattle.tatp_model.specs.Database.{Database}
@@ -19,25 +19,17 @@ use Rattle.tatp_model.specs.OneThread.{IsPrintedOrder, RepliesOfOneThread, after
 use Rattle.run_order.specs.Runs.{SyncsFollow}
 use Rattle.image_recovery.specs.Recovered.{RecoversTo}
 use Rattle.command_words.specs.Command.{Meaning, Meaning.FreshRun, Meaning.FormatImage, Meaning.RunFiles, Meaning.RecoverImage, Meaning.DumpTables, Meaning.DriveLoad}
-use Rattle.dude_engine.specs.Endings.{AreSyncsTold, End, WasToldLast}
-use Rattle.dude_engine.specs.Opening.{Opening, RecoversAt, RecoversFrom, last_of}
-use Rattle.dude_engine.specs.Plain.{RecoversOnTheRun}
+use Rattle.dude_engine.specs.Endings.{AreSyncsTold, End, LosesAtMost, WasToldLast}
+use Rattle.dude_engine.specs.Opening.{Opening, RecoversAmong, RecoversAt, last_of}
+use Rattle.dude_engine.specs.Plain.{LosesFew, most_lost_by}
+use Rattle.dude_engine.proofs.Numbering.{greatest_from}
 use Rattle.command_openings.specs.Opens.{Opens, OpensPartly, ShowsOpening, TellsAtMost}
 use Rattle.dude_program.specs.Opening.{IsReachable, makes_image, runs_requests}
-use Rattle.dude_program.specs.Headline.{Crash, RecoversSince, Sync, WasToldFirst}
+use Rattle.dude_program.specs.Headline.{Crash, LosesFewAtExit, RecoversSince, Sync, WasToldFirst}
 use Rattle.dude_program.specs.Causes.{IsLeftOpened}
+use Rattle.dude_program.specs.Work.{RecoversAlongRun}
 
 -- ---- numbers
-
-pub last_from : (first : ℕ) (done : List Done) → first ≤ last_of first done
-last_from first [] = omega arith
-last_from first (d ∷ done) = let up : max first d.number ≤ last_of (max first d.number) done = last_from (max first d.number) done in omega (arith, up)
-
-pub last_over : (first : ℕ) (done : List Done) → All (λ d. d.number ≤ last_of first done) done
-last_over first [] = All-nil (λ d. d.number ≤ last_of first [])
-last_over first (d ∷ done) =
-    let up : max first d.number ≤ last_of (max first d.number) done = last_from (max first d.number) done in
-    All-cons (λ e. e.number ≤ last_of first (d ∷ done)) d done (omega (arith, up)) (last_over (max first d.number) done)
 
 -- a command may come to each number up to the last one done
 pub reachable : (meaning : Meaning) (opening : Opening) (done : List Done) (n : ℕ) → n ≤ last_of opening.number done → IsReachable meaning opening done n
@@ -95,12 +87,13 @@ shows_since meaning before opening order told image same (inr shown) =
       opening.number,
       omega arith,
       shown.0,
-      reachable meaning opening order opening.number (last_from opening.number order),
+      reachable meaning opening order opening.number (greatest_from opening.number order),
       subst (λ (db : Database). RecoversTo image opening.number opening.sizes db) (sym same) shown.1,
     )
 
-from_since : (meaning : Meaning) (before : ℕ) (opening : Opening) (order : List Done) (told image : List ℕ) → RecoversFrom before opening order told image → RecoversSince meaning before opening order told image
-from_since meaning before opening order told image r = inr (r.0, r.1, r.2, reachable meaning opening order r.0 r.3, r.4)
+from_since : (Reaches : ℕ → Type 0) (meaning : Meaning) (before : ℕ) (opening : Opening) (order : List Done) (told image : List ℕ) → ((n : ℕ) → Reaches n → IsReachable meaning opening order n) → RecoversAmong Reaches before opening order told image
+    → RecoversSince meaning before opening order told image
+from_since Reaches meaning before opening order told image reaches r = inr (r.0, r.1, r.2, reaches r.0 r.3, r.4)
 
 pub printed_none : IsPrintedOrder [] []
 printed_none = record { same = IsPermutation-refl []; sorted = λ i j d before below. absurd (omega (arith, below)) }
@@ -118,30 +111,37 @@ crash_prefix meaning opening s t prefix = record {
   keeps = every_moment_weaker (λ told image size shown. shows_since meaning (length (state_now s).told) opening [] told image refl shown) prefix.moments;
   first_told = λ visible. told_first opening s t (prefix.told visible);
   told_alone = λ alone visible. prefix.told visible;
+  few_lost = inl refl;
 }
 
 pub opens_prefix : (makes : Bool) (opening : Opening) (words : List ℕ) (s t : Sight) → Opens makes opening words s t → OpensPartly makes opening s t
 opens_prefix makes opening words s t is_open = record { moments = is_open.moments; told = λ visible. inr (is_open.told visible) }
 
 -- where requests were run
-pub crash_run : (meaning : Meaning) (opening : Opening) (words : List ℕ) (requests : List (List Request)) (done : List Done) (s m t : Sight) (ok : Bool) → runs_requests meaning ≡ true → Opens (makes_image meaning) opening words s m
-    → RepliesOfOneThread opening.number opening.sizes.calls opening.database requests done → RecoversOnTheRun opening words done m t → SomeCalls ok m t → Crash meaning opening done s t
-crash_run meaning opening words requests done s m t ok runs is_open replies moments calls =
+pub crash_run : (Reaches : List Done → ℕ → Type 0) (meaning : Meaning) (opening : Opening) (words : List ℕ) (requests : List (List Request)) (done : List Done) (s m t : Sight) → runs_requests meaning ≡ true → Opens (makes_image meaning) opening words s m
+    → ((order : List Done) (n : ℕ) → Reaches order n → IsReachable meaning opening order n)
+    → RepliesOfOneThread opening.number opening.sizes.calls opening.database requests done → RecoversAlongRun Reaches opening words done m t → (ok : Bool) × SomeCalls ok m t × LosesFew (most_lost_by ok) opening words done m t → Crash meaning opening done s t
+crash_run Reaches meaning opening words requests done s m t runs is_open reaches replies moments few =
     let run = moments (length (state_now s).told) is_open.holds in
     let start = none_at_opening opening.sizes.calls opening.number opening.database done run.0 run.1 replies.over in
     record {
       order = run.0;
       printed = run.1;
       keeps = every_moment_then (every_moment_weaker (λ told image size shown. shows_since meaning (length (state_now s).told) opening run.0 told image start shown) is_open.moments)
-          (every_moment_weaker (λ told image size shown. from_since meaning (length (state_now s).told) opening run.0 told image shown) run.2);
+          (every_moment_weaker (λ told image size shown. from_since (Reaches run.0) meaning (length (state_now s).told) opening run.0 told image (reaches run.0) shown) run.2);
       first_told = λ visible.
-          let more = calls_told calls.1 (subst (λ b. IsTrue b) (sym (made_later is_open.ran.1).is_visible) visible) in
+          let more = calls_told few.1.1 (subst (λ b. IsTrue b) (sym (made_later is_open.ran.1).is_visible) visible) in
           inr (
             more.more,
             ap (drop (length (state_now s).told)) (more.is ∙ (ap (λ (l : List ℕ). l ++ more.more) (is_open.told visible) ∙ append_assoc (state_now s).told (opening.number ∷ []) more.more))
                 ∙ drop-append_seam (state_now s).told (opening.number ∷ more.more),
           );
       told_alone = λ alone visible. absurd (let no : ⊥ = cc in no);
+      few_lost = inr (λ visible. (
+        few.0,
+        ran_then is_open.ran few.1,
+        few.2 (length (state_now s).told) is_open.holds (subst (λ b. IsTrue b) (sym (made_later is_open.ran.1).is_visible) visible),
+      ));
     }
 
 -- it is said of each opening, since a visible medium has one
@@ -156,6 +156,10 @@ crash_each meaning opening other done s t same crash =
       keeps = record { later = crash.keeps.later; each = λ visible. (subst P (sym (same visible)) crash.keeps).each visible };
       first_told = λ visible. subst Q (sym (same visible)) (crash.first_told visible);
       told_alone = λ alone visible. subst R (sym (same visible)) (crash.told_alone alone visible);
+      few_lost = elim crash.few_lost [
+        | inl none ↦ inl none
+        | inr few ↦ inr (λ visible. let lost = few visible in (lost.0, lost.1, subst (λ (o : Opening). LosesAtMost (most_lost_by lost.0) o done t) (sym (same visible)) lost.2))
+      ];
     }
 
 -- ---- what is told

@@ -1,5 +1,5 @@
 -- A run over an opened image, as the command sees it; the requests of a load; and texts.
-use Rattle.std.proofs.Common.{◌≡◌, ◌⊎◌, ℕ, zero, suc, ◌+◌, ◌<◌, ◌≤◌, List, [], ◌∷◌, ◌++◌, length, map, refl, sym, ◌∙◌, ap, subst, inl, inr, arith, Some, None, Result, Ok, Err, Vec, Global, take, get_or}
+use Rattle.std.proofs.Common.{◌≡◌, ◌⊎◌, ◌↔◌, Bool, true, false, ℕ, zero, suc, ◌+◌, ◌<◌, ◌≤◌, List, [], ◌∷◌, ◌++◌, length, map, refl, sym, ◌∙◌, ap, subst, inl, inr, arith, Some, None, Result, Ok, Err, Vec, Global, take, get_or}
 use Rattle.std.specs.Result.{result_err}
 use Rattle.std.specs.Prelude.{OnOk, IfErr}
 use Rattle.std.specs.List.{All, range_with_len}
@@ -7,20 +7,23 @@ use Rattle.std.proofs.lemmas.List.{length-map, map_more, map-append}
 use Rattle.std.proofs.lemmas.List.Elements.{All-append, All-cons, All-head, All-nil, All-tail}
 use Rattle.std.proofs.lemmas.List.FromFn.{length-map-range_with_len}
 use Rattle.std.proofs.lemmas.List.Sums.{fold-append}
-use Rattle.pmem_trait.specs.Sights.{Sight}
+use Rattle.pmem_trait.specs.Sights.{Sight, SomeCalls}
+use Rattle.tatp_model.specs.declared.done.Done.{Done}
 use Rattle.tatp_model.specs.declared.request.Request.{Request}
 use Rattle.dude_io.specs.Sink.{SinkSight, Took}
 use Rattle.command_edges.specs.Printing.{FailsIn}
 use Rattle.command_edges.specs.Files.{requests_in}
+use Rattle.dude_engine.specs.Opening.{Opening}
 use Rattle.dude_engine.specs.Requests.{request_count}
 use Rattle.dude_engine.specs.declared.ran.RanEnd.{RanEnd}
 use Rattle.dude_engine.specs.declared.ran.RanEnd.TheVariants.{Whole, NoMemory}
 use Rattle.dude_engine.specs.declared.ran.RanEnd.TheVariants as ran
 use Rattle.dude_engine.specs.Plain as plain
+use Rattle.dude_engine.proofs.Numbering.{greatest_all, greatest_from}
 use Rattle.command_edges.specs.declared.fault.Fault.{Fault}
 use Rattle.command_edges.specs.declared.fault.Fault.TheVariants.{Device, Memory}
 use Rattle.dude_program.specs.Causes.{RanUnlessDevice}
-use Rattle.dude_program.specs.Work.{PrintsText, fault_of_end}
+use Rattle.dude_program.specs.Work.{EndsWhole, IsUpToLast, PrintsText, fault_of_end}
 
 pub whole_end : (end : RanEnd) → fault_of_end end ≡ None → end ≡ Whole
 whole_end Whole e = refl
@@ -36,6 +39,39 @@ pub only_ends : (end : RanEnd) → (fault_of_end end ≡ None) ⊎ (fault_of_end
 only_ends Whole = inl refl
 only_ends ran.Device = inr (inl refl)
 only_ends NoMemory = inr (inr refl)
+
+most_by : (end : RanEnd) (ok : Bool) → (ok ≡ false) ↔ (end ≡ ran.Device) → plain.most_lost end ≤ plain.most_lost_by ok
+most_by Whole ok which = omega arith
+most_by ran.Device true which = absurd (let e = which.1 refl in let no : ⊥ = cc in no)
+most_by ran.Device false which = omega arith
+most_by NoMemory true which = omega arith
+most_by NoMemory false which = omega arith
+
+-- how many numbers are lost, by whether each call went well
+pub lost_end : (end : RanEnd) (opening : Opening) (words : List ℕ) (done : List Done) (s t : Sight) → plain.RanUnlessDevice end s t → plain.LosesFew (plain.most_lost end) opening words done s t
+    → (ok : Bool) × SomeCalls ok s t × plain.LosesFew (plain.most_lost_by ok) opening words done s t
+lost_end end opening words done s t ran few = (
+  ran.0,
+  ran.1,
+  λ before held visible.
+      let loses = few before held visible in
+      record {
+        order = loses.order;
+        printed = loses.printed;
+        images = record { each = λ image is. let r = loses.images.each image is in (r.0, omega (arith, r.1, most_by end ran.0 ran.2), r.2) };
+      },
+)
+
+-- the greatest number done is a last number
+pub ends_whole_at : (opening : Opening) (words : List ℕ) (requests : List (List Request)) (done : List Done) (last : ℕ) (s t : Sight) → plain.IsWhole opening words requests done last s t
+    → EndsWhole (IsUpToLast opening) opening words requests done last s t
+ends_whole_at opening words requests done last s t whole = record {
+  all = whole.all;
+  none_over = subst (λ (n : ℕ). All (λ d. d.number ≤ n) done) (sym whole.last_is) (greatest_all opening.number done);
+  from = omega (arith, greatest_from opening.number done, whole.last_is);
+  reaches = omega (arith, whole.last_is);
+  end = whole.end;
+}
 
 pub ran_end : (end : RanEnd) (s t : Sight) → plain.RanUnlessDevice end s t → RanUnlessDevice (fault_of_end end) s t
 ran_end end s t r = (r.0, r.1, (λ failed. ap fault_of_end (r.2.0 failed), λ is. r.2.1 (device_end end is)))

@@ -7,7 +7,7 @@
 -- joins by its cases there.
 use Rattle.std.specs.Prelude.{◌≡◌, ◌⊎◌, ℕ, ◌<◌, ◌≤◌, Bool, false, Option, Some, None, IsTrue, List, [], ◌∷◌, ◌++◌, drop, take, length, All}
 use Rattle.pmem_trait.specs.Words.{AtLeast}
-use Rattle.pmem_trait.specs.Sights.{Sight, AtEveryMoment, state_now}
+use Rattle.pmem_trait.specs.Sights.{Sight, AtEveryMoment, SomeCalls, state_now}
 use Rattle.pmem_trait.specs.Reads.{OnlyReads}
 use Rattle.tatp_model.specs.declared.done.Done.{Done}
 use Rattle.tatp_model.specs.declared.request.Request.{Request}
@@ -16,7 +16,8 @@ use Rattle.dude_io.specs.Files.{FilesSight}
 use Rattle.dude_io.specs.Sink.{SinkSight}
 use Rattle.run_order.specs.Runs.{SyncsFollow}
 use Rattle.dude_engine.specs.Opening.{Opening, IsOpening, RecoversAt}
-use Rattle.dude_engine.specs.Endings.{AreSyncsTold, End}
+use Rattle.dude_engine.specs.Endings.{AreSyncsTold, End, LosesAtMost}
+use Rattle.dude_engine.specs.Plain.{most_lost_by}
 use Rattle.command_edges.specs.declared.fault.Fault.{Fault}
 use Rattle.command_edges.specs.declared.fault.Fault.TheVariants.{Output, Memory}
 use Rattle.command_words.specs.Command.{Meaning}
@@ -46,6 +47,11 @@ WasToldFirst first s t =
     (drop (length (state_now s).told) (state_now t).told ≡ [])
     ⊎ ((more : List ℕ) × (drop (length (state_now s).told) (state_now t).told ≡ first ∷ more))
 
+-- Where the medium is visible, at exit every image recovers to a number that is at most 256 under the greatest one done, or
+-- 257 where the last call on the medium failed.
+abbrev pub LosesFewAtExit : Opening → List Done → Sight → Sight → Type 0
+LosesFewAtExit opening done s t = IsTrue s.is_visible → (ok : Bool) × SomeCalls ok s t × LosesAtMost (most_lost_by ok) opening done t
+
 -- Crash: at each moment of the call each image that a crash may leave recovers so, along the printed order. The first
 -- number that is told in the call is the opening number; a command that carries no requests out tells it once, and no other.
 pub record Crash (meaning : Meaning) (opening : Opening) (done : List Done) (s t : Sight) : Type 0 where
@@ -54,6 +60,8 @@ pub record Crash (meaning : Meaning) (opening : Opening) (done : List Done) (s t
   pub keeps : AtEveryMoment (RecoversSince meaning (length (state_now s).told) opening order) s t
   pub first_told : IsTrue s.is_visible → WasToldFirst opening.number s t
   pub told_alone : runs_requests meaning ≡ false → IsTrue s.is_visible → TellsAtMost opening.number s t
+  -- at exit few numbers are lost of those done, whatever the status
+  pub few_lost : (done ≡ []) ⊎ LosesFewAtExit opening done s t
 
 -- Sync: the number of a `SYNC` is at least that of each earlier request of its file, and at most the last number told
 pub record Sync (done : List Done) (s t : Sight) : Type 0 where

@@ -1,15 +1,16 @@
 -- What becomes of a command's requests, and of its output.
-use Rattle.std.specs.Prelude.{◌≡◌, ◌⊎◌, ℕ, ◌<◌, ◌≤◌, ◌+◌, ◌*◌, Option, Some, None, IsTrue, List, length, All, ⊤}
+use Rattle.std.specs.Prelude.{◌≡◌, ◌⊎◌, Bool, ℕ, ◌<◌, ◌≤◌, ◌+◌, ◌*◌, Option, Some, None, IsTrue, List, length, All, ⊤}
 use Rattle.std.specs.Global.{Vec}
 use Rattle.dude_base.specs.declared.limits.TheConstants.{MAX_NUMBER}
 use Rattle.dude_base.specs.declared.sizes.Sizes.{Sizes}
 use Rattle.pmem_trait.specs.declared.medium.Medium.{Ghosts}
-use Rattle.pmem_trait.specs.Sights.{Sight, Risen}
+use Rattle.pmem_trait.specs.Sights.{AtEveryMoment, Sight, Risen, SomeCalls}
 use Rattle.back_store.specs.BackView.{medium_of}
 use Rattle.image_opening.specs.declared.opened.Opened.{Opened}
+use Rattle.image_opening.specs.Opened.{HoldsOpened}
 use Rattle.tatp_model.specs.declared.done.Done.{Done}
 use Rattle.tatp_model.specs.declared.request.Request.{Request}
-use Rattle.tatp_model.specs.OneThread.{is_sync, RepliesOfOneThread}
+use Rattle.tatp_model.specs.OneThread.{AllAreDone, IsPrintedOrder, is_sync, RepliesOfOneThread}
 use Rattle.tatp_text.specs.Output.{output_of}
 use Rattle.tatp_text.specs.Summary.{summary_of}
 use Rattle.dude_io.specs.Sink.{SinkSight, Took}
@@ -17,9 +18,9 @@ use Rattle.run_order.specs.Runs.{SyncsFollow}
 use Rattle.dude_engine.specs.declared.ran.RanEnd.{RanEnd}
 use Rattle.dude_engine.specs.declared.ran.RanEnd.TheVariants.{Whole, NoMemory}
 use Rattle.dude_engine.specs.declared.ran.RanEnd.TheVariants as ran
-use Rattle.dude_engine.specs.Endings.{AreSyncsTold}
-use Rattle.dude_engine.specs.Opening.{Opening}
-use Rattle.dude_engine.specs.Plain.{IsOpeningOf, IsWhole, RecoversOnTheRun}
+use Rattle.dude_engine.specs.Endings.{AreSyncsTold, End}
+use Rattle.dude_engine.specs.Opening.{Opening, RecoversAmong, last_of}
+use Rattle.dude_engine.specs.Plain.{IsOpeningOf, LosesFew, most_lost_by}
 use Rattle.dude_engine.specs.Requests.{AreInRange, request_count}
 use Rattle.command_edges.specs.declared.fault.Fault.{Fault}
 use Rattle.command_edges.specs.declared.fault.Fault.TheVariants.{ManyFiles, Frames, FewSubscribers, Numbers, Device, Memory}
@@ -37,9 +38,25 @@ fault_of_end Whole = None
 fault_of_end ran.Device = Some Device
 fault_of_end NoMemory = Some Memory
 
+-- At each moment every image recovers to the database after a prefix of the printed order, and to a number that the run may
+-- come to, none under the opening one or one told. This holds of a medium that is as the opening of its image left it.
+abbrev pub RecoversAlongRun : (List Done → ℕ → Type 0) → Opening → List ℕ → List Done → Sight → Sight → Type 0
+RecoversAlongRun Reaches opening words done s t = (before : ℕ) → HoldsOpened before opening.sizes opening.number words s
+    → (order : List Done) × IsPrintedOrder done order × AtEveryMoment (RecoversAmong (Reaches order) before opening order) s t
+
+-- At the end of a run all requests are done; the last number, which is at least the opening number and each number done, was
+-- told last, and every image recovers to it.
+pub record EndsWhole (Reaches : List Done → ℕ → Type 0) (opening : Opening) (words : List ℕ) (requests : List (List Request)) (done : List Done) (last : ℕ) (s t : Sight) : Type 0 where
+  pub all : AllAreDone requests done
+  pub none_over : All (λ d. d.number ≤ last) done
+  pub from : opening.number ≤ last
+  -- the run may come to it
+  pub reaches : Reaches done last
+  pub end : (before : ℕ) → HoldsOpened before opening.sizes opening.number words s → IsTrue s.is_visible → End opening done last s t
+
 -- The requests were run over an image that was opened at this opening with these home words: what is done, the last number
--- told, and the fault, if any.
-pub record RanOver (opening : Opening) (words : List ℕ) (requests : List (List Request)) (done : List Done) (last : ℕ) (fault : Option Fault) (s t : Sight) : Type 0 where
+-- told, and the fault, if any. A run may come to numbers that nothing done has; which ones, by what is done, is given.
+pub record RanOver (Reaches : List Done → ℕ → Type 0) (opening : Opening) (words : List ℕ) (requests : List (List Request)) (done : List Done) (last : ℕ) (fault : Option Fault) (s t : Sight) : Type 0 where
   -- what is done is answered as by one thread along the printed order
   pub replies : RepliesOfOneThread opening.number opening.sizes.calls opening.database requests done
   -- the number of a `SYNC` is at least that of each earlier request of its file
@@ -49,9 +66,11 @@ pub record RanOver (opening : Opening) (words : List ℕ) (requests : List (List
   -- and at most the last number told
   pub syncs_told : IsTrue s.is_visible → AreSyncsTold done s t
   -- at each moment every image recovers to the database after a prefix of the printed order
-  pub moments : RecoversOnTheRun opening words done s t
+  pub moments : RecoversAlongRun Reaches opening words done s t
   -- with no fault all is done, the last number was told, and every image recovers to it
-  pub whole : fault ≡ None → IsWhole opening words requests done last s t
+  pub whole : fault ≡ None → EndsWhole Reaches opening words requests done last s t
+  -- at the end few of the numbers done are lost: at most 256, or 257 where the last call on the medium failed
+  pub few_lost : (ok : Bool) × SomeCalls ok s t × LosesFew (most_lost_by ok) opening words done s t
   -- no call on the medium failed but the last one, where the fault is `Device`
   pub ran : RanUnlessDevice fault s t
   -- at `Device` the medium's count of faults rose
@@ -77,10 +96,14 @@ totals_of worked = summary_of worked.done.items
 abbrev pub EndsBy : {K : Type 0} → (K → SinkSight) → List ℕ → Option Fault → Option Fault → K → K → Type 0
 EndsBy sight text earlier fault old new = PrintsText text earlier fault (sight old) (sight new)
 
--- the requests were run so over an opened image, whose medium, seen so, is given back
+-- a run on one thread comes to no number over the greatest one done
+abbrev pub IsUpToLast : Opening → List Done → ℕ → Type 0
+IsUpToLast opening done n = n ≤ last_of opening.number done
+
+-- the requests were run so over an opened image, on one thread; its medium, seen so, is given back
 abbrev pub RanOverOpened : {M : Type 0} {ghosts : Ghosts M} → (M → Sight) → Opened M ghosts → List (Vec Request) → Worked M → Type 0
 RanOverOpened sight o files worked = (opening : Opening) → IsOpeningOf o opening
-    → RanOver opening o.words.items (requests_in files) worked.done.items worked.last worked.fault
+    → RanOver (IsUpToLast opening) opening o.words.items (requests_in files) worked.done.items worked.last worked.fault
     (sight (medium_of o.back)) (sight worked.medium)
 
 -- no list has more than 100,000 requests

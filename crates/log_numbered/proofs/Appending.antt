@@ -72,6 +72,7 @@ module _ {M : Type 0} {ghosts : Ghosts M} (k l : RunLog M ghosts) (s t : Sight) 
                 ring = was_open.ring;
                 first = (let first = was_open.first in omega arith);
                 last_is = (let same = was_open.last_is in omega arith);
+                span = (let less = joins.can.short in omega arith);
                 short = joins.short;
                 home = puts_home ((log_sizes k).pages * 64) o.bundle.writes r.writes was_open.home home;
               }));
@@ -117,6 +118,7 @@ module _ {M : Type 0} {ghosts : Ghosts M} (m l : RunLog M ghosts) (ring : ℕ) (
           ring = below;
           first = (let end = none_end m alive none_open in omega arith);
           last_is = next ∙ sym last;
+          span = omega arith;
           short = (let few = few_cells (length r.writes) writes.few in let many = alive.leads.lawful.accepted.cells.low in omega arith);
           home = home;
         }));

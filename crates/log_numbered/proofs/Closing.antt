@@ -1,5 +1,6 @@
 -- The open bundle is closed, and calls follow.
 use Rattle.std.proofs.Common.{◌≡◌, ℕ, ◌+◌, ◌≤◌, true, IsTrue, List, [], ◌∷◌, ◌++◌, Option, Some, None, append_assoc, refl, sym, ap, ◌∙◌, subst, arith}
+use Rattle.dude_base.specs.declared.limits.TheConstants.{MAX_SPAN}
 use Rattle.pmem_trait.specs.declared.medium.Medium.{Ghosts}
 use Rattle.pmem_trait.specs.Words.{EveryImage, IsImage}
 use Rattle.pmem_trait.specs.Sights.{Sight, state_now, AtEveryMoment}
@@ -33,6 +34,14 @@ module _ {M : Type 0} {ghosts : Ghosts M} where
       by : (x : Option OpenBundle) → OpensUpTo (log_sizes k) (log_end k) (log_last k) x → log_end k ≤ log_last k
       by None end = omega arith
       by (Some o) at = let first = at.first in let last = at.last_is in omega arith
+
+  -- no more numbers than a bundle may cover aren't persisted
+  pub last_near : (k : RunLog M ghosts) → IsAlive k → log_last k ≤ log_end k + (MAX_SPAN + 1)
+  last_near k alive = by (log_open k) alive.opens
+    where
+      by : (x : Option OpenBundle) → OpensUpTo (log_sizes k) (log_end k) (log_last k) x → log_last k ≤ log_end k + (MAX_SPAN + 1)
+      by None end = omega arith
+      by (Some o) at = let first = at.first in let last = at.last_is in let span = at.span in omega arith
 
   -- a log without an open bundle
   pub closed_alive : (l : RunLog M ghosts) (last : ℕ) → LeadsUpTo (log_back l) (log_end l) → log_end l ≡ last → log_last l ≡ last → log_open l ≡ None → IsAlive l

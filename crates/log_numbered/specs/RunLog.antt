@@ -1,6 +1,6 @@
 -- What contracts see of the log of a run, how its medium is, and what its calls leave.
 use Rattle.std.specs.Prelude.{◌≡◌, ℕ, ◌+◌, ◌*◌, ◌<◌, ◌≤◌, Bool, IsTrue, List, [], ◌∷◌, ◌++◌, length, All, Option, Some, None}
-use Rattle.dude_base.specs.declared.limits.TheConstants.{MAX_NUMBER, PAGE}
+use Rattle.dude_base.specs.declared.limits.TheConstants.{MAX_NUMBER, MAX_SPAN, PAGE}
 use Rattle.dude_base.specs.declared.sizes.Sizes.{Sizes}
 use Rattle.dude_base.specs.Records.{RedoRecord, first_of}
 use Rattle.pmem_trait.specs.declared.medium.Medium.{Ghosts}
@@ -58,12 +58,13 @@ log_reproduced l = (log_back l).log.reproduced
 abbrev pub log_sizes : {M : Type 0} {ghosts : Ghosts M} → RunLog M ghosts → Sizes
 log_sizes l = (log_back l).log.sizes
 
--- An open bundle covers exactly the numbers behind `end` up to `last`. Its ring exists and isn't too short for it, and it
--- writes home words.
+-- An open bundle covers exactly the numbers behind `end` up to `last`, so many as a bundle may at most. Its ring exists and
+-- isn't too short for it, and it writes home words.
 pub record IsOpen (s : Sizes) (end last : ℕ) (o : OpenBundle) : Type 0 where
   pub ring : o.ring < s.rings
   pub first : first_of o.bundle ≡ end + 1
   pub last_is : o.bundle.last ≡ last
+  pub span : o.bundle.span ≤ MAX_SPAN
   pub short : cells_for (length o.bundle.writes) ≤ s.cells
   pub home : All (λ w. w.at < s.pages * PAGE) o.bundle.writes
 

@@ -10,6 +10,7 @@ use Rattle.tatp_model.specs.declared.done.Done.{Done}
 use Rattle.tatp_model.specs.declared.request.Request.{Request}
 use Rattle.tatp_model.specs.OneThread.{PrecedesInFiles, IndexedRequest, indexed_request_of, indexed_requests_from, AllAreDone, IsPrefixOf}
 use Rattle.tatp_model.proofs.PrintedOrder.{same_from_order}
+use Rattle.run_order.specs.Runs.{first_rounds}
 use Rattle.run_order.proofs.Pairs.{pairs_nil, pairs_append, pairs_mapped, pairs_unmapped}
 
 -- a request stands before another in the order of files
@@ -67,43 +68,36 @@ holds_from_permutation files performed done asked same sorted =
     same_from_order StandsBefore asymmetric here there (pairs_mapped StandsBefore indexed_request_of done sorted) (files_sorted 0 files)
     (λ r c. Contains-permutation here there r all c) (λ r c. Contains-permutation there here r (IsPermutation-sym here there all) c)
 
--- the files with what is performed of them by round i and file k: of the files before k the first i + 1 requests, of
--- the others the first i
-abbrev pub taken : ℕ → ℕ → List (List Request) → List (List Request)
-taken i k [] = []
-taken i zero (requests ∷ files) = take i requests ∷ taken i zero files
-taken i (suc k) (requests ∷ files) = take (i + 1) requests ∷ taken i k files
+pub first_rounds_none : (file : ℕ) (files : List (List Request)) → indexed_requests_from file (first_rounds 0 0 files) ≡ []
+first_rounds_none file [] = refl
+first_rounds_none file (requests ∷ files) = first_rounds_none (file + 1) files
 
-pub taken_none : (file : ℕ) (files : List (List Request)) → indexed_requests_from file (taken 0 0 files) ≡ []
-taken_none file [] = refl
-taken_none file (requests ∷ files) = taken_none (file + 1) files
+pub first_rounds_turn : (i : ℕ) (files : List (List Request)) → first_rounds i (length files) files ≡ first_rounds (i + 1) 0 files
+first_rounds_turn i [] = refl
+first_rounds_turn i (requests ∷ files) = ap (λ rest. take (i + 1) requests ∷ rest) (first_rounds_turn i files)
 
-pub taken_turn : (i : ℕ) (files : List (List Request)) → taken i (length files) files ≡ taken (i + 1) 0 files
-taken_turn i [] = refl
-taken_turn i (requests ∷ files) = ap (λ rest. take (i + 1) requests ∷ rest) (taken_turn i files)
-
-pub taken_skip : (i k : ℕ) (files : List (List Request)) (requests : List Request) → slice_get files k ≡ Some requests → length requests ≤ i → taken i (suc k) files ≡ taken i k files
-taken_skip i k [] requests there short = refl
-taken_skip i zero (first ∷ files) requests there short =
+pub first_rounds_skip : (i k : ℕ) (files : List (List Request)) (requests : List Request) → slice_get files k ≡ Some requests → length requests ≤ i → first_rounds i (suc k) files ≡ first_rounds i k files
+first_rounds_skip i k [] requests there short = refl
+first_rounds_skip i zero (first ∷ files) requests there short =
     let is : first ≡ requests = cc in
     let longer : length first ≤ i + 1 = omega (arith, ap length is) in
     let enough : length first ≤ i = omega (arith, ap length is) in
-    ap (λ (start : List Request). start ∷ taken i zero files) (take_all (i + 1) first longer ∙ sym (take_all i first enough))
-taken_skip i (suc k) (first ∷ files) requests there short = ap (λ rest. take (i + 1) first ∷ rest) (taken_skip i k files requests there short)
+    ap (λ (start : List Request). start ∷ first_rounds i zero files) (take_all (i + 1) first longer ∙ sym (take_all i first enough))
+first_rounds_skip i (suc k) (first ∷ files) requests there short = ap (λ rest. take (i + 1) first ∷ rest) (first_rounds_skip i k files requests there short)
 
-pub taken_all : (i : ℕ) (files : List (List Request)) → All (λ requests. length requests ≤ i) files → taken i 0 files ≡ files
-taken_all i [] short = refl
-taken_all i (requests ∷ files) short =
+pub first_rounds_all : (i : ℕ) (files : List (List Request)) → All (λ requests. length requests ≤ i) files → first_rounds i 0 files ≡ files
+first_rounds_all i [] short = refl
+first_rounds_all i (requests ∷ files) short =
     ap₂ (λ (start : List Request) (rest : List (List Request)). start ∷ rest) (take_all i requests (All-head (λ (r : List Request). length r ≤ i) requests files short))
-    (taken_all i files (All-tail (λ (r : List Request). length r ≤ i) requests files short))
+    (first_rounds_all i files (All-tail (λ (r : List Request). length r ≤ i) requests files short))
 
 take_prefix : (n : ℕ) (requests : List Request) → IsPrefixOf (take n requests) requests
 take_prefix n requests = (drop n requests, sym (take-append-drop n requests))
 
-pub taken_prefixes : (i k : ℕ) (files : List (List Request)) → AllZip IsPrefixOf (taken i k files) files
-taken_prefixes i k [] = tt
-taken_prefixes i zero (requests ∷ files) = (take_prefix i requests, taken_prefixes i zero files)
-taken_prefixes i (suc k) (requests ∷ files) = (take_prefix (i + 1) requests, taken_prefixes i k files)
+pub first_rounds_prefixes : (i k : ℕ) (files : List (List Request)) → AllZip IsPrefixOf (first_rounds i k files) files
+first_rounds_prefixes i k [] = tt
+first_rounds_prefixes i zero (requests ∷ files) = (take_prefix i requests, first_rounds_prefixes i zero files)
+first_rounds_prefixes i (suc k) (requests ∷ files) = (take_prefix (i + 1) requests, first_rounds_prefixes i k files)
 
 -- the first requests of a file with the next one
 take_next : (n i : ℕ) (requests : List Request) (q : Request) → slice_get requests i ≡ Some q → enumerate_from n (take (suc i) requests) ≡ enumerate_from n (take i requests) ++ (n + i, q) ∷ []
@@ -120,15 +114,15 @@ take_next n (suc i) (first ∷ requests) q there =
 pub record TakesNext (i k file : ℕ) (files : List (List Request)) (q : Request) : Type 0 where
   pub before : List IndexedRequest
   pub behind : List IndexedRequest
-  pub was : indexed_requests_from file (taken i k files) ≡ before ++ behind
-  pub is : indexed_requests_from file (taken i (suc k) files) ≡ before ++ indexed (file + k) (i, q) ∷ behind
+  pub was : indexed_requests_from file (first_rounds i k files) ≡ before ++ behind
+  pub is : indexed_requests_from file (first_rounds i (suc k) files) ≡ before ++ indexed (file + k) (i, q) ∷ behind
 
 pub takes_next : (i k file : ℕ) (files : List (List Request)) (requests : List Request) (q : Request) → slice_get files k ≡ Some requests → slice_get requests i ≡ Some q → TakesNext i k file files q
 takes_next i k file [] requests q there here = cc
 takes_next i zero file (first ∷ files) requests q there here =
     let is : first ≡ requests = cc in
     let start = map (indexed file) (enumerate_from 0 (take i first)) in
-    let rest = indexed_requests_from (file + 1) (taken i zero files) in
+    let rest = indexed_requests_from (file + 1) (first_rounds i zero files) in
     let at : slice_get first i ≡ Some q = rw is here in
     let same : file ≡ file + 0 = omega arith in
     let none : 0 + i ≡ i = omega arith in

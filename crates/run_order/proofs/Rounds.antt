@@ -9,9 +9,9 @@ use Rattle.std.proofs.lemmas.List.Sorted.{IsPermutation-refl, IsPermutation-sym,
 use Rattle.tatp_model.specs.declared.done.Done.{Done}
 use Rattle.tatp_model.specs.declared.request.Request.{Request}
 use Rattle.tatp_model.specs.OneThread.{PrecedesInFiles, IndexedRequest, indexed_request_of, indexed_requests_from, AllAreDone}
-use Rattle.run_order.specs.Runs.{PrecedesInRounds, Collects}
+use Rattle.run_order.specs.Runs.{AreFirstInRounds, Collects, PrecedesInRounds, first_rounds}
 use Rattle.run_order.proofs.Pairs.{pairs_nil}
-use Rattle.run_order.proofs.FileOrder.{indexed, taken, taken_none, taken_turn, taken_skip, taken_all, taken_prefixes, takes_next, holds_from_permutation}
+use Rattle.run_order.proofs.FileOrder.{indexed, first_rounds_none, first_rounds_turn, first_rounds_skip, first_rounds_all, first_rounds_prefixes, takes_next, holds_from_permutation}
 
 -- an element goes to the end of one list, and anywhere into the other
 pub permuted_push : {X : Type 0} (ps xs : List X) (y : X) (ys : List X) → IsPermutation ps (xs ++ ys) → IsPermutation (ps ++ y ∷ []) (xs ++ y ∷ ys)
@@ -25,13 +25,13 @@ IsBehind i k d = (d.index < i) ⊎ ((d.index ≡ i) × (d.file < k))
 
 -- By round i and file k: of the files before k the first i + 1 requests are performed, of the others the first i.
 pub record Rounds (files : List (List Request)) (i k : ℕ) (performed : List Done) : Type 0 where
-  pub same : IsPermutation (map indexed_request_of performed) (indexed_requests_from 0 (taken i k files))
+  pub same : IsPermutation (map indexed_request_of performed) (indexed_requests_from 0 (first_rounds i k files))
   pub rounds : AllPairs PrecedesInRounds performed
   pub behind : All (IsBehind i k) performed
 
 pub rounds_start : (files : List (List Request)) → Rounds files 0 0 []
 rounds_start files = record {
-  same = rw taken_none (IsPermutation-refl []);
+  same = rw first_rounds_none (IsPermutation-refl []);
   rounds = pairs_nil PrecedesInRounds;
   behind = All-nil (IsBehind 0 0);
 }
@@ -50,9 +50,9 @@ rounds_next files i k performed requests d there here file index run =
     let was = map indexed_request_of performed in
     let asked : IsPermutation was (next.before ++ next.behind) = subst (λ (l : List IndexedRequest). IsPermutation was l) next.was run.same in
     let more : map indexed_request_of (performed ++ d ∷ []) ≡ was ++ indexed_request_of d ∷ [] = map_push indexed_request_of performed d in
-    let left : indexed_requests_from 0 (taken i (suc k) files) ≡ next.before ++ indexed_request_of d ∷ next.behind =
+    let left : indexed_requests_from 0 (first_rounds i (suc k) files) ≡ next.before ++ indexed_request_of d ∷ next.behind =
     next.is ∙ ap (λ (r : IndexedRequest). next.before ++ r ∷ next.behind) named in
-    let same : IsPermutation (map indexed_request_of (performed ++ d ∷ [])) (indexed_requests_from 0 (taken i (suc k) files)) =
+    let same : IsPermutation (map indexed_request_of (performed ++ d ∷ [])) (indexed_requests_from 0 (first_rounds i (suc k) files)) =
     rw (more, left) (permuted_push was next.before (indexed_request_of d) next.behind asked) in
     let behind : All (IsBehind i (suc k)) (performed ++ d ∷ []) =
     All-push (IsBehind i (suc k)) performed d
@@ -69,13 +69,13 @@ pub rounds_skip : (files : List (List Request)) (i k : ℕ) (performed : List Do
 rounds_skip files i k performed requests there short run =
     let behind : All (IsBehind i (suc k)) performed =
     All-weaker (IsBehind i k) (IsBehind i (suc k)) (λ e h. ⊎_elim (λ less. inl less) (λ less. inr (less.0, omega (arith, less.1))) h) performed run.behind in
-    let same : IsPermutation (map indexed_request_of performed) (indexed_requests_from 0 (taken i (suc k) files)) = rw (taken_skip i k files requests there short) run.same in
+    let same : IsPermutation (map indexed_request_of performed) (indexed_requests_from 0 (first_rounds i (suc k) files)) = rw (first_rounds_skip i k files requests there short) run.same in
     rw add-one (record { same = same; rounds = run.rounds; behind = behind })
 
 -- the end of a round
 pub rounds_turn : (files : List (List Request)) (i : ℕ) (performed : List Done) → Rounds files i (length files) performed → Rounds files (i + 1) 0 performed
 rounds_turn files i performed run = record {
-  same = rw (← taken_turn i files) run.same;
+  same = rw (← first_rounds_turn i files) run.same;
   rounds = run.rounds;
   behind = All-weaker (IsBehind i (length files)) (IsBehind (i + 1) 0) (λ e h. ⊎_elim (λ less. inl (omega (arith, less))) (λ less. inl (omega (arith, less.0))) h) performed run.behind;
 }
@@ -87,14 +87,18 @@ rounds_rounds files i k performed run = run.rounds
 pub rounds_collect : (files : List (List Request)) (i k : ℕ) (performed done : List Done) → Rounds files i k performed → IsPermutation performed done → AllPairs PrecedesInFiles done → Collects files performed done
 rounds_collect files i k performed done run same sorted = record {
   same = same;
-  held = (taken i k files, taken_prefixes i k files, holds_from_permutation (taken i k files) performed done run.same same sorted);
+  held = (first_rounds i k files, first_rounds_prefixes i k files, holds_from_permutation (first_rounds i k files) performed done run.same same sorted);
 }
+
+-- and the first ones in the order of rounds
+pub rounds_first : (files : List (List Request)) (i k : ℕ) (performed done : List Done) → Rounds files i k performed → IsPermutation performed done → AllPairs PrecedesInFiles done → AreFirstInRounds files done
+rounds_first files i k performed done run same sorted = (i, k, holds_from_permutation (first_rounds i k files) performed done run.same same sorted)
 
 -- and after as many rounds as the longest file has requests they are all of them
 pub rounds_all : (files : List (List Request)) (i : ℕ) (performed done : List Done) → All (λ requests. length requests ≤ i) files → Rounds files i 0 performed → IsPermutation performed done → AllPairs PrecedesInFiles done → AllAreDone files done
 rounds_all files i performed done short run same sorted =
-    let held : AllAreDone (taken i 0 files) done = holds_from_permutation (taken i 0 files) performed done run.same same sorted in
-    rw (taken_all i files short) at held
+    let held : AllAreDone (first_rounds i 0 files) done = holds_from_permutation (first_rounds i 0 files) performed done run.same same sorted in
+    rw (first_rounds_all i files short) at held
 
 -- a look-up in a file and a loop over the files tell an element so
 pub found : {X : Type 0} (xs : List X) (i : ℕ) (x : X) → i < length xs → x ≡ get_or xs i x → slice_get xs i ≡ Some x

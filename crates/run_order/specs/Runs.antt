@@ -1,9 +1,9 @@
 -- Requests performed one after another, in rounds over the files, and what the order of files and the printed order make of them.
-use Rattle.std.specs.Prelude.{ℕ, ◌≡◌, ◌<◌, ◌≤◌, ◌+◌, ◌⊎◌, if◌then◌else◌, IsTrue, List, [], ◌∷◌, All, AllPairs, IsPermutation, ⊤}
+use Rattle.std.specs.Prelude.{ℕ, zero, suc, ◌≡◌, ◌<◌, ◌≤◌, ◌+◌, ◌⊎◌, if◌then◌else◌, IsTrue, List, [], ◌∷◌, take, All, AllPairs, IsPermutation, ⊤}
 use Rattle.tatp_model.specs.declared.request.Request.{Request}
 use Rattle.tatp_model.specs.declared.done.Done.{Done}
 use Rattle.tatp_model.specs.Database.{Database}
-use Rattle.tatp_model.specs.OneThread.{is_sync, RepliesAlong, after_number, HoldsPrefixes, IsPrintedOrder, RepliesOfOneThread}
+use Rattle.tatp_model.specs.OneThread.{is_sync, AllAreDone, RepliesAlong, after_number, HoldsPrefixes, IsPrintedOrder, RepliesOfOneThread}
 
 -- each number is the one before it, or the next one where the request wrote
 abbrev pub IsNumberedFrom : ℕ → List Done → Type 0
@@ -29,6 +29,18 @@ pub record Performs (first limit : ℕ) (db : Database) (performed : List Done) 
 pub record Collects (files : List (List Request)) (performed done : List Done) : Type 0 where
   pub same : IsPermutation performed done
   pub held : HoldsPrefixes files done
+
+-- the first requests in the order of rounds: of the files before this one the first `round` + 1 of each, of the others the
+-- first `round`
+abbrev pub first_rounds : (round file : ℕ) → List (List Request) → List (List Request)
+first_rounds round file [] = []
+first_rounds round zero (requests ∷ files) = take round requests ∷ first_rounds round zero files
+first_rounds round (suc file) (requests ∷ files) = take (round + 1) requests ∷ first_rounds round file files
+
+-- what is done are the first requests in the order of rounds: those of some full rounds, and of the files before one in the
+-- next round
+abbrev pub AreFirstInRounds : List (List Request) → List Done → Type 0
+AreFirstInRounds files done = (round file : ℕ) × AllAreDone (first_rounds round file files) done
 
 -- `done` has a printed order, and the database at each number along it is what it was as the requests were performed
 pub record PrintedLike (limit : ℕ) (db : Database) (performed done : List Done) : Type 0 where

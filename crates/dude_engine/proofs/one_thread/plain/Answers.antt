@@ -10,15 +10,16 @@ use Rattle.word_space.specs.Flats.{words_of}
 use Rattle.log_numbered.specs.LogCalls.{Makes}
 use Rattle.back_store.specs.Told.{WereTold}
 use Rattle.log_numbered.specs.RunLog.{log_back, log_durable, log_medium, log_open, log_parts}
-use Rattle.log_numbered.proofs.LoggedCalls.{parts_are}
+use Rattle.log_numbered.proofs.GoingOn.{on_ok}
+use Rattle.log_numbered.proofs.LoggedCalls.{parts, parts_are}
 use Rattle.dude_engine.specs.declared.ran.RanEnd.{RanEnd}
 use Rattle.dude_engine.specs.declared.ran.RanEnd.TheVariants.{Device}
 use Rattle.dude_engine.specs.Opening.{Opening}
-use Rattle.dude_engine.specs.Plain.{IsLastTold, IsOpeningOf}
-use Rattle.dude_engine.specs.RunCalls.{RunBy}
-use Rattle.dude_engine.specs.Running.{IsLeft, IsRunning, IsSettledRun, end_by, went_well}
-use Rattle.dude_engine.proofs.RunEnds.{Ended, begins, cause_by, device_by, ended_by, follow_of, from_of, on_whole, performs_in_rounds, recovers_of, replies_of, syncs_of, well_by, whole_of}
-use Rattle.dude_engine.proofs.Serving.{makes_its_calls}
+use Rattle.dude_engine.specs.Plain.{IsLastTold, IsOpeningOf, LosesFew, most_lost}
+use Rattle.dude_engine.specs.RunCalls.{RunBy, run_at_start}
+use Rattle.dude_engine.specs.Running.{EndsNearLast, IsLeft, IsRunning, IsSettledRun, SettlesRun, end_by, went_well}
+use Rattle.dude_engine.proofs.RunEnds.{Ended, begins, cause_by, device_by, ended_by, few_lost_of, follow_of, from_of, near_by, on_whole, performs_in_rounds, recovers_of, replies_of, syncs_of, well_by, whole_of}
+use Rattle.dude_engine.proofs.Serving.{makes_its_calls, run_parts_are}
 use Rattle.dude_engine.proofs.one_thread.plain.Goals as goal
 
 pub returns : goal.returns
@@ -50,7 +51,7 @@ returns g c =
     let some = (at lawful lawful_is).answered in
     record {
       replies = λ opening is. record {
-        performs = performs_in_rounds opening files performed done same collects rounds (at opening is).answered;
+        performs = performs_in_rounds opening files performed done same collects rounds (at opening is).answered (performs.first done same sorted);
         replies = replies_of opening files performed done same collects rounds (at opening is).answered;
       };
       syncs = record {
@@ -68,9 +69,17 @@ returns g c =
             (subst (λ (v : Sight). IsSettledRun opening o.words.items c.durable-last.result performed s v) (sym still)
             (subst (λ (n : ℕ). IsSettledRun opening o.words.items n performed s t) (sym c.durable-last.ensures) settled));
         calls = λ whole.
-            let makes : Makes (RunBy (log_parts c.new.result) performed (log_durable run.log)) (g.M.Medium.sight (log_medium c.new.result)) t = on_whole served (sym c.end_of.ensures ∙ whole) c.run_all-served.ensures.calls in
-            makes_its_calls (log_parts c.new.result) (state_of o.back) performed done (log_durable run.log) c.durable-last.result (g.M.Medium.sight (log_medium c.new.result)) s t u (parts_are (log_back c.new.result) (state_of o.back) (log_open c.new.result) None starts.back_is starts.none_open)
+            let makes : Makes (RunBy o.lay (record { words = words_of c.new-2.result; log = log_parts c.new.result }) performed (log_durable run.log)) (g.M.Medium.sight (log_medium c.new.result)) t = on_whole served (sym c.end_of.ensures ∙ whole) c.run_all-served.ensures.calls in
+            makes_its_calls o.lay o.sizes (record { words = words_of c.new-2.result; log = log_parts c.new.result }) o.words.items (state_of o.back) performed done (log_durable run.log) c.durable-last.result (g.M.Medium.sight (log_medium c.new.result)) s t u c.requires.opened.layout
+            (run_parts_are (words_of c.new-2.result) o.words.items (log_parts c.new.result) (parts (state_of o.back) None) c.new-2.ensures.words (parts_are (log_back c.new.result) (state_of o.back) (log_open c.new.result) None starts.back_is starts.none_open))
             (ap (λ m. g.M.Medium.sight m) starts.medium) still c.durable-last.ensures same rounds makes;
+        few_lost = λ opening is.
+            let near : EndsNearLast (most_lost (end_by served)) opening o.words.items performed s t =
+            near_by opening o.words.items run s t served (log_durable run.log) run.log.log.back.room (left opening is)
+            (on_ok served (λ settles. settles opening o.words.items s (running opening is)) c.run_all-served.ensures.settled) in
+            subst (λ (e : RanEnd). LosesFew (most_lost e) opening o.words.items done s u) (sym c.end_of.ensures)
+            (few_lost_of opening files performed done same collects rounds (at opening is).answered (most_lost (end_by served)) o.words.items s u
+            (subst (λ (v : Sight). EndsNearLast (most_lost (end_by served)) opening o.words.items performed s v) (sym still) near));
         last_told = λ visible opening is.
             subst (λ (e : RanEnd). IsLastTold e opening c.durable-last.result s u) (sym c.end_of.ensures)
             (subst (λ (n : ℕ). IsLastTold (end_by served) opening n s u) (sym c.durable-last.ensures)

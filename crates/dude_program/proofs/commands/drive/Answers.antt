@@ -6,7 +6,7 @@ use Rattle.dude_program.specs.Opening.{load_of}
 use Rattle.dude_program.proofs.FilesRead.{no_files}
 use Rattle.dude_program.proofs.Endings.{ends_faulted, ends_printed}
 use Rattle.dude_program.proofs.Stops.{ends_at_open}
-use Rattle.dude_program.proofs.Crashes.{left_opened}
+use Rattle.dude_program.proofs.Crashes.{left_opened, reachable}
 use Rattle.dude_program.proofs.Came.{opened_old, came_ran, came_refused}
 use Rattle.dude_program.proofs.EachCommand.{drive_came, drive_opens, drive_passes, is_opening_of, opening_of}
 use Rattle.dude_program.proofs.commands.drive.Goals as goal
@@ -27,7 +27,8 @@ returns-in-Ok-make_load-clause-ends g c f =
     let is_open = c.in-Ok.ensures.is_open opening (is_opening_of o opened) in
     let made = c.in-Ok-make_load.ensures.made in
     let are : requests_in lists ≡ load_of o.sizes.subscribers load.seed load.count load.files = ap requests_in c.deref.ensures.value ∙ made.requests in
-    let came = came_ran (no_files (DriveLoad load.seed load.count load.files) f refl) (opened_old (drive_opens load.seed load.count load.files _) is_open.0 is_open.1) refl are
+    let came = came_ran (no_files (DriveLoad load.seed load.count load.files) f refl) (opened_old (drive_opens load.seed load.count load.files _) is_open.0 is_open.1)
+    (reachable (DriveLoad load.seed load.count load.files) opening) refl are
     (λ opens visible why refuses. drive_passes load.seed load.count load.files f opening (requests_in lists) are made.files made.subscribers (rw c.deref.ensures.value made.numbers) why refuses)
     c.work.result.fault (c.work.ensures opening (is_opening_of o opened)) in
     rw (c.end_with_summary.ensures.medium, c.end_with_summary.ensures.done) (ends_printed _ _ came c.end_with_summary.ensures.printed)

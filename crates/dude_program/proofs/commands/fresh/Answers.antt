@@ -6,10 +6,12 @@ use Rattle.dude_base.specs.declared.sizes.Sizes.{Sizes}
 use Rattle.tatp_model.specs.declared.request.Request.{Request}
 use Rattle.command_words.specs.Command.{Meaning.FreshRun}
 use Rattle.command_edges.specs.Files.{OfFile, requests_in}
+use Rattle.command_openings.specs.Openings.{new_opening}
 use Rattle.dude_engine.specs.Requests.{request_count}
 use Rattle.dude_program.proofs.Endings.{ends_printed}
 use Rattle.dude_program.proofs.Stops.{ends_at_files, ends_at_format, prefix_at_rest}
 use Rattle.dude_program.proofs.Came.{opened_new, came_ran}
+use Rattle.dude_program.proofs.Crashes.{reachable}
 use Rattle.dude_program.proofs.EachCommand.{fresh_makes}
 use Rattle.dude_program.proofs.Works.{one_count}
 use Rattle.dude_program.proofs.commands.fresh.Goals as goal
@@ -39,7 +41,8 @@ returns-in-Ok-make_and_open-clause-ends g c =
     let e = c.in-Ok-make_and_open.ensures in
     let maker = fresh_makes c.args.subscribers c.args.file.now c.in-Ok.sizes (g.M.Medium.sight c.args.medium) c.in-Ok.ensures.ok.0 in
     let read : AllZip (OfFile (g.F.Files.sight c.args.files.now)) (c.args.file.now ∷ []) (requests_in c.deref.result.now) = rw c.deref.ensures.value c.in-Ok-read_files.ensures.read in
-    let came = came_ran (record { lists = requests_in c.deref.result.now; read = read; stays = c.in-Ok-read_files.ensures.stays }) (opened_new maker e.fits e.is_open) refl read
+    let came = came_ran (record { lists = requests_in c.deref.result.now; read = read; stays = c.in-Ok-read_files.ensures.stays }) (opened_new maker e.fits e.is_open)
+    (reachable (FreshRun c.args.subscribers c.args.file.now) (new_opening c.in-Ok.sizes)) refl read
     (λ opens. let no : ⊥ = cc in absurd no) c.work.result.fault (c.work.ensures _ e.opening) in
     rw (c.end_with_lines.ensures.medium, c.end_with_lines.ensures.done) (ends_printed _ _ came c.end_with_lines.ensures.printed)
 

@@ -9,7 +9,7 @@ use Rattle.command_words.specs.Command.{Meaning.RunFiles}
 use Rattle.command_edges.specs.Files.{OfFile, requests_in}
 use Rattle.dude_program.proofs.Endings.{ends_faulted, ends_printed}
 use Rattle.dude_program.proofs.Stops.{ends_at_files, ends_at_open, prefix_at_rest}
-use Rattle.dude_program.proofs.Crashes.{left_opened}
+use Rattle.dude_program.proofs.Crashes.{left_opened, reachable}
 use Rattle.dude_program.proofs.Came.{opened_old, came_ran, came_refused}
 use Rattle.dude_program.proofs.EachCommand.{is_opening_of, opening_of, run_came, run_opens, run_passes}
 use Rattle.dude_program.proofs.commands.run.Goals as goal
@@ -40,7 +40,8 @@ returns-in-Ok-check_run-clause-ends g c locks =
     let as_many : length lists ≡ length names = sym (length-map lists (λ (list : Vec Request Global). list.items)) ∙ AllZip-long (OfFile f) names (requests_in lists) read in
     let same : c.deref.result.now ≡ lists = c.deref.ensures.value ∙ sym c.deref-in-Ok-check_run.ensures.value in
     let checked = rw same at c.in-Ok-check_run.ensures in
-    let came = came_ran (record { lists = requests_in lists; read = read; stays = c.in-Ok.ensures.stays }) (opened_old (run_opens c.args.frames locks names _) is_open.0 is_open.1) refl read
+    let came = came_ran (record { lists = requests_in lists; read = read; stays = c.in-Ok.ensures.stays }) (opened_old (run_opens c.args.frames locks names _) is_open.0 is_open.1)
+    (reachable (RunFiles c.args.frames locks names) opening) refl read
     (λ opens visible why refuses. run_passes c.args.frames locks names f (requests_in lists) read (length lists) as_many opening checked.rings (checked.frames locks names) checked.numbers visible why refuses)
     c.work.result.fault (c.work.ensures opening (is_opening_of o opened)) in
     rw (c.end_with_lines.ensures.medium, c.end_with_lines.ensures.done) (ends_printed _ _ came c.end_with_lines.ensures.printed)

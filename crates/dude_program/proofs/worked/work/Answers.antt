@@ -1,5 +1,8 @@
 use Rattle.std.proofs.Common.{arith}
-use Rattle.dude_program.proofs.Works.{device_end, only_ends, ran_end, whole_end}
+use Rattle.pmem_trait.specs.Sights.{Sight}
+use Rattle.back_store.specs.BackView.{sight_of}
+use Rattle.command_edges.specs.Files.{requests_in}
+use Rattle.dude_program.proofs.Works.{device_end, ends_whole_at, lost_end, only_ends, ran_end, whole_end}
 use Rattle.dude_program.proofs.worked.work.Goals as goal
 
 pub returns : goal.returns
@@ -7,13 +10,18 @@ returns g c opening own =
     let end = c.plain-ran.result.end in
     let syncs = c.plain-ran.ensures.syncs in
     let ends = c.plain-ran.ensures.end in
+    let words = c.args.opened.words.items in
+    let done = c.plain-ran.result.done.items in
+    let s : Sight = sight_of c.args.opened.back in
+    let t : Sight = g.M.Medium.sight c.plain-ran.result.medium in
     rw c.fault_of.ensures (record {
       replies = (c.plain-ran.ensures.replies opening own).replies;
       syncs_follow = syncs.follow;
       syncs_from = λ i d below sync. omega (arith, syncs.from i d below sync, own.number);
       syncs_told = syncs.told;
       moments = c.plain-ran.ensures.moments opening own;
-      whole = λ none. ends.whole (whole_end end none) opening own;
+      whole = λ none. ends_whole_at opening words (requests_in c.args.files.now) done c.plain-ran.result.last s t (ends.whole (whole_end end none) opening own);
+      few_lost = lost_end end opening words done s t ends.ran (ends.few_lost opening own);
       ran = ran_end end _ _ ends.ran;
       cause = λ is. ends.cause (device_end end is);
       only = only_ends end;

@@ -3,14 +3,16 @@ use Rattle.dude_base.specs.Writes.{overwritten}
 use Rattle.dude_base.specs.declared.sizes.Sizes.{Sizes}
 use Rattle.tatp_model.specs.declared.done.Done.{Done}
 use Rattle.tatp_model.specs.declared.reply.Reply.{Reply}
-use Rattle.tatp_core.specs.Serves.{Answers, Serves}
+use Rattle.tatp_model.specs.declared.reply.Reply.TheVariants.{Changed}
+use Rattle.tatp_core.specs.Serves.{Serves}
 use Rattle.tatp_layout.specs.StandsFor.{StandsFor}
 use Rattle.word_space.specs.declared.flat.Flat.{Flat}
-use Rattle.word_space.specs.Flats.{words_of, flat_sight, flat_below, fresh}
-use Rattle.log_numbered.specs.RunLog.{log_last, log_medium}
+use Rattle.word_space.specs.Flats.{HasSameWords, words_of, flat_sight, flat_below, fresh}
+use Rattle.log_numbered.specs.RunLog.{log_last, log_medium, log_parts}
 use Rattle.dude_engine.specs.Running.{IsRunning, tables_after}
 use Rattle.dude_engine.proofs.Numbering.{IsNext}
-use Rattle.dude_engine.proofs.Serving.{serves_from, serves_silent}
+use Rattle.dude_engine.specs.RunCalls.{AreBodyWrites}
+use Rattle.dude_engine.proofs.Serving.{body_writes, run_parts_are, serves_from, serves_silent}
 use Rattle.dude_engine.proofs.Steps.{ready_same, running_read, runs_same, served_next, unchanged}
 use Rattle.dude_engine.proofs.run.Run.perform.Goals as goal
 
@@ -18,7 +20,7 @@ pub returns-in-Err-NoMemory-clause-leaves : goal.returns-in-Err-NoMemory-clause-
 returns-in-Err-NoMemory-clause-leaves g c =
     let self = c.args.self.now in
     let same : words_of c.run_request.new.w ≡ words_of self.words = c.run_request.ensures.uses.turns self.words refl in
-    record { ready = tt; lay = refl; room = refl; calls = tt; left = λ opening words s run. subst (λ (current : List ℕ). IsRunning opening words self.lay self.log current self.done.items s (g.M.Medium.sight (log_medium self.log))) (sym (c.forget.ensures.words ∙ same)) run }
+    record { ready = tt; lay = refl; room = refl; calls = tt; left = λ opening words s run. (subst (λ (current : List ℕ). IsRunning opening words self.lay self.log current self.done.items s (g.M.Medium.sight (log_medium self.log))) (sym (c.forget.ensures.words ∙ same)) run, c.requires.may.ready.alive) }
 
 pub log_change-requires-clause-change : goal.log_change-requires-clause-change
 log_change-requires-clause-change g c =
@@ -29,7 +31,8 @@ log_change-requires-clause-change g c =
       alive = c.requires.may.ready.alive;
       sizes = c.requires.may.ready.sizes;
       count = ap length same ∙ c.requires.may.ready.count;
-      answers = subst (λ (reply : Reply). Answers self.lay c.args.request.now reply (flat_sight w).reads (flat_sight w).writes) c.in-Changed.is c.in-Ok.ensures.answers;
+      writes = subst (λ (reply : Reply). AreBodyWrites self.lay (words_of w) c.args.request.now reply (flat_sight w).writes) c.in-Changed.is
+          (body_writes self.lay c.args.request.now c.in-Ok.reply w c.in-Ok.ensures.answers);
     }
 
 pub returns-in-Changed-clause-leaves : goal.returns-in-Changed-clause-leaves
@@ -41,7 +44,8 @@ returns-in-Changed-clause-leaves g c =
       ready = leaves.ready;
       lay = leaves.lay;
       room = leaves.room;
-      calls = serves_from _ _ self (record c.args.self.now { words = c.run_request.new.w }) c.log_change.new.self c.log_change.result refl refl leaves.calls;
+      calls = serves_from _ _ self (record c.args.self.now { words = c.run_request.new.w }) c.log_change.new.self c.log_change.result refl refl
+          (run_parts_are (words_of c.run_request.new.w) (words_of self.words) (log_parts self.log) (log_parts self.log) same refl) leaves.calls;
       left = λ opening words s run. leaves.left opening words s
           (subst (λ (current : List ℕ). IsRunning opening words self.lay self.log current self.done.items s (g.M.Medium.sight (log_medium self.log))) (sym same) run);
     }
@@ -60,7 +64,7 @@ returns-in_default g c =
         ready = ready_same self c.note.new.self c.note.ensures.log c.note.ensures.lay clean words_are c.requires.may.ready;
         lay = c.note.ensures.lay;
         room = c.note.ensures.room;
-        calls = serves_silent self c.note.new.self d (g.M.Medium.sight (log_medium self.log)) (g.M.Medium.sight (log_medium c.note.new.self.log)) c.note.ensures.done refl c.requires.no_sync c.note.ensures.log (ap (λ l. g.M.Medium.sight (log_medium l)) c.note.ensures.log);
+        calls = serves_silent self c.note.new.self d (g.M.Medium.sight (log_medium self.log)) (g.M.Medium.sight (log_medium c.note.new.self.log)) c.note.ensures.done refl c.requires.no_sync c.note.ensures.log words_are (ap (λ l. g.M.Medium.sight (log_medium l)) c.note.ensures.log);
         left = λ opening words s run.
             let stands : StandsFor self.lay (words_of w) (tables_after opening self.done.items) =
             subst (λ (z : Sizes). StandsFor z (words_of w) (tables_after opening self.done.items)) run.layout (subst (λ (l : List ℕ). StandsFor opening.sizes l (tables_after opening self.done.items)) (sym same) run.stands) in

@@ -2,7 +2,7 @@ use Rattle.std.proofs.Common.{◌≡◌, ◌∙◌, sym, subst, rules, map, List
 use Rattle.tatp_model.specs.declared.done.Done.{Done}
 use Rattle.word_space.specs.Flats.{words_of}
 use Rattle.log_numbered.specs.RunLog.{log_durable, log_last, log_medium, log_parts}
-use Rattle.run_order.proofs.Rounds.{Rounds, rounds_collect, rounds_rounds, rounds_start}
+use Rattle.run_order.proofs.Rounds.{Rounds, rounds_collect, rounds_first, rounds_rounds, rounds_start}
 use Rattle.dude_engine.specs.declared.run_fault.RunFault.TheVariants.{Device, NoMemory}
 use Rattle.dude_engine.specs.Running.{IsRunning}
 use Rattle.dude_engine.proofs.Serving.{runs_by}
@@ -18,7 +18,7 @@ returns-in_err-checkpoint-clause-left g c opening words s run =
     (subst (λ (performed : List Done). IsRunning opening words self.lay self.log (words_of self.words) performed s (g.M.Medium.sight (log_medium self.log))) (sym c.reserve_exact.ensures.items) run) in
     left_failed opening words c.from_residual-in_err-checkpoint.result _ s _ is
     (failed_same opening words served.lay served.log c.checkpoint.new.self (words_of served.words) served.done.items s (g.M.Medium.sight (log_medium served.log)) (g.M.Medium.sight (log_medium c.checkpoint.new.self))
-    c.in_err-checkpoint.ensures.goes_on c.checkpoint.ensures.moments runs)
+    c.in_ok-serve_all.ensures.leaves.ready.alive c.in_err-checkpoint.ensures.goes_on c.checkpoint.ensures.moments runs)
 
 pub returns-clause-left : goal.returns-clause-left
 returns-clause-left g c opening words s run =
@@ -59,6 +59,7 @@ returns-in_err-reserve_exact-clause-performs g c =
     record {
       rounds = rounds_rounds files 0 0 performed start;
       collects = λ done same sorted. rounds_collect files 0 0 performed done start same sorted;
+      first = λ done same sorted. rounds_first files 0 0 performed done start same sorted;
       all = fault_on_ok _ c.from_residual.result NoMemory is;
     }
 
@@ -69,5 +70,6 @@ returns-in_err-checkpoint-clause-performs g c =
     record {
       rounds = performs.rounds;
       collects = performs.collects;
+      first = performs.first;
       all = fault_on_ok _ c.from_residual-in_err-checkpoint.result Device is;
     }

@@ -6,7 +6,7 @@ use Rattle.tatp_model.specs.declared.done.Done.{Done}
 use Rattle.tatp_model.specs.declared.request.Request.{Request}
 use Rattle.tatp_model.specs.Request.{IsInRange}
 use Rattle.log_numbered.specs.RunLog.{log_medium}
-use Rattle.run_order.proofs.Rounds.{Rounds, found_mapped, rounds_all, rounds_collect, rounds_rounds, rounds_start, rounds_turn}
+use Rattle.run_order.proofs.Rounds.{Rounds, found_mapped, rounds_all, rounds_collect, rounds_first, rounds_rounds, rounds_start, rounds_turn}
 use Rattle.dude_engine.specs.declared.run_fault.RunFault.{RunFault}
 use Rattle.dude_engine.specs.Running.{IsLeft}
 use Rattle.dude_engine.proofs.Serving.{serves_none, serves_then}
@@ -62,7 +62,7 @@ loop-file-preserved g c =
       number = omega (arith, ok.number, i.number);
       rounds = turn_next files c.loop-index.index c.loop-file.file c.deref.result.now c.loop-file.self.done.items c.serve_turn.new.self.done.items there ok.adds i.rounds;
       left = λ opening words s run. ok.leaves.left opening words s (i.left opening words s run);
-      calls = serves_then c.args.self.now c.loop-file.self c.serve_turn.new.self (g.M.Medium.sight (log_medium c.args.self.now.log)) (g.M.Medium.sight (log_medium c.loop-file.self.log)) (g.M.Medium.sight (log_medium c.serve_turn.new.self.log)) i.calls ok.leaves.calls;
+      calls = serves_then c.args.self.now c.loop-file.self c.serve_turn.new.self (g.M.Medium.sight (log_medium c.args.self.now.log)) (g.M.Medium.sight (log_medium c.loop-file.self.log)) (g.M.Medium.sight (log_medium c.serve_turn.new.self.log)) i.lay i.calls ok.leaves.calls;
     }
 
 pub loop-index-preserved : goal.loop-index-preserved
@@ -107,6 +107,7 @@ returns-in_err-serve_turn-clause-performs g c =
     record {
       rounds = rounds_rounds files c.loop-index.index last.0 performed last.1;
       collects = λ done same sorted. rounds_collect files c.loop-index.index last.0 performed done last.1 same sorted;
+      first = λ done same sorted. rounds_first files c.loop-index.index last.0 performed done last.1 same sorted;
       all = fault_on_ok _ c.from_residual.result c.in_err-serve_turn.field-0.0 is;
     }
 
@@ -124,10 +125,11 @@ returns-clause-performs g c =
     record {
       rounds = rounds_rounds files index 0 performed rounds;
       collects = λ done same sorted. rounds_collect files index 0 performed done rounds same sorted;
+      first = λ done same sorted. rounds_first files index 0 performed done rounds same sorted;
       all = λ done same sorted.
           let over = c.loop-index-test.false in
           let longest = c.longest_file-longest.result in
           let short : All (λ requests. length requests ≤ index) files =
-          All-weaker (λ (requests : List Request). length requests ≤ longest) (λ (requests : List Request). length requests ≤ index) (λ requests h. omega (arith, h, over)) files c.longest_file-longest.ensures in
+          All-weaker (λ (requests : List Request). length requests ≤ longest) (λ (requests : List Request). length requests ≤ index) (λ requests h. omega (arith, h, over)) files c.longest_file-longest.ensures.none_longer in
           rounds_all files index performed done short rounds same sorted;
     }

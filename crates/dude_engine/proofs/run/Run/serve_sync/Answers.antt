@@ -23,7 +23,7 @@ returns-in_err-number-clause-leaves g c =
       left = λ opening words s run.
           left_failed opening words c.from_residual.result _ s _ is
           (failed_same opening words self.lay self.log c.announce.new.self (words_of self.words) self.done.items s (g.M.Medium.sight (log_medium self.log)) (g.M.Medium.sight (log_medium c.announce.new.self))
-          c.in_err-number.ensures.goes_on c.announce.ensures.moments run);
+          c.requires.ready.alive c.in_err-number.ensures.goes_on c.announce.ensures.moments run);
     }
 
 pub returns-clause-leaves : goal.returns-clause-leaves
@@ -44,7 +44,7 @@ returns-clause-leaves g c =
           (record { alive = ok.alive refl; sizes = ok.goes_on.sizes ∙ c.requires.ready.sizes; clean = c.requires.ready.clean; count = c.requires.ready.count });
       lay = c.note.ensures.lay;
       room = c.note.ensures.room;
-      calls = serves_sync self new later d (log_last self.log) t u (g.M.Medium.sight (log_medium new.log)) c.note.ensures.done refl refl ok.answer ok.announces.calls c.note.ensures.log still;
+      calls = serves_sync self new later d (log_last self.log) t u (g.M.Medium.sight (log_medium new.log)) c.note.ensures.done refl refl ok.answer ok.announces.calls c.note.ensures.log words_are still;
       left = λ opening words s run.
           let next : IsNext opening self.done.items d = record { number = ok.answer ∙ run.last; reply = refl; wrote = refl } in
           runs_same opening words new self.lay later (words_of self.words) (self.done.items ++ d ∷ []) s u _
