@@ -24,6 +24,7 @@ pub use limits::{MAX_BYTES, MAX_RECORDS};
 pub use load::mix;
 pub use number::{number_in, phone_in, push_number, push_phone};
 pub use output::{write_done, write_last};
+pub use reply::push_reply;
 pub use request_line::write_request;
 pub use summary::write_summary;
 pub use text_fault::TextFault;

@@ -1,0 +1,12 @@
+mod Along
+mod Files
+mod Law
+mod Necessary
+mod OneThreadRuns
+mod Orders
+mod Passing
+mod Printing
+mod Replies
+mod Ruled
+mod Shown
+mod Sorted

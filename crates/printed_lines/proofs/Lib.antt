@@ -1,0 +1,5 @@
+mod Blank
+mod Claimed
+pub mod Lined
+pub mod Numerals
+mod Whole
