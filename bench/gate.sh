@@ -1,9 +1,10 @@
 #!/usr/bin/env bash
-# Measures one gate from nothing, `rt ci --anew`, from the system's table of processes: processor seconds of each crate's
-# proof, of its tests, of what builds and runs its program, and of each edit; and the longest chain of crates.
+# Measures one gate from nothing (`rt ci`, with `--anew` where the kit's keeps what passed) from the system's table of
+# processes: processor seconds of each crate's proof, of its tests, of what builds and runs its program, and of each edit;
+# and the longest chain of crates.
 #
 #     bench/gate.sh              the whole gate, at the top; writes the tables of docs/GATE.md
-#     bench/gate.sh CRATE..      these crates and those below them, on a copy; prints the tables alone
+#     bench/gate.sh CRATE..      these crates and those below them, on a copy; prints the tables alone. Some kits can't
 set -euo pipefail
 cd "$(dirname "$0")/.."
 exec python3 - "$@" <<'PROGRAM'
@@ -12,6 +13,7 @@ import os, re, subprocess, sys, time
 TICK = os.sysconf("SC_CLK_TCK")
 LOOK = 0.5
 HEAD = "<!-- made by bench/gate.sh -->"
+ROOMS = {}
 
 
 def stat_of(pid):
@@ -26,6 +28,19 @@ def words_of(pid):
         return it.read().decode(errors="replace").split("\0")
 
 
+def edit_of(crate, room, over):
+    """The work of a check of an edited copy: by the folder of its kept work, else by the order in which copies are made. Where
+    no check of the whole crate comes first, the first edit pays for it, and one comes last."""
+    number = os.path.basename(over)
+    if number == "seed" or number.isdigit():
+        return (crate, "seed", None) if number == "seed" else (crate, "edits", int(number))
+    rooms = ROOMS.setdefault(crate, [])
+    if room not in rooms:
+        rooms.append(room)
+    at = rooms.index(room)
+    return (crate, "edits", at) if at < len(edits_of(crate)) else (crate, "seed", None)
+
+
 def work_of(pid):
     """What a process works at, as (crate, kind, edit); None where its parent says it."""
     words = words_of(pid)
@@ -34,10 +49,9 @@ def work_of(pid):
         return ran[1], "tests" if ran[2] else "program", None
     if "--crate-name" in words:
         crate = words[words.index("--crate-name") + 1]
-        if "/rt-edit-" in os.readlink(f"/proc/{pid}/cwd"):
-            over = words[words.index("--incremental") + 1] if "--incremental" in words else ""
-            number = os.path.basename(over)
-            return (crate, "seed", None) if number == "seed" else (crate, "edits", int(number) if number else None)
+        room = os.readlink(f"/proc/{pid}/cwd")
+        if "/rt-edit-" in room:
+            return edit_of(crate, room, words[words.index("--incremental") + 1] if "--incremental" in words else "")
         if "--test" in words:
             return crate, "tests", None
         return crate, "program" if "--crate-checked" in words else "proof", None
@@ -148,7 +162,11 @@ def tables(below, looks, wall, whole):
 
 def main(names):
     below, begun = crates_of(), time.time()
-    ci = subprocess.Popen(["rt", "ci", "--anew", *names], stdin=subprocess.DEVNULL)
+    told = subprocess.run(["rt", "help"], stdin=subprocess.DEVNULL, stdout=subprocess.PIPE, stderr=subprocess.STDOUT, text=True)
+    keeps = "--anew" in told.stdout
+    if names and not keeps:
+        sys.exit("gate.sh: this kit's rt ci takes no names")
+    ci = subprocess.Popen(["rt", "ci", *["--anew"] * keeps, *names], stdin=subprocess.DEVNULL)
     looks = Looks(ci.pid)
     looks.work = {(ci.pid, stat_of(ci.pid)[1]): None}
     while True:

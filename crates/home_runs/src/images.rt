@@ -1,8 +1,7 @@
 //! Images of a home, and what opening them leaves.
 
-ghost use Rattle.std.specs.Prelude.{IfOk, IsTrue};
-ghost use Rattle.pmem_trait.specs.Words.{IsSettled};
-ghost use Rattle.pmem_trait.specs.Sights.{state_now};
+ghost use Rattle.std.specs.Prelude.{IfOk};
+ghost use Rattle.pmem_trait.specs.Sights.{IsAtRest};
 ghost use Rattle.pmem_fake.specs.Fakes.{sight};
 
 use crate::home::LOCATION;
@@ -89,7 +88,7 @@ fn word_at(words: &[u64], at: u64) -> u64 {
 
 /// A medium that is settled at an image, of which the call of this count, from 1 on, fails.
 pub fn medium_of(alloc: Global, image: Vec<u64>, fail: u64) -> Result<MemPmem, AllocError>
-    ensures { IfOk result (λ medium. IsTrue (sight medium).is_visible → IsSettled (sight medium).len (state_now (sight medium))) }
+    ensures { IfOk result (λ medium. IsAtRest (sight medium)) }
 {
     let medium = MemPmem::new(alloc, image, 1_000_000, vec![in alloc; fail]?)?;
     Ok(medium)

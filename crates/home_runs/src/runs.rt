@@ -1,10 +1,9 @@
 //! Runs of request files over the image of a home on a medium in memory.
 
-ghost use Rattle.std.specs.Prelude.{◌≡◌, ◌≤◌, ◌+◌, ◌*◌, All, length, map};
-ghost use Rattle.dude_base.specs.declared.limits.TheConstants.{MAX_NUMBER};
+ghost use Rattle.std.specs.Prelude.{◌≤◌, All, length, map};
 ghost use Rattle.tatp_model.specs.Request.{IsInRange};
 ghost use Rattle.image_opening.specs.Opened.{IsOpened};
-ghost use Rattle.dude_engine.specs.Requests.{AreInRange, request_count};
+ghost use Rattle.dude_engine.specs.Requests.{AreInRange, HasNumbersFor};
 
 use crate::home::{LOCATION, done_at};
 use crate::images::{image_with, medium_of, say_heads};
@@ -200,7 +199,7 @@ fn files_for(
     requires second { All IsInRange second.items }
     ensures rings { length result.items ≤ opened.now.sizes.rings }
     ensures in_range { AreInRange (map (λ f. f.items) result.items) }
-    ensures numbers { opened.now.number + 65 * request_count (map (λ f. f.items) result.items) ≤ MAX_NUMBER }
+    ensures numbers { HasNumbersFor opened.now.number (map (λ f. f.items) result.items) }
 {
     let fit = opened.sizes.rings >= 2
         && opened.number <= 1000

@@ -1,1 +1,2 @@
 pub mod Persisted
+pub mod Saving

@@ -1,9 +1,9 @@
 //! A caller that settles words in groups, and keeps a promise at every crash.
-ghost use Rattle.std.specs.Prelude.{◌≡◌, ◌⊎◌, ℕ, ◌≤◌, [], ◌∷◌, ◌++◌, if◌then◌else◌, is_ok, IsTrue, slice_index};
-ghost use Rattle.pmem_trait.specs.declared.call.Call.TheVariants.{Tell};
+
+ghost use Rattle.std.specs.Prelude.{◌≡◌, ℕ, ◌≤◌, is_ok, IsTrue};
 ghost use Rattle.pmem_trait.specs.Words.{settled_at};
 ghost use Rattle.pmem_trait.specs.Sights.{state_now, CallsMade, AtEveryMoment};
-ghost use Rattle.pmem_trait.specs.Groups.{group_calls};
+ghost use Rattle.log_runs.specs.Saving.{HoldsEither, save_calls};
 
 use pmem_trait::{Failed, Medium, settle_group};
 
@@ -12,7 +12,7 @@ use pmem_trait::{Failed, Medium, settle_group};
 fn save<M: Medium>(m: &mut M, value: u64, tell: bool) -> Result<(), Failed>
     requires { 16 ≤ (M.sight m.old).len }
     ensures len { (M.sight m.new).len ≡ (M.sight m.old).len }
-    ensures made { CallsMade (group_calls ((0, value) ∷ []) (0 ∷ []) ++ (if tell then Tell value ∷ group_calls ((8, value) ∷ []) (1 ∷ []) else [])) (is_ok result) (M.sight m.old) (M.sight m.new) }
+    ensures made { CallsMade (save_calls value tell) (is_ok result) (M.sight m.old) (M.sight m.new) }
 {
     settle_group(m, &[(0, value)], &[0])?;
     if !tell {
@@ -27,8 +27,9 @@ fn save<M: Medium>(m: &mut M, value: u64, tell: bool) -> Result<(), Failed>
 pub fn save_safe<M: Medium>(m: &mut M, value: u64, tell: bool) -> Result<(), Failed>
     requires { 16 ≤ (M.sight m.old).len }
     ensures len { (M.sight m.new).len ≡ (M.sight m.old).len }
-    ensures safe { (old : ℕ) → (IsTrue (M.sight m.old).is_visible → (state_now (M.sight m.old)).word 0 ≡ settled_at old)
-        → AtEveryMoment (λ told image. (slice_index image 0 ≡ old) ⊎ (slice_index image 0 ≡ value)) (M.sight m.old) (M.sight m.new) }
+    ensures safe { (old : ℕ)
+        → (IsTrue (M.sight m.old).is_visible → (state_now (M.sight m.old)).word 0 ≡ settled_at old)
+        → AtEveryMoment (HoldsEither old value) (M.sight m.old) (M.sight m.new) }
 {
     save(m, value, tell)
 }

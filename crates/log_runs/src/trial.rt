@@ -1,11 +1,11 @@
 //! A back over a medium in memory, with what was persisted on it: it persists only what it may.
-ghost use Rattle.std.specs.Prelude.{◌≡◌, ◌≢◌, ◌⊎◌, ◌<◌, All, IsTrue};
+ghost use Rattle.std.specs.Prelude.{◌≡◌, ◌<◌, All, IsTrue};
 ghost use Rattle.std.specs.List.{Contains};
 ghost use Rattle.dude_base.specs.Sizes.{sizes_for};
 ghost use Rattle.redo_record.specs.Waiting.{Waiting};
 ghost use Rattle.back_store.specs.Back.{waiting_now};
 ghost use Rattle.back_store.specs.BackView.{state_of};
-ghost use Rattle.log_runs.specs.Persisted.{is_listed, numbers_of};
+ghost use Rattle.log_runs.specs.Persisted.{MayComeBehind, is_listed, numbers_of};
 
 use crate::persisted::Persisted;
 use crate::records::{is_home, small_sizes};
@@ -36,7 +36,7 @@ pub struct Trial {
 
 // Whether a bundle of these numbers may be persisted in this ring behind these.
 fn may_follow(persisted: &[Persisted], ring: u64, first: u64, last: u64) -> bool
-    ensures { IsTrue result → All (λ p. (p.last < first) ⊎ ((last < p.first) × (p.ring ≢ ring))) persisted.now }
+    ensures { IsTrue result → All (MayComeBehind ring first last) persisted.now }
 {
     for k in 0..persisted.len() {
         let before = persisted[k];

@@ -1,8 +1,7 @@
 //! What a command is tried with: an image, request files, and which calls fail.
 
-ghost use Rattle.std.specs.Prelude.{IfOk, IsTrue};
-ghost use Rattle.pmem_trait.specs.Words.{IsSettled};
-ghost use Rattle.pmem_trait.specs.Sights.{state_now};
+ghost use Rattle.std.specs.Prelude.{IfOk};
+ghost use Rattle.pmem_trait.specs.Sights.{IsAtRest};
 ghost use Rattle.pmem_fake.specs.Fakes.{sight};
 
 use dude_io::{MemFile, MemFiles, MemSink};
@@ -72,7 +71,7 @@ pub struct Scene<'a> {
 
 /// A medium that is settled at these words.
 pub fn medium_of(alloc: Global, scene: &Scene) -> Result<MemPmem, AllocError>
-    ensures settled { IfOk result (λ medium. IsTrue (sight medium).is_visible → IsSettled (sight medium).len (state_now (sight medium))) }
+    ensures settled { IfOk result (λ medium. IsAtRest (sight medium)) }
 {
     let budget = scene.settings.budget.min(10_000_000);
     let fail = vec![in alloc; scene.settings.failing_call]?;
