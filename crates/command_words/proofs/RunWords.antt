@@ -1,5 +1,5 @@
 -- The words of `run`.
-use Rattle.std.proofs.Common.{inl, inr, ℕ, ◌≡◌, ◌<◌, ◌^◌, Bool, true, false, List, [], ◌∷◌, Option, Some, None, length, refl, sym, arith, codes, drop, ◌≤◌, map}
+use Rattle.std.proofs.Common.{inl, inr, ℕ, ◌≡◌, ◌∙◌, ◌<◌, ◌^◌, Bool, true, false, List, [], ◌∷◌, Option, Some, None, length, refl, sym, arith, codes, drop, ◌≤◌, map}
 use Rattle.std.specs.Option.{option_map}
 use Rattle.std.specs.Prelude.{◌==◌, ◌&&◌, if◌then◌else◌}
 use Rattle.std.specs.Str.{bytes_eq}
@@ -17,15 +17,18 @@ use Rattle.command_words.specs.Clap.{IsReading, has_run_form, is_number, is_numb
 use Rattle.command_words.proofs.NumberWords.{both, first-digit, parsed_number-passes, word_number-parsed}
 use Rattle.command_words.proofs.Readings.{Reads, reads-by, refused-in, taken-in}
 use Rattle.command_words.proofs.Rows.{value_row, values_row}
-use Rattle.command_words.proofs.RunWalk.{fault_of-both, fault_of-files, fault_of-frames, fault_of-locks, fault_of-turned, matches_of-both, matches_of-files, matches_of-frames, matches_of-locks, matches_of-turned}
+use Rattle.command_words.proofs.RunWalk.{RunOption, of_frames, of_locks, other, id_of, word_of, number_passes, fault_of-files, fault_of-one, fault_of-two, matches_of-files, matches_of-one, matches_of-two}
 
 -- ---- what the words mean
 
-abbrev frames_pass : Text → Bool
-frames_pass word = accepts false (vp.Unsigned 1 32_768) word
+-- of two, the one of `frames`
+abbrev pick : RunOption → Option Text → Option Text → Option Text
+pick of_frames v w = v
+pick of_locks v w = w
 
-abbrev locks_pass : Text → Bool
-locks_pass word = accepts false (vp.Unsigned 1 65_536) word
+-- what `run` is given, where the option has this number word and the other one that
+abbrev given_by : RunOption → Option Text → Option Text → List Text → RunWords
+given_by o v w files = record { frames = pick o v w; locks = pick (other o) v w; files = files }
 
 parsed-cases : (p : Bool) (number : Option ℕ) → (p ≡ true → (n : ℕ) × (number ≡ Some n))
     → option_map Some (if p then number else None) ≡ (if p then Some number else None)
@@ -39,55 +42,61 @@ optional_number-parsed low high word fits form =
     rw (word_number-parsed low high word fits form)
     (parsed-cases (accepts false (vp.Unsigned low high) word) (parsed_number word) (λ passes. (_, parsed_number-passes low high word passes)))
 
+-- an option that is refused, or the other one, refuses the run
 with-both : (p q : Bool) (f l : Option ℕ) (files : List Text) → are_file_names files ≡ true
     → run_with (if p then Some f else None) (if q then Some l else None) files ≡ (if p && q then Some (RunFiles f l files) else None)
 with-both true true f l files names = rw names refl
 with-both true false f l files names = refl
 with-both false q f l files names = refl
 
-with-turned : (p q : Bool) (f l : Option ℕ) (files : List Text) → are_file_names files ≡ true
-    → run_with (if p then Some f else None) (if q then Some l else None) files ≡ (if q && p then Some (RunFiles f l files) else None)
-with-turned true true f l files names = rw names refl
-with-turned true false f l files names = refl
-with-turned false true f l files names = refl
-with-turned false false f l files names = refl
+swapped : (p q : Bool) {X : Type 0} (x : Option X) → (if p && q then x else None) ≡ (if q && p then x else None)
+swapped true true x = refl
+swapped true false x = refl
+swapped false true x = refl
+swapped false false x = refl
 
-with-frames : (p : Bool) (f : Option ℕ) (files : List Text) → are_file_names files ≡ true
-    → run_with (if p then Some f else None) (Some None) files ≡ (if p then Some (RunFiles f None files) else None)
-with-frames true f files names = rw names refl
-with-frames false f files names = refl
+-- what the words of one option, or of two, mean
+means-one : (o : RunOption) (v : Text) (files : List Text) → is_number v ≡ true → are_file_names files ≡ true
+    → run_given (given_by o (Some v) None files) ≡ (if number_passes o v then run_in files (value_row (id_of o) v ∷ values_row (codes "files") files ∷ []) else None)
+means-one of_frames v files number names =
+    rw (optional_number-parsed 1 32_768 v (omega arith) number) (with-both (number_passes of_frames v) true (parsed_number v) None files names ∙ swapped (number_passes of_frames v) true _)
+means-one of_locks v files number names =
+    rw (optional_number-parsed 1 65_536 v (omega arith) number) (with-both true (number_passes of_locks v) None (parsed_number v) files names)
 
-with-locks : (q : Bool) (l : Option ℕ) (files : List Text) → are_file_names files ≡ true
-    → run_with (Some None) (if q then Some l else None) files ≡ (if q then Some (RunFiles None l files) else None)
-with-locks true l files names = rw names refl
-with-locks false l files names = refl
+means-two : (o : RunOption) (v w : Text) (files : List Text) → is_number v ≡ true → is_number w ≡ true → are_file_names files ≡ true
+    → run_given (given_by o (Some v) (Some w) files)
+    ≡ (if number_passes o v && number_passes (other o) w then run_in files (value_row (id_of o) v ∷ value_row (id_of (other o)) w ∷ values_row (codes "files") files ∷ []) else None)
+means-two of_frames v w files one two names =
+    rw (optional_number-parsed 1 32_768 v (omega arith) one, optional_number-parsed 1 65_536 w (omega arith) two)
+    (with-both (number_passes of_frames v) (number_passes of_locks w) (parsed_number v) (parsed_number w) files names)
+means-two of_locks v w files one two names =
+    rw (optional_number-parsed 1 65_536 v (omega arith) one, optional_number-parsed 1 32_768 w (omega arith) two)
+    (with-both (number_passes of_frames w) (number_passes of_locks v) (parsed_number w) (parsed_number v) files names ∙ swapped (number_passes of_frames w) (number_passes of_locks v) _)
 
--- ---- the five arrangements of the words
+-- ---- the arrangements of the words
 
 data Arrangement : List Text → RunWords → Type 0 where
   no-option : (files : List Text) → Arrangement files (record { frames = None; locks = None; files = files })
-  frames-alone : (f : Text) (files : List Text) → Arrangement (codes "--frames" ∷ f ∷ files) (record { frames = Some f; locks = None; files = files })
-  locks-alone : (l : Text) (files : List Text) → Arrangement (codes "--locks" ∷ l ∷ files) (record { frames = None; locks = Some l; files = files })
-  frames-first : (f l : Text) (files : List Text) → Arrangement (codes "--frames" ∷ f ∷ codes "--locks" ∷ l ∷ files) (record { frames = Some f; locks = Some l; files = files })
-  locks-first : (l f : Text) (files : List Text) → Arrangement (codes "--locks" ∷ l ∷ codes "--frames" ∷ f ∷ files) (record { frames = Some f; locks = Some l; files = files })
+  one-option : (o : RunOption) (v : Text) (files : List Text) → Arrangement (word_of o ∷ v ∷ files) (given_by o (Some v) None files)
+  two-options : (o : RunOption) (v w : Text) (files : List Text) → Arrangement (word_of o ∷ v ∷ word_of (other o) ∷ w ∷ files) (given_by o (Some v) (Some w) files)
 
 same-text : (xs ys : Text) → bytes_eq xs ys ≡ true → xs ≡ ys
 same-text xs ys e = (bytes_eq-Decides xs ys).0 e
 
 behind-frames : (f : Text) (more : List Text) → Arrangement (codes "--frames" ∷ f ∷ more) (behind_frames f more)
-behind-frames f [] = frames-alone f []
-behind-frames f (file ∷ []) = frames-alone f (file ∷ [])
+behind-frames f [] = one-option of_frames f []
+behind-frames f (file ∷ []) = one-option of_frames f (file ∷ [])
 behind-frames f (option ∷ l ∷ files) = elim (cases_Bool (bytes_eq option (codes "--locks"))) [
-  | inl same ↦ rw (same, same-text option (codes "--locks") same) (frames-first f l files)
-  | inr other ↦ rw other (frames-alone f (option ∷ l ∷ files))
+  | inl same ↦ rw (same, same-text option (codes "--locks") same) (two-options of_frames f l files)
+  | inr different ↦ rw different (one-option of_frames f (option ∷ l ∷ files))
 ]
 
 behind-locks : (l : Text) (more : List Text) → Arrangement (codes "--locks" ∷ l ∷ more) (behind_locks l more)
-behind-locks l [] = locks-alone l []
-behind-locks l (file ∷ []) = locks-alone l (file ∷ [])
+behind-locks l [] = one-option of_locks l []
+behind-locks l (file ∷ []) = one-option of_locks l (file ∷ [])
 behind-locks l (option ∷ f ∷ files) = elim (cases_Bool (bytes_eq option (codes "--frames"))) [
-  | inl same ↦ rw (same, same-text option (codes "--frames") same) (locks-first l f files)
-  | inr other ↦ rw other (locks-alone l (option ∷ f ∷ files))
+  | inl same ↦ rw (same, same-text option (codes "--frames") same) (two-options of_locks l f files)
+  | inr different ↦ rw different (one-option of_locks l (option ∷ f ∷ files))
 ]
 
 arrangement : (words : List Text) → Arrangement words (run_words words)
@@ -113,107 +122,65 @@ files-read name file files names few =
     reads-by run_app (name ∷ file ∷ files) _ (run_in (file ∷ files)) true (values_row (codes "files") (file ∷ files) ∷ [])
     (fault_of-files name file files names few) (matches_of-files name file files names) (rw names refl)
 
--- `--frames F` before the files
-frames-digits : (name : Text) (a : ℕ) (f file : Text) (files : List Text) → (a == 45) ≡ false → are_file_names (file ∷ files) ≡ true → length files < usize_max
-    → run_given (record { frames = Some (a ∷ f); locks = None; files = file ∷ files })
-    ≡ (if frames_pass (a ∷ f) then Some (RunFiles (parsed_number (a ∷ f)) None (file ∷ files)) else None)
-    → RunReads name (codes "--frames" ∷ (a ∷ f) ∷ file ∷ files) (record { frames = Some (a ∷ f); locks = None; files = file ∷ files })
-frames-digits name a f file files na names few means =
-    reads-by run_app (name ∷ codes "--frames" ∷ (a ∷ f) ∷ file ∷ files) _ (run_in (file ∷ files)) (frames_pass (a ∷ f))
-    (value_row (codes "frames") (a ∷ f) ∷ values_row (codes "files") (file ∷ files) ∷ [])
-    (fault_of-frames name a f file files na names few) (matches_of-frames name a f file files na names) means
+-- one option before the files
+one-digits : (o : RunOption) (name : Text) (a : ℕ) (f file : Text) (files : List Text) → (a == 45) ≡ false → are_file_names (file ∷ files) ≡ true → length files < usize_max
+    → run_given (given_by o (Some (a ∷ f)) None (file ∷ files))
+    ≡ (if number_passes o (a ∷ f) then run_in (file ∷ files) (value_row (id_of o) (a ∷ f) ∷ values_row (codes "files") (file ∷ files) ∷ []) else None)
+    → RunReads name (word_of o ∷ (a ∷ f) ∷ file ∷ files) (given_by o (Some (a ∷ f)) None (file ∷ files))
+one-digits o name a f file files na names few means =
+    reads-by run_app (name ∷ word_of o ∷ (a ∷ f) ∷ file ∷ files) _ (run_in (file ∷ files)) (number_passes o (a ∷ f))
+    (value_row (id_of o) (a ∷ f) ∷ values_row (codes "files") (file ∷ files) ∷ [])
+    (fault_of-one o name a f file files na names few) (matches_of-one o name a f file files na names) means
 
-frames-read : (name f file : Text) (files : List Text) → is_number f ≡ true → are_file_names (file ∷ files) ≡ true → length files < usize_max
-    → RunReads name (codes "--frames" ∷ f ∷ file ∷ files) (record { frames = Some f; locks = None; files = file ∷ files })
-frames-read name f file files number names few =
-    let one = first-digit f number in
-    let means : run_given (record { frames = Some f; locks = None; files = file ∷ files }) ≡ (if frames_pass f then Some (RunFiles (parsed_number f) None (file ∷ files)) else None) =
-    rw (optional_number-parsed 1 32_768 f (omega arith) number) (with-frames (frames_pass f) (parsed_number f) (file ∷ files) names) in
-    rw (one.2) (frames-digits name one.0 one.1 file files one.3 names few (rw (one.2) at means))
-
--- `--locks L` before the files
-locks-digits : (name : Text) (b : ℕ) (l file : Text) (files : List Text) → (b == 45) ≡ false → are_file_names (file ∷ files) ≡ true → length files < usize_max
-    → run_given (record { frames = None; locks = Some (b ∷ l); files = file ∷ files })
-    ≡ (if locks_pass (b ∷ l) then Some (RunFiles None (parsed_number (b ∷ l)) (file ∷ files)) else None)
-    → RunReads name (codes "--locks" ∷ (b ∷ l) ∷ file ∷ files) (record { frames = None; locks = Some (b ∷ l); files = file ∷ files })
-locks-digits name b l file files nb names few means =
-    reads-by run_app (name ∷ codes "--locks" ∷ (b ∷ l) ∷ file ∷ files) _ (run_in (file ∷ files)) (locks_pass (b ∷ l))
-    (value_row (codes "locks") (b ∷ l) ∷ values_row (codes "files") (file ∷ files) ∷ [])
-    (fault_of-locks name b l file files nb names few) (matches_of-locks name b l file files nb names) means
-
-locks-read : (name l file : Text) (files : List Text) → is_number l ≡ true → are_file_names (file ∷ files) ≡ true → length files < usize_max
-    → RunReads name (codes "--locks" ∷ l ∷ file ∷ files) (record { frames = None; locks = Some l; files = file ∷ files })
-locks-read name l file files number names few =
-    let one = first-digit l number in
-    let means : run_given (record { frames = None; locks = Some l; files = file ∷ files }) ≡ (if locks_pass l then Some (RunFiles None (parsed_number l) (file ∷ files)) else None) =
-    rw (optional_number-parsed 1 65_536 l (omega arith) number) (with-locks (locks_pass l) (parsed_number l) (file ∷ files) names) in
-    rw (one.2) (locks-digits name one.0 one.1 file files one.3 names few (rw (one.2) at means))
+one-read : (o : RunOption) (name v file : Text) (files : List Text) → is_number v ≡ true → are_file_names (file ∷ files) ≡ true → length files < usize_max
+    → RunReads name (word_of o ∷ v ∷ file ∷ files) (given_by o (Some v) None (file ∷ files))
+one-read o name v file files number names few =
+    let one = first-digit v number in
+    let means = means-one o v (file ∷ files) number names in
+    rw (one.2) (one-digits o name one.0 one.1 file files one.3 names few (rw (one.2) at means))
 
 -- both, in either order
-both-digits : (name : Text) (a : ℕ) (f : Text) (b : ℕ) (l file : Text) (files : List Text) → (a == 45) ≡ false → (b == 45) ≡ false → are_file_names (file ∷ files) ≡ true → length files < usize_max
-    → run_given (record { frames = Some (a ∷ f); locks = Some (b ∷ l); files = file ∷ files })
-    ≡ (if frames_pass (a ∷ f) && locks_pass (b ∷ l) then Some (RunFiles (parsed_number (a ∷ f)) (parsed_number (b ∷ l)) (file ∷ files)) else None)
-    → RunReads name (codes "--frames" ∷ (a ∷ f) ∷ codes "--locks" ∷ (b ∷ l) ∷ file ∷ files) (record { frames = Some (a ∷ f); locks = Some (b ∷ l); files = file ∷ files })
-both-digits name a f b l file files na nb names few means =
-    reads-by run_app (name ∷ codes "--frames" ∷ (a ∷ f) ∷ codes "--locks" ∷ (b ∷ l) ∷ file ∷ files) _ (run_in (file ∷ files)) (frames_pass (a ∷ f) && locks_pass (b ∷ l))
-    (value_row (codes "frames") (a ∷ f) ∷ value_row (codes "locks") (b ∷ l) ∷ values_row (codes "files") (file ∷ files) ∷ [])
-    (fault_of-both name a f b l file files na nb names few) (matches_of-both name a f b l file files na nb names) means
+two-digits : (o : RunOption) (name : Text) (a : ℕ) (f : Text) (b : ℕ) (l file : Text) (files : List Text) → (a == 45) ≡ false → (b == 45) ≡ false → are_file_names (file ∷ files) ≡ true → length files < usize_max
+    → run_given (given_by o (Some (a ∷ f)) (Some (b ∷ l)) (file ∷ files))
+    ≡ (if number_passes o (a ∷ f) && number_passes (other o) (b ∷ l) then run_in (file ∷ files) (value_row (id_of o) (a ∷ f) ∷ value_row (id_of (other o)) (b ∷ l) ∷ values_row (codes "files") (file ∷ files) ∷ []) else None)
+    → RunReads name (word_of o ∷ (a ∷ f) ∷ word_of (other o) ∷ (b ∷ l) ∷ file ∷ files) (given_by o (Some (a ∷ f)) (Some (b ∷ l)) (file ∷ files))
+two-digits o name a f b l file files na nb names few means =
+    reads-by run_app (name ∷ word_of o ∷ (a ∷ f) ∷ word_of (other o) ∷ (b ∷ l) ∷ file ∷ files) _ (run_in (file ∷ files)) (number_passes o (a ∷ f) && number_passes (other o) (b ∷ l))
+    (value_row (id_of o) (a ∷ f) ∷ value_row (id_of (other o)) (b ∷ l) ∷ values_row (codes "files") (file ∷ files) ∷ [])
+    (fault_of-two o name a f b l file files na nb names few) (matches_of-two o name a f b l file files na nb names) means
 
-both-read : (name f l file : Text) (files : List Text) → is_number f ≡ true → is_number l ≡ true → are_file_names (file ∷ files) ≡ true → length files < usize_max
-    → RunReads name (codes "--frames" ∷ f ∷ codes "--locks" ∷ l ∷ file ∷ files) (record { frames = Some f; locks = Some l; files = file ∷ files })
-both-read name f l file files number other names few =
-    let one = first-digit f number in
-    let two = first-digit l other in
-    let means : run_given (record { frames = Some f; locks = Some l; files = file ∷ files }) ≡ (if frames_pass f && locks_pass l then Some (RunFiles (parsed_number f) (parsed_number l) (file ∷ files)) else None) =
-    rw (optional_number-parsed 1 32_768 f (omega arith) number, optional_number-parsed 1 65_536 l (omega arith) other)
-    (with-both (frames_pass f) (locks_pass l) (parsed_number f) (parsed_number l) (file ∷ files) names) in
-    rw (one.2, two.2) (both-digits name one.0 one.1 two.0 two.1 file files one.3 two.3 names few (rw (one.2, two.2) at means))
-
-turned-digits : (name : Text) (a : ℕ) (f : Text) (b : ℕ) (l file : Text) (files : List Text) → (a == 45) ≡ false → (b == 45) ≡ false → are_file_names (file ∷ files) ≡ true → length files < usize_max
-    → run_given (record { frames = Some (a ∷ f); locks = Some (b ∷ l); files = file ∷ files })
-    ≡ (if locks_pass (b ∷ l) && frames_pass (a ∷ f) then Some (RunFiles (parsed_number (a ∷ f)) (parsed_number (b ∷ l)) (file ∷ files)) else None)
-    → RunReads name (codes "--locks" ∷ (b ∷ l) ∷ codes "--frames" ∷ (a ∷ f) ∷ file ∷ files) (record { frames = Some (a ∷ f); locks = Some (b ∷ l); files = file ∷ files })
-turned-digits name a f b l file files na nb names few means =
-    reads-by run_app (name ∷ codes "--locks" ∷ (b ∷ l) ∷ codes "--frames" ∷ (a ∷ f) ∷ file ∷ files) _ (run_in (file ∷ files)) (locks_pass (b ∷ l) && frames_pass (a ∷ f))
-    (value_row (codes "locks") (b ∷ l) ∷ value_row (codes "frames") (a ∷ f) ∷ values_row (codes "files") (file ∷ files) ∷ [])
-    (fault_of-turned name a f b l file files na nb names few) (matches_of-turned name a f b l file files na nb names) means
-
-turned-read : (name f l file : Text) (files : List Text) → is_number f ≡ true → is_number l ≡ true → are_file_names (file ∷ files) ≡ true → length files < usize_max
-    → RunReads name (codes "--locks" ∷ l ∷ codes "--frames" ∷ f ∷ file ∷ files) (record { frames = Some f; locks = Some l; files = file ∷ files })
-turned-read name f l file files number other names few =
-    let one = first-digit f number in
-    let two = first-digit l other in
-    let means : run_given (record { frames = Some f; locks = Some l; files = file ∷ files }) ≡ (if locks_pass l && frames_pass f then Some (RunFiles (parsed_number f) (parsed_number l) (file ∷ files)) else None) =
-    rw (optional_number-parsed 1 32_768 f (omega arith) number, optional_number-parsed 1 65_536 l (omega arith) other)
-    (with-turned (frames_pass f) (locks_pass l) (parsed_number f) (parsed_number l) (file ∷ files) names) in
-    rw (one.2, two.2) (turned-digits name one.0 one.1 two.0 two.1 file files one.3 two.3 names few (rw (one.2, two.2) at means))
+two-read : (o : RunOption) (name v w file : Text) (files : List Text) → is_number v ≡ true → is_number w ≡ true → are_file_names (file ∷ files) ≡ true → length files < usize_max
+    → RunReads name (word_of o ∷ v ∷ word_of (other o) ∷ w ∷ file ∷ files) (given_by o (Some v) (Some w) (file ∷ files))
+two-read o name v w file files number second names few =
+    let one = first-digit v number in
+    let two = first-digit w second in
+    let means = means-two o v w (file ∷ files) number second names in
+    rw (one.2, two.2) (two-digits o name one.0 one.1 two.0 two.1 file files one.3 two.3 names few (rw (one.2, two.2) at means))
 
 no-names : (b : Bool) → (b && false) ≡ true → ⊥
 no-names true h = cc h
 no-names false h = cc h
 
+-- which words of a form are numbers
+number-one : (o : RunOption) (v : Text) (files : List Text) → has_run_form (given_by o (Some v) None files) ≡ true → (is_number v ≡ true) × (are_file_names files ≡ true)
+number-one of_frames v files h = let outer = both _ _ h in let inner = both _ _ outer.0 in (inner.0, outer.1)
+number-one of_locks v files h = both _ _ h
+
+number-two : (o : RunOption) (v w : Text) (files : List Text) → has_run_form (given_by o (Some v) (Some w) files) ≡ true → (is_number v ≡ true) × (is_number w ≡ true) × (are_file_names files ≡ true)
+number-two of_frames v w files h = let outer = both _ _ h in let inner = both _ _ outer.0 in (inner.0, inner.1, outer.1)
+number-two of_locks v w files h = let outer = both _ _ h in let inner = both _ _ outer.0 in (inner.1, inner.0, outer.1)
+
 arranged : (name : Text) (words : List Text) (given : RunWords) → Arrangement words given → has_run_form given ≡ true → length words < usize_max → RunReads name words given
 arranged name words given (no-option []) h few = absurd (no-names true h)
 arranged name words given (no-option (file ∷ files)) h few = files-read name file files h (omega arith)
-arranged name words given (frames-alone f []) h few = absurd (no-names _ h)
-arranged name words given (frames-alone f (file ∷ files)) h few =
-    let outer = both _ _ h in
-    let inner = both _ _ outer.0 in
-    frames-read name f file files inner.0 outer.1 (omega arith)
-arranged name words given (locks-alone l []) h few = absurd (no-names _ h)
-arranged name words given (locks-alone l (file ∷ files)) h few =
-    let outer = both _ _ h in
-    locks-read name l file files outer.0 outer.1 (omega arith)
-arranged name words given (frames-first f l []) h few = absurd (no-names _ h)
-arranged name words given (frames-first f l (file ∷ files)) h few =
-    let outer = both _ _ h in
-    let inner = both _ _ outer.0 in
-    both-read name f l file files inner.0 inner.1 outer.1 (omega arith)
-arranged name words given (locks-first l f []) h few = absurd (no-names _ h)
-arranged name words given (locks-first l f (file ∷ files)) h few =
-    let outer = both _ _ h in
-    let inner = both _ _ outer.0 in
-    turned-read name f l file files inner.0 inner.1 outer.1 (omega arith)
+arranged name words given (one-option o v []) h few = absurd (let no : false ≡ true = (number-one o v [] h).1 in cc no)
+arranged name words given (one-option o v (file ∷ files)) h few =
+    let form = number-one o v (file ∷ files) h in
+    one-read o name v file files form.0 form.1 (omega arith)
+arranged name words given (two-options o v w []) h few = absurd (let no : false ≡ true = (number-two o v w [] h).2 in cc no)
+arranged name words given (two-options o v w (file ∷ files)) h few =
+    let form = number-two o v w (file ∷ files) h in
+    two-read o name v w file files form.0 form.1 form.2 (omega arith)
 
 -- words of the form, behind a name
 pub run-reads : (words : List Text) → 1 ≤ length words → length words ≤ usize_max → has_run_form (run_words (drop 1 words)) ≡ true
