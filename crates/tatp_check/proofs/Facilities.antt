@@ -6,7 +6,7 @@ use Rattle.tatp_model.specs.Database.{IsFacRow}
 use Rattle.tatp_layout.specs.Decoding.{facility_in}
 use Rattle.tatp_layout.specs.Digits.{from_digits, to_digits}
 use Rattle.tatp_layout.specs.Records.{HoldsRow, facility_form}
-use Rattle.tatp_layout.proofs.DigitLists.{digits_front}
+use Rattle.tatp_layout.specs.DigitLists.{digits_front}
 use Rattle.tatp_check.specs.Content.{MayHold}
 use Rattle.tatp_check.specs.Tests.{is_kind_key, are_letters, facility_word}
 use Rattle.tatp_check.proofs.Held.{may_hold, may_past, may_link, at_offset, long, made, kind_key_range, is_kind_key-true}

@@ -8,8 +8,8 @@ use Rattle.std.proofs.lemmas.List.Elements.{All-from_get_or}
 use Rattle.std.proofs.lemmas.List.FromFn.{get_or-map-range_with_len, length-map-range_with_len}
 use Rattle.tatp_layout.specs.Digits.{from_digits, to_digits}
 use Rattle.tatp_layout.specs.Records.{RowForm, HoldsRow}
-use Rattle.tatp_layout.proofs.Decoded.{held_word}
-use Rattle.tatp_layout.proofs.DigitLists.{digits_whole}
+use Rattle.tatp_layout.specs.Decoded.{held_word}
+use Rattle.tatp_layout.specs.DigitLists.{digits_whole}
 use Rattle.tatp_check.specs.Content.{MayHold}
 use Rattle.tatp_check.specs.Tests.{is_id, is_kind_key}
 

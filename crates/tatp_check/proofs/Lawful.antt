@@ -6,7 +6,7 @@ use Rattle.hash_table.specs.Table.{IsTable, records_in}
 use Rattle.tatp_model.specs.Database.{Database, IsSubRow, IsAccessRow, IsFacRow, IsCallRow}
 use Rattle.tatp_layout.specs.Records.{subscriber_form, number_form, access_form, facility_form, call_form}
 use Rattle.tatp_layout.specs.StandsFor.{StandsFor}
-use Rattle.tatp_layout.proofs.Decoded.{held_word}
+use Rattle.tatp_layout.specs.Decoded.{held_word}
 use Rattle.table_check.proofs.Lawful.{HoldsContent, table_whole}
 use Rattle.tatp_check.specs.declared.table_kind.TableKind.{TableKind}
 use Rattle.tatp_check.specs.declared.table_kind.TableKind.TheVariants.{Subscribers, Numbers, Access, Facilities, Calls}

@@ -8,7 +8,7 @@ use Rattle.std.proofs.lemmas.List.FromFn.{get_or-map-range_with_len, length-map-
 use Rattle.std.proofs.lemmas.List.Folds.{list_all_at}
 use Rattle.std.specs.List.{list_all}
 use Rattle.tatp_layout.specs.Digits.{from_digits, to_digits}
-use Rattle.tatp_layout.proofs.DigitLists.{digits_below, digits_from}
+use Rattle.tatp_layout.specs.DigitLists.{digits_below, digits_from}
 use Rattle.tatp_check.specs.Tests.{is_letter, are_letters}
 
 list_all_from : (p : ℕ → Bool) (xs : List ℕ) → ((k : ℕ) → k < length xs → p (get_or xs k 0) ≡ true) → list_all p xs ≡ true

@@ -8,7 +8,7 @@ use Rattle.tatp_model.specs.Database.{IsSubRow}
 use Rattle.tatp_layout.specs.Decoding.{subscriber_in}
 use Rattle.tatp_layout.specs.Digits.{from_digits, to_digits}
 use Rattle.tatp_layout.specs.Records.{HoldsRow, subscriber_form}
-use Rattle.tatp_layout.proofs.DigitLists.{digits_below, digits_whole}
+use Rattle.tatp_layout.specs.DigitLists.{digits_below, digits_whole}
 use Rattle.tatp_check.specs.Content.{MayHold}
 use Rattle.tatp_check.specs.Tests.{is_id, subscriber_word}
 use Rattle.tatp_check.proofs.Held.{may_hold, may_past, may_link, long, each_digit, made, at_offset, small, is_id-true, id_range}

@@ -4,7 +4,6 @@
 
 mod checks;
 pub mod laws;
-mod record_row;
 mod references;
 mod rows;
 mod standing;

@@ -2,8 +2,8 @@
 
 ghost use Rattle.std.specs.Prelude.{◌≡◌, ◌+◌, ◌≤◌, All, IfOk, length, map};
 
-use crate::record_row::RecordRow;
 use std::alloc::{AllocError, Global};
+use tatp_layout::RecordRow;
 
 /// The rows of these records, in their order.
 pub(crate) fn rows_at<R: RecordRow + Drop>(

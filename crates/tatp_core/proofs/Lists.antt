@@ -13,7 +13,8 @@ use Rattle.tatp_model.specs.Transaction.{with_call}
 use Rattle.tatp_model.proofs.Rising.{length-le_from_keys, pairs_from_rising}
 use Rattle.tatp_layout.specs.Records.{RowForm, call_form}
 use Rattle.tatp_layout.proofs.Dropped.{DropsRow}
-use Rattle.tatp_layout.proofs.Found.{FoundRow, HasNoRow, TestsKey, first_among, first_or_other, other_among}
+use Rattle.tatp_layout.proofs.Found.{TestsKey, first_among, first_or_other, other_among}
+use Rattle.tatp_layout.specs.FoundRows.{FoundRow, HasNoRow}
 use Rattle.tatp_layout.proofs.Rewritten.{NamesRow}
 use Rattle.tatp_layout.proofs.Added.{AddsRow}
 

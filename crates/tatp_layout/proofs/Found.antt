@@ -1,8 +1,9 @@
 -- Rows by their keys: which row has the record that a look-up finds, and what that says in the words of the requests.
-use Rattle.std.proofs.Common.{◌≡◌, ◌≢◌, ℕ, zero, suc, ◌+◌, ◌-◌, ◌*◌, ◌⊎◌, inl, inr, Bool, true, false, List, [], ◌∷◌, map, get_or, All, Contains, Option, Some, None, slice_index, refl, sym, ap, ◌∙◌, arith}
+use Rattle.std.proofs.Common.{◌≡◌, ◌≢◌, ℕ, zero, suc, ◌+◌, ◌-◌, ◌*◌, ◌⊎◌, inl, inr, Bool, true, false, List, [], ◌∷◌, map, get_or, All, Contains, Option, Some, None, slice_index, refl, sym, ap, ◌∙◌, subst, arith}
 use Rattle.std.specs.Prelude.{◌==◌, ◌&&◌, find}
-use Rattle.std.specs.List.{AllPairs, list_any}
+use Rattle.std.specs.List.{list_any}
 use Rattle.std.specs.List.Sorted.{IsStrictlyIncreasing}
+use Rattle.std.specs.Option.{option_map_or}
 use Rattle.std.proofs.lemmas.Bool.{cases_Bool, cases_lt, both_ways, eqb-true, eq-eqb, and_parts, and_from, false_from_ne_true}
 use Rattle.std.proofs.lemmas.List.{get_or_default}
 use Rattle.std.proofs.lemmas.List.Elements.{All-contains, Contains-append_right}
@@ -22,13 +23,11 @@ use Rattle.tatp_model.proofs.Facilities.{facility_key-is_facility}
 use Rattle.tatp_model.proofs.Rising.{keys_differ}
 use Rattle.tatp_layout.specs.Records.{RowForm, HoldsRow, subscriber_form, number_form, access_form, facility_form, call_form}
 use Rattle.tatp_layout.specs.Layout.{subscriber_table, number_table, access_table, facility_table, call_table}
+use Rattle.tatp_layout.specs.FoundRows.{FindsRow, FoundRow, HasKeysApart, HasNoRow, IsRowOf}
+use Rattle.tatp_layout.specs.RecordCalls.{IsHeldRow}
 use Rattle.tatp_layout.specs.StandsFor.{HasRows, StandsFor}
 
 -- ---- lists of rows
-
--- no two rows have one key
-pub record HasKeysApart {R : Type 0} (key : R → ℕ) (rows : List R) : Type 0 where
-  pub apart : AllPairs (λ r s. key r ≢ key s) rows
 
 pub rising_apart : {R : Type 0} (key : R → ℕ) (rows : List R) → IsStrictlyIncreasing (map key rows) → HasKeysApart key rows
 rising_apart key rows rise = record { apart = keys_differ key rows rise }
@@ -97,18 +96,6 @@ any_nothing p (x ∷ rows) none =
 
 -- ---- rows in a table
 
--- the record at this word has the row with this key, the only one of the rows
-pub record FoundRow {R : Type 0} (form : RowForm R) (array : List ℕ) (rows : List R) (key at : ℕ) : Type 0 where
-  pub row : R
-  pub among : Contains rows row
-  pub key_is : form.key row ≡ key
-  pub holds : HoldsRow form array at row
-  pub only : (other : R) → Contains rows other → form.key other ≡ key → other ≡ row
-
--- none of the rows has this key
-pub record HasNoRow {R : Type 0} (form : RowForm R) (rows : List R) (key : ℕ) : Type 0 where
-  pub none : (row : R) → Contains rows row → form.key row ≢ key
-
 -- what the answer of a look-up says of the rows
 abbrev pub TellsRow : {R : Type 0} → RowForm R → List ℕ → List R → ℕ → Option ℕ → Type 0
 TellsRow form array rows key None = HasNoRow form rows key
@@ -135,6 +122,25 @@ pub tells_row : {R : Type 0} {form : RowForm R} {table : Table} {array : List �
 tells_row {array = array} key r h apart finds =
     tells key r h apart (along (IsAt array (records_in h.chains) key) _ _ (sym (finds h.chains h.free h.lawful)) (lookup-is_at array (records_in h.chains) key))
 
+-- a look-up that found no record
+pub finds_no_row : {R : Type 0} {form : RowForm R} {IsRow : R → Type 0} {t table : Table} {array : List ℕ} {key : ℕ} {r : Option ℕ} → t ≡ table → r ≡ None → FindsAll t array key r → FindsRow form IsRow table key array None
+finds_no_row {form = form} {array = array} {key} {r} is none finds = record {
+  finds = λ rows h apart range. subst (TellsRow form array rows key) none (tells_row key r h apart (subst (λ t. FindsAll t array key r) is finds));
+}
+
+-- one that found a record, whose row was read
+pub finds_the_row : {R : Type 0} {form : RowForm R} {IsRow : R → Type 0} {t table : Table} {array b : List ℕ} {key : ℕ} {r : Option ℕ} {at : ℕ} {got : R} → t ≡ table → r ≡ Some at → b ≡ array → FindsAll t array key r → IsHeldRow form IsRow at b got
+    → FindsRow form IsRow table key array (Some got)
+finds_the_row {form = form} {IsRow} {array = array} {key = key} {r = r} {at = at} is some same finds reads = record {
+  finds = λ rows h apart range.
+      let found = subst (TellsRow form array rows key) some (tells_row key r h apart (subst (λ t. FindsAll t array key r) is finds)) in
+      (at, found, reads found.row (All-contains IsRow rows found.row range found.among) (subst (λ l. HoldsRow form l at found.row) (sym same) found.holds));
+}
+
+-- the same look-up, by equal keys and answers
+pub finds_as : {R : Type 0} {form : RowForm R} {IsRow : R → Type 0} {table : Table} {array : List ℕ} {key k : ℕ} {r row : Option R} → key ≡ k → r ≡ row → FindsRow form IsRow table key array r → FindsRow form IsRow table k array row
+finds_as {form = form} {IsRow} {table} {array} {key} {row = row} named is finds = subst (λ x. FindsRow form IsRow table x array row) named (subst (λ o. FindsRow form IsRow table key array o) is finds)
+
 -- ---- from a key to a test
 
 -- the rows with this key are those that pass the test
@@ -145,6 +151,11 @@ pub record TestsKey {R : Type 0} (form : RowForm R) (rows : List R) (key : ℕ) 
 module _ {R : Type 0} {form : RowForm R} {rows : List R} {key : ℕ} (p : R → Bool) (test : TestsKey form rows key p) where
   pub find_none : HasNoRow form rows key → find p rows ≡ None
   find_none h = find_nothing p rows (λ s among passed. h.none s among (test.named s among passed))
+
+  -- the row with the key is the first that passes
+  pub row_found : (array : List ℕ) (row : Option R) → IsRowOf form array rows key row → row ≡ find p rows
+  row_found array None h = sym (find_none h)
+  row_found array (Some row) h = ap Some h.2 ∙ sym (find_only p rows h.1.row h.1.among (test.passes h.1.row h.1.among h.1.key_is) (λ s among passed. h.1.only s among (test.named s among passed)))
 
   pub any_none : HasNoRow form rows key → list_any p rows ≡ false
   any_none h = any_nothing p rows (λ s among passed. h.none s among (test.named s among passed))
@@ -169,6 +180,11 @@ module _ {R : Type 0} {form : RowForm R} {rows : List R} {key : ℕ} (p : R → 
     -- some row passes this and another test exactly where the row found passes the other
     pub any_both : (q : R → Bool) → list_any (λ r. p r && q r) rows ≡ q f.row
     any_both q = any_by q (q f.row) refl
+
+  -- some row passes this and another test exactly where the row with the key is there and passes the other
+  pub any_by_row : (q : R → Bool) (array : List ℕ) (row : Option R) → IsRowOf form array rows key row → option_map_or q row false ≡ list_any (λ r. p r && q r) rows
+  any_by_row q array None h = sym (any_neither q h)
+  any_by_row q array (Some row) h = ap q h.2 ∙ sym (any_both h.1 q)
 
 -- ---- the tables of a lawful array
 

@@ -1,6 +1,4 @@
 pub mod Added
-pub mod Decoded
-pub mod DigitLists
 pub mod Dropped
 pub mod Found
 pub mod Places

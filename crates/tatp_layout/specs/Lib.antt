@@ -1,5 +1,8 @@
+pub mod Decoded
 pub mod Decoding
+pub mod DigitLists
 pub mod Digits
+pub mod FoundRows
 pub mod Inside
 pub mod Layout
 pub mod RecordCalls

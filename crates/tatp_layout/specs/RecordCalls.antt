@@ -1,5 +1,8 @@
 -- What the calls on one record say of its row.
-use Rattle.std.specs.Prelude.{◌≡◌, ℕ, ◌+◌, List, slice_index, slice_set}
+use Rattle.std.specs.Prelude.{◌≡◌, ℕ, ◌+◌, ◌-◌, List, Result, slice_index, slice_set}
+use Rattle.word_space.specs.declared.stop.Stop.{Stop}
+use Rattle.word_space.specs.Sights.{WordsSight}
+use Rattle.word_space.specs.Steps.{AnswersSeen, UsesWords}
 use Rattle.tatp_model.specs.declared.call_row.CallRow.{CallRow}
 use Rattle.tatp_model.specs.declared.fac_row.FacRow.{FacRow}
 use Rattle.tatp_model.specs.declared.sub_row.SubRow.{SubRow}
@@ -9,6 +12,15 @@ use Rattle.tatp_layout.specs.Records.{RowForm, HoldsRow, call_form, facility_for
 -- where the record at this word holds a row whose fields are in their ranges, the answer is that row
 abbrev pub IsHeldRow : {R : Type 0} → RowForm R → (R → Type 0) → ℕ → List ℕ → R → Type 0
 IsHeldRow {R} form IsRow at array row = (r : R) → IsRow r → HoldsRow form array at r → row ≡ r
+
+-- What reading the row of the record at this word leaves, by its result.
+pub record ReadsRow {S R : Type 0} (sight : S → WordsSight) (turns_into : S → S → Type 0) (form : RowForm R) (IsRow : R → Type 0) (row_in : List ℕ → ℕ → R) (size at : ℕ) (result : Result R Stop) (old new : S) : Type 0 where
+  -- each of the record's words but the link is read once, and none is written
+  pub uses : UsesWords sight turns_into (size - 1) 0 result old new
+  -- in any array the row is what the record's words say
+  pub exact : AnswersSeen sight result old new (λ a row. row ≡ row_in a at)
+  -- and it is the one that the record holds, where that one's fields are in their ranges
+  pub row : AnswersSeen sight result old new (IsHeldRow form IsRow at)
 
 -- the array with the fields of a call row in the record at this word
 abbrev pub with_call : ℕ → CallRow → List ℕ → List ℕ

@@ -1,37 +1,65 @@
 //! Access rows in their records.
 
-ghost use Rattle.std.specs.Prelude.{◌≡◌, ◌*◌, length};
+ghost use Rattle.std.specs.Prelude.{◌≡◌, ◌*◌};
 ghost use Rattle.dude_base.specs.declared.limits.TheConstants.{PAGE, ROW_WORDS};
-ghost use Rattle.word_space.specs.Steps.{AnswersSeen, UsesWords};
 ghost use Rattle.record_heap.specs.Pool.{IsRecord};
 ghost use Rattle.tatp_model.specs.Database.{IsAccessRow};
 ghost use Rattle.tatp_layout.specs.Decoding.{access_in};
 ghost use Rattle.tatp_layout.specs.Layout.{access_table};
-ghost use Rattle.tatp_layout.specs.RecordCalls.{IsHeldRow};
+ghost use Rattle.tatp_layout.specs.RecordCalls.{ReadsRow};
 ghost use Rattle.tatp_layout.specs.Records.{access_form};
 
 use crate::digits::digits;
 use crate::layout::Layout;
-use crate::record_words::read_record;
+use crate::record_row::{RecordRow, get_row};
+use dude_base::limits::ROW_WORDS;
+use hash_table::table::Table;
 use tatp_model::{AccessData, AccessRow};
 use word_space::stop::Stop;
 use word_space::words::Words;
 
-/// The row that the words of an access record have, whatever they are.
-pub fn access_of(words: &[u64]) -> AccessRow
-    requires { length words.now ≡ ROW_WORDS }
-    ensures { result ≡ access_in words.now 0 }
-{
-    let [data1, data2, letter1, letter2, letter3] = digits::<5>(256, words[2]);
-    AccessRow {
-        s_id: words[0] / 4,
-        ai_type: words[0] % 4 + 1,
-        info: AccessData {
-            data1,
-            data2,
-            data3: [letter1, letter2, letter3],
-            data4: digits(256, words[3]),
-        },
+impl RecordRow for AccessRow {
+    ghost use Rattle.std.proofs.Common.{refl, lit≤};
+    ghost use Rattle.tatp_layout.specs.Decoded.{access_apart, access_back};
+
+    ghost size = { ROW_WORDS };
+
+    ghost form = { access_form };
+
+    ghost IsRow = { IsAccessRow };
+
+    ghost row_in = { access_in };
+
+    ghost place = { access_table };
+
+    ghost room = { (lit≤ tt, lit≤ tt) };
+
+    ghost sized = { λ s. refl };
+
+    ghost apart = { λ array words at are. access_apart are };
+
+    ghost back = { λ array at row range held. access_back range held };
+
+    fn size() -> u64 {
+        ROW_WORDS
+    }
+
+    fn table(lay: &Layout) -> Table {
+        lay.access()
+    }
+
+    fn of(words: &[u64]) -> AccessRow {
+        let [data1, data2, letter1, letter2, letter3] = digits::<5>(256, words[2]);
+        AccessRow {
+            s_id: words[0] / 4,
+            ai_type: words[0] % 4 + 1,
+            info: AccessData {
+                data1,
+                data2,
+                data3: [letter1, letter2, letter3],
+                data4: digits(256, words[3]),
+            },
+        }
     }
 }
 
@@ -39,12 +67,8 @@ pub fn access_of(words: &[u64]) -> AccessRow
 pub fn get_access<W: Words>(lay: &Layout, w: &mut W, at: u64) -> Result<AccessRow, Stop>
     requires size { (W.sight w.old).count ≡ lay.now.pages * PAGE }
     requires record { IsRecord (access_table lay.now).pool at }
-    ensures uses { UsesWords W.sight W.turns_into 3 0 result w.old w.new }
-    // In any array the row is what the record's words say.
-    ensures exact { AnswersSeen W.sight result w.old w.new (λ a row. row ≡ access_in a at) }
-    ensures row { AnswersSeen W.sight result w.old w.new (IsHeldRow access_form IsAccessRow at) }
+    ensures { ReadsRow W.sight W.turns_into access_form IsAccessRow access_in ROW_WORDS at
+        result w.old w.new }
 {
-    prove!(lay.access().pool.has(at));
-    let words: [u64; 4] = read_record(w, at)?;
-    Ok(access_of(&words))
+    get_row(lay, w, at)
 }

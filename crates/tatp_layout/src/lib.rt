@@ -7,11 +7,13 @@ mod digits;
 pub mod facility_record;
 pub mod keys;
 pub mod layout;
+pub mod record_row;
 mod record_words;
 pub mod subscriber_record;
 
-pub use access_record::{access_of, get_access};
-pub use call_record::{call_of, get_call, put_call};
-pub use facility_record::{facility_of, get_fac, put_data_a};
+pub use access_record::get_access;
+pub use call_record::{get_call, put_call};
+pub use facility_record::{get_fac, put_data_a};
 pub use layout::Layout;
-pub use subscriber_record::{get_sub, put_bit1, put_vlr, subscriber_of};
+pub use record_row::{RecordRow, find_row, get_row};
+pub use subscriber_record::{get_sub, put_bit1, put_vlr};

@@ -1,39 +1,68 @@
 //! Subscribers in their records.
 
-ghost use Rattle.std.specs.Prelude.{◌≡◌, ◌+◌, ◌*◌, length, slice_set};
+ghost use Rattle.std.specs.Prelude.{◌≡◌, ◌+◌, ◌*◌, slice_set};
 ghost use Rattle.dude_base.specs.declared.limits.TheConstants.{PAGE, SUBSCRIBER_WORDS};
-ghost use Rattle.word_space.specs.Steps.{AnswersSeen, ChangesSeen, Shows, UsesWords, WritesAsMany};
+ghost use Rattle.word_space.specs.Steps.{ChangesSeen, Shows, UsesWords, WritesAsMany};
 ghost use Rattle.record_heap.specs.Changes.{ChangesWord};
 ghost use Rattle.record_heap.specs.Pool.{IsRecord};
 ghost use Rattle.tatp_model.specs.Database.{IsSubRow};
 ghost use Rattle.tatp_model.specs.Ranges.{IsBit, IsLocation};
 ghost use Rattle.tatp_layout.specs.Decoding.{subscriber_in};
 ghost use Rattle.tatp_layout.specs.Layout.{subscriber_table};
-ghost use Rattle.tatp_layout.specs.RecordCalls.{IsHeldRow, SetsBit1, SetsVlr};
+ghost use Rattle.tatp_layout.specs.RecordCalls.{ReadsRow, SetsBit1, SetsVlr};
 ghost use Rattle.tatp_layout.specs.Records.{subscriber_form};
 
 use crate::digits::digits;
 use crate::layout::Layout;
-use crate::record_words::read_record;
+use crate::record_row::{RecordRow, get_row};
+use dude_base::limits::SUBSCRIBER_WORDS;
+use hash_table::table::Table;
 use tatp_model::SubRow;
 use word_space::stop::Stop;
 use word_space::words::Words;
 
-/// The row that the words of a subscriber's record have, whatever they are.
-pub fn subscriber_of(words: &[u64]) -> SubRow
-    requires { length words.now ≡ SUBSCRIBER_WORDS }
-    ensures { result ≡ subscriber_in words.now 0 }
-{
-    let [b1, b2, b3, b4, b5, b6, b7, b8] = digits::<8>(256, words[3]);
-    let [b9, b10] = digits::<2>(256, words[4]);
-    SubRow {
-        s_id: words[0],
-        sub_nbr: words[7],
-        bits: digits(2, words[2]),
-        hexes: digits(16, words[2] / 1_024),
-        bytes: [b1, b2, b3, b4, b5, b6, b7, b8, b9, b10],
-        msc: words[5],
-        vlr: words[6],
+impl RecordRow for SubRow {
+    ghost use Rattle.std.proofs.Common.{refl, lit≤};
+    ghost use Rattle.tatp_layout.specs.Decoded.{subscriber_apart, subscriber_back};
+
+    ghost size = { SUBSCRIBER_WORDS };
+
+    ghost form = { subscriber_form };
+
+    ghost IsRow = { IsSubRow };
+
+    ghost row_in = { subscriber_in };
+
+    ghost place = { subscriber_table };
+
+    ghost room = { (lit≤ tt, lit≤ tt) };
+
+    ghost sized = { λ s. refl };
+
+    ghost apart = { λ array words at are. subscriber_apart are };
+
+    ghost back = { λ array at row range held. subscriber_back range held };
+
+    fn size() -> u64 {
+        SUBSCRIBER_WORDS
+    }
+
+    fn table(lay: &Layout) -> Table {
+        lay.subscribers()
+    }
+
+    fn of(words: &[u64]) -> SubRow {
+        let [b1, b2, b3, b4, b5, b6, b7, b8] = digits::<8>(256, words[3]);
+        let [b9, b10] = digits::<2>(256, words[4]);
+        SubRow {
+            s_id: words[0],
+            sub_nbr: words[7],
+            bits: digits(2, words[2]),
+            hexes: digits(16, words[2] / 1_024),
+            bytes: [b1, b2, b3, b4, b5, b6, b7, b8, b9, b10],
+            msc: words[5],
+            vlr: words[6],
+        }
     }
 }
 
@@ -41,14 +70,10 @@ pub fn subscriber_of(words: &[u64]) -> SubRow
 pub fn get_sub<W: Words>(lay: &Layout, w: &mut W, at: u64) -> Result<SubRow, Stop>
     requires size { (W.sight w.old).count ≡ lay.now.pages * PAGE }
     requires record { IsRecord (subscriber_table lay.now).pool at }
-    ensures uses { UsesWords W.sight W.turns_into 7 0 result w.old w.new }
-    // In any array the row is what the record's words say.
-    ensures exact { AnswersSeen W.sight result w.old w.new (λ a row. row ≡ subscriber_in a at) }
-    ensures row { AnswersSeen W.sight result w.old w.new (IsHeldRow subscriber_form IsSubRow at) }
+    ensures { ReadsRow W.sight W.turns_into subscriber_form IsSubRow subscriber_in SUBSCRIBER_WORDS at
+        result w.old w.new }
 {
-    prove!(lay.subscribers().pool.has(at));
-    let words: [u64; 8] = read_record(w, at)?;
-    Ok(subscriber_of(&words))
+    get_row(lay, w, at)
 }
 
 /// Changes the location of the subscriber whose record stands at the word `at`.

@@ -16,7 +16,8 @@ use Rattle.tatp_model.specs.Ranges.{IsId, IsKind, IsStartTime}
 use Rattle.tatp_model.specs.Transaction.{forwards}
 use Rattle.tatp_model.proofs.Calls.{first_key, eighth, from_eighth, fourths, same_facility}
 use Rattle.tatp_model.proofs.Rising.{pairs_from_rising}
-use Rattle.tatp_layout.proofs.Found.{FoundRow, HasNoRow, first_among, first_or_other, other_among}
+use Rattle.tatp_layout.proofs.Found.{first_among, first_or_other, other_among}
+use Rattle.tatp_layout.specs.FoundRows.{FoundRow, HasNoRow}
 use Rattle.tatp_layout.specs.Records.{call_form}
 use Rattle.tatp_read.specs.Forwarding.{is_within, numbers_within, numbers_at}
 

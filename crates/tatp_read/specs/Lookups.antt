@@ -1,31 +1,21 @@
 -- What the look-ups of rows find in an array that stands for tables, and how many reads they make at most.
-use Rattle.std.specs.Prelude.{◌≡◌, ◌≢◌, ℕ, ◌+◌, ◌*◌, Bool, List, Option, Result, IfOk, map, filter, find}
+use Rattle.std.specs.Prelude.{◌≡◌, ◌≢◌, ℕ, ◌+◌, ◌*◌, Bool, List, Option, Result, IfOk, map, filter}
 use Rattle.std.specs.List.{list_any}
 use Rattle.std.specs.Option.{option_to_list}
 use Rattle.dude_base.specs.declared.sizes.Sizes.{Sizes}
 use Rattle.word_space.specs.declared.stop.Stop.{Stop}
 use Rattle.word_space.specs.Sights.{WordsSight, IsBelow}
-use Rattle.tatp_model.specs.declared.access_row.AccessRow.{AccessRow}
 use Rattle.tatp_model.specs.declared.numbers.Numbers.{Numbers}
 use Rattle.word_space.specs.Steps.{UsesWords}
 use Rattle.tatp_model.specs.declared.reply.Reply.{Reply}
 use Rattle.tatp_model.specs.declared.reply.Reply.TheVariants.{Changed}
 use Rattle.tatp_model.specs.declared.request.Request.{Request}
 use Rattle.tatp_model.specs.declared.request.Request.TheVariants.{GetSubscriber, GetDestination, GetAccess}
-use Rattle.tatp_model.specs.declared.sub_row.SubRow.{SubRow}
 use Rattle.tatp_model.specs.Database.{Database}
 use Rattle.tatp_model.specs.Numbers.{numbers_of}
-use Rattle.tatp_model.specs.Transaction.{forwards, is_access, is_active_facility, is_subscriber, reply_to}
+use Rattle.tatp_model.specs.Transaction.{forwards, is_active_facility, reply_to}
 use Rattle.tatp_layout.specs.StandsFor.{StandsFor}
 use Rattle.tatp_read.specs.Forwarding.{numbers_at}
-
--- the answer is the subscriber with this id, if there is one
-abbrev pub FindsSubscriber : Sizes → ℕ → List ℕ → Option SubRow → Type 0
-FindsSubscriber s s_id array row = (db : Database) → StandsFor s array db → row ≡ find (is_subscriber s_id) db.subscribers
-
--- the answer is the subscriber's access row of this type, if there is one
-abbrev pub FindsAccess : Sizes → ℕ → ℕ → List ℕ → Option AccessRow → Type 0
-FindsAccess s s_id ai_type array row = (db : Database) → StandsFor s array db → row ≡ find (is_access s_id ai_type) db.access
 
 -- the answer is whether the subscriber has this facility, and it is active
 abbrev pub FindsActive : Sizes → ℕ → ℕ → List ℕ → Bool → Type 0

@@ -9,8 +9,8 @@ ghost use Rattle.tatp_read.specs.Kinds.{IsGetDestination};
 ghost use Rattle.tatp_read.specs.Lookups.{AnswersRequest, FindsActive, FindsPhone, FindsPhones, call_reads, kind_reads};
 
 use tatp_layout::keys::{first_call_key, kind_key};
-use tatp_layout::{Layout, get_call, get_fac};
-use tatp_model::{Numbers, Reply, Request};
+use tatp_layout::{Layout, find_row};
+use tatp_model::{CallRow, FacRow, Numbers, Reply, Request};
 use word_space::stop::Stop;
 use word_space::words::Words;
 
@@ -55,11 +55,10 @@ fn has_active_facility<W: Words>(
     ensures uses { UsesWords W.sight W.turns_into (kind_reads lay.now) 0 result w.old w.new }
     ensures active { AnswersSeen W.sight result w.old w.new (FindsActive lay.now s_id sf_type) }
 {
-    let Some(at) = lay.facilities().find(w, kind_key(s_id, sf_type))? else {
-        return Ok(false);
-    };
-    let facility = get_fac(lay, w, at)?;
-    Ok(facility.is_active == 1)
+    match find_row::<FacRow, W>(lay, w, kind_key(s_id, sf_type))? {
+        Some(row) => Ok(row.is_active == 1),
+        None => Ok(false),
+    }
 }
 
 // The phone numbers to which the facility's calls from `start_time` to `end_time` are forwarded.
@@ -100,10 +99,9 @@ fn destination<W: Words>(
     ensures uses { UsesWords W.sight W.turns_into (call_reads lay.now) 0 result w.old w.new }
     ensures numbers { AnswersSeen W.sight result w.old w.new (FindsPhone lay.now key end_time) }
 {
-    let Some(at) = lay.calls().find(w, key)? else {
+    let Some(row) = find_row::<CallRow, W>(lay, w, key)? else {
         return Ok(None);
     };
-    let row = get_call(lay, w, at)?;
     if end_time < row.end_time {
         Ok(Some(row.numberx))
     } else {

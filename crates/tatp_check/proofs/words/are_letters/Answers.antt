@@ -1,5 +1,5 @@
 use Rattle.std.proofs.Common.{◌≡◌, ◌/◌, ◌%◌, ◌^◌, sym, ap, ◌∙◌, arith, below_more}
-use Rattle.tatp_layout.proofs.DigitLists.{shifted_more}
+use Rattle.tatp_layout.specs.DigitLists.{shifted_more}
 use Rattle.tatp_check.specs.Tests.{is_letter}
 use Rattle.tatp_check.proofs.Letters.{not_letters, all_letters, is_letter-true, is_letter-false}
 use Rattle.tatp_check.proofs.words.are_letters.Goals as goal

@@ -1,6 +1,6 @@
 use Rattle.std.proofs.Common.{◌/◌, ◌%◌, ◌^◌, ◌<◌, ◌∙◌, length, length-set, ap, arith, rules, get_or-set_other, get_or-set_same, below_more}
 use Rattle.std.proofs.lemmas.List.FromFn.{fill_by_all}
-use Rattle.tatp_layout.proofs.DigitLists.{shifted_more}
+use Rattle.tatp_layout.specs.DigitLists.{shifted_more}
 use Rattle.tatp_layout.proofs.digits.digits.Goals as goal
 
 pub returns : goal.returns

@@ -1,4 +1,4 @@
-use Rattle.std.proofs.Common.{◌≡◌, ◌+◌, ◌≤◌, ◌<◌, ℕ, List, slice_set, length, length-set, slice_index, ap, sym, ◌∙◌, arith, get_or-set_other, get_or-set_same, inl, inr, lit≤}
+use Rattle.std.proofs.Common.{◌≡◌, ◌+◌, ◌≤◌, ◌<◌, ℕ, List, slice_set, length, length-set, slice_index, ap, sym, ◌∙◌, arith, get_or-set_other, get_or-set_same, get_or-take, length-take-le, inl, inr, lit≤}
 use Rattle.std.proofs.lemmas.Bool.{cases_eq}
 use Rattle.std.proofs.lemmas.List.{length-replicate}
 use Rattle.std.specs.Prelude.{replicate}
@@ -29,8 +29,8 @@ fields_more words array at k value inside is before j from under =
 pub loop-k-init : goal.loop-k-init
 loop-k-init g c =
     let read = c.in_ok-words.ensures in
-    let none : List ℕ = replicate g.row.N 0 in
-    let many : length none ≡ g.row.N = length-replicate {A = ℕ} g.row.N 0 in
+    let none : List ℕ = replicate 8 0 in
+    let many : length none ≡ 8 = length-replicate {A = ℕ} 8 0 in
     record {
       uses = read.uses;
       long = length-set none 0 c.in_ok-words.field-0 ∙ many;
@@ -58,8 +58,12 @@ loop-k-preserved g c =
     }
 
 pub returns-clause-words : goal.returns-clause-words
-returns-clause-words g c = λ array below. record {
-  long = c.loop-k.invariant.long;
-  key = c.loop-k.invariant.key array below;
-  fields = λ k from under. c.loop-k.invariant.fields array below k from (omega arith);
-}
+returns-clause-words g c = λ array below.
+    let read = c.loop-k.invariant in
+    let words = c.loop-k.words in
+    let count = c.args.count in
+    record {
+      long = length-take-le count words (omega (arith, read.long));
+      key = get_or-take count words 0 0 (omega arith) ∙ read.key array below;
+      fields = λ k from under. get_or-take count words k 0 under ∙ read.fields array below k from (omega arith);
+    }

@@ -3,7 +3,7 @@ use Rattle.std.proofs.Math.Nat.{pow-le-pow_right}
 use Rattle.std.proofs.lemmas.List.{drop_more}
 use Rattle.std.proofs.lemmas.List.Elements.{All-drop, recursion_from_All}
 use Rattle.tatp_layout.specs.Digits.{from_digits}
-use Rattle.tatp_layout.proofs.DigitLists.{digits_small}
+use Rattle.tatp_layout.specs.DigitLists.{digits_small}
 use Rattle.tatp_population.proofs.packing.packed.Goals as goal
 
 -- one digit more, in front

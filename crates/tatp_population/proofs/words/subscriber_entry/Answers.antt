@@ -1,5 +1,5 @@
 use Rattle.std.proofs.Common.{◌≡◌, length, arith}
-use Rattle.tatp_layout.proofs.DigitLists.{digits_below}
+use Rattle.tatp_layout.specs.DigitLists.{digits_below}
 use Rattle.tatp_population.proofs.words.subscriber_entry.Goals as goal
 
 pub overflow_mul-result : goal.overflow_mul-result

@@ -11,7 +11,7 @@ use Rattle.tatp_layout.specs.Decoding.{subscriber_in, access_in, facility_in, ca
 use Rattle.tatp_layout.specs.Digits.{from_digits, to_digits}
 use Rattle.tatp_layout.specs.Records.{RowForm, HasWords, HoldsRow, subscriber_form, access_form, facility_form, call_form}
 use Rattle.tatp_layout.specs.RecordWords.{AreOfRecord}
-use Rattle.tatp_layout.proofs.DigitLists.{digits_below, digits_from}
+use Rattle.tatp_layout.specs.DigitLists.{digits_below, digits_from}
 
 -- a record's words apart from the array tell the row that they tell in it
 pub subscriber_apart : {array words : List ℕ} {at : ℕ} → AreOfRecord 8 array at words → subscriber_in words 0 ≡ subscriber_in array at
@@ -60,48 +60,51 @@ subscriber_back {array} {at} {r} range held =
 
 -- ---- records of four words
 
+-- their key and the two words behind the link
+four_words : {array words : List ℕ} {at : ℕ} → AreOfRecord 4 array at words
+    → (slice_index words 0 ≡ slice_index array at) × (slice_index words 2 ≡ slice_index array (at + 2)) × (slice_index words 3 ≡ slice_index array (at + 3))
+four_words h = (h.key, h.fields 2 (omega arith) (omega arith), h.fields 3 (omega arith) (omega arith))
+
+-- those of an access row
 pub access_apart : {array words : List ℕ} {at : ℕ} → AreOfRecord 4 array at words → access_in words 0 ≡ access_in array at
-access_apart {array} {words} {at} h =
-    let key = h.key in
-    let w2 : slice_index words 2 ≡ slice_index array (at + 2) = h.fields 2 (omega arith) (omega arith) in
-    let w3 : slice_index words 3 ≡ slice_index array (at + 3) = h.fields 3 (omega arith) (omega arith) in
+access_apart h =
+    let w = four_words h in
     λ i. record {
-      s_id = key i / 4;
-      ai_type = key i % 4 + 1;
+      s_id = w.0 i / 4;
+      ai_type = w.0 i % 4 + 1;
       info = record {
-        data1 = slice_index (to_digits 256 5 (w2 i)) 0;
-        data2 = slice_index (to_digits 256 5 (w2 i)) 1;
-        data3 = drop 2 (to_digits 256 5 (w2 i));
-        data4 = to_digits 256 5 (w3 i);
+        data1 = slice_index (to_digits 256 5 (w.1 i)) 0;
+        data2 = slice_index (to_digits 256 5 (w.1 i)) 1;
+        data3 = drop 2 (to_digits 256 5 (w.1 i));
+        data4 = to_digits 256 5 (w.2 i);
       };
     }
 
+-- of a facility
 pub facility_apart : {array words : List ℕ} {at : ℕ} → AreOfRecord 4 array at words → facility_in words 0 ≡ facility_in array at
-facility_apart {array} {words} {at} h =
-    let key = h.key in
-    let w2 : slice_index words 2 ≡ slice_index array (at + 2) = h.fields 2 (omega arith) (omega arith) in
-    let w3 : slice_index words 3 ≡ slice_index array (at + 3) = h.fields 3 (omega arith) (omega arith) in
+facility_apart h =
+    let w = four_words h in
     λ i. record {
-      s_id = key i / 4;
-      sf_type = key i % 4 + 1;
-      is_active = slice_index (to_digits 256 3 (w2 i)) 0;
-      error_cntrl = slice_index (to_digits 256 3 (w2 i)) 1;
-      data_a = slice_index (to_digits 256 3 (w2 i)) 2;
-      data_b = to_digits 256 5 (w3 i);
+      s_id = w.0 i / 4;
+      sf_type = w.0 i % 4 + 1;
+      is_active = slice_index (to_digits 256 3 (w.1 i)) 0;
+      error_cntrl = slice_index (to_digits 256 3 (w.1 i)) 1;
+      data_a = slice_index (to_digits 256 3 (w.1 i)) 2;
+      data_b = to_digits 256 5 (w.2 i);
     }
 
+-- and of a call row
 pub call_apart : {array words : List ℕ} {at : ℕ} → AreOfRecord 4 array at words → call_in words 0 ≡ call_in array at
-call_apart {array} {words} {at} h =
-    let key = h.key in
-    let w2 : slice_index words 2 ≡ slice_index array (at + 2) = h.fields 2 (omega arith) (omega arith) in
-    let w3 : slice_index words 3 ≡ slice_index array (at + 3) = h.fields 3 (omega arith) (omega arith) in
-    λ i. record { s_id = key i / 3 / 4; sf_type = key i / 3 % 4 + 1; start_time = key i % 3 * 8; end_time = w2 i; numberx = w3 i }
+call_apart h =
+    let w = four_words h in
+    λ i. record { s_id = w.0 i / 3 / 4; sf_type = w.0 i / 3 % 4 + 1; start_time = w.0 i % 3 * 8; end_time = w.1 i; numberx = w.2 i }
 
 -- one more byte in front
 bytes_more : (x : ℕ) (xs : List ℕ) → x < 256 → All (λ d. d < 256) xs → All (λ d. d < 256) (x ∷ xs)
 bytes_more x xs here rest zero d under = here
 bytes_more x xs here rest (suc i) d under = rest i d (omega arith)
 
+-- the words of an access row in range tell it
 pub access_back : {array : List ℕ} {at : ℕ} {r : AccessRow} → IsAccessRow r → HoldsRow access_form array at r → access_in array at ≡ r
 access_back {array} {at} {r} range held =
     let letters : All (λ d. d < 256) r.info.data3 = λ i d under. omega (arith, (range.data3 i d under).1) in
@@ -117,6 +120,7 @@ access_back {array} {at} {r} range held =
       info = record { data1 = slice_index (bytes i) 0; data2 = slice_index (bytes i) 1; data3 = drop 2 (bytes i); data4 = more i };
     }
 
+-- those of a facility
 pub facility_back : {array : List ℕ} {at : ℕ} {r : FacRow} → IsFacRow r → HoldsRow facility_form array at r → facility_in array at ≡ r
 facility_back {array} {at} {r} range held =
     let none : All (λ d. d < 256) [] = λ i d under. absurd (omega arith) in
@@ -128,6 +132,7 @@ facility_back {array} {at} {r} range held =
     let kind : slice_index array at % 4 + 1 ≡ r.sf_type = omega (arith, held.key, range.s_id, range.sf_type) in
     λ i. record { s_id = id i; sf_type = kind i; is_active = slice_index (bytes i) 0; error_cntrl = slice_index (bytes i) 1; data_a = slice_index (bytes i) 2; data_b = letters i }
 
+-- and those of a call row
 pub call_back : {array : List ℕ} {at : ℕ} {r : CallRow} → IsCallRow r → HoldsRow call_form array at r → call_in array at ≡ r
 call_back {array} {at} {r} range held =
     let number : slice_index array (at + 3) ≡ r.numberx = held_word 1 (at + 3) held (omega arith) (omega arith) in

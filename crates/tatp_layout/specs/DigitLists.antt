@@ -11,6 +11,7 @@ use Rattle.tatp_layout.specs.Digits.{from_digits, to_digits}
 pub shifted_more : (base number k : ℕ) → number / base ^ k / base ≡ number / base ^ (k + 1)
 shifted_more base number k = div-div-eq-div-mul number (base ^ k) base ∙ ap (λ p. number / p) (sym (pow-suc base k) ∙ ap (λ j. base ^ j) (sym (add-one k)))
 
+-- one digit fewer in front
 shifted_front : (base number k : ℕ) → number / base ^ (1 + k) ≡ number / base / base ^ k
 shifted_front base number k =
     let next : 1 + k ≡ suc k = omega arith in
@@ -57,6 +58,7 @@ digits_from base {digits} count number more some long below is =
     ap₂ (to_digits base) (sym long) (is ∙ ap (λ n. from_digits base digits + base ^ n * more) (sym long))
     ∙ digits_back base digits more some (recursion_from_All (λ d. d < base) digits below)
 
+-- digits in a base make a number below its power
 pub digits_below : {base : ℕ} (digits : List ℕ) (count : ℕ) → length digits ≡ count → All (λ d. d < base) digits → from_digits base digits < base ^ count
 digits_below {base} digits count long below =
     subst (λ n. from_digits base digits < base ^ n) long (digits_small base digits (recursion_from_All (λ d. d < base) digits below))
