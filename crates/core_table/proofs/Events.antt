@@ -1,6 +1,6 @@
 -- A step on the table that is an event of the machine keeps the rule; so does a split of a seat, and a join of two.
-use Rattle.std.proofs.Common.{◌≡◌, ℕ, ◌<◌, ◌^◌, List, ◌∷◌, get_or, map, set, sym, ap, ◌∙◌, arith}
-use Rattle.std.proofs.lemmas.List.{map-set}
+use Rattle.std.proofs.Common.{◌≡◌, ℕ, ◌<◌, ◌^◌, List, ◌∷◌, get_or, map, set, refl, sym, ap, ◌∙◌, arith}
+use Rattle.std.proofs.lemmas.List.{map-set, set-get_or}
 use mathlib.Core.Option.{Option, some}
 use lib.ListN.{get_elem?}
 use Rattle.atomic_table.specs.Table.{Me, Act, keeps, Valid, homes_after, carried_after, Allows}
@@ -13,12 +13,12 @@ use Rattle.core_events.specs.Kept.{Kept}
 use Rattle.core_events.specs.Telling.{IsInside, IsTold}
 use Rattle.core_events.proofs.Lists.{set_again, at_map}
 use Rattle.core_events.proofs.Keeps.{event_keeps}
-use Rattle.core_events.proofs.Telling.{kept_sized, word_inside, tells}
+use Rattle.core_events.proofs.Telling.{kept_sized, kept_seated, word_inside, tells}
 use Rattle.atomic_table.specs.Seated.{TableId}
 use Rattle.atomic_table.specs.declared.shared.Seat.{Seat}
 use Rattle.core_table.specs.Places.{index, count}
 use Rattle.core_table.specs.Layout.{TableSight}
-use Rattle.core_table.specs.Steps.{BelongsTo}
+use Rattle.core_table.specs.Steps.{Rests, BelongsTo}
 use Rattle.core_table.specs.Known.{Known, view_of, beside_of, known_after}
 use Rattle.core_table.specs.Rules.{Holds, Outlasts, Foreseen}
 use Rattle.core_table.proofs.Flat.{flat_found, flat_put, placed}
@@ -69,6 +69,24 @@ module _ {S X : Type 0} (slot_fact : Setup → State → List X → List (Option
   by_event e f then slots id me inside may fits outlasts word told =
       by_acting e f then slots id me inside may fits word
       (λ c xs homes k allowed at fact. (keeps, me.0.beside, tt, rw (set_again xs id me.0.beside at) (outlasts c id me.0.view xs homes k allowed fact), (λ t. told (found c (name z e me.0.view)) t)))
+
+  -- a load by which nothing changes
+  pub by_resting : (slots id : ℕ) (me : Me S (Known X)) → Allows (Holds slot_fact z) slots id me 0 (λ n. n) (λ n w. Rests z me w)
+  by_resting slots id me s h _ at small =
+      let is_there : get_elem? h.core.views id ≡ some me.0.view = rw (← h.views) (at_map view_of s.views id me.0 at) in
+      let same : set s.views id me.0 ≡ s.views = set_again s.views id me.0 at in (
+        me.0,
+        keeps,
+        tt,
+        record {
+          core = h.core;
+          words = set-get_or s.words 0 0 ∙ h.words;
+          views = ap (map view_of) same ∙ h.views;
+          kept = h.kept;
+          slots = rw same h.slots;
+        },
+        (refl, kept_seated z h.core h.kept id me.0.view is_there),
+      )
 
 -- what a step on a table owes, in the words of its contract
 module _ {S X : Type 0} (slot_fact : Setup → State → List X → List (Option S) → Type 0) (t : TableSight) (z : Setup) (id : TableId) (same : record { id = id; setup = z } ≡ t) (wide : id.words ≡ count z) where

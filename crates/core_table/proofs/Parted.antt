@@ -1,11 +1,8 @@
--- A split of a seat and a join of two keep the rule, and the views are then as views of a kept state are.
-use Rattle.std.proofs.Common.{◌≡◌, ℕ, ◌<◌, ◌≤◌, List, [], ◌∷◌, ◌++◌, map, set, refl, sym, ap, ◌∙◌, arith}
-use Rattle.std.proofs.lemmas.Bool.{true≢false}
+-- A split of a seat and a join of two keep the rule.
+use Rattle.std.proofs.Common.{◌≡◌, ℕ, ◌<◌, List, [], ◌∷◌, ◌++◌, map, set, sym, ap, ◌∙◌, arith}
 use Rattle.std.proofs.lemmas.List.{map-set, map-append}
-use Rattle.std.proofs.lemmas.List.Elements.{All-append}
 use mathlib.Core.Option.{Option, some}
 use lib.ListN.{get_elem?}
-use Rattle.dude_base.specs.declared.limits.TheConstants.{MAX_NUMBER}
 use Rattle.atomic_table.specs.Table.{Splits, Joins}
 use Rattle.core_events.specs.Setups.{Setup}
 use Rattle.core_events.specs.Views.{View}
@@ -14,11 +11,9 @@ use Rattle.core_events.specs.Partings.{newcomer, left_of, both_of, spent, MaySpl
 use Rattle.core_events.specs.Telling.{IsSeated}
 use Rattle.core_events.proofs.Lists.{set_again, set_else, at_map}
 use Rattle.core_events.proofs.Keeps.{split_keeps, join_keeps}
-use Rattle.atomic_table.specs.declared.shared.Seat.{Seat}
 use Rattle.atomic_table.specs.Seated.{TableId}
 use Rattle.core_table.specs.Places.{count}
 use Rattle.core_table.specs.Layout.{TableSight}
-use Rattle.core_table.specs.Steps.{BelongsTo}
 use Rattle.core_table.specs.Known.{Known, view_of, beside_of}
 use Rattle.core_table.specs.Rules.{Holds, OutlastsSplit, OutlastsJoin}
 use Rattle.core_table.specs.Seats.{CanSplit, CanJoin, known_left, known_both}
@@ -56,37 +51,20 @@ module _ {S X : Type 0} (slot_fact : Setup → State → List X → List (Option
             (outlasts c id other k.view l.view (map beside_of s.views) s.homes h.kept may h.slots);
       }
 
-module _ (z : Setup) where
-  pub seated_new : (draws splits : ℕ) → 0 < z.boxes → IsSeated z (newcomer z splits draws)
-  seated_new draws splits some_box = record {
-    thread = λ t e. absurd cc;
-    snapshot = λ e. absurd (true≢false (sym e));
-    owned = λ k o e. absurd cc;
-    number = λ e. absurd (omega arith);
-    no_number = λ e. (refl, refl);
-    pins = λ p f e. absurd cc;
-    next = some_box;
-    entries = λ k d lt. absurd (omega arith);
-  }
-
-  pub seated_left : (draws : ℕ) (v : View) → IsSeated z v → IsSeated z (left_of draws v)
-  seated_left draws v s = record { thread = s.thread; snapshot = s.snapshot; owned = s.owned; number = s.number; no_number = s.no_number; pins = s.pins; next = s.next; entries = s.entries }
-
-  pub seated_both : (v w : View) → IsSeated z v → IsSeated z w → IsSeated z (both_of v w)
-  seated_both v w s t = record {
-    thread = s.thread;
-    snapshot = s.snapshot;
-    owned = s.owned;
-    number = s.number;
-    no_number = s.no_number;
-    pins = s.pins;
-    next = s.next;
-    entries = All-append (λ e. e.number ≤ MAX_NUMBER) v.entries w.entries s.entries t.entries;
-  }
-
--- the seat of a table that knows something else now
-pub belongs_with : {S X : Type 0} (t : TableSight) (old new : Seat S (Known X)) (v : View) → BelongsTo t old → new.table_id ≡ old.table_id → new.me.0.view ≡ v → IsSeated t.setup v → BelongsTo t new
-belongs_with t old new v b same is seated = record { table = same ∙ b.table; small = b.small; seated = rw is seated }
+-- the view of a seat that was split is as views of a kept state are
+pub seated_left : (z : Setup) (draws : ℕ) (v : View) → IsSeated z v → IsSeated z (left_of draws v)
+seated_left z draws v s = record {
+  thread = s.thread;
+  snapshot = s.snapshot;
+  owned = s.owned;
+  number = s.number;
+  no_number = s.no_number;
+  pins = s.pins;
+  next = s.next;
+  entries = s.entries;
+  draws = let up = s.draws in omega arith;
+  splits = let up = s.splits in omega arith;
+}
 
 -- a table has a word
 pub some_word : (t : TableSight) (z : Setup) (id : TableId) → id.words ≡ count z → 0 < id.words

@@ -25,6 +25,10 @@ module _ {S X : Type 0} where
   abbrev pub Puts : Setup → Event → Me S (Known X) → Me S (Known X) → Type 0
   Puts z e m w = (w ≡ (known_after z e m.0 0, m.1)) × IsSeated z w.0.view
 
+  -- nothing was changed, and the view is as views of a kept state are
+  abbrev pub Rests : Setup → Me S (Known X) → Me S (Known X) → Type 0
+  Rests z m w = (w ≡ m) × IsSeated z m.0.view
+
 -- ---- what a contract says
 -- The seat is of this table, and its view is as views of a kept state are
 pub record BelongsTo {S X : Type 0} (t : TableSight) (s : Seat S (Known X)) : Type 0 where

@@ -7,6 +7,8 @@ ghost use Rattle.core_table.specs.Steps.{BelongsTo, IsSplitOff, NowKnows};
 
 use crate::cut::Cut;
 use crate::event_table::{EventTable, Seat};
+use crate::places::THREADS;
+use crate::plays::Rests;
 use crate::seat_moves::{Joins, Splits};
 use crate::slot_rule::SlotRule;
 
@@ -23,7 +25,7 @@ impl<S, X, P: SlotRule<S, X>> EventTable<S, X, P> {
         self.table.shared.split_seat::<Splits<S, P, C>>(seat)
     }
 
-    /// A join. The setup is that of `C`.
+    /// A join, with a load of the count of threads behind it. The setup is that of `C`.
     pub fn join_as<C: Cut>(&self, seat: &mut Seat<S, X>, other: Seat<S, X>)
         requires setup { C.setup ≡ self.now.setup }
         requires seat { BelongsTo self.now seat.old }
@@ -32,6 +34,7 @@ impl<S, X, P: SlotRule<S, X>> EventTable<S, X, P> {
         requires slots { OutlastsJoin P.fact self.now.setup P.beside }
         ensures { NowKnows self.now seat.old seat.new (known_both seat.old.me.0 other.me.0) }
     {
-        self.table.shared.join_seat::<Joins<S, P, C>>(seat, other)
+        self.table.shared.join_seat::<Joins<S, P, C>>(seat, other);
+        self.table.shared.load::<Rests<C>>(seat, THREADS);
     }
 }

@@ -1,6 +1,7 @@
 //! What a step tells its seat.
 
 use crate::choice::Choice;
+use crate::cut::Cut;
 use crate::known::Known;
 use atomic_table::Play;
 use std::marker::PhantomData;
@@ -25,4 +26,15 @@ impl<S, X, E: Choice> Play<S, Known<X>> for Puts<E> {
     ghost use Rattle.core_table.specs.Steps.{Puts};
 
     ghost then = { λ st m n w. Puts E.setup E.event m w };
+}
+
+/// A load that changes nothing, and tells what holds of the view. The setup is that of `C`.
+pub struct Rests<C> {
+    marker: PhantomData<C>,
+}
+
+impl<S, X, C: Cut> Play<S, Known<X>> for Rests<C> {
+    ghost use Rattle.core_table.specs.Steps.{Rests};
+
+    ghost then = { λ st m n w. Rests C.setup m w };
 }

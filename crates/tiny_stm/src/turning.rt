@@ -84,7 +84,7 @@ impl<S, X, P: SlotRule<S, X>> Stm<S, X, P> {
         )
     }
 
-    /// Stores the durable number.
+    /// Stores the durable number. What is persisted is left to the user's fact.
     pub fn raise_durable(&self, seat: &mut Seat<S, X>, value: u64)
         requires may { MayStep P.fact self.now.events (raise_durable value) seat.old }
         requires fits { IsForeseen P.fact self.now.events (raise_durable value) seat.old }
@@ -95,7 +95,7 @@ impl<S, X, P: SlotRule<S, X>> Stm<S, X, P> {
             .store_as::<Brand, u64>(seat, DURABLE, value, &value)
     }
 
-    /// Stores the reproduced number.
+    /// Stores the reproduced number. What the home has is left to the user's fact.
     pub fn raise_reproduced(&self, seat: &mut Seat<S, X>, value: u64)
         requires may { MayStep P.fact self.now.events (raise_reproduced value) seat.old }
         requires fits { IsForeseen P.fact self.now.events (raise_reproduced value) seat.old }
