@@ -36,6 +36,10 @@ abbrev pub RecoversAmong : (ℕ → Type 0) → ℕ → Opening → List Done �
 RecoversAmong Reaches before opening order told image =
     (n : ℕ) × (opening.number ≤ n) × AtLeast before told n × Reaches n × RecoversAt opening order image n
 
--- so where the run comes to no number over those done
+-- a run on one thread comes to no number over the greatest one done, or the opening one
+abbrev pub IsUpToLast : Opening → List Done → ℕ → Type 0
+IsUpToLast opening done n = n ≤ last_of opening.number done
+
+-- so on one thread
 abbrev pub RecoversFrom : ℕ → Opening → List Done → List ℕ → List ℕ → Type 0
-RecoversFrom before opening order = RecoversAmong (λ n. n ≤ last_of opening.number order) before opening order
+RecoversFrom before opening order = RecoversAmong (IsUpToLast opening order) before opening order

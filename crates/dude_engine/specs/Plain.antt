@@ -14,7 +14,7 @@ use Rattle.back_store.specs.BackView.{sight_of, state_of}
 use Rattle.back_store.specs.Told.{WereTold}
 use Rattle.dude_engine.specs.declared.ran.RanEnd.{RanEnd}
 use Rattle.dude_engine.specs.declared.ran.RanEnd.TheVariants.{Device, NoMemory, Whole}
-use Rattle.dude_engine.specs.Opening.{Opening, last_of, RecoversFrom}
+use Rattle.dude_engine.specs.Opening.{IsUpToLast, Opening, RecoversAmong, last_of}
 use Rattle.dude_engine.specs.Endings.{AreSyncsTold, End, LosesAtMost}
 use Rattle.dude_engine.specs.RunCalls.{MakesItsCalls}
 
@@ -25,19 +25,23 @@ pub record IsOpeningOf {M : Type 0} {ghosts : Ghosts M} (o : Opened M ghosts) (o
   pub stands : StandsFor o.sizes o.words.items opening.database
 
 -- Requests were performed one after another in rounds: request 0 of each file in the files' order, then request 1 of each,
--- and so on; the k-th that wrote has the opening number plus k; each reply is one thread's. They are done, and none before them
--- in the order of rounds isn't.
+-- and so on; the k-th that wrote has the opening number plus k; each reply is one thread's. They are done, and are the first
+-- ones in this order.
 pub record PerformsInRounds (opening : Opening) (files : List (List Request)) (done : List Done) : Type 0 where
   pub performed : List Done
   pub performs : Performs opening.number opening.sizes.calls opening.database performed
   pub collects : Collects files performed done
   pub first : AreFirstInRounds files done
 
--- At each moment every image recovers to the database after a prefix of the printed order, and to no number under the opening
--- one or one told, and to none over those done. This holds of a medium that is as the opening of its image left it.
+-- At each moment every image recovers to the database after a prefix of the printed order, and to a number that the run may
+-- come to, none under the opening one or one told. This holds of a medium that is as the opening of its image left it.
+abbrev pub RecoversAlongRun : (List Done → ℕ → Type 0) → Opening → List ℕ → List Done → Sight → Sight → Type 0
+RecoversAlongRun Reaches opening words done s t = (before : ℕ) → HoldsOpened before opening.sizes opening.number words s
+    → (order : List Done) × IsPrintedOrder done order × AtEveryMoment (RecoversAmong (Reaches order) before opening order) s t
+
+-- so on one thread: to no number over those done
 abbrev pub RecoversOnTheRun : Opening → List ℕ → List Done → Sight → Sight → Type 0
-RecoversOnTheRun opening words done s t = (before : ℕ) → HoldsOpened before opening.sizes opening.number words s
-    → (order : List Done) × IsPrintedOrder done order × AtEveryMoment (RecoversFrom before opening order) s t
+RecoversOnTheRun opening = RecoversAlongRun (IsUpToLast opening) opening
 
 -- At the end of a whole run all requests are done, the greatest number done or the opening one was told last, and every image
 -- recovers to it.

@@ -1,9 +1,9 @@
 -- Which calls on the medium a run makes, from entry to end. The requests are served one after another, and each makes these
--- calls alone. One that wrote joins a record of its number, with the writes of its body, to the open bundle. Where none is open that takes it, the open one
--- is persisted in its ring, which is that of the file of its first record, and a new one begun; where that ring has no room,
--- and there alone, all that waits is announced and reproduced before. A `SYNC` persists the open bundle and announces its
--- number. Every other request makes no call. At the end the open bundle is persisted, and all that waits is announced and
--- reproduced.
+-- calls alone. One that wrote joins a record of its number, with the writes of its body, to the open bundle. Where none is
+-- open that takes it, the open one is persisted in its ring, which is that of the file of its first record, and a new one
+-- begun; where that ring has no room, and there alone, all that waits is announced and reproduced before. A `SYNC` persists the
+-- open bundle and announces its number. Every other request makes no call. At the end the open bundle is persisted, and all
+-- that waits is announced and reproduced.
 use Rattle.std.specs.Prelude.{◌≡◌, ℕ, List, [], ◌∷◌, ◌++◌, IsTrue, IsFalse, None, AllPairs, IsPermutation}
 use Rattle.dude_base.specs.declared.sizes.Sizes.{Sizes}
 use Rattle.dude_base.specs.declared.write.Write.{Write}

@@ -13,7 +13,7 @@ use Rattle.tatp_model.specs.declared.request.Request.{Request}
 use Rattle.dude_io.specs.Sink.{SinkSight, Took}
 use Rattle.command_edges.specs.Printing.{FailsIn}
 use Rattle.command_edges.specs.Files.{requests_in}
-use Rattle.dude_engine.specs.Opening.{Opening}
+use Rattle.dude_engine.specs.Opening.{IsUpToLast, Opening}
 use Rattle.dude_engine.specs.Requests.{request_count}
 use Rattle.dude_engine.specs.declared.ran.RanEnd.{RanEnd}
 use Rattle.dude_engine.specs.declared.ran.RanEnd.TheVariants.{Whole, NoMemory}
@@ -23,7 +23,7 @@ use Rattle.dude_engine.proofs.Numbering.{greatest_all, greatest_from}
 use Rattle.command_edges.specs.declared.fault.Fault.{Fault}
 use Rattle.command_edges.specs.declared.fault.Fault.TheVariants.{Device, Memory}
 use Rattle.dude_program.specs.Causes.{RanUnlessDevice}
-use Rattle.dude_program.specs.Work.{EndsWhole, IsUpToLast, PrintsText, fault_of_end}
+use Rattle.dude_program.specs.Work.{EndsWhole, PrintsText, fault_of_end}
 
 pub whole_end : (end : RanEnd) → fault_of_end end ≡ None → end ≡ Whole
 whole_end Whole e = refl

@@ -4,13 +4,13 @@ use Rattle.std.specs.Global.{Vec}
 use Rattle.dude_base.specs.declared.limits.TheConstants.{MAX_NUMBER}
 use Rattle.dude_base.specs.declared.sizes.Sizes.{Sizes}
 use Rattle.pmem_trait.specs.declared.medium.Medium.{Ghosts}
-use Rattle.pmem_trait.specs.Sights.{AtEveryMoment, Sight, Risen, SomeCalls}
+use Rattle.pmem_trait.specs.Sights.{Sight, Risen, SomeCalls}
 use Rattle.back_store.specs.BackView.{medium_of}
 use Rattle.image_opening.specs.declared.opened.Opened.{Opened}
 use Rattle.image_opening.specs.Opened.{HoldsOpened}
 use Rattle.tatp_model.specs.declared.done.Done.{Done}
 use Rattle.tatp_model.specs.declared.request.Request.{Request}
-use Rattle.tatp_model.specs.OneThread.{AllAreDone, IsPrintedOrder, is_sync, RepliesOfOneThread}
+use Rattle.tatp_model.specs.OneThread.{AllAreDone, is_sync, RepliesOfOneThread}
 use Rattle.tatp_text.specs.Output.{output_of}
 use Rattle.tatp_text.specs.Summary.{summary_of}
 use Rattle.dude_io.specs.Sink.{SinkSight, Took}
@@ -19,8 +19,8 @@ use Rattle.dude_engine.specs.declared.ran.RanEnd.{RanEnd}
 use Rattle.dude_engine.specs.declared.ran.RanEnd.TheVariants.{Whole, NoMemory}
 use Rattle.dude_engine.specs.declared.ran.RanEnd.TheVariants as ran
 use Rattle.dude_engine.specs.Endings.{AreSyncsTold, End}
-use Rattle.dude_engine.specs.Opening.{Opening, RecoversAmong, last_of}
-use Rattle.dude_engine.specs.Plain.{IsOpeningOf, LosesFew, most_lost_by}
+use Rattle.dude_engine.specs.Opening.{IsUpToLast, Opening}
+use Rattle.dude_engine.specs.Plain.{IsOpeningOf, LosesFew, RecoversAlongRun, most_lost_by}
 use Rattle.dude_engine.specs.Requests.{AreInRange, request_count}
 use Rattle.command_edges.specs.declared.fault.Fault.{Fault}
 use Rattle.command_edges.specs.declared.fault.Fault.TheVariants.{ManyFiles, Frames, FewSubscribers, Numbers, Device, Memory}
@@ -37,12 +37,6 @@ abbrev pub fault_of_end : RanEnd → Option Fault
 fault_of_end Whole = None
 fault_of_end ran.Device = Some Device
 fault_of_end NoMemory = Some Memory
-
--- At each moment every image recovers to the database after a prefix of the printed order, and to a number that the run may
--- come to, none under the opening one or one told. This holds of a medium that is as the opening of its image left it.
-abbrev pub RecoversAlongRun : (List Done → ℕ → Type 0) → Opening → List ℕ → List Done → Sight → Sight → Type 0
-RecoversAlongRun Reaches opening words done s t = (before : ℕ) → HoldsOpened before opening.sizes opening.number words s
-    → (order : List Done) × IsPrintedOrder done order × AtEveryMoment (RecoversAmong (Reaches order) before opening order) s t
 
 -- At the end of a run all requests are done; the last number, which is at least the opening number and each number done, was
 -- told last, and every image recovers to it.
@@ -95,10 +89,6 @@ totals_of worked = summary_of worked.done.items
 -- a sink, seen so, took a text, unless a fault came before; or a prefix of it; or there was no memory for it
 abbrev pub EndsBy : {K : Type 0} → (K → SinkSight) → List ℕ → Option Fault → Option Fault → K → K → Type 0
 EndsBy sight text earlier fault old new = PrintsText text earlier fault (sight old) (sight new)
-
--- a run on one thread comes to no number over the greatest one done
-abbrev pub IsUpToLast : Opening → List Done → ℕ → Type 0
-IsUpToLast opening done n = n ≤ last_of opening.number done
 
 -- the requests were run so over an opened image, on one thread; its medium, seen so, is given back
 abbrev pub RanOverOpened : {M : Type 0} {ghosts : Ghosts M} → (M → Sight) → Opened M ghosts → List (Vec Request) → Worked M → Type 0
