@@ -20,7 +20,7 @@ use Rattle.run_order.specs.Runs.{SyncsFollow}
 use Rattle.image_recovery.specs.Recovered.{RecoversTo}
 use Rattle.command_words.specs.Command.{Meaning, Meaning.FreshRun, Meaning.FormatImage, Meaning.RunFiles, Meaning.RecoverImage, Meaning.DumpTables, Meaning.DriveLoad}
 use Rattle.dude_engine.specs.Endings.{AreSyncsTold, End, WasToldLast}
-use Rattle.dude_engine.specs.Opening.{Opening, RecoversAt, RecoversFrom, last_of}
+use Rattle.dude_engine.specs.Opening.{Opening, RecoversFrom, last_of}
 use Rattle.dude_engine.specs.Plain.{RecoversOnTheRun}
 use Rattle.command_openings.specs.Opens.{Opens, OpensPartly, ShowsOpening, TellsAtMost}
 use Rattle.dude_program.specs.Opening.{IsReachable, makes_image, runs_requests}
@@ -215,5 +215,10 @@ end_opened makes opening words s t is_open visible = record {
 }
 
 -- so an image that is refused behind its opening is left opened
-pub left_opened : (makes : Bool) (opening : Opening) (words : List ℕ) (s t : Sight) → Opens makes opening words s t → IsTrue s.is_visible → IsLeftOpened opening s t
-left_opened makes opening words s t is_open visible = record { told = is_open.told visible; images = images_opened makes opening words s t is_open visible }
+pub left_opened : (opening : Opening) (words : List ℕ) (s t : Sight) → Opens false opening words s t → IsLeftOpened opening s t
+left_opened opening words s t is_open = record {
+  words = words;
+  calls = is_open.calls;
+  told = λ visible. is_open.told visible;
+  images = λ visible. images_opened false opening words s t is_open visible;
+}
