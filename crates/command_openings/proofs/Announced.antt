@@ -1,5 +1,5 @@
 -- A back where nothing waits announces its number.
-use Rattle.std.proofs.Common.{◌≡◌, ℕ, false, IsTrue, List, [], ◌∷◌, refl, sym, ap, ◌∙◌, subst, inl, inr, arith, Err}
+use Rattle.std.proofs.Common.{◌≡◌, ◌⊎◌, ℕ, true, false, IsTrue, List, [], ◌∷◌, refl, sym, ap, ◌∙◌, subst, inl, inr, arith, Result, Ok, Err}
 use Rattle.dude_base.specs.declared.sizes.Sizes.{Sizes}
 use Rattle.pmem_trait.specs.declared.call.Call.TheVariants.{Tell}
 use Rattle.pmem_trait.specs.Words.{State}
@@ -54,6 +54,23 @@ announced_moments v number words s t opening before is same stands holds way =
             ((moments.each visible m low high).each image is_image);
       };
     }
+
+-- exactly its number is told
+pub tells_number : (v : BackState) (sizes : Sizes) (number answer : ℕ) (s t : Sight) → v ≡ idle sizes number → Announces v (Ok answer) s t → CallsMade (Tell number ∷ []) true s t
+tells_number v sizes number answer s t is announces =
+    subst (λ (n : ℕ). CallsMade (Tell n ∷ []) true s t) (announced_number v sizes number announces.end is announces.is_end) announces.made
+
+-- or that failed: a back where nothing waits isn't dead
+pub fails_number : (v : BackState) (fault : BackFault) (sizes : Sizes) (number : ℕ) (s t : Sight) → v ≡ idle sizes number → (fault ≡ Device) ⊎ (fault ≡ Dead)
+    → (◌≡◌ {A = Result ℕ BackFault} (Err fault) (Err Dead) → v.dead ≡ true) → Announces v (Err fault) s t → CallsMade (Tell number ∷ []) false s t
+fails_number v fault sizes number s t is (inr dead) only announces =
+    let was : v.dead ≡ true = only (ap Err dead) in
+    let alive : v.dead ≡ false = ap (λ (u : BackState). u.dead) is in
+    let never : ⊥ = cc in
+    absurd never
+fails_number v fault sizes number s t is (inl device) only announces =
+    subst (λ (n : ℕ). CallsMade (Tell n ∷ []) false s t) (announced_number v sizes number announces.end is announces.is_end)
+    (subst (λ (f : BackFault). CallsAnswered {X = ℕ} (Err f) (Tell announces.end ∷ []) s t) device announces.made)
 
 -- a failed tell told its number, or nothing
 failed_tell : {number : ℕ} {s t : Sight} → OneCall (Tell number) false s t → IsTrue s.is_visible → TellsAtMost number s t

@@ -2,10 +2,11 @@
 use Rattle.std.proofs.Common.{◌≡◌, ℕ, Bool, true, false, IsTrue, List, [], ◌∷◌, ◌++◌, length, refl, sym, ap, ◌∙◌, subst, inl, inr, arith, Err}
 use Rattle.dude_base.specs.declared.sizes.Sizes.{Sizes}
 use Rattle.dude_base.specs.Sizes.{IsAccepted}
-use Rattle.pmem_trait.specs.Sights.{Sight, state_now, AtEveryMoment, Extends, Risen, SomeCalls}
+use Rattle.pmem_trait.specs.declared.call.Call.TheVariants.{Tell}
+use Rattle.pmem_trait.specs.Sights.{Sight, state_now, AtEveryMoment, CallsMade, Extends, Risen, SomeCalls}
 use Rattle.pmem_trait.specs.Reads.{ContentHas}
 use Rattle.pmem_trait.proofs.Laws.{every_moment_then, every_moment_weaker}
-use Rattle.pmem_trait.proofs.Runs.{made_later, ran_here, ran_then}
+use Rattle.pmem_trait.proofs.Runs.{made_later, ran_on}
 use Rattle.pmem_trait.proofs.Told.{last_image}
 use Rattle.tatp_layout.specs.StandsFor.{StandsFor}
 use Rattle.image_recovery.specs.Faults.{IsFaultOn}
@@ -13,13 +14,14 @@ use Rattle.image_recovery.specs.Recovered.{RecoversArray, RecoversTo}
 use Rattle.image_recovery.specs.declared.open_fault.OpenFault.{OpenFault}
 use Rattle.image_recovery.specs.declared.open_fault.OpenFault.TheVariants as opening
 use Rattle.image_recovery.proofs.Accepted.{never_out}
-use Rattle.image_format.specs.Causes.{FormatCallsMade, HasFormatCause}
+use Rattle.image_format.specs.Causes.{FormatCallsMade, FormatsSome, HasFormatCause}
 use Rattle.image_format.specs.FormatCalls.{format_calls}
 use Rattle.image_format.specs.NewImages.{IsNewImage, RecoversOnceTold}
 use Rattle.back_store.specs.Images.{IsIdleMedium}
 use Rattle.tatp_model.specs.Population.{population}
 use Rattle.image_format.specs.declared.format_fault.FormatFault.{FormatFault}
 use Rattle.image_format.specs.declared.format_fault.FormatFault.TheVariants as format
+use Rattle.image_opening.specs.Answers as answers
 use Rattle.image_opening.specs.Answers.{LeftBy, StillRecovers}
 use Rattle.dude_engine.specs.Opening.{Opening}
 use Rattle.dude_engine.specs.Plain.{IsOpeningOf}
@@ -88,8 +90,8 @@ pub format_fault : (X : Type 0) (fault : FormatFault) (own : Fault) (sizes : Siz
 format_fault X (format.Size field) own sizes s t cause calls is = absurd is
 format_fault X (format.Small has needs) own sizes s t cause calls is = subst (HasFormatFault sizes s t) (sym is) (calls, cause.1, cause.2, cause.3)
 format_fault X (format.TooFew rows count) own sizes s t cause calls is = subst (HasFormatFault sizes s t) (sym is) (calls, cause.1, cause.2, cause.3, cause.4)
-format_fault X format.Device own sizes s t cause calls is = subst (HasFormatFault sizes s t) (sym is) (cause.0, cause.1, (format_calls sizes calls.0, calls.2))
-format_fault X format.NoMemory own sizes s t cause calls is = subst (HasFormatFault sizes s t) (sym is) (cause, subst (λ (u : Sight). SomeCalls true s u) (sym calls) (ran_here s))
+format_fault X format.Device own sizes s t cause calls is = subst (HasFormatFault sizes s t) (sym is) (cause.0, cause.1, calls)
+format_fault X format.NoMemory own sizes s t cause calls is = subst (HasFormatFault sizes s t) (sym is) (cause, inl calls)
 
 pub is_sized : (fault : FormatFault) (sizes : Sizes) (s t : Sight) → IsAccepted sizes → HasFormatCause sizes s t fault → IsSized fault
 is_sized (format.Size field) sizes s t accepted cause = absurd (never_out sizes field accepted cause)
@@ -127,11 +129,11 @@ module _ {M : Type 0} {ghosts : Ghosts M} (o : Opened M ghosts) (s m t : Sight) 
   own_is = record { number = refl; sizes = refl; stands = opened.lawful.1 }
 
   -- at Ok
-  pub announced_opens_all : (x : Opened M ghosts) → IsSameImage o x → SomeCalls true m t
+  pub announced_opens_all : (x : Opened M ghosts) → IsSameImage o x → answers.Opens true o.sizes o.number o.words.items s m → CallsMade (Tell o.number ∷ []) true m t
       → (IsTrue m.is_visible → (state_now t).told ≡ (state_now m).told ++ o.number ∷ [])
       → ((before : ℕ) → HoldsOpened before o.sizes o.number o.words.items m → HoldsOpened before o.sizes o.number o.words.items t)
       → (opening : Opening) → IsOpeningOf x opening → IsOpeningOn s opening × Opens false opening x.words.items s t
-  announced_opens_all x same ran told on opening of_x =
+  announced_opens_all x same opens tells told on opening of_x =
       let words : x.words.items ≡ o.words.items = ap (λ v. v.items) same.words in
       let number : opening.number ≡ o.number = of_x.number ∙ same.number in
       let sizes : opening.sizes ≡ o.sizes = of_x.sizes ∙ same.sizes in
@@ -147,7 +149,8 @@ module _ {M : Type 0} {ghosts : Ghosts M} (o : Opened M ghosts) (s m t : Sight) 
           told = λ visible. told (there visible) ∙ (ap (λ (l : List ℕ). l ++ o.number ∷ []) (opening_told opening s m (still opening is) visible)
               ∙ ap (λ (n : ℕ). (state_now s).told ++ n ∷ []) (sym number));
           holds = rw (sizes, number, words) (on (length (state_now s).told) held);
-          ran = ran_then calls ran;
+          calls = rw (sizes, number, words) (record { opened = m; opens = opens; tells = tells });
+          ran = ran_on calls tells;
         },
       )
 
@@ -164,8 +167,8 @@ module _ {M : Type 0} {ghosts : Ghosts M} (o : Opened M ghosts) (s m t : Sight) 
   pub announced_opens : ((opening : Opening) → IsOpeningOn s opening → ⊥) → ⊥
   announced_opens none = none own (on_it own own_is)
 
-  pub announced_fault : (fault : Fault) → fault ≡ Device → Risen m.faults t.faults → SomeCalls false m t → HasOpenFault s t fault
-  announced_fault fault is risen ran = subst (HasOpenFault s t) (sym is) (risen_later s.faults m.faults t.faults t.faults (made_later calls.1).faults risen (omega arith), ran_then calls ran)
+  pub announced_fault : (fault : Fault) → fault ≡ Device → Risen m.faults t.faults → CallsMade (Tell o.number ∷ []) false m t → HasOpenFault s t fault
+  announced_fault fault is risen tells = subst (HasOpenFault s t) (sym is) (risen_later s.faults m.faults t.faults t.faults (made_later calls.1).faults risen (omega arith), ran_on calls tells)
 
 -- an image was made, and is opened as it is
 pub made_opening : {M : Type 0} {ghosts : Ghosts M} (o : Opened M ghosts) (sizes : Sizes) (words : List ℕ) → o.sizes ≡ sizes → o.number ≡ 0 → o.words.items ≡ words
@@ -179,12 +182,13 @@ made_opening o sizes words same number is stands = record {
 pub made_opens_all : {M : Type 0} {ghosts : Ghosts M} (o : Opened M ghosts) (sizes : Sizes) (words : List ℕ) (s t : Sight) → IsOpened o → IsOpeningOf o (new_opening sizes) → o.words.items ≡ words
     → AtEveryMoment (RecoversOnceTold sizes (state_now s).told) s t → (IsTrue s.is_visible → IsNewImage sizes words (state_now s) (state_now t))
     → ((before : ℕ) → (IsTrue t.is_visible → IsIdleMedium before sizes 0 words (state_now t)) → HoldsOpened before sizes 0 words t)
-    → SomeCalls true s t → Opens true (new_opening sizes) o.words.items s t
-made_opens_all o sizes words s t opened own is images rests holds ran = record {
+    → FormatsSome sizes true s t → Opens true (new_opening sizes) o.words.items s t
+made_opens_all o sizes words s t opened own is images rests holds calls = record {
   lawful = opening_lawful o (new_opening sizes) opened own;
   moments = (partly_made sizes s t images).moments;
   told = λ visible. (rests visible).told;
   holds = subst (λ (l : List ℕ). HoldsOpened (length (state_now s).told) sizes 0 l t) (sym is)
-      (holds (length (state_now s).told) (λ visible. (rests (subst (λ b. IsTrue b) (made_later ran.1).is_visible visible)).idle));
-  ran = ran;
+      (holds (length (state_now s).told) (λ visible. (rests (subst (λ b. IsTrue b) (made_later calls.2).is_visible visible)).idle));
+  calls = calls;
+  ran = (format_calls sizes calls.0, calls.2);
 }

@@ -1,7 +1,8 @@
 -- The number of an opened image is told.
 use Rattle.std.specs.Prelude.{◌≡◌, ℕ, true, false, IsTrue, MatchResult, Result, [], ◌∷◌, ◌++◌}
 use Rattle.pmem_trait.specs.declared.medium.Medium.{Ghosts}
-use Rattle.pmem_trait.specs.Sights.{Sight, state_now, AtEveryMoment, Risen, SomeCalls}
+use Rattle.pmem_trait.specs.declared.call.Call.TheVariants.{Tell}
+use Rattle.pmem_trait.specs.Sights.{Sight, state_now, AtEveryMoment, CallsMade, Risen}
 use Rattle.back_store.specs.BackView.{medium_of}
 use Rattle.image_opening.specs.Opened.{HoldsOpened}
 use Rattle.image_opening.specs.declared.opened.Opened.{Opened}
@@ -37,11 +38,11 @@ pub record FailsTelling {M : Type 0} {ghosts : Ghosts M} (sight : M → Sight) (
   pub fault : refused.0 ≡ Device
   pub at_most : IsTrue (medium_seen sight old).is_visible → TellsAtMost old.number (medium_seen sight old) (sight refused.1)
 
--- some calls were made, of which the last failed exactly where it is refused
+-- exactly the tell of the number was made, and failed exactly where it is refused
 abbrev pub RanTelling : {M : Type 0} {ghosts : Ghosts M} → (M → Sight) → Opened M ghosts → Result (Opened M ghosts) (Fault × M) → Type 0
 RanTelling sight old result = MatchResult result
-    (λ o. SomeCalls true (medium_seen sight old) (medium_seen sight o))
-    (λ refused. SomeCalls false (medium_seen sight old) (sight refused.1))
+    (λ o. CallsMade (Tell old.number ∷ []) true (medium_seen sight old) (medium_seen sight o))
+    (λ refused. CallsMade (Tell old.number ∷ []) false (medium_seen sight old) (sight refused.1))
 
 -- at each moment every image shows the opening, where the medium held the image before
 abbrev pub ShowsWhileTelling : {M : Type 0} {ghosts : Ghosts M} → (M → Sight) → Opened M ghosts → Result (Opened M ghosts) (Fault × M) → Type 0

@@ -1,5 +1,5 @@
 -- Why no image was opened, and what is left of the medium then.
-use Rattle.std.specs.Prelude.{◌≡◌, ◌<◌, ◌≤◌, ⊤, true, false}
+use Rattle.std.specs.Prelude.{◌≡◌, ◌⊎◌, ◌<◌, ◌≤◌, ⊤, true, false}
 use Rattle.dude_base.specs.declared.sizes.Sizes.{Sizes}
 use Rattle.dude_base.specs.Image.{image_words}
 use Rattle.pmem_trait.specs.Sights.{Sight, Risen, SomeCalls}
@@ -9,20 +9,20 @@ use Rattle.redo_record.specs.Recovery.{IsFormatted, IsDamaged}
 use Rattle.image_recovery.specs.Recovered.{IsNoDatabase}
 use Rattle.image_recovery.specs.declared.open_fault.OpenFault.{OpenFault}
 use Rattle.image_recovery.specs.declared.open_fault.OpenFault.TheVariants as opening
-use Rattle.image_format.specs.Causes.{FitsImage}
+use Rattle.image_format.specs.Causes.{FitsImage, FormatsSome}
 use Rattle.image_format.specs.declared.format_fault.FormatFault.{FormatFault}
 use Rattle.image_format.specs.declared.format_fault.FormatFault.TheVariants as format
 use Rattle.command_edges.specs.declared.fault.Fault.{Fault}
 use Rattle.command_edges.specs.declared.fault.Fault.TheVariants.{Small, TooFew, Unformatted, Damaged, NotDb, Device, Memory}
 
--- Why no image of these sizes was made: the first that fits, and the medium is as it was; or the image fits, and the last
--- call failed, or there was no memory.
+-- Why no image of these sizes was made: the first that fits, and the medium is as it was; or the image fits, and of the calls
+-- that make it a prefix was made, whose last failed; or there was no memory, before those calls or behind them.
 abbrev pub HasFormatFault : Sizes → Sight → Sight → Fault → Type 0
 HasFormatFault sizes s t (Small has needs) = (t ≡ s) × (has ≡ s.len) × (needs ≡ image_words sizes) × (has < needs)
 HasFormatFault sizes s t (TooFew rows calls) =
     (t ≡ s) × (image_words sizes ≤ s.len) × (rows ≡ population_calls sizes.subscribers) × (calls ≡ sizes.calls) × (calls < rows)
-HasFormatFault sizes s t Device = FitsImage sizes s.len × Risen s.faults t.faults × SomeCalls false s t
-HasFormatFault sizes s t Memory = FitsImage sizes s.len × SomeCalls true s t
+HasFormatFault sizes s t Device = FitsImage sizes s.len × Risen s.faults t.faults × FormatsSome sizes false s t
+HasFormatFault sizes s t Memory = FitsImage sizes s.len × ((t ≡ s) ⊎ FormatsSome sizes true s t)
 HasFormatFault sizes s t _ = ⊥
 
 -- Why the image isn't open: its content says why, and the medium was only read; or the last call failed, or there was no

@@ -2,10 +2,14 @@
 use Rattle.std.specs.Prelude.{◌≡◌, ◌⊎◌, ℕ, Bool, true, false, IsTrue, IfErr, Result, List, [], ◌∷◌, ◌++◌, drop, length}
 use Rattle.pmem_trait.specs.declared.medium.Medium.{Ghosts}
 use Rattle.pmem_trait.specs.Words.{AtLeast}
-use Rattle.pmem_trait.specs.Sights.{Sight, state_now, AtEveryMoment, SomeCalls}
+use Rattle.dude_base.specs.declared.sizes.Sizes.{Sizes}
+use Rattle.pmem_trait.specs.declared.call.Call.TheVariants.{Tell}
+use Rattle.pmem_trait.specs.Sights.{Sight, state_now, AtEveryMoment, CallsMade, SomeCalls}
 use Rattle.pmem_trait.specs.Reads.{OnlyReads}
 use Rattle.back_store.specs.BackView.{medium_of}
 use Rattle.image_recovery.specs.Recovered.{RecoversTo}
+use Rattle.image_format.specs.Causes.{FormatsSome}
+use Rattle.image_opening.specs.Answers as answers
 use Rattle.image_opening.specs.Opened.{HoldsOpened}
 use Rattle.image_opening.specs.declared.opened.Opened.{Opened}
 use Rattle.command_edges.specs.declared.fault.Fault.{Fault}
@@ -30,12 +34,26 @@ pub record OpensPartly (makes : Bool) (opening : Opening) (s t : Sight) : Type 0
   pub moments : AtEveryMoment (ShowsOpening makes (length (state_now s).told) opening) s t
   pub told : IsTrue s.is_visible → TellsAtMost opening.number s t
 
+-- The image is opened by its calls, and then its number is told; or, where ok is false, the tell failed.
+pub record OpensAndTells (ok : Bool) (sizes : Sizes) (number : ℕ) (words : List ℕ) (s t : Sight) : Type 0 where
+  pub opened : Sight
+  pub opens : answers.Opens true sizes number words s opened
+  pub tells : CallsMade (Tell number ∷ []) ok opened t
+
+-- Exactly these calls were made, up to the tell of the opening number: those that make the image, of which the last one tells;
+-- or reads, then those that open it, then the tell.
+abbrev pub OpensByCalls : Bool → Opening → List ℕ → Sight → Sight → Type 0
+OpensByCalls true opening words s t = FormatsSome opening.sizes true s t
+OpensByCalls false opening words s t = OpensAndTells true opening.sizes opening.number words s t
+
 -- The image is opened at this opening: its number is told, and the medium holds the image with these words in its home.
 pub record Opens (makes : Bool) (opening : Opening) (words : List ℕ) (s t : Sight) : Type 0 where
   pub lawful : IsOpening opening
   pub moments : AtEveryMoment (ShowsOpening makes (length (state_now s).told) opening) s t
   pub told : IsTrue s.is_visible → (state_now t).told ≡ (state_now s).told ++ opening.number ∷ []
   pub holds : HoldsOpened (length (state_now s).told) opening.sizes opening.number words t
+  -- exactly the calls of one opening were made, and none failed
+  pub calls : OpensByCalls makes opening words s t
   pub ran : SomeCalls true s t
 
 -- the image on a medium, seen so, is opened so

@@ -1,11 +1,12 @@
 -- What a command comes to before its output, from the opening of its image and its run.
 use Rattle.std.proofs.Common.{◌≡◌, ◌⊎◌, ℕ, ◌≤◌, Bool, true, false, IsTrue, List, [], refl, sym, subst, inl, inr, arith, Option, Some, None}
 use Rattle.std.specs.List.{All}
+use Rattle.std.specs.Bool.{MatchBool}
 use Rattle.std.proofs.lemmas.List.Elements.{All-nil}
 use Rattle.std.proofs.lemmas.List.Sorted.{IsPermutation-refl}
 use Rattle.dude_base.specs.declared.sizes.Sizes.{Sizes}
 use Rattle.pmem_trait.specs.Sights.{Sight}
-use Rattle.pmem_trait.proofs.Runs.{made_later, ran_then, risen_later}
+use Rattle.pmem_trait.proofs.Runs.{made_later, ran_here, ran_then, risen_later}
 use Rattle.tatp_model.specs.declared.done.Done.{Done}
 use Rattle.tatp_model.specs.declared.request.Request.{Request}
 use Rattle.tatp_model.specs.OneThread.{is_sync}
@@ -14,16 +15,16 @@ use Rattle.run_order.proofs.Law.{law}
 use Rattle.run_order.proofs.Performed.{performs_start}
 use Rattle.dude_io.specs.Files.{FilesSight}
 use Rattle.image_format.specs.Causes.{FitsImage}
-use Rattle.command_words.specs.Command.{Meaning}
+use Rattle.command_words.specs.Command.{Meaning, Meaning.FreshRun, Meaning.FormatImage, Meaning.RunFiles, Meaning.RecoverImage, Meaning.DumpTables, Meaning.DriveLoad}
 use Rattle.dude_engine.specs.Opening.{Opening}
 use Rattle.command_edges.specs.declared.fault.Fault.{Fault}
 use Rattle.command_edges.specs.declared.fault.Fault.TheVariants.{Device, Memory}
 use Rattle.command_openings.specs.Opens.{Opens}
 use Rattle.command_openings.specs.Openings.{IsOpeningOn, new_opening}
 use Rattle.command_openings.proofs.OneOpening.{one_opening}
-use Rattle.dude_program.specs.Opening.{IsReachable, RequestsAre, Starts, makes_image, runs_requests}
+use Rattle.dude_program.specs.Opening.{IsReachable, RequestsAre, Starts, ends_opened, makes_image, runs_requests}
 use Rattle.dude_program.specs.Headline.{Replies}
-use Rattle.dude_program.specs.Causes.{RanUnlessDevice, RefusesFormat, RefusesOpening}
+use Rattle.dude_program.specs.Causes.{MustRefuse, OpensOnce, RanUnlessDevice, RefusesFormat}
 use Rattle.dude_program.specs.Work.{EndsWhole, RanOver}
 use Rattle.dude_program.proofs.FilesRead.{FilesRead}
 use Rattle.dude_program.proofs.Contents.{fits_not_refused, makes_none}
@@ -58,6 +59,15 @@ opened_old {meaning} {opening} {words} {s} {m} opener on is_open = record {
   fits = λ why refuses. makes_none meaning s.len why opener.sized refuses;
 }
 
+-- a command that carries requests out makes calls behind its opening
+runs_on : (meaning : Meaning) → runs_requests meaning ≡ true → ends_opened meaning ≡ false
+runs_on (FreshRun subscribers file) runs = refl
+runs_on (FormatImage s c n k) runs = cc runs
+runs_on (RunFiles frames locks files) runs = refl
+runs_on RecoverImage runs = cc runs
+runs_on DumpTables runs = cc runs
+runs_on (DriveLoad seed count number) runs = refl
+
 -- no request, no reply
 collects_none : Collects [] [] []
 collects_none = record { same = IsPermutation-refl []; held = ([], tt, refl) }
@@ -74,6 +84,20 @@ module _ {meaning : Meaning} {f g : FilesSight} {opening : Opening} {words : Lis
   opened_well : {fault : Option Fault} → (fault ≡ Some Device → ⊥) → RanUnlessDevice fault s m
   opened_well other = (true, opened_image.is_open.ran, (λ failed. absurd (let no : ⊥ = cc in no), λ is. absurd (other is)))
 
+  opens_once : {fault : Option Fault} {t : Sight} → MatchBool (ends_opened meaning) (t ≡ m) (RanUnlessDevice fault m t) → OpensOnce meaning fault s t
+  opens_once behind = record {
+    opening = opening;
+    starts = opened_image.starts;
+    words = words;
+    opened = m;
+    calls = opened_image.is_open.calls;
+    behind = behind;
+  }
+
+  none_behind : (b : Bool) {fault : Option Fault} → (fault ≡ Some Device → ⊥) → MatchBool b (m ≡ m) (RanUnlessDevice fault m m)
+  none_behind true other = refl
+  none_behind false other = (true, ran_here m, (λ failed. absurd (let no : ⊥ = cc in no), λ is. absurd (other is)))
+
   -- nothing is done, for this fault or none
   came_none : (last : ℕ) (fault : Option Fault) → (fault ≡ Some Device → ⊥) → CameBy meaning f opening [] last s m fault → Came meaning f g opening [] last fault s m
   came_none last fault other by = record {
@@ -87,12 +111,13 @@ module _ {meaning : Meaning} {f g : FilesSight} {opening : Opening} {words : Lis
     crash = crash_prefix meaning opening s m (opens_prefix (makes_image meaning) opening words s m opened_image.is_open);
     sync = sync_none s m;
     ran = opened_well other;
-    nothing = λ opens told why refuses. refl;
+    once = opens_once (none_behind (ends_opened meaning) other);
+    nothing = λ opens why refuses. refl;
     cause = by;
   }
 
   -- a command without requests
-  pub came_idle : RequestsAre meaning f opening [] → (makes_image meaning ≡ false → IsTrue f.is_visible → (why : Fault) → RefusesOpening meaning f opening why → ⊥) → Came meaning f g opening [] opening.number None s m
+  pub came_idle : RequestsAre meaning f opening [] → (makes_image meaning ≡ false → (why : Fault) → MustRefuse meaning f opening why → ⊥) → Came meaning f g opening [] opening.number None s m
   unfolding replies_none
   came_idle are passes = came_none opening.number None (λ e. let no : ⊥ = cc in no) (record {
     passes = passes;
@@ -113,7 +138,7 @@ module _ {meaning : Meaning} {f g : FilesSight} {opening : Opening} {words : Lis
 
   -- a command whose requests were run
   module _ {Reaches : List Done → ℕ → Type 0} {requests : List (List Request)} {done : List Done} {last : ℕ} {t : Sight} (reaches : (order : List Done) (n : ℕ) → Reaches order n → IsReachable meaning opening order n) (runs : runs_requests meaning ≡ true) (are : RequestsAre meaning f opening requests)
-      (passes : makes_image meaning ≡ false → IsTrue f.is_visible → (why : Fault) → RefusesOpening meaning f opening why → ⊥) where
+      (passes : makes_image meaning ≡ false → (why : Fault) → MustRefuse meaning f opening why → ⊥) where
     abbrev replies_run : {fault : Option Fault} → RanOver Reaches opening words requests done last fault m t → Replies meaning f opening done
     replies_run run = record { requests = requests; read = are; answered = run.replies; syncs_from = run.syncs_from }
 
@@ -129,7 +154,8 @@ module _ {meaning : Meaning} {f g : FilesSight} {opening : Opening} {words : Lis
       crash = crash_run Reaches meaning opening words requests done s m t runs opened_image.is_open reaches run.replies run.moments run.few_lost;
       sync = sync_run (makes_image meaning) opening words done s m t opened_image.is_open run.syncs_follow run.syncs_told;
       ran = ran_behind run.ran;
-      nothing = λ opens told why refuses. absurd (passes opens told why refuses);
+      once = opens_once (subst (λ (b : Bool). MatchBool b (t ≡ m) (RanUnlessDevice fault m t)) (sym (runs_on meaning runs)) run.ran);
+      nothing = λ opens why refuses. absurd (passes opens why refuses);
       cause = by;
     }
 

@@ -218,5 +218,10 @@ end_opened makes opening words s t is_open visible = record {
 }
 
 -- so an image that is refused behind its opening is left opened
-pub left_opened : (makes : Bool) (opening : Opening) (words : List ℕ) (s t : Sight) → Opens makes opening words s t → IsTrue s.is_visible → IsLeftOpened opening s t
-left_opened makes opening words s t is_open visible = record { told = is_open.told visible; images = images_opened makes opening words s t is_open visible }
+pub left_opened : (opening : Opening) (words : List ℕ) (s t : Sight) → Opens false opening words s t → IsLeftOpened opening s t
+left_opened opening words s t is_open = record {
+  words = words;
+  calls = is_open.calls;
+  told = λ visible. is_open.told visible;
+  images = λ visible. images_opened false opening words s t is_open visible;
+}

@@ -1,5 +1,5 @@
 -- How each command ends, from what its calls leave.
-use Rattle.std.proofs.Common.{◌≡◌, ◌⊎◌, ℕ, ◌+◌, ◌*◌, ◌≤◌, IsTrue, List, [], length, refl, sym, ◌∙◌, ap, subst, inl, inr, arith, Option, Some, None}
+use Rattle.std.proofs.Common.{◌≡◌, ◌⊎◌, ℕ, ◌+◌, ◌*◌, ◌≤◌, List, [], length, refl, sym, ◌∙◌, ap, subst, inl, inr, arith, Option, Some, None}
 use Rattle.std.specs.List.{AllZip}
 use Rattle.dude_base.specs.declared.limits.TheConstants.{MAX_NUMBER}
 use Rattle.dude_base.specs.declared.sizes.Sizes.{Sizes}
@@ -23,8 +23,9 @@ use Rattle.command_edges.specs.declared.fault.Fault.TheVariants.{Usage, File, Te
 use Rattle.command_openings.specs.Openings.{new_opening}
 use Rattle.command_openings.proofs.OneOpening.{opening_with}
 use Rattle.dude_program.specs.Opening.{fresh_sizes, load_of}
-use Rattle.dude_program.specs.Causes.{IsLeftOpened, RefusesOpening, WantsFrames}
+use Rattle.dude_program.specs.Causes.{IsLeftOpened, MustRefuse, RefusesOpening, WantsFrames}
 use Rattle.dude_program.specs.Work.{HasFewNumbers, PrintsText, RefusesLoad, RefusesRun}
+use Rattle.dude_program.proofs.FilesRead.{all_read}
 use Rattle.dude_program.proofs.Refusals.{one_requests, passes_if}
 use Rattle.dude_program.proofs.Endings.{CameBy}
 use Rattle.dude_program.proofs.Stops.{IsMaker, IsOpener}
@@ -68,22 +69,22 @@ is_opening_of o opened = record { number = refl; sizes = refl; stands = opened.l
 
 -- ---- which images are refused
 
-pub recover_passes : (f : FilesSight) (opening : Opening) (why : Fault) → RefusesOpening RecoverImage f opening why → ⊥
-recover_passes f opening why refuses = passes_if RecoverImage f opening (omega arith) (λ w no. no) (λ w no. no) (λ n no. no.0) why refuses
+pub recover_passes : (f : FilesSight) (opening : Opening) (why : Fault) → MustRefuse RecoverImage f opening why → ⊥
+recover_passes f opening why refuses = passes_if RecoverImage f opening (omega arith) (λ w no. no) (λ w no. no) (λ known n no. no.0) why refuses
 
-pub dump_passes : (f : FilesSight) (opening : Opening) (why : Fault) → RefusesOpening DumpTables f opening why → ⊥
-dump_passes f opening why refuses = passes_if DumpTables f opening (omega arith) (λ w no. no) (λ w no. no) (λ n no. no.0) why refuses
+pub dump_passes : (f : FilesSight) (opening : Opening) (why : Fault) → MustRefuse DumpTables f opening why → ⊥
+dump_passes f opening why refuses = passes_if DumpTables f opening (omega arith) (λ w no. no) (λ w no. no) (λ known n no. no.0) why refuses
 
 module _ (frames locks : Option ℕ) (names : List (List ℕ)) (f : FilesSight) (requests : List (List Request)) (read : AllZip (OfFile f) names requests) (number : ℕ) (as_many : number ≡ length names) where
   pub run_passes : (opening : Opening) → number ≤ opening.sizes.rings → ((wanted : ℕ) → ¬ WantsFrames (RunFiles frames locks names) wanted opening.sizes.pages)
-      → opening.number + 65 * request_count requests ≤ MAX_NUMBER → IsTrue f.is_visible → (why : Fault) → RefusesOpening (RunFiles frames locks names) f opening why → ⊥
-  run_passes opening rings none enough visible why refuses =
+      → opening.number + 65 * request_count requests ≤ MAX_NUMBER → (why : Fault) → MustRefuse (RunFiles frames locks names) f opening why → ⊥
+  run_passes opening rings none enough why refuses =
       passes_if (RunFiles frames locks names) f opening (omega (arith, rings, as_many)) none (λ w no. no)
-      (λ count few. let same : count ≡ request_count requests = few.1.2 ∙ ap request_count (one_requests (RunFiles frames locks names) f opening few.1.0 requests visible few.1.1 read) in
+      (λ visible count few. let same : count ≡ request_count requests = few.1.2 ∙ ap request_count (one_requests (RunFiles frames locks names) f opening few.1.0 requests visible few.1.1 read) in
       let over = few.2 in omega (arith, same, over, enough)) why refuses
 
   run_refuses : (opening : Opening) (why : Fault) → RefusesRun (RunFiles frames locks names) number opening.sizes opening.number requests why → RefusesOpening (RunFiles frames locks names) f opening why
-  run_refuses opening (ManyFiles a b) r = (r.0 ∙ as_many, r.1, r.2)
+  run_refuses opening (ManyFiles a b) r = (r.0 ∙ as_many, r.1, r.2, all_read (RunFiles frames locks names))
   run_refuses opening (Frames a b) r = (omega (arith, as_many, r.0), r.1, r.2)
   run_refuses opening (Numbers a b) r = (omega (arith, as_many, r.0), r.1, (λ w no. no), r.2, (tt, (requests, read, r.3), r.4))
   run_refuses opening (FewSubscribers a b) r = absurd r
@@ -99,7 +100,7 @@ module _ (frames locks : Option ℕ) (names : List (List ℕ)) (f : FilesSight) 
   run_refuses opening Output r = absurd r
   run_refuses opening Memory r = absurd r
 
-  pub run_came : (opening : Opening) (last : ℕ) (s t : Sight) → (IsTrue s.is_visible → IsLeftOpened opening s t) → (why : Fault) → RefusesRun (RunFiles frames locks names) number opening.sizes opening.number requests why
+  pub run_came : (opening : Opening) (last : ℕ) (s t : Sight) → IsLeftOpened opening s t → (why : Fault) → RefusesRun (RunFiles frames locks names) number opening.sizes opening.number requests why
       → CameBy (RunFiles frames locks names) f opening [] last s t (Some why) × (◌≡◌ {A = Option Fault} (Some why) (Some Device) → ⊥)
   run_came opening last s t left (ManyFiles a b) r = ((refl, refl, run_refuses opening (ManyFiles a b) r, left), λ e. let no : ⊥ = cc in no)
   run_came opening last s t left (Frames a b) r = ((refl, refl, run_refuses opening (Frames a b) r, left), λ e. let no : ⊥ = cc in no)
@@ -119,13 +120,13 @@ module _ (frames locks : Option ℕ) (names : List (List ℕ)) (f : FilesSight) 
 
 module _ (seed count files : ℕ) (f : FilesSight) (opening : Opening) (requests : List (List Request)) (is : requests ≡ load_of opening.sizes.subscribers seed count files) where
   pub drive_passes : files ≤ opening.sizes.rings → files ≤ opening.sizes.subscribers → opening.number + 65 * request_count requests ≤ MAX_NUMBER
-      → (why : Fault) → RefusesOpening (DriveLoad seed count files) f opening why → ⊥
+      → (why : Fault) → MustRefuse (DriveLoad seed count files) f opening why → ⊥
   drive_passes rings enough numbers why refuses =
       passes_if (DriveLoad seed count files) f opening rings (λ w no. no) (λ w few. let low = few.1 in omega (arith, low, enough))
-      (λ n few. let same : n ≡ request_count requests = few.1.2 ∙ ap request_count (few.1.1 ∙ sym is) in let over = few.2 in omega (arith, same, over, numbers)) why refuses
+      (λ known n few. let same : n ≡ request_count requests = few.1.2 ∙ ap request_count (few.1.1 ∙ sym is) in let over = few.2 in omega (arith, same, over, numbers)) why refuses
 
   drive_refuses : (why : Fault) → RefusesLoad files opening.sizes opening.number requests why → (why ≡ Memory) ⊎ RefusesOpening (DriveLoad seed count files) f opening why
-  drive_refuses (ManyFiles a b) r = inr r
+  drive_refuses (ManyFiles a b) r = inr (r.0, r.1, r.2, refl)
   drive_refuses (FewSubscribers a b) r = inr (r.0, r.1, (r.2, omega (arith, r.1, r.3)))
   drive_refuses (Numbers a b) r = inr (r.0, (λ w no. no), (λ w few. let low = few.1 in let up = r.1 in omega (arith, low, up)), r.2, (tt, (requests, is, r.3), r.4))
   drive_refuses Memory r = inl refl
@@ -141,7 +142,7 @@ module _ (seed count files : ℕ) (f : FilesSight) (opening : Opening) (requests
   drive_refuses Device r = absurd r
   drive_refuses Output r = absurd r
 
-  by_refusal : (last : ℕ) (s t : Sight) → (IsTrue s.is_visible → IsLeftOpened opening s t) → (why : Fault) → RefusesOpening (DriveLoad seed count files) f opening why
+  by_refusal : (last : ℕ) (s t : Sight) → IsLeftOpened opening s t → (why : Fault) → RefusesOpening (DriveLoad seed count files) f opening why
       → CameBy (DriveLoad seed count files) f opening [] last s t (Some why) × (◌≡◌ {A = Option Fault} (Some why) (Some Device) → ⊥)
   by_refusal last s t left (ManyFiles a b) r = ((refl, refl, r, left), λ e. let no : ⊥ = cc in no)
   by_refusal last s t left (FewSubscribers a b) r = ((refl, refl, r, left), λ e. let no : ⊥ = cc in no)
@@ -159,7 +160,7 @@ module _ (seed count files : ℕ) (f : FilesSight) (opening : Opening) (requests
   by_refusal last s t left Device r = absurd r
   by_refusal last s t left Output r = absurd r
 
-  pub drive_came : (last : ℕ) (s t : Sight) → (IsTrue s.is_visible → IsLeftOpened opening s t) → (why : Fault) → RefusesLoad files opening.sizes opening.number requests why
+  pub drive_came : (last : ℕ) (s t : Sight) → IsLeftOpened opening s t → (why : Fault) → RefusesLoad files opening.sizes opening.number requests why
       → CameBy (DriveLoad seed count files) f opening [] last s t (Some why) × (◌≡◌ {A = Option Fault} (Some why) (Some Device) → ⊥)
   drive_came last s t left why r = elim (drive_refuses why r) [
     | inl e ↦ subst (λ (x : Fault). CameBy (DriveLoad seed count files) f opening [] last s t (Some x) × (◌≡◌ {A = Option Fault} (Some x) (Some Device) → ⊥)) (sym e) (tt, λ same. let no : ⊥ = cc in no)

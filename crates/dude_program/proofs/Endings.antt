@@ -1,7 +1,8 @@
 -- How a command ends, from what it came to.
-use Rattle.std.proofs.Common.{◌≡◌, ◌⊎◌, ℕ, ◌≤◌, false, IsTrue, List, [], ◌++◌, length, take, refl, sym, ◌∙◌, ap, subst, inl, inr, arith, Option, Some, None}
+use Rattle.std.proofs.Common.{◌≡◌, ◌⊎◌, ℕ, ◌≤◌, Bool, true, false, IsTrue, List, [], ◌++◌, length, take, refl, sym, ◌∙◌, ap, subst, inl, inr, arith, Option, Some, None}
 use Rattle.std.specs.Prelude.{⊤}
 use Rattle.std.specs.List.{All}
+use Rattle.std.specs.Bool.{MatchBool}
 use Rattle.std.proofs.lemmas.List.{length-append}
 use Rattle.std.proofs.Math.Seq.{take-append_seam}
 use Rattle.pmem_trait.specs.Sights.{Sight, Risen}
@@ -17,19 +18,19 @@ use Rattle.command_edges.specs.declared.fault.Fault.TheVariants.{Usage, File, Te
 use Rattle.command_edges.specs.Printing.{StopsIn}
 use Rattle.command_openings.specs.Openings.{IsOpeningOn}
 use Rattle.dude_program.specs.World.{SinkStays, world_of}
-use Rattle.dude_program.specs.Opening.{IsReachable, Starts, makes_image, output_for}
+use Rattle.dude_program.specs.Opening.{IsOutput, IsReachable, Starts, ends_opened, makes_image}
 use Rattle.dude_program.specs.Headline.{AllDone, Crash, Headline, Printed, Replies, Sync, TookAll, TookPrefix}
-use Rattle.dude_program.specs.Causes.{Causes, HasCause, IsGood, IsLeftOpened, RanUnlessDevice, RefusesFormat, RefusesOpening, StoppedByOpening, Untouched}
+use Rattle.dude_program.specs.Causes.{Causes, HasCause, IsGood, IsLeftOpened, MustRefuse, OpensOnce, OpensOnceBy, RanUnlessDevice, RefusesFormat, RefusesOpening, StoppedByOpening, Untouched}
 use Rattle.dude_program.specs.Ending.{Ends}
 use Rattle.dude_program.specs.Work.{PrintsText}
-use Rattle.dude_program.proofs.FilesRead.{FilesRead, read_bad, read_good, read_missing}
+use Rattle.dude_program.proofs.FilesRead.{FilesRead, read_bad, read_fits, read_missing}
 use Rattle.dude_program.proofs.Contents.{opens_not_refused}
 use Rattle.dude_program.proofs.Refusals.{one_refusal}
 use Rattle.dude_program.proofs.Crashes.{crash_each}
 
 -- All requests are done, up to this last number.
 pub record Finished (meaning : Meaning) (f : FilesSight) (opening : Opening) (done : List Done) (last : ℕ) (s t : Sight) : Type 0 where
-  pub passes : makes_image meaning ≡ false → IsTrue f.is_visible → (why : Fault) → RefusesOpening meaning f opening why → ⊥
+  pub passes : makes_image meaning ≡ false → (why : Fault) → MustRefuse meaning f opening why → ⊥
   pub replies : Replies meaning f opening done
   pub all : AllAreDone replies.requests done
   pub none_over : All (λ d. d.number ≤ last) done
@@ -42,7 +43,7 @@ abbrev pub CameBy : Meaning → FilesSight → Opening → List Done → ℕ →
 CameBy meaning f opening done last s t None = Finished meaning f opening done last s t
 CameBy meaning f opening done last s t (Some Device) = Risen s.faults t.faults
 CameBy meaning f opening done last s t (Some Memory) = ⊤
-CameBy meaning f opening done last s t (Some why) = (makes_image meaning ≡ false) × (done ≡ []) × RefusesOpening meaning f opening why × (IsTrue s.is_visible → IsLeftOpened opening s t)
+CameBy meaning f opening done last s t (Some why) = (makes_image meaning ≡ false) × (done ≡ []) × RefusesOpening meaning f opening why × IsLeftOpened opening s t
 
 -- What a command came to before its output: its files were read, and its image was opened at this opening.
 pub record Came (meaning : Meaning) (f g : FilesSight) (opening : Opening) (done : List Done) (last : ℕ) (fault : Option Fault) (s t : Sight) : Type 0 where
@@ -56,7 +57,8 @@ pub record Came (meaning : Meaning) (f g : FilesSight) (opening : Opening) (done
   pub crash : Crash meaning opening done s t
   pub sync : Sync done s t
   pub ran : RanUnlessDevice fault s t
-  pub nothing : makes_image meaning ≡ false → IsTrue f.is_visible → (why : Fault) → RefusesOpening meaning f opening why → done ≡ []
+  pub once : OpensOnce meaning fault s t
+  pub nothing : makes_image meaning ≡ false → (why : Fault) → MustRefuse meaning f opening why → done ≡ []
   pub cause : CameBy meaning f opening done last s t fault
 
 -- a sink that wasn't called, or that took some bytes
@@ -69,6 +71,26 @@ sink_took took = record { faults = took.faults; is_visible = took.is_visible }
 -- the calls before a fault that isn't the medium's
 ran_well : {fault : Option Fault} {s t : Sight} → RanUnlessDevice None s t → (fault ≡ Some Device → ⊥) → RanUnlessDevice fault s t
 ran_well ran other = (ran.0, ran.1, (λ failed. absurd (let e = ran.2.0 failed in let no : ⊥ = cc in no), λ is. absurd (other is)))
+
+-- and those behind the opening
+behind_well : (b : Bool) {fault : Option Fault} (s t : Sight) → MatchBool b (t ≡ s) (RanUnlessDevice None s t) → (fault ≡ Some Device → ⊥) → MatchBool b (t ≡ s) (RanUnlessDevice fault s t)
+behind_well true s t behind other = behind
+behind_well false s t behind other = ran_well behind other
+
+once_well : {meaning : Meaning} {fault : Option Fault} {s t : Sight} → OpensOnce meaning None s t → (fault ≡ Some Device → ⊥) → OpensOnce meaning fault s t
+once_well {meaning} {t = t} once other = record {
+  opening = once.opening;
+  starts = once.starts;
+  words = once.words;
+  opened = once.opened;
+  calls = once.calls;
+  behind = behind_well (ends_opened meaning) once.opened t once.behind other;
+}
+
+once_by : (meaning : Meaning) (fault : Option Fault) (done : List Done) (s t : Sight) → OpensOnce meaning fault s t → OpensOnceBy meaning fault done s t
+once_by meaning None done s t once = once
+once_by meaning (Some Output) done s t once = once
+once_by meaning fault done s t once = inr once
 
 -- the prefix of the output that was taken
 took_prefix : {text : List ℕ} {k l : SinkSight} {fault : Fault} → StopsIn text k l fault → TookPrefix k l text
@@ -91,25 +113,26 @@ module _ {meaning : Meaning} {f g : FilesSight} {opening : Opening} {done : List
 
   -- the causes, but for those of the opened image and of what follows
   causes_of : {k l : SinkSight} (fault : Option Fault) → HasCause meaning (world_of s f k) (world_of t g l) fault
-      → (makes_image meaning ≡ false → IsTrue s.is_visible → IsTrue f.is_visible → (why : Fault) → RefusesOpening meaning f opening why → (fault ≡ Some why) ⊎ StoppedByOpening fault)
+      → (makes_image meaning ≡ false → IsTrue s.is_visible → (why : Fault) → MustRefuse meaning f opening why → (fault ≡ Some why) ⊎ StoppedByOpening meaning fault)
       → (IsGood meaning (world_of s f k) → (Risen s.faults t.faults → ⊥) → (Risen k.faults l.faults → ⊥) → (fault ≡ None) ⊎ (fault ≡ Some Memory))
-      → Untouched fault s t done → RanUnlessDevice fault s t → SinkStays k l → Causes meaning (world_of s f k) (world_of t g l) done fault
-  causes_of fault cause refused complete untouched ran sink = record {
+      → Untouched meaning fault s t done → RanUnlessDevice fault s t → OpensOnce meaning fault s t → SinkStays k l → Causes meaning (world_of s f k) (world_of t g l) done fault
+  causes_of fault cause refused complete untouched ran once sink = record {
     cause = cause;
     order = record {
       missing = λ visible misses. absurd (read_missing came.files visible misses);
-      bad = λ visible number row field bad. absurd (read_bad came.files number row field visible bad);
+      bad = λ reads visible number row field bad. absurd (read_bad came.files number row field visible bad);
       format = λ why refuses. absurd (came.fits why refuses);
       content = λ opens visible why refuses. absurd (opens_not_refused s opening why visible (came.on opens) refuses);
-      opening = λ opens visible told other starts why refuses.
-          refused opens visible told why (subst (λ (o : Opening). RefusesOpening meaning f o why) (came.only visible other starts) refuses);
+      opening = λ opens visible other starts why refuses.
+          refused opens visible why (subst (λ (o : Opening). MustRefuse meaning f o why) (came.only visible other starts) refuses);
     };
     complete = λ good medium files output. complete good medium output;
     untouched = untouched;
-    spared = λ bad. elim bad [ inl files ↦ absurd (files.1 (read_good came.files)) | inr refuses ↦ absurd (came.fits refuses.0 refuses.1) ];
-    nothing = λ opens visible told other starts why refuses.
-        came.nothing opens told why (subst (λ (o : Opening). RefusesOpening meaning f o why) (came.only visible other starts) refuses);
+    spared = λ bad. elim bad [ inl files ↦ absurd (read_fits came.files files) | inr refuses ↦ absurd (came.fits refuses.0 refuses.1) ];
+    nothing = λ opens visible other starts why refuses.
+        came.nothing opens why (subst (λ (o : Opening). MustRefuse meaning f o why) (came.only visible other starts) refuses);
     ran = ran;
+    once = once_by meaning fault done s t once;
     files = came.files.stays;
     sink = sink;
   }
@@ -117,27 +140,27 @@ module _ {meaning : Meaning} {f g : FilesSight} {opening : Opening} {done : List
 -- an opened image was refused
 ends_behind : {meaning : Meaning} {f g : FilesSight} {opening : Opening} {done : List Done} {last : ℕ} {s t : Sight} {k : SinkSight} (why : Fault) → Came meaning f g opening done last (Some why) s t
     → makes_image meaning ≡ false → RefusesOpening meaning f opening why
-    → HasCause meaning (world_of s f k) (world_of t g k) (Some why) → Printed meaning (world_of s f k) (world_of t g k) done (Some why) → Untouched (Some why) s t done
+    → HasCause meaning (world_of s f k) (world_of t g k) (Some why) → Printed meaning (world_of s f k) (world_of t g k) done (Some why) → Untouched meaning (Some why) s t done
     → Ends meaning (world_of s f k) (world_of t g k) done (Some why)
 ends_behind {meaning} {f} {g} {opening} {done} {s = s} {t = t} {k = k} why came opens refuses cause printed untouched = record {
-  headline = headline_of came (Some why) printed;
+  headline = λ has. headline_of came (Some why) printed;
   causes = causes_of came (Some why) cause
-      (λ _ visible told other also. inl (ap Some (one_refusal meaning f opening why other told refuses also)))
+      (λ _ visible other also. inl (ap Some (one_refusal meaning f opening why other refuses also)))
       (λ good medium output. absurd (let o = (good.opens opens).1 in
       o.2 why (subst (λ (p : Opening). RefusesOpening meaning f p why) (sym (came.only (good.opens opens).0 o.0 o.1)) refuses)))
-      untouched came.ran sink_same;
+      untouched came.ran came.once sink_same;
 }
 
 -- A fault came before the output.
 pub ends_faulted : {meaning : Meaning} {f g : FilesSight} {opening : Opening} {done : List Done} {last : ℕ} {s t : Sight} {k : SinkSight} (fault : Fault) → Came meaning f g opening done last (Some fault) s t
     → Ends meaning (world_of s f k) (world_of t g k) done (Some fault)
 ends_faulted Device came = record {
-  headline = headline_of came (Some Device) refl;
-  causes = causes_of came (Some Device) came.cause (λ opens visible told why refuses. inr tt) (λ good medium output. absurd (medium came.cause)) tt came.ran sink_same;
+  headline = λ has. headline_of came (Some Device) (inl refl);
+  causes = causes_of came (Some Device) came.cause (λ opens visible why refuses. inr tt) (λ good medium output. absurd (medium came.cause)) tt came.ran came.once sink_same;
 }
 ends_faulted Memory came = record {
-  headline = headline_of came (Some Memory) (inl refl);
-  causes = causes_of came (Some Memory) tt (λ opens visible told why refuses. inr tt) (λ good medium output. inr refl) tt came.ran sink_same;
+  headline = λ has. headline_of came (Some Memory) (inl (inl refl));
+  causes = causes_of came (Some Memory) tt (λ opens visible why refuses. inr tt) (λ good medium output. inr refl) tt came.ran came.once sink_same;
 }
 ends_faulted {opening = opening} (ManyFiles a b) came =
     ends_behind (ManyFiles a b) came came.cause.0 came.cause.2 (record { opening = opening; opens = came.cause.0; starts = came.starts; lawful = came.lawful; why = came.cause.2; left = came.cause.3 }) refl came.cause.1
@@ -157,8 +180,9 @@ ends_faulted (Damaged a) came = absurd came.cause.2
 ends_faulted (NotDb a) came = absurd came.cause.2
 ends_faulted Output came = absurd came.cause.2
 
-module _ {meaning : Meaning} {f g : FilesSight} {opening : Opening} {done : List Done} {last : ℕ} {s t : Sight} (came : Came meaning f g opening done last None s t) where
-  all_done : (k l : SinkSight) {Taken : List ℕ → Type 0} → Taken (output_for meaning opening done last) → AllDone meaning (world_of s f k) (world_of t g l) done Taken
+module _ {meaning : Meaning} {f g : FilesSight} {opening : Opening} {done : List Done} {last : ℕ} {s t : Sight} (came : Came meaning f g opening done last None s t) (text : List ℕ)
+    (output : IsOutput meaning opening done last text) where
+  all_done : (k l : SinkSight) {Taken : List ℕ → Type 0} → Taken text → AllDone meaning (world_of s f k) (world_of t g l) done Taken
   all_done k l taken = record {
     opening = opening;
     starts = came.starts;
@@ -170,21 +194,23 @@ module _ {meaning : Meaning} {f g : FilesSight} {opening : Opening} {done : List
     from = came.cause.from;
     reachable = came.cause.reachable;
     end = came.cause.end;
+    text = text;
+    output = output;
     bytes = taken;
   }
 
-  passed : (fault : Option Fault) → makes_image meaning ≡ false → IsTrue s.is_visible → IsTrue f.is_visible → (why : Fault) → RefusesOpening meaning f opening why → (fault ≡ Some why) ⊎ StoppedByOpening fault
-  passed fault opens visible told why refuses = absurd (came.cause.passes opens told why refuses)
+  passed : (fault : Option Fault) → makes_image meaning ≡ false → IsTrue s.is_visible → (why : Fault) → MustRefuse meaning f opening why → (fault ≡ Some why) ⊎ StoppedByOpening meaning fault
+  passed fault opens visible why refuses = absurd (came.cause.passes opens why refuses)
 
   -- all was done and printed
-  ends_whole : {k l : SinkSight} → Took (output_for meaning opening done last) k l → Ends meaning (world_of s f k) (world_of t g l) done None
+  ends_whole : {k l : SinkSight} → Took text k l → Ends meaning (world_of s f k) (world_of t g l) done None
   ends_whole {k} {l} took = record {
-    headline = headline_of came None (all_done k l {Taken = TookAll k l} took.taken);
-    causes = causes_of came None tt (passed None) (λ good medium output. inl refl) tt came.ran (sink_took took);
+    headline = λ has. headline_of came None (all_done k l {Taken = TookAll k l} took.taken);
+    causes = causes_of came None tt (passed None) (λ good medium output. inl refl) tt came.ran came.once (sink_took took);
   }
 
   -- all was done, and a prefix of it printed
-  ends_unprinted : {k l : SinkSight} (fault : Fault) → StopsIn (output_for meaning opening done last) k l fault → Ends meaning (world_of s f k) (world_of t g l) done (Some fault)
+  ends_unprinted : {k l : SinkSight} (fault : Fault) → StopsIn text k l fault → Ends meaning (world_of s f k) (world_of t g l) done (Some fault)
   ends_unprinted {k} {l} fault stops = by_fault stops.only
     where
       P : Fault → Type 0
@@ -195,14 +221,14 @@ module _ {meaning : Meaning} {f g : FilesSight} {opening : Opening} {done : List
 
       at_output : Risen k.faults l.faults → P Output
       at_output risen = record {
-        headline = headline_of came (Some Output) all;
-        causes = causes_of came (Some Output) risen (passed (Some Output)) (λ good medium output. absurd (output risen)) tt (ran_well came.ran (λ e. let no : ⊥ = cc in no)) (sink_took stops.took);
+        headline = λ has. headline_of came (Some Output) all;
+        causes = causes_of came (Some Output) risen (passed (Some Output)) (λ good medium output. absurd (output risen)) tt (ran_well came.ran (λ e. let no : ⊥ = cc in no)) (once_well came.once (λ e. let no : ⊥ = cc in no)) (sink_took stops.took);
       }
 
       at_memory : P Memory
       at_memory = record {
-        headline = headline_of came (Some Memory) (inr all);
-        causes = causes_of came (Some Memory) tt (passed (Some Memory)) (λ good medium output. inr refl) tt (ran_well came.ran (λ e. let no : ⊥ = cc in no)) (sink_took stops.took);
+        headline = λ has. headline_of came (Some Memory) (inr all);
+        causes = causes_of came (Some Memory) tt (passed (Some Memory)) (λ good medium output. inr refl) tt (ran_well came.ran (λ e. let no : ⊥ = cc in no)) (once_well came.once (λ e. let no : ⊥ = cc in no)) (sink_took stops.took);
       }
 
       by_fault : (fault ≡ Output) ⊎ (fault ≡ Memory) → P fault
@@ -212,18 +238,18 @@ module _ {meaning : Meaning} {f g : FilesSight} {opening : Opening} {done : List
   -- all was done, but there was no memory for the text
   ends_untold : {k : SinkSight} → Ends meaning (world_of s f k) (world_of t g k) done (Some Memory)
   ends_untold = record {
-    headline = headline_of came (Some Memory) (inl refl);
-    causes = causes_of came (Some Memory) tt (passed (Some Memory)) (λ good medium output. inr refl) tt (ran_well came.ran (λ e. let no : ⊥ = cc in no)) sink_same;
+    headline = λ has. headline_of came (Some Memory) (inl (inl refl));
+    causes = causes_of came (Some Memory) tt (passed (Some Memory)) (λ good medium output. inr refl) tt (ran_well came.ran (λ e. let no : ⊥ = cc in no)) (once_well came.once (λ e. let no : ⊥ = cc in no)) sink_same;
   }
 
 -- What is printed decides how the command ends.
-pub ends_printed : {meaning : Meaning} {f g : FilesSight} {opening : Opening} {done : List Done} {last : ℕ} {s t : Sight} {k l : SinkSight} (earlier fault : Option Fault)
-    → Came meaning f g opening done last earlier s t → PrintsText (output_for meaning opening done last) earlier fault k l → Ends meaning (world_of s f k) (world_of t g l) done fault
-ends_printed {meaning} {f} {g} {done = done} {s = s} {t = t} {k = k} {l = l} (Some earlier) fault came printed =
+pub ends_printed : {meaning : Meaning} {f g : FilesSight} {opening : Opening} {done : List Done} {last : ℕ} {s t : Sight} {k l : SinkSight} (text : List ℕ) (earlier fault : Option Fault)
+    → Came meaning f g opening done last earlier s t → IsOutput meaning opening done last text → PrintsText text earlier fault k l → Ends meaning (world_of s f k) (world_of t g l) done fault
+ends_printed {meaning} {f} {g} {done = done} {s = s} {t = t} {k = k} {l = l} text (Some earlier) fault came output printed =
     subst (λ (o : Option Fault). Ends meaning (world_of s f k) (world_of t g l) done o) (sym printed.0)
     (subst (λ (x : SinkSight). Ends meaning (world_of s f k) (world_of t g x) done (Some earlier)) (sym printed.1) (ends_faulted earlier came))
-ends_printed None None came printed = ends_whole came printed
-ends_printed None (Some fault) came (inl stops) = ends_unprinted came fault stops
-ends_printed {meaning} {f} {g} {done = done} {s = s} {t = t} {k = k} {l = l} None (Some fault) came (inr printed) =
+ends_printed text None None came output printed = ends_whole came text output printed
+ends_printed text None (Some fault) came output (inl stops) = ends_unprinted came text output fault stops
+ends_printed {meaning} {f} {g} {done = done} {s = s} {t = t} {k = k} {l = l} text None (Some fault) came output (inr printed) =
     subst (λ (x : Fault). Ends meaning (world_of s f k) (world_of t g l) done (Some x)) (sym printed.0)
-    (subst (λ (x : SinkSight). Ends meaning (world_of s f k) (world_of t g x) done (Some Memory)) (sym printed.1) (ends_untold came))
+    (subst (λ (x : SinkSight). Ends meaning (world_of s f k) (world_of t g x) done (Some Memory)) (sym printed.1) (ends_untold came text output))

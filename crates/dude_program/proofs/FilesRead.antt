@@ -1,18 +1,22 @@
 -- What is known of files that were read.
-use Rattle.std.proofs.Common.{◌≡◌, ℕ, ◌+◌, ◌<◌, IsTrue, List, [], ◌∷◌, length, get_or, sym, ap, ◌∙◌, subst, arith, Option, Some, Result, Ok, Err}
-use Rattle.std.specs.List.{All, AllZip}
+use Rattle.std.proofs.Common.{◌≡◌, ℕ, ◌+◌, ◌<◌, ◌≤◌, Bool, true, false, IsTrue, List, [], ◌∷◌, length, map, get_or, inl, inr, refl, sym, ap, ◌∙◌, subst, arith, Option, Some, Result, Ok, Err}
+use Rattle.std.specs.Prelude.{if◌then◌else◌, nat_lt}
+use Rattle.std.specs.List.{All, AllZip, list_all}
+use Rattle.std.proofs.lemmas.Bool.Decides.{nat_tests}
 use Rattle.std.proofs.lemmas.List.{length-append, get_or_append_left}
-use Rattle.std.proofs.lemmas.List.Elements.{All-nil, All-cons}
+use Rattle.std.proofs.lemmas.List.Elements.{All-nil, All-cons, All-map}
 use Rattle.std.proofs.Math.Seq.{get_or-append_seam}
 use Rattle.tatp_model.specs.declared.request.Request.{Request}
 use Rattle.tatp_csv.specs.RequestFile.{requests_of}
 use Rattle.dude_io.specs.Files.{FilesSight, FilesStay}
 use Rattle.dude_io.proofs.ReadLaws.{files_stay}
 use Rattle.command_edges.specs.Files.{IsBadAt, IsFirst, IsFirstBad, IsGoodFile, MissesFile, OfFile}
-use Rattle.command_words.specs.Command.{Meaning}
+use Rattle.command_words.specs.Command.{Meaning, Meaning.FreshRun, Meaning.FormatImage, Meaning.RunFiles, Meaning.RecoverImage, Meaning.DumpTables, Meaning.DriveLoad}
 use Rattle.command_edges.specs.declared.fault.Fault.{Fault}
 use Rattle.command_edges.specs.declared.fault.Fault.TheVariants.{Text}
-use Rattle.dude_program.specs.Opening.{file_names}
+use Rattle.dude_program.specs.CommandFile.{IsInLimit, is_requests, request_file, request_files}
+use Rattle.dude_program.specs.Opening.{command_files, file_names, reads_requests}
+use Rattle.dude_program.specs.Causes.{FilesRefuse}
 
 -- The files of the command were read, and hold these lists of requests.
 pub record FilesRead (meaning : Meaning) (f g : FilesSight) : Type 0 where
@@ -83,6 +87,53 @@ one_bad f names n m r s c d visible a b =
             let fields : c ≡ d = ap field_of bad in
             cc
 
+-- ---- files of requests
+
+-- their names
+pub names_same : (names : List (List ℕ)) → map (λ file. file.name) (request_files names) ≡ names
+names_same [] = refl
+names_same (name ∷ names) = ap (λ (rest : List (List ℕ)). name ∷ rest) (names_same names)
+
+all_hold : (names : List (List ℕ)) → IsTrue (list_all (λ file. is_requests file.kind) (request_files names))
+all_hold [] = refl
+all_hold (name ∷ names) = all_hold names
+
+-- each command of today reads requests alone
+pub all_read : (meaning : Meaning) → IsTrue (reads_requests meaning)
+all_read (FreshRun subscribers file) = refl
+all_read (FormatImage s c n k) = refl
+all_read (RunFiles frames locks files) = all_hold files
+all_read RecoverImage = refl
+all_read DumpTables = refl
+all_read (DriveLoad seed count number) = refl
+
+-- a text that isn't refused isn't too long
+not_long : {X E : Type 0} (b : Bool) (n : ℕ) (e : E) (rest : Result X E) (x : X) → nat_lt 16777216 n ≡ b → (if b then Err e else rest) ≡ Ok x → n ≤ 16777216
+not_long true n e rest x is h = cc h
+not_long false n e rest x is h = in_limit n is
+  where
+    in_limit : (n : ℕ) → nat_lt 16777216 n ≡ false → n ≤ 16777216
+    in_limit n h = grind (arith, nat_tests)
+
+some_one : (x y : List ℕ) → ◌≡◌ {A = Option (List ℕ)} (Some x) (Some y) → x ≡ y
+some_one x y same = cc
+
+good_in_limit : (f : FilesSight) (name : List ℕ) → IsGoodFile f name → IsInLimit f (request_file name)
+good_in_limit f name good visible text is =
+    let same : good.1.0 ≡ text = some_one good.1.0 text (sym (good.1.2 visible) ∙ is) in
+    subst (λ (t : List ℕ). length t ≤ 16777216) same (not_long (nat_lt 16777216 (length good.1.0)) (length good.1.0) (0, 0) _ good.0 refl good.1.1)
+
+all_in_limit : (f : FilesSight) (names : List (List ℕ)) → All (IsGoodFile f) names → All (IsInLimit f) (request_files names)
+all_in_limit f names good = All-map (IsInLimit f) request_file names (λ k d below. good_in_limit f (get_or names k d) (good k d below))
+
+files_in_limit : (meaning : Meaning) (f : FilesSight) → All (IsGoodFile f) (file_names meaning) → All (IsInLimit f) (command_files meaning)
+files_in_limit (FreshRun subscribers file) f good = all_in_limit f (file ∷ []) good
+files_in_limit (FormatImage s c n k) f good = All-nil (IsInLimit f)
+files_in_limit (RunFiles frames locks files) f good = all_in_limit f files (subst (All (IsGoodFile f)) (names_same files) good)
+files_in_limit RecoverImage f good = All-nil (IsInLimit f)
+files_in_limit DumpTables f good = All-nil (IsInLimit f)
+files_in_limit (DriveLoad seed count number) f good = All-nil (IsInLimit f)
+
 module _ {meaning : Meaning} {f g : FilesSight} (files : FilesRead meaning f g) where
   pub read_good : All (IsGoodFile f) (file_names meaning)
   read_good = all_good f (file_names meaning) files.lists files.read
@@ -94,6 +145,17 @@ module _ {meaning : Meaning} {f g : FilesSight} (files : FilesRead meaning f g) 
 
   pub read_bad : (number row field : ℕ) → IsTrue f.is_visible → IsFirstBad (file_names meaning) f number row field → ⊥
   read_bad number row field visible first = good_none_bad f (file_names meaning) number row field visible read_good first
+
+  pub read_fits : FilesRefuse meaning f → ⊥
+  read_fits refuse = elim refuse.why [ inl bad ↦ bad read_good | inr long ↦ long (files_in_limit meaning f read_good) ]
+
+-- the request files of `run`
+pub run_files : (frames locks : Option ℕ) (names : List (List ℕ)) {f g : FilesSight} (lists : List (List Request)) → AllZip (OfFile f) names lists → FilesStay f g → FilesRead (RunFiles frames locks names) f g
+run_files frames locks names {f} lists read stays = record {
+  lists = lists;
+  read = subst (λ (names : List (List ℕ)). AllZip (OfFile f) names lists) (sym (names_same names)) read;
+  stays = stays;
+}
 
 -- a command without files
 pub no_files : (meaning : Meaning) (f : FilesSight) → file_names meaning ≡ [] → FilesRead meaning f f

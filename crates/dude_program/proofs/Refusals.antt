@@ -10,7 +10,7 @@ use Rattle.dude_engine.specs.Requests.{request_count}
 use Rattle.command_edges.specs.declared.fault.Fault.{Fault}
 use Rattle.command_edges.specs.declared.fault.Fault.TheVariants.{Usage, File, Text, Small, TooFew, Unformatted, Damaged, NotDb, ManyFiles, Frames, FewSubscribers, Numbers, Device, Output, Memory}
 use Rattle.dude_program.specs.Opening.{RequestsAre}
-use Rattle.dude_program.specs.Causes.{RefusesOpening, WantsFrames, WantsNumbers, WantsSubscribers, files_run}
+use Rattle.dude_program.specs.Causes.{KnowsCause, KnowsRequests, MustRefuse, RefusesOpening, WantsFrames, WantsNumbers, WantsSubscribers, files_run}
 
 -- where files tell, they hold one list of requests each
 one_of_file : (f : FilesSight) (name : List ℕ) (a b : List Request) → IsTrue f.is_visible → OfFile f name a → OfFile f name b → a ≡ b
@@ -32,14 +32,14 @@ one_of_files f (name ∷ names) (x ∷ a) (y ∷ b) visible one other =
 one_of_files f (name ∷ names) [] b visible one other = absurd one
 one_of_files f (name ∷ names) (x ∷ a) [] visible one other = absurd other
 
--- the command runs one list of lists of requests
-pub one_requests : (meaning : Meaning) (f : FilesSight) (opening : Opening) (a b : List (List Request)) → IsTrue f.is_visible → RequestsAre meaning f opening a → RequestsAre meaning f opening b → a ≡ b
+-- the command runs one list of lists of requests, where they are known
+pub one_requests : (meaning : Meaning) (f : FilesSight) (opening : Opening) (a b : List (List Request)) → KnowsRequests meaning f → RequestsAre meaning f opening a → RequestsAre meaning f opening b → a ≡ b
 one_requests (FreshRun subscribers file) f opening a b visible one other = one_of_files f (file ∷ []) a b visible one other
-one_requests (FormatImage s c n k) f opening a b visible one other = one_of_none f a b one other
+one_requests (FormatImage s c n k) f opening a b known one other = one ∙ sym other
 one_requests (RunFiles frames locks files) f opening a b visible one other = one_of_files f files a b visible one other
-one_requests RecoverImage f opening a b visible one other = one_of_none f a b one other
-one_requests DumpTables f opening a b visible one other = one_of_none f a b one other
-one_requests (DriveLoad seed count files) f opening a b visible one other = one ∙ sym other
+one_requests RecoverImage f opening a b known one other = one ∙ sym other
+one_requests DumpTables f opening a b known one other = one ∙ sym other
+one_requests (DriveLoad seed count files) f opening a b known one other = one ∙ sym other
 
 -- the frames that are wanted are those that the words name
 one_frames : (meaning : Meaning) (v w pages : ℕ) → WantsFrames meaning v pages → WantsFrames meaning w pages → v ≡ w
@@ -96,18 +96,18 @@ which meaning f opening Memory r = absurd r
 
 -- an opened image isn't refused where nothing refuses it
 pub passes_if : (meaning : Meaning) (f : FilesSight) (opening : Opening) → files_run meaning ≤ opening.sizes.rings → ((wanted : ℕ) → ¬ WantsFrames meaning wanted opening.sizes.pages)
-    → ((wanted : ℕ) → ¬ WantsSubscribers meaning opening.sizes.subscribers wanted) → ((count : ℕ) → ¬ WantsNumbers meaning f opening count)
-    → (why : Fault) → RefusesOpening meaning f opening why → ⊥
-passes_if meaning f opening rings no_frames no_few no_numbers why refuses = by (which meaning f opening why refuses)
+    → ((wanted : ℕ) → ¬ WantsSubscribers meaning opening.sizes.subscribers wanted) → (KnowsRequests meaning f → (count : ℕ) → ¬ WantsNumbers meaning f opening count)
+    → (why : Fault) → MustRefuse meaning f opening why → ⊥
+passes_if meaning f opening rings no_frames no_few no_numbers why refuses = by (which meaning f opening why refuses.0)
   where
     by : Which meaning f opening why → ⊥
     by (many e x) = omega (arith, x, rings)
     by (frames w e x wants) = no_frames w wants
     by (few w e x wants) = no_few w wants
-    by (numbers count e x y z wants) = no_numbers count wants
+    by (numbers count e x y z wants) = no_numbers (subst (KnowsCause meaning f) e refuses.1) count wants
 
-pub one_refusal : (meaning : Meaning) (f : FilesSight) (opening : Opening) (a b : Fault) → IsTrue f.is_visible → RefusesOpening meaning f opening a → RefusesOpening meaning f opening b → a ≡ b
-one_refusal meaning f opening a b visible one other = by (which meaning f opening a one) (which meaning f opening b other)
+pub one_refusal : (meaning : Meaning) (f : FilesSight) (opening : Opening) (a b : Fault) → RefusesOpening meaning f opening a → MustRefuse meaning f opening b → a ≡ b
+one_refusal meaning f opening a b one other = by (which meaning f opening a one) (which meaning f opening b other.0)
   where
     by : Which meaning f opening a → Which meaning f opening b → a ≡ b
     by (many e x) (many g y) = e ∙ sym g
@@ -126,5 +126,5 @@ one_refusal meaning f opening a b visible one other = by (which meaning f openin
     by (numbers u e x none z m) (frames v g y w) = absurd (none v w)
     by (numbers u e x z none m) (few v g y w) = absurd (none v w)
     by (numbers u e x w z m) (numbers v g y p q n) =
-        let same = one_requests meaning f opening m.1.0 n.1.0 visible m.1.1 n.1.1 in
+        let same = one_requests meaning f opening m.1.0 n.1.0 (subst (KnowsCause meaning f) g other.1) m.1.1 n.1.1 in
         e ∙ (ap (Numbers opening.number) (m.1.2 ∙ (ap request_count same ∙ sym n.1.2)) ∙ sym g)

@@ -1,6 +1,5 @@
 -- How a command ends that stops before its image is opened.
-use Rattle.std.proofs.Common.{◌≡◌, ◌⊎◌, Bool, true, false, IsTrue, List, [], length, map, refl, sym, ap, subst, inl, inr, Option, Some, None}
-use Rattle.std.specs.List.{All}
+use Rattle.std.proofs.Common.{◌≡◌, ◌⊎◌, ℕ, Bool, true, false, IsTrue, List, [], length, map, refl, sym, ap, subst, inl, inr, Option, Some, None}
 use Rattle.std.proofs.Math.Seq.{drop-length}
 use Rattle.dude_base.specs.declared.sizes.Sizes.{Sizes}
 use Rattle.pmem_trait.specs.declared.call.Call.TheVariants.{Read}
@@ -13,6 +12,8 @@ use Rattle.pmem_trait.proofs.ReadRuns.{reads_here}
 use Rattle.tatp_model.specs.declared.done.Done.{Done}
 use Rattle.dude_io.specs.Files.{FilesSight, FilesStay}
 use Rattle.dude_io.specs.Sink.{SinkSight}
+use Rattle.image_format.specs.Causes.{FormatsSome}
+use Rattle.image_format.specs.FormatCalls.{format_calls}
 use Rattle.image_opening.specs.Answers.{StillRecovers}
 use Rattle.image_opening.proofs.SettledReads.{content_kept}
 use Rattle.command_words.specs.Command.{Meaning, Meaning.FreshRun, Meaning.FormatImage, Meaning.RunFiles, Meaning.RecoverImage, Meaning.DumpTables, Meaning.DriveLoad}
@@ -28,9 +29,9 @@ use Rattle.command_openings.proofs.ImageOpened.{partly_opened}
 use Rattle.dude_program.specs.World.{world_of}
 use Rattle.dude_program.specs.Opening.{Starts, file_names, makes_image}
 use Rattle.dude_program.specs.Headline.{Headline, Printed}
-use Rattle.dude_program.specs.Causes.{HasCause, RanUnlessDevice, RefusesContent, RefusesFormat, RefusesInOrder, StoppedAtFiles, StoppedByOpening, StoppedReading, Untouched, sizes_made}
+use Rattle.dude_program.specs.Causes.{FilesRefuse, HasCause, OpensOnceBy, RanUnlessDevice, RefusesContent, RefusesFormat, RefusesInOrder, StoppedAtFiles, StoppedByOpening, StoppedReading, Untouched, sizes_made}
 use Rattle.dude_program.specs.Ending.{Ends}
-use Rattle.dude_program.proofs.FilesRead.{FilesRead, good_none_bad, one_bad, read_bad, read_good, read_missing}
+use Rattle.dude_program.proofs.FilesRead.{FilesRead, all_read, good_none_bad, one_bad, read_bad, read_fits, read_missing}
 use Rattle.dude_program.proofs.Contents.{fits_not_refused, makes_none, one_content_fault, one_format_fault, opens_not_refused}
 use Rattle.dude_program.proofs.Crashes.{crash_prefix, sync_none}
 use Rattle.dude_program.proofs.Endings.{sink_same}
@@ -47,6 +48,11 @@ calls_none {fault} s t same other = subst (λ (u : Sight). RanUnlessDevice fault
 
 reads_ran : {fault : Option Fault} {s t : Sight} → OnlyReads true s t → (fault ≡ Some Device → ⊥) → RanUnlessDevice fault s t
 reads_ran reads other = calls_well (map Read reads.words, reads.made) other
+
+-- the image was made, or no call was made
+made_or_none : (sizes : Sizes) (s t : Sight) → (t ≡ s) ⊎ FormatsSome sizes true s t → RanUnlessDevice (Some Memory) s t
+made_or_none sizes s t (inl same) = calls_none s t same (λ e. let no : ⊥ = cc in no)
+made_or_none sizes s t (inr made) = calls_well (format_calls sizes made.0, made.2) (λ e. let no : ⊥ = cc in no)
 
 -- the headline where nothing is done
 headline_none : (meaning : Meaning) {s t : Sight} {f g : FilesSight} {k : SinkSight} (fault : Fault) → ((opening : Opening) → Starts meaning s opening → OpensPartly (makes_image meaning) opening s t)
@@ -65,78 +71,88 @@ headline_none meaning {s} {t} fault prefix printed reads = record {
 -- on a medium at rest
 module _ (meaning : Meaning) {s : Sight} {f g : FilesSight} {k : SinkSight} (prefix : (opening : Opening) → Starts meaning s opening → OpensPartly (makes_image meaning) opening s s) (stays : FilesStay f g) where
   -- reading stopped for this fault
-  order_unread : (fault : Fault) → StoppedReading (Some fault) → StoppedAtFiles (Some fault) → StoppedByOpening (Some fault)
+  order_unread : (fault : Fault) → StoppedReading (Some fault) → StoppedAtFiles meaning (Some fault) → StoppedByOpening meaning (Some fault)
       → RefusesInOrder meaning (world_of s f k) (Some fault)
   order_unread fault unread at_files by_opening = record {
     missing = λ visible misses. unread;
-    bad = λ visible number row field bad. inr unread;
+    bad = λ reads visible number row field bad. inr unread;
     format = λ why refuses. inr at_files;
     content = λ opens visible why refuses. inr by_opening;
-    opening = λ opens visible told opening starts why refuses. inr by_opening;
+    opening = λ opens visible opening starts why refuses. inr by_opening;
   }
 
-  pub ends_at_files : (fault : Fault) → HasFileFault (file_names meaning) f g fault → (IsTrue f.is_visible → MissesFile (file_names meaning) f → read.StoppedReading fault)
+  ends_unread : (fault : Fault) → HasFileFault (file_names meaning) f g fault → (IsTrue f.is_visible → MissesFile (file_names meaning) f → read.StoppedReading fault)
       → Ends meaning (world_of s f k) (world_of s g k) [] (Some fault)
-  ends_at_files (File n) has missing = record {
-    headline = headline_none meaning (File n) prefix refl (λ none. (true, reads_here s));
+  ends_unread (File n) has missing = record {
+    headline = λ has. headline_none meaning (File n) prefix refl (λ none. (true, reads_here s));
     causes = record {
       cause = has;
       order = order_unread (File n) tt tt tt;
       complete = λ good medium files output. absurd (files has.1);
       untouched = (refl, refl);
       spared = λ bad. (refl, refl);
-      nothing = λ opens visible told opening starts why refuses. refl;
+      nothing = λ opens visible opening starts why refuses. refl;
       ran = calls_none s s refl (λ e. let no : ⊥ = cc in no);
+      once = inl refl;
       files = stays;
       sink = sink_same;
     };
   }
-  ends_at_files (Text n r c) has missing = record {
-    headline = headline_none meaning (Text n r c) prefix refl (λ none. (true, reads_here s));
+  ends_unread (Text n r c) has missing = record {
+    headline = λ has. headline_none meaning (Text n r c) prefix refl (λ none. (true, reads_here s));
     causes = record {
-      cause = has.0;
+      cause = λ reads. has.0;
       order = record {
         missing = λ visible misses. absurd (missing visible misses);
-        bad = λ visible number row field bad. inl (one_bad f (file_names meaning) n number r row c field visible has.0 bad);
-        format = λ why refuses. inr tt;
-        content = λ opens visible why refuses. inr tt;
-        opening = λ opens visible told opening starts why refuses. inr tt;
+        bad = λ reads visible number row field bad. inl (one_bad f (file_names meaning) n number r row c field visible has.0 bad);
+        format = λ why refuses. inr (all_read meaning);
+        content = λ opens visible why refuses. inr (all_read meaning);
+        opening = λ opens visible opening starts why refuses. inr (all_read meaning);
       };
       complete = λ good medium files output. absurd (good_none_bad f (file_names meaning) n r c good.files good.good has.0);
-      untouched = (refl, refl);
+      untouched = ((λ reads. refl), refl);
       spared = λ bad. (refl, refl);
-      nothing = λ opens visible told opening starts why refuses. refl;
+      nothing = λ opens visible opening starts why refuses. refl;
       ran = calls_none s s refl (λ e. let no : ⊥ = cc in no);
+      once = inl refl;
       files = stays;
       sink = sink_same;
     };
   }
-  ends_at_files Memory has missing = record {
-    headline = headline_none meaning Memory prefix (inl refl) (λ none. (true, reads_here s));
+  ends_unread Memory has missing = record {
+    headline = λ has. headline_none meaning Memory prefix (inl (inl refl)) (λ none. (true, reads_here s));
     causes = record {
       cause = tt;
       order = order_unread Memory tt tt tt;
       complete = λ good medium files output. inr refl;
       untouched = tt;
       spared = λ bad. (refl, refl);
-      nothing = λ opens visible told opening starts why refuses. refl;
+      nothing = λ opens visible opening starts why refuses. refl;
       ran = calls_none s s refl (λ e. let no : ⊥ = cc in no);
+      once = inl refl;
       files = stays;
       sink = sink_same;
     };
   }
-  ends_at_files Usage has missing = absurd has
-  ends_at_files (Small a b) has missing = absurd has
-  ends_at_files (TooFew a b) has missing = absurd has
-  ends_at_files Unformatted has missing = absurd has
-  ends_at_files (Damaged a) has missing = absurd has
-  ends_at_files (NotDb a) has missing = absurd has
-  ends_at_files (ManyFiles a b) has missing = absurd has
-  ends_at_files (Frames a b) has missing = absurd has
-  ends_at_files (FewSubscribers a b) has missing = absurd has
-  ends_at_files (Numbers a b) has missing = absurd has
-  ends_at_files Device has missing = absurd has
-  ends_at_files Output has missing = absurd has
+  ends_unread Usage has missing = absurd has
+  ends_unread (Small a b) has missing = absurd has
+  ends_unread (TooFew a b) has missing = absurd has
+  ends_unread Unformatted has missing = absurd has
+  ends_unread (Damaged a) has missing = absurd has
+  ends_unread (NotDb a) has missing = absurd has
+  ends_unread (ManyFiles a b) has missing = absurd has
+  ends_unread (Frames a b) has missing = absurd has
+  ends_unread (FewSubscribers a b) has missing = absurd has
+  ends_unread (Numbers a b) has missing = absurd has
+  ends_unread Device has missing = absurd has
+  ends_unread Output has missing = absurd has
+
+  -- by the names of the command's files
+  pub ends_at_files : (fault : Fault) (names : List (List ℕ)) → file_names meaning ≡ names → HasFileFault names f g fault → (IsTrue f.is_visible → MissesFile names f → read.StoppedReading fault)
+      → Ends meaning (world_of s f k) (world_of s g k) [] (Some fault)
+  ends_at_files fault names is has missing =
+      ends_unread fault (subst (λ (names : List (List ℕ)). HasFileFault names f g fault) (sym is) has)
+      (λ visible misses. missing visible (subst (λ (names : List (List ℕ)). MissesFile names f) is misses))
 
 -- a medium that wasn't called
 prefix_new : (opening : Opening) (s : Sight) → OpensPartly true opening s s
@@ -160,7 +176,7 @@ prefix_at_rest (DriveLoad seed count files) s settled opening starts = prefix_ol
 -- there was no memory for the words
 pub ends_at_words : (meaning : Meaning) (s : Sight) (f : FilesSight) (k : SinkSight) → (IsTrue s.is_visible → IsSettled s.len (state_now s)) → FilesStay f f
     → Ends meaning (world_of s f k) (world_of s f k) [] (Some Memory)
-ends_at_words meaning s f k settled stays = ends_at_files meaning (prefix_at_rest meaning s settled) stays Memory tt (λ visible misses. tt)
+ends_at_words meaning s f k settled stays = ends_at_files meaning (prefix_at_rest meaning s settled) stays Memory (file_names meaning) refl tt (λ visible misses. tt)
 
 -- ---- where an image is made
 
@@ -180,28 +196,29 @@ module _ {meaning : Meaning} {sizes : Sizes} {s t : Sight} {f g : FilesSight} (m
   prefix_each opening starts =
       subst (λ (b : Bool). OpensPartly b opening s t) (sym maker.makes) (subst (λ (o : Opening). OpensPartly true o s t) (sym (maker.only opening starts)) prefix)
 
-  order_made : {k : SinkSight} (fault : Fault) → ((why : Fault) → RefusesFormat meaning s.len why → (◌≡◌ {A = Option Fault} (Some fault) (Some why)) ⊎ StoppedAtFiles (Some fault)) → RefusesInOrder meaning (world_of s f k) (Some fault)
+  order_made : {k : SinkSight} (fault : Fault) → ((why : Fault) → RefusesFormat meaning s.len why → (◌≡◌ {A = Option Fault} (Some fault) (Some why)) ⊎ StoppedAtFiles meaning (Some fault)) → RefusesInOrder meaning (world_of s f k) (Some fault)
   order_made fault format = record {
     missing = λ visible misses. absurd (read_missing files visible misses);
-    bad = λ visible number row field bad. absurd (read_bad files number row field visible bad);
+    bad = λ reads visible number row field bad. absurd (read_bad files number row field visible bad);
     format = format;
     content = λ opens visible why refuses. absurd (makes_both (makes_image meaning) maker.makes opens);
-    opening = λ opens visible told opening starts why refuses. absurd (makes_both (makes_image meaning) maker.makes opens);
+    opening = λ opens visible opening starts why refuses. absurd (makes_both (makes_image meaning) maker.makes opens);
   }
 
   -- the medium's length was refused
   ends_refused : {k : SinkSight} (why : Fault) → t ≡ s → (why_not : RefusesFormat meaning s.len why) → HasCause meaning (world_of s f k) (world_of t g k) (Some why) → Printed meaning (world_of s f k) (world_of t g k) [] (Some why)
-      → Untouched (Some why) s t [] → (◌≡◌ {A = Option Fault} (Some why) (Some Device) → ⊥) → Ends meaning (world_of s f k) (world_of t g k) [] (Some why)
-  ends_refused why same refuses cause printed untouched other = record {
-    headline = headline_none meaning why prefix_each printed (λ none. absurd (none (new_opening sizes) maker.starts));
+      → Untouched meaning (Some why) s t [] → OpensOnceBy meaning (Some why) [] s t → (◌≡◌ {A = Option Fault} (Some why) (Some Device) → ⊥) → Ends meaning (world_of s f k) (world_of t g k) [] (Some why)
+  ends_refused why same refuses cause printed untouched once other = record {
+    headline = λ has. headline_none meaning why prefix_each printed (λ none. absurd (none (new_opening sizes) maker.starts));
     causes = record {
       cause = cause;
       order = order_made why (λ also r. inl (ap Some (one_format_fault meaning sizes s.len why also maker.sized refuses r)));
       complete = λ good medium read output. absurd (good.fits why refuses);
       untouched = untouched;
       spared = λ bad. (same, refl);
-      nothing = λ opens visible told opening starts why refuses. refl;
+      nothing = λ opens visible opening starts why refuses. refl;
       ran = calls_none s t same other;
+      once = once;
       files = files.stays;
       sink = sink_same;
     };
@@ -209,33 +226,35 @@ module _ {meaning : Meaning} {sizes : Sizes} {s t : Sight} {f g : FilesSight} (m
 
   pub ends_at_format : {k : SinkSight} (fault : Fault) → HasFormatFault sizes s t fault → Ends meaning (world_of s f k) (world_of t g k) [] (Some fault)
   ends_at_format (Small a b) has =
-      ends_refused (Small a b) has.0 (sizes, maker.sized, has.1, has.2, has.3) (sizes, maker.sized, has.1, has.2, has.3) refl (has.0, refl) (λ e. let no : ⊥ = cc in no)
+      ends_refused (Small a b) has.0 (sizes, maker.sized, has.1, has.2, has.3) (sizes, maker.sized, has.1, has.2, has.3) refl (has.0, refl) (inl refl) (λ e. let no : ⊥ = cc in no)
   ends_at_format (TooFew a b) has =
-      ends_refused (TooFew a b) has.0 (sizes, maker.sized, has.1, has.2, has.3, has.4) (sizes, maker.sized, has.1, has.2, has.3, has.4) refl (has.0, refl) (λ e. let no : ⊥ = cc in no)
+      ends_refused (TooFew a b) has.0 (sizes, maker.sized, has.1, has.2, has.3, has.4) (sizes, maker.sized, has.1, has.2, has.3, has.4) refl (has.0, refl) (inl refl) (λ e. let no : ⊥ = cc in no)
   ends_at_format Device has = record {
-    headline = headline_none meaning Device prefix_each refl (λ none. absurd (none (new_opening sizes) maker.starts));
+    headline = λ has. headline_none meaning Device prefix_each (inl refl) (λ none. absurd (none (new_opening sizes) maker.starts));
     causes = record {
       cause = has.1;
       order = order_made Device (λ why r. absurd (fits_not_refused meaning sizes s.len why maker.sized has.0 r));
       complete = λ good medium read output. absurd (medium has.1);
       untouched = tt;
-      spared = λ bad. absurd (elim bad [ inl unread ↦ unread.1 (read_good files) | inr refuses ↦ fits_not_refused meaning sizes s.len refuses.0 maker.sized has.0 refuses.1 ]);
-      nothing = λ opens visible told opening starts why refuses. refl;
-      ran = calls_failed has.2;
+      spared = λ bad. absurd (elim bad [ inl unread ↦ read_fits files unread | inr refuses ↦ fits_not_refused meaning sizes s.len refuses.0 maker.sized has.0 refuses.1 ]);
+      nothing = λ opens visible opening starts why refuses. refl;
+      ran = calls_failed (format_calls sizes has.2.0, has.2.2);
+      once = inl refl;
       files = files.stays;
       sink = sink_same;
     };
   }
   ends_at_format Memory has = record {
-    headline = headline_none meaning Memory prefix_each (inl refl) (λ none. absurd (none (new_opening sizes) maker.starts));
+    headline = λ has. headline_none meaning Memory prefix_each (inl (inl refl)) (λ none. absurd (none (new_opening sizes) maker.starts));
     causes = record {
       cause = tt;
       order = order_made Memory (λ why r. inr tt);
       complete = λ good medium read output. inr refl;
       untouched = tt;
-      spared = λ bad. absurd (elim bad [ inl unread ↦ unread.1 (read_good files) | inr refuses ↦ fits_not_refused meaning sizes s.len refuses.0 maker.sized has.0 refuses.1 ]);
-      nothing = λ opens visible told opening starts why refuses. refl;
-      ran = calls_well has.1 (λ e. let no : ⊥ = cc in no);
+      spared = λ bad. absurd (elim bad [ inl unread ↦ read_fits files unread | inr refuses ↦ fits_not_refused meaning sizes s.len refuses.0 maker.sized has.0 refuses.1 ]);
+      nothing = λ opens visible opening starts why refuses. refl;
+      ran = made_or_none sizes s t has.1;
+      once = inl refl;
       files = files.stays;
       sink = sink_same;
     };
@@ -270,71 +289,74 @@ module _ {meaning : Meaning} {s t : Sight} {f g : FilesSight} (opener : IsOpener
   reads_only : ((opening : Opening) → Starts meaning s opening → ⊥) → (ok : Bool) × OnlyReads ok s t
   reads_only none = reads (λ opening on. none opening (opener.starts opening on))
 
-  spares : ((IsTrue f.is_visible × (All (read.IsGoodFile f) (file_names meaning) → ⊥)) ⊎ ((why : Fault) × RefusesFormat meaning s.len why)) → (t ≡ s) × (◌≡◌ {A = List Done} [] [])
-  spares bad = absurd (elim bad [ inl unread ↦ unread.1 (read_good files) | inr refuses ↦ makes_none meaning s.len refuses.0 opener.sized refuses.1 ])
+  spares : (FilesRefuse meaning f ⊎ ((why : Fault) × RefusesFormat meaning s.len why)) → (t ≡ s) × (◌≡◌ {A = List Done} [] [])
+  spares bad = absurd (elim bad [ inl unread ↦ read_fits files unread | inr refuses ↦ makes_none meaning s.len refuses.0 opener.sized refuses.1 ])
 
   -- its content was refused
   ends_unopened : {k : SinkSight} (why : Fault) → ContentHas (λ content. RefusesContent content why) s → OnlyReads true s t → HasCause meaning (world_of s f k) (world_of t g k) (Some why)
-      → Printed meaning (world_of s f k) (world_of t g k) [] (Some why) → Untouched (Some why) s t [] → (◌≡◌ {A = Option Fault} (Some why) (Some Device) → ⊥)
+      → Printed meaning (world_of s f k) (world_of t g k) [] (Some why) → Untouched meaning (Some why) s t [] → OpensOnceBy meaning (Some why) [] s t → (◌≡◌ {A = Option Fault} (Some why) (Some Device) → ⊥)
       → Ends meaning (world_of s f k) (world_of t g k) [] (Some why)
-  ends_unopened why refuses read cause printed untouched other = record {
-    headline = headline_none meaning why prefix_opened printed reads_only;
+  ends_unopened why refuses read cause printed untouched once other = record {
+    headline = λ has. headline_none meaning why prefix_opened printed reads_only;
     causes = record {
       cause = cause;
       order = record {
         missing = λ visible misses. absurd (read_missing files visible misses);
-        bad = λ visible number row field bad. absurd (read_bad files number row field visible bad);
+        bad = λ reads visible number row field bad. absurd (read_bad files number row field visible bad);
         format = λ also r. absurd (makes_none meaning s.len also opener.sized r);
         content = λ opens visible also r. inl (one_content_fault s why also visible refuses r);
-        opening = λ opens visible told opening starts also r. absurd (opens_not_refused s opening why visible (opener.on opening starts) refuses);
+        opening = λ opens visible opening starts also r. absurd (opens_not_refused s opening why visible (opener.on opening starts) refuses);
       };
       complete = λ good medium unread output. absurd (let o = (good.opens opener.opens).1 in opens_not_refused s o.0 why (good.opens opener.opens).0 (opener.on o.0 o.1) refuses);
       untouched = untouched;
       spared = spares;
-      nothing = λ opens visible told opening starts why refuses. refl;
+      nothing = λ opens visible opening starts why refuses. refl;
       ran = reads_ran read other;
+      once = once;
       files = files.stays;
       sink = sink_same;
     };
   }
 
-  order_stopped : {k : SinkSight} (fault : Fault) → StoppedByOpening (Some fault) → RefusesInOrder meaning (world_of s f k) (Some fault)
+  order_stopped : {k : SinkSight} (fault : Fault) → StoppedByOpening meaning (Some fault) → RefusesInOrder meaning (world_of s f k) (Some fault)
   order_stopped fault stopped = record {
     missing = λ visible misses. absurd (read_missing files visible misses);
-    bad = λ visible number row field bad. absurd (read_bad files number row field visible bad);
+    bad = λ reads visible number row field bad. absurd (read_bad files number row field visible bad);
     format = λ also r. absurd (makes_none meaning s.len also opener.sized r);
     content = λ opens visible also r. inr stopped;
-    opening = λ opens visible told opening starts also r. inr stopped;
+    opening = λ opens visible opening starts also r. inr stopped;
   }
 
   pub ends_at_open : {k : SinkSight} (fault : Fault) → HasOpenFault s t fault → Ends meaning (world_of s f k) (world_of t g k) [] (Some fault)
-  ends_at_open Unformatted has = ends_unopened Unformatted has.0 has.1 (opener.opens, has.0) refl (has.1, refl) (λ e. let no : ⊥ = cc in no)
-  ends_at_open (Damaged line) has = ends_unopened (Damaged line) has.0 has.1 (opener.opens, has.0) refl (has.1, refl) (λ e. let no : ⊥ = cc in no)
-  ends_at_open (NotDb word) has = ends_unopened (NotDb word) has.0 has.1 (opener.opens, has.0) refl (has.1, refl) (λ e. let no : ⊥ = cc in no)
+  ends_at_open Unformatted has = ends_unopened Unformatted has.0 has.1 (opener.opens, has.0) refl (has.1, refl) (inl refl) (λ e. let no : ⊥ = cc in no)
+  ends_at_open (Damaged line) has = ends_unopened (Damaged line) has.0 has.1 (opener.opens, has.0) refl (has.1, refl) (inl refl) (λ e. let no : ⊥ = cc in no)
+  ends_at_open (NotDb word) has = ends_unopened (NotDb word) has.0 has.1 (opener.opens, has.0) refl (has.1, refl) (inl refl) (λ e. let no : ⊥ = cc in no)
   ends_at_open Device has = record {
-    headline = headline_none meaning Device prefix_opened refl reads_only;
+    headline = λ has. headline_none meaning Device prefix_opened (inl refl) reads_only;
     causes = record {
       cause = has.0;
       order = order_stopped Device tt;
       complete = λ good medium unread output. absurd (medium has.0);
       untouched = tt;
       spared = spares;
-      nothing = λ opens visible told opening starts why refuses. refl;
+      nothing = λ opens visible opening starts why refuses. refl;
       ran = calls_failed has.1;
+      once = inl refl;
       files = files.stays;
       sink = sink_same;
     };
   }
   ends_at_open Memory has = record {
-    headline = headline_none meaning Memory prefix_opened (inl refl) reads_only;
+    headline = λ has. headline_none meaning Memory prefix_opened (inl (inl refl)) reads_only;
     causes = record {
       cause = tt;
       order = order_stopped Memory tt;
       complete = λ good medium unread output. inr refl;
       untouched = tt;
       spared = spares;
-      nothing = λ opens visible told opening starts why refuses. refl;
+      nothing = λ opens visible opening starts why refuses. refl;
       ran = calls_well has (λ e. let no : ⊥ = cc in no);
+      once = inl refl;
       files = files.stays;
       sink = sink_same;
     };

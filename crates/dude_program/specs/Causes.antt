@@ -1,5 +1,5 @@
 -- With which fault a command ends, and where; and what stays then.
-use Rattle.std.specs.Prelude.{◌≡◌, ◌⊎◌, ◌↔◌, ℕ, ◌+◌, ◌*◌, ◌<◌, ◌≤◌, ⊤, Bool, true, false, Option, Some, None, IsTrue, List, [], ◌∷◌, ◌++◌, length, min, All}
+use Rattle.std.specs.Prelude.{◌≡◌, ◌⊎◌, ◌↔◌, ℕ, ◌+◌, ◌*◌, ◌<◌, ◌≤◌, ⊤, Bool, true, false, Option, Some, None, IsTrue, List, [], ◌∷◌, ◌++◌, length, min, All, MatchBool}
 use Rattle.dude_base.specs.declared.limits.TheConstants.{MAX_NUMBER, MIN_FRAMES}
 use Rattle.dude_base.specs.declared.sizes.Sizes.{Sizes}
 use Rattle.dude_base.specs.Sizes.{IsFrom, sizes_for}
@@ -13,41 +13,62 @@ use Rattle.tatp_model.specs.Population.{population_calls}
 use Rattle.dude_io.specs.Files.{FilesSight, FilesStay}
 use Rattle.redo_record.specs.Recovery.{IsFormatted, IsDamaged}
 use Rattle.image_recovery.specs.Recovered.{IsNoDatabase, RecoversTo}
-use Rattle.command_words.specs.Command.{Meaning, Meaning.FreshRun, Meaning.FormatImage, Meaning.RunFiles, Meaning.DriveLoad}
+use Rattle.command_words.specs.Command.{Meaning, Meaning.FreshRun, Meaning.FormatImage, Meaning.RunFiles, Meaning.RecoverImage, Meaning.DumpTables, Meaning.DriveLoad}
 use Rattle.command_edges.specs.Files.{IsFirstBad, IsFirstUnread, IsGoodFile, MissesFile}
+use Rattle.command_openings.specs.Opens.{OpensByCalls}
 use Rattle.dude_engine.specs.Opening.{Opening, IsOpening}
 use Rattle.dude_engine.specs.Requests.{request_count}
 use Rattle.command_edges.specs.declared.fault.Fault.{Fault}
 use Rattle.command_edges.specs.declared.fault.Fault.TheVariants.{Usage, File, Text, Small, TooFew, Unformatted, Damaged, NotDb, ManyFiles, Frames, FewSubscribers, Numbers, Device, Output, Memory}
-use Rattle.dude_program.specs.Opening.{RequestsAre, Starts, file_names, fresh_sizes, makes_image}
+use Rattle.dude_program.specs.CommandFile.{IsInLimit}
+use Rattle.dude_program.specs.Opening.{RequestsAre, Starts, command_files, ends_opened, file_names, fresh_sizes, makes_image, reads_requests}
 use Rattle.dude_program.specs.World.{World, IsSameWorld, SinkStays}
 
 -- the sizes of the image that a command makes, if it makes one
 abbrev pub sizes_made : Meaning → Option Sizes
 sizes_made (FreshRun subscribers file) = Some (fresh_sizes subscribers)
 sizes_made (FormatImage subscribers calls rings cells) = Some (sizes_for subscribers calls rings cells)
-sizes_made _ = None
+sizes_made (RunFiles frames locks files) = None
+sizes_made RecoverImage = None
+sizes_made DumpTables = None
+sizes_made (DriveLoad seed count number) = None
 
 -- how many files the command runs: request files, or those of its load
 abbrev pub files_run : Meaning → ℕ
-files_run (DriveLoad seed count files) = files
-files_run meaning = length (file_names meaning)
+files_run (FreshRun subscribers file) = 1
+files_run (FormatImage subscribers calls rings cells) = 0
+files_run (RunFiles frames locks files) = length files
+files_run RecoverImage = 0
+files_run DumpTables = 0
+files_run (DriveLoad seed count number) = number
 
 -- The frames asked for are out of their limits: more than the pages, or fewer than 32 and than the pages.
 abbrev pub WantsFrames : Meaning → ℕ → ℕ → Type 0
+WantsFrames (FreshRun subscribers file) wanted pages = ⊥
+WantsFrames (FormatImage subscribers calls rings cells) wanted pages = ⊥
+WantsFrames (RunFiles None locks files) wanted pages = ⊥
 WantsFrames (RunFiles (Some frames) locks files) wanted pages = (wanted ≡ frames) × ¬ IsFrom (min MIN_FRAMES pages) pages frames
-WantsFrames _ wanted pages = ⊥
+WantsFrames RecoverImage wanted pages = ⊥
+WantsFrames DumpTables wanted pages = ⊥
+WantsFrames (DriveLoad seed count number) wanted pages = ⊥
 
 -- the command is a load of more files than there are subscribers
 abbrev pub WantsSubscribers : Meaning → ℕ → ℕ → Type 0
-WantsSubscribers (DriveLoad seed count files) subscribers wanted = (wanted ≡ files) × (subscribers < files)
-WantsSubscribers _ subscribers wanted = ⊥
+WantsSubscribers (FreshRun made file) subscribers wanted = ⊥
+WantsSubscribers (FormatImage made calls rings cells) subscribers wanted = ⊥
+WantsSubscribers (RunFiles frames locks files) subscribers wanted = ⊥
+WantsSubscribers RecoverImage subscribers wanted = ⊥
+WantsSubscribers DumpTables subscribers wanted = ⊥
+WantsSubscribers (DriveLoad seed count number) subscribers wanted = (wanted ≡ number) × (subscribers < number)
 
 -- whether the numbers of the command may run out
 abbrev pub DrawsNumbers : Meaning → Type 0
+DrawsNumbers (FreshRun subscribers file) = ⊥
+DrawsNumbers (FormatImage subscribers calls rings cells) = ⊥
 DrawsNumbers (RunFiles frames locks files) = ⊤
-DrawsNumbers (DriveLoad seed count files) = ⊤
-DrawsNumbers _ = ⊥
+DrawsNumbers RecoverImage = ⊥
+DrawsNumbers DumpTables = ⊥
+DrawsNumbers (DriveLoad seed count number) = ⊤
 
 -- the numbers from the opening one on may not be enough for so many requests
 abbrev pub WantsNumbers : Meaning → FilesSight → Opening → ℕ → Type 0
@@ -57,7 +78,8 @@ WantsNumbers meaning files opening count =
 
 -- Why the opened image is refused: the first of these that fits.
 abbrev pub RefusesOpening : Meaning → FilesSight → Opening → Fault → Type 0
-RefusesOpening meaning files opening (ManyFiles wanted rings) = (wanted ≡ files_run meaning) × (rings ≡ opening.sizes.rings) × (rings < wanted)
+RefusesOpening meaning files opening (ManyFiles wanted rings) =
+    (wanted ≡ files_run meaning) × (rings ≡ opening.sizes.rings) × (rings < wanted) × IsTrue (reads_requests meaning)
 RefusesOpening meaning files opening (Frames wanted pages) =
     (files_run meaning ≤ opening.sizes.rings) × (pages ≡ opening.sizes.pages) × WantsFrames meaning wanted pages
 RefusesOpening meaning files opening (FewSubscribers subscribers wanted) =
@@ -67,6 +89,24 @@ RefusesOpening meaning files opening (Numbers number count) =
     × ((wanted : ℕ) → ¬ WantsSubscribers meaning opening.sizes.subscribers wanted)
     × (number ≡ opening.number) × WantsNumbers meaning files opening count
 RefusesOpening meaning files opening _ = ⊥
+
+-- The requests of the command are known: those of its files where the files are visible, and any others always.
+abbrev pub KnowsRequests : Meaning → FilesSight → Type 0
+KnowsRequests (FreshRun subscribers file) files = IsTrue files.is_visible
+KnowsRequests (FormatImage subscribers calls rings cells) files = ⊤
+KnowsRequests (RunFiles frames locks names) files = IsTrue files.is_visible
+KnowsRequests RecoverImage files = ⊤
+KnowsRequests DumpTables files = ⊤
+KnowsRequests (DriveLoad seed count number) files = ⊤
+
+-- What a refusal of the opened image rests on is known: for too few numbers the requests too, else the words and the image.
+abbrev pub KnowsCause : Meaning → FilesSight → Fault → Type 0
+KnowsCause meaning files (Numbers number count) = KnowsRequests meaning files
+KnowsCause meaning files _ = ⊤
+
+-- The opened image is refused for this, and what that rests on is known.
+abbrev pub MustRefuse : Meaning → FilesSight → Opening → Fault → Type 0
+MustRefuse meaning files opening why = RefusesOpening meaning files opening why × KnowsCause meaning files why
 
 -- Why the medium can't be formatted: the first of these that fits.
 abbrev pub RefusesFormat : Meaning → ℕ → Fault → Type 0
@@ -82,10 +122,16 @@ RefusesContent content (Damaged line) = IsFormatted content × IsDamaged content
 RefusesContent content (NotDb word) = IsNoDatabase word content
 RefusesContent content _ = ⊥
 
--- An opened image that is refused is left opened: its number was told, and nothing else, and every image recovers to it.
+-- An opened image that is refused is left opened.
 pub record IsLeftOpened (opening : Opening) (s t : Sight) : Type 0 where
-  pub told : (state_now t).told ≡ (state_now s).told ++ opening.number ∷ []
-  pub images : EveryImage t.len (λ told image. RecoversTo image opening.number opening.sizes opening.database) (state_now t)
+  -- exactly the calls of its opening were made
+  pub words : List ℕ
+  pub calls : OpensByCalls false opening words s t
+  -- where the medium is visible, its number was told, and nothing else
+  pub told : IsTrue s.is_visible → (state_now t).told ≡ (state_now s).told ++ opening.number ∷ []
+  -- and every image recovers to it
+  pub images : IsTrue s.is_visible
+      → EveryImage t.len (λ told image. RecoversTo image opening.number opening.sizes opening.database) (state_now t)
 
 -- An opening of the command is refused so.
 pub record RefusedBehind (meaning : Meaning) (old new : World) (fault : Fault) : Type 0 where
@@ -95,8 +141,8 @@ pub record RefusedBehind (meaning : Meaning) (old new : World) (fault : Fault) :
   pub lawful : IsOpening opening
   -- the opened image refuses the command
   pub why : RefusesOpening meaning old.files opening fault
-  -- where the medium is visible, it is left opened
-  pub left : IsTrue old.medium.is_visible → IsLeftOpened opening old.medium new.medium
+  -- it is left opened
+  pub left : IsLeftOpened opening old.medium new.medium
 
 -- Why the command ended with this fault, if any. Want of memory is free.
 abbrev pub HasCause : Meaning → World → World → Option Fault → Type 0
@@ -104,7 +150,8 @@ HasCause meaning old new None = ⊤
 HasCause meaning old new (Some Memory) = ⊤
 HasCause meaning old new (Some Usage) = ⊥
 HasCause meaning old new (Some (File number)) = IsFirstUnread (file_names meaning) old.files number × Risen old.files.faults new.files.faults
-HasCause meaning old new (Some (Text number row field)) = IsFirstBad (file_names meaning) old.files number row field
+HasCause meaning old new (Some (Text number row field)) =
+    IsTrue (reads_requests meaning) → IsFirstBad (file_names meaning) old.files number row field
 HasCause meaning old new (Some Unformatted) = (makes_image meaning ≡ false) × ContentHas (λ content. RefusesContent content Unformatted) old.medium
 HasCause meaning old new (Some (Damaged line)) = (makes_image meaning ≡ false) × ContentHas (λ content. RefusesContent content (Damaged line)) old.medium
 HasCause meaning old new (Some (NotDb word)) = (makes_image meaning ≡ false) × ContentHas (λ content. RefusesContent content (NotDb word)) old.medium
@@ -120,28 +167,29 @@ StoppedReading (Some (File number)) = ⊤
 StoppedReading (Some Memory) = ⊤
 StoppedReading _ = ⊥
 
--- The command ended with its files: one couldn't be read or is bad, or there was no memory.
-abbrev pub StoppedAtFiles : Option Fault → Type 0
-StoppedAtFiles (Some (Text number row field)) = ⊤
-StoppedAtFiles fault = StoppedReading fault
+-- The command ended with its files: one couldn't be read, or one of requests is bad; or there was no memory.
+abbrev pub StoppedAtFiles : Meaning → Option Fault → Type 0
+StoppedAtFiles meaning (Some (Text number row field)) = IsTrue (reads_requests meaning)
+StoppedAtFiles meaning fault = StoppedReading fault
 
 -- The command ended with its files, or since the medium failed, or there was no memory.
-abbrev pub StoppedByOpening : Option Fault → Type 0
-StoppedByOpening (Some Device) = ⊤
-StoppedByOpening fault = StoppedAtFiles fault
+abbrev pub StoppedByOpening : Meaning → Option Fault → Type 0
+StoppedByOpening meaning (Some Device) = ⊤
+StoppedByOpening meaning fault = StoppedAtFiles meaning fault
 
 -- What refuses a command is answered in this order, unless a fault that is counted, or want of memory, comes before its test:
--- a file that isn't there; a bad file; a medium that can't be formatted, or whose content can't be opened; an opened image
--- that is refused.
+-- a file that isn't there; a bad file of requests; a medium that can't be formatted, or whose content can't be opened; an
+-- opened image that is refused, where what that rests on is known.
 pub record RefusesInOrder (meaning : Meaning) (old : World) (fault : Option Fault) : Type 0 where
   pub missing : IsTrue old.files.is_visible → MissesFile (file_names meaning) old.files → StoppedReading fault
-  pub bad : IsTrue old.files.is_visible → (number row field : ℕ) → IsFirstBad (file_names meaning) old.files number row field
-      → (fault ≡ Some (Text number row field)) ⊎ StoppedReading fault
-  pub format : (why : Fault) → RefusesFormat meaning old.medium.len why → (fault ≡ Some why) ⊎ StoppedAtFiles fault
+  pub bad : IsTrue (reads_requests meaning) → IsTrue old.files.is_visible → (number row field : ℕ)
+      → IsFirstBad (file_names meaning) old.files number row field → (fault ≡ Some (Text number row field)) ⊎ StoppedReading fault
+  pub format : (why : Fault) → RefusesFormat meaning old.medium.len why → (fault ≡ Some why) ⊎ StoppedAtFiles meaning fault
   pub content : makes_image meaning ≡ false → IsTrue old.medium.is_visible → (why : Fault) → ContentHas (λ content. RefusesContent content why) old.medium
-      → (fault ≡ Some why) ⊎ StoppedByOpening fault
-  pub opening : makes_image meaning ≡ false → IsTrue old.medium.is_visible → IsTrue old.files.is_visible → (opening : Opening) → Starts meaning old.medium opening
-      → (why : Fault) → RefusesOpening meaning old.files opening why → (fault ≡ Some why) ⊎ StoppedByOpening fault
+      → (fault ≡ Some why) ⊎ StoppedByOpening meaning fault
+  pub opening : makes_image meaning ≡ false → IsTrue old.medium.is_visible → (opening : Opening)
+      → Starts meaning old.medium opening → (why : Fault) → MustRefuse meaning old.files opening why
+      → (fault ≡ Some why) ⊎ StoppedByOpening meaning fault
 
 -- Nothing refuses the command: its files are there and hold requests; the medium is long enough for an image that holds the
 -- population, or its content recovers to an opening that isn't refused.
@@ -158,37 +206,62 @@ SucceedsIfGood meaning old new fault = IsGood meaning old
     → (Risen old.medium.faults new.medium.faults → ⊥) → (Risen old.files.faults new.files.faults → ⊥) → (Risen old.sink.faults new.sink.faults → ⊥)
     → (fault ≡ None) ⊎ (fault ≡ Some Memory)
 
--- What stays at a refusal: at the files, and where a medium can't be formatted, the medium; where its content can't be opened
--- it was only read. Nothing is done, nor where an opened image is refused.
-abbrev pub Untouched : Option Fault → Sight → Sight → List Done → Type 0
-Untouched (Some (File number)) s t done = (t ≡ s) × (done ≡ [])
-Untouched (Some (Text number row field)) s t done = (t ≡ s) × (done ≡ [])
-Untouched (Some (Small has needs)) s t done = (t ≡ s) × (done ≡ [])
-Untouched (Some (TooFew rows calls)) s t done = (t ≡ s) × (done ≡ [])
-Untouched (Some Unformatted) s t done = OnlyReads true s t × (done ≡ [])
-Untouched (Some (Damaged line)) s t done = OnlyReads true s t × (done ≡ [])
-Untouched (Some (NotDb word)) s t done = OnlyReads true s t × (done ≡ [])
-Untouched (Some (ManyFiles files rings)) s t done = done ≡ []
-Untouched (Some (Frames frames pages)) s t done = done ≡ []
-Untouched (Some (FewSubscribers subscribers files)) s t done = done ≡ []
-Untouched (Some (Numbers number requests)) s t done = done ≡ []
-Untouched _ s t done = ⊤
+-- What stays at a refusal. Nothing is done. Where a file couldn't be read, one of requests is bad, or a medium can't be
+-- formatted, the medium is as it was; where its content can't be opened it was only read. An opened image that is refused is
+-- left opened, which its cause says. Where a call failed or there was no memory, nothing is said here.
+abbrev pub Untouched : Meaning → Option Fault → Sight → Sight → List Done → Type 0
+Untouched meaning (Some (File number)) s t done = (t ≡ s) × (done ≡ [])
+Untouched meaning (Some (Text number row field)) s t done = (IsTrue (reads_requests meaning) → t ≡ s) × (done ≡ [])
+Untouched meaning (Some (Small has needs)) s t done = (t ≡ s) × (done ≡ [])
+Untouched meaning (Some (TooFew rows calls)) s t done = (t ≡ s) × (done ≡ [])
+Untouched meaning (Some Unformatted) s t done = OnlyReads true s t × (done ≡ [])
+Untouched meaning (Some (Damaged line)) s t done = OnlyReads true s t × (done ≡ [])
+Untouched meaning (Some (NotDb word)) s t done = OnlyReads true s t × (done ≡ [])
+Untouched meaning (Some (ManyFiles files rings)) s t done = done ≡ []
+Untouched meaning (Some (Frames frames pages)) s t done = done ≡ []
+Untouched meaning (Some (FewSubscribers subscribers files)) s t done = done ≡ []
+Untouched meaning (Some (Numbers number requests)) s t done = done ≡ []
+Untouched meaning _ s t done = ⊤
+
+-- The command's files are of requests and visible, and refuse it: not each is there and holds requests, or one is too long.
+pub record FilesRefuse (meaning : Meaning) (files : FilesSight) : Type 0 where
+  pub are_requests : IsTrue (reads_requests meaning)
+  pub visible : IsTrue files.is_visible
+  pub why : (All (IsGoodFile files) (file_names meaning) → ⊥) ⊎ (All (IsInLimit files) (command_files meaning) → ⊥)
 
 -- A command whose files or whose medium's length are refused leaves the medium as it is, and does nothing, also where it is
 -- answered that there was no memory.
 abbrev pub SparesMedium : Meaning → World → World → List Done → Type 0
 SparesMedium meaning old new done =
-    ((IsTrue old.files.is_visible × (All (IsGoodFile old.files) (file_names meaning) → ⊥)) ⊎ ((why : Fault) × RefusesFormat meaning old.medium.len why))
+    (FilesRefuse meaning old.files ⊎ ((why : Fault) × RefusesFormat meaning old.medium.len why))
     → (new.medium ≡ old.medium) × (done ≡ [])
 
 -- Where an opened image is refused nothing is done, whatever is answered.
 abbrev pub DoesNothingRefused : Meaning → World → List Done → Type 0
-DoesNothingRefused meaning old done = makes_image meaning ≡ false → IsTrue old.medium.is_visible → IsTrue old.files.is_visible
-    → (opening : Opening) → Starts meaning old.medium opening → (why : Fault) → RefusesOpening meaning old.files opening why → done ≡ []
+DoesNothingRefused meaning old done = makes_image meaning ≡ false → IsTrue old.medium.is_visible → (opening : Opening)
+    → Starts meaning old.medium opening → (why : Fault) → MustRefuse meaning old.files opening why → done ≡ []
 
 -- Some calls were made on the medium. None failed but perhaps the last, and that one exactly where the fault is `Device`.
 abbrev pub RanUnlessDevice : Option Fault → Sight → Sight → Type 0
 RanUnlessDevice fault s t = (ok : Bool) × SomeCalls ok s t × ((ok ≡ false) ↔ (fault ≡ Some Device))
+
+-- The calls of the command begin with those that make its image, or open it and tell its number; and these are made once.
+pub record OpensOnce (meaning : Meaning) (fault : Option Fault) (s t : Sight) : Type 0 where
+  -- the command starts from this opening
+  pub opening : Opening
+  pub starts : Starts meaning s opening
+  -- first come exactly the calls of the opening, up to the tell of its number
+  pub words : List ℕ
+  pub opened : Sight
+  pub calls : OpensByCalls (makes_image meaning) opening words s opened
+  -- behind them come those of the command's work, or none
+  pub behind : MatchBool (ends_opened meaning) (t ≡ opened) (RanUnlessDevice fault opened t)
+
+-- A command that ended well or whose output failed, and one that did anything, opened its image once.
+abbrev pub OpensOnceBy : Meaning → Option Fault → List Done → Sight → Sight → Type 0
+OpensOnceBy meaning None done s t = OpensOnce meaning None s t
+OpensOnceBy meaning (Some Output) done s t = OpensOnce meaning (Some Output) s t
+OpensOnceBy meaning fault done s t = (done ≡ []) ⊎ OpensOnce meaning fault s t
 
 -- When a command that means something ends with which fault, and what stays.
 pub record Causes (meaning : Meaning) (old new : World) (done : List Done) (fault : Option Fault) : Type 0 where
@@ -199,13 +272,15 @@ pub record Causes (meaning : Meaning) (old new : World) (done : List Done) (faul
   -- where nothing refuses it and no call fails, it ends well, or there was no memory
   pub complete : SucceedsIfGood meaning old new fault
   -- what stays where it is refused
-  pub untouched : Untouched fault old.medium new.medium done
+  pub untouched : Untouched meaning fault old.medium new.medium done
   -- where its files, or the length of its medium, refuse it, the medium stays and nothing is done, whatever is answered
   pub spared : SparesMedium meaning old new done
   -- where an opened image is refused nothing is done, whatever is answered
   pub nothing : DoesNothingRefused meaning old done
   -- no call on the medium failed but the last one, where the fault is `Device`
   pub ran : RanUnlessDevice fault old.medium new.medium
+  -- the image is made or opened once
+  pub once : OpensOnceBy meaning fault done old.medium new.medium
   -- the files stay, and the count of their faults only rises
   pub files : FilesStay old.files new.files
   pub sink : SinkStays old.sink new.sink

@@ -1,24 +1,26 @@
 -- How a command ended: one that means something, and one that is given by its words.
-use Rattle.std.specs.Prelude.{◌≡◌, ℕ, Option, Some, None, List}
+use Rattle.std.specs.Prelude.{◌≡◌, ℕ, IsTrue, Option, Some, None, List}
 use Rattle.tatp_model.specs.declared.done.Done.{Done}
 use Rattle.command_edges.specs.declared.fault.Fault.{Fault}
 use Rattle.command_words.specs.Command.{Meaning, meaning_of}
 use Rattle.dude_program.specs.World.{World}
 use Rattle.dude_program.specs.Headline.{Headline}
+use Rattle.dude_program.specs.Opening.{has_headline}
 use Rattle.dude_program.specs.Causes.{Causes, RefusesWords}
 
--- What the command did is as the headline says, and why it ended so is as the causes say.
+-- What the command did is as the headline says, where it is said of the command; and why it ended so is as the causes say.
 pub record Ends (own : Meaning) (old new : World) (done : List Done) (fault : Option Fault) : Type 0 where
-  pub headline : Headline own old new done fault
+  pub headline : IsTrue (has_headline own) → Headline own old new done fault
   pub causes : Causes own old new done fault
 
 -- Words that mean nothing are refused.
 abbrev pub RefusesNoCommand : List (List ℕ) → World → World → List Done → Option Fault → Type 0
 RefusesNoCommand words old new done fault = meaning_of words ≡ None → RefusesWords old new done fault
 
--- Where the words mean a command, what it did is as the headline says.
+-- Where the words mean a command of which the headline is said, what it did is as the headline says.
 abbrev pub HeadlineByWords : List (List ℕ) → World → World → List Done → Option Fault → Type 0
-HeadlineByWords words old new done fault = (own : Meaning) → meaning_of words ≡ Some own → Headline own old new done fault
+HeadlineByWords words old new done fault =
+    (own : Meaning) → meaning_of words ≡ Some own → IsTrue (has_headline own) → Headline own old new done fault
 
 -- Where the words mean a command, each fault comes when the causes say, and what stays then is as they say.
 abbrev pub CausesByWords : List (List ℕ) → World → World → List Done → Option Fault → Type 0

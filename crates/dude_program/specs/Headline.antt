@@ -19,11 +19,11 @@ use Rattle.dude_engine.specs.Opening.{Opening, IsOpening, RecoversAt}
 use Rattle.dude_engine.specs.Endings.{AreSyncsTold, End, LosesAtMost}
 use Rattle.dude_engine.specs.Plain.{most_lost_by}
 use Rattle.command_edges.specs.declared.fault.Fault.{Fault}
-use Rattle.command_edges.specs.declared.fault.Fault.TheVariants.{Output, Memory}
+use Rattle.command_edges.specs.declared.fault.Fault.TheVariants.{Device, Output, Memory}
 use Rattle.command_words.specs.Command.{Meaning}
 use Rattle.dude_program.specs.World.{World}
 use Rattle.command_openings.specs.Opens.{TellsAtMost}
-use Rattle.dude_program.specs.Opening.{makes_image, runs_requests, Starts, RequestsAre, IsReachable, output_for}
+use Rattle.dude_program.specs.Opening.{makes_image, runs_requests, Starts, RequestsAre, IsReachable, IsOutput, prints_early}
 
 -- Replies: of the command's requests these are done, each file's first ones in its order, each once; and the replies are
 -- those of one thread along the printed order. A `SYNC` has a number from the opening number on.
@@ -86,8 +86,11 @@ pub record AllDone (meaning : Meaning) (old new : World) (done : List Done) (Tak
   pub reachable : IsReachable meaning opening done last
   -- at the end it was told last, and every image recovers to it
   pub end : IsTrue old.medium.is_visible → End opening done last old.medium new.medium
-  -- the sink took this much of the command's output
-  pub bytes : Taken (output_for meaning opening done last)
+  -- this text is the command's output
+  pub text : List ℕ
+  pub output : IsOutput meaning opening done last text
+  -- and the sink took this much of it
+  pub bytes : Taken text
 
 -- the sink took all of a text
 abbrev pub TookAll : SinkSight → SinkSight → List ℕ → Type 0
@@ -97,12 +100,32 @@ TookAll s t text = IsTrue s.is_visible → t.taken ≡ s.taken ++ text
 abbrev pub TookPrefix : SinkSight → SinkSight → List ℕ → Type 0
 TookPrefix s t text = IsTrue s.is_visible → (n : ℕ) × (n < length text) × (t.taken ≡ s.taken ++ take n text)
 
+-- A command that prints while it runs came to its opening, and the sink took a prefix of an output of what is done.
+pub record PrintedEarly (meaning : Meaning) (old new : World) (done : List Done) : Type 0 where
+  pub early : IsTrue (prints_early meaning)
+  -- the command starts from this opening
+  pub opening : Opening
+  pub starts : Starts meaning old.medium opening
+  -- this text is an output of what is done
+  pub last : ℕ
+  pub text : List ℕ
+  pub output : IsOutput meaning opening done last text
+  -- and the sink took a prefix of it
+  pub bytes : TookPrefix old.sink new.sink text
+
+-- Nothing was printed, but perhaps by a command that prints while it runs.
+abbrev pub StopsPrinting : Meaning → World → World → List Done → Type 0
+StopsPrinting meaning old new done = (new.sink ≡ old.sink) ⊎ PrintedEarly meaning old new done
+
 -- Bytes: where the command ended well, all is done and printed; where the output failed, all is done and a prefix was
--- printed; where there was no memory, either so or nothing was printed; else nothing was printed.
+-- printed; where there was no memory, either so or nothing was printed; else nothing was printed. Where the medium failed or
+-- there was no memory, a command that prints while it runs may have printed some.
 abbrev pub Printed : Meaning → World → World → List Done → Option Fault → Type 0
 Printed meaning old new done None = AllDone meaning old new done (TookAll old.sink new.sink)
 Printed meaning old new done (Some Output) = AllDone meaning old new done (TookPrefix old.sink new.sink)
-Printed meaning old new done (Some Memory) = (new.sink ≡ old.sink) ⊎ AllDone meaning old new done (TookPrefix old.sink new.sink)
+Printed meaning old new done (Some Device) = StopsPrinting meaning old new done
+Printed meaning old new done (Some Memory) =
+    StopsPrinting meaning old new done ⊎ AllDone meaning old new done (TookPrefix old.sink new.sink)
 Printed meaning old new done (Some _) = new.sink ≡ old.sink
 
 -- The headline, of a command that means something and ended with this fault or none. Where it has no opening, it only

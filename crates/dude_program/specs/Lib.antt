@@ -1,4 +1,5 @@
 pub mod Causes
+pub mod CommandFile
 pub mod Ending
 pub mod Headline
 pub mod Opening

@@ -1,6 +1,6 @@
 -- What a command starts from, and what it runs: the cases, a command each, below the headline.
 use Rattle.std.specs.Prelude.{◌≡◌, ℕ, ◌*◌, ◌≤◌, ⊤, Bool, true, false, List, [], ◌∷◌, map}
-use Rattle.std.specs.List.{AllZip, range_with_len}
+use Rattle.std.specs.List.{AllZip, list_all, range_with_len}
 use Rattle.dude_base.specs.declared.sizes.Sizes.{Sizes}
 use Rattle.dude_base.specs.Sizes.{sizes_for}
 use Rattle.pmem_trait.specs.Sights.{Sight}
@@ -15,6 +15,7 @@ use Rattle.command_words.specs.Command.{Meaning, Meaning.FreshRun, Meaning.Forma
 use Rattle.command_edges.specs.Files.{OfFile}
 use Rattle.dude_engine.specs.Opening.{Opening, last_of}
 use Rattle.command_openings.specs.Openings.{IsOpeningOn, new_opening}
+use Rattle.dude_program.specs.CommandFile.{CommandFile, is_requests, request_files}
 
 -- the sizes of the image that `fresh` makes
 abbrev pub fresh_sizes : ℕ → Sizes
@@ -24,48 +25,102 @@ fresh_sizes subscribers = sizes_for subscribers (12 * subscribers) 1 16
 abbrev pub makes_image : Meaning → Bool
 makes_image (FreshRun subscribers file) = true
 makes_image (FormatImage subscribers calls rings cells) = true
-makes_image _ = false
+makes_image (RunFiles frames locks files) = false
+makes_image RecoverImage = false
+makes_image DumpTables = false
+makes_image (DriveLoad seed count number) = false
 
 -- whether the command carries requests out
 abbrev pub runs_requests : Meaning → Bool
+runs_requests (FreshRun subscribers file) = true
 runs_requests (FormatImage subscribers calls rings cells) = false
+runs_requests (RunFiles frames locks files) = true
 runs_requests RecoverImage = false
 runs_requests DumpTables = false
-runs_requests _ = true
+runs_requests (DriveLoad seed count number) = true
+
+-- whether the command makes no call on the medium behind its opening
+abbrev pub ends_opened : Meaning → Bool
+ends_opened (FreshRun subscribers file) = false
+ends_opened (FormatImage subscribers calls rings cells) = true
+ends_opened (RunFiles frames locks files) = false
+ends_opened RecoverImage = true
+ends_opened DumpTables = true
+ends_opened (DriveLoad seed count number) = false
+
+-- whether the headline is said of the command: one without it has a theorem of its own
+abbrev pub has_headline : Meaning → Bool
+has_headline (FreshRun subscribers file) = true
+has_headline (FormatImage subscribers calls rings cells) = true
+has_headline (RunFiles frames locks files) = true
+has_headline RecoverImage = true
+has_headline DumpTables = true
+has_headline (DriveLoad seed count number) = true
 
 -- The command starts from this opening. One that makes its image starts with the new image's, each other one with what the
 -- content at entry recovers to.
 abbrev pub Starts : Meaning → Sight → Opening → Type 0
 Starts (FreshRun subscribers file) medium opening = opening ≡ new_opening (fresh_sizes subscribers)
 Starts (FormatImage subscribers calls rings cells) medium opening = opening ≡ new_opening (sizes_for subscribers calls rings cells)
-Starts _ medium opening = IsOpeningOn medium opening
+Starts (RunFiles frames locks files) medium opening = IsOpeningOn medium opening
+Starts RecoverImage medium opening = IsOpeningOn medium opening
+Starts DumpTables medium opening = IsOpeningOn medium opening
+Starts (DriveLoad seed count number) medium opening = IsOpeningOn medium opening
 
 -- the load of so many files, one of each
 abbrev pub load_of : ℕ → ℕ → ℕ → ℕ → List (List Request)
 load_of subscribers seed count files = map (λ file. mixed seed file files subscribers count) (range_with_len 0 files)
 
+-- the files that the command reads
+abbrev pub command_files : Meaning → List CommandFile
+command_files (FreshRun subscribers file) = request_files (file ∷ [])
+command_files (FormatImage subscribers calls rings cells) = []
+command_files (RunFiles frames locks files) = request_files files
+command_files RecoverImage = []
+command_files DumpTables = []
+command_files (DriveLoad seed count number) = []
+
 -- the names of the command's files
 abbrev pub file_names : Meaning → List (List ℕ)
-file_names (FreshRun subscribers file) = file ∷ []
-file_names (RunFiles frames locks files) = files
-file_names _ = []
+file_names meaning = map (λ file. file.name) (command_files meaning)
 
--- The lists of requests that the command runs: those of its files, one for each; or those of its load.
+-- Whether all that the command reads in files is requests, if it reads any. Such files are judged before its medium is called;
+-- a command with others says by itself when it judges them.
+abbrev pub reads_requests : Meaning → Bool
+reads_requests meaning = list_all (λ file. is_requests file.kind) (command_files meaning)
+
+-- whether the command prints while it runs, so that some is printed also where the medium fails or there is no memory
+abbrev pub prints_early : Meaning → Bool
+prints_early (FreshRun subscribers file) = false
+prints_early (FormatImage subscribers calls rings cells) = false
+prints_early (RunFiles frames locks files) = false
+prints_early RecoverImage = false
+prints_early DumpTables = false
+prints_early (DriveLoad seed count number) = false
+
+-- The lists of requests that the command runs: those of its files, one for each; or those of its load; or none.
 abbrev pub RequestsAre : Meaning → FilesSight → Opening → List (List Request) → Type 0
+RequestsAre (FreshRun subscribers file) files opening requests = AllZip (OfFile files) (file ∷ []) requests
+RequestsAre (FormatImage subscribers calls rings cells) files opening requests = requests ≡ []
+RequestsAre (RunFiles frames locks names) files opening requests = AllZip (OfFile files) names requests
+RequestsAre RecoverImage files opening requests = requests ≡ []
+RequestsAre DumpTables files opening requests = requests ≡ []
 RequestsAre (DriveLoad seed count number) files opening requests = requests ≡ load_of opening.sizes.subscribers seed count number
-RequestsAre meaning files opening requests = AllZip (OfFile files) (file_names meaning) requests
 
 -- The command may come to this number. Where threads may run, numbers may follow those of what is done.
 abbrev pub IsReachable : Meaning → Opening → List Done → ℕ → Type 0
+IsReachable (FreshRun subscribers file) opening done n = n ≤ last_of opening.number done
+IsReachable (FormatImage subscribers calls rings cells) opening done n = n ≤ last_of opening.number done
 IsReachable (RunFiles frames locks files) opening done n = ⊤
+IsReachable RecoverImage opening done n = n ≤ last_of opening.number done
+IsReachable DumpTables opening done n = n ≤ last_of opening.number done
 IsReachable (DriveLoad seed count number) opening done n = ⊤
-IsReachable _ opening done n = n ≤ last_of opening.number done
 
--- the output of the command is this text
-abbrev pub output_for : Meaning → Opening → List Done → ℕ → List ℕ
-output_for (FreshRun subscribers file) opening done last = output_of done last
-output_for (FormatImage subscribers calls rings cells) opening done last = last_line last
-output_for (RunFiles frames locks files) opening done last = output_of done last
-output_for RecoverImage opening done last = last_line last
-output_for DumpTables opening done last = dump_text opening.database last
-output_for (DriveLoad seed count number) opening done last = summary_of done
+-- This text is the output of the command. It is a relation, since what is done doesn't fix the output of each command.
+abbrev pub IsOutput : Meaning → Opening → List Done → ℕ → List ℕ → Type 0
+IsOutput (FreshRun subscribers file) opening done last text = text ≡ output_of done last
+IsOutput (FormatImage subscribers calls rings cells) opening done last text = text ≡ last_line last
+IsOutput (RunFiles frames locks files) opening done last text = text ≡ output_of done last
+IsOutput RecoverImage opening done last text = text ≡ last_line last
+IsOutput DumpTables opening done last text = text ≡ dump_text opening.database last
+IsOutput (DriveLoad seed count number) opening done last text = text ≡ summary_of done

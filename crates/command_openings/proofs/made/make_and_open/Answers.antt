@@ -1,5 +1,6 @@
-use Rattle.std.proofs.Common.{ℕ, true, sym, subst, ◌∙◌, Vec, Global}
-use Rattle.image_format.specs.FormatCalls.{format_calls}
+use Rattle.std.proofs.Common.{ℕ, true, inr, sym, subst, ◌∙◌, Vec, Global}
+use Rattle.command_edges.specs.declared.fault.Fault.TheVariants.{Memory}
+use Rattle.command_openings.specs.Faults.{HasFormatFault}
 use Rattle.command_openings.specs.Opens.{OpensPartly}
 use Rattle.command_openings.specs.Openings.{new_opening}
 use Rattle.command_openings.proofs.ImageOpened.{partly_made, format_fault, made_opens_all, made_opening}
@@ -20,9 +21,14 @@ returns-in-Ok-new-clause-is_open g c =
     rw c.in-Ok-new.ensures.medium (made_opens_all c.in-Ok-new.opened c.args.sizes.now _ _ _ c.in-Ok-new.ensures.opened
     (made_opening c.in-Ok-new.opened c.args.sizes.now _ (c.in-Ok-new.ensures.parts.0 ∙ sizes) c.in-Ok-new.ensures.parts.1 c.in-Ok-new.ensures.parts.2 c.in-Ok-make_image.ensures.home.stands)
     c.in-Ok-new.ensures.parts.2 c.in-Ok-make_image.ensures.images c.in-Ok-make_image.ensures.rests.image (rw (sym sizes) c.in-Ok-new.ensures.holds)
-    (format_calls c.args.sizes.now c.in-Ok-make_image.ensures.calls.0, c.in-Ok-make_image.ensures.calls.2))
+    c.in-Ok-make_image.ensures.calls)
 
 pub returns-in-Err-new-clause-prefix : goal.returns-in-Err-new-clause-prefix
 returns-in-Err-new-clause-prefix g c =
     subst (λ m. OpensPartly true (new_opening c.args.sizes.now) (g.M.Medium.sight c.args.medium) (g.M.Medium.sight m)) (sym c.in-Err-new.ensures.medium)
     (partly_made c.args.sizes.now _ _ c.in-Ok-make_image.ensures.images)
+
+pub returns-in-Err-new-clause-fault : goal.returns-in-Err-new-clause-fault
+returns-in-Err-new-clause-fault g c =
+    subst (λ m. HasFormatFault c.args.sizes.now (g.M.Medium.sight c.args.medium) (g.M.Medium.sight m) Memory) (sym c.in-Err-new.ensures.medium)
+    (c.in-Ok-make_image.ensures.fits, inr c.in-Ok-make_image.ensures.calls)

@@ -5,7 +5,7 @@ use Rattle.back_store.specs.Back.{idle}
 use Rattle.back_store.specs.BackView.{medium_of, state_of}
 use Rattle.pmem_trait.proofs.Runs.{made_later}
 use Rattle.back_store.proofs.Announced.{announced_end}
-use Rattle.command_openings.proofs.Announced.{announced_holds, announced_idle, announced_moments, announced_number, failed_announce}
+use Rattle.command_openings.proofs.Announced.{announced_holds, announced_idle, announced_moments, announced_number, failed_announce, fails_number, tells_number}
 use Rattle.command_openings.proofs.opened.announce.Goals as goal
 
 pub returns-in-Ok-clause-opened : goal.returns-in-Ok-clause-opened
@@ -52,4 +52,10 @@ pub returns-in-Ok-clause-same : goal.returns-in-Ok-clause-same
 returns-in-Ok-clause-same g c = record { sizes = refl; number = refl; words = refl }
 
 pub returns-in-Ok-clause-ran : goal.returns-in-Ok-clause-ran
-returns-in-Ok-clause-ran g c = (_, c.in-Ok.ensures.calls.made)
+returns-in-Ok-clause-ran g c =
+    tells_number (state_of c.args.opened.back) c.args.opened.sizes c.args.opened.number c.in-Ok.field-0 _ _ c.requires.opened.idle c.in-Ok.ensures.calls
+
+pub returns-in-Err-clause-ran : goal.returns-in-Err-clause-ran
+returns-in-Err-clause-ran g c =
+    rw c.into_medium.ensures (fails_number (state_of c.args.opened.back) c.in-Err.field-0 c.args.opened.sizes c.args.opened.number _ _ c.requires.opened.idle
+    c.in-Err.ensures.cause.only c.in-Err.ensures.cause.dead.0 c.in-Err.ensures.calls)

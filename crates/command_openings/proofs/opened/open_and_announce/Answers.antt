@@ -1,4 +1,4 @@
-use Rattle.pmem_trait.proofs.Runs.{made_later, ran_then}
+use Rattle.pmem_trait.proofs.Runs.{made_later, ran_on}
 use Rattle.command_openings.proofs.ImageOpened.{announced_opens_all, announced_fault, announced_prefix, announced_opens, partly_opened, open_fault}
 use Rattle.command_openings.proofs.Results.{err_of, if_err, if_ok, match_err, match_ok, ok_of}
 use Rattle.command_openings.proofs.OneOpening.{opening_with}
@@ -9,14 +9,14 @@ returns-in-Ok-clause-is_open g c = if_ok c.announce.result (λ x is.
     let is_announced = ok_of _ is c.announce.ensures.announced in
     announced_opens_all c.in-Ok.opened _ _ _ c.in-Ok.ensures.opened c.in-Ok.ensures.opens.recovered c.in-Ok.ensures.opens.calls c.in-Ok.ensures.opens.holds c.in-Ok.ensures.opens.moments
     (λ opening before own held. match_ok _ _ is (c.announce.ensures.moments opening before own held)) x
-    (ok_of _ is c.announce.ensures.same) (match_ok _ _ is c.announce.ensures.ran) is_announced.told is_announced.holds)
+    (ok_of _ is c.announce.ensures.same) c.in-Ok.ensures.opens.made (match_ok _ _ is c.announce.ensures.ran) is_announced.told is_announced.holds)
 
 pub returns-in-Ok-clause-prefix : goal.returns-in-Ok-clause-prefix
 returns-in-Ok-clause-prefix g c = if_err c.announce.result (λ r is.
     let failed = err_of _ is c.announce.ensures.failed in
     announced_prefix c.in-Ok.opened _ _ _ c.in-Ok.ensures.opened c.in-Ok.ensures.opens.recovered c.in-Ok.ensures.opens.calls c.in-Ok.ensures.opens.holds c.in-Ok.ensures.opens.moments
     (λ opening before own held. match_err _ _ is (c.announce.ensures.moments opening before own held))
-    (made_later (ran_then c.in-Ok.ensures.opens.calls (match_err _ _ is c.announce.ensures.ran)).1) failed.at_most)
+    (made_later (ran_on c.in-Ok.ensures.opens.calls (match_err _ _ is c.announce.ensures.ran)).1) failed.at_most)
 
 pub returns-in-Ok-clause-fault : goal.returns-in-Ok-clause-fault
 returns-in-Ok-clause-fault g c = if_err c.announce.result (λ r is.

@@ -29,9 +29,9 @@ returns-in-Ok-make_load-clause-ends g c f =
     let are : requests_in lists ≡ load_of o.sizes.subscribers load.seed load.count load.files = ap requests_in c.deref.ensures.value ∙ made.requests in
     let came = came_ran (no_files (DriveLoad load.seed load.count load.files) f refl) (opened_old (drive_opens load.seed load.count load.files _) is_open.0 is_open.1)
     (reachable (DriveLoad load.seed load.count load.files) opening) refl are
-    (λ opens visible why refuses. drive_passes load.seed load.count load.files f opening (requests_in lists) are made.files made.subscribers (rw c.deref.ensures.value made.numbers) why refuses)
+    (λ opens why refuses. drive_passes load.seed load.count load.files f opening (requests_in lists) are made.files made.subscribers (rw c.deref.ensures.value made.numbers) why refuses)
     c.work.result.fault (c.work.ensures opening (is_opening_of o opened)) in
-    rw (c.end_with_summary.ensures.medium, c.end_with_summary.ensures.done) (ends_printed _ _ came c.end_with_summary.ensures.printed)
+    rw (c.end_with_summary.ensures.medium, c.end_with_summary.ensures.done) (ends_printed _ _ _ came refl c.end_with_summary.ensures.printed)
 
 pub returns-in-Err-make_load-clause-ends : goal.returns-in-Err-make_load-clause-ends
 returns-in-Err-make_load-clause-ends g c f =
@@ -40,7 +40,7 @@ returns-in-Err-make_load-clause-ends g c f =
     let opened = c.in-Ok.ensures.opened in
     let opening = opening_of o opened in
     let is_open = c.in-Ok.ensures.is_open opening (is_opening_of o opened) in
-    let why = drive_came load.seed load.count load.files f opening (load_of o.sizes.subscribers load.seed load.count load.files) refl 0 (g.M.Medium.sight c.args.medium) (g.M.Medium.sight (medium_of o.back)) (left_opened _ _ _ _ _ is_open.1)
+    let why = drive_came load.seed load.count load.files f opening (load_of o.sizes.subscribers load.seed load.count load.files) refl 0 (g.M.Medium.sight c.args.medium) (g.M.Medium.sight (medium_of o.back)) (left_opened _ _ _ _ is_open.1)
     c.in-Err-make_load.fault c.in-Err-make_load.ensures.err in
     let came = came_refused (no_files (DriveLoad load.seed load.count load.files) f refl) (opened_old (drive_opens load.seed load.count load.files _) is_open.0 is_open.1) 0 c.in-Err-make_load.fault why.1 why.0 in
     rw (c.refused-in-Err-make_load.ensures.medium, c.refused-in-Err-make_load.ensures.done, c.refused-in-Err-make_load.ensures.fault, c.into_medium.ensures) (ends_faulted c.in-Err-make_load.fault came)

@@ -20,7 +20,7 @@ pub returns-in-Err-clause-ends : goal.returns-in-Err-clause-ends
 returns-in-Err-clause-ends g c =
     rw (c.refused.ensures.medium, c.refused.ensures.done, c.refused.ensures.fault)
     (ends_at_files (FreshRun c.args.subscribers c.args.file.now) (prefix_at_rest (FreshRun c.args.subscribers c.args.file.now) (g.M.Medium.sight c.args.medium) c.requires.settled)
-    c.in-Err.ensures.stays c.in-Err.fault c.in-Err.ensures.cause c.in-Err.ensures.missing)
+    c.in-Err.ensures.stays c.in-Err.fault (c.args.file.now ∷ []) refl c.in-Err.ensures.cause c.in-Err.ensures.missing)
 
 pub work-requires-clause-rings : goal.work-requires-clause-rings
 work-requires-clause-rings g c =
@@ -44,7 +44,7 @@ returns-in-Ok-make_and_open-clause-ends g c =
     let came = came_ran (record { lists = requests_in c.deref.result.now; read = read; stays = c.in-Ok-read_files.ensures.stays }) (opened_new maker e.fits e.is_open)
     (reachable (FreshRun c.args.subscribers c.args.file.now) (new_opening c.in-Ok.sizes)) refl read
     (λ opens. let no : ⊥ = cc in absurd no) c.work.result.fault (c.work.ensures _ e.opening) in
-    rw (c.end_with_lines.ensures.medium, c.end_with_lines.ensures.done) (ends_printed _ _ came c.end_with_lines.ensures.printed)
+    rw (c.end_with_lines.ensures.medium, c.end_with_lines.ensures.done) (ends_printed _ _ _ came refl c.end_with_lines.ensures.printed)
 
 pub returns-clause-ends : goal.returns-clause-ends
 returns-clause-ends g c =
