@@ -95,6 +95,8 @@ class Module:
                 text = [plain]
                 self.definitions.append(Definition(self.crate, self.name, DEFINITION.match(plain)[1], paragraphs(comment), text))
                 comment = []
+            elif text is not None and is_proof(self.definitions[-1], plain):
+                text = None
             elif text is not None:
                 text.append(plain)
 
@@ -102,6 +104,11 @@ class Module:
         add_imports(self.imports, found)
         if found.string.startswith("pub use") and found[2]:
             self.handed_on.update(it.strip() for it in found[2].split(","))
+
+
+def is_proof(one, line):
+    """Whether a line begins the proof of a law: a name with no word before it that makes it a definition has one."""
+    return re.match(r"pub (?!record |data )", one.text[0]) and line.split()[:1] == [one.name]
 
 
 def paragraphs(lines):
