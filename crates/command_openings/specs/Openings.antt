@@ -1,8 +1,6 @@
 -- Which opening a command starts from.
-use Rattle.std.specs.Prelude.{IsTrue}
 use Rattle.dude_base.specs.declared.sizes.Sizes.{Sizes}
-use Rattle.pmem_trait.specs.Words.{IsSettled}
-use Rattle.pmem_trait.specs.Sights.{Sight, state_now}
+use Rattle.pmem_trait.specs.Sights.{Sight}
 use Rattle.pmem_trait.specs.Reads.{ContentHas}
 use Rattle.tatp_model.specs.Population.{population}
 use Rattle.image_recovery.specs.Recovered.{RecoversTo}
@@ -15,7 +13,3 @@ new_opening sizes = record { number = 0; sizes = sizes; database = population si
 -- the medium's content recovers to this opening
 abbrev pub IsOpeningOn : Sight → Opening → Type 0
 IsOpeningOn medium opening = ContentHas (λ content. RecoversTo content opening.number opening.sizes opening.database) medium
-
--- each word of a medium is settled, where the medium is visible
-abbrev pub IsAtRest : Sight → Type 0
-IsAtRest medium = IsTrue medium.is_visible → IsSettled medium.len (state_now medium)

@@ -2,12 +2,13 @@
 
 ghost use Rattle.std.specs.Prelude.{true, IfOk, IfErr};
 ghost use Rattle.dude_base.specs.Sizes.{IsAccepted};
+ghost use Rattle.pmem_trait.specs.Sights.{IsAtRest};
 ghost use Rattle.image_format.specs.Causes.{FitsImage};
 ghost use Rattle.image_opening.specs.Opened.{IsOpened};
 ghost use Rattle.dude_engine.specs.Plain.{IsOpeningOf};
 ghost use Rattle.command_openings.specs.Opens.{OpensImage, OpensImagePartly};
 ghost use Rattle.command_openings.specs.Faults.{IsFaultOfFormat, IsFormatRefusal, IsSized};
-ghost use Rattle.command_openings.specs.Openings.{IsAtRest, new_opening};
+ghost use Rattle.command_openings.specs.Openings.{new_opening};
 
 use command_edges::Fault;
 use dude_base::sizes::Sizes;

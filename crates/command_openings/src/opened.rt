@@ -1,11 +1,11 @@
 //! The image on a medium is opened, and its opening number told.
 
 ghost use Rattle.std.specs.Prelude.{◌≡◌, IfOk, IfErr};
+ghost use Rattle.pmem_trait.specs.Sights.{IsAtRest};
 ghost use Rattle.image_opening.specs.Opened.{IsOpened};
 ghost use Rattle.command_openings.specs.Announcing.{FailsTelling, IsAnnounced, IsSameImage, RanTelling, RisesFaults, ShowsWhileTelling};
 ghost use Rattle.command_openings.specs.Opens.{OpensOwn, OpensOwnPartly, OnlyReadsUnopened};
 ghost use Rattle.command_openings.specs.Faults.{IsOpenRefusal, fault_of_opening};
-ghost use Rattle.command_openings.specs.Openings.{IsAtRest};
 
 use command_edges::Fault;
 use image_opening::{Opened, open};

@@ -83,29 +83,33 @@ data Arrangement : List Text → RunWords → Type 0 where
 same-text : (xs ys : Text) → bytes_eq xs ys ≡ true → xs ≡ ys
 same-text xs ys e = (bytes_eq-Decides xs ys).0 e
 
-behind-frames : (f : Text) (more : List Text) → Arrangement (codes "--frames" ∷ f ∷ more) (behind_frames f more)
-behind-frames f [] = one-option of_frames f []
-behind-frames f (file ∷ []) = one-option of_frames f (file ∷ [])
-behind-frames f (option ∷ l ∷ files) = elim (cases_Bool (bytes_eq option (codes "--locks"))) [
-  | inl same ↦ rw (same, same-text option (codes "--locks") same) (two-options of_frames f l files)
-  | inr different ↦ rw different (one-option of_frames f (option ∷ l ∷ files))
-]
+-- behind an option and its number
+abbrev behind_of : RunOption → Text → List Text → RunWords
+behind_of of_frames = behind_frames
+behind_of of_locks = behind_locks
 
-behind-locks : (l : Text) (more : List Text) → Arrangement (codes "--locks" ∷ l ∷ more) (behind_locks l more)
-behind-locks l [] = one-option of_locks l []
-behind-locks l (file ∷ []) = one-option of_locks l (file ∷ [])
-behind-locks l (option ∷ f ∷ files) = elim (cases_Bool (bytes_eq option (codes "--frames"))) [
-  | inl same ↦ rw (same, same-text option (codes "--frames") same) (two-options of_locks l f files)
-  | inr different ↦ rw different (one-option of_locks l (option ∷ f ∷ files))
-]
+behind_of-two : (o : RunOption) (v word w : Text) (files : List Text) → behind_of o v (word ∷ w ∷ files)
+    ≡ (if bytes_eq word (word_of (other o)) then given_by o (Some v) (Some w) files else given_by o (Some v) None (word ∷ w ∷ files))
+behind_of-two of_frames v word w files = refl
+behind_of-two of_locks v word w files = refl
+
+behind : (o : RunOption) (v : Text) (more : List Text) → Arrangement (word_of o ∷ v ∷ more) (behind_of o v more)
+behind of_frames v [] = one-option of_frames v []
+behind of_locks v [] = one-option of_locks v []
+behind of_frames v (file ∷ []) = one-option of_frames v (file ∷ [])
+behind of_locks v (file ∷ []) = one-option of_locks v (file ∷ [])
+behind o v (word ∷ w ∷ files) = rw (behind_of-two o v word w files) (elim (cases_Bool (bytes_eq word (word_of (other o)))) [
+  | inl same ↦ rw (same, same-text word (word_of (other o)) same) (two-options o v w files)
+  | inr different ↦ rw different (one-option o v (word ∷ w ∷ files))
+])
 
 arrangement : (words : List Text) → Arrangement words (run_words words)
 arrangement [] = no-option []
 arrangement (file ∷ []) = no-option (file ∷ [])
 arrangement (option ∷ number ∷ more) = elim (cases_Bool (bytes_eq option (codes "--frames"))) [
-  | inl same ↦ rw (same, same-text option (codes "--frames") same) (behind-frames number more)
+  | inl same ↦ rw (same, same-text option (codes "--frames") same) (behind of_frames number more)
   | inr first ↦ elim (cases_Bool (bytes_eq option (codes "--locks"))) [
-    | inl same ↦ rw (first, same, same-text option (codes "--locks") same) (behind-locks number more)
+    | inl same ↦ rw (first, same, same-text option (codes "--locks") same) (behind of_locks number more)
     | inr second ↦ rw (first, second) (no-option (option ∷ number ∷ more))
   ]
 ]

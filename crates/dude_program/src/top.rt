@@ -2,7 +2,7 @@
 
 ghost use Rattle.std.specs.Prelude.{◌≡◌, map, IfSome};
 ghost use Rattle.std.specs.Rc.{rc_str_bytes};
-ghost use Rattle.command_openings.specs.Openings.{IsAtRest};
+ghost use Rattle.pmem_trait.specs.Sights.{IsAtRest};
 ghost use Rattle.command_words.specs.Command.{IsInLimits, meaning_of_command};
 ghost use Rattle.command_edges.specs.Fault.{status_of};
 ghost use Rattle.dude_program.specs.Ending.{CausesByWords, Ends, HeadlineByWords, RefusesNoCommand};

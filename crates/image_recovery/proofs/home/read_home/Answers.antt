@@ -1,23 +1,10 @@
-use Rattle.std.proofs.Common.{◌≡◌, slice_index, sym, ap, ◌∙◌, refl, arith, rules}
+use Rattle.std.proofs.Common.{◌≡◌, slice_index, sym, ap, ◌∙◌, arith, rules}
 use Rattle.dude_base.specs.declared.sizes.Sizes.{Sizes}
-use Rattle.pmem_trait.proofs.ReadRuns.{reads_here, reads_then, read_alone, read_content}
+use Rattle.pmem_trait.proofs.ReadRuns.{reads_then, read_alone, read_content}
 use Rattle.log_ring.proofs.Replayable.{one_moment}
 use Rattle.image_recovery.proofs.Homes.{home_same, word_pushed}
-use Rattle.image_recovery.proofs.ReplayReading.{made_at_device, made_without_memory}
+use Rattle.image_recovery.proofs.ReplayReading.{made_at_device}
 use Rattle.image_recovery.proofs.home.read_home.Goals as goal
-
-pub returns-in_err-words-clause-reads : goal.returns-in_err-words-clause-reads
-returns-in_err-words-clause-reads g c = made_without_memory c.from_residual.result (search rules) (reads_here _)
-
-pub loop-i-init : goal.loop-i-init
-loop-i-init g c = record {
-  len = refl;
-  reads = reads_here _;
-  few = omega arith;
-  size = c.in_ok-words.ensures.len;
-  capacity = c.in_ok-words.ensures.exact;
-  words = λ told content is i below. absurd (omega arith);
-}
 
 pub returns-in_err-read-clause-reads : goal.returns-in_err-read-clause-reads
 returns-in_err-read-clause-reads g c = made_at_device c.from_residual-in_err-read.result (search rules) (reads_then c.loop-i.invariant.reads (read_alone c.in_err-read.ensures.one_call))
