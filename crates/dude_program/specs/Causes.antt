@@ -208,7 +208,7 @@ SucceedsIfGood meaning old new fault = IsGood meaning old
 
 -- What stays at a refusal. Nothing is done. Where a file couldn't be read, one of requests is bad, or a medium can't be
 -- formatted, the medium is as it was; where its content can't be opened it was only read. An opened image that is refused is
--- left opened, which its cause says. Where a call failed or there was no memory, nothing is said here.
+-- left opened, as its cause says. Where a call failed or there was no memory, nothing is said here.
 abbrev pub Untouched : Meaning → Option Fault → Sight → Sight → List Done → Type 0
 Untouched meaning (Some (File number)) s t done = (t ≡ s) × (done ≡ [])
 Untouched meaning (Some (Text number row field)) s t done = (IsTrue (reads_requests meaning) → t ≡ s) × (done ≡ [])
@@ -245,7 +245,7 @@ DoesNothingRefused meaning old done = makes_image meaning ≡ false → IsTrue o
 abbrev pub RanUnlessDevice : Option Fault → Sight → Sight → Type 0
 RanUnlessDevice fault s t = (ok : Bool) × SomeCalls ok s t × ((ok ≡ false) ↔ (fault ≡ Some Device))
 
--- The calls of the command begin with those that make its image, or open it and tell its number; and these are made once.
+-- The calls of the command begin with exactly those that make its image, or open it and tell its number.
 pub record OpensOnce (meaning : Meaning) (fault : Option Fault) (s t : Sight) : Type 0 where
   -- the command starts from this opening
   pub opening : Opening
@@ -254,10 +254,10 @@ pub record OpensOnce (meaning : Meaning) (fault : Option Fault) (s t : Sight) : 
   pub words : List ℕ
   pub opened : Sight
   pub calls : OpensByCalls (makes_image meaning) opening words s opened
-  -- behind them come those of the command's work, or none
+  -- behind them come calls of the command's work; or none, where it ends with its opening
   pub behind : MatchBool (ends_opened meaning) (t ≡ opened) (RanUnlessDevice fault opened t)
 
--- A command that ended well or whose output failed, and one that did anything, opened its image once.
+-- So it is of a command that ended well or whose output failed, and of one that did anything.
 abbrev pub OpensOnceBy : Meaning → Option Fault → List Done → Sight → Sight → Type 0
 OpensOnceBy meaning None done s t = OpensOnce meaning None s t
 OpensOnceBy meaning (Some Output) done s t = OpensOnce meaning (Some Output) s t
@@ -279,7 +279,7 @@ pub record Causes (meaning : Meaning) (old new : World) (done : List Done) (faul
   pub nothing : DoesNothingRefused meaning old done
   -- no call on the medium failed but the last one, where the fault is `Device`
   pub ran : RanUnlessDevice fault old.medium new.medium
-  -- the image is made or opened once
+  -- its calls begin with exactly those of one opening
   pub once : OpensOnceBy meaning fault done old.medium new.medium
   -- the files stay, and the count of their faults only rises
   pub files : FilesStay old.files new.files
