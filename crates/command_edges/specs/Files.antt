@@ -9,6 +9,7 @@ use Rattle.tatp_csv.specs.RequestFile.{requests_of}
 use Rattle.dude_io.specs.Files.{FilesSight, ReadMade}
 use Rattle.command_edges.specs.declared.fault.Fault.{Fault}
 use Rattle.command_edges.specs.declared.fault.Fault.TheVariants.{File, Text, Memory}
+use Rattle.command_edges.specs.Reads.{ReadsInOrder}
 
 -- these are the requests of some text, which is that of the file of this name where the files are visible
 abbrev pub OfFile : FilesSight → List ℕ → List Request → Type 0
@@ -64,9 +65,10 @@ IsUnread files name = IsTrue files.lists_reads
 abbrev pub IsFirstUnread : List (List ℕ) → FilesSight → FilesSight → ℕ → Type 0
 IsFirstUnread names old new number = IsFirst (λ name. IsTrue old.is_visible → IsThere old name) (IsUnread new) names number
 
--- Why the files weren't all read: reading one counted a fault, or there was no memory.
+-- Why the files weren't all read: reading one counted a fault, behind those that were read in order, or there was no memory.
 abbrev pub HasReadFault : List (List ℕ) → FilesSight → FilesSight → Fault → Type 0
-HasReadFault names old new (File number) = IsFirstUnread names old new number × Risen old.faults new.faults
+HasReadFault names old new (File number) =
+    IsFirstUnread names old new number × Risen old.faults new.faults × ReadsInOrder names (Some (File number)) old new
 HasReadFault names old new Memory = ⊤
 HasReadFault names old new _ = ⊥
 

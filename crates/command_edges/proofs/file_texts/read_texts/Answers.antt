@@ -18,6 +18,16 @@ use Rattle.command_edges.proofs.file_texts.read_texts.Goals as goal
 pub loop-index-init : goal.loop-index-init
 loop-index-init g c = record { calm = refl; read = rw c.new-texts.ensures.items tt; reads = whole_none (g.F.Files.sight c.args.files.now) }
 
+pub returns-in-Err-Failed-clause-reads : goal.returns-in-Err-Failed-clause-reads
+returns-in-Err-Failed-clause-reads g c =
+    let text = g.S.AsStr.text in
+    let t = g.F.Files.sight c.loop-index.files in
+    let u = g.F.Files.sight c.read_file.new.files in
+    let same : c.as_str.result.now ≡ text (get_or c.args.names.now c.loop-index.index c.index-names-index.result) = c.as_str.ensures ∙ ap text c.index-names-index.is in
+    let place = place_in_map text c.args.names.now c.loop-index.index c.index-names-index.result c.loop-index-test.true in
+    unread_in_order (map text c.args.names.now) _ _ place.0 (c.loop-index.index + 1) place.1 place.2 c.loop-index.invariant.reads c.in-Err-Failed.ensures.stays
+    (subst (λ (name : List ℕ). ReadsOnce 16777216 name (Err Failed) t u) same (rw c.in-Err-Failed.field-0-is at c.in-Err-Failed.ensures.reads))
+
 pub returns-in-Err-Failed-clause-cause : goal.returns-in-Err-Failed-clause-cause
 returns-in-Err-Failed-clause-cause g c =
     let s = g.F.Files.sight c.args.files.now in
@@ -29,17 +39,8 @@ returns-in-Err-Failed-clause-cause g c =
       IsFirst-map-at g.S.AsStr.text there (IsUnread u) c.args.names.now c.loop-index.index c.index-names-index.result c.loop-index-test.true
           (AllZip-firsts (IsTextOf s) there _ c.loop-index.texts.items (file_is_there s) c.loop-index.invariant.read) (subst (IsUnread u) same unread),
       subst (λ (n : ℕ). Risen n u.faults) c.loop-index.invariant.calm (rw c.in-Err-Failed.field-0-is at c.in-Err-Failed.ensures.cause),
+      returns-in-Err-Failed-clause-reads g c,
     )
-
-pub returns-in-Err-Failed-clause-reads : goal.returns-in-Err-Failed-clause-reads
-returns-in-Err-Failed-clause-reads g c =
-    let text = g.S.AsStr.text in
-    let t = g.F.Files.sight c.loop-index.files in
-    let u = g.F.Files.sight c.read_file.new.files in
-    let same : c.as_str.result.now ≡ text (get_or c.args.names.now c.loop-index.index c.index-names-index.result) = c.as_str.ensures ∙ ap text c.index-names-index.is in
-    let place = place_in_map text c.args.names.now c.loop-index.index c.index-names-index.result c.loop-index-test.true in
-    unread_in_order (map text c.args.names.now) _ _ place.0 (c.loop-index.index + 1) place.1 place.2 c.loop-index.invariant.reads c.in-Err-Failed.ensures.stays
-    (subst (λ (name : List ℕ). ReadsOnce 16777216 name (Err Failed) t u) same (rw c.in-Err-Failed.field-0-is at c.in-Err-Failed.ensures.reads))
 
 pub returns-in-Err-NoMemory-clause-reads : goal.returns-in-Err-NoMemory-clause-reads
 returns-in-Err-NoMemory-clause-reads g c =
