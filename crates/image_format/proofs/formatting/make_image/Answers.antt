@@ -44,7 +44,7 @@ returns-in_err-write_image-clause-cause g c =
       made_cause c.in_err-write_image.ensures.made,
     )
 
--- after the calls of a new image, or some of them, each image is one of the old or the new
+-- the calls of a new image, all of them or the first ones, show it
 images_made : {ok : Bool} {p l s : Sizes} {xs ys : List ℕ} {a b : Sight} → p ≡ s → xs ≡ ys → l ≡ s → IsAccepted s → image_words s ≤ a.len → StandsFor l ys (population l.subscribers)
     → CallsMade (format_calls p xs) ok a b → ShowsNewImage s a b
 images_made {ok} place home layout accepted long stands made =
