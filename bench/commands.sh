@@ -80,6 +80,22 @@ for words in recover dump 'run good.csv' 'drive 1 5 2' 'format 8 96 2 16' 'fresh
 done
 exec 9>&-
 holds 'a locked image stays' cmp -s new.img before.img
+
+# A second process on an image that is driven: each command ends at once, and the image has what the first process told.
+"$program" kept.img format 1000 12000 4 256 > out 2> err < /dev/null
+"$program" kept.img drive 1 90000 4 > drive.out 2> drive.err < /dev/null & driver=$!
+for _ in $(seq 1000); do grep -q durable drive.err && break; sleep 0.01; done
+for words in dump recover 'run good.csv' 'drive 1 5 2' 'format 8 96 2 16'; do
+  begun=$(date +%s%N)
+  try 6 '' 'device' kept.img $words
+  holds "beside a drive, $words ends within a second" [ $(($(date +%s%N) - begun)) -lt 1000000000 ]
+done
+holds 'the drive goes on beside the others' kill -9 "$driver"
+wait "$driver" 2> /dev/null
+told=$(sed -n 's/^durable //p' drive.err | tail -n 1)
+"$program" kept.img recover > out 2> err < /dev/null
+holds "an image of which $told was told recovers to it at least, and not to $(cat out)" [ "$(sed -n 's/^last //p' out)" -ge "$told" ]
+
 ln -s nowhere link.img
 try 6 '' 'device' link.img recover
 holds 'nothing is left beside an image that is not made' [ -z "$(find . -name '*.new*')" ]
