@@ -9,10 +9,9 @@ use Rattle.core_events.specs.Views.{View}
 use Rattle.core_events.specs.Words.{State}
 use Rattle.core_events.specs.Events.{Event, store, touch, take_turn, see_full, empty_box, raise_durable, raise_reproduced, view_after}
 use Rattle.core_events.specs.Conditions.{May}
-use Rattle.core_events.specs.KeptNumbers.{numbers_of}
 use Rattle.core_table.specs.Known.{Known}
 use Rattle.core_table.specs.Rules.{Foreseen}
-use Rattle.core_table.proofs.Foreseen.{box_full, clock_upto, durable_drawn, durable_raised, drawn_persisted}
+use Rattle.core_table.specs.Foreseen.{EmptiesFull, RaisesDurable, RaisesReproduced}
 use Rattle.core_runs.specs.Views.{two, decided, posted, emptied, after_all}
 
 pub can_store : May two (store 3) decided
@@ -27,27 +26,15 @@ turn_taken = after_all ((take_turn, 0) ∷ (see_full 0 0, 1) ∷ []) posted
 abbrev pub durable_one : View
 durable_one = view_after two (raise_durable 1) emptied 0
 
-only_one : (l : List ℕ) → has l 1 ≡ true → (n : ℕ) → 0 < n → n ≤ 1 → has l n ≡ true
-only_one l h n pos le = let e : n ≡ 1 = omega arith in rw e h
-
 module _ {S X : Type 0} (slot_fact : Setup → State → List X → List (Option S) → Type 0) (id : ℕ) (k : Known X) where
-  pub empty_fits : k.view ≡ turn_taken → Foreseen slot_fact two (empty_box 0 0) id k
-  empty_fits is s h at = box_full slot_fact two id k s h at 0 1 (ap (λ (v : View). v.turn.has_it) is) (ap (λ (v : View). find v.turn.full 0) is)
+  pub empty_fits : EmptiesFull slot_fact → k.view ≡ turn_taken → Foreseen slot_fact two (empty_box 0 0) id k
+  empty_fits law is = law two id k 0 0 1 (ap (λ (v : View). v.turn.has_it) is) (ap (λ (v : View). find v.turn.full 0) is)
 
-  pub durable_fits : k.view ≡ emptied → Foreseen slot_fact two (raise_durable 1) id k
-  durable_fits is s h at =
-      let draws : k.view.draws ≡ emptied.draws = ap (λ (v : View). v.draws) is in
-      let up = clock_upto slot_fact two id k s h at 1 (omega arith) in let drawn = durable_drawn slot_fact two id k s h at in
-      let number_is : k.view.tx.hand.number ≡ 0 = ap (λ (v : View). v.tx.hand.number) is in
-      let kept = drawn_persisted slot_fact two id k s h at 1 (ap (λ (v : View). has v.drawn 1) is) (λ e. absurd (omega arith)) refl (ap (λ (v : View). v.box.is_empty) is) in
-      (omega arith, (λ n pos le. only_one (numbers_of h.core.persisted) kept n pos le))
+  pub durable_fits : RaisesDurable slot_fact → k.view ≡ emptied → Foreseen slot_fact two (raise_durable 1) id k
+  durable_fits law is = let draws : k.view.draws ≡ emptied.draws = ap (λ (v : View). v.draws) is in law two id k 1 (ap (λ (v : View). has v.drawn 1) is) (omega arith)
 
-  pub reproduced_fits : k.view ≡ durable_one → Foreseen slot_fact two (raise_reproduced 1) id k
-  reproduced_fits is s h at =
-      let draws : k.view.draws ≡ durable_one.draws = ap (λ (v : View). v.draws) is in let number : k.view.turn.durable ≡ 1 = ap (λ (v : View). v.turn.durable) is in
-      let up = clock_upto slot_fact two id k s h at 1 (omega arith) in let drawn = durable_drawn slot_fact two id k s h at in let raised = durable_raised slot_fact two id k s h at in
-      let low = raised.0 in let ordered = raised.1 in
-      (omega arith, omega arith)
+  pub reproduced_fits : RaisesReproduced slot_fact → k.view ≡ durable_one → Foreseen slot_fact two (raise_reproduced 1) id k
+  reproduced_fits law is = let draws : k.view.draws ≡ durable_one.draws = ap (λ (v : View). v.draws) is in law two id k 1 (ap (λ (v : View). has v.drawn 1) is) (omega arith)
 
 -- the view after a step, where the one before and the number found are known
 pub next_view : (z : Setup) (e : Event) (v w u : View) (n m : ℕ) → z ≡ two → v ≡ u → n ≡ m → w ≡ view_after z e v n → w ≡ view_after two e u m

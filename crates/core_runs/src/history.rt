@@ -6,6 +6,7 @@ ghost use Rattle.core_runs.specs.Views.{two, one_write, entered, looked, read_ou
 
 use crate::trouble::{Trouble, expect};
 use core_table::event_table::Seat;
+use core_table::foreseen::law_of_foreseen;
 use core_table::slot_rule::AnySlots;
 use dude_base::write_list::WriteList;
 use tatp_model::reply::Reply;
@@ -99,6 +100,7 @@ pub fn empty(stm: &Small, seat: &mut Seat<(), ()>) -> Result<(), Trouble>
     ensures seat { OnOk result (BelongsTo stm.now.events seat.new) }
     ensures view { OnOk result (seat.new.me.0.view ≡ emptied) }
 {
+    law_of_foreseen::<(), (), AnySlots>();
     expect(stm.take_turn(seat, 0), 0)?;
     expect(stm.see_full(seat, 0, 0), 1)?;
     stm.empty_box(seat, 0, 0);
@@ -113,6 +115,7 @@ pub fn settle(stm: &Small, seat: &mut Seat<(), ()>)
     ensures seat { BelongsTo stm.now.events seat.new }
     ensures view { seat.new.me.0.view ≡ settled }
 {
+    law_of_foreseen::<(), (), AnySlots>();
     stm.raise_durable(seat, 1);
     stm.raise_reproduced(seat, 1);
     stm.give_turn(seat, false);
