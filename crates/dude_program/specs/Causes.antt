@@ -14,7 +14,7 @@ use Rattle.dude_io.specs.Files.{FilesSight, FilesStay}
 use Rattle.redo_record.specs.Recovery.{IsFormatted, IsDamaged}
 use Rattle.image_recovery.specs.Recovered.{IsNoDatabase, RecoversTo}
 use Rattle.command_words.specs.Command.{Meaning, Meaning.FreshRun, Meaning.FormatImage, Meaning.RunFiles, Meaning.RecoverImage, Meaning.DumpTables, Meaning.DriveLoad}
-use Rattle.command_edges.specs.Files.{IsFirstBad, IsFirstUnread, IsGoodFile, MissesFile}
+use Rattle.command_edges.specs.Files.{HasReadFault, IsFirstBad, IsGoodFile, MissesFile}
 use Rattle.command_openings.specs.Opens.{OpensByCalls}
 use Rattle.dude_engine.specs.Opening.{Opening, IsOpening}
 use Rattle.dude_engine.specs.Requests.{request_count}
@@ -149,7 +149,7 @@ abbrev pub HasCause : Meaning → World → World → Option Fault → Type 0
 HasCause meaning old new None = ⊤
 HasCause meaning old new (Some Memory) = ⊤
 HasCause meaning old new (Some Usage) = ⊥
-HasCause meaning old new (Some (File number)) = IsFirstUnread (file_names meaning) old.files number × Risen old.files.faults new.files.faults
+HasCause meaning old new (Some (File number)) = HasReadFault (file_names meaning) old.files new.files (File number)
 HasCause meaning old new (Some (Text number row field)) =
     IsTrue (reads_requests meaning) → IsFirstBad (file_names meaning) old.files number row field
 HasCause meaning old new (Some Unformatted) = (makes_image meaning ≡ false) × ContentHas (λ content. RefusesContent content Unformatted) old.medium
