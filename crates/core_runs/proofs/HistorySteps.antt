@@ -1,8 +1,6 @@
 -- Steps of the history that are allowed, and what the seat knows of the rest of the state where they ask something of it.
-use Rattle.std.proofs.Common.{◌≡◌, ℕ, ◌<◌, ◌≤◌, List, [], ◌∷◌, true, refl, ap, ◌∙◌, arith}
-use Rattle.std.specs.Prelude.{Some}
-use mathlib.Core.Option.{Option, some}
-use lib.ListN.{get_elem?}
+use Rattle.std.proofs.Common.{◌≡◌, ℕ, List, [], ◌∷◌, refl, ap, ◌∙◌, arith}
+use mathlib.Core.Option.{Option}
 use Rattle.core_events.specs.Setups.{Setup}
 use Rattle.core_events.specs.Keyed.{find, has}
 use Rattle.core_events.specs.Views.{View}
