@@ -1,4 +1,4 @@
-//! The check of one table in an array of words: its chains, its free list and what its records hold.
+//! The check of one table in an array of words: its chains, what its records hold, and its pool, which is checked by itself too.
 #![tactic(auto)]
 
 pub mod check_fault;
