@@ -198,7 +198,7 @@ fn count_requests(files: &[Vec<Request>]) -> usize
 
 // How many requests the longest file has; 0 where there is no file.
 fn longest_file(files: &[Vec<Request>]) -> usize
-    ensures none_longer { All (λ requests. length requests ≤ result) (map (λ f. f.items) files.now) }
+    ensures none_longer { All (λ file. length file ≤ result) (map (λ f. f.items) files.now) }
     ensures one_as_long { (result ≡ 0) ⊎ HasLength result (map (λ f. f.items) files.now) }
 {
     let mut longest = 0;
