@@ -1,7 +1,7 @@
 //! What a script's lines are carried out on.
 
 use crate::crashes::{medium_of, say_failures};
-use crate::disk::{change, open, say_file};
+use crate::disk::{change, open, say_file, watch};
 use crate::edges::{files_of, say_output, say_read, say_sink, text_of};
 use crate::log::Log;
 use crate::medium::Subject;
@@ -195,6 +195,7 @@ impl Bench {
             }
             ("output", &[]) => say_output(rt, file),
             ("open", writes) => self.open(file, writes.first().copied()),
+            ("watch", &[failing]) => self.watch(file, failing),
             ("open_beside", &[]) => Ok(drop(open(rt, file, None)?)),
             ("bytes", places) => say_file(rt, file, places),
             _ => change(rt, name, numbers, file, lines),
@@ -290,6 +291,13 @@ impl Bench {
     fn open(&mut self, file: &str, failing: Option<u64>) -> io::Result<()> {
         self.subject = Subject::Nothing;
         self.subject = open(self.rt, file, failing)?;
+        Ok(())
+    }
+
+    /// The same where each call on files is printed.
+    fn watch(&mut self, file: &str, failing: u64) -> io::Result<()> {
+        self.subject = Subject::Nothing;
+        self.subject = watch(self.rt, file, failing)?;
         Ok(())
     }
 

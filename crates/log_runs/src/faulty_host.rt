@@ -1,10 +1,13 @@
-//! The host, of whose files one write may fail; its standard error takes nothing then.
+//! The host, of whose files one write may fail; its standard error takes nothing then. Or its calls are printed, and one of
+//! them may fail.
 
-use dude_io::Lock;
+use crate::call_list::{CallList, enter, failure};
+use crate::faulty_file::FaultyFile;
 use std::alloc::{Allocator, Global};
 use std::fmt::Display;
-use std::fs::{File, Metadata, OpenFile, OpenOptions};
-use std::io::{self, ErrorKind, Read, Seek, SeekFrom, Write};
+use std::fs::{Metadata, OpenOptions};
+use std::io;
+use std::rc::Rc;
 use std::rt::Files;
 
 /// The host, where it is said with files of which a write fails, once in each file. Writes are counted from 0.
@@ -12,6 +15,8 @@ use std::rt::Files;
 pub struct FaultyHost {
     pub rt: HostRuntime,
     pub failing: Option<u64>,
+    /// What prints the calls, where they are printed.
+    pub list: Option<Rc<CallList>>,
 }
 
 impl Files for FaultyHost {
@@ -20,10 +25,10 @@ impl Files for FaultyHost {
     type Dir = <HostRuntime as Files>::Dir;
 
     fn open_file(&self, how: &OpenOptions, path: &str) -> io::Result<FaultyFile> {
-        Ok(FaultyFile {
-            file: self.rt.open_file(how, path)?,
-            left: self.failing.unwrap_or(u64::MAX),
-        })
+        let name = String::from_str(self.rt.alloc(), path)?;
+        let list = self.list.clone()?;
+        let file = self.rt.open_file(how, path)?;
+        Ok(FaultyFile::new(file, name, self.failing, list))
     }
 
     fn open_dir(&self, path: &str) -> io::Result<Self::Dir> {
@@ -47,10 +52,12 @@ impl Files for FaultyHost {
     }
 
     fn hard_link(&self, original: &str, link: &str) -> io::Result<()> {
+        enter(&self.list, format_args!("link {original} {link}"))?;
         self.rt.hard_link(original, link)
     }
 
     fn remove_file(&self, path: &str) -> io::Result<()> {
+        enter(&self.list, format_args!("remove {path}"))?;
         self.rt.remove_file(path)
     }
 
@@ -77,80 +84,18 @@ impl Alloc for FaultyHost {
 
 impl Eprint for FaultyHost {
     fn eprint<D: Display + Drop>(&self, value: D) -> io::Result<()> {
-        match self.failing {
-            Some(_) => Err(failure()),
-            None => self.rt.eprint(value),
+        match (&self.list, self.failing) {
+            (Some(list), _) => list.enter(format_args!("standard error: {value}")),
+            (None, Some(_)) => Err(failure()),
+            (None, None) => self.rt.eprint(value),
         }
     }
 
     fn eprintln<D: Display + Drop>(&self, value: D) -> io::Result<()> {
-        match self.failing {
-            Some(_) => Err(failure()),
-            None => self.rt.eprintln(value),
+        match (&self.list, self.failing) {
+            (Some(list), _) => list.enter(format_args!("line on standard error: {value}")),
+            (None, Some(_)) => Err(failure()),
+            (None, None) => self.rt.eprintln(value),
         }
-    }
-}
-
-/// A file of which a write may fail, once.
-#[derive(Drop)]
-pub struct FaultyFile {
-    file: File,
-    /// How many writes are made before the one that fails.
-    left: u64,
-}
-
-/// What fails.
-fn failure() -> io::Error {
-    io::Error::from(ErrorKind::Other)
-}
-
-impl Read for FaultyFile {
-    fn read(&mut self, buf: &mut [u8]) -> io::Result<usize> {
-        self.file.read(buf)
-    }
-}
-
-impl Write for FaultyFile {
-    fn write(&mut self, buf: &[u8]) -> io::Result<usize> {
-        if self.left == 0 {
-            self.left = u64::MAX;
-            return Err(failure());
-        }
-        self.left -= 1;
-        self.file.write(buf)
-    }
-
-    fn flush(&mut self) -> io::Result<()> {
-        self.file.flush()
-    }
-}
-
-impl Seek for FaultyFile {
-    fn seek(&mut self, to: SeekFrom) -> io::Result<u64> {
-        self.file.seek(to)
-    }
-}
-
-impl OpenFile for FaultyFile {
-    fn metadata(&self) -> io::Result<Metadata> {
-        self.file.metadata()
-    }
-
-    fn set_len(&self, size: u64) -> io::Result<()> {
-        self.file.set_len(size)
-    }
-
-    fn sync_all(&self) -> io::Result<()> {
-        self.file.sync_all()
-    }
-
-    fn sync_data(&self) -> io::Result<()> {
-        self.file.sync_data()
-    }
-}
-
-impl Lock for FaultyFile {
-    fn try_lock(&self) -> io::Result<()> {
-        Lock::try_lock(&self.file)
     }
 }

@@ -5,9 +5,11 @@
 #![tactic(auto)]
 
 mod bench;
+mod call_list;
 mod crashes;
 mod disk;
 mod edges;
+mod faulty_file;
 mod faulty_host;
 mod log;
 mod medium;
