@@ -18,7 +18,6 @@ use Rattle.tatp_layout.specs.StandsFor.{StandsFor}
 use Rattle.tatp_core.specs.Serves.{Answers, Serves}
 use Rattle.word_space.specs.declared.flat.Flat.{Flat}
 use Rattle.word_space.specs.Flats.{flat_below, flat_sight, words_of}
-
 use Rattle.run_order.specs.Runs.{PrecedesInRounds}
 use Rattle.back_store.specs.Back.{BackState}
 use Rattle.log_numbered.specs.declared.run_log.RunLog.{RunLog}

@@ -1,5 +1,6 @@
 //! What a script remembers from one command to the next.
 
+use crate::audits::{changed, judge};
 use crate::faults::faults;
 use crate::files::{files, shared};
 use crate::numbers::{dump, last, load};
@@ -26,6 +27,8 @@ pub struct Bench {
     files: Vec<MemFile>,
     /// What output goes to.
     sink: MemSink,
+    /// What a run printed.
+    printed: Vec<u8>,
 }
 
 impl Bench {
@@ -36,6 +39,7 @@ impl Bench {
             served: Vec::new(alloc),
             files: Vec::new(alloc),
             sink: MemSink::new(alloc, 0, 1, Vec::new(alloc))?,
+            printed: Vec::new(alloc),
         })
     }
 
@@ -89,6 +93,8 @@ impl Bench {
             "sink" => self.open_sink(numbers, out),
             "print" => self.print(numbers, out),
             "text" => self.print_text(words, out),
+            "printed" => self.take_printed(words, out),
+            "audit" => self.audit(words, numbers, out),
             _ => Err(Stop::NoCommand),
         }
     }
@@ -160,6 +166,26 @@ impl Bench {
     fn print_text(&mut self, words: &[&str], out: &mut Vec<u8>) -> Result<(), Stop> {
         let printed = print_text(&text_of(self.alloc, words)?, &mut self.sink);
         Ok(self.push_printed(printed, out)?)
+    }
+
+    /// Takes a text as what a run printed, and appends how many bytes it has.
+    fn take_printed(&mut self, words: &[&str], out: &mut Vec<u8>) -> Result<(), Stop> {
+        self.printed = text_of(self.alloc, words)?;
+        push_count("bytes", self.printed.len() as u64, out)?;
+        Ok(())
+    }
+
+    /// Appends the verdict on what was printed, of the files, behind a number; or on that with another text at a place.
+    fn audit(&mut self, words: &[&str], numbers: &[u64], out: &mut Vec<u8>) -> Result<(), Stop> {
+        match (words, numbers) {
+            ([_], [number]) => judge(&self.files, *number, &self.printed, out),
+            ([_, "at", _, piece @ ..], [number, place, ..]) => {
+                let piece = text_of(self.alloc, piece)?;
+                let text = changed(self.alloc, &self.printed, *place as usize, &piece)?;
+                judge(&self.files, *number, &text, out)
+            }
+            _ => Err(Stop::NoCommand),
+        }
     }
 
     /// Appends whether all was printed, and what the sink has.

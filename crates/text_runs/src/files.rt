@@ -34,7 +34,7 @@ pub fn shared(files: &[MemFile], names: &[&str], out: &mut Vec<u8>) -> Result<()
 }
 
 /// Files in memory, of which chosen calls fail. `out` says where memory comes from.
-fn world_of(files: &[MemFile], fail: &[u64], out: &Vec<u8>) -> Result<MemFiles, Stop> {
+pub fn world_of(files: &[MemFile], fail: &[u64], out: &Vec<u8>) -> Result<MemFiles, Stop> {
     let alloc = *out.allocator();
     let mut copies = Vec::new(alloc);
     for file in files {

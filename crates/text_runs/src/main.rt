@@ -1,7 +1,8 @@
 //! Carries out a script over the texts of the program: request files, replies, the dump, loads and their summary, command
-//! words, faults, command files and output. It prints each remark of the script as it stands, and what each command gave.
+//! words, faults, command files, output and audits. It prints each remark of the script as it stands, and what each command gave.
 #![tactic(auto)]
 
+mod audits;
 mod bench;
 mod faults;
 mod files;
