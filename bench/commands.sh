@@ -82,8 +82,8 @@ exec 9>&-
 holds 'a locked image stays' cmp -s new.img before.img
 
 # A second process on an image that is driven: each command ends at once, and the image has what the first process told.
-"$program" kept.img format 1000 12000 4 256 > out 2> err < /dev/null
-"$program" kept.img drive 1 90000 4 > drive.out 2> drive.err < /dev/null & driver=$!
+"$program" kept.img format 1000 12000 8 256 > out 2> err < /dev/null
+"$program" kept.img drive 1 99999 8 > drive.out 2> drive.err < /dev/null & driver=$!
 for _ in $(seq 1000); do grep -q durable drive.err && break; sleep 0.01; done
 for words in dump recover 'run good.csv' 'drive 1 5 2' 'format 8 96 2 16'; do
   begun=$(date +%s%N)
