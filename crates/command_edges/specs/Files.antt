@@ -4,6 +4,7 @@ use Rattle.std.specs.List.{AllZip}
 use Rattle.std.specs.Global.{Vec}
 use Rattle.pmem_trait.specs.Sights.{Risen}
 use Rattle.tatp_model.specs.declared.request.Request.{Request}
+use Rattle.tatp_model.specs.Files.{requests_in}
 use Rattle.tatp_model.specs.Request.{IsInRange}
 use Rattle.tatp_csv.specs.RequestFile.{requests_of}
 use Rattle.dude_io.specs.Files.{FilesSight, ReadMade}
@@ -83,10 +84,6 @@ abbrev pub StoppedReading : Fault → Type 0
 StoppedReading (File number) = ⊤
 StoppedReading Memory = ⊤
 StoppedReading _ = ⊥
-
--- the requests of each file
-abbrev pub requests_in : List (Vec Request) → List (List Request)
-requests_in lists = map (λ list. list.items) lists
 
 -- the requests of each file, by its name
 abbrev pub AreOfFiles : FilesSight → List (List ℕ) → Vec (Vec Request) → Type 0

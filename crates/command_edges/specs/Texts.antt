@@ -11,7 +11,8 @@ use Rattle.dude_io.specs.FileText.{IsFileText}
 use Rattle.dude_io.specs.Files.{FilesSight}
 use Rattle.command_edges.specs.declared.fault.Fault.{Fault}
 use Rattle.command_edges.specs.declared.fault.Fault.TheVariants.{Text, Memory}
-use Rattle.command_edges.specs.Files.{IsFirst, requests_in}
+use Rattle.tatp_model.specs.Files.{requests_in}
+use Rattle.command_edges.specs.Files.{IsFirst}
 
 -- this is the text of the file of this name, or it is too long, where the files are visible
 abbrev pub IsTextOf : FilesSight → List ℕ → FileText → Type 0

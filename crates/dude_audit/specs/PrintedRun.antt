@@ -11,7 +11,8 @@ use Rattle.tatp_model.specs.OneThread.{is_sync, AllAreDone, RepliesOfOneThread}
 use Rattle.run_order.specs.Runs.{SyncsFollow}
 use Rattle.tatp_text.specs.Output.{output_of}
 use Rattle.printed_lines.specs.declared.claim.Claim.{Claim}
-use Rattle.printed_lines.specs.Blanks.{AreBlanks, requests_in}
+use Rattle.tatp_model.specs.Files.{requests_in}
+use Rattle.printed_lines.specs.Blanks.{AreBlanks}
 use Rattle.printed_lines.specs.Reading.{AreLines, IsMisformed}
 use Rattle.dude_audit.specs.declared.verdict.Verdict.{Verdict}
 use Rattle.dude_audit.specs.declared.verdict.Verdict.TheVariants.{Yes, No}

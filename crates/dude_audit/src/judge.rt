@@ -3,7 +3,7 @@
 ghost use Rattle.std.specs.Prelude.{◌≡◌, ◌≤◌, ◌↔◌, All, IfOk, length};
 ghost use Rattle.tatp_model.specs.Database.{database_of, IsInOrder};
 ghost use Rattle.tatp_model.specs.Request.{IsInRange};
-ghost use Rattle.printed_lines.specs.Blanks.{requests_in};
+ghost use Rattle.tatp_model.specs.Files.{requests_in};
 ghost use Rattle.dude_audit.specs.declared.verdict.Verdict.TheVariants.{Yes};
 ghost use Rattle.dude_audit.specs.PrintedRun.{IsRunOf, IsVerdictOn};
 

@@ -12,7 +12,7 @@ use Rattle.tatp_model.specs.declared.done.Done.{Done}
 use Rattle.tatp_model.specs.declared.request.Request.{Request}
 use Rattle.dude_io.specs.Sink.{SinkSight, Took}
 use Rattle.command_edges.specs.Printing.{FailsIn}
-use Rattle.command_edges.specs.Files.{requests_in}
+use Rattle.tatp_model.specs.Files.{requests_in}
 use Rattle.dude_engine.specs.Opening.{IsUpToLast, Opening}
 use Rattle.dude_engine.specs.Requests.{request_count}
 use Rattle.dude_engine.specs.declared.ran.RanEnd.{RanEnd}

@@ -2,7 +2,7 @@
 
 ghost use Rattle.std.specs.Prelude.{◌≡◌, ◌≤◌, length, IfOk, IfErr};
 ghost use Rattle.image_opening.specs.Opened.{IsOpened};
-ghost use Rattle.command_edges.specs.Files.{requests_in};
+ghost use Rattle.tatp_model.specs.Files.{requests_in};
 ghost use Rattle.dude_engine.specs.Requests.{AreInRange};
 ghost use Rattle.dude_program.specs.Work.{AreOfLoad, EachIsFew, IsLoadFor, RefusesLoadFor};
 

@@ -3,7 +3,7 @@
 ghost use Rattle.std.specs.Prelude.{◌≡◌, ◌≤◌, [], None, length};
 ghost use Rattle.back_store.specs.BackView.{medium_of};
 ghost use Rattle.image_opening.specs.Opened.{IsOpened};
-ghost use Rattle.command_edges.specs.Files.{requests_in};
+ghost use Rattle.tatp_model.specs.Files.{requests_in};
 ghost use Rattle.dude_engine.specs.Requests.{AreInRange};
 ghost use Rattle.dude_program.specs.Work.{HasNumbers, RanOverOpened, fault_of_end};
 

@@ -9,7 +9,7 @@ use Rattle.tatp_model.specs.declared.request.Request.{Request}
 use Rattle.tatp_model.specs.OneThread.{IndexedRequest, indexed_requests_from}
 use Rattle.printed_lines.specs.declared.claim.Claim.{Claim}
 use Rattle.printed_lines.specs.Claim.{claimed_request_of}
-use Rattle.printed_lines.specs.Blanks.{requests_in}
+use Rattle.tatp_model.specs.Files.{requests_in}
 
 abbrev pub in_file : ℕ → List Request → List IndexedRequest
 in_file file requests = map (λ r. record { file = file; index = r.0; request = r.1 }) (enumerate_from 0 requests)

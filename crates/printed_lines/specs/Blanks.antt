@@ -1,14 +1,9 @@
 -- The lines that a run of files has, before they are read.
 use Rattle.std.specs.Prelude.{ℕ, ◌≡◌, ◌<◌, ◌+◌, List, map, length, slice_index_or}
-use Rattle.std.specs.Global.{Vec}
 use Rattle.tatp_model.specs.declared.request.Request.{Request}
 use Rattle.tatp_model.specs.OneThread.{indexed_requests_from}
 use Rattle.printed_lines.specs.declared.claim.Claim.{Claim}
 use Rattle.printed_lines.specs.Claim.{claimed_request_of}
-
--- the requests of each file
-abbrev pub requests_in : List (Vec Request) → List (List Request)
-requests_in lists = map (λ list. list.items) lists
 
 -- lines of the requests of the files, one for each in order of file and index, numbered from 1
 pub record AreBlanks (files : List (List Request)) (blanks : List Claim) : Type 0 where

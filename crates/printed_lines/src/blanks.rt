@@ -2,7 +2,8 @@
 
 ghost use Rattle.std.specs.Prelude.{◌≡◌, IfOk};
 ghost use Rattle.printed_lines.specs.Claim.{claimed_request_of};
-ghost use Rattle.printed_lines.specs.Blanks.{requests_in, AreBlanks};
+ghost use Rattle.tatp_model.specs.Files.{requests_in};
+ghost use Rattle.printed_lines.specs.Blanks.{AreBlanks};
 
 use crate::claim::Claim;
 use std::alloc::{AllocError, Global};

@@ -5,3 +5,4 @@ pub mod Request
 pub mod Transaction
 pub mod Population
 pub mod OneThread
+pub mod Files

@@ -3,7 +3,8 @@ use Rattle.std.specs.Prelude.{All}
 use Rattle.std.specs.Result.{result_err}
 use Rattle.tatp_model.specs.Request.{IsInRange}
 use Rattle.tatp_model.specs.declared.request.Request.{Request}
-use Rattle.command_edges.specs.Files.{OfFile, requests_in}
+use Rattle.tatp_model.specs.Files.{requests_in}
+use Rattle.command_edges.specs.Files.{OfFile}
 use Rattle.command_edges.specs.Texts.{IsTextOf, HoldsRequests}
 use Rattle.command_edges.proofs.Order.{then_fault, parsed_reads}
 use Rattle.command_edges.proofs.Results.{ok_map, err_map, never_ok}

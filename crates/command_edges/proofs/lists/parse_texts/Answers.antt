@@ -1,6 +1,6 @@
 use Rattle.std.proofs.Common.{◌+◌, ◌∷◌, [], ap, ◌∙◌, subst}
 use Rattle.std.proofs.lemmas.List.{take_more, map-append}
-use Rattle.command_edges.specs.Files.{requests_in}
+use Rattle.tatp_model.specs.Files.{requests_in}
 use Rattle.command_edges.specs.Texts.{HoldsRequests, IsTextFault}
 use Rattle.command_edges.proofs.Told.{first_text_fault}
 use Rattle.command_edges.proofs.Zips.{AllZip-more}

@@ -1,6 +1,6 @@
 use Rattle.std.proofs.Common.{take}
 use Rattle.std.specs.List.{AllZip}
-use Rattle.command_edges.specs.Files.{requests_in}
+use Rattle.tatp_model.specs.Files.{requests_in}
 use Rattle.command_edges.specs.Texts.{HoldsRequests}
 use Rattle.command_edges.proofs.lists.parse_texts.Given as goal
 

@@ -6,7 +6,7 @@ use Rattle.dude_audit.specs.declared.verdict.Verdict.TheVariants.{Yes}
 use Rattle.dude_audit.specs.Verdict.{HasVerdict}
 use Rattle.dude_audit.specs.PrintedRun.{IsVerdict, IsPrintedRun}
 use Rattle.tatp_model.specs.Database.{database_of}
-use Rattle.printed_lines.specs.Blanks.{requests_in}
+use Rattle.tatp_model.specs.Files.{requests_in}
 use Rattle.dude_audit.proofs.judge.audit.Goals as goal
 
 pub audit_claims-requires-clause-lines : goal.audit_claims-requires-clause-lines

@@ -1,5 +1,5 @@
 use Rattle.std.proofs.Common.{◌≡◌, ◌*◌, ◌≤◌, take}
-use Rattle.command_edges.specs.Files.{requests_in}
+use Rattle.tatp_model.specs.Files.{requests_in}
 use Rattle.dude_engine.specs.Requests.{request_count}
 use Rattle.dude_program.proofs.checks.count_requests.Given as goal
 

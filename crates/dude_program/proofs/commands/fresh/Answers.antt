@@ -5,7 +5,8 @@ use Rattle.std.proofs.lemmas.Slice.Zip.{AllZip-long}
 use Rattle.dude_base.specs.declared.sizes.Sizes.{Sizes}
 use Rattle.tatp_model.specs.declared.request.Request.{Request}
 use Rattle.command_words.specs.Command.{Meaning.FreshRun}
-use Rattle.command_edges.specs.Files.{OfFile, requests_in}
+use Rattle.tatp_model.specs.Files.{requests_in}
+use Rattle.command_edges.specs.Files.{OfFile}
 use Rattle.command_openings.specs.Openings.{new_opening}
 use Rattle.dude_engine.specs.Requests.{request_count}
 use Rattle.dude_program.proofs.Endings.{ends_printed}

@@ -6,7 +6,8 @@ use Rattle.std.proofs.lemmas.Slice.Zip.{AllZip-long}
 use Rattle.tatp_model.specs.declared.request.Request.{Request}
 use Rattle.back_store.specs.BackView.{medium_of}
 use Rattle.command_words.specs.Command.{Meaning.RunFiles}
-use Rattle.command_edges.specs.Files.{OfFile, requests_in}
+use Rattle.tatp_model.specs.Files.{requests_in}
+use Rattle.command_edges.specs.Files.{OfFile}
 use Rattle.dude_program.proofs.FilesRead.{names_same, run_files}
 use Rattle.dude_program.proofs.Endings.{ends_faulted, ends_printed}
 use Rattle.dude_program.proofs.Stops.{ends_at_files, ends_at_open, prefix_at_rest}

@@ -1,7 +1,7 @@
 use Rattle.std.proofs.Common.{◌≡◌, ◌≤◌, length, map}
 use Rattle.std.specs.List.{All, range_with_len}
 use Rattle.tatp_text.specs.Load.{mixed}
-use Rattle.command_edges.specs.Files.{requests_in}
+use Rattle.tatp_model.specs.Files.{requests_in}
 use Rattle.dude_engine.specs.Requests.{AreInRange}
 use Rattle.dude_program.proofs.load.mix_files.Given as goal
 

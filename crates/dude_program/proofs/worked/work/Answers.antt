@@ -1,7 +1,7 @@
 use Rattle.std.proofs.Common.{arith}
 use Rattle.pmem_trait.specs.Sights.{Sight}
 use Rattle.back_store.specs.BackView.{sight_of}
-use Rattle.command_edges.specs.Files.{requests_in}
+use Rattle.tatp_model.specs.Files.{requests_in}
 use Rattle.dude_program.proofs.Works.{device_end, ends_whole_at, lost_end, only_ends, ran_end, whole_end}
 use Rattle.dude_program.proofs.worked.work.Goals as goal
 

@@ -4,7 +4,7 @@ use Rattle.tatp_model.specs.declared.request.Request.{Request}
 use Rattle.tatp_model.specs.OneThread.{indexed_requests_from}
 use Rattle.printed_lines.specs.declared.claim.Claim.{Claim}
 use Rattle.printed_lines.specs.Claim.{claimed_request_of}
-use Rattle.printed_lines.specs.Blanks.{requests_in}
+use Rattle.tatp_model.specs.Files.{requests_in}
 use Rattle.printed_lines.proofs.Blank.{in_file, next_file, next_request, numbered_more}
 use Rattle.printed_lines.proofs.blanks.blank_claims.Goals as goal
 

@@ -2,7 +2,7 @@ use Rattle.std.proofs.Common.{◌≡◌, ℕ, ◌+◌, ◌<◌, ◌++◌, length
 use Rattle.tatp_model.specs.OneThread.{indexed_requests_from}
 use Rattle.printed_lines.specs.declared.claim.Claim.{Claim}
 use Rattle.printed_lines.specs.Claim.{claimed_request_of}
-use Rattle.printed_lines.specs.Blanks.{requests_in}
+use Rattle.tatp_model.specs.Files.{requests_in}
 use Rattle.printed_lines.proofs.Blank.{in_file}
 use Rattle.printed_lines.proofs.blanks.blank_claims.Given as goal
 

@@ -6,7 +6,7 @@ use Rattle.std.proofs.lemmas.List.{get_or-map, length-map}
 use Rattle.std.proofs.lemmas.List.Elements.{All-get_or}
 use Rattle.tatp_model.specs.Request.{IsInRange}
 use Rattle.tatp_model.specs.declared.request.Request.{Request}
-use Rattle.command_edges.specs.Files.{requests_in}
+use Rattle.tatp_model.specs.Files.{requests_in}
 use Rattle.text_runs.proofs.files.push_lists.Goals as goal
 
 in_range-at : (lists : List (Vec Request)) (i : ℕ) (d : Vec Request) → i < length lists → All (All IsInRange) (requests_in lists) → All IsInRange (get_or lists i d).items
