@@ -1,5 +1,6 @@
 pub mod Calls
 pub mod Facilities
+mod Halves
 pub mod InOrder
 pub mod Numbered
 pub mod NumbersLemmas
@@ -11,3 +12,4 @@ pub mod Rows
 pub mod Run
 pub mod Sequential
 pub mod WorkedReplies
+mod CallHalves

@@ -1,18 +1,19 @@
 -- Lists of rows, of which at most one passes a test.
-use Rattle.std.proofs.Common.{◌≡◌, ℕ, zero, suc, ◌<◌, ◌≤◌, Bool, true, false, cond, List, [], ◌∷◌, length, get_or, take, drop, set, refl, ap, sym, ◌∙◌, arith, Some, None, ◌≢◌, ⊎_elim, subst}
-use Rattle.std.proofs.lemmas.Bool.{cases_Bool, cases_lt, lt-ltb, le-ltb, eq-eqb, ne_eqb}
+use Rattle.std.proofs.Common.{◌≡◌, ℕ, zero, suc, ◌+◌, ◌<◌, ◌≤◌, Bool, true, false, cond, List, [], ◌∷◌, length, get_or, take, drop, set, refl, ap, sym, ◌∙◌, arith, Some, None, ◌≢◌, ⊎_elim, subst}
+use Rattle.std.proofs.lemmas.Bool.{cases_Bool, cases_lt, lt-ltb, le-ltb, eq-eqb, ne_eqb, and_parts, and_from, both_ways}
 use Rattle.std.proofs.lemmas.List.Quantifiers.{position-Some}
-use Rattle.std.specs.Prelude.{slice_get, is_some}
-use Rattle.std.proofs.lemmas.List.Folds.{find_at}
+use Rattle.std.specs.Prelude.{slice_get, is_some, ◌&&◌}
+use Rattle.std.proofs.lemmas.List.Folds.{find_at, list_any_at, list_any_none}
+use Rattle.std.proofs.lemmas.List.{get_or_default}
 use Rattle.std.proofs.lemmas.List.Sums.{position_or_len_is}
 use Rattle.std.proofs.lemmas.Option.{slice_get_past, slice_get-get_or}
-use Rattle.std.specs.List.{list_any, filter, position, position_or_len, AllPairs, All, find}
+use Rattle.std.specs.List.{list_any, filter, position, position_or_len, AllPairs, All, find, remove}
 use Rattle.std.proofs.Common.{not, eqb}
 use Rattle.std.proofs.lemmas.List.Elements.{All-head, All-tail}
 use Rattle.tatp_model.specs.Transaction.{update_where}
 
 -- a test that doesn't pass fails
-not_true : (b : Bool) → (b ≡ true → ⊥) → b ≡ false
+pub not_true : (b : Bool) → (b ≡ true → ⊥) → b ≡ false
 not_true true h = absurd (h refl)
 not_true false h = refl
 
@@ -121,3 +122,47 @@ find-position_Some p rows i d some =
     let at = position-Some p rows i d some in
     let is : position_or_len p rows ≡ i = position_or_len_is p rows i d (omega (arith, at.0)) (λ k h. (position-Some p rows i d some).2 k h) (λ h. at.1) in
     find_at p rows ∙ ap (slice_get rows) is ∙ slice_get-get_or rows i d at.0
+
+-- where no row passes, none passes a second test too
+pub both-none : {R : Type 0} (p q : R → Bool) (rows : List R) → position p rows ≡ None → list_any (λ r. p r && q r) rows ≡ false
+both-none p q rows none =
+    list_any_none (λ r. p r && q r) rows (λ k d within. not_true (p (get_or rows k d) && q (get_or rows k d)) (λ both. both_ways _ (list_any-position_None p rows none) (list_any_at p rows k d within (and_parts (p (get_or rows k d)) (q (get_or rows k d)) both).0)))
+
+-- where one row alone passes, that row decides a second test
+pub both-position : {R : Type 0} (p q : R → Bool) (rows : List R) (i : ℕ) (d : R) → AtMostOne p rows → position p rows ≡ Some i → list_any (λ r. p r && q r) rows ≡ q (get_or rows i d)
+both-position p q rows i d one e =
+    let at = position-Some p rows i d e in
+    ⊎_elim (λ passes. list_any_at (λ r. p r && q r) rows i d at.0 (and_from (p (get_or rows i d)) (q (get_or rows i d)) at.1 passes) ∙ sym passes)
+    (λ fails. list_any_none (λ r. p r && q r) rows (λ k g within. not_true (p (get_or rows k g) && q (get_or rows k g)) (λ both.
+    let parts = and_parts (p (get_or rows k g)) (q (get_or rows k g)) both in
+    let there = position-Some p rows i g e in
+    ⊎_elim (λ lt. both_ways _ (there.2 k lt) parts.0)
+    (λ ge. ⊎_elim (λ lt. one.apart i k g lt within there.1 parts.0)
+    (λ le. let same : k ≡ i = omega (arith, ge, le) in both_ways (q (get_or rows i d)) fails (ap q (get_or_default rows i d g at.0) ∙ ap (λ (j : ℕ). q (get_or rows j g)) (sym same) ∙ parts.1)) (cases_lt i k)) (cases_lt k i))) ∙ sym fails) (cases_Bool (q (get_or rows i d)))
+
+-- a filter keeps all rows but the one that fails
+filter_not-at : {R : Type 0} (p : R → Bool) (rows : List R) (i : ℕ) (d : R) → i < length rows → p (get_or rows i d) ≡ true → ((j : ℕ) (e : R) → j < i → p (get_or rows j e) ≡ false) → ((j : ℕ) (e : R) → i < j → j < length rows → p (get_or rows j e) ≡ false) → filter (λ r. not (p r)) rows ≡ remove rows i
+filter_not-at p [] i d within here before after = absurd (omega arith)
+filter_not-at p (r ∷ rows) zero d within here before after =
+    rw here (filter-uniform true (λ r. not (p r)) rows (λ j e h. ap not (after (suc j) e (omega arith) (omega arith))))
+filter_not-at p (r ∷ rows) (suc i) d within here before after =
+    let fails : p r ≡ false = before 0 r (omega arith) in
+    rw fails (ap (λ rest. r ∷ rest) (filter_not-at p rows i d (omega arith) here (λ j e h. before (suc j) e (omega arith)) (λ j e h k. after (suc j) e (omega arith) (omega arith))))
+
+-- where one row alone passes, all but that one stay
+pub filter_not-position : {R : Type 0} (p : R → Bool) (rows : List R) (i : ℕ) (d : R) → AtMostOne p rows → position p rows ≡ Some i → filter (λ r. not (p r)) rows ≡ remove rows i
+filter_not-position p rows i d one e =
+    let at = position-Some p rows i d e in
+    filter_not-at p rows i d at.0 at.1 (λ j g h. (position-Some p rows i g e).2 j h) (λ j g h k. not_true (p (get_or rows j g)) (one.apart i j g h k (position-Some p rows i g e).1))
+
+-- a filter that keeps rows of a part alone keeps those of the part
+pub filter-part : {R : Type 0} (p : R → Bool) (rows : List R) (i n : ℕ) → ((k : ℕ) (d : R) → k < i → k < length rows → p (get_or rows k d) ≡ false) → ((k : ℕ) (d : R) → i + n ≤ k → k < length rows → p (get_or rows k d) ≡ false) → filter p (take n (drop i rows)) ≡ filter p rows
+filter-part p rows zero zero before after = sym (filter-uniform false p rows (λ k d h. after k d (omega arith) h))
+filter-part p [] zero (suc n) before after = refl
+filter-part p (r ∷ rows) zero (suc n) before after =
+    let rest = filter-part p rows zero n (λ k d h l. absurd (omega (arith, h))) (λ k d h l. after (suc k) d (omega arith) (omega arith)) in
+    ⊎_elim (λ e. rw e (ap (λ xs. r ∷ xs) rest)) (λ e. rw e rest) (cases_Bool (p r))
+filter-part p [] (suc i) zero before after = refl
+filter-part p [] (suc i) (suc n) before after = refl
+filter-part p (r ∷ rows) (suc i) n before after =
+    rw (before 0 r (omega arith) (omega arith)) (filter-part p rows i n (λ k d h l. before (suc k) d (omega arith) (omega arith)) (λ k d h l. after (suc k) d (omega arith) (omega arith)))

@@ -6,3 +6,4 @@ pub mod Transaction
 pub mod Population
 pub mod OneThread
 pub mod Files
+pub mod CallOrder

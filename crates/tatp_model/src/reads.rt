@@ -9,6 +9,7 @@ use crate::request::Request;
 use crate::tables::Tables;
 
 pub(crate) fn get_subscriber(t: &Tables, s_id: u64) -> Reply
+    requires { IsInOrder (database_of t.now) }
     ensures { IsReply (database_of t.now) (Request.GetSubscriber s_id) result }
 {
     match lookups::subscriber(&t.subscribers, s_id) {
@@ -18,6 +19,7 @@ pub(crate) fn get_subscriber(t: &Tables, s_id: u64) -> Reply
 }
 
 pub(crate) fn get_access(t: &Tables, s_id: u64, ai_type: u64) -> Reply
+    requires { IsInOrder (database_of t.now) }
     ensures { IsReply (database_of t.now) (Request.GetAccess s_id ai_type) result }
 {
     match lookups::access(&t.access, s_id, ai_type) {

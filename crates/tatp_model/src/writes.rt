@@ -3,7 +3,7 @@
 ghost use Rattle.std.specs.Prelude.{◌≡◌, IfOk, OnOk, OnErr};
 ghost use Rattle.tatp_model.specs.Database.{database_of, IsInOrder, IsCallRow};
 ghost use Rattle.tatp_model.specs.Request.{IsInRange};
-ghost use Rattle.tatp_model.specs.Transaction.{IsReply, IsAfter, reply_to, reply_to_row, reply_to_removal, after_request, after_row, after_removal, without_call};
+ghost use Rattle.tatp_model.specs.Transaction.{IsReply, IsAfter, reply_to, reply_to_row, reply_to_removal, after_request, after_row, after_removal};
 
 use crate::call_row::CallRow;
 use crate::lookups;
@@ -99,12 +99,13 @@ fn insert_row(t: &mut Tables, limit: u64, row: CallRow) -> Result<Reply, AllocEr
     if limit <= t.calls.len() as u64 {
         return Ok(Reply::FullTable);
     }
-    let at = lookups::index_of_key(&t.calls, row.key());
+    let at = lookups::index_of_key(&t.calls, &row);
     t.calls.insert(at, row)?;
     Ok(Reply::Changed)
 }
 
 pub(crate) fn delete_call(t: &mut Tables, sub_nbr: u64, sf_type: u64, start_time: u64) -> Reply
+    requires { IsInOrder (database_of t.old) }
     ensures reply { IsReply (database_of t.old)
         (Request.DeleteCall sub_nbr sf_type start_time) result }
     ensures after { IsAfter (database_of t.old)
@@ -118,19 +119,15 @@ pub(crate) fn delete_call(t: &mut Tables, sub_nbr: u64, sf_type: u64, start_time
 
 /// Removes a call row, whose subscriber is there.
 fn delete_row(t: &mut Tables, s_id: u64, sf_type: u64, start_time: u64) -> Reply
+    requires { IsInOrder (database_of t.old) }
     ensures reply { result ≡ reply_to_removal (database_of t.old) s_id sf_type start_time }
     ensures after { database_of t.new ≡ after_removal (database_of t.old) s_id sf_type start_time }
 {
-    if !lookups::has_call(&t.calls, s_id, sf_type, start_time) {
-        return Reply::Missing;
+    match lookups::index_of_call(&t.calls, s_id, sf_type, start_time) {
+        Some(at) => {
+            t.calls.remove(at);
+            Reply::Changed
+        }
+        None => Reply::Missing,
     }
-    drop_call(&mut t.calls, s_id, sf_type, start_time);
-    Reply::Changed
-}
-
-/// Keeps all rows but the one with this key.
-fn drop_call(rows: &mut Vec<CallRow>, s_id: u64, sf_type: u64, start_time: u64)
-    ensures { rows.new.items ≡ without_call s_id sf_type start_time rows.old.items }
-{
-    rows.retain(|r| !(r.s_id == s_id && r.sf_type == sf_type && r.start_time == start_time));
 }

@@ -1,14 +1,20 @@
-use Rattle.std.proofs.Common.{◌<◌, ◌∙◌, sym, arith, ap, length, take}
-use Rattle.std.specs.List.{filter}
-use Rattle.std.proofs.lemmas.List.{length-map}
-use Rattle.tatp_model.specs.declared.numbers.Numbers.{Numbers}
+use Rattle.std.proofs.Common.{◌∙◌, ◌-◌, List, map, ap}
 use Rattle.tatp_model.specs.declared.call_row.CallRow.{CallRow}
-use Rattle.tatp_model.specs.Transaction.{forwards}
-use Rattle.tatp_model.proofs.Calls.{room_for_one}
+use Rattle.tatp_model.specs.Database.{call_key}
+use Rattle.tatp_model.specs.Numbers.{numbers_of}
+use Rattle.tatp_model.proofs.CallHalves.{counts_rise, forwards_between}
+use Rattle.tatp_model.proofs.Rising.{rising_part}
 use Rattle.tatp_model.proofs.lookups.destinations.Goals as goal
 
-pub push-requires : goal.push-requires
-push-requires c =
-    let fits = forwards c.args.s_id c.args.sf_type c.args.start_time c.args.end_time in
-    let room : length (filter fits (take c.loop-row.row-index c.args.rows.now)) < 3 = room_for_one c.args.s_id c.args.sf_type c.args.start_time c.args.end_time c.args.rows.now c.loop-row.row-index _ c.requires.in_range c.requires.rise c.loop-row-test.true (sym c.forwards.ensures ∙ c.if-forwards.true) in
-    omega (arith, ap (λ (n : Numbers). n.count) c.loop-row.invariant, length-map (filter fits (take c.loop-row.row-index c.args.rows.now)) (λ (r : CallRow). r.numberx), room)
+pub slice_bounds-forwarded-count : goal.slice_bounds-forwarded-count
+slice_bounds-forwarded-count c = counts_rise c.args.s_id c.args.sf_type c.args.rows.now _ _ c.count_before-first.ensures c.count_before-behind.ensures
+
+pub slice_bounds-forwarded-start : goal.slice_bounds-forwarded-start
+slice_bounds-forwarded-start c = counts_rise c.args.s_id c.args.sf_type c.args.rows.now _ _ c.count_before-first.ensures c.count_before-behind.ensures
+
+pub forwarded-requires-clause-rise : goal.forwarded-requires-clause-rise
+forwarded-requires-clause-rise c = rising_part call_key c.args.rows.now c.count_before-first.result (c.count_before-behind.result - c.count_before-first.result) c.requires.rise
+
+pub returns : goal.returns
+returns c =
+    c.forwarded.ensures ∙ ap (λ (rows : List CallRow). numbers_of (map (λ (r : CallRow). r.numberx) rows)) (forwards_between c.args.s_id c.args.sf_type c.args.rows.now _ _ c.count_before-first.ensures c.count_before-behind.ensures c.args.start_time c.args.end_time c.requires.in_range)

@@ -1,0 +1,9 @@
+use Rattle.std.proofs.Common.{◌∙◌, rules}
+use Rattle.std.proofs.lemmas.List.Sorted.{answers_always}
+use Rattle.tatp_model.proofs.Halves.{access_halved}
+use Rattle.tatp_model.proofs.lookups.index_of_access.Goals as goal
+
+pub returns : goal.returns
+returns c =
+    let by_key = c.binary_search_by_key.ensures.position (λ r. (r.s_id, r.ai_type)) (answers_always _ _ _ (λ f a r g called. search rules)) in
+    c.ok.ensures.value ∙ access_halved c.args.s_id c.args.ai_type c.args.rows.now c.requires.in_range c.requires.rise c.binary_search_by_key.result c.binary_search_by_key.ensures.bound by_key
