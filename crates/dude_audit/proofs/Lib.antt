@@ -3,6 +3,8 @@ mod Files
 mod Law
 mod Necessary
 mod OneThreadRuns
+mod OneReason
+mod OneVerdict
 mod Orders
 mod Passing
 mod Printing

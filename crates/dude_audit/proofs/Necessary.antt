@@ -318,7 +318,7 @@ module _ (first limit : ℕ) (db : Database) (files : List (List Request)) (prin
 
 -- ---- a reason and a pass exclude one another
 
-order_unique : (claims xs ys : List Claim) → IsClaimOrder claims xs → IsClaimOrder claims ys → xs ≡ ys
+pub order_unique : (claims xs ys : List Claim) → IsClaimOrder claims xs → IsClaimOrder claims ys → xs ≡ ys
 order_unique claims xs ys a b =
     let kept = filter (λ c. not (claims_sync c)) claims in
     let across = λ (us vs : List Claim) (p : IsPermutation kept us) (q : IsPermutation kept vs) (x : Claim) (there : Contains us x). Contains-permutation kept vs x q (Contains-permutation us kept x (IsPermutation-sym kept us p) there) in
@@ -330,6 +330,9 @@ texts_at printed limit db [] k d along within = absurd (omega (arith, within))
 texts_at printed limit db (c ∷ order) zero d along within = along.0
 texts_at printed limit db (c ∷ order) (suc k) d along within = texts_at printed limit (after_request limit db c.request) order k d along.1 (omega (arith, within))
 
+pub any_claim : Claim
+any_claim = record { file = 0; index = 0; request = Sync; number = 0; wrote = false; line = 0; from = 0; to = 0 }
+
 pub excluded : (first limit : ℕ) (db : Database) (printed : List ℕ) (claims : List Claim) (last line : ℕ) → HasVerdict first limit db printed claims last (No line) → Passes first limit db printed claims last → ⊥
 excluded first limit db printed claims last line refused passing =
     ⊎_elim
@@ -340,6 +343,3 @@ excluded first limit db printed claims last line refused passing =
     let along : TextsAlong printed limit db wrong.order = subst (λ (l : List Claim). TextsAlong printed limit db l) (sym same) passing.along in
     wrong.wrong.wrong.here any_claim (texts_at printed limit db wrong.order wrong.wrong.at any_claim along wrong.wrong.wrong.within)) other)
     refused
-  where
-    any_claim : Claim
-    any_claim = record { file = 0; index = 0; request = Sync; number = 0; wrote = false; line = 0; from = 0; to = 0 }

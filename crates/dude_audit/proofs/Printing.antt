@@ -34,6 +34,7 @@ use Rattle.printed_lines.proofs.Lined.{line_unique, last_whole, last_split}
 use Rattle.printed_lines.specs.Blanks.{AreBlanks}
 use Rattle.dude_audit.specs.PrintedRun.{IsPrintedRun}
 use Rattle.dude_audit.proofs.Files.{all_unmapped, all_indexed}
+use Rattle.dude_audit.proofs.Necessary.{any_claim}
 use Rattle.dude_audit.proofs.Shown.{Shown, shown_reply}
 
 output_line_is : (d : Done) → output_line d ≡ line_bytes d.number (reply_text d.reply)
@@ -215,9 +216,6 @@ module _ (first limit : ℕ) (db : Database) (files : List (List Request)) (prin
       let fits : Fits d.request d.number (reply_text d.reply) = record { small = p.small; whole = p.whole; syncs = p.syncs } in
       miss.misses any_claim (d.number, reply_text d.reply, rest, subst (λ (q : Request). Fits q d.number (reply_text d.reply)) (sym request) fits, is)
     where
-      any_claim : Claim
-      any_claim = record { file = 0; index = 0; request = Sync; number = 0; wrote = false; line = 0; from = 0; to = 0 }
-
       any_done : Done
       any_done = record { file = 0; index = 0; number = 0; wrote = false; request = Sync; reply = Durable }
 

@@ -67,3 +67,8 @@ abbrev pub LawOfPrintedRuns : Type 0
 LawOfPrintedRuns = (first limit : ℕ) (db : Database) (files : List (List Request)) (printed : List ℕ) (v : Verdict)
     → All (All IsInRange) files → IsInOrder db → length db.calls ≤ limit → IsVerdict first limit db files printed v
     → (v ≡ Yes) ↔ IsPrintedRun first limit db files printed
+
+-- The law: bytes have one verdict at most. So a `No` names one line.
+abbrev pub LawOfVerdicts : Type 0
+LawOfVerdicts = (first limit : ℕ) (db : Database) (files : List (List Request)) (printed : List ℕ) (v w : Verdict)
+    → IsVerdict first limit db files printed v → IsVerdict first limit db files printed w → v ≡ w

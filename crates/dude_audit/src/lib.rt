@@ -11,5 +11,5 @@ mod verdict;
 mod walk;
 
 pub use judge::audit;
-pub use laws::law_of_printed_runs;
+pub use laws::{law_of_printed_runs, law_of_verdicts};
 pub use verdict::Verdict;

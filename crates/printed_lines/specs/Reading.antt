@@ -1,5 +1,5 @@
 -- A printed run as lines of its requests, and the first line that isn't formed as it has to be.
-use Rattle.std.specs.Prelude.{ℕ, ◌≡◌, ◌⊎◌, ◌≤◌, ◌<◌, ◌+◌, ◌↔◌, true, List, [], ◌++◌, length, take, drop, map, slice_index_or, All, codes}
+use Rattle.std.specs.Prelude.{ℕ, ◌≡◌, ◌⊎◌, ◌≤◌, ◌<◌, ◌+◌, ◌↔◌, true, List, [], ◌∷◌, ◌++◌, length, take, drop, map, slice_index_or, All, codes, decimal}
 use Rattle.std.specs.List.{flat_map}
 use Rattle.dude_base.specs.declared.limits.TheConstants.{MAX_NUMBER}
 use Rattle.tatp_model.specs.declared.request.Request.{Request}
@@ -45,11 +45,17 @@ pub record IsReadAt (printed : List ℕ) (at : ℕ) (blank c : Claim) : Type 0 w
 abbrev pub claim_bytes : List ℕ → Claim → List ℕ
 claim_bytes printed c = line_bytes c.number (text_of printed c)
 
+-- lines stand one behind the other, from `at` up to `end`: each is its number, a space, its text and LF
+abbrev pub StandUpTo : ℕ → List Claim → ℕ → Type 0
+StandUpTo at [] end = at ≡ end
+StandUpTo at (c ∷ claims) end = (c.from ≡ at + length (decimal c.number) + 1) × StandUpTo (c.to + 1) claims end
+
 -- the printed bytes up to `at` are these lines, those of the requests of the blanks
 pub record BeginsWithLines (blanks : List Claim) (printed : List ℕ) (claims : List Claim) (at : ℕ) : Type 0 where
   pub requests : map claimed_request_of claims ≡ map claimed_request_of blanks
   pub numbered : map (λ c. c.line) claims ≡ map (λ c. c.line) blanks
   pub each : All (IsReadLine printed) claims
+  pub placed : StandUpTo 0 claims at
   pub inside : at ≤ length printed
   pub is : printed ≡ flat_map (claim_bytes printed) claims ++ drop at printed
 
@@ -87,6 +93,7 @@ pub record AreLines (blanks : List Claim) (printed : List ℕ) (claims : List Cl
   pub requests : map claimed_request_of claims ≡ map claimed_request_of blanks
   pub numbered : map (λ c. c.line) claims ≡ map (λ c. c.line) blanks
   pub each : All (IsReadLine printed) claims
+  pub placed : StandUpTo 0 claims (length (flat_map (claim_bytes printed) claims))
   pub small : last ≤ MAX_NUMBER
   pub is : printed ≡ flat_map (claim_bytes printed) claims ++ last_line last
 
