@@ -9,8 +9,13 @@ use Rattle.core_events.specs.Partings.{MaySplit, MayJoin, split, join}
 use Rattle.core_events.specs.Ghosts.{Ghost, ghost_after, ghost_joined}
 use Rattle.core_events.specs.Kept.{LayersKept}
 use Rattle.core_events.specs.KeptTurn.{TurnKept}
-use Rattle.core_events.specs.KeptNumbers.{NumbersKept}
-use Rattle.core_events.specs.Layers.{ThreadsIn, LocksIn}
+-- the layers
+pub use Rattle.core_events.specs.KeptEntries.{EntriesKept}
+pub use Rattle.core_events.specs.KeptNumbers.{NumbersKept}
+pub use Rattle.core_events.specs.KeptOrder.{OrderKept}
+pub use Rattle.core_events.specs.KeptPages.{PagesKept}
+pub use Rattle.core_events.specs.KeptValues.{ValuesKept}
+pub use Rattle.core_events.specs.Layers.{ThreadsIn, LocksIn}
 
 -- what a layer says of a state, with the ghost beside it
 abbrev pub Layer : Type 1

@@ -53,18 +53,8 @@ module _ {S X : Type 0} (slot_fact : Setup → State → List X → List (Option
 
 -- the view of a seat that was split is as views of a kept state are
 pub seated_left : (z : Setup) (draws : ℕ) (v : View) → IsSeated z v → IsSeated z (left_of draws v)
-seated_left z draws v s = record {
-  thread = s.thread;
-  snapshot = s.snapshot;
-  owned = s.owned;
-  number = s.number;
-  no_number = s.no_number;
-  pins = s.pins;
-  next = s.next;
-  entries = s.entries;
-  draws = let up = s.draws in omega arith;
-  splits = let up = s.splits in omega arith;
-}
+seated_left z draws v s =
+    record { thread = s.thread; snapshot = s.snapshot; owned = s.owned; number = s.number; no_number = s.no_number; pins = s.pins; next = s.next; entries = s.entries; draws = omega (arith, s.draws); splits = omega (arith, s.splits) }
 
 -- a table has a word
 pub some_word : (t : TableSight) (z : Setup) (id : TableId) → id.words ≡ count z → 0 < id.words

@@ -14,6 +14,7 @@ use word_space::stop::Stop;
 use word_space::words::Words;
 
 /// Serves a `DeleteCall`: takes the call row out of its table.
+#[tactic(auto, using(crate::proofs::OfKind::is_delete))]
 pub fn write_delete<W: Words>(lay: &Layout, w: &mut W, q: &Request) -> Result<Reply, Stop>
     requires kind { IsDeleteCall q.now }
     requires in_range { IsInRange q.now }

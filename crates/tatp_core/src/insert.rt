@@ -15,6 +15,7 @@ use word_space::stop::Stop;
 use word_space::words::Words;
 
 /// Serves an `InsertCall`: stores the call row where its facility is there, its key isn't, and a record is free.
+#[tactic(auto, using(crate::proofs::OfKind::is_insert))]
 pub fn write_insert<W: Words>(lay: &Layout, w: &mut W, q: &Request) -> Result<Reply, Stop>
     requires kind { IsInsertCall q.now }
     requires in_range { IsInRange q.now }

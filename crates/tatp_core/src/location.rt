@@ -13,6 +13,7 @@ use word_space::stop::Stop;
 use word_space::words::Words;
 
 /// Serves an `UpdateLocation`: writes the subscriber's location, also where it is the same.
+#[tactic(auto, using(crate::proofs::OfKind::is_location))]
 pub fn write_location<W: Words>(lay: &Layout, w: &mut W, q: &Request) -> Result<Reply, Stop>
     requires kind { IsUpdateLocation q.now }
     requires in_range { IsInRange q.now }

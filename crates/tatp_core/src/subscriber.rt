@@ -14,6 +14,7 @@ use word_space::words::Words;
 
 /// Serves an `UpdateSubscriber`: writes a bit of the subscriber and a byte of its facility where both are there,
 /// also where they are the same.
+#[tactic(auto, using(crate::proofs::OfKind::is_update))]
 pub fn write_subscriber<W: Words>(lay: &Layout, w: &mut W, q: &Request) -> Result<Reply, Stop>
     requires kind { IsUpdateSubscriber q.now }
     requires in_range { IsInRange q.now }

@@ -222,12 +222,17 @@ tests_subscriber rows s_id = record { passes = λ r among same. eq-eqb _ _ same;
 pub tests_phone : (rows : List SubRow) (sub_nbr : ℕ) → TestsKey number_form rows sub_nbr (has_phone sub_nbr)
 tests_phone rows sub_nbr = record { passes = λ r among same. eq-eqb _ _ same; named = λ r among passed. eqb-true _ _ passed }
 
+-- a row is found by a key of an id and a kind, where both are in range
+names_pass : (s_id id kind wanted : ℕ) → IsKind kind → IsKind wanted → IsId s_id → IsId id → 4 * s_id + kind - 1 ≡ 4 * id + wanted - 1 → ((s_id == id) && (kind == wanted)) ≡ true
+names_pass s_id id kind wanted of_row of_key in_row in_key same =
+    let names = fourths s_id id kind wanted of_row.0 of_row.1 of_key.0 of_key.1 in_row.0 in_key.0 same in
+    and_from (s_id == id) (kind == wanted) (eq-eqb _ _ names.0) (eq-eqb _ _ names.1)
+
 pub tests_access : (rows : List AccessRow) (s_id ai_type : ℕ) → All IsAccessRow rows → IsId s_id → IsKind ai_type → TestsKey access_form rows (4 * s_id + ai_type - 1) (is_access s_id ai_type)
 tests_access rows s_id ai_type in_range id kind = record {
   passes = λ r among same.
       let row = All-contains IsAccessRow rows r in_range among in
-      let names = fourths r.s_id s_id r.ai_type ai_type row.ai_type.0 row.ai_type.1 kind.0 kind.1 row.s_id.0 id.0 same in
-      and_from (r.s_id == s_id) (r.ai_type == ai_type) (eq-eqb _ _ names.0) (eq-eqb _ _ names.1);
+      names_pass r.s_id s_id r.ai_type ai_type row.ai_type kind row.s_id id same;
   named = λ r among passed.
       let names = and_parts (r.s_id == s_id) (r.ai_type == ai_type) passed in
       rw (eqb-true _ _ names.0, eqb-true _ _ names.1) refl;
@@ -237,8 +242,7 @@ pub tests_facility : (rows : List FacRow) (s_id sf_type : ℕ) → All IsFacRow 
 tests_facility rows s_id sf_type in_range id kind = record {
   passes = λ r among same.
       let row = All-contains IsFacRow rows r in_range among in
-      let names = fourths r.s_id s_id r.sf_type sf_type row.sf_type.0 row.sf_type.1 kind.0 kind.1 row.s_id.0 id.0 same in
-      and_from (r.s_id == s_id) (r.sf_type == sf_type) (eq-eqb _ _ names.0) (eq-eqb _ _ names.1);
+      names_pass r.s_id s_id r.sf_type sf_type row.sf_type kind row.s_id id same;
   named = λ r among passed. facility_key-is_facility s_id sf_type r passed;
 }
 

@@ -1,5 +1,6 @@
 pub mod Added
 pub mod Dropped
+pub mod Fields
 pub mod Found
 pub mod Places
 pub mod Rewritten

@@ -39,26 +39,10 @@ range_at {high} base shape wide ends =
 
 -- two tables, of which the first ends before the second
 pub before : {first second : Table} {low high second_low second_high : ℕ} → FitsRange first low high → FitsRange second second_low second_high → high ≤ second_low → AreSeparate first second
-before {low = low} {high = high} {second_low = second_low} {second_high = second_high} f g below = record {
-  first_low = low;
-  first_high = high;
-  second_low = second_low;
-  second_high = second_high;
-  of_first = f;
-  of_second = g;
-  apart = inl below;
-}
+before f g below = record { first_low = _; first_high = _; second_low = _; second_high = _; of_first = f; of_second = g; apart = inl below }
 
 pub separate_flip : {first second : Table} → AreSeparate first second → AreSeparate second first
-separate_flip s = record {
-  first_low = s.second_low;
-  first_high = s.second_high;
-  second_low = s.first_low;
-  second_high = s.first_high;
-  of_first = s.of_second;
-  of_second = s.of_first;
-  apart = elim s.apart [ inl below ↦ inr below | inr above ↦ inl above ];
-}
+separate_flip s = record { first_low = _; first_high = _; second_low = _; second_high = _; of_first = s.of_second; of_second = s.of_first; apart = elim s.apart [ inl below ↦ inr below | inr above ↦ inl above ] }
 
 -- ---- their ranges
 
@@ -101,9 +85,6 @@ module _ (s : Sizes) where
 
   pub subscribers_calls : AreSeparate (subscriber_table s) (call_table s)
   subscribers_calls = before subscriber_range call_range (omega (arith, number_after, access_after, facility_after))
-
-  pub numbers_access : AreSeparate (number_table s) (access_table s)
-  numbers_access = before number_range access_range (omega arith)
 
   pub numbers_facilities : AreSeparate (number_table s) (facility_table s)
   numbers_facilities = before number_range facility_range access_after

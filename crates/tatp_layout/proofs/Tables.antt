@@ -28,15 +28,7 @@ pub tables_of : {s : Sizes} {array : List ℕ} {db : Database} → StandsFor s a
 tables_of stands = record { subscribers = stands.subscribers; numbers = stands.numbers; access = stands.access; facilities = stands.facilities; calls = stands.calls }
 
 pub stands_by : {s : Sizes} {array : List ℕ} {db : Database} → length array ≡ s.pages * PAGE → IsInOrder db → HasTables s array db → StandsFor s array db
-stands_by size in_order tables = record {
-  size = size;
-  in_order = in_order;
-  subscribers = tables.subscribers;
-  numbers = tables.numbers;
-  access = tables.access;
-  facilities = tables.facilities;
-  calls = tables.calls;
-}
+stands_by size in_order tables = record { size = size; in_order = in_order; subscribers = tables.subscribers; numbers = tables.numbers; access = tables.access; facilities = tables.facilities; calls = tables.calls }
 
 -- a record that a look-up finds is in a chain
 pub found_among : {R : Type 0} {form : RowForm R} {table : Table} {array : List ℕ} {rows : List R} {at : ℕ} (key : ℕ) (h : HasRows form table array rows) → FindsAll table array key (Some at) → Contains (records_in h.chains) at

@@ -67,31 +67,27 @@ four_words h = (h.key, h.fields 2 (omega arith) (omega arith), h.fields 3 (omega
 
 -- those of an access row
 pub access_apart : {array words : List ℕ} {at : ℕ} → AreOfRecord 4 array at words → access_in words 0 ≡ access_in array at
-access_apart h =
-    let w = four_words h in
-    λ i. record {
-      s_id = w.0 i / 4;
-      ai_type = w.0 i % 4 + 1;
-      info = record {
-        data1 = slice_index (to_digits 256 5 (w.1 i)) 0;
-        data2 = slice_index (to_digits 256 5 (w.1 i)) 1;
-        data3 = drop 2 (to_digits 256 5 (w.1 i));
-        data4 = to_digits 256 5 (w.2 i);
-      };
-    }
+access_apart h = let w = four_words h in λ i. record {
+  s_id = w.0 i / 4;
+  ai_type = w.0 i % 4 + 1;
+  info = record {
+    data1 = slice_index (to_digits 256 5 (w.1 i)) 0;
+    data2 = slice_index (to_digits 256 5 (w.1 i)) 1;
+    data3 = drop 2 (to_digits 256 5 (w.1 i));
+    data4 = to_digits 256 5 (w.2 i);
+  };
+}
 
 -- of a facility
 pub facility_apart : {array words : List ℕ} {at : ℕ} → AreOfRecord 4 array at words → facility_in words 0 ≡ facility_in array at
-facility_apart h =
-    let w = four_words h in
-    λ i. record {
-      s_id = w.0 i / 4;
-      sf_type = w.0 i % 4 + 1;
-      is_active = slice_index (to_digits 256 3 (w.1 i)) 0;
-      error_cntrl = slice_index (to_digits 256 3 (w.1 i)) 1;
-      data_a = slice_index (to_digits 256 3 (w.1 i)) 2;
-      data_b = to_digits 256 5 (w.2 i);
-    }
+facility_apart h = let w = four_words h in λ i. record {
+  s_id = w.0 i / 4;
+  sf_type = w.0 i % 4 + 1;
+  is_active = slice_index (to_digits 256 3 (w.1 i)) 0;
+  error_cntrl = slice_index (to_digits 256 3 (w.1 i)) 1;
+  data_a = slice_index (to_digits 256 3 (w.1 i)) 2;
+  data_b = to_digits 256 5 (w.2 i);
+}
 
 -- and of a call row
 pub call_apart : {array words : List ℕ} {at : ℕ} → AreOfRecord 4 array at words → call_in words 0 ≡ call_in array at

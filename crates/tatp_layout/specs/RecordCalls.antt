@@ -2,7 +2,8 @@
 use Rattle.std.specs.Prelude.{◌≡◌, ℕ, ◌+◌, ◌-◌, List, Result, slice_index, slice_set}
 use Rattle.word_space.specs.declared.stop.Stop.{Stop}
 use Rattle.word_space.specs.Sights.{WordsSight}
-use Rattle.word_space.specs.Steps.{AnswersSeen, UsesWords}
+use Rattle.word_space.specs.Steps.{AnswersSeen, ChangesSeen, UsesWords, WritesAsMany}
+use Rattle.record_heap.specs.Changes.{ChangesWord}
 use Rattle.tatp_model.specs.declared.call_row.CallRow.{CallRow}
 use Rattle.tatp_model.specs.declared.fac_row.FacRow.{FacRow}
 use Rattle.tatp_model.specs.declared.sub_row.SubRow.{SubRow}
@@ -21,6 +22,17 @@ pub record ReadsRow {S R : Type 0} (sight : S → WordsSight) (turns_into : S �
   pub exact : AnswersSeen sight result old new (λ a row. row ≡ row_in a at)
   -- and it is the one that the record holds, where that one's fields are in their ranges
   pub row : AnswersSeen sight result old new (IsHeldRow form IsRow at)
+
+-- What changing a field in this word of a record leaves, by its result.
+pub record ChangesField {S : Type 0} (sight : S → WordsSight) (turns_into : S → S → Type 0) (word : ℕ) (Sets : List ℕ → List ℕ → Unit {0} → Type 0) (result : Result (Unit {0}) Stop) (old new : S) : Type 0 where
+  -- at most one word is read and one written
+  pub uses : UsesWords sight turns_into 1 1 result old new
+  -- one write was made
+  pub wrote : WritesAsMany sight result old new (λ done. 1)
+  -- no other word changes
+  pub changes : ChangesSeen sight result old new (ChangesWord word)
+  -- the field is changed
+  pub holds : ChangesSeen sight result old new Sets
 
 -- the array with the fields of a call row in the record at this word
 abbrev pub with_call : ℕ → CallRow → List ℕ → List ℕ

@@ -2,14 +2,12 @@
 
 ghost use Rattle.std.specs.Prelude.{◌≡◌, ◌*◌, ◌+◌};
 ghost use Rattle.dude_base.specs.declared.limits.TheConstants.{PAGE, ROW_WORDS};
-ghost use Rattle.word_space.specs.Steps.{ChangesSeen, UsesWords, WritesAsMany};
-ghost use Rattle.record_heap.specs.Changes.{ChangesWord};
 ghost use Rattle.record_heap.specs.Pool.{IsRecord};
 ghost use Rattle.tatp_model.specs.Database.{IsFacRow};
 ghost use Rattle.tatp_model.specs.Ranges.{IsByte};
 ghost use Rattle.tatp_layout.specs.Decoding.{facility_in};
 ghost use Rattle.tatp_layout.specs.Layout.{facility_table};
-ghost use Rattle.tatp_layout.specs.RecordCalls.{ReadsRow, SetsDataA};
+ghost use Rattle.tatp_layout.specs.RecordCalls.{ChangesField, ReadsRow, SetsDataA};
 ghost use Rattle.tatp_layout.specs.Records.{facility_form};
 
 use crate::digits::digits;
@@ -79,10 +77,7 @@ pub fn put_data_a<W: Words>(lay: &Layout, w: &mut W, at: u64, value: u64) -> Res
     requires size { (W.sight w.old).count ≡ lay.now.pages * PAGE }
     requires record { IsRecord (facility_table lay.now).pool at }
     requires range { IsByte value }
-    ensures uses { UsesWords W.sight W.turns_into 1 1 result w.old w.new }
-    ensures wrote { WritesAsMany W.sight result w.old w.new (λ done. 1) }
-    ensures changes { ChangesSeen W.sight result w.old w.new (ChangesWord (at + 2)) }
-    ensures holds { ChangesSeen W.sight result w.old w.new (SetsDataA at value) }
+    ensures { ChangesField W.sight W.turns_into (at + 2) (SetsDataA at value) result w.old w.new }
 {
     prove!(lay.facilities().pool.has(at));
     let word = w.read(at + 2)?;

@@ -3,13 +3,12 @@
 ghost use Rattle.std.specs.Prelude.{◌≡◌, ◌+◌, ◌*◌, slice_set};
 ghost use Rattle.dude_base.specs.declared.limits.TheConstants.{PAGE, SUBSCRIBER_WORDS};
 ghost use Rattle.word_space.specs.Steps.{ChangesSeen, Shows, UsesWords, WritesAsMany};
-ghost use Rattle.record_heap.specs.Changes.{ChangesWord};
 ghost use Rattle.record_heap.specs.Pool.{IsRecord};
 ghost use Rattle.tatp_model.specs.Database.{IsSubRow};
 ghost use Rattle.tatp_model.specs.Ranges.{IsBit, IsLocation};
 ghost use Rattle.tatp_layout.specs.Decoding.{subscriber_in};
 ghost use Rattle.tatp_layout.specs.Layout.{subscriber_table};
-ghost use Rattle.tatp_layout.specs.RecordCalls.{ReadsRow, SetsBit1, SetsVlr};
+ghost use Rattle.tatp_layout.specs.RecordCalls.{ChangesField, ReadsRow, SetsBit1, SetsVlr};
 ghost use Rattle.tatp_layout.specs.Records.{subscriber_form};
 
 use crate::digits::digits;
@@ -96,10 +95,7 @@ pub fn put_bit1<W: Words>(lay: &Layout, w: &mut W, at: u64, bit: u64) -> Result<
     requires size { (W.sight w.old).count ≡ lay.now.pages * PAGE }
     requires record { IsRecord (subscriber_table lay.now).pool at }
     requires range { IsBit bit }
-    ensures uses { UsesWords W.sight W.turns_into 1 1 result w.old w.new }
-    ensures wrote { WritesAsMany W.sight result w.old w.new (λ done. 1) }
-    ensures changes { ChangesSeen W.sight result w.old w.new (ChangesWord (at + 2)) }
-    ensures holds { ChangesSeen W.sight result w.old w.new (SetsBit1 at bit) }
+    ensures { ChangesField W.sight W.turns_into (at + 2) (SetsBit1 at bit) result w.old w.new }
 {
     prove!(lay.subscribers().pool.has(at));
     let word = w.read(at + 2)?;

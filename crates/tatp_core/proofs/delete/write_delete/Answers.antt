@@ -8,21 +8,11 @@ use Rattle.tatp_model.specs.Ranges.{IsId}
 use Rattle.tatp_model.specs.declared.reply.Reply.TheVariants.{Missing}
 use Rattle.tatp_model.specs.Request.{IsInRange}
 use Rattle.tatp_layout.proofs.Seen.{fits_still}
-use Rattle.tatp_core.proofs.OfKind.{is_delete}
 use Rattle.tatp_core.proofs.Answered.{fits_at, removes_at}
 use Rattle.tatp_core.proofs.Deleting.{serves_deleted, serves_for_none, serves_none}
 use Rattle.tatp_core.proofs.Phones.{tells_id}
 use Rattle.tatp_core.proofs.Serving.{serves_changed, serves_stopped, serves_unchanged}
 use Rattle.tatp_core.proofs.delete.write_delete.Goals as goal
-
-pub unreachable-requires : goal.unreachable-requires
-unreachable-requires g c = is_delete c.args.q.now c.requires.kind c.in_default.not-DeleteCall
-
-pub unreachable-unreachable : goal.unreachable-unreachable
-unreachable-unreachable g c = c.unreachable.result
-
-pub id_of-requires : goal.id_of-requires
-id_of-requires g c = record { size = c.requires.size }
 
 pub first_call_key-requires-clause-id : goal.first_call_key-requires-clause-id
 first_call_key-requires-clause-id g c = subst (λ o. IfSome o IsId) c.in-Some.is c.in_ok-s_id.ensures.range

@@ -8,21 +8,11 @@ use Rattle.tatp_model.specs.Ranges.{IsId}
 use Rattle.tatp_model.specs.declared.reply.Reply.TheVariants.{Duplicate, FullTable, Missing, NoFacility}
 use Rattle.tatp_model.specs.Request.{IsInRange}
 use Rattle.tatp_layout.proofs.Seen.{fits_still, record_at}
-use Rattle.tatp_core.proofs.OfKind.{is_insert}
 use Rattle.tatp_core.proofs.Answered.{finds_at, fits_at, inserts_at}
 use Rattle.tatp_core.proofs.Inserting.{serves_for_none, serves_full, serves_inserted, serves_nowhere, serves_twice}
 use Rattle.tatp_core.proofs.Phones.{tells_id}
 use Rattle.tatp_core.proofs.Serving.{serves_changed, serves_stopped, serves_unchanged}
 use Rattle.tatp_core.proofs.insert.write_insert.Goals as goal
-
-pub unreachable-requires : goal.unreachable-requires
-unreachable-requires g c = is_insert c.args.q.now c.requires.kind c.in_default.not-InsertCall
-
-pub unreachable-unreachable : goal.unreachable-unreachable
-unreachable-unreachable g c = c.unreachable.result
-
-pub id_of-requires : goal.id_of-requires
-id_of-requires g c = record { size = c.requires.size }
 
 pub kind_key-requires-clause-id : goal.kind_key-requires-clause-id
 kind_key-requires-clause-id g c = subst (λ o. IfSome o IsId) c.in-Some.is c.in_ok-s_id.ensures.range

@@ -7,21 +7,11 @@ use Rattle.tatp_model.specs.declared.reply.Reply.TheVariants.{Missing}
 use Rattle.tatp_model.specs.Request.{IsInRange}
 use Rattle.tatp_layout.specs.Records.{HoldsRow, subscriber_form}
 use Rattle.tatp_layout.proofs.Seen.{fits_still, record_at}
-use Rattle.tatp_core.proofs.OfKind.{is_location}
 use Rattle.tatp_core.proofs.Answered.{finds_at, fits_at}
 use Rattle.tatp_core.proofs.Locations.{serves_location, serves_no_number, subscriber_is_there}
 use Rattle.tatp_core.proofs.Phones.{tells_id}
 use Rattle.tatp_core.proofs.Serving.{serves_changed, serves_stopped, serves_unchanged}
 use Rattle.tatp_core.proofs.location.write_location.Goals as goal
-
-pub unreachable-requires : goal.unreachable-requires
-unreachable-requires g c = is_location c.args.q.now c.requires.kind c.in_default.not-UpdateLocation
-
-pub unreachable-unreachable : goal.unreachable-unreachable
-unreachable-unreachable g c = c.unreachable.result
-
-pub id_of-requires : goal.id_of-requires
-id_of-requires g c = record { size = c.requires.size }
 
 pub find-requires : goal.find-requires
 find-requires g c = record { fits = fits_still (c.in_ok-s_id.ensures.uses.count ∙ c.requires.size) c.subscribers.ensures.fits }

@@ -9,17 +9,10 @@ use Rattle.tatp_model.specs.declared.reply.Reply.TheVariants.{Missing}
 use Rattle.tatp_model.specs.Request.{IsInRange}
 use Rattle.tatp_layout.specs.Records.{HoldsRow, subscriber_form}
 use Rattle.tatp_layout.proofs.Seen.{fits_still, record_at}
-use Rattle.tatp_core.proofs.OfKind.{is_update}
 use Rattle.tatp_core.proofs.Answered.{finds_at, fits_at}
 use Rattle.tatp_core.proofs.Subscribers.{serves_fields, serves_no_facility, serves_no_subscriber}
 use Rattle.tatp_core.proofs.Serving.{serves_changed, serves_stopped, serves_unchanged}
 use Rattle.tatp_core.proofs.subscriber.write_subscriber.Goals as goal
-
-pub unreachable-requires : goal.unreachable-requires
-unreachable-requires g c = is_update c.args.q.now c.requires.kind c.in_default.not-UpdateSubscriber
-
-pub unreachable-unreachable : goal.unreachable-unreachable
-unreachable-unreachable g c = c.unreachable.result
 
 pub find-requires : goal.find-requires
 find-requires g c = record { fits = fits_still c.requires.size c.subscribers.ensures.fits }
