@@ -7,3 +7,4 @@ pub mod FieldsReadBack
 pub mod Drawn
 pub mod Counting
 pub mod Plain
+mod DumpText

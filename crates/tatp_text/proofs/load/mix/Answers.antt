@@ -1,4 +1,4 @@
-use Rattle.std.proofs.Common.{ℕ, ◌≡◌, ◌+◌, ◌-◌, ◌/◌, ◌∷◌, ◌++◌, ◌∙◌, [], List, All, ap, sym, subst, arith}
+use Rattle.std.proofs.Common.{ℕ, ◌≡◌, ◌+◌, ◌-◌, ◌/◌, ◌∷◌, ◌++◌, ◌∙◌, [], List, All, ap, sym, subst, arith, length-append}
 use Rattle.std.proofs.lemmas.List.Elements.{All-append, All-cons, All-nil}
 use Rattle.tatp_model.specs.declared.request.Request.{Request}
 use Rattle.tatp_model.specs.declared.request.Request.TheVariants.{Sync}
@@ -26,7 +26,7 @@ loop-request-preserved c =
       load =
           rw (pushed, c.take-draws.ensures.after) (c.loop-request.invariant.load
           ∙ requests_from-more a.file a.files each (a.count - c.loop-request._request) (a.count - (c.loop-request._request + 1)) g done (omega arith));
-      count = grind arith;
+      count = rw c.in_ok-push.ensures.items (simp length-append (omega (arith, c.loop-request.invariant.count)));
       ranges = λ few.
           All-push done _ c.request.result c.in_ok-push.ensures.items (c.loop-request.invariant.ranges few) (c.request.ensures.range (c.subscriber_of-subscriber.ensures.range.0, omega (arith, few)));
     }

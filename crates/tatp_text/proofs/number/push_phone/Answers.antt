@@ -1,13 +1,9 @@
 use Rattle.std.proofs.Common.{ℕ, List, min, ◌≡◌, ◌++◌, ◌-◌, ◌∙◌, ap, length, take, drop, append_assoc}
-use Rattle.std.specs.Prelude.{decimal, replicate, Result, Ok, Err, OnOk, is_ok, if◌then◌else◌}
+use Rattle.std.specs.Prelude.{decimal, replicate}
 use Rattle.tatp_text.specs.Number.{phone_text}
+use Rattle.tatp_text.proofs.Joined.{written_where_ok}
 use Rattle.tatp_text.proofs.Zeros.{zeros_before}
 use Rattle.tatp_text.proofs.number.push_phone.Goals as goal
-
--- what was appended, where there was memory
-written_where_ok : {T E : Type 0} (r : Result T E) (new appended old items : List ℕ) → new ≡ (if is_ok r then appended else old) → appended ≡ items → OnOk r (new ≡ items)
-written_where_ok (Ok x) new appended old items is same = is ∙ same
-written_where_ok (Err e) new appended old items is same = tt
 
 pub returns : goal.returns
 returns c =
