@@ -2,15 +2,16 @@
 use Rattle.std.proofs.Common.{◌≡◌, ◌≢◌, ⊎_elim, ℕ, ◌+◌, ◌*◌, ◌/◌, ◌%◌, ◌^◌, ◌<◌, ◌≤◌, List, length, length-take-le, take, get_or-take, slice_index, slice_set, Option, Some, None, sym, ap, ◌∙◌, subst, arith, get_or-set_same, get_or-set_other}
 use Rattle.std.proofs.lemmas.Bool.{cases_eq}
 use Rattle.dude_base.specs.declared.sizes.Sizes.{Sizes}
-use Rattle.dude_base.specs.Records.{RedoBundle}
+use Rattle.dude_base.specs.Records.{RedoBundle, first_of}
 use Rattle.redo_record.specs.Tags.{IsHeadOver}
 use Rattle.dude_base.specs.Image.{Cell, cell_start}
 use Rattle.redo_record.specs.Cells.{IsCell}
 use Rattle.redo_record.specs.Record.{cells_for, count_of, FitsVersion}
 use Rattle.redo_record.specs.Encoding.{word_in_slice}
-use Rattle.redo_record.specs.Images.{tag_of, word_in_image, IsComplete, IsNewHead}
+use Rattle.redo_record.specs.Images.{tag_of, version_of, word_in_image, IsComplete, IsNewHead, IsSound}
 use Rattle.redo_record.proofs.CellPlaces.{first_cell}
 use Rattle.redo_record.proofs.HeldRecords.{AreSame, holds_same, complete_same, count_same, record_same}
+use Rattle.log_ring.specs.Heads.{head_at}
 use Rattle.log_ring.specs.Scanning.{HoldsHome, IsHomeRecord, IsRecordAt}
 
 -- one word more
@@ -31,6 +32,34 @@ pub new_head : (s : Sizes) (above : ℕ) (content : List ℕ) (head : Cell) (sta
 new_head s above content head start tag is_cell at is kind over =
     let tag_is : tag_of s content head ≡ tag = ap (slice_index content) (sym at) ∙ is in
     record { cell = is_cell; new = subst (IsHeadOver above) (sym tag_is) (record { kind = kind; over = over }) }
+
+-- no head of a number over this one, by its tag
+pub no_head : (s : Sizes) (above : ℕ) (content : List ℕ) (head : Cell) (start tag : ℕ) → start ≡ cell_start s head → slice_index content start ≡ tag
+    → (tag / 2 ^ 62 ≡ 1 → tag % 2 ^ 62 ≤ above) → ¬ IsNewHead s above content head
+no_head s above content head start tag at is low new =
+    let over : IsHeadOver above tag = subst (IsHeadOver above) (ap (slice_index content) (sym at) ∙ is) new.new in
+    let least = low over.kind in
+    let more = over.over in
+    omega arith
+
+-- a head whose record is complete, by the record's numbers
+module _ (s : Sizes) (version above : ℕ) (content : List ℕ) (head : Cell) (r : RedoBundle) (found : IsRecordAt s version content head (Some r)) where
+  pub sound_head : version_of content ≡ version → above < first_of r → IsSound s above content head
+  sound_head of_version over = record {
+    complete = found.0;
+    version = subst (λ (v : ℕ). FitsVersion v (word_in_image s content head)) (sym of_version) found.1;
+    over = subst (λ (b : RedoBundle). above < first_of b) (sym found.2) over;
+  }
+
+  pub unsound_head : first_of r ≤ above → ¬ IsSound s above content head
+  unsound_head low sound =
+      let over : above < first_of r = subst (λ (b : RedoBundle). above < first_of b) found.2 sound.over in
+      omega arith
+
+  pub head_of_record : (last span : ℕ) → r.last ≡ last → r.span ≡ span → head_at s content head ≡ record { last = last; span = span; ring = head.ring; slot = head.slot }
+  head_of_record last span is_last is_span =
+      ap (λ (b : RedoBundle). record { last = b.last; span = b.span; ring = head.ring; slot = head.slot }) found.2
+      ∙ (ap (λ (n : ℕ). record { last = n; span = r.span; ring = head.ring; slot = head.slot }) is_last ∙ ap (λ (n : ℕ). record { last = last; span = n; ring = head.ring; slot = head.slot }) is_span)
 
 module _ (s : Sizes) (content words : List ℕ) (head : Cell) (count cells : ℕ) (needs : cells ≡ cells_for count) (few : cells ≤ 32) (room : cells ≤ s.cells) (long : length words ≡ 256) (version : ℕ) (fits : FitsVersion version (word_in_image s content head))
     (counted : count_of (word_in_image s content head) ≡ count) (is : (k j : ℕ) → k < cells → j < 8 → slice_index words (8 * k + j) ≡ word_in_image s content head k j) where

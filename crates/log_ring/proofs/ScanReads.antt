@@ -1,5 +1,5 @@
 -- The reads of a scan, as its answer tells of them.
-use Rattle.std.proofs.Common.{◌≡◌, ◌≢◌, true, false, Result, Ok, Err, IfErr, IsErrOf, refl, sym, subst, rules}
+use Rattle.std.proofs.Common.{◌≡◌, ◌≢◌, Bool, true, false, Result, Ok, Err, IfErr, IsErrOf, refl, sym, subst, rules}
 use Rattle.pmem_trait.specs.Sights.{Sight, Risen}
 use Rattle.pmem_trait.specs.Reads.{OnlyReads}
 use Rattle.pmem_trait.proofs.Runs.{made_cause}
@@ -11,6 +11,10 @@ use Rattle.log_ring.specs.Scan.{ReadsMade}
 -- a read failed
 pub made_at_device : {X : Type 0} (r : Result X ScanFault) {s t : Sight} → r ≡ Err Device → OnlyReads false s t → ReadsMade r s t
 made_at_device r {s} {t} is reads = subst (λ (r : Result _ ScanFault). ReadsMade r s t) (sym is) reads
+
+-- the same of a call's own answer
+pub stopped : {ok : Bool} {s t : Sight} → ok ≡ false → OnlyReads false s t → OnlyReads ok s t
+stopped {ok} {s} {t} failed reads = subst (λ (b : Bool). OnlyReads b s t) (sym failed) reads
 
 -- no read failed
 pub made_well : {X : Type 0} (r : Result X ScanFault) {s t : Sight} → IfErr r (λ fault. fault ≢ Device) → OnlyReads true s t → ReadsMade r s t

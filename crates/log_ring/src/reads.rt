@@ -17,7 +17,6 @@ use redo_record::{RECORD_CELLS, SPAN_UNIT, cells_for, decode, start_after};
 const RECORD_WORDS: u64 = LINE * RECORD_CELLS;
 
 // The words of some cells, one after another.
-#[tactic(auto, using(pmem_trait::proofs::ReadRuns::reading))]
 fn read_cells<M: Medium>(
     m: &mut M,
     place: &Place,
@@ -84,7 +83,6 @@ fn count_in(word: u64, version: u64) -> Option<u64>
 }
 
 /// The bundle whose head stands in this slot of a ring, where it is complete in an image of this version.
-#[tactic(auto, using(pmem_trait::proofs::ReadRuns::reading))]
 pub fn read_record<M: Medium>(
     m: &mut M,
     place: &Place,

@@ -95,7 +95,6 @@ fn scan_ring<M: Medium>(
 }
 
 // The head in this cell, where it is one with a number over `above`.
-#[tactic(auto, using(pmem_trait::proofs::ReadRuns::reading))]
 fn scan_cell<M: Medium>(
     m: &mut M,
     place: &Place,

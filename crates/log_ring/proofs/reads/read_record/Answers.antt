@@ -1,10 +1,39 @@
-use Rattle.std.proofs.Common.{◌≡◌, ℕ, ◌+◌, ◌*◌, ◌%◌, ◌<◌, ◌≤◌, true, slice_index, Option, IfNone, subst, ap, sym, ◌∙◌, arith}
-use Rattle.pmem_trait.proofs.ReadRuns.{reads_here, read_alone, read_content, content_before}
+use Rattle.std.proofs.Common.{◌≡◌, ℕ, ◌+◌, ◌*◌, ◌%◌, ◌<◌, ◌≤◌, true, false, is_ok, slice_index, Option, IfNone, subst, ap, sym, ◌∙◌, arith, rules}
+use Rattle.pmem_trait.proofs.ReadRuns.{reads_here, reads_then, read_alone, read_content, content_before}
 use Rattle.redo_record.specs.Images.{word_in_image}
 use Rattle.dude_base.specs.Image.{cell_at}
 use Rattle.log_ring.proofs.RecordReads.{word_of_head, record_is}
+use Rattle.log_ring.proofs.ScanReads.{stopped}
 use Rattle.log_ring.proofs.Replayable.{one_moment, home_replayable}
 use Rattle.log_ring.proofs.reads.read_record.Goals as goal
+
+pub returns-in_err-word-clause-reads : goal.returns-in_err-word-clause-reads
+returns-in_err-word-clause-reads g c =
+    let failed : is_ok c.from_residual.result ≡ false = search rules in
+    stopped failed (read_alone {ok = false} c.in_err-word.ensures.one_call)
+
+pub returns-in_default-clause-reads : goal.returns-in_default-clause-reads
+returns-in_default-clause-reads g c = read_alone c.in_ok-word.ensures.one_call
+
+pub returns-then-cells-sizes-clause-reads : goal.returns-then-cells-sizes-clause-reads
+returns-then-cells-sizes-clause-reads g c = read_alone c.in_ok-word.ensures.one_call
+
+pub returns-in_err-read_cells-clause-reads : goal.returns-in_err-read_cells-clause-reads
+returns-in_err-read_cells-clause-reads g c =
+    let failed : is_ok c.from_residual-in_err-read_cells.result ≡ false = search rules in
+    stopped failed (reads_then {ok = false} (read_alone {ok = true} c.in_ok-word.ensures.one_call) c.in_err-read_cells.ensures.reads)
+
+pub returns-clause-reads : goal.returns-clause-reads
+returns-clause-reads g c = reads_then {ok = true} (read_alone {ok = true} c.in_ok-word.ensures.one_call) c.in_ok-read_cells.ensures.reads
+
+pub returns-in_err-word-clause-few : goal.returns-in_err-word-clause-few
+returns-in_err-word-clause-few g c = let one = one_moment c.in_err-word.ensures.one_call in omega arith
+
+pub returns-in_default-clause-few : goal.returns-in_default-clause-few
+returns-in_default-clause-few g c = let one = one_moment c.in_ok-word.ensures.one_call in omega arith
+
+pub returns-then-cells-sizes-clause-few : goal.returns-then-cells-sizes-clause-few
+returns-then-cells-sizes-clause-few g c = let one = one_moment c.in_ok-word.ensures.one_call in omega arith
 
 pub returns-in_err-read_cells-clause-few : goal.returns-in_err-read_cells-clause-few
 returns-in_err-read_cells-clause-few g c = let one = one_moment c.in_ok-word.ensures.one_call in omega arith
