@@ -3,7 +3,7 @@ use Rattle.std.specs.Prelude.{◌≡◌, ◌==◌, ℕ, [], ◌∷◌, ◌++◌,
 use prog.Atomic.{either}
 use Rattle.core_events.specs.Setups.{Setup}
 use Rattle.core_events.specs.Views.{View}
-use Rattle.core_events.specs.Events.{Event, view_after, looked_word, own_word, is_good, extending, validating}
+use Rattle.core_events.specs.Events.{Event, view_after, looked_word, own_word, is_good, all_checked, reaching, extending, validating}
 
 -- the view v becomes w by the event, which found the number n
 abbrev pub Becomes : Setup → Event → View → ℕ → View → Type 0
@@ -12,6 +12,10 @@ Becomes z e v n w = w ≡ view_after z e v n
 -- the value x of the home word i waited no longer: it joins the reads where the lock's word n is still the looked-at one
 abbrev pub confirmed : ℕ → ℕ → ℕ → View → View
 confirmed i x n v = record v { tx = record v.tx { reads = if n == looked_word v.tx.look then v.tx.reads ++ (i, x) ∷ [] else v.tx.reads; loaded = None } }
+
+-- an extension to this number ended where each lock of the reads was found good
+abbrev pub reached : Setup → ℕ → View → View
+reached z goal v = record v { tx = reaching (all_checked z v.tx.checked v.tx.reads) goal v.tx }
 
 -- in an extension to this number the word n of the lock was found
 abbrev pub extended : Setup → ℕ → ℕ → ℕ → View → View

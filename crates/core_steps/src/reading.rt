@@ -3,7 +3,7 @@
 ghost use Rattle.std.specs.Prelude.{◌≡◌, OnOk, OnErr};
 ghost use Rattle.core_events.specs.Events.{begin, extend, load, check, finish, look, name, view_after};
 ghost use Rattle.core_view.specs.Named.{word_of, of_read};
-ghost use Rattle.core_steps.specs.Moves.{confirmed, extended, validated};
+ghost use Rattle.core_steps.specs.Moves.{confirmed, reached, extended, validated};
 
 use core_view::about::About;
 use core_view::deed::ReadDeed;
@@ -55,13 +55,20 @@ fn extend(view: &mut View, z: &Setup, found: u64)
 {
     view.tx.checked.clear();
     view.tx.loaded = None;
+    reach(view, z, found);
+    view.notice(Word::Clock, found);
+}
+
+// An extension to `goal` ends where each lock of the reads was found good.
+fn reach(view: &mut View, z: &Setup, goal: u64)
+    ensures { view.new ≡ reached z.now goal view.old }
+{
     if view.tx.reads.all_checked(z, &view.tx.checked) {
-        view.tx.snapshot = found;
+        view.tx.snapshot = goal;
         view.tx.extension = None;
     } else {
-        view.tx.extension = Some(found);
+        view.tx.extension = Some(goal);
     }
-    view.notice(Word::Clock, found);
 }
 
 fn look(view: &mut View, z: &Setup, lock: u64, found: u64)
@@ -102,6 +109,8 @@ fn confirm(view: &mut View, at: u64, value: u64, found: u64) -> Result<(), Alloc
 {
     if found == view.looked_word() {
         view.tx.reads.put_last(at, value)?;
+        view.tx.loaded = None;
+        return Ok(());
     }
     view.tx.loaded = None;
     Ok(())
@@ -123,12 +132,7 @@ fn extend_over(
         return Ok(());
     }
     view.tx.checked.put_first(lock)?;
-    if view.tx.reads.all_checked(z, &view.tx.checked) {
-        view.tx.snapshot = goal;
-        view.tx.extension = None;
-    } else {
-        view.tx.extension = Some(goal);
-    }
+    reach(view, z, goal);
     Ok(())
 }
 
@@ -137,11 +141,11 @@ fn validate(view: &mut View, lock: u64, found: u64) -> Result<(), AllocError>
     ensures ok { OnOk result (view.new ≡ validated lock found view.old) }
     ensures err { OnErr result (view.new ≡ view.old) }
 {
-    if view.is_good(found) {
-        view.tx.checked.put_first(lock)?;
-    } else {
+    if !view.is_good(found) {
         view.tx.hand.void = true;
+        return Ok(());
     }
+    view.tx.checked.put_first(lock)?;
     Ok(())
 }
 

@@ -1,8 +1,9 @@
 //! Views that are made, split and joined.
 
-ghost use Rattle.std.specs.Prelude.{◌≡◌, ◌+◌, ◌<◌, ◌≤◌, ◌^◌, ◌++◌, false, OnOk, OnErr, IfOk};
+ghost use Rattle.std.specs.Prelude.{◌≡◌, ◌+◌, ◌-◌, ◌<◌, ◌≤◌, ◌^◌, ◌++◌, false, OnOk, OnErr, IfOk};
 ghost use Rattle.core_events.specs.Conditions.{record_of};
-ghost use Rattle.core_events.specs.Partings.{newcomer, spent, left_of, both_of};
+ghost use Rattle.core_events.specs.Keyed.{one_if};
+ghost use Rattle.core_events.specs.Partings.{newcomer, spent, left_of, both_parts, both_turns, both_of};
 ghost use Rattle.core_view.specs.Named.{Tells};
 ghost use Rattle.core_view.specs.Partings.{HasLeft, IsDone, ended_in};
 
@@ -110,11 +111,9 @@ impl View {
     {
         let ended = self.part.ended_with(alloc, &other.part)?;
         self.entries.append(&mut other.entries)?;
-        self.part.ended = ended;
-        self.part.splits += other.part.splits + if other.part.thread.is_some() { 0 } else { 1 };
+        self.part.take_over(ended, &other.part);
+        self.turn.take_over(&other.turn);
         self.draws += other.draws;
-        self.turn.durable = self.turn.durable.max(other.turn.durable);
-        self.turn.met_fault = self.turn.met_fault || other.turn.met_fault;
         Ok(())
     }
 
@@ -137,6 +136,36 @@ impl Part {
         }
         ended.put_all(&other.ended)?;
         Ok(ended)
+    }
+
+    // Takes over the other's splits, and has these ended threads.
+    fn take_over(&mut self, ended: Numbers, other: &Part)
+        requires room { self.old.splits + (other.now.splits + 1) < 2 ^ 64 }
+        requires ended { ended ≡ ended_in self.old other.now }
+        ensures { self.new ≡ both_parts self.old other.now }
+    {
+        self.ended = ended;
+        self.splits += other.own_splits();
+    }
+
+    // Its splits, and one more where it has no thread.
+    fn own_splits(&self) -> u64
+        requires { self.now.splits + 1 < 2 ^ 64 }
+        ensures { result ≡ self.now.splits + (1 - one_if self.now.thread) }
+    {
+        match self.thread {
+            Some(_) => self.splits,
+            None => self.splits + 1,
+        }
+    }
+}
+
+impl Turn {
+    fn take_over(&mut self, other: &Turn)
+        ensures { self.new ≡ both_turns self.old other.now }
+    {
+        self.durable = self.durable.max(other.durable);
+        self.met_fault = self.met_fault || other.met_fault;
     }
 }
 

@@ -1,7 +1,7 @@
 //! The shared words of the machine, by name.
 
 /// A shared word, by name; the words of frames and of boxes are numbered through.
-#[derive(Clone, Copy, Debug, PartialEq, Eq)]
+#[derive(Clone, Copy, Debug)]
 pub enum Word {
     /// How many threads' numbers were drawn.
     Threads,
