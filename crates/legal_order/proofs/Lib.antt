@@ -1,0 +1,5 @@
+pub mod Sorting
+pub mod Databases
+pub mod Printing
+pub mod Performing
+pub mod Together
