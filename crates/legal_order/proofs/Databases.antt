@@ -12,8 +12,8 @@ use Rattle.tatp_model.specs.Database.{Database}
 use Rattle.tatp_model.specs.Transaction.{after_request}
 use Rattle.tatp_model.specs.OneThread.{Precedes, after_requests, after_number}
 use Rattle.tatp_model.proofs.Run.{after_requests-append}
-use Rattle.run_order.proofs.Pairs.{pairs_head, pairs_tail}
-use Rattle.legal_order.specs.Numbers.{WroteAt, AreDatabases, Differ}
+use Rattle.run_order.proofs.Pairs.{pairs_head, pairs_tail, one_or_other}
+use Rattle.legal_order.specs.Numbers.{WroteAt, AreDatabases, HaveSameWriters, LawOfWriters, Differ}
 
 -- the request counts up to n
 abbrev pub counted : ℕ → Done → Bool
@@ -119,7 +119,7 @@ one_or_none n pos (d ∷ order) sorted differ =
     (λ h. other (λ at. absurd (both_ways d.wrote h at.wrote))) (cases_Bool d.wrote)
 
 -- the databases along the order
-module _ (first limit : ℕ) (db : Database) (order : List Done) (databases : ℕ → Database) (sorted : AllPairs Precedes order) (differ : AllPairs Differ order) (over : All (λ d. d.wrote ≡ true → first < d.number) order) (leads : AreDatabases first limit db order databases) where
+module _ (first limit : ℕ) (db : Database) (order : List Done) (databases : ℕ → Database) (sorted : AllPairs Precedes order) (differ : AllPairs Differ order) (over : All (λ d. d.wrote ≡ true → first < d.number) order) where
   none_upto : All (λ d. counted first d ≡ false) order
   none_upto = λ k d within. let x : Done = get_or order k d in ⊎_elim (λ w. counted_over first x (over k d within w)) (λ h. counted_read first x h) (cases_Bool x.wrote)
 
@@ -133,18 +133,60 @@ module _ (first limit : ℕ) (db : Database) (order : List Done) (databases : �
   after_last : (l : List Done) (d : Done) → after (l ++ d ∷ []) ≡ after_request limit (after l) d.request
   after_last l d = ap (after_requests limit db) (map_last l d) ∙ after_requests-append limit db (map (λ (x : Done). x.request) l) (d.request ∷ [])
 
-  from_first : (k : ℕ) → after_number limit db order (first + k) ≡ databases (first + k)
-  from_first zero = let e : first + 0 ≡ first = omega arith in rw e (ap after (filter_none (counted first) order none_upto) ∙ sym leads.start)
-  from_first (suc k) =
-      let e : first + suc k ≡ (first + k) + 1 = omega arith in
-      let n : ℕ = first + k in
-      let back : n + 1 - 1 ≡ n = omega arith in
-      let before : after (filter (counted n) order) ≡ databases n = from_first k in
-      rw e (⊎_elim
-      (λ one. ap after (subst (λ (m : ℕ). filter (counted (n + 1)) order ≡ filter (counted m) order ++ one.writer ∷ []) back one.more)
-      ∙ (after_last (filter (counted n) order) one.writer ∙ (ap (λ (b : Database). after_request limit b one.writer.request) before ∙ sym (leads.wrote n one.writer (omega arith) one.among one.at))))
-      (λ no. ap after (subst (λ (m : ℕ). filter (counted (n + 1)) order ≡ filter (counted m) order) back no.same) ∙ (before ∙ sym (leads.stays n (omega arith) no.none)))
-      (one_or_none (n + 1) (omega arith) order sorted differ))
+  at_first : after_number limit db order first ≡ db
+  at_first = ap after (filter_none (counted first) order none_upto)
 
-  pub databases_along : (n : ℕ) → first ≤ n → after_number limit db order n ≡ databases n
-  databases_along n le = let e : first + (n - first) ≡ n = omega arith in subst (λ (m : ℕ). after_number limit db order m ≡ databases m) e (from_first (n - first))
+  module _ (leads : AreDatabases first limit db order databases) where
+    from_first : (k : ℕ) → after_number limit db order (first + k) ≡ databases (first + k)
+    from_first zero = let e : first + 0 ≡ first = omega arith in rw e (ap after (filter_none (counted first) order none_upto) ∙ sym leads.start)
+    from_first (suc k) =
+        let e : first + suc k ≡ (first + k) + 1 = omega arith in
+        let n : ℕ = first + k in
+        let back : n + 1 - 1 ≡ n = omega arith in
+        let before : after (filter (counted n) order) ≡ databases n = from_first k in
+        rw e (⊎_elim
+        (λ one. ap after (subst (λ (m : ℕ). filter (counted (n + 1)) order ≡ filter (counted m) order ++ one.writer ∷ []) back one.more)
+        ∙ (after_last (filter (counted n) order) one.writer ∙ (ap (λ (b : Database). after_request limit b one.writer.request) before ∙ sym (leads.wrote n one.writer (omega arith) one.among one.at))))
+        (λ no. ap after (subst (λ (m : ℕ). filter (counted (n + 1)) order ≡ filter (counted m) order) back no.same) ∙ (before ∙ sym (leads.stays n (omega arith) no.none)))
+        (one_or_none (n + 1) (omega arith) order sorted differ))
+
+    pub databases_along : (n : ℕ) → first ≤ n → after_number limit db order n ≡ databases n
+    databases_along n le = let e : first + (n - first) ≡ n = omega arith in subst (λ (m : ℕ). after_number limit db order m ≡ databases m) e (from_first (n - first))
+
+  -- and they are databases at the numbers
+  module _ (along : (n : ℕ) → first ≤ n → after_number limit db order n ≡ databases n) where
+    writes_there : (n : ℕ) (d : Done) → first ≤ n → Contains order d → WroteAt (n + 1) d → databases (n + 1) ≡ after_request limit (databases n) d.request
+    writes_there n d le c at =
+        let back : n + 1 - 1 ≡ n = omega arith in
+        ⊎_elim
+        (λ one.
+        let same : one.writer ≡ d = ⊎_elim (λ same. same)
+        (λ other. ⊎_elim (λ r. absurd (r one.at.wrote at.wrote (one.at.number ∙ sym at.number))) (λ r. absurd (r at.wrote one.at.wrote (at.number ∙ sym one.at.number))) other)
+        (one_or_other Differ order one.writer d differ one.among c) in
+        let more : filter (counted (n + 1)) order ≡ filter (counted n) order ++ one.writer ∷ [] =
+        subst (λ (m : ℕ). filter (counted (n + 1)) order ≡ filter (counted m) order ++ one.writer ∷ []) back one.more in
+        sym (along (n + 1) (omega arith)) ∙ (ap after more ∙ (after_last (filter (counted n) order) one.writer
+        ∙ (ap (λ (b : Database). after_request limit b one.writer.request) (along n le) ∙ ap (λ (x : Done). after_request limit (databases n) x.request) same))))
+        (λ no. absurd (no.none d c at))
+        (one_or_none (n + 1) (omega arith) order sorted differ)
+
+    stays_there : (n : ℕ) → first ≤ n → ((d : Done) → Contains order d → WroteAt (n + 1) d → ⊥) → databases (n + 1) ≡ databases n
+    stays_there n le none =
+        let back : n + 1 - 1 ≡ n = omega arith in
+        ⊎_elim
+        (λ one. absurd (none one.writer one.among one.at))
+        (λ no. sym (along (n + 1) (omega arith)) ∙ (ap after (subst (λ (m : ℕ). filter (counted (n + 1)) order ≡ filter (counted m) order) back no.same) ∙ along n le))
+        (one_or_none (n + 1) (omega arith) order sorted differ)
+
+    pub databases_from : AreDatabases first limit db order databases
+    databases_from = record { start = sym (along first (omega arith)) ∙ at_first; wrote = writes_there; stays = stays_there }
+
+pub with_writers : (first limit : ℕ) (db : Database) (done other : List Done) (databases : ℕ → Database) → HaveSameWriters done other → AreDatabases first limit db done databases → AreDatabases first limit db other databases
+with_writers first limit db done other databases same leads = record {
+  start = leads.start;
+  wrote = λ n d le c at. leads.wrote n d le ((same d at.wrote).1 c) at;
+  stays = λ n le none. leads.stays n le (λ d c at. none d ((same d at.wrote).0 c) at);
+}
+
+pub law_writers : LawOfWriters
+law_writers first limit db done other databases same leads = with_writers first limit db done other databases same leads

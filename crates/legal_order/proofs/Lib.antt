@@ -3,3 +3,4 @@ pub mod Databases
 pub mod Printing
 pub mod Performing
 pub mod Together
+pub mod WorkedNumbers

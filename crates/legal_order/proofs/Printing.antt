@@ -17,10 +17,10 @@ use Rattle.run_order.specs.Runs.{StandApart}
 use Rattle.run_order.proofs.Pairs.{pairs_head, pairs_tail, pairs_weaker, pairs_among, pairs_at, one_or_other}
 use Rattle.run_order.proofs.Elements.{filter_contains, contains_filter}
 use Rattle.run_order.proofs.FileOrder.{in_files_from_holding}
-use Rattle.legal_order.specs.Numbers.{AreDatabases, answered_at, IsAnswered, AreAnswered, Differ, IsFollowedBy, IsNumbered, AreNumbered}
-use Rattle.legal_order.specs.Printed.{NumbersOfOneThread, RepliesInOrder, PrintsAt, LawOfPrintedOrder, LawOfParts, LawOfReplies, LawOfDatabases}
+use Rattle.legal_order.specs.Numbers.{AreDatabases, HaveSameWriters, answered_at, IsAnswered, AreAnswered, Differ, IsFollowedBy, IsNumbered, AreNumbered}
+use Rattle.legal_order.specs.Printed.{NumbersOfOneThread, RepliesInOrder, LawOfPrintedOrder, LawOfParts, LawOfReplies, LawOfDatabases}
 use Rattle.legal_order.proofs.Sorting.{sort, Sorted}
-use Rattle.legal_order.proofs.Databases.{counted, counted_over, counted_read, precedes_upto, filter_none, databases_along}
+use Rattle.legal_order.proofs.Databases.{with_writers, databases_from, counted, counted_over, counted_read, precedes_upto, filter_none, databases_along}
 
 abbrev is_printed : Done → Bool
 is_printed d = not (is_sync d.request)
@@ -79,26 +79,17 @@ in_index_order d e printed file either =
     (λ a. ⊎_elim (λ less. absurd (omega (arith, less, file))) (λ index. index.1) a.1) same.1) printed) other)
     either
 
--- of requests that have numbers
-module _ (first : ℕ) (files : List (List Request)) (done : List Done) (numbered : AreNumbered first files done) where
+-- of requests that have numbers, along a printed order of them
+module _ (first : ℕ) (files : List (List Request)) (done : List Done) (numbered : AreNumbered first files done) (order : List Done) (printed : IsPrintedOrder done order) where
   abbrev kept : List Done
   kept = filter is_printed done
 
-  in_files : AllPairs PrecedesInFiles done
-  in_files = in_files_from_holding numbered.held.0 done numbered.held.2
-
-  result : Sorted kept
-  result = sort kept (pairs_weaker PrecedesInFiles StandApart kept files_apart (AllPairs-filter PrecedesInFiles is_printed done in_files))
-
-  abbrev order : List Done
-  order = result.order
-
   -- what stands in the order was done, and is no SYNC; and the other way round
   was_done : (d : Done) → Contains order d → Contains done d × (is_sync d.request ≡ false)
-  was_done d c = let k = filter_contains is_printed done d (Contains-permutation order kept d (IsPermutation-sym kept order result.same) c) in (k.0, not_sync (is_sync d.request) k.1)
+  was_done d c = let k = filter_contains is_printed done d (Contains-permutation order kept d (IsPermutation-sym kept order printed.same) c) in (k.0, not_sync (is_sync d.request) k.1)
 
   is_there : (d : Done) → Contains done d → is_sync d.request ≡ false → Contains order d
-  is_there d c isnt = Contains-permutation kept order d result.same (contains_filter is_printed done d c (printed_not (is_sync d.request) isnt))
+  is_there d c isnt = Contains-permutation kept order d printed.same (contains_filter is_printed done d c (printed_not (is_sync d.request) isnt))
 
   about : (d : Done) → Contains done d → IsNumbered first d
   about d c = All-contains (IsNumbered first) done d numbered.each c
@@ -119,10 +110,14 @@ module _ (first : ℕ) (files : List (List Request)) (done : List Done) (numbere
       (λ one. let itself : Precedes d d = subst (λ (x : Done). Precedes d x) (sym one) before in Precedes-asymmetric d d itself itself)
       (λ other. ⊎_elim (λ r. r w w' same) (λ r. r w' w (sym same)) other)
       (one_or_other Differ done d e numbered.differ (was_done d c).0 (was_done e c').0))
-      result.sorted
+      printed.sorted
 
-  printed_order : IsPrintedOrder done order
-  printed_order = record { same = result.same; sorted = result.sorted }
+  -- those that wrote stand in both lists
+  same_writers : HaveSameWriters done order
+  same_writers d w = ((λ c. is_there d c (no_sync d c w)), (λ c. (was_done d c).0))
+
+  in_files : AllPairs PrecedesInFiles done
+  in_files = in_files_from_holding numbered.held.0 done numbered.held.2
 
   -- of what a filter keeps, what holds of each
   among : (p : Done → Bool) (P : Done → Type 0) → ((d : Done) → IsNumbered first d → p d ≡ true → P d) → All P (filter p done)
@@ -139,7 +134,7 @@ module _ (first : ℕ) (files : List (List Request)) (done : List Done) (numbere
     from = among is_printed (λ d. first ≤ d.number) (λ d a p. a.from (not_sync (is_sync d.request) p));
     syncs = among (λ d. is_sync d.request) (λ d. (d.reply ≡ Durable) × (d.wrote ≡ false)) (λ d a s. a.durable s);
     order = order;
-    printed = printed_order;
+    printed = printed;
     files_in_order =
         pairs_among Precedes (λ d e. d.file ≡ e.file → d.index < e.index) order
         (λ d e c c' before file.
@@ -148,77 +143,82 @@ module _ (first : ℕ) (files : List (List Request)) (done : List Done) (numbere
         (⊎_elim (λ one. inl one) (λ other. inr (⊎_elim (λ r. inl (r.0, r.1 file x.1 y.1)) (λ r. inr (r.0, r.1 (sym file) y.1 x.1)) other))
         (one_or_other (λ u v. PrecedesInFiles u v × (u.file ≡ v.file → is_sync u.request ≡ false → is_sync v.request ≡ false → IsFollowedBy u v)) done d e
         (λ i j f low within. (in_files i j f low within, numbered.follow i j f low within)) x.0 y.0)))
-        result.sorted;
+        printed.sorted;
   }
 
-  -- with the databases at the numbers
-  module _ (limit : ℕ) (db : Database) (databases : ℕ → Database) (leads : AreDatabases first limit db done databases) where
-    order_leads : AreDatabases first limit db order databases
-    order_leads = record {
-      start = leads.start;
-      wrote = λ n d le c at. leads.wrote n d le (was_done d c).0 at;
-      stays = λ n le none. leads.stays n le (λ d c at. none d (is_there d c (no_sync d c at.wrote)) at);
-    }
+  -- databases lead along the order, and no others
+  along_order : (limit : ℕ) (db : Database) (databases : ℕ → Database) → AreDatabases first limit db done databases → (n : ℕ) → first ≤ n → after_number limit db order n ≡ databases n
+  along_order limit db databases leads =
+      databases_along first limit db order databases printed.sorted differ over (with_writers first limit db done order databases same_writers leads)
 
-    along_databases : (n : ℕ) → first ≤ n → after_number limit db order n ≡ databases n
-    along_databases = databases_along first limit db order databases result.sorted differ over order_leads
+  back_along : (limit : ℕ) (db : Database) (databases : ℕ → Database) → ((n : ℕ) → first ≤ n → after_number limit db order n ≡ databases n) → AreDatabases first limit db done databases
+  back_along limit db databases along =
+      with_writers first limit db order done databases (λ d w. ((same_writers d w).1, (same_writers d w).0))
+      (databases_from first limit db order databases printed.sorted differ over along)
 
-    prints : PrintsAt first limit db done databases
-    prints = record { order = order; printed = printed_order; along = along_databases }
+  -- with answers on the databases at the numbers
+  module _ (limit : ℕ) (db : Database) (databases : ℕ → Database) (leads : AreDatabases first limit db done databases) (answers : AreAnswered limit databases done) where
+    -- the database behind those that stand before d in the order
+    module _ (l : List Done) (d : Done) (r : List Done) (is : order ≡ l ++ d ∷ r) (along : RepliesAlong limit db l) where
+      here : Contains order d
+      here = subst (λ (o : List Done). Contains o d) (sym is) (Contains-append_right l (d ∷ r) d (0, omega arith, refl))
 
-    -- and with answers on these
-    module _ (answers : AreAnswered limit databases done) where
-      -- the database behind those that stand before d in the order
-      module _ (l : List Done) (d : Done) (r : List Done) (is : order ≡ l ++ d ∷ r) (along : RepliesAlong limit db l) where
-        here : Contains order d
-        here = subst (λ (o : List Done). Contains o d) (sym is) (Contains-append_right l (d ∷ r) d (0, omega arith, refl))
+      its : IsNumbered first d
+      its = about d (was_done d here).0
 
-        its : IsNumbered first d
-        its = about d (was_done d here).0
+      pos : d.wrote ≡ true → 0 < d.number
+      pos w = let o = its.over w in omega arith
 
-        pos : d.wrote ≡ true → 0 < d.number
-        pos w = let o = its.over w in omega arith
+      from : first ≤ answered_at d
+      from = ⊎_elim (λ w. rw (answered_under d w) (let o = its.over w in omega arith)) (λ h. rw (answered_there d h) (its.from (was_done d here).1)) (cases_Bool d.wrote)
 
-        from : first ≤ answered_at d
-        from = ⊎_elim (λ w. rw (answered_under d w) (let o = its.over w in omega arith)) (λ h. rw (answered_there d h) (its.from (was_done d here).1)) (cases_Bool d.wrote)
+      sorted_is : AllPairs Precedes (l ++ d ∷ r)
+      sorted_is = subst (λ (o : List Done). AllPairs Precedes o) is printed.sorted
 
-        sorted_is : AllPairs Precedes (l ++ d ∷ r)
-        sorted_is = subst (λ (o : List Done). AllPairs Precedes o) is result.sorted
+      before_upto : All (λ e. e.number ≤ answered_at d) l
+      before_upto =
+          let p = pairs_at Precedes l d r sorted_is in
+          let q = pairs_at Differ l d r (subst (λ (o : List Done). AllPairs Differ o) is differ) in
+          λ k e within. upto_before d (get_or l k e) pos (p k e within) (q k e within)
 
-        before_upto : All (λ e. e.number ≤ answered_at d) l
-        before_upto =
-            let p = pairs_at Precedes l d r sorted_is in
-            let q = pairs_at Differ l d r (subst (λ (o : List Done). AllPairs Differ o) is differ) in
-            λ k e within. upto_before d (get_or l k e) pos (p k e within) (q k e within)
+      behind_over : All (λ e. counted (answered_at d) e ≡ false) r
+      behind_over = All-weaker (Precedes d) (λ e. counted (answered_at d) e ≡ false) (λ e b. over_behind d e pos b) r (behind_pairs Precedes l d r sorted_is)
 
-        behind_over : All (λ e. counted (answered_at d) e ≡ false) r
-        behind_over = All-weaker (Precedes d) (λ e. counted (answered_at d) e ≡ false) (λ e b. over_behind d e pos b) r (behind_pairs Precedes l d r sorted_is)
+      counted_alike : filter (counted (answered_at d)) order ≡ filter (counted (answered_at d)) l
+      counted_alike =
+          let n = answered_at d in
+          ap (filter (counted n)) is ∙ (filter-append (counted n) l (d ∷ r)
+          ∙ (ap (λ (x : List Done). filter (counted n) l ++ x) (rw (itself_not d pos) (filter_none (counted n) r behind_over)) ∙ append-nil (filter (counted n) l)))
 
-        counted_alike : filter (counted (answered_at d)) order ≡ filter (counted (answered_at d)) l
-        counted_alike =
-            let n = answered_at d in
-            ap (filter (counted n)) is ∙ (filter-append (counted n) l (d ∷ r)
-            ∙ (ap (λ (x : List Done). filter (counted n) l ++ x) (rw (itself_not d pos) (filter_none (counted n) r behind_over)) ∙ append-nil (filter (counted n) l)))
+      database_here : after_order limit db l ≡ databases (answered_at d)
+      database_here =
+          sym (after_number-all limit db l (answered_at d) along before_upto)
+          ∙ (ap (λ (x : List Done). after_requests limit db (map (λ (e : Done). e.request) x)) (sym counted_alike) ∙ along_order limit db databases leads (answered_at d) from)
 
-        database_here : after_order limit db l ≡ databases (answered_at d)
-        database_here =
-            sym (after_number-all limit db l (answered_at d) along before_upto)
-            ∙ (ap (λ (x : List Done). after_requests limit db (map (λ (e : Done). e.request) x)) (sym counted_alike) ∙ along_databases (answered_at d) from)
+      answer : IsAnswered limit databases d
+      answer = All-contains (λ e. is_sync e.request ≡ false → IsAnswered limit databases e) done d answers (was_done d here).0 (was_done d here).1
 
-        answer : IsAnswered limit databases d
-        answer = All-contains (λ e. is_sync e.request ≡ false → IsAnswered limit databases e) done d answers (was_done d here).0 (was_done d here).1
+      one_more : RepliesAlong limit db (l ++ d ∷ [])
+      one_more = RepliesAlong-push limit db l d along (answer.reply ∙ ap (λ (b : Database). reply_to limit b d.request) (sym database_here)) answer.wrote
 
-        one_more : RepliesAlong limit db (l ++ d ∷ [])
-        one_more = RepliesAlong-push limit db l d along (answer.reply ∙ ap (λ (b : Database). reply_to limit b d.request) (sym database_here)) answer.wrote
+    replies_from : (l r : List Done) → order ≡ l ++ r → RepliesAlong limit db l → RepliesAlong limit db (l ++ r)
+    replies_from l [] is along = subst (λ (x : List Done). RepliesAlong limit db x) (sym (append-nil l)) along
+    replies_from l (d ∷ r) is along =
+        let assoc = append_assoc l (d ∷ []) r in
+        subst (λ (x : List Done). RepliesAlong limit db x) assoc (replies_from (l ++ d ∷ []) r (is ∙ sym assoc) (one_more l d r is along))
 
-      replies_from : (l r : List Done) → order ≡ l ++ r → RepliesAlong limit db l → RepliesAlong limit db (l ++ r)
-      replies_from l [] is along = subst (λ (x : List Done). RepliesAlong limit db x) (sym (append-nil l)) along
-      replies_from l (d ∷ r) is along =
-          let assoc = append_assoc l (d ∷ []) r in
-          subst (λ (x : List Done). RepliesAlong limit db x) assoc (replies_from (l ++ d ∷ []) r (is ∙ sym assoc) (one_more l d r is along))
+    replies : RepliesAlong limit db order
+    replies = replies_from [] order refl tt
 
-      replies : RepliesAlong limit db order
-      replies = replies_from [] order refl tt
+-- the printed order of requests that have numbers
+module _ (first : ℕ) (files : List (List Request)) (done : List Done) (numbered : AreNumbered first files done) where
+  result : Sorted (filter is_printed done)
+  result =
+      let in_order = in_files_from_holding numbered.held.0 done numbered.held.2 in
+      sort (filter is_printed done) (pairs_weaker PrecedesInFiles StandApart (filter is_printed done) files_apart (AllPairs-filter PrecedesInFiles is_printed done in_order))
+
+  printed_order : IsPrintedOrder done result.order
+  printed_order = record { same = result.same; sorted = result.sorted }
 
 -- the two parts of what is said of one thread
 parted : (first limit : ℕ) (db : Database) (files : List (List Request)) (done : List Done) → RepliesOfOneThread first limit db files done → RepliesInOrder first limit db files done
@@ -239,7 +239,7 @@ joined first limit db files done (n, along) = record {
 }
 
 pub law_printed : LawOfPrintedOrder
-law_printed first files done numbered = numbers first files done numbered
+law_printed first files done numbered = numbers first files done numbered (result first files done numbered).order (printed_order first files done numbered)
 
 pub law_parts : LawOfParts
 law_parts first limit db files done = (parted first limit db files done, joined first limit db files done)
@@ -247,7 +247,15 @@ law_parts first limit db files done = (parted first limit db files done, joined 
 pub law_replies : LawOfReplies
 unfolding numbers
 law_replies first limit db files done databases numbered leads answers =
-    joined first limit db files done (numbers first files done numbered, replies first files done numbered limit db databases leads answers)
+    let order = (result first files done numbered).order in let printed = printed_order first files done numbered in
+    joined first limit db files done (numbers first files done numbered order printed, replies first files done numbered order printed limit db databases leads answers)
 
 pub law_databases : LawOfDatabases
-law_databases first limit db files done databases numbered leads = prints first files done numbered limit db databases leads
+law_databases first limit db files done databases numbered = (
+  (λ leads. record {
+    order = (result first files done numbered).order;
+    printed = printed_order first files done numbered;
+    along = along_order first files done numbered (result first files done numbered).order (printed_order first files done numbered) limit db databases leads;
+  }),
+  (λ prints. back_along first files done numbered prints.order prints.printed limit db databases prints.along),
+)

@@ -1,6 +1,6 @@
 -- Requests that threads answered, and the rests of their files performed behind them, are together answered at numbers.
 use Rattle.std.proofs.Common.{◌≡◌, ℕ, zero, suc, ◌+◌, ◌<◌, ◌≤◌, true, false, List, [], ◌∷◌, ◌++◌, length, map, refl, ap, ap₂, sym, ◌∙◌, subst, arith, inl, inr, ◌⊎◌, ⊎_elim, append_assoc}
-use Rattle.std.specs.Prelude.{IsPermutation}
+use Rattle.std.specs.Prelude.{IsTrue, IsPermutation}
 use Rattle.std.specs.List.{All, AllPairs, AllZip, Contains, enumerate_from}
 use Rattle.std.proofs.lemmas.List.{map-append}
 use Rattle.std.proofs.lemmas.List.Elements.{All-nil, All-cons, All-append, All-weaker, All-contains, All-contains_itself, Contains-append_left, Contains-append_right, Contains-append_cases}
@@ -12,12 +12,12 @@ use Rattle.tatp_model.specs.declared.reply.Reply.TheVariants.{Durable}
 use Rattle.tatp_model.specs.Database.{Database}
 use Rattle.tatp_model.specs.Transaction.{after_request}
 use Rattle.tatp_model.specs.OneThread.{is_sync, is_changed, PrecedesInFiles, RepliesAlong, IndexedRequest, indexed_request_of, indexed_requests_from, IsPrefixOf, HoldsPrefixes}
-use Rattle.run_order.specs.Runs.{IsNumberedFrom, PrecedesInRounds, Performs, Collects}
+use Rattle.run_order.specs.Runs.{IsNumberedFrom, PrecedesInRounds, Performs, Collects, SyncsFollow}
 use Rattle.run_order.proofs.Pairs.{pairs_head, pairs_tail, pairs_among, one_or_other}
 use Rattle.run_order.proofs.Along.{sync_reply}
 use Rattle.run_order.proofs.FileOrder.{indexed, in_files_from_holding, holds_from_permutation}
 use Rattle.legal_order.specs.Numbers.{AreDatabases, IsAnswered, Differ, FollowsInFile, IsNumbered, AreNumbered, AreAnswered}
-use Rattle.legal_order.specs.Rests.{PerformsBehind, firsts_of, rests_of, files_of, LengthsAre, shifted, AreAnsweredUpTo, AreAnsweredOn, IsUnion, LawOfRests}
+use Rattle.legal_order.specs.Rests.{PerformsBehind, firsts_of, rests_of, files_of, LengthsAre, shifted, AreAnsweredUpTo, AreAnsweredOn, PerformsRests, LawOfRests, LawOfSyncs}
 use Rattle.legal_order.proofs.Performing.{performs_behind, numbers_from, answer_stays}
 
 -- ---- requests at their indices
@@ -130,18 +130,27 @@ in_files_once : (d e : Done) → PrecedesInFiles d e → PrecedesInFiles e d →
 in_files_once d e before after =
     ⊎_elim (λ p. ⊎_elim (λ q. absurd (omega (arith, p, q))) (λ q. absurd (omega (arith, p, q.0))) after) (λ p. ⊎_elim (λ q. absurd (omega (arith, p.0, q))) (λ q. absurd (omega (arith, p.1, q.1))) after) before
 
-module _ (first limit last : ℕ) (db : Database) (counts : ℕ → ℕ) (parts : List (List Request × List Request)) (databases : ℕ → Database) (threads performed collected done : List Done)
-    (lengths : LengthsAre counts 0 (firsts_of parts)) (t : AreAnsweredUpTo first limit last db (firsts_of parts) threads databases)
-    (p : Performs last limit (databases last) performed) (c : Collects (rests_of parts) performed collected)
-    (together : IsUnion counts threads collected done) where
+module _ (first limit last : ℕ) (db : Database) (counts : ℕ → ℕ) (parts : List (List Request × List Request)) (databases : ℕ → Database) (threads performed collected done : List Done) (rests : PerformsRests first limit last db counts parts databases threads performed collected done) where
+  lengths : LengthsAre counts 0 (firsts_of parts)
+  lengths = rests.lengths
+
+  t : AreAnsweredUpTo first limit last db (firsts_of parts) threads databases
+  t = rests.answered
+
+  p : Performs last limit (databases last) performed
+  p = rests.performs
+
+  c : Collects (rests_of parts) performed collected
+  c = rests.collects
+
   gone : PerformsBehind first limit last db threads performed databases
   gone = performs_behind first limit last db threads performed databases t.ends p.numbered p.replies
 
   same : IsPermutation (threads ++ map (shifted counts) collected) done
-  same = together.same
+  same = rests.union.same
 
   sorted : AllPairs PrecedesInFiles done
-  sorted = together.sorted
+  sorted = rests.union.sorted
 
   abbrev further : ℕ → Database
   further = gone.further
@@ -253,6 +262,44 @@ module _ (first limit last : ℕ) (db : Database) (counts : ℕ → ℕ) (parts 
     follow = pairs_among PrecedesInFiles FollowsInFile done (λ d e at at' before. (pair d e at at' before).1) sorted;
   }
 
+  -- ---- the numbers of `Sync`
+  abbrev SyncFollows : Done → Done → Type 0
+  SyncFollows d e = d.file ≡ e.file → IsTrue (is_sync e.request) → d.number ≤ e.number
+
+  sync_pair : SyncsFollow threads → (d e : Done) → Contains done d → Contains done e → PrecedesInFiles d e → SyncFollows d e
+  sync_pair follow d e at at' before f sync =
+      ⊎_elim
+      (λ here. ⊎_elim
+      (λ here'. ⊎_elim
+      (λ one. let itself = subst (λ (x : Done). PrecedesInFiles d x) (sym one) before in absurd (in_files_once d d itself itself))
+      (λ other. ⊎_elim (λ r. r.1 f sync) (λ r. absurd (in_files_once d e before r.0)) other)
+      (one_or_other (λ u v. PrecedesInFiles u v × SyncFollows u v) threads d e (λ i j o low within. (in_threads i j o low within, follow i j o low within)) here here'))
+      (λ r. let u = early d here in let l = (later r.0 r.1).0 in let n = ap (λ (x : Done). x.number) r.2 in omega arith)
+      (which e at'))
+      (λ r. ⊎_elim
+      (λ here'. let under = index_under e here' in
+      let file = ap (λ (x : Done). x.file) r.2 in let index = ap (λ (x : Done). x.index) r.2 in
+      let sf : counts r.0.file ≡ counts e.file = ap counts (file ∙ f) in
+      ⊎_elim (λ less. absurd (omega arith)) (λ less. let i = less.1 in absurd (omega arith)) before)
+      (λ r'. both_performed r.0 r'.0 r.1 r'.1 r.2 r'.2)
+      (which e at'))
+      (which d at)
+    where
+      both_performed : (x y : Done) → Contains performed x → Contains performed y → shifted counts x ≡ d → shifted counts y ≡ e → d.number ≤ e.number
+      both_performed x y cx cy is is' =
+          let n = ap (λ (u : Done). u.number) is in let n' = ap (λ (u : Done). u.number) is' in
+          ⊎_elim
+          (λ one. let itself : PrecedesInFiles d d = subst (λ (u : Done). PrecedesInFiles d u) (sym is' ∙ (ap (shifted counts) (sym one) ∙ is)) before in absurd (in_files_once d d itself itself))
+          (λ other. ⊎_elim (λ r. let u = r.upto in omega arith)
+          (λ r. let file = ap (λ (u : Done). u.file) is in let file' = ap (λ (u : Done). u.file) is' in
+          let index = ap (λ (u : Done). u.index) is in let index' = ap (λ (u : Done). u.index) is' in
+          let sf : counts x.file ≡ counts y.file = ap counts (file ∙ (f ∙ sym file')) in
+          ⊎_elim (λ less. absurd (omega arith)) (λ less. let i = less.1 in ⊎_elim (λ l. absurd (omega arith)) (λ l. let j = l.1 in let k = l.0 in absurd (omega arith)) r.rounds) before) other)
+          (one_or_other Earlier performed x y earlier cx cy)
+
+  syncs : SyncsFollow threads → SyncsFollow done
+  syncs follow = pairs_among PrecedesInFiles SyncFollows done (sync_pair follow) sorted
+
   -- ---- the databases
   leads : AreDatabases first limit db done further
   leads = record {
@@ -280,5 +327,10 @@ module _ (first limit last : ℕ) (db : Database) (counts : ℕ → ℕ) (parts 
   answered_on : AreAnsweredOn first limit last db (files_of parts) performed done databases
   answered_on = record { further = further; go_on = gone.go_on; numbered = numbered; leads = leads; answers = answers }
 
-pub law : LawOfRests
-law first limit last db counts parts databases threads performed collected done lengths t p c together = answered_on first limit last db counts parts databases threads performed collected done lengths t p c together
+pub law_rests : LawOfRests
+law_rests first limit last db counts parts databases threads performed collected done rests =
+    answered_on first limit last db counts parts databases threads performed collected done rests
+
+pub law_syncs : LawOfSyncs
+law_syncs first limit last db counts parts databases threads performed collected done rests follow =
+    syncs first limit last db counts parts databases threads performed collected done rests follow

@@ -7,7 +7,8 @@ use Rattle.tatp_model.specs.Database.{Database}
 use Rattle.tatp_model.specs.OneThread.{is_sync, after_number, HoldsPrefixes, IsPrintedOrder, RepliesAlong, RepliesOfOneThread}
 use Rattle.legal_order.specs.Numbers.{AreDatabases, AreNumbered, AreAnswered}
 
--- All that `RepliesOfOneThread` says but for the replies: it needs no database, so it holds also where what a medium gives isn't known.
+-- All that `RepliesOfOneThread` says apart from the replies. It needs no database, so it holds also where it isn't known what a
+-- medium gives.
 pub record NumbersOfOneThread (first : ℕ) (files : List (List Request)) (done : List Done) : Type 0 where
   -- each request of the files' prefixes stands in `done` once
   pub held : HoldsPrefixes files done
@@ -23,7 +24,7 @@ pub record NumbersOfOneThread (first : ℕ) (files : List (List Request)) (done 
   pub printed : IsPrintedOrder done order
   pub files_in_order : AllPairs (λ d e. d.file ≡ e.file → d.index < e.index) order
 
--- the replies are one thread's along the order
+-- all that it says, in two parts: the replies are one thread's along the printed order
 abbrev pub RepliesInOrder : (first limit : ℕ) → Database → (files : List (List Request)) → (done : List Done) → Type 0
 RepliesInOrder first limit db files done = (numbers : NumbersOfOneThread first files done) × RepliesAlong limit db numbers.order
 
@@ -33,11 +34,11 @@ pub record PrintsAt (first limit : ℕ) (db : Database) (done : List Done) (data
   pub printed : IsPrintedOrder done order
   pub along : (n : ℕ) → first ≤ n → after_number limit db order n ≡ databases n
 
--- requests that have numbers are those of one thread, but for the replies
+-- requests that have numbers have a printed order that keeps each file's, whatever the replies
 abbrev pub LawOfPrintedOrder : Type 0
 LawOfPrintedOrder = (first : ℕ) (files : List (List Request)) (done : List Done) → AreNumbered first files done → NumbersOfOneThread first files done
 
--- these two parts are all of what is said of one thread
+-- the replies of a run are one thread's exactly where both parts hold
 abbrev pub LawOfParts : Type 0
 LawOfParts = (first limit : ℕ) (db : Database) (files : List (List Request)) (done : List Done) → RepliesOfOneThread first limit db files done ↔ RepliesInOrder first limit db files done
 
@@ -46,7 +47,7 @@ abbrev pub LawOfReplies : Type 0
 LawOfReplies = (first limit : ℕ) (db : Database) (files : List (List Request)) (done : List Done) (databases : ℕ → Database)
     → AreNumbered first files done → AreDatabases first limit db done databases → AreAnswered limit databases done → RepliesOfOneThread first limit db files done
 
--- along the printed order the databases are those at the numbers, whatever was answered
+-- the databases at the numbers are those along the printed order, and no others, whatever was answered
 abbrev pub LawOfDatabases : Type 0
 LawOfDatabases = (first limit : ℕ) (db : Database) (files : List (List Request)) (done : List Done) (databases : ℕ → Database)
-    → AreNumbered first files done → AreDatabases first limit db done databases → PrintsAt first limit db done databases
+    → AreNumbered first files done → AreDatabases first limit db done databases ↔ PrintsAt first limit db done databases

@@ -4,7 +4,7 @@ use Rattle.tatp_model.specs.declared.request.Request.{Request}
 use Rattle.tatp_model.specs.declared.done.Done.{Done}
 use Rattle.tatp_model.specs.Database.{Database}
 use Rattle.tatp_model.specs.OneThread.{PrecedesInFiles, AllAreDone, RepliesAlong, after_number}
-use Rattle.run_order.specs.Runs.{IsNumberedFrom, Performs, Collects}
+use Rattle.run_order.specs.Runs.{IsNumberedFrom, Performs, Collects, SyncsFollow}
 use Rattle.legal_order.specs.Numbers.{AreDatabases, IsAnswered, IsNumbered, Differ, FilesFollow, AreNumbered, AreAnswered}
 
 -- ---- one thread goes on
@@ -26,7 +26,7 @@ pub record PerformsBehind (first limit last : ℕ) (db : Database) (done perform
   pub leads : AreDatabases first limit db (done ++ performed) further
   pub answers : All (IsAnswered limit further) performed
 
--- requests that one thread performs behind the last number, the next ones from there on
+-- so are requests that one thread performs from the last number on, each that wrote with the next one
 abbrev pub LawOfPerforming : Type 0
 LawOfPerforming = (first limit last : ℕ) (db : Database) (done performed : List Done) (databases : ℕ → Database)
     → EndBy first limit last db done databases → IsNumberedFrom last performed → RepliesAlong limit (databases last) performed
@@ -45,7 +45,7 @@ rests_of parts = map (λ p. p.1) parts
 abbrev pub files_of : List (List Request × List Request) → List (List Request)
 files_of parts = map (λ p. p.0 ++ p.1) parts
 
--- the files from index `file` on have so many requests
+-- the file with this number has so many requests, and so on for those behind it
 abbrev pub LengthsAre : (ℕ → ℕ) → ℕ → List (List Request) → Type 0
 LengthsAre counts file [] = ⊤
 LengthsAre counts file (requests ∷ files) = (counts file ≡ length requests) × LengthsAre counts (file + 1) files
@@ -54,7 +54,7 @@ LengthsAre counts file (requests ∷ files) = (counts file ≡ length requests) 
 abbrev pub shifted : (ℕ → ℕ) → Done → Done
 shifted counts d = record d { index = counts d.file + d.index }
 
--- All requests of these files were answered at numbers up to the last one.
+-- All requests of these files were answered, at numbers up to the last one.
 pub record AreAnsweredUpTo (first limit last : ℕ) (db : Database) (files : List (List Request)) (done : List Done) (databases : ℕ → Database) : Type 0 where
   pub all : AllAreDone files done
   pub each : All (IsNumbered first) done
@@ -63,7 +63,7 @@ pub record AreAnsweredUpTo (first limit last : ℕ) (db : Database) (files : Lis
   pub ends : EndBy first limit last db done databases
   pub answers : AreAnswered limit databases done
 
--- All together were answered at numbers, on databases that go on behind the last one.
+-- First requests of these files were answered at numbers, on databases that go on behind the last one.
 pub record AreAnsweredOn (first limit last : ℕ) (db : Database) (files : List (List Request)) (performed done : List Done) (databases : ℕ → Database) : Type 0 where
   pub further : ℕ → Database
   pub go_on : GoOn limit last performed databases further
@@ -76,10 +76,21 @@ pub record IsUnion (counts : ℕ → ℕ) (threads collected done : List Done) :
   pub same : IsPermutation (threads ++ map (shifted counts) collected) done
   pub sorted : AllPairs PrecedesInFiles done
 
--- Threads answered the first requests of each file, and one thread performed the rests behind the last number, in rounds and perhaps
--- not to their ends: together these are first requests of the files that were answered at numbers.
+-- Threads answered the first requests of each file, and one thread performed of the rests behind the last number, in rounds and
+-- perhaps not to their ends; all is collected in order of file and index.
+pub record PerformsRests (first limit last : ℕ) (db : Database) (counts : ℕ → ℕ) (parts : List (List Request × List Request)) (databases : ℕ → Database) (threads performed collected done : List Done) : Type 0 where
+  pub lengths : LengthsAre counts 0 (firsts_of parts)
+  pub answered : AreAnsweredUpTo first limit last db (firsts_of parts) threads databases
+  pub performs : Performs last limit (databases last) performed
+  pub collects : Collects (rests_of parts) performed collected
+  pub union : IsUnion counts threads collected done
+
+-- together these are first requests of the whole files, answered at numbers
 abbrev pub LawOfRests : Type 0
 LawOfRests = (first limit last : ℕ) (db : Database) (counts : ℕ → ℕ) (parts : List (List Request × List Request)) (databases : ℕ → Database) (threads performed collected done : List Done)
-    → LengthsAre counts 0 (firsts_of parts) → AreAnsweredUpTo first limit last db (firsts_of parts) threads databases
-    → Performs last limit (databases last) performed → Collects (rests_of parts) performed collected
-    → IsUnion counts threads collected done → AreAnsweredOn first limit last db (files_of parts) performed done databases
+    → PerformsRests first limit last db counts parts databases threads performed collected done → AreAnsweredOn first limit last db (files_of parts) performed done databases
+
+-- a `Sync` of all together has no number under an earlier one of its file, where it is so for what threads answered
+abbrev pub LawOfSyncs : Type 0
+LawOfSyncs = (first limit last : ℕ) (db : Database) (counts : ℕ → ℕ) (parts : List (List Request × List Request)) (databases : ℕ → Database) (threads performed collected done : List Done)
+    → PerformsRests first limit last db counts parts databases threads performed collected done → SyncsFollow threads → SyncsFollow done

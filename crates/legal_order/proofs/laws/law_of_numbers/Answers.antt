@@ -1,3 +1,4 @@
+use Rattle.legal_order.proofs.Databases.{law_writers}
 use Rattle.legal_order.proofs.Printing.{law_printed, law_parts, law_replies, law_databases}
 use Rattle.legal_order.proofs.laws.law_of_numbers.Goals as goal
 
@@ -12,3 +13,6 @@ returns-clause-replies c = law_replies
 
 pub returns-clause-databases : goal.returns-clause-databases
 returns-clause-databases c = law_databases
+
+pub returns-clause-writers : goal.returns-clause-writers
+returns-clause-writers c = law_writers

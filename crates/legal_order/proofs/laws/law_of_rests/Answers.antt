@@ -6,4 +6,7 @@ pub returns-clause-performing : goal.returns-clause-performing
 returns-clause-performing c = Performing.law
 
 pub returns-clause-rests : goal.returns-clause-rests
-returns-clause-rests c = Together.law
+returns-clause-rests c = Together.law_rests
+
+pub returns-clause-syncs : goal.returns-clause-syncs
+returns-clause-syncs c = Together.law_syncs
