@@ -1,0 +1,4 @@
+pub mod Writers
+pub mod Serving
+pub mod Law
+pub mod WorkedArrays

@@ -1,0 +1,6 @@
+pub mod Sorting
+pub mod Databases
+pub mod Printing
+pub mod Performing
+pub mod Together
+pub mod WorkedNumbers

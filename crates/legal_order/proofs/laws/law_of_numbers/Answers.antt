@@ -1,0 +1,18 @@
+use Rattle.legal_order.proofs.Databases.{law_writers}
+use Rattle.legal_order.proofs.Printing.{law_printed, law_parts, law_replies, law_databases}
+use Rattle.legal_order.proofs.laws.law_of_numbers.Goals as goal
+
+pub returns-clause-printed : goal.returns-clause-printed
+returns-clause-printed c = law_printed
+
+pub returns-clause-parts : goal.returns-clause-parts
+returns-clause-parts c = law_parts
+
+pub returns-clause-replies : goal.returns-clause-replies
+returns-clause-replies c = law_replies
+
+pub returns-clause-databases : goal.returns-clause-databases
+returns-clause-databases c = law_databases
+
+pub returns-clause-writers : goal.returns-clause-writers
+returns-clause-writers c = law_writers
