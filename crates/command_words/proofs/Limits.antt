@@ -11,7 +11,7 @@ use Rattle.dude_base.specs.declared.limits.TheConstants.{MAX_RINGS}
 use Rattle.tatp_text.specs.Number.{is_decimal}
 use Rattle.command_words.specs.declared.command.Command.{Command}
 use Rattle.command_words.specs.declared.command.Command.TheVariants as command
-use Rattle.command_words.specs.Command.{Meaning, FreshRun, FormatImage, RunFiles, RecoverImage, DumpTables, DriveLoad, IsBetween, IsInLimits, alone, are_file_names, drive_of, drive_with, format_of, format_with, fresh_of, is_file_name, meaning_of_command, optional_number, run_of, run_with, run_words, word_number}
+use Rattle.command_words.specs.Command.{Meaning, FreshRun, FormatImage, RunFiles, RecoverImage, DumpTables, DriveLoad, AuditRun, IsBetween, IsInLimits, alone, are_file_names, audit_of, drive_of, drive_with, format_of, format_with, fresh_of, is_file_name, meaning_of_command, optional_number, run_of, run_with, run_words, word_number}
 
 -- `IsInLimits`, of a meaning
 abbrev pub IsLawful : Meaning → Type 0
@@ -22,6 +22,7 @@ IsLawful (RunFiles frames locks files) = IfSome frames (IsBetween 1 32_768) × I
 IsLawful RecoverImage = ⊤
 IsLawful DumpTables = ⊤
 IsLawful (DriveLoad seed count files) = (seed < 2 ^ 64) × (count ≤ 99_999) × IsBetween 1 MAX_RINGS files
+IsLawful (AuditRun printed files) = 0 < length files
 
 abbrev pub AreLawful : Option Meaning → Type 0
 AreLawful meaning = IfSome meaning IsLawful
@@ -118,6 +119,16 @@ drive-lawful (s ∷ c ∷ n ∷ []) =
     (word-between 0 (2 ^ 64 - 1) s) (word-between 0 99_999 c) (word-between 1 MAX_RINGS n)
 drive-lawful (s ∷ c ∷ n ∷ x ∷ more) = tt
 
+none-lawful : (b : Bool) (x : Option Meaning) → AreLawful (if b && false then x else None)
+none-lawful true x = tt
+none-lawful false x = tt
+
+pub audit-lawful : (words : List (List ℕ)) → AreLawful (audit_of words)
+audit-lawful [] = tt
+audit-lawful (printed ∷ []) = none-lawful (is_file_name printed) (Some (AuditRun printed []))
+audit-lawful (printed ∷ file ∷ files) =
+    either-lawful (is_file_name printed && are_file_names (file ∷ files)) (Some (AuditRun printed (file ∷ files))) None (omega arith) tt
+
 pub alone-lawful : (meaning : Meaning) (words : List (List ℕ)) → IsLawful meaning → AreLawful (alone meaning words)
 alone-lawful meaning [] h = h
 alone-lawful meaning (word ∷ more) h = tt
@@ -132,6 +143,9 @@ in-limits (command.Run frames locks files) h =
 in-limits command.Recover h = tt
 in-limits command.Dump h = tt
 in-limits (command.Drive s c n) h = h
+in-limits (command.Audit printed files) h =
+    let same = length-map files.now rc_str_bytes in
+    omega arith
 
 -- a command that means something lawful is in the limits
 pub limits-in : (c : Option Command) (m : Option Meaning) → AreLawful m → option_map meaning_of_command c ≡ m → IfSome c IsInLimits

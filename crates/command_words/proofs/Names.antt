@@ -13,6 +13,7 @@ pub record IsOther (name : List ℕ) : Type 0 where
   pub recover : name ≡ codes "recover" → ⊥
   pub dump : name ≡ codes "dump" → ⊥
   pub drive : name ≡ codes "drive" → ⊥
+  pub audit : name ≡ codes "audit" → ⊥
 
 different : (xs ys : List ℕ) → (xs ≡ ys → ⊥) → bytes_eq xs ys ≡ false
 different xs ys apart = false_from_ne_true (bytes_eq xs ys) (λ e. apart ((bytes_eq-Decides xs ys).0 e))
@@ -26,6 +27,7 @@ meaning_of-other name words other =
       different name (codes "recover") other.recover,
       different name (codes "dump") other.dump,
       different name (codes "drive") other.drive,
+      different name (codes "audit") other.audit,
     ) refl
 
 -- words whose first is the name of a command

@@ -7,7 +7,7 @@ use Rattle.std.specs.Str.{bytes_eq}
 use Rattle.dude_base.specs.declared.limits.TheConstants.{MAX_RINGS}
 use Rattle.tatp_text.specs.Number.{number_in}
 use Rattle.command_words.specs.declared.command.Command.{Command}
-use Rattle.command_words.specs.declared.command.Command.TheVariants.{Fresh, Format, Run, Recover, Dump, Drive}
+use Rattle.command_words.specs.declared.command.Command.TheVariants.{Fresh, Format, Run, Recover, Dump, Drive, Audit}
 
 -- the command that words mean, with its numbers and the names of its files
 pub data Meaning : Type 0 where
@@ -23,6 +23,8 @@ pub data Meaning : Type 0 where
   DumpTables : Meaning
   -- run so many requests of each of so many files, made from this seed
   DriveLoad : (seed count files : ℕ) → Meaning
+  -- say whether this file is the printed run of these files
+  AuditRun : (printed : List ℕ) (files : List (List ℕ)) → Meaning
 
 -- ---- words that are numbers and names
 
@@ -121,6 +123,11 @@ drive_of (seed ∷ count ∷ files ∷ []) =
     drive_with (word_number 0 (2 ^ 64 - 1) seed) (word_number 0 99_999 count) (word_number 1 MAX_RINGS files)
 drive_of _ = None
 
+-- `audit PRINTED FILE..`
+abbrev pub audit_of : List (List ℕ) → Option Meaning
+audit_of [] = None
+audit_of (printed ∷ files) = if is_file_name printed && are_file_names files then Some (AuditRun printed files) else None
+
 -- ---- all commands
 
 -- the first word is the command; each list of words that isn't one of these is refused
@@ -133,7 +140,8 @@ meaning_of (name ∷ words) =
     else (if bytes_eq name (codes "recover") then alone RecoverImage words
     else (if bytes_eq name (codes "dump") then alone DumpTables words
     else (if bytes_eq name (codes "drive") then drive_of words
-    else None)))))
+    else (if bytes_eq name (codes "audit") then audit_of words
+    else None))))))
 
 -- what a command of the code says
 abbrev pub meaning_of_command : Command → Meaning
@@ -143,6 +151,7 @@ meaning_of_command (Run frames locks files) = RunFiles frames locks (map rc_str_
 meaning_of_command Recover = RecoverImage
 meaning_of_command Dump = DumpTables
 meaning_of_command (Drive seed count files) = DriveLoad seed count files
+meaning_of_command (Audit printed files) = AuditRun printed.now (map rc_str_bytes files.now)
 
 -- a command of the code, or none, means this
 abbrev pub HasMeaning : Option Meaning → Option Command → Type 0
@@ -160,7 +169,7 @@ IsAlone words command result = HasMeaning (behind_name (alone (meaning_of_comman
 abbrev pub IsBetween : ℕ → ℕ → ℕ → Type 0
 IsBetween least greatest number = (least ≤ number) × (number ≤ greatest)
 
--- the numbers of a command are in their limits, and `run` has a file
+-- the numbers of a command are in their limits, and `run` and `audit` have a file
 abbrev pub IsInLimits : Command → Type 0
 IsInLimits (Fresh subscribers file) = IsBetween 1 10_000 subscribers
 IsInLimits (Format subscribers calls rings cells) =
@@ -170,3 +179,4 @@ IsInLimits (Run frames locks files) =
 IsInLimits Recover = ⊤
 IsInLimits Dump = ⊤
 IsInLimits (Drive seed count files) = (seed < 2 ^ 64) × (count ≤ 99_999) × IsBetween 1 MAX_RINGS files
+IsInLimits (Audit printed files) = 0 < length files.now

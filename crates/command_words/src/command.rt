@@ -4,6 +4,7 @@ ghost use Rattle.std.specs.Prelude.{map, IfOk, IfSome};
 ghost use Rattle.std.specs.Rc.{rc_str_bytes};
 ghost use Rattle.command_words.specs.Command.{HasMeaning, IsAlone, IsInLimits, meaning_of};
 
+use crate::audit::audit_of;
 use crate::drive::drive_of;
 use crate::format::format_of;
 use crate::fresh::fresh_of;
@@ -45,6 +46,12 @@ pub enum Command<'a> {
         count: u64,
         files: u64,
     },
+    /// Say whether a file is the printed run of the files, of which there is
+    /// at least one.
+    Audit {
+        printed: &'a str,
+        files: &'a [RcStr],
+    },
 }
 
 /// The command that the words mean; none where they are refused.
@@ -62,6 +69,7 @@ pub fn command_of(alloc: Global, words: &[RcStr]) -> Result<Option<Command<'_>>,
         "recover" => Ok(alone(words, Command::Recover)),
         "dump" => Ok(alone(words, Command::Dump)),
         "drive" => drive_of(alloc, words),
+        "audit" => Ok(audit_of(words)),
         _ => Ok(None),
     }
 }

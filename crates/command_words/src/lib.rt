@@ -4,6 +4,7 @@
 //! and `help` is the name of a file. It takes a leading `+` and any count of digits, which the form keeps out.
 #![tactic(auto)]
 
+mod audit;
 mod command;
 mod drive;
 mod form;

@@ -1,7 +1,7 @@
 use Rattle.std.proofs.Common.{◌∙◌, codes, drop, map, refl, sym}
 use Rattle.std.specs.Rc.{rc_str_bytes}
-use Rattle.command_words.specs.Command.{RecoverImage, DumpTables, alone, drive_of, format_of, fresh_of, run_of}
-use Rattle.command_words.proofs.Limits.{alone-lawful, drive-lawful, format-lawful, fresh-lawful, limits-if-ok, limits-in, run-lawful}
+use Rattle.command_words.specs.Command.{RecoverImage, DumpTables, alone, audit_of, drive_of, format_of, fresh_of, run_of}
+use Rattle.command_words.proofs.Limits.{alone-lawful, audit-lawful, drive-lawful, format-lawful, fresh-lawful, limits-if-ok, limits-in, run-lawful}
 use Rattle.command_words.proofs.Names.{first-named, first-other}
 use Rattle.command_words.proofs.Readings.{means-if-ok}
 use Rattle.command_words.proofs.command.command_of.Goals as goal
@@ -46,6 +46,12 @@ returns-in-dump-clause-meaning c =
     c.alone-in-dump.ensures
     ∙ first-named rc_str_bytes c.args.words.now c.in-Some.name.now (codes "dump") (alone DumpTables) (λ words. refl) item.3.0 item.1 (sym c.as_str.ensures.value ∙ c.in-dump.is)
 
+pub returns-in-audit-clause-meaning : goal.returns-in-audit-clause-meaning
+returns-in-audit-clause-meaning c =
+    let item = c.in-Some.ensures.item in
+    c.audit_of.ensures
+    ∙ first-named rc_str_bytes c.args.words.now c.in-Some.name.now (codes "audit") audit_of (λ words. refl) item.3.0 item.1 (sym c.as_str.ensures.value ∙ c.in-audit.is)
+
 pub returns-in-fresh-clause-limits : goal.returns-in-fresh-clause-limits
 returns-in-fresh-clause-limits c =
     let words = drop 1 (map rc_str_bytes c.args.words.now) in
@@ -76,6 +82,11 @@ returns-in-drive-clause-limits c =
     let words = drop 1 (map rc_str_bytes c.args.words.now) in
     limits-if-ok c.drive_of.result (drive_of words) (drive-lawful words) c.drive_of.ensures
 
+pub returns-in-audit-clause-limits : goal.returns-in-audit-clause-limits
+returns-in-audit-clause-limits c =
+    let words = drop 1 (map rc_str_bytes c.args.words.now) in
+    limits-in c.audit_of.result (audit_of words) (audit-lawful words) c.audit_of.ensures
+
 pub returns-in_default-as_str-clause-meaning : goal.returns-in_default-as_str-clause-meaning
 returns-in_default-as_str-clause-meaning c =
     let item = c.in-Some.ensures.item in
@@ -88,4 +99,5 @@ returns-in_default-as_str-clause-meaning c =
       recover = λ e. arm.not-recover (text ∙ e);
       dump = λ e. arm.not-dump (text ∙ e);
       drive = λ e. arm.not-drive (text ∙ e);
+      audit = λ e. arm.not-audit (text ∙ e);
     }))
