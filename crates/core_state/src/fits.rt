@@ -35,18 +35,9 @@ impl State {
         ensures { Tells result (RecordsAllow z.now (of_turn deed.now) self.now) }
     {
         match deed {
-            TurnDeed::SeeBox => true,
-            TurnDeed::Post => true,
-            TurnDeed::TakeTurn => true,
-            TurnDeed::GiveTurn { failed: _ } => true,
-            TurnDeed::SeeFull {
-                thread: _,
-                place: _,
-            } => true,
-            TurnDeed::EmptyBox {
-                thread: _,
-                place: _,
-            } => true,
+            TurnDeed::SeeBox | TurnDeed::Post | TurnDeed::TakeTurn => true,
+            TurnDeed::GiveTurn { .. } | TurnDeed::SeeFull { .. } => true,
+            TurnDeed::EmptyBox { .. } => true,
             TurnDeed::RaiseDurable { value } => self.is_persisted_up_to(z, *value),
             TurnDeed::RaiseReproduced { value } => self.is_durable(*value),
         }

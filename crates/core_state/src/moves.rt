@@ -47,14 +47,8 @@ impl State {
         ensures { Tells result (Fits z.now (of_turn deed.now) self.now view.now) }
     {
         match deed {
-            TurnDeed::SeeBox => true,
-            TurnDeed::Post => true,
-            TurnDeed::TakeTurn => true,
-            TurnDeed::GiveTurn { failed: _ } => true,
-            TurnDeed::SeeFull {
-                thread: _,
-                place: _,
-            } => true,
+            TurnDeed::SeeBox | TurnDeed::Post | TurnDeed::TakeTurn => true,
+            TurnDeed::GiveTurn { .. } | TurnDeed::SeeFull { .. } => true,
             TurnDeed::EmptyBox { thread, place } => self.is_full(z.box_of(*thread, *place)),
             TurnDeed::RaiseDurable { value } => self.may_rise(self.durable, *value),
             TurnDeed::RaiseReproduced { value } => self.may_rise(self.reproduced, *value),

@@ -40,7 +40,7 @@ impl State {
         if !self.may_make(z, who, deed) {
             return Err(CoreRefusal::Off);
         }
-        match self.make_allowed(alloc, z, who, deed) {
+        match self.enact(alloc, z, who, deed) {
             Ok(()) => Ok(()),
             Err(AllocError) => Err(CoreRefusal::NoMemory),
         }
@@ -52,13 +52,8 @@ impl State {
         self.allows(z, who, deed) && self.records_allow(z, deed)
     }
 
-    fn make_allowed(
-        &mut self,
-        alloc: Global,
-        z: &Setup,
-        who: u64,
-        deed: &Deed,
-    ) -> Result<(), AllocError>
+    // Makes an event that is allowed.
+    fn enact(&mut self, alloc: Global, z: &Setup, who: u64, deed: &Deed) -> Result<(), AllocError>
         requires kept { Kept z.now self.old }
         requires allowed { (v : Seen) × IsAllowed z.now self.old who (event_of deed.now) v }
         ensures ok { OnOk result (Leads z.now self.old (event_by who deed.now) self.new) }

@@ -1,7 +1,7 @@
 //! Where a view allows the events of pages and frames.
 
-ghost use Rattle.core_events.specs.Events.{entry, pin, unpin, touch, load_touch, evict, fill, show};
 ghost use Rattle.core_events.specs.Conditions.{May, IsStoredAndTouched};
+ghost use Rattle.core_events.specs.Events.{entry, pin, unpin, touch, load_touch, evict, fill, show};
 ghost use Rattle.core_view.specs.Named.{Tells, of_page};
 ghost use Rattle.core_steps.specs.Held.{HasSettledIn};
 

@@ -2,9 +2,9 @@
 
 ghost use Rattle.std.specs.Prelude.{◌≡◌, ◌<◌, OnOk, OnErr};
 ghost use Rattle.core_events.specs.Setups.{page_of};
-ghost use Rattle.core_events.specs.Events.{entry, pin, load_touch, evict, fill, show, name, view_after};
+ghost use Rattle.core_events.specs.Events.{entry, pin, evict, fill, show, view_after};
 ghost use Rattle.core_events.specs.Conditions.{May};
-ghost use Rattle.core_view.specs.Named.{word_of, of_page};
+ghost use Rattle.core_view.specs.Named.{of_page};
 ghost use Rattle.core_steps.specs.Moves.{Becomes};
 
 use core_view::deed::PageDeed;
@@ -14,15 +14,8 @@ use core_view::word::Word;
 use std::alloc::AllocError;
 
 /// Makes an event of a page or of a frame, where it found this in its word.
-pub(crate) fn page(
-    view: &mut View,
-    z: &Setup,
-    deed: &PageDeed,
-    word: Word,
-    found: u64,
-) -> Result<(), AllocError>
+pub(crate) fn page(view: &mut View, z: &Setup, deed: &PageDeed, found: u64) -> Result<(), AllocError>
     requires may { May z.now (of_page deed.now) view.old }
-    requires name { word_of word ≡ name z.now (of_page deed.now) view.old }
     ensures ok { OnOk result (view.new ≡ view_after z.now (of_page deed.now) view.old found) }
     ensures err { OnErr result (view.new ≡ view.old) }
 {
@@ -31,7 +24,10 @@ pub(crate) fn page(
         PageDeed::Pin { page } => pin(view, z, *page, found)?,
         PageDeed::Unpin { page } => view.paging.pins.remove(*page),
         PageDeed::Touch { page } => view.paging.touched.put_first(*page)?,
-        PageDeed::LoadTouch { page } => load_touch(view, z, *page, found)?,
+        PageDeed::LoadTouch { page } => {
+            view.turn.touches.put_first(*page, found)?;
+            view.notice(Word::Touch(*page), found);
+        }
         PageDeed::Evict { page } => evict(view, z, *page, found)?,
         PageDeed::Fill {
             page,
@@ -61,18 +57,7 @@ fn pin(view: &mut View, z: &Setup, page: u64, found: u64) -> Result<(), AllocErr
         view.paging.pins.put_first(page, frame_in(found))?;
         return Ok(());
     }
-    view.paging.entries.put_first(page, found)?;
-    view.notice(Word::Entry(page), found);
-    Ok(())
-}
-
-fn load_touch(view: &mut View, z: &Setup, page: u64, found: u64) -> Result<(), AllocError>
-    ensures ok { OnOk result (view.new ≡ view_after z.now (load_touch page) view.old found) }
-    ensures err { OnErr result (view.new ≡ view.old) }
-{
-    view.turn.touches.put_first(page, found)?;
-    view.notice(Word::Touch(page), found);
-    Ok(())
+    see_entry(view, z, page, found)
 }
 
 fn evict(view: &mut View, z: &Setup, page: u64, found: u64) -> Result<(), AllocError>
@@ -85,9 +70,7 @@ fn evict(view: &mut View, z: &Setup, page: u64, found: u64) -> Result<(), AllocE
         view.turn.filled.remove_page(page);
         return Ok(());
     }
-    view.paging.entries.put_first(page, found)?;
-    view.notice(Word::Entry(page), found);
-    Ok(())
+    see_entry(view, z, page, found)
 }
 
 // Filling another page into a frame drops what was filled there.

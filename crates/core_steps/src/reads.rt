@@ -1,7 +1,7 @@
 //! Where a view allows the events of a transaction that reads.
 
-ghost use Rattle.core_events.specs.Events.{number, begin, extend, look, load, check, finish};
 ghost use Rattle.core_events.specs.Conditions.{May, IsRecheck};
+ghost use Rattle.core_events.specs.Events.{number, begin, extend, look, load, check, finish};
 ghost use Rattle.core_view.specs.Named.{Tells, of_read};
 ghost use Rattle.core_steps.specs.Held.{WaitsFor};
 

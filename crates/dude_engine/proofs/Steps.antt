@@ -16,6 +16,7 @@ use Rattle.tatp_model.specs.declared.done.Done.{Done}
 use Rattle.tatp_model.specs.Database.{Database}
 use Rattle.tatp_model.specs.declared.reply.Reply.{Reply}
 use Rattle.tatp_model.specs.declared.reply.Reply.TheVariants.{Changed}
+use Rattle.tatp_model.specs.declared.request.Request.{Request}
 use Rattle.tatp_model.specs.Transaction.{reply_to, after_request}
 use Rattle.tatp_model.specs.OneThread.{is_changed, is_sync}
 use Rattle.tatp_layout.specs.StandsFor.{StandsFor}
@@ -37,6 +38,8 @@ use Rattle.dude_engine.specs.Endings.{AreSyncsTold, WasToldLast}
 use Rattle.dude_engine.specs.Plain.{most_lost_by}
 use Rattle.dude_engine.specs.Running.{AreAnswered, AreSyncsUpTo, HasArrays, HasFailed, IsLeft, IsReady, IsRunning, IsSettledRun, RecoversSoFar, Runs, last_performed, tables_after}
 use Rattle.dude_engine.proofs.Arrays.{arrays_start, arrays_read, arrays_write, images_rest, moments_on, near_at_end, so_far_among, so_far_push}
+use Rattle.dude_engine.specs.RunCalls.{AreBodyWrites}
+use Rattle.dude_engine.proofs.Serving.{served_by_writes}
 use Rattle.dude_engine.proofs.Numbering.{IsNext, answered_push, answered_start, first_upto, last_push, number_unwritten, number_written, tables_push, tables_unwritten}
 use Rattle.dude_engine.proofs.Tellings.{syncs_last, syncs_on, syncs_other, syncs_push, syncs_told_other, told_longer}
 
@@ -261,6 +264,25 @@ pub served_stands : (opening : Opening) (lay : Sizes) (performed : List Done) (d
 served_stands opening lay performed d new layout serves =
     subst (λ (db : Database). StandsFor opening.sizes new db) (sym (tables_push opening performed d))
     (subst (λ (z : Sizes). StandsFor z new (after_request z.calls (tables_after opening performed) d.request)) (sym layout) serves.stands)
+
+-- a request whose writes were taken was served: it comes next, and the words with its writes stand for the tables behind it
+pub record ChangeServed (opening : Opening) (performed : List Done) (d : Done) (old new : List ℕ) (writes : List Write) : Type 0 where
+  pub next : IsNext opening performed d
+  pub words : new ≡ overwritten writes old
+  pub stands : StandsFor opening.sizes new (tables_after opening (performed ++ d ∷ []))
+
+pub change_served : (opening : Opening) (lay : Sizes) (performed : List Done) (file index number : ℕ) (request : Request) {old new : List ℕ} {pending writes : List Write} → AreBodyWrites lay old request Changed pending → opening.sizes ≡ lay
+    → StandsFor opening.sizes old (tables_after opening performed) → number ≡ last_performed opening.number performed → new ≡ overwritten pending old → pending ≡ writes
+    → ChangeServed opening performed (record { file = file; index = index; number = number + 1; wrote = true; request = request; reply = Changed }) old new writes
+change_served opening lay performed file index number request {old} {new} {pending} {writes} body layout stands last gave taken =
+    let d : Done = record { file = file; index = index; number = number + 1; wrote = true; request = request; reply = Changed } in
+    let made : Serves lay (tables_after opening performed) request Changed (overwritten pending old) = served_by_writes lay old request Changed pending body (tables_after opening performed) (subst (λ (z : Sizes). StandsFor z old (tables_after opening performed)) layout stands) in
+    let served : Serves lay (tables_after opening performed) request Changed new = subst (λ (l : List ℕ). Serves lay (tables_after opening performed) request Changed l) (sym gave) made in
+    record {
+      next = served_next opening lay performed d new layout (ap (λ (n : ℕ). n + 1) last) refl served;
+      words = gave ∙ ap (λ (ws : List Write). overwritten ws old) taken;
+      stands = served_stands opening lay performed d new layout served;
+    }
 
 pub unchanged : (reply : Reply) → reply ≢ Changed → false ≡ is_changed reply
 unchanged Changed other = absurd (other refl)

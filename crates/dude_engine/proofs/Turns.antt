@@ -1,5 +1,5 @@
 -- The turns of the files, round after round: how many requests there are, and what a turn adds.
-use Rattle.std.proofs.Common.{add-one, is_ok, true, false, ◌≡◌, ℕ, zero, suc, ◌+◌, ◌≤◌, ◌<◌, List, [], ◌∷◌, ◌++◌, length, length-append, map, take, fold, Some, Result, Ok, Err, refl, sym, ap, ◌∙◌, subst, arith, inl, inr, ◌⊎◌, ⊎_elim}
+use Rattle.std.proofs.Common.{add-one, is_ok, true, false, ◌≡◌, ℕ, zero, suc, ◌+◌, ◌≤◌, ◌<◌, List, [], ◌∷◌, ◌++◌, length, length-append, map, get_or, take, fold, Some, Result, Ok, Err, refl, sym, ap, ◌∙◌, subst, arith, inl, inr, ◌⊎◌, ⊎_elim}
 use Rattle.std.specs.List.{All, Contains, slice_get, enumerate_from}
 use Rattle.std.proofs.lemmas.List.{length-map, length-take, map_push}
 use Rattle.std.proofs.lemmas.List.FromFn.{length-enumerate_from}
@@ -9,7 +9,7 @@ use Rattle.tatp_model.specs.declared.done.Done.{Done}
 use Rattle.tatp_model.specs.declared.request.Request.{Request}
 use Rattle.tatp_model.specs.OneThread.{indexed_request_of, indexed_requests_from}
 use Rattle.run_order.specs.Runs.{first_rounds}
-use Rattle.run_order.proofs.Rounds.{Rounds, rounds_next, rounds_skip}
+use Rattle.run_order.proofs.Rounds.{Rounds, found_mapped, rounds_next, rounds_skip}
 use Rattle.pmem_trait.specs.declared.medium.Medium.{Ghosts}
 use Rattle.pmem_trait.specs.Sights.{Sight}
 use Rattle.log_numbered.specs.RunLog.{log_last, log_medium}
@@ -143,6 +143,10 @@ pub record InRounds {M : Type 0} {ghosts : Ghosts M} (sight : M → Sight) (file
   pub rounds : Rounds files i k run.done.items
   pub left : (opening : Opening) (words : List ℕ) (s : Sight) → Runs opening words first s (sight (log_medium first.log)) → Runs opening words run s (sight (log_medium run.log))
   pub calls : ServesMore first (sight (log_medium first.log)) run (sight (log_medium run.log))
+
+-- the value made of the element at a place, as that of the file whose turn it is
+pub file_there : {X Y : Type 0} (f : X → Y) (xs : List X) (k : ℕ) (x : X) (y : Y) → k < length xs → x ≡ get_or xs k x → y ≡ f x → slice_get (map f xs) k ≡ Some y
+file_there f xs k x y below is same = found_mapped f xs k x below is ∙ ap Some (sym same)
 
 pub room_for : (files : List (List Request)) (i k : ℕ) (performed : List Done) (requests : List Request) → slice_get files k ≡ Some requests → i < length requests → Rounds files i k performed → length performed < request_count files
 room_for files i k performed requests there below run = by_request (got requests i below)

@@ -4,9 +4,6 @@ ghost use Rattle.std.specs.Prelude.{◌≡◌, ◌≤◌, IfOk, OnOk, false, is_
 ghost use Rattle.dude_base.specs.declared.limits.TheConstants.{MAX_NUMBER};
 ghost use Rattle.dude_base.specs.Sizes.{IsAccepted};
 ghost use Rattle.dude_base.specs.Writes.{IsWriteList};
-ghost use Rattle.back_store.specs.Back.{idle};
-ghost use Rattle.back_store.specs.BackView.{state_of};
-ghost use Rattle.log_numbered.specs.Arrays.{with_writes};
 
 use crate::bundle_log::BundleLog;
 use crate::open_bundle::OpenBundle;
@@ -25,6 +22,9 @@ pub struct RunLog<M: Medium> {
 }
 
 impl<M: Medium> RunLog<M> {
+    ghost use Rattle.back_store.specs.Back.{idle};
+    ghost use Rattle.back_store.specs.BackView.{state_of};
+    ghost use Rattle.log_numbered.specs.Arrays.{with_writes};
     ghost use Rattle.log_numbered.specs.RunLog.{AnnouncesRun, AppendsRecord, CheckpointsRun, Closes, FollowsOpened, IsAlive, IsNextRecord, JoinsOpen, NoneJoins, RunGoesOn, RunRecovers, StartsOn, log_durable, log_last, log_medium};
 
     /// The log of a run that starts on a back where nothing waits and all up to this number is durable and in the home.

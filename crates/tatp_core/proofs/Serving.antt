@@ -20,7 +20,7 @@ use Rattle.tatp_layout.specs.StandsFor.{StandsFor}
 use Rattle.tatp_layout.proofs.Seen.{stands_bare}
 use Rattle.tatp_read.specs.Lookups.{AnswersRequest, reads_of}
 use Rattle.tatp_core.specs.Reads.{IsRead}
-use Rattle.tatp_core.specs.Serves.{Answers, Serves, ServesRequest, WritesIfChanged, max_reads, max_writes, most_reads, most_writes}
+use Rattle.tatp_core.specs.Serves.{CanServe, Answers, Serves, ServesRequest, WritesIfChanged, max_reads, max_writes, most_reads, most_writes}
 
 -- no request writes more words than an insertion
 most_writes_few : (request : Request) → most_writes request ≤ max_writes
@@ -81,26 +81,26 @@ module _ {S : Type 0} {sight : S → WordsSight} {turns_into : S → S → Type 
   -- From here on the request was taken apart.
   module _ {request taken : Request} (is : request ≡ taken) where
     -- a Stop that `?` hands on
-    pub serves_stopped : {e : Stop} {k l : ℕ} {x y : S} (r : Result Reply Stop) → IsErrAnd r (λ f. f ≡ e) → (sight x).writes ≡ [] → WordsUsed sight turns_into k l (Some e) x y → k ≤ most_reads s taken → l ≤ most_writes taken
+    pub serves_stopped : {e : Stop} {k l : ℕ} {x y : S} (r : Result Reply Stop) → IsErrAnd r (λ f. f ≡ e) → CanServe s request (sight x) → WordsUsed sight turns_into k l (Some e) x y → k ≤ most_reads s taken → l ≤ most_writes taken
         → ServesRequest sight turns_into s request r x y
-    serves_stopped {e} {x = x} {y = y} r handed bare used reads writes =
+    serves_stopped {e} {x = x} {y = y} r handed can used reads writes =
         subst (λ q. ServesRequest sight turns_into s q r x y) (sym is)
-        (subst (λ o. ServesRequest sight turns_into s taken o x y) (sym (is_err r handed)) (served {result = Err e} bare (used_more {stop = Some e} used reads writes) tt))
+        (subst (λ o. ServesRequest sight turns_into s taken o x y) (sym (is_err r handed)) (served {result = Err e} can.no_writes (used_more {stop = Some e} used reads writes) tt))
 
     module _ (well : (z : S) → IsWellFormed (sight z)) where
       -- a reply that isn't Changed, with no word written
-      pub serves_unchanged : {k l : ℕ} {x y : S} (reply : Reply) → (sight x).count ≡ s.pages * PAGE → (sight x).writes ≡ [] → IsInRange request → WordsUsed sight turns_into k l None x y → k ≤ most_reads s taken → l ≤ most_writes taken
+      pub serves_unchanged : {k l : ℕ} {x y : S} (reply : Reply) → CanServe s request (sight x) → WordsUsed sight turns_into k l None x y → k ≤ most_reads s taken → l ≤ most_writes taken
           → Wrote 0 (sight x) (sight y) → reply ≢ Changed → ServesSeen sight s taken reply x y → ServesRequest sight turns_into s request (Ok reply) x y
-      serves_unchanged {x = x} {y = y} reply size bare range used reads writes wrote other serves =
-          subst (λ q. ServesRequest sight turns_into s q (Ok reply) x y) (sym is) (replied well size bare (used_more {stop = None} used reads writes) (wrote_nothing (wrote_zero wrote ∙ bare) other)
-          (λ array below db stands. serves (subst IsInRange is range) array below db (stands_bare (sight x) bare stands)))
+      serves_unchanged {x = x} {y = y} reply can used reads writes wrote other serves =
+          subst (λ q. ServesRequest sight turns_into s q (Ok reply) x y) (sym is) (replied well can.size can.no_writes (used_more {stop = None} used reads writes) (wrote_nothing (wrote_zero wrote ∙ can.no_writes) other)
+          (λ array below db stands. serves (subst IsInRange is can.in_range) array below db (stands_bare (sight x) can.no_writes stands)))
 
       -- Changed, with some words written
-      pub serves_changed : {k l n : ℕ} {x y : S} → (sight x).count ≡ s.pages * PAGE → (sight x).writes ≡ [] → IsInRange request → WordsUsed sight turns_into k l None x y → k ≤ most_reads s taken → l ≤ most_writes taken
+      pub serves_changed : {k l n : ℕ} {x y : S} → CanServe s request (sight x) → WordsUsed sight turns_into k l None x y → k ≤ most_reads s taken → l ≤ most_writes taken
           → Wrote n (sight x) (sight y) → 0 < n → ServesSeen sight s taken Changed x y → ServesRequest sight turns_into s request (Ok Changed) x y
-      serves_changed {x = x} {y = y} size bare range used reads writes wrote some serves =
-          subst (λ q. ServesRequest sight turns_into s q (Ok Changed) x y) (sym is) (replied well size bare (used_more {stop = None} used reads writes) (wrote_changed wrote some)
-          (λ array below db stands. serves (subst IsInRange is range) array below db (stands_bare (sight x) bare stands)))
+      serves_changed {x = x} {y = y} can used reads writes wrote some serves =
+          subst (λ q. ServesRequest sight turns_into s q (Ok Changed) x y) (sym is) (replied well can.size can.no_writes (used_more {stop = None} used reads writes) (wrote_changed wrote some)
+          (λ array below db stands. serves (subst IsInRange is can.in_range) array below db (stands_bare (sight x) can.no_writes stands)))
 
 -- ---- a request that only reads
 

@@ -1,10 +1,7 @@
 //! `DELETE_CALL_FORWARDING`.
 
-ghost use Rattle.std.specs.Prelude.{◌≡◌, ◌*◌, []};
-ghost use Rattle.dude_base.specs.declared.limits.TheConstants.{PAGE};
-ghost use Rattle.tatp_model.specs.Request.{IsInRange};
 ghost use Rattle.tatp_core.specs.Kinds.{IsDeleteCall};
-ghost use Rattle.tatp_core.specs.Serves.{ServesRequest};
+ghost use Rattle.tatp_core.specs.Serves.{CanServe, ServesRequest};
 
 use crate::phone::id_of;
 use tatp_layout::Layout;
@@ -17,9 +14,7 @@ use word_space::words::Words;
 #[tactic(auto, using(crate::proofs::OfKind::is_delete))]
 pub fn write_delete<W: Words>(lay: &Layout, w: &mut W, q: &Request) -> Result<Reply, Stop>
     requires kind { IsDeleteCall q.now }
-    requires in_range { IsInRange q.now }
-    requires size { (W.sight w.old).count ≡ lay.now.pages * PAGE }
-    requires no_writes { (W.sight w.old).writes ≡ [] }
+    requires can { CanServe lay.now q.now (W.sight w.old) }
     ensures { ServesRequest W.sight W.turns_into lay.now q.now result w.old w.new }
 {
     let Request::DeleteCall {

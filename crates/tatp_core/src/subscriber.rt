@@ -1,10 +1,7 @@
 //! `UPDATE_SUBSCRIBER_DATA`.
 
-ghost use Rattle.std.specs.Prelude.{◌≡◌, ◌*◌, []};
-ghost use Rattle.dude_base.specs.declared.limits.TheConstants.{PAGE};
-ghost use Rattle.tatp_model.specs.Request.{IsInRange};
 ghost use Rattle.tatp_core.specs.Kinds.{IsUpdateSubscriber};
-ghost use Rattle.tatp_core.specs.Serves.{ServesRequest};
+ghost use Rattle.tatp_core.specs.Serves.{CanServe, ServesRequest};
 
 use tatp_layout::keys::kind_key;
 use tatp_layout::{Layout, put_bit1, put_data_a};
@@ -17,9 +14,7 @@ use word_space::words::Words;
 #[tactic(auto, using(crate::proofs::OfKind::is_update))]
 pub fn write_subscriber<W: Words>(lay: &Layout, w: &mut W, q: &Request) -> Result<Reply, Stop>
     requires kind { IsUpdateSubscriber q.now }
-    requires in_range { IsInRange q.now }
-    requires size { (W.sight w.old).count ≡ lay.now.pages * PAGE }
-    requires no_writes { (W.sight w.old).writes ≡ [] }
+    requires can { CanServe lay.now q.now (W.sight w.old) }
     ensures { ServesRequest W.sight W.turns_into lay.now q.now result w.old w.new }
 {
     let Request::UpdateSubscriber {

@@ -18,35 +18,35 @@ pub kind_key-requires-clause-id : goal.kind_key-requires-clause-id
 kind_key-requires-clause-id g c = subst (λ o. IfSome o IsId) c.in-Some.is c.in_ok-s_id.ensures.range
 
 pub kind_key-requires-clause-kind : goal.kind_key-requires-clause-kind
-kind_key-requires-clause-kind g c = (subst IsInRange c.in-InsertCall.is c.requires.in_range).1
+kind_key-requires-clause-kind g c = (subst IsInRange c.in-InsertCall.is c.requires.can.in_range).1
 
 pub find-requires : goal.find-requires
-find-requires g c = record { fits = fits_still (c.in_ok-s_id.ensures.uses.count ∙ c.requires.size) c.facilities.ensures.fits }
+find-requires g c = record { fits = fits_still (c.in_ok-s_id.ensures.uses.count ∙ c.requires.can.size) c.facilities.ensures.fits }
 
 pub key-requires : goal.key-requires
 key-requires g c =
-    let range = subst IsInRange c.in-InsertCall.is c.requires.in_range in
+    let range = subst IsInRange c.in-InsertCall.is c.requires.can.in_range in
     record { s_id = subst (λ o. IfSome o IsId) c.in-Some.is c.in_ok-s_id.ensures.range; sf_type = range.1; start_time = range.2; end_time = range.3; numberx = range.4 }
 
 pub insert-requires : goal.insert-requires
-insert-requires g c = record { fits = fits_still (c.in_ok-find.ensures.uses.count ∙ c.in_ok-s_id.ensures.uses.count ∙ c.requires.size) c.calls.ensures.fits }
+insert-requires g c = record { fits = fits_still (c.in_ok-find.ensures.uses.count ∙ c.in_ok-s_id.ensures.uses.count ∙ c.requires.can.size) c.calls.ensures.fits }
 
 pub put_call-requires-clause-size : goal.put_call-requires-clause-size
-put_call-requires-clause-size g c = c.in_ok-insert.ensures.uses.count ∙ c.in_ok-find.ensures.uses.count ∙ c.in_ok-s_id.ensures.uses.count ∙ c.requires.size
+put_call-requires-clause-size g c = c.in_ok-insert.ensures.uses.count ∙ c.in_ok-find.ensures.uses.count ∙ c.in_ok-s_id.ensures.uses.count ∙ c.requires.can.size
 
 pub put_call-requires-clause-record : goal.put_call-requires-clause-record
 put_call-requires-clause-record g c = record_at c.calls.ensures.table (ap put_record c.in-Stored.is) c.in_ok-insert.ensures.«record»
 
 pub put_call-requires-clause-range : goal.put_call-requires-clause-range
 put_call-requires-clause-range g c =
-    let range = subst IsInRange c.in-InsertCall.is c.requires.in_range in
+    let range = subst IsInRange c.in-InsertCall.is c.requires.can.in_range in
     record { s_id = subst (λ o. IfSome o IsId) c.in-Some.is c.in_ok-s_id.ensures.range; sf_type = range.1; start_time = range.2; end_time = range.3; numberx = range.4 }
 
 pub returns-in_err-s_id : goal.returns-in_err-s_id
-returns-in_err-s_id g c = serves_stopped c.args.lay.now c.in-InsertCall.is c.from_residual.result c.from_residual.ensures.1 c.requires.no_writes c.in_err-s_id.ensures.uses (omega arith) (lit≤ tt)
+returns-in_err-s_id g c = serves_stopped c.args.lay.now c.in-InsertCall.is c.from_residual.result c.from_residual.ensures.1 c.requires.can c.in_err-s_id.ensures.uses (omega arith) (lit≤ tt)
 
 pub returns-in_default-2 : goal.returns-in_default-2
-returns-in_default-2 g c = serves_unchanged c.args.lay.now c.in-InsertCall.is g.met.W.Words.well_formed Missing c.requires.size c.requires.no_writes c.requires.in_range c.in_ok-s_id.ensures.uses (omega arith) (lit≤ tt) (wrote_none c.in_ok-s_id.ensures.uses) (λ same. cc)
+returns-in_default-2 g c = serves_unchanged c.args.lay.now c.in-InsertCall.is g.met.W.Words.well_formed Missing c.requires.can c.in_ok-s_id.ensures.uses (omega arith) (lit≤ tt) (wrote_none c.in_ok-s_id.ensures.uses) (λ same. cc)
     (λ range array below db stands.
     let q = c.in-InsertCall in
     let id = c.in_ok-s_id.ensures in
@@ -54,10 +54,10 @@ returns-in_default-2 g c = serves_unchanged c.args.lay.now c.in-InsertCall.is g.
     (tells_id q.sub_nbr stands None (sym c.in_default-2.is ∙ id.id array below db stands)) (shown_same id.uses array)))
 
 pub returns-in_err-find : goal.returns-in_err-find
-returns-in_err-find g c = serves_stopped c.args.lay.now c.in-InsertCall.is c.from_residual-in_err-find.result c.from_residual-in_err-find.ensures.1 c.requires.no_writes (used_until c.in_ok-s_id.ensures.uses c.in_err-find.ensures.uses) (omega (arith, ap walk_reads c.facilities.ensures.table)) (lit≤ tt)
+returns-in_err-find g c = serves_stopped c.args.lay.now c.in-InsertCall.is c.from_residual-in_err-find.result c.from_residual-in_err-find.ensures.1 c.requires.can (used_until c.in_ok-s_id.ensures.uses c.in_err-find.ensures.uses) (omega (arith, ap walk_reads c.facilities.ensures.table)) (lit≤ tt)
 
 pub returns-in_default-3 : goal.returns-in_default-3
-returns-in_default-3 g c = serves_unchanged c.args.lay.now c.in-InsertCall.is g.met.W.Words.well_formed NoFacility c.requires.size c.requires.no_writes c.requires.in_range (used_then c.in_ok-s_id.ensures.uses c.in_ok-find.ensures.uses) (omega (arith, ap walk_reads c.facilities.ensures.table)) (lit≤ tt) (wrote_none (used_then c.in_ok-s_id.ensures.uses c.in_ok-find.ensures.uses)) (λ same. cc)
+returns-in_default-3 g c = serves_unchanged c.args.lay.now c.in-InsertCall.is g.met.W.Words.well_formed NoFacility c.requires.can (used_then c.in_ok-s_id.ensures.uses c.in_ok-find.ensures.uses) (omega (arith, ap walk_reads c.facilities.ensures.table)) (lit≤ tt) (wrote_none (used_then c.in_ok-s_id.ensures.uses c.in_ok-find.ensures.uses)) (λ same. cc)
     (λ range array below db stands.
     let q = c.in-InsertCall in
     let id = c.in_ok-s_id.ensures in
@@ -68,10 +68,10 @@ returns-in_default-3 g c = serves_unchanged c.args.lay.now c.in-InsertCall.is g.
     (shown_same (used_then id.uses find.uses) array)))
 
 pub returns-in_err-insert : goal.returns-in_err-insert
-returns-in_err-insert g c = serves_stopped c.args.lay.now c.in-InsertCall.is c.from_residual-in_err-insert.result c.from_residual-in_err-insert.ensures.1 c.requires.no_writes (used_until (used_then c.in_ok-s_id.ensures.uses c.in_ok-find.ensures.uses) c.in_err-insert.ensures.uses) (omega (arith, ap walk_reads c.facilities.ensures.table, ap walk_reads c.calls.ensures.table)) (lit≤ tt)
+returns-in_err-insert g c = serves_stopped c.args.lay.now c.in-InsertCall.is c.from_residual-in_err-insert.result c.from_residual-in_err-insert.ensures.1 c.requires.can (used_until (used_then c.in_ok-s_id.ensures.uses c.in_ok-find.ensures.uses) c.in_err-insert.ensures.uses) (omega (arith, ap walk_reads c.facilities.ensures.table, ap walk_reads c.calls.ensures.table)) (lit≤ tt)
 
 pub returns-in-There : goal.returns-in-There
-returns-in-There g c = serves_unchanged c.args.lay.now c.in-InsertCall.is g.met.W.Words.well_formed Duplicate c.requires.size c.requires.no_writes c.requires.in_range (used_then c.in_ok-s_id.ensures.uses (used_then c.in_ok-find.ensures.uses c.in_ok-insert.ensures.uses)) (omega (arith, ap walk_reads c.facilities.ensures.table, ap walk_reads c.calls.ensures.table)) (lit≤ tt) (wrote_then (wrote_none (used_then c.in_ok-s_id.ensures.uses c.in_ok-find.ensures.uses)) (subst (λ p. Wrote (write_count p) (g.W.Words.sight c.find.new.w) (g.W.Words.sight c.insert.new.w)) c.in-There.is c.in_ok-insert.ensures.wrote)) (λ same. cc)
+returns-in-There g c = serves_unchanged c.args.lay.now c.in-InsertCall.is g.met.W.Words.well_formed Duplicate c.requires.can (used_then c.in_ok-s_id.ensures.uses (used_then c.in_ok-find.ensures.uses c.in_ok-insert.ensures.uses)) (omega (arith, ap walk_reads c.facilities.ensures.table, ap walk_reads c.calls.ensures.table)) (lit≤ tt) (wrote_then (wrote_none (used_then c.in_ok-s_id.ensures.uses c.in_ok-find.ensures.uses)) (subst (λ p. Wrote (write_count p) (g.W.Words.sight c.find.new.w) (g.W.Words.sight c.insert.new.w)) c.in-There.is c.in_ok-insert.ensures.wrote)) (λ same. cc)
     (λ range array below db stands.
     let q = c.in-InsertCall in
     let id = c.in_ok-s_id.ensures in
@@ -84,7 +84,7 @@ returns-in-There g c = serves_unchanged c.args.lay.now c.in-InsertCall.is g.met.
     (inserts_at (shown (g.W.Words.sight c.insert.new.w) array) c.calls.ensures.table (shown_same (used_then id.uses find.uses) array) c.key.ensures c.in-There.is (insert.inserts array below))))
 
 pub returns-in-Full : goal.returns-in-Full
-returns-in-Full g c = serves_unchanged c.args.lay.now c.in-InsertCall.is g.met.W.Words.well_formed FullTable c.requires.size c.requires.no_writes c.requires.in_range (used_then c.in_ok-s_id.ensures.uses (used_then c.in_ok-find.ensures.uses c.in_ok-insert.ensures.uses)) (omega (arith, ap walk_reads c.facilities.ensures.table, ap walk_reads c.calls.ensures.table)) (lit≤ tt) (wrote_then (wrote_none (used_then c.in_ok-s_id.ensures.uses c.in_ok-find.ensures.uses)) (subst (λ p. Wrote (write_count p) (g.W.Words.sight c.find.new.w) (g.W.Words.sight c.insert.new.w)) c.in-Full.is c.in_ok-insert.ensures.wrote)) (λ same. cc)
+returns-in-Full g c = serves_unchanged c.args.lay.now c.in-InsertCall.is g.met.W.Words.well_formed FullTable c.requires.can (used_then c.in_ok-s_id.ensures.uses (used_then c.in_ok-find.ensures.uses c.in_ok-insert.ensures.uses)) (omega (arith, ap walk_reads c.facilities.ensures.table, ap walk_reads c.calls.ensures.table)) (lit≤ tt) (wrote_then (wrote_none (used_then c.in_ok-s_id.ensures.uses c.in_ok-find.ensures.uses)) (subst (λ p. Wrote (write_count p) (g.W.Words.sight c.find.new.w) (g.W.Words.sight c.insert.new.w)) c.in-Full.is c.in_ok-insert.ensures.wrote)) (λ same. cc)
     (λ range array below db stands.
     let q = c.in-InsertCall in
     let id = c.in_ok-s_id.ensures in
@@ -97,10 +97,10 @@ returns-in-Full g c = serves_unchanged c.args.lay.now c.in-InsertCall.is g.met.W
     (inserts_at (shown (g.W.Words.sight c.insert.new.w) array) c.calls.ensures.table (shown_same (used_then id.uses find.uses) array) c.key.ensures c.in-Full.is (insert.inserts array below))))
 
 pub returns-in_err-put_call-in-Stored : goal.returns-in_err-put_call-in-Stored
-returns-in_err-put_call-in-Stored g c = serves_stopped c.args.lay.now c.in-InsertCall.is c.from_residual-in_err-put_call-in-Stored.result c.from_residual-in_err-put_call-in-Stored.ensures.1 c.requires.no_writes (used_until (used_then c.in_ok-s_id.ensures.uses (used_then c.in_ok-find.ensures.uses c.in_ok-insert.ensures.uses)) c.in_err-put_call-in-Stored.ensures.uses) (omega (arith, ap walk_reads c.facilities.ensures.table, ap walk_reads c.calls.ensures.table)) (lit≤ tt)
+returns-in_err-put_call-in-Stored g c = serves_stopped c.args.lay.now c.in-InsertCall.is c.from_residual-in_err-put_call-in-Stored.result c.from_residual-in_err-put_call-in-Stored.ensures.1 c.requires.can (used_until (used_then c.in_ok-s_id.ensures.uses (used_then c.in_ok-find.ensures.uses c.in_ok-insert.ensures.uses)) c.in_err-put_call-in-Stored.ensures.uses) (omega (arith, ap walk_reads c.facilities.ensures.table, ap walk_reads c.calls.ensures.table)) (lit≤ tt)
 
 pub returns-in_ok-put_call-in-Stored : goal.returns-in_ok-put_call-in-Stored
-returns-in_ok-put_call-in-Stored g c = serves_changed c.args.lay.now c.in-InsertCall.is g.met.W.Words.well_formed c.requires.size c.requires.no_writes c.requires.in_range (used_then c.in_ok-s_id.ensures.uses (used_then c.in_ok-find.ensures.uses (used_then c.in_ok-insert.ensures.uses c.in_ok-put_call-in-Stored.ensures.uses))) (omega (arith, ap walk_reads c.facilities.ensures.table, ap walk_reads c.calls.ensures.table)) (lit≤ tt) (wrote_then (wrote_none (used_then c.in_ok-s_id.ensures.uses c.in_ok-find.ensures.uses)) (wrote_then (subst (λ p. Wrote (write_count p) (g.W.Words.sight c.find.new.w) (g.W.Words.sight c.insert.new.w)) c.in-Stored.is c.in_ok-insert.ensures.wrote) c.in_ok-put_call-in-Stored.ensures.wrote)) (lit< tt)
+returns-in_ok-put_call-in-Stored g c = serves_changed c.args.lay.now c.in-InsertCall.is g.met.W.Words.well_formed c.requires.can (used_then c.in_ok-s_id.ensures.uses (used_then c.in_ok-find.ensures.uses (used_then c.in_ok-insert.ensures.uses c.in_ok-put_call-in-Stored.ensures.uses))) (omega (arith, ap walk_reads c.facilities.ensures.table, ap walk_reads c.calls.ensures.table)) (lit≤ tt) (wrote_then (wrote_none (used_then c.in_ok-s_id.ensures.uses c.in_ok-find.ensures.uses)) (wrote_then (subst (λ p. Wrote (write_count p) (g.W.Words.sight c.find.new.w) (g.W.Words.sight c.insert.new.w)) c.in-Stored.is c.in_ok-insert.ensures.wrote) c.in_ok-put_call-in-Stored.ensures.wrote)) (lit< tt)
     (λ range array below db stands.
     let q = c.in-InsertCall in
     let id = c.in_ok-s_id.ensures in

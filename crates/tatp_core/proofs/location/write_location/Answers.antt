@@ -14,22 +14,22 @@ use Rattle.tatp_core.proofs.Serving.{serves_changed, serves_stopped, serves_unch
 use Rattle.tatp_core.proofs.location.write_location.Goals as goal
 
 pub find-requires : goal.find-requires
-find-requires g c = record { fits = fits_still (c.in_ok-s_id.ensures.uses.count ∙ c.requires.size) c.subscribers.ensures.fits }
+find-requires g c = record { fits = fits_still (c.in_ok-s_id.ensures.uses.count ∙ c.requires.can.size) c.subscribers.ensures.fits }
 
 pub put_vlr-requires-clause-size : goal.put_vlr-requires-clause-size
-put_vlr-requires-clause-size g c = c.in_ok-at.ensures.uses.count ∙ c.in_ok-s_id.ensures.uses.count ∙ c.requires.size
+put_vlr-requires-clause-size g c = c.in_ok-at.ensures.uses.count ∙ c.in_ok-s_id.ensures.uses.count ∙ c.requires.can.size
 
 pub put_vlr-requires-clause-record : goal.put_vlr-requires-clause-record
 put_vlr-requires-clause-record g c = record_at c.subscribers.ensures.table c.in-Some-2.is c.in_ok-at.ensures.«record»
 
 pub put_vlr-requires-clause-range : goal.put_vlr-requires-clause-range
-put_vlr-requires-clause-range g c = (subst IsInRange c.in-UpdateLocation.is c.requires.in_range).1
+put_vlr-requires-clause-range g c = (subst IsInRange c.in-UpdateLocation.is c.requires.can.in_range).1
 
 pub returns-in_err-s_id : goal.returns-in_err-s_id
-returns-in_err-s_id g c = serves_stopped c.args.lay.now c.in-UpdateLocation.is c.from_residual.result c.from_residual.ensures.1 c.requires.no_writes c.in_err-s_id.ensures.uses (omega arith) (lit≤ tt)
+returns-in_err-s_id g c = serves_stopped c.args.lay.now c.in-UpdateLocation.is c.from_residual.result c.from_residual.ensures.1 c.requires.can c.in_err-s_id.ensures.uses (omega arith) (lit≤ tt)
 
 pub returns-in_default-2 : goal.returns-in_default-2
-returns-in_default-2 g c = serves_unchanged c.args.lay.now c.in-UpdateLocation.is g.met.W.Words.well_formed Missing c.requires.size c.requires.no_writes c.requires.in_range c.in_ok-s_id.ensures.uses (omega arith) (lit≤ tt) (wrote_none c.in_ok-s_id.ensures.uses) (λ same. cc)
+returns-in_default-2 g c = serves_unchanged c.args.lay.now c.in-UpdateLocation.is g.met.W.Words.well_formed Missing c.requires.can c.in_ok-s_id.ensures.uses (omega arith) (lit≤ tt) (wrote_none c.in_ok-s_id.ensures.uses) (λ same. cc)
     (λ range array below db stands.
     let q = c.in-UpdateLocation in
     let id = c.in_ok-s_id.ensures in
@@ -37,10 +37,10 @@ returns-in_default-2 g c = serves_unchanged c.args.lay.now c.in-UpdateLocation.i
     (tells_id q.sub_nbr stands None (sym c.in_default-2.is ∙ id.id array below db stands)) (shown_same id.uses array)))
 
 pub returns-in_err-at : goal.returns-in_err-at
-returns-in_err-at g c = serves_stopped c.args.lay.now c.in-UpdateLocation.is c.from_residual-in_err-at.result c.from_residual-in_err-at.ensures.1 c.requires.no_writes (used_until c.in_ok-s_id.ensures.uses c.in_err-at.ensures.uses) (omega (arith, ap walk_reads c.subscribers.ensures.table)) (lit≤ tt)
+returns-in_err-at g c = serves_stopped c.args.lay.now c.in-UpdateLocation.is c.from_residual-in_err-at.result c.from_residual-in_err-at.ensures.1 c.requires.can (used_until c.in_ok-s_id.ensures.uses c.in_err-at.ensures.uses) (omega (arith, ap walk_reads c.subscribers.ensures.table)) (lit≤ tt)
 
 pub returns-in_default-3 : goal.returns-in_default-3
-returns-in_default-3 g c = serves_unchanged c.args.lay.now c.in-UpdateLocation.is g.met.W.Words.well_formed Missing c.requires.size c.requires.no_writes c.requires.in_range (used_then c.in_ok-s_id.ensures.uses c.in_ok-at.ensures.uses) (omega (arith, ap walk_reads c.subscribers.ensures.table)) (lit≤ tt) (wrote_none (used_then c.in_ok-s_id.ensures.uses c.in_ok-at.ensures.uses)) (λ same. cc)
+returns-in_default-3 g c = serves_unchanged c.args.lay.now c.in-UpdateLocation.is g.met.W.Words.well_formed Missing c.requires.can (used_then c.in_ok-s_id.ensures.uses c.in_ok-at.ensures.uses) (omega (arith, ap walk_reads c.subscribers.ensures.table)) (lit≤ tt) (wrote_none (used_then c.in_ok-s_id.ensures.uses c.in_ok-at.ensures.uses)) (λ same. cc)
     (λ range array below db stands.
     let q = c.in-UpdateLocation in
     let id = c.in_ok-s_id.ensures in
@@ -50,10 +50,10 @@ returns-in_default-3 g c = serves_unchanged c.args.lay.now c.in-UpdateLocation.i
     (finds_at c.subscribers.ensures.table (shown_same id.uses array) refl c.in_default-3.is (find.found array below))))
 
 pub returns-in_err-put_vlr : goal.returns-in_err-put_vlr
-returns-in_err-put_vlr g c = serves_stopped c.args.lay.now c.in-UpdateLocation.is c.from_residual-in_err-put_vlr.result c.from_residual-in_err-put_vlr.ensures.1 c.requires.no_writes (used_until (used_then c.in_ok-s_id.ensures.uses c.in_ok-at.ensures.uses) c.in_err-put_vlr.ensures.uses) (omega (arith, ap walk_reads c.subscribers.ensures.table)) (lit≤ tt)
+returns-in_err-put_vlr g c = serves_stopped c.args.lay.now c.in-UpdateLocation.is c.from_residual-in_err-put_vlr.result c.from_residual-in_err-put_vlr.ensures.1 c.requires.can (used_until (used_then c.in_ok-s_id.ensures.uses c.in_ok-at.ensures.uses) c.in_err-put_vlr.ensures.uses) (omega (arith, ap walk_reads c.subscribers.ensures.table)) (lit≤ tt)
 
 pub returns : goal.returns
-returns g c = serves_changed c.args.lay.now c.in-UpdateLocation.is g.met.W.Words.well_formed c.requires.size c.requires.no_writes c.requires.in_range (used_then c.in_ok-s_id.ensures.uses (used_then c.in_ok-at.ensures.uses c.in_ok-put_vlr.ensures.uses)) (omega (arith, ap walk_reads c.subscribers.ensures.table)) (lit≤ tt) (wrote_then (wrote_none (used_then c.in_ok-s_id.ensures.uses c.in_ok-at.ensures.uses)) c.in_ok-put_vlr.ensures.wrote) (lit< tt)
+returns g c = serves_changed c.args.lay.now c.in-UpdateLocation.is g.met.W.Words.well_formed c.requires.can (used_then c.in_ok-s_id.ensures.uses (used_then c.in_ok-at.ensures.uses c.in_ok-put_vlr.ensures.uses)) (omega (arith, ap walk_reads c.subscribers.ensures.table)) (lit≤ tt) (wrote_then (wrote_none (used_then c.in_ok-s_id.ensures.uses c.in_ok-at.ensures.uses)) c.in_ok-put_vlr.ensures.wrote) (lit< tt)
     (λ range array below db stands.
     let q = c.in-UpdateLocation in
     let id = c.in_ok-s_id.ensures in

@@ -6,7 +6,7 @@ use Rattle.core_events.specs.Events.{Event}
 use Rattle.core_events.specs.Conditions.{Threaded}
 use Rattle.core_events.proofs.Telling.{kept_seated}
 use Rattle.core_state.proofs.Made.{ready_of, ready_beside, box_inside_of, threaded_post}
-use Rattle.core_state.proofs.state.State.make_allowed.Goals as goal
+use Rattle.core_state.proofs.state.State.enact.Goals as goal
 
 pub next_box_of-at-requires-clause-inside : goal.next_box_of-at-requires-clause-inside
 next_box_of-at-requires-clause-inside c = λ v at.

@@ -11,10 +11,9 @@ use Rattle.word_space.specs.Flats.{words_of, flat_below, flat_sight}
 use Rattle.log_numbered.specs.RunLog.{log_durable, log_medium}
 use Rattle.dude_engine.specs.declared.run_fault.RunFault.TheVariants.{Device}
 use Rattle.dude_engine.specs.Running.{HasFailed, IsRunning, tables_after}
-use Rattle.dude_engine.proofs.Numbering.{IsNext}
 use Rattle.dude_engine.specs.RunCalls.{AreBodyWrites, IsRecordOf}
-use Rattle.dude_engine.proofs.Serving.{served_by_writes, serves_logged}
-use Rattle.dude_engine.proofs.Steps.{failed_write, fault_on_ok, left_failed, running_write, served_next, served_stands}
+use Rattle.dude_engine.proofs.Serving.{serves_logged}
+use Rattle.dude_engine.proofs.Steps.{change_served, failed_write, fault_on_ok, left_failed, running_write}
 use Rattle.dude_engine.proofs.run.Run.log_change.Goals as goal
 
 pub returns-in_err-append-clause-leaves : goal.returns-in_err-append-clause-leaves
@@ -28,17 +27,11 @@ returns-in_err-append-clause-leaves g c =
       room = c.push_reserved.ensures.capacity;
       calls = fault_on_ok _ c.from_residual.result Device is;
       left = λ opening words s run.
-          let serves = served_by_writes self.lay (words_of self.words) c.args.request.now Changed (flat_sight self.words).writes c.requires.change.writes (tables_after opening self.done.items)
-          (subst (λ z. StandsFor z (words_of self.words) (tables_after opening self.done.items)) run.layout run.stands) in
-          let new_is : words_of c.take-redo.new.self ≡ overwritten (flat_sight self.words).writes (words_of self.words) = c.take-redo.ensures.words in
-          let served : Serves self.lay (tables_after opening self.done.items) d.request d.reply (words_of c.take-redo.new.self) = subst (λ (l : List ℕ). Serves self.lay (tables_after opening self.done.items) d.request d.reply l) (sym new_is) serves in
-          let next : IsNext opening self.done.items d = served_next opening self.lay self.done.items d (words_of c.take-redo.new.self) run.layout (ap (λ (n : ℕ). n + 1) (c.last-number.ensures ∙ run.last)) refl served in
-          let same_writes : (flat_sight self.words).writes ≡ c.take-redo.result.writes = sym (ap (λ (r : RedoRecord). r.writes) c.take-redo.ensures.record) in
+          let change = change_served opening self.lay self.done.items c.args.file c.args.index c.last-number.result c.args.request.now c.requires.change.writes run.layout run.stands (c.last-number.ensures ∙ run.last) c.take-redo.ensures.words (sym (ap (λ (r : RedoRecord). r.writes) c.take-redo.ensures.record)) in
           left_failed opening words c.from_residual.result _ s _ is
           (subst (λ (done : List Done). HasFailed opening words (log_durable c.append.new.self) done s (g.M.Medium.sight (log_medium c.append.new.self))) (sym c.push_reserved.ensures.items)
           (failed_write opening words self.lay self.log c.append.new.self (words_of self.words) (words_of c.take-redo.new.self) self.done.items d c.take-redo.result.writes s (g.M.Medium.sight (log_medium self.log)) (g.M.Medium.sight (log_medium c.append.new.self))
-          next refl c.requires.no_sync (new_is ∙ ap (λ (ws : List Write). overwritten ws (words_of self.words)) same_writes)
-          (served_stands opening self.lay self.done.items d (words_of c.take-redo.new.self) run.layout served) c.append.ensures.moments run c.requires.change.alive c.in_err-append.ensures.goes_on));
+          change.next refl c.requires.no_sync change.words change.stands c.append.ensures.moments run c.requires.change.alive c.in_err-append.ensures.goes_on));
     }
 
 pub returns-clause-leaves : goal.returns-clause-leaves
@@ -62,16 +55,10 @@ returns-clause-leaves g c =
       calls = serves_logged self _ d c.take-redo.result (g.M.Medium.sight (log_medium self.log)) (g.M.Medium.sight (log_medium c.append.new.self)) c.push_reserved.ensures.items refl is_record
           (c.take-redo.ensures.words ∙ ap (λ (ws : List Write). overwritten ws (words_of self.words)) redo_writes) c.in_ok-append.ensures.appends.calls;
       left = λ opening words s run.
-          let serves = served_by_writes self.lay (words_of self.words) c.args.request.now Changed (flat_sight self.words).writes c.requires.change.writes (tables_after opening self.done.items)
-          (subst (λ z. StandsFor z (words_of self.words) (tables_after opening self.done.items)) run.layout run.stands) in
-          let new_is : words_of c.take-redo.new.self ≡ overwritten (flat_sight self.words).writes (words_of self.words) = c.take-redo.ensures.words in
-          let served : Serves self.lay (tables_after opening self.done.items) d.request d.reply (words_of c.take-redo.new.self) = subst (λ (l : List ℕ). Serves self.lay (tables_after opening self.done.items) d.request d.reply l) (sym new_is) serves in
-          let next : IsNext opening self.done.items d = served_next opening self.lay self.done.items d (words_of c.take-redo.new.self) run.layout (ap (λ (n : ℕ). n + 1) (c.last-number.ensures ∙ run.last)) refl served in
-          let same_writes : (flat_sight self.words).writes ≡ c.take-redo.result.writes = sym (ap (λ (r : RedoRecord). r.writes) c.take-redo.ensures.record) in
+          let change = change_served opening self.lay self.done.items c.args.file c.args.index c.last-number.result c.args.request.now c.requires.change.writes run.layout run.stands (c.last-number.ensures ∙ run.last) c.take-redo.ensures.words (sym (ap (λ (r : RedoRecord). r.writes) c.take-redo.ensures.record)) in
           subst (λ (done : List Done). IsRunning opening words self.lay c.append.new.self (words_of c.take-redo.new.self) done s (g.M.Medium.sight (log_medium c.append.new.self))) (sym c.push_reserved.ensures.items)
           (running_write opening words self.lay self.log c.append.new.self (words_of self.words) (words_of c.take-redo.new.self) self.done.items d c.take-redo.result.writes s (g.M.Medium.sight (log_medium self.log)) (g.M.Medium.sight (log_medium c.append.new.self))
-          next refl c.requires.no_sync (new_is ∙ ap (λ (ws : List Write). overwritten ws (words_of self.words)) same_writes)
-          (served_stands opening self.lay self.done.items d (words_of c.take-redo.new.self) run.layout served) c.append.ensures.moments run
+          change.next refl c.requires.no_sync change.words change.stands c.append.ensures.moments run
           c.in_ok-append.ensures.appends.last c.in_ok-append.ensures.goes_on c.in_ok-append.ensures.appends.follows);
     }
 

@@ -6,12 +6,12 @@ use Rattle.tatp_model.specs.declared.done.Done.{Done}
 use Rattle.tatp_model.specs.declared.request.Request.{Request}
 use Rattle.tatp_model.specs.Request.{IsInRange}
 use Rattle.log_numbered.specs.RunLog.{log_medium}
-use Rattle.run_order.proofs.Rounds.{Rounds, found_mapped, rounds_all, rounds_collect, rounds_first, rounds_rounds, rounds_start, rounds_turn}
+use Rattle.run_order.proofs.Rounds.{Rounds, rounds_all, rounds_collect, rounds_first, rounds_rounds, rounds_start, rounds_turn}
 use Rattle.dude_engine.specs.declared.run_fault.RunFault.{RunFault}
 use Rattle.dude_engine.specs.Running.{IsLeft}
 use Rattle.dude_engine.proofs.Serving.{serves_none, serves_then}
 use Rattle.dude_engine.proofs.Steps.{fault_on_ok}
-use Rattle.dude_engine.proofs.Turns.{all_at, room_for, turn_last, turn_next}
+use Rattle.dude_engine.proofs.Turns.{all_at, file_there, room_for, turn_last, turn_next}
 use Rattle.dude_engine.proofs.run.Run.serve_all.Goals as goal
 
 pub loop-index-init : goal.loop-index-init
@@ -27,34 +27,25 @@ loop-index-init g c = record {
 
 pub serve_turn-requires-clause-room : goal.serve_turn-requires-clause-room
 serve_turn-requires-clause-room g c below =
-    let files = map (λ f. f.items) c.args.files.now in
-    let i = c.loop-file.invariant in
-    let there : slice_get files c.loop-file.file ≡ Some c.deref.result.now =
-    found_mapped (λ f. f.items) c.args.files.now c.loop-file.file c.index-files-file.result c.loop-file-test.true c.index-files-file.is ∙ ap Some (sym c.deref.ensures.value) in
-    omega (arith, room_for files c.loop-index.index c.loop-file.file c.loop-file.self.done.items c.deref.result.now there below i.rounds, i.room, c.requires.room, c.loop-file.self.done.ok.0)
+    let there = file_there (λ f. f.items) c.args.files.now c.loop-file.file _ c.deref.result.now c.loop-file-test.true c.index-files-file.is c.deref.ensures.value in
+    omega (arith, room_for _ c.loop-index.index c.loop-file.file c.loop-file.self.done.items c.deref.result.now there below c.loop-file.invariant.rounds, c.loop-file.invariant.room, c.requires.room, c.loop-file.self.done.ok.0)
 
 pub serve_turn-requires-clause-number : goal.serve_turn-requires-clause-number
 serve_turn-requires-clause-number g c below =
-    let files = map (λ f. f.items) c.args.files.now in
-    let i = c.loop-file.invariant in
-    let there : slice_get files c.loop-file.file ≡ Some c.deref.result.now =
-    found_mapped (λ f. f.items) c.args.files.now c.loop-file.file c.index-files-file.result c.loop-file-test.true c.index-files-file.is ∙ ap Some (sym c.deref.ensures.value) in
-    omega (arith, room_for files c.loop-index.index c.loop-file.file c.loop-file.self.done.items c.deref.result.now there below i.rounds, i.number, c.requires.numbers, c.loop-file.self.done.ok.0)
+    let there = file_there (λ f. f.items) c.args.files.now c.loop-file.file _ c.deref.result.now c.loop-file-test.true c.index-files-file.is c.deref.ensures.value in
+    omega (arith, room_for _ c.loop-index.index c.loop-file.file c.loop-file.self.done.items c.deref.result.now there below c.loop-file.invariant.rounds, c.loop-file.invariant.number, c.requires.numbers, c.loop-file.self.done.ok.0)
 
 pub serve_turn-requires-clause-in_range : goal.serve_turn-requires-clause-in_range
 serve_turn-requires-clause-in_range g c =
-    let files = map (λ f. f.items) c.args.files.now in
-    let there : slice_get files c.loop-file.file ≡ Some c.deref.result.now =
-    found_mapped (λ f. f.items) c.args.files.now c.loop-file.file c.index-files-file.result c.loop-file-test.true c.index-files-file.is ∙ ap Some (sym c.deref.ensures.value) in
-    all_at (λ (requests : List Request). All IsInRange requests) files c.loop-file.file c.deref.result.now there c.requires.in_range
+    let there = file_there (λ f. f.items) c.args.files.now c.loop-file.file _ c.deref.result.now c.loop-file-test.true c.index-files-file.is c.deref.ensures.value in
+    all_at (λ (requests : List Request). All IsInRange requests) _ c.loop-file.file c.deref.result.now there c.requires.in_range
 
 pub loop-file-preserved : goal.loop-file-preserved
 loop-file-preserved g c =
     let files = map (λ f. f.items) c.args.files.now in
     let i = c.loop-file.invariant in
     let ok = c.in_ok-serve_turn.ensures in
-    let there : slice_get files c.loop-file.file ≡ Some c.deref.result.now =
-    found_mapped (λ f. f.items) c.args.files.now c.loop-file.file c.index-files-file.result c.loop-file-test.true c.index-files-file.is ∙ ap Some (sym c.deref.ensures.value) in
+    let there = file_there (λ f. f.items) c.args.files.now c.loop-file.file _ c.deref.result.now c.loop-file-test.true c.index-files-file.is c.deref.ensures.value in
     record {
       ready = ok.leaves.ready;
       lay = c.serve_turn.ensures.leaves.lay ∙ i.lay;
@@ -101,8 +92,7 @@ returns-in_err-serve_turn-clause-performs g c =
     let performed = c.serve_turn.new.self.done.items in
     let i = c.loop-file.invariant in
     let is : c.from_residual.result ≡ Err c.in_err-serve_turn.field-0.0 = search rules in
-    let there : slice_get files c.loop-file.file ≡ Some c.deref.result.now =
-    found_mapped (λ f. f.items) c.args.files.now c.loop-file.file c.index-files-file.result c.loop-file-test.true c.index-files-file.is ∙ ap Some (sym c.deref.ensures.value) in
+    let there = file_there (λ f. f.items) c.args.files.now c.loop-file.file _ c.deref.result.now c.loop-file-test.true c.index-files-file.is c.deref.ensures.value in
     let last = turn_last files c.loop-index.index c.loop-file.file c.deref.result.now c.loop-file.self.done.items performed c.in_err-serve_turn.field-0.0 there c.in_err-serve_turn.ensures.adds i.rounds in
     record {
       rounds = rounds_rounds files c.loop-index.index last.0 performed last.1;
