@@ -1,9 +1,11 @@
 -- Reading a file piece by piece.
 use Rattle.std.proofs.Common.{◌≡◌, ℕ, ◌+◌, ◌<◌, ◌≤◌, Bool, false, IsTrue, List, [], ◌∷◌, ◌++◌, length, take, drop, Option, Some, None, refl, sym, ◌∙◌, ap, subst, arith, append_assoc, length-append, append-nil}
-use Rattle.std.specs.Prelude.{◌-◌, true, IfSome, IsSomeAnd, IsErrAnd, Result, Ok, Err}
+use Rattle.std.specs.Prelude.{◌-◌, true, IfSome, IfErr, IsSomeAnd, IsErrAnd, Result, Ok, Err}
+use Rattle.pmem_trait.specs.Sights.{Risen}
 use Rattle.std.proofs.lemmas.List.{take-append-drop}
 use Rattle.std.proofs.Math.Seq.{drop-append_seam}
-use Rattle.dude_io.specs.Files.{FilesSight, FilesStay, FailedRead, ReadMade, ListsRead, ListsReads, GivesBytes, Gave}
+use Rattle.dude_io.specs.Files.{FilesSight, FilesStay, ReadMade, ListsRead, ListsReads, GivesBytes, Gave}
+use Rattle.dude_io.specs.FileText.{IsReadFault}
 use Rattle.dude_io.specs.ReadsOfFile.{GaveUpTo, GaveUpTo.none, GaveUpTo.more, ReadsOfFile, ReadsWhole, ReadsOnce}
 use Rattle.dude_io.specs.declared.file_text.FileText.{FileText}
 use Rattle.dude_io.specs.declared.file_fault.FileFault.{FileFault}
@@ -142,6 +144,19 @@ module _ {name bytes : List ℕ} {at n : ℕ} {old new : List ℕ} {s t u : File
         },
         last.2,
       )
+
+  -- so its text is over the limit
+  pub read_past : (limit : ℕ) → at ≡ length bytes → length bytes ≤ limit → ReadSoFar name bytes s t → Gave name at n old new t u → limit - length bytes < n → IsTrue s.is_visible
+      → IsSomeAnd (s.text name) (λ text. limit < length text)
+  read_past limit here within sofar gave over told =
+      and_some (s.text name) (λ text. GivesBytes text (length bytes) n old new) (λ text. limit < length text) (given here sofar gave told) (λ text is gives.
+      let rest = gives.within in omega (arith, rest, over, within))
+
+-- a fault of the files has its cause
+pub failed_cause : (s t : FilesSight) (r : Result FileText FileFault) → IsErrAnd r (λ fault. fault ≡ Failed) → Risen s.faults t.faults → IfErr r (IsReadFault s t)
+failed_cause s t (Ok text) is risen = tt
+failed_cause s t (Err Failed) is risen = risen
+failed_cause s t (Err NoMemory) is risen = tt
 
 -- the reads of a file of which the last one failed, by what they came to
 pub failed_reads : (limit : ℕ) (s t : FilesSight) (name : List ℕ) (r : Result FileText FileFault) → IsErrAnd r (λ fault. fault ≡ Failed)

@@ -35,7 +35,8 @@ pub fn read_file<F: Files>(
     let mut piece = [0; PIECE];
     'pieces: loop {
         let given = files.read(name, bytes.len() as u64, &mut piece)?;
-        if given == 0 {
+        let is_end = given == 0;
+        if is_end {
             return Ok(FileText::Whole(bytes));
         }
         if limit - (bytes.len() as u64) < given {

@@ -1,5 +1,5 @@
 use Rattle.std.proofs.Common.{arith, length-drop, ◌∙◌}
-use Rattle.std.proofs.lemmas.List.{take_rest}
+use Rattle.std.proofs.lemmas.List.{take_all, take_rest}
 use Rattle.dude_io.proofs.WriteLaws.{took_more}
 use Rattle.dude_io.proofs.writing.write_all.Goals as goal
 
@@ -12,3 +12,8 @@ pieces-preserved g c =
       calm = some.calm ∙ c.pieces.invariant.calm;
       same = λ none. absurd (omega (arith, some.some));
     }
+
+pub returns-clause-writes : goal.returns-clause-writes
+returns-clause-writes g c =
+    let whole = take_all c.pieces.done c.args.bytes.now (omega arith) in
+    rw whole at c.pieces.invariant.took

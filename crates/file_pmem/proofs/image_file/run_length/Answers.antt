@@ -1,4 +1,4 @@
-use Rattle.std.proofs.Common.{ℕ, ◌+◌, sym, ap, ◌∙◌, arith, below_more}
+use Rattle.std.proofs.Common.{ℕ, ◌≡◌, ◌+◌, sym, ap, ◌∙◌, arith, below_more}
 use Rattle.std.proofs.lemmas.List.{get_or-map}
 use Rattle.file_pmem.specs.declared.line.Line.{Line}
 use Rattle.file_pmem.proofs.image_file.run_length.Goals as goal
@@ -16,3 +16,11 @@ loop-count-preserved c =
           ∙ c.if-lines-count.true
           ∙ ap (λ (n : ℕ). n + c.loop-count.count) (sym (get_or-map number lines 0 c.index-lines-0.result 0 c.requires)));
     }
+
+pub loop-count-init : goal.loop-count-init
+loop-count-init c = record {
+  some = omega arith;
+  within = omega (arith, c.requires);
+  most = omega arith;
+  next = λ k below. let first : k ≡ 0 = omega arith in rw first (omega arith);
+}
