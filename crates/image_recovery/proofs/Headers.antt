@@ -1,5 +1,5 @@
 -- The header of an image, word by word.
-use Rattle.std.proofs.Common.{◌≡◌, ℕ, ◌<◌, ◌≤◌, List, length, take, slice_index, Option, Some, None, IfSome, sym, ap, ◌∙◌, subst, arith}
+use Rattle.std.proofs.Common.{◌≡◌, ℕ, ◌<◌, ◌≤◌, List, length, take, slice_index, Option, Some, None, sym, ap, ◌∙◌, subst, arith}
 use Rattle.std.proofs.lemmas.List.{get_or-take, length-take}
 use Rattle.std.proofs.lemmas.Grind.{same_number_lists}
 use Rattle.dude_base.specs.declared.sizes.Sizes.{Sizes}
@@ -46,12 +46,3 @@ module _ (len : ℕ) (header content : List ℕ) (short : length header ≡ 8) (
   pub has_sizes : (found : Option Sizes) → AreSizes len header found → HasSizes found content
   has_sizes None none = λ is. none (names is)
   has_sizes (Some s) both = (formatted both.0, sym same ∙ sym both.1)
-
--- the sizes that were found are accepted, and there are words enough
-pub found_accepted : (len : ℕ) (header : List ℕ) (found : Option Sizes) → AreSizes len header found → IfSome found IsAccepted
-found_accepted len header None none = tt
-found_accepted len header (Some s) both = subst IsAccepted (sym both.1) both.0.sizes
-
-pub found_room : (len : ℕ) (header : List ℕ) (found : Option Sizes) → AreSizes len header found → IfSome found (λ s. image_words s ≤ len)
-found_room len header None none = tt
-found_room len header (Some s) both = let P : Sizes → Type 0 = λ s. image_words s ≤ len in subst P (sym both.1) both.0.whole

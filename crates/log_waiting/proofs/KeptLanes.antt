@@ -1,10 +1,10 @@
 -- The bundles of a lane by its entries, and one more.
-use Rattle.std.proofs.Common.{◌≡◌, ◌≢◌, ℕ, true, false, nat_le, ◌*◌, ◌<◌, ◌≤◌, List, [], ◌∷◌, ◌++◌, All, AllPairs, length, map, get_or, sym, ap, ◌∙◌, subst, arith}
+use Rattle.std.proofs.Common.{◌≡◌, ◌≢◌, ℕ, true, false, nat_le, ◌*◌, ◌<◌, ◌≤◌, List, [], ◌∷◌, ◌++◌, All, AllPairs, length, map, get_or, refl, sym, ap, ◌∙◌, subst, arith}
 use Rattle.std.specs.List.Sorted.{IsPartitionedBy, IsPartitionPoint}
 use Rattle.std.specs.Vec.{vec_capacity}
 use Rattle.std.proofs.lemmas.Bool.Decides.{nat_tests}
 use Rattle.std.proofs.lemmas.List.{length-map, get_or-map, map_push}
-use Rattle.std.proofs.lemmas.List.Elements.{All-push}
+use Rattle.std.proofs.lemmas.List.Elements.{All-nil, All-push}
 use Rattle.std.proofs.lemmas.List.FromFn.{length-map-range_with_len, get_or-map-range_with_len}
 use Rattle.std.proofs.lemmas.List.Quantifiers.{all_pairs_push}
 use Rattle.dude_base.specs.declared.sizes.Sizes.{Sizes}
@@ -13,7 +13,7 @@ use Rattle.dude_base.specs.Records.{RedoBundle, IsBundle, first_of}
 use Rattle.redo_record.specs.AppendLaw.{logged_as}
 use Rattle.redo_record.specs.Record.{cells_for}
 use Rattle.redo_record.specs.Fits.{Logged, AreFree}
-use Rattle.log_ring.specs.Ring.{RingState, next_head, with_record}
+use Rattle.log_ring.specs.Ring.{RingState, empty_ring, next_head, with_record}
 use Rattle.log_waiting.specs.declared.entry.Entry.{Entry}
 use Rattle.log_waiting.specs.declared.lane.Lane.TheInside.{Inside}
 use Rattle.log_waiting.specs.Entries.{bundle_in, logged_of, no_write, write_place, writes_in}
@@ -105,3 +105,15 @@ module _ (n c : ℕ) (writes : List Write) (es : List Entry) where
         let more : n < (get_or es i no_entry).last = grind (arith, nat_tests) in
         subst (λ (r : RedoBundle). n < r.last) (sym (get_or-map (bundle_in c writes) es i no_entry d within)) more),
   )
+
+-- a lane without records
+pub kept_empty : (a : Inside) (s : Sizes) (ring : ℕ) → a.ring ≡ empty_ring s ring → a.entries.items ≡ [] → s.cells ≤ vec_capacity a.entries → length a.writes.items ≡ 3 * s.cells → IsKeptLane a
+kept_empty a s ring is none room long = record {
+  room = rw is room;
+  places = rw is long;
+  same = rw (is, none) refl;
+  bundles = rw none (All-nil IsBundle);
+  some = rw none (All-nil (λ (e : Entry). 1 ≤ e.last));
+  inside = rw none (All-nil (λ (e : Entry). e.slot < a.ring.sizes.cells));
+  rising = rw none (λ i j d lt below. absurd (omega arith));
+}

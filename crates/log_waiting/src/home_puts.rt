@@ -59,7 +59,6 @@ fn put_home<M: Medium>(m: &mut M, place: &Place, group: &Group) -> Result<(), Fa
 }
 
 /// Makes the words that the writes of the group put durable.
-#[tactic(auto, using(pmem_trait::proofs::Runs::making), unfolding(pmem_trait::specs::Groups::group_calls))]
 pub fn settle_home<M: Medium>(
     m: &mut M,
     place: &Place,

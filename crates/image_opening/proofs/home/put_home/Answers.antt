@@ -1,4 +1,4 @@
-use Rattle.std.proofs.Common.{◌≡◌, is_ok, false, arith, rules, refl}
+use Rattle.std.proofs.Common.{◌≡◌, is_ok, true, false, arith, rules, refl, ◌∙◌}
 use Rattle.std.proofs.lemmas.List.FromFn.{length-enumerate_from}
 use Rattle.dude_base.specs.Image.{home_word}
 use Rattle.pmem_trait.specs.Sights.{CallsMade.none}
@@ -20,10 +20,16 @@ returns-in_err-put-clause-made g c =
 pub loop-i-preserved : goal.loop-i-preserved
 loop-i-preserved g c = record {
   len = omega arith;
-  made = puts_next (home_puts c.args.place.now c.args.words.now) c.loop-i.i (0, 0) _ (omega (arith, length-enumerate_from (home_word c.args.place.now 0) c.args.words.now, c.loop-i-test.true))
+  made = puts_next (home_puts c.args.place.now c.args.words.now) c.loop-i.i (0, 0) _ {ok = true} (omega (arith, length-enumerate_from (home_word c.args.place.now 0) c.args.words.now, c.loop-i-test.true))
       (home_put_at c.args.place.now c.args.words.now c.loop-i.i c.home.result c.loop-i-test.true c.home.ensures.place) c.loop-i.invariant.made c.in_ok-put.ensures;
 }
 
 pub returns-clause-made : goal.returns-clause-made
 returns-clause-made g c = made_whole _ c.loop-i.i
     (omega (arith, length-put_pairs (home_puts c.args.place.now c.args.words.now), length-enumerate_from (home_word c.args.place.now 0) c.args.words.now, c.loop-i-test.false)) c.loop-i.invariant.made
+
+pub returns-in_err-put-clause-len : goal.returns-in_err-put-clause-len
+returns-in_err-put-clause-len g c = c.in_err-put.ensures.later.len ∙ c.loop-i.invariant.len
+
+pub returns-clause-len : goal.returns-clause-len
+returns-clause-len g c = c.loop-i.invariant.len

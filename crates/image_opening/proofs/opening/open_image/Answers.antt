@@ -44,3 +44,24 @@ pub returns-clause-made : goal.returns-clause-made
 returns-clause-made g c =
     opens_behind (c.of-place.ensures ∙ c.sizes.ensures.sizes) c.deref.ensures.value c.deref-2.ensures.value c.in_ok-lay.ensures.reads c.in_ok-stale.ensures.reads c.in_ok-version.ensures.one_call
     (omega (arith, c.in_ok-lay.ensures.lawful.room)) c.in_ok-version.ensures.value c.in_ok-stale.ensures.lines c.in_ok-settle_image.ensures.made
+
+pub returns-in_err-lay-clause-len : goal.returns-in_err-lay-clause-len
+returns-in_err-lay-clause-len g c = c.recover.ensures.len
+
+pub returns-in_err-stale-clause-len : goal.returns-in_err-stale-clause-len
+returns-in_err-stale-clause-len g c = c.stale_lines.ensures.len ∙ c.in_ok-lay.ensures.len
+
+pub returns-in_err-version-clause-len : goal.returns-in_err-version-clause-len
+returns-in_err-version-clause-len g c = c.in_err-version.ensures.one_call.later.len ∙ (c.in_ok-stale.ensures.len ∙ c.in_ok-lay.ensures.len)
+
+pub returns-in_err-settle_image-clause-len : goal.returns-in_err-settle_image-clause-len
+returns-in_err-settle_image-clause-len g c = c.settle_image.ensures.len ∙ (c.in_ok-version.ensures.one_call.later.len ∙ (c.in_ok-stale.ensures.len ∙ c.in_ok-lay.ensures.len))
+
+pub returns-clause-len : goal.returns-clause-len
+returns-clause-len g c = c.settle_image.ensures.len ∙ (c.in_ok-version.ensures.one_call.later.len ∙ (c.in_ok-stale.ensures.len ∙ c.in_ok-lay.ensures.len))
+
+pub returns-clause-lawful : goal.returns-clause-lawful
+returns-clause-lawful g c = c.in_ok-lay.ensures.lawful
+
+pub returns-clause-recovered : goal.returns-clause-recovered
+returns-clause-recovered g c = c.in_ok-lay.ensures.recovered

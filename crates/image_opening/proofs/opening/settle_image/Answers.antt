@@ -1,4 +1,4 @@
-use Rattle.std.proofs.Common.{◌≡◌, is_ok, false, rules}
+use Rattle.std.proofs.Common.{◌≡◌, is_ok, false, rules, ◌∙◌}
 use Rattle.pmem_trait.proofs.Runs.{made_stop, made_then}
 use Rattle.image_opening.specs.OpeningCalls.{opening_calls}
 use Rattle.image_opening.proofs.opening.settle_image.Goals as goal
@@ -31,3 +31,18 @@ pub returns-clause-made : goal.returns-clause-made
 unfolding opening_calls
 returns-clause-made g c =
     made_then c.in_ok-settle_home.ensures.made (made_then c.in_ok-settle_group.ensures.made (made_then c.in_ok-clear_heads.ensures.made c.in_ok-raise_version.ensures.made))
+
+pub returns-in_err-settle_home-clause-len : goal.returns-in_err-settle_home-clause-len
+returns-in_err-settle_home-clause-len g c = c.settle_home.ensures.len
+
+pub returns-in_err-settle_group-clause-len : goal.returns-in_err-settle_group-clause-len
+returns-in_err-settle_group-clause-len g c = c.settle_group.ensures.len ∙ c.in_ok-settle_home.ensures.len
+
+pub returns-in_err-clear_heads-clause-len : goal.returns-in_err-clear_heads-clause-len
+returns-in_err-clear_heads-clause-len g c = c.clear_heads.ensures.len ∙ (c.in_ok-settle_group.ensures.len ∙ c.in_ok-settle_home.ensures.len)
+
+pub returns-in_err-raise_version-clause-len : goal.returns-in_err-raise_version-clause-len
+returns-in_err-raise_version-clause-len g c = c.raise_version.ensures.len ∙ (c.in_ok-clear_heads.ensures.len ∙ (c.in_ok-settle_group.ensures.len ∙ c.in_ok-settle_home.ensures.len))
+
+pub returns-clause-len : goal.returns-clause-len
+returns-clause-len g c = c.raise_version.ensures.len ∙ (c.in_ok-clear_heads.ensures.len ∙ (c.in_ok-settle_group.ensures.len ∙ c.in_ok-settle_home.ensures.len))

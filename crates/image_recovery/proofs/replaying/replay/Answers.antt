@@ -9,10 +9,41 @@ use Rattle.redo_record.specs.Recovery.{Recovers}
 use Rattle.log_ring.specs.declared.head.Head.{Head}
 use Rattle.log_ring.specs.Heads.{bundle_of_head}
 use Rattle.log_ring.specs.Scan.{AreHeads}
+use Rattle.log_ring.proofs.Replayable.{one_moment}
 use Rattle.image_recovery.specs.Replays.{AreApplied, HasSizes}
 use Rattle.image_recovery.proofs.ReplayReading.{made_at_device, made_again, made_by_scan, read_cause, replay_by_scan, replay_unread}
 use Rattle.image_recovery.proofs.ReplayedContent.{at_content, recovered}
 use Rattle.image_recovery.proofs.replaying.replay.Goals as goal
+
+pub returns-in_err-mark-clause-len : goal.returns-in_err-mark-clause-len
+returns-in_err-mark-clause-len g c = c.in_err-mark.ensures.one_call.later.len ∙ c.in_ok-sizes.ensures.len
+
+pub returns-in_err-mark-clause-few : goal.returns-in_err-mark-clause-few
+returns-in_err-mark-clause-few g c = let one = one_moment c.in_err-mark.ensures.one_call in omega arith
+
+pub returns-then-mark-gt-MAX_NUMBER-clause-len : goal.returns-then-mark-gt-MAX_NUMBER-clause-len
+returns-then-mark-gt-MAX_NUMBER-clause-len g c = c.in_ok-mark.ensures.one_call.later.len ∙ c.in_ok-sizes.ensures.len
+
+pub returns-then-mark-gt-MAX_NUMBER-clause-few : goal.returns-then-mark-gt-MAX_NUMBER-clause-few
+returns-then-mark-gt-MAX_NUMBER-clause-few g c = let one = one_moment c.in_ok-mark.ensures.one_call in omega arith
+
+pub returns-in_err-log-clause-len : goal.returns-in_err-log-clause-len
+returns-in_err-log-clause-len g c = c.heads.ensures.len ∙ (c.in_ok-mark.ensures.one_call.later.len ∙ c.in_ok-sizes.ensures.len)
+
+pub returns-in_err-log-clause-few : goal.returns-in_err-log-clause-few
+returns-in_err-log-clause-few g c = let one = one_moment c.in_ok-mark.ensures.one_call in omega arith
+
+pub returns-in_err-words-clause-len : goal.returns-in_err-words-clause-len
+returns-in_err-words-clause-len g c = c.read_home.ensures.len ∙ (c.in_ok-log.ensures.len ∙ (c.in_ok-mark.ensures.one_call.later.len ∙ c.in_ok-sizes.ensures.len))
+
+pub returns-in_err-words-clause-few : goal.returns-in_err-words-clause-few
+returns-in_err-words-clause-few g c = let one = one_moment c.in_ok-mark.ensures.one_call in omega arith
+
+pub returns-in_err-number-clause-len : goal.returns-in_err-number-clause-len
+returns-in_err-number-clause-len g c = c.apply_consecutive.ensures.len ∙ (c.in_ok-words.ensures.len ∙ (c.in_ok-log.ensures.len ∙ (c.in_ok-mark.ensures.one_call.later.len ∙ c.in_ok-sizes.ensures.len)))
+
+pub returns-clause-len : goal.returns-clause-len
+returns-clause-len g c = c.in_ok-number.ensures.len ∙ (c.in_ok-words.ensures.len ∙ (c.in_ok-log.ensures.len ∙ (c.in_ok-mark.ensures.one_call.later.len ∙ c.in_ok-sizes.ensures.len)))
 
 pub returns-in_err-sizes-clause-cause : goal.returns-in_err-sizes-clause-cause
 returns-in_err-sizes-clause-cause g c = λ is. made_cause c.in_err-sizes.ensures.reads.made

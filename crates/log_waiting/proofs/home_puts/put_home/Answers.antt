@@ -1,4 +1,4 @@
-use Rattle.std.proofs.Common.{◌≡◌, ℕ, ◌<◌, List, Some, slice_get, is_ok, false, length, get_or, sym, ap, ◌∙◌, arith, rules, refl}
+use Rattle.std.proofs.Common.{◌≡◌, ℕ, ◌<◌, List, Some, slice_get, is_ok, true, false, length, get_or, sym, ap, ◌∙◌, arith, rules, refl}
 use Rattle.std.proofs.lemmas.List.{get_or-map, length-map}
 use Rattle.std.proofs.lemmas.Option.{get_or_from_slice_get}
 use Rattle.dude_base.specs.declared.sizes.Sizes.{Sizes}
@@ -35,7 +35,7 @@ loop-index-preserved g c =
     let lt : c.loop-index.index < length ws = omega (arith, c.len-index-end.ensures) in
     record {
       len = omega arith;
-      made = puts_next (home_writes c.args.place.now ws) c.loop-index.index (0, 0) _ (omega (arith, long c.args.place.now ws)) (put_is c.args.place.now ws c.loop-index.index c.home.result c.get-write.result lt c.get-write.ensures c.home.ensures.place)
+      made = puts_next (home_writes c.args.place.now ws) c.loop-index.index (0, 0) _ {ok = true} (omega (arith, long c.args.place.now ws)) (put_is c.args.place.now ws c.loop-index.index c.home.result c.get-write.result lt c.get-write.ensures c.home.ensures.place)
           c.loop-index.invariant.made c.in_ok-put.ensures;
     }
 
@@ -43,3 +43,9 @@ pub returns-clause-made : goal.returns-clause-made
 returns-clause-made g c =
     let ws : List Write = c.args.group.now.writes in
     made_whole _ c.loop-index.index (omega (arith, length-put_pairs (home_writes c.args.place.now ws), long c.args.place.now ws, c.len-index-end.ensures)) c.loop-index.invariant.made
+
+pub returns-in_err-put-clause-len : goal.returns-in_err-put-clause-len
+returns-in_err-put-clause-len g c = c.in_err-put.ensures.later.len ∙ c.loop-index.invariant.len
+
+pub returns-clause-len : goal.returns-clause-len
+returns-clause-len g c = c.loop-index.invariant.len
