@@ -6,7 +6,7 @@ ghost use Rattle.legal_entries.specs.Served.{LawOfServing, LawOfEntries};
 /// Over an opening array that stands for a database, legal entries of requests that were served on
 /// what they read lead through databases: the array at each number stands for the one there, and
 /// each reply is one thread's on it.
-pub fn law_of_entries()
+pub fn law_of_served_entries()
     ensures served { LawOfServing }
     ensures leads { LawOfEntries }
 {}

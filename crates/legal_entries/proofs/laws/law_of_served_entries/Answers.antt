@@ -1,6 +1,6 @@
 use Rattle.legal_entries.proofs.Law.{law}
 use Rattle.legal_entries.proofs.Serving.{served_entry}
-use Rattle.legal_entries.proofs.laws.law_of_entries.Goals as goal
+use Rattle.legal_entries.proofs.laws.law_of_served_entries.Goals as goal
 
 pub returns-clause-served : goal.returns-clause-served
 returns-clause-served c = served_entry
