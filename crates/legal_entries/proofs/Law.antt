@@ -2,6 +2,7 @@
 use Rattle.std.proofs.Common.{◌≡◌, ℕ, zero, suc, ◌+◌, ◌-◌, ◌*◌, ◌<◌, ◌≤◌, true, List, [], ◌∷◌, length, map, get_or, refl, ap, sym, ◌∙◌, subst, arith, ⊎_elim}
 use Rattle.std.specs.Prelude.{Option, Some, None, slice_index}
 use Rattle.std.specs.List.{All, Contains}
+use Rattle.std.proofs.lemmas.Bool.{cases_Bool, both_ways}
 use Rattle.std.proofs.lemmas.List.Elements.{All-map, All-weaker, All-contains, All-contains_itself}
 use Rattle.dude_base.specs.declared.limits.TheConstants.{PAGE}
 use Rattle.dude_base.specs.declared.sizes.Sizes.{Sizes}
@@ -11,14 +12,15 @@ use Rattle.word_space.specs.Sights.{Agrees}
 use Rattle.tatp_model.specs.declared.done.Done.{Done}
 use Rattle.tatp_model.specs.Database.{Database}
 use Rattle.tatp_model.specs.Transaction.{after_request}
+use Rattle.tatp_model.specs.OneThread.{is_sync}
 use Rattle.tatp_layout.specs.StandsFor.{StandsFor}
 use Rattle.tatp_core.specs.Serves.{Serves}
 use Rattle.core_events.specs.Views.{Entry}
 use Rattle.core_events.specs.Entries.{value_at, read_at, IsLegal}
-use Rattle.legal_order.specs.Numbers.{WroteAt, AreDatabases, answered_at, IsAnswered}
+use Rattle.legal_order.specs.Numbers.{WroteAt, AreDatabases, answered_at, IsAnswered, IsNumbered}
 use Rattle.legal_entries.specs.Served.{done_of, IsServed, array_at, LeadsThrough, LawOfEntries}
 use Rattle.legal_entries.proofs.Serving.{wrote_changed}
-use Rattle.legal_entries.proofs.Writers.{writer, writes_in, writes_are, Writes, writer_is, writer_only, none_or_writer, IsInside, written_inside, length_at, word_at}
+use Rattle.legal_entries.proofs.Writers.{differ_all, writer, writes_in, writes_are, Writes, writer_is, writer_only, none_or_writer, IsInside, written_inside, length_at, word_at}
 
 -- two lists of one length that have the same words
 same_words : (xs ys : List ℕ) → length xs ≡ length ys → ((i : ℕ) → i < length xs → get_or xs i 0 ≡ get_or ys i 0) → xs ≡ ys
@@ -141,8 +143,22 @@ module _ (first : ℕ) (s : Sizes) (opening : List ℕ) (db : Database) (es : Li
       same_words array (array_at opening es n) (long ∙ sym (length_at opening es inside n ∙ size))
       (λ i lt. same i (subst (λ (m : ℕ). i < m) long lt) ∙ sym (word_at opening es inside n i))
 
+  -- the numbers: over the first one where an entry wrote, from it on where it read, and no two that wrote alike
+  number_of : (e : Entry) → Contains es e → IsNumbered first (done_of e)
+  number_of e c =
+      let v = All-contains (IsServed s) es e served c in
+      let from : first ≤ read_at e = All-contains (λ x. first ≤ read_at x) es e legal.from c in
+      record {
+        over = over e c;
+        from = λ n. ⊎_elim (λ w. let o = over e c w in omega arith) (λ h. let at : read_at e ≡ e.number = rw h refl in omega arith) (cases_Bool e.wrote);
+        durable = λ sync. absurd (both_ways (is_sync e.about.request) v.no_sync sync);
+      }
+
+  each : All (IsNumbered first) (map done_of es)
+  each = All-map (IsNumbered first) done_of es (All-weaker (Contains es) (λ e. IsNumbered first (done_of e)) number_of es (All-contains_itself es))
+
   through : LeadsThrough first s opening db es
-  through = record { databases = databases; leads = leads; stands = stand; answers = answers; words = words }
+  through = record { databases = databases; leads = leads; stands = stand; each = each; differ = differ_all es legal.once; answers = answers; words = words }
 
 pub law : LawOfEntries
 law first s opening db es stands legal served = through first s opening db es stands legal served

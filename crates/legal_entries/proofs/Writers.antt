@@ -1,9 +1,10 @@
 -- Which entry wrote with a number, and the arrays at the numbers.
-use Rattle.std.proofs.Common.{◌≡◌, ◌==◌, ℕ, zero, suc, ◌<◌, ◌≤◌, Bool, true, false, ◌&&◌, ◌||◌, List, [], ◌∷◌, length, get_or, refl, ap, sym, ◌∙◌, subst, arith, inl, inr, ◌⊎◌, ⊎_elim, eq-eqb}
+use Rattle.std.proofs.Common.{◌≡◌, ◌==◌, ℕ, zero, suc, ◌<◌, ◌≤◌, Bool, true, false, ◌&&◌, ◌||◌, List, [], ◌∷◌, length, map, get_or, refl, ap, sym, ◌∙◌, subst, arith, inl, inr, ◌⊎◌, ⊎_elim, eq-eqb}
 use Rattle.std.specs.Prelude.{Option, Some, None, if◌then◌else◌, slice_index, unwrap_or}
-use Rattle.std.specs.List.{All, Contains}
+use Rattle.std.specs.List.{All, AllPairs, Contains}
 use Rattle.std.proofs.lemmas.Bool.{cases_Bool, cases_lt, both_ways, eqb-true, and_from}
-use Rattle.std.proofs.lemmas.List.Elements.{All-contains}
+use Rattle.std.proofs.lemmas.List.Elements.{All-map, All-weaker, All-contains, All-contains_itself}
+use Rattle.std.proofs.lemmas.List.Kept.{AllPairs-cons}
 use Rattle.dude_base.specs.declared.write.Write.{Write}
 use Rattle.dude_base.specs.Writes.{written}
 use Rattle.dude_base.proofs.WriteLists.{written_absent}
@@ -11,7 +12,8 @@ use Rattle.dude_base.proofs.Overwriting.{length-overwritten, index-overwritten}
 use Rattle.core_events.specs.Keyed.{has, or_else, Distinct}
 use Rattle.core_events.specs.Views.{Entry}
 use Rattle.core_events.specs.Entries.{writes_of, value_at, numbers_written}
-use Rattle.legal_entries.specs.Served.{array_at}
+use Rattle.legal_order.specs.Numbers.{Differ}
+use Rattle.legal_entries.specs.Served.{done_of, array_at}
 
 abbrev pub is_writer : ℕ → Entry → Bool
 is_writer n e = e.wrote && (e.number == n)
@@ -91,6 +93,15 @@ writer_only (x ∷ es) n e d w = ⊎_elim
     absurd (both_ways (has (numbers_written es) n) (subst (λ (m : ℕ). has (numbers_written es) m ≡ false) (eqb-true x.number n b.1) first) second))
     (λ no. rw no (writer_only es n e (distinct_rest x es d) rest)) (cases_Bool (is_writer n x)))
     (head_or_tail x e es w.among)
+
+-- so two that wrote have different numbers
+pub differ_all : (es : List Entry) → Distinct (numbers_written es) → AllPairs Differ (map done_of es)
+differ_all [] d = λ i j e before within. absurd (omega (arith, within))
+differ_all (x ∷ es) d =
+    AllPairs-cons Differ (done_of x) (map done_of es)
+    (All-map (Differ (done_of x)) done_of es (All-weaker (Contains es) (λ e. Differ (done_of x) (done_of e))
+    (λ e c w w' same. both_ways (has (numbers_written es) x.number) (rw w at d).0 (has_number es x.number e (record { among = c; wrote = w'; number = sym same }))) es (All-contains_itself es)))
+    (differ_all es (distinct_rest x es d))
 
 pub none_or_writer : (o : Option Entry) → (o ≡ None) ⊎ ((e : Entry) × (o ≡ Some e))
 none_or_writer None = inl refl

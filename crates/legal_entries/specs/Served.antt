@@ -1,5 +1,5 @@
 -- Entries that are legal, each of a request that was served on its reads, over an opening array that stands for a database.
-use Rattle.std.specs.Prelude.{◌≡◌, ◌≢◌, ◌↔◌, ℕ, zero, suc, ◌*◌, ◌<◌, true, false, List, [], All, length, map, slice_index}
+use Rattle.std.specs.Prelude.{◌≡◌, ◌≢◌, ◌↔◌, ℕ, zero, suc, ◌*◌, ◌<◌, true, false, List, [], All, AllPairs, length, map, slice_index}
 use Rattle.dude_base.specs.declared.limits.TheConstants.{PAGE}
 use Rattle.dude_base.specs.declared.sizes.Sizes.{Sizes}
 use Rattle.dude_base.specs.Writes.{overwritten}
@@ -11,7 +11,7 @@ use Rattle.tatp_layout.specs.StandsFor.{StandsFor}
 use Rattle.tatp_core.specs.Serves.{Answers}
 use Rattle.core_events.specs.Views.{Entry}
 use Rattle.core_events.specs.Entries.{writes_of, value_at, IsLegal}
-use Rattle.legal_order.specs.Numbers.{AreDatabases, IsAnswered}
+use Rattle.legal_order.specs.Numbers.{AreDatabases, IsAnswered, IsNumbered, Differ}
 
 -- what is done by the transaction of an entry
 abbrev pub done_of : Entry → Done
@@ -48,6 +48,9 @@ pub record LeadsThrough (first : ℕ) (s : Sizes) (opening : List ℕ) (db : Dat
   pub leads : AreDatabases first s.calls db (map done_of es) databases
   -- the array at a number stands for the database there
   pub stands : (n : ℕ) → StandsFor s (array_at opening es n) (databases n)
+  -- what was done is numbered from the first number on, those that wrote differently
+  pub each : All (IsNumbered first) (map done_of es)
+  pub differ : AllPairs Differ (map done_of es)
   -- each reply is one thread's on the database at its number
   pub answers : All (IsAnswered s.calls databases) (map done_of es)
   -- an array of the home's length that has the values at a number is the array there
