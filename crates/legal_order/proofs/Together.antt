@@ -185,7 +185,7 @@ module _ (first limit last : ℕ) (db : Database) (counts : ℕ → ℕ) (parts 
 
   numbered_one : (d : Done) → Contains done d → IsNumbered first d
   numbered_one d at = ⊎_elim
-      (λ here. All-contains (IsNumbered first) threads d t.each here)
+      (λ here. All-contains (IsNumbered first) threads d t.numbered.each here)
       (λ r. subst (λ (x : Done). IsNumbered first x) r.2 (
       let l = later r.0 r.1 in let f = t.ends.from in
       record {
@@ -222,7 +222,7 @@ module _ (first limit last : ℕ) (db : Database) (counts : ℕ → ℕ) (parts 
       (λ r. (r.1.0, r.1.1))
       (λ r. absurd (in_files_once d e before r.0)) other)
       (one_or_other (λ u v. PrecedesInFiles u v × (Differ u v × FollowsInFile u v)) threads d e
-      (λ i j f low within. (in_threads i j f low within, (t.differ i j f low within, t.follow i j f low within))) here here'))
+      (λ i j f low within. (in_threads i j f low within, (t.numbered.differ i j f low within, t.numbered.follow i j f low within))) here here'))
       (λ r. let u = early d here in let l = later r.0 r.1 in
       subst (λ (x : Done). Differ d x × FollowsInFile d x) r.2
       ((λ w w' same. let o = l.1 w' in omega arith), (λ f n n'. record { upto = (let o = l.0 in omega arith); under = λ w. let o = l.1 w in omega arith })))
