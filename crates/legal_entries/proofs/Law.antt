@@ -1,7 +1,9 @@
 -- The law of entries: by induction on the number.
-use Rattle.std.proofs.Common.{◌≡◌, ℕ, zero, suc, ◌+◌, ◌-◌, ◌*◌, ◌<◌, ◌≤◌, true, List, [], ◌∷◌, length, map, get_or, refl, ap, sym, ◌∙◌, subst, arith, ⊎_elim}
+use Rattle.std.proofs.Common.{◌≡◌, ℕ, zero, suc, ◌+◌, ◌-◌, ◌*◌, ◌<◌, ◌≤◌, true, List, length, map, refl, ap, sym, ◌∙◌, subst, arith, ⊎_elim}
 use Rattle.std.specs.Prelude.{Option, Some, None, slice_index}
 use Rattle.std.specs.List.{All, Contains}
+use Rattle.std.proofs.lemmas.Bool.{cases_Bool, both_ways}
+use Rattle.std.proofs.lemmas.Grind.{same_number_lists}
 use Rattle.std.proofs.lemmas.List.Elements.{All-map, All-weaker, All-contains, All-contains_itself}
 use Rattle.dude_base.specs.declared.limits.TheConstants.{PAGE}
 use Rattle.dude_base.specs.declared.sizes.Sizes.{Sizes}
@@ -11,40 +13,21 @@ use Rattle.word_space.specs.Sights.{Agrees}
 use Rattle.tatp_model.specs.declared.done.Done.{Done}
 use Rattle.tatp_model.specs.Database.{Database}
 use Rattle.tatp_model.specs.Transaction.{after_request}
+use Rattle.tatp_model.specs.OneThread.{is_sync}
 use Rattle.tatp_layout.specs.StandsFor.{StandsFor}
 use Rattle.tatp_core.specs.Serves.{Serves}
 use Rattle.core_events.specs.Views.{Entry}
 use Rattle.core_events.specs.Entries.{value_at, read_at, IsLegal}
-use Rattle.legal_order.specs.Numbers.{WroteAt, AreDatabases, answered_at, IsAnswered}
+use Rattle.legal_order.specs.Numbers.{WroteAt, AreDatabases, answered_at, IsAnswered, IsNumbered}
+use Rattle.legal_order.proofs.Members.{contains_map, map_contains}
 use Rattle.legal_entries.specs.Served.{done_of, IsServed, array_at, LeadsThrough, LawOfEntries}
 use Rattle.legal_entries.proofs.Serving.{wrote_changed}
-use Rattle.legal_entries.proofs.Writers.{writer, writes_in, writes_are, Writes, writer_is, writer_only, none_or_writer, IsInside, written_inside, length_at, word_at}
-
--- two lists of one length that have the same words
-same_words : (xs ys : List ℕ) → length xs ≡ length ys → ((i : ℕ) → i < length xs → get_or xs i 0 ≡ get_or ys i 0) → xs ≡ ys
-same_words [] [] long same = refl
-same_words [] (y ∷ ys) long same = absurd (omega arith)
-same_words (x ∷ xs) [] long same = absurd (omega arith)
-same_words (x ∷ xs) (y ∷ ys) long same =
-    let head : x ≡ y = same 0 (omega arith) in
-    let tail : xs ≡ ys = same_words xs ys (omega arith) (λ i lt. same (suc i) (omega arith)) in
-    λ k. head k ∷ tail k
+use Rattle.legal_entries.proofs.Writers.{differ_all, writer, writes_in, writes_are, Writes, writer_is, writer_only, none_or_writer, IsInside, written_inside, length_at, word_at}
 
 -- the database behind an entry, or the one before
 abbrev grown : ℕ → Option Entry → Database → Database
 grown limit None db = db
 grown limit (Some e) db = after_request limit db e.about.request
-
-contains_mapped : (es : List Entry) (d : Done) → Contains (map done_of es) d → (e : Entry) × Contains es e × (done_of e ≡ d)
-contains_mapped [] d c = absurd (omega (arith, c.1))
-contains_mapped (x ∷ es) d (zero, within, is) = (x, (0, omega arith, refl), is)
-contains_mapped (x ∷ es) d (suc k, within, is) =
-    let r = contains_mapped es d (k, omega (arith, within), is) in (r.0, (suc r.1.0, (let b = r.1.1 in omega arith), r.1.2), r.2)
-
-mapped_contains : (es : List Entry) (e : Entry) → Contains es e → Contains (map done_of es) (done_of e)
-mapped_contains [] e c = absurd (omega (arith, c.1))
-mapped_contains (x ∷ es) e (zero, within, is) = (0, omega arith, ap done_of is)
-mapped_contains (x ∷ es) e (suc k, within, is) = let r = mapped_contains es e (k, omega (arith, within), is) in (suc r.0, (let b = r.1 in omega arith), r.2)
 
 read_under : (e : Entry) → e.wrote ≡ true → read_at e ≡ e.number - 1
 read_under e w = rw w refl
@@ -117,14 +100,14 @@ module _ (first : ℕ) (s : Sizes) (opening : List ℕ) (db : Database) (es : Li
   same_database n none =
       let up : n + 1 ≡ suc n = omega arith in
       rw up (⊎_elim (λ no. rw no refl)
-      (λ w. let is = writer_is es (suc n) w.0 w.1 in absurd (none (done_of w.0) (mapped_contains es w.0 is.among) (record { wrote = is.wrote; number = is.number ∙ sym up })))
+      (λ w. let is = writer_is es (suc n) w.0 w.1 in absurd (none (done_of w.0) (contains_map done_of es w.0 is.among) (record { wrote = is.wrote; number = is.number ∙ sym up })))
       (none_or_writer (writer es (suc n))))
 
   leads : AreDatabases first s.calls db (map done_of es) databases
   leads = record {
     start = database_upto first (omega arith);
     wrote = λ n d le c at.
-        let m = contains_mapped es d c in
+        let m = map_contains done_of es d c in
         next_database n m.0 (record { among = m.1; wrote = ap (λ (x : Done). x.wrote) m.2 ∙ at.wrote; number = ap (λ (x : Done). x.number) m.2 ∙ at.number })
         ∙ ap (λ (x : Done). after_request s.calls (databases n) x.request) m.2;
     stays = λ n le none. same_database n none;
@@ -138,11 +121,25 @@ module _ (first : ℕ) (s : Sizes) (opening : List ℕ) (db : Database) (es : Li
 
   words : (n : ℕ) (array : List ℕ) → length array ≡ s.pages * PAGE → ((i : ℕ) → i < s.pages * PAGE → slice_index array i ≡ value_at opening es n i) → array ≡ array_at opening es n
   words n array long same =
-      same_words array (array_at opening es n) (long ∙ sym (length_at opening es inside n ∙ size))
+      same_number_lists array (array_at opening es n) (long ∙ sym (length_at opening es inside n ∙ size))
       (λ i lt. same i (subst (λ (m : ℕ). i < m) long lt) ∙ sym (word_at opening es inside n i))
 
+  -- the numbers: over the first one where an entry wrote, from it on where it read, and no two that wrote alike
+  number_of : (e : Entry) → Contains es e → IsNumbered first (done_of e)
+  number_of e c =
+      let v = All-contains (IsServed s) es e served c in
+      let from : first ≤ read_at e = All-contains (λ x. first ≤ read_at x) es e legal.from c in
+      record {
+        over = over e c;
+        from = λ n. ⊎_elim (λ w. let o = over e c w in omega arith) (λ h. let at : read_at e ≡ e.number = rw h refl in omega arith) (cases_Bool e.wrote);
+        durable = λ sync. absurd (both_ways (is_sync e.about.request) v.no_sync sync);
+      }
+
+  each : All (IsNumbered first) (map done_of es)
+  each = All-map (IsNumbered first) done_of es (All-weaker (Contains es) (λ e. IsNumbered first (done_of e)) number_of es (All-contains_itself es))
+
   through : LeadsThrough first s opening db es
-  through = record { databases = databases; leads = leads; stands = stand; answers = answers; words = words }
+  through = record { databases = databases; leads = leads; stands = stand; each = each; differ = differ_all es legal.once; answers = answers; words = words }
 
 pub law : LawOfEntries
 law first s opening db es stands legal served = through first s opening db es stands legal served

@@ -2,3 +2,4 @@ pub mod Writers
 pub mod Serving
 pub mod Law
 pub mod WorkedArrays
+pub mod Carrying

@@ -1,9 +1,11 @@
 -- Which entry wrote with a number, and the arrays at the numbers.
-use Rattle.std.proofs.Common.{◌≡◌, ◌==◌, ℕ, zero, suc, ◌<◌, ◌≤◌, Bool, true, false, ◌&&◌, ◌||◌, List, [], ◌∷◌, length, get_or, refl, ap, sym, ◌∙◌, subst, arith, inl, inr, ◌⊎◌, ⊎_elim, eq-eqb}
+use Rattle.std.proofs.Common.{◌≡◌, ◌==◌, ℕ, zero, suc, ◌<◌, Bool, true, false, ◌&&◌, ◌||◌, List, [], ◌∷◌, length, map, refl, ap, sym, ◌∙◌, subst, arith, inl, inr, ◌⊎◌, ⊎_elim, eq-eqb}
 use Rattle.std.specs.Prelude.{Option, Some, None, if◌then◌else◌, slice_index, unwrap_or}
-use Rattle.std.specs.List.{All, Contains}
+use Rattle.std.specs.List.{All, AllPairs, Contains}
 use Rattle.std.proofs.lemmas.Bool.{cases_Bool, cases_lt, both_ways, eqb-true, and_from}
-use Rattle.std.proofs.lemmas.List.Elements.{All-contains}
+use Rattle.std.proofs.lemmas.List.{get_or_past}
+use Rattle.std.proofs.lemmas.List.Elements.{All-map, All-weaker, All-contains, All-contains_itself}
+use Rattle.std.proofs.lemmas.List.Kept.{AllPairs-cons}
 use Rattle.dude_base.specs.declared.write.Write.{Write}
 use Rattle.dude_base.specs.Writes.{written}
 use Rattle.dude_base.proofs.WriteLists.{written_absent}
@@ -11,7 +13,9 @@ use Rattle.dude_base.proofs.Overwriting.{length-overwritten, index-overwritten}
 use Rattle.core_events.specs.Keyed.{has, or_else, Distinct}
 use Rattle.core_events.specs.Views.{Entry}
 use Rattle.core_events.specs.Entries.{writes_of, value_at, numbers_written}
-use Rattle.legal_entries.specs.Served.{array_at}
+use Rattle.run_order.proofs.Elements.{first_among, other_among, first_or_other}
+use Rattle.legal_order.specs.Numbers.{Differ}
+use Rattle.legal_entries.specs.Served.{done_of, array_at}
 
 abbrev pub is_writer : ℕ → Entry → Bool
 is_writer n e = e.wrote && (e.number == n)
@@ -38,22 +42,12 @@ pub record Writes (es : List Entry) (n : ℕ) (e : Entry) : Type 0 where
   pub wrote : e.wrote ≡ true
   pub number : e.number ≡ n
 
-contains_head : {X : Type 0} (x : X) (xs : List X) → Contains (x ∷ xs) x
-contains_head x xs = (0, omega arith, refl)
-
-contains_tail : {X : Type 0} (x y : X) (xs : List X) → Contains xs y → Contains (x ∷ xs) y
-contains_tail x y xs c = (suc c.0, omega (arith, c.1), c.2)
-
-head_or_tail : {X : Type 0} (x y : X) (xs : List X) → Contains (x ∷ xs) y → (x ≡ y) ⊎ Contains xs y
-head_or_tail x y xs (zero, within, is) = inl is
-head_or_tail x y xs (suc k, within, is) = inr (k, omega (arith, within), is)
-
 pub writer_is : (es : List Entry) (n : ℕ) (e : Entry) → writer es n ≡ Some e → Writes es n e
 writer_is [] n e is = absurd cc
 writer_is (x ∷ es) n e is = ⊎_elim
     (λ y. let same : x ≡ e = (let q : Some x ≡ Some e = sym (rw y refl) ∙ is in cc) in let b = and_both x.wrote (x.number == n) y in
-    subst (λ (z : Entry). Writes (x ∷ es) n z) same (record { among = contains_head x es; wrote = b.0; number = eqb-true x.number n b.1 }))
-    (λ no. let r = writer_is es n e (let q : writer es n ≡ Some e = sym (rw no refl) ∙ is in q) in record { among = contains_tail x e es r.among; wrote = r.wrote; number = r.number })
+    subst (λ (z : Entry). Writes (x ∷ es) n z) same (record { among = first_among x es; wrote = b.0; number = eqb-true x.number n b.1 }))
+    (λ no. let r = writer_is es n e (let q : writer es n ≡ Some e = sym (rw no refl) ∙ is in q) in record { among = other_among e x es r.among; wrote = r.wrote; number = r.number })
     (cases_Bool (is_writer n x))
 
 writer_yes : (n : ℕ) (e : Entry) → e.wrote ≡ true → e.number ≡ n → is_writer n e ≡ true
@@ -66,7 +60,7 @@ has_number (x ∷ es) n e w = ⊎_elim
     (λ here. let wrote : x.wrote ≡ true = ap (λ (z : Entry). z.wrote) here ∙ w.wrote in let number : x.number ≡ n = ap (λ (z : Entry). z.number) here ∙ w.number in rw (wrote, eq-eqb x.number n number) refl)
     (λ there. let rest = has_number es n e (record { among = there; wrote = w.wrote; number = w.number }) in
     ⊎_elim (λ y. rw y (subst (λ (b : Bool). ((x.number == n) || b) ≡ true) (sym rest) (or_true (x.number == n)))) (λ no. rw no rest) (cases_Bool x.wrote))
-    (head_or_tail x e es w.among)
+    (first_or_other e x es w.among)
   where
     or_true : (b : Bool) → (b || true) ≡ true
     or_true true = refl
@@ -90,7 +84,16 @@ writer_only (x ∷ es) n e d w = ⊎_elim
     (λ y. let b = and_both x.wrote (x.number == n) y in let first : has (numbers_written es) x.number ≡ false = (rw b.0 at d).0 in let second = has_number es n e rest in
     absurd (both_ways (has (numbers_written es) n) (subst (λ (m : ℕ). has (numbers_written es) m ≡ false) (eqb-true x.number n b.1) first) second))
     (λ no. rw no (writer_only es n e (distinct_rest x es d) rest)) (cases_Bool (is_writer n x)))
-    (head_or_tail x e es w.among)
+    (first_or_other e x es w.among)
+
+-- so two that wrote have different numbers
+pub differ_all : (es : List Entry) → Distinct (numbers_written es) → AllPairs Differ (map done_of es)
+differ_all [] d = λ i j e before within. absurd (omega (arith, within))
+differ_all (x ∷ es) d =
+    AllPairs-cons Differ (done_of x) (map done_of es)
+    (All-map (Differ (done_of x)) done_of es (All-weaker (Contains es) (λ e. Differ (done_of x) (done_of e))
+    (λ e c w w' same. both_ways (has (numbers_written es) x.number) (rw w at d).0 (has_number es x.number e (record { among = c; wrote = w'; number = sym same }))) es (All-contains_itself es)))
+    (differ_all es (distinct_rest x es d))
 
 pub none_or_writer : (o : Option Entry) → (o ≡ None) ⊎ ((e : Entry) × (o ≡ Some e))
 none_or_writer None = inl refl
@@ -100,11 +103,6 @@ none_or_writer (Some e) = inr (e, refl)
 unwrapped : (o : Option ℕ) (d : ℕ) → unwrap_or o d ≡ or_else o d
 unwrapped None d = refl
 unwrapped (Some x) d = refl
-
-past_end : (l : List ℕ) (i : ℕ) → length l ≤ i → get_or l i 0 ≡ 0
-past_end [] i le = refl
-past_end (x ∷ l) zero le = absurd (omega arith)
-past_end (x ∷ l) (suc i) le = past_end l i (omega arith)
 
 -- all that was written lies inside
 abbrev pub IsInside : ℕ → List Entry → Type 0
@@ -132,5 +130,5 @@ module _ (opening : List ℕ) (es : List Entry) (inside : IsInside (length openi
       ∙ (unwrapped (written (writes_of es (suc n)) i) (slice_index (array_at opening es n) i) ∙ ap (λ (x : ℕ). or_else (written (writes_of es (suc n)) i) x) rest))
       (λ ge.
       let none : written (writes_of es (suc n)) i ≡ None = written_absent (writes_of es (suc n)) i (λ k d within. let a = inside (suc n) k d within in λ same. omega arith) in
-      past_end (array_at opening es (suc n)) i (omega arith) ∙ (sym (past_end (array_at opening es n) i (omega arith)) ∙ (rest ∙ rw none refl)))
+      get_or_past (array_at opening es (suc n)) i 0 (omega arith) ∙ (sym (get_or_past (array_at opening es n) i 0 (omega arith)) ∙ (rest ∙ rw none refl)))
       (cases_lt i (length opening))

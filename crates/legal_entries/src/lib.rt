@@ -4,4 +4,4 @@
 
 mod laws;
 
-pub use laws::law_of_entries;
+pub use laws::law_of_served_entries;

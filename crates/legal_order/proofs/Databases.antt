@@ -12,6 +12,7 @@ use Rattle.tatp_model.specs.Database.{Database}
 use Rattle.tatp_model.specs.Transaction.{after_request}
 use Rattle.tatp_model.specs.OneThread.{Precedes, after_requests, after_number}
 use Rattle.tatp_model.proofs.Run.{after_requests-append}
+use Rattle.run_order.proofs.Elements.{first_among, other_among, first_or_other}
 use Rattle.run_order.proofs.Pairs.{pairs_head, pairs_tail, one_or_other}
 use Rattle.legal_order.specs.Numbers.{WroteAt, AreDatabases, HaveSameWriters, LawOfWriters, Differ}
 
@@ -47,16 +48,6 @@ pub record NoWriter (n : ℕ) (order : List Done) : Type 0 where
   pub none : (d : Done) → Contains order d → WroteAt n d → ⊥
   pub same : filter (counted n) order ≡ filter (counted (n - 1)) order
 
-contains_head : {X : Type 0} (x : X) (xs : List X) → Contains (x ∷ xs) x
-contains_head x xs = (0, omega arith, refl)
-
-contains_tail : {X : Type 0} (x y : X) (xs : List X) → Contains xs y → Contains (x ∷ xs) y
-contains_tail x y xs c = (suc c.0, omega (arith, c.1), c.2)
-
-head_or_tail : {X : Type 0} (x y : X) (xs : List X) → Contains (x ∷ xs) y → (x ≡ y) ⊎ Contains xs y
-head_or_tail x y xs (zero, within, is) = inl is
-head_or_tail x y xs (suc k, within, is) = inr (k, omega (arith, within), is)
-
 -- of a request at the front: whether it counts up to n, and up to n - 1
 module _ (n : ℕ) (pos : 0 < n) (d : Done) (order : List Done) (sorted : All (Precedes d) order) (differ : All (Differ d) order) where
   later_over : n ≤ d.number → All (λ e. counted (n - 1) e ≡ false) order
@@ -75,7 +66,7 @@ module _ (n : ℕ) (pos : 0 < n) (d : Done) (order : List Done) (sorted : All (P
       let is = at.number in
       record {
         writer = d;
-        among = contains_head d order;
+        among = first_among d order;
         at = at;
         more = rw (counted_yes n d at.wrote (omega arith), counted_over (n - 1) d (omega arith), filter_none (counted n) order (later_none at), filter_none (counted (n - 1)) order (later_over (omega arith))) refl;
       }
@@ -105,12 +96,12 @@ one_or_none n pos (d ∷ order) sorted differ =
     ⊎_elim
     (λ one. inl (record {
       writer = one.writer;
-      among = contains_tail d one.writer order one.among;
+      among = other_among one.writer d order one.among;
       at = one.at;
       more = rw same (with_last (counted (n - 1) d) d one.writer (filter (counted n) order) (filter (counted (n - 1)) order) one.more);
     }))
     (λ no. inr (record {
-      none = λ e c at. ⊎_elim (λ here. isnt (subst (λ (x : Done). WroteAt n x) (sym here) at)) (λ there. no.none e there at) (head_or_tail d e order c);
+      none = λ e c at. ⊎_elim (λ here. isnt (subst (λ (x : Done). WroteAt n x) (sym here) at)) (λ there. no.none e there at) (first_or_other e d order c);
       same = rw same (with_front (counted (n - 1) d) d (filter (counted n) order) (filter (counted (n - 1)) order) no.same);
     }))
     rest in

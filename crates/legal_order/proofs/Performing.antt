@@ -10,6 +10,7 @@ use Rattle.tatp_model.specs.Transaction.{reply_to, after_request}
 use Rattle.tatp_model.specs.OneThread.{is_changed, RepliesAlong, after_requests, after_number}
 use Rattle.tatp_model.proofs.Run.{after_request-unchanged}
 use Rattle.run_order.specs.Runs.{IsNumberedFrom}
+use Rattle.run_order.proofs.Law.{numbers_rise}
 use Rattle.run_order.proofs.Performed.{next_number}
 use Rattle.legal_order.specs.Numbers.{WroteAt, AreDatabases, answered_at, IsAnswered}
 use Rattle.legal_order.specs.Rests.{EndBy, PerformsBehind, LawOfPerforming}
@@ -94,19 +95,10 @@ module _ (first limit : ℕ) (db : Database) (done : List Done) (databases : ℕ
       let at : answered_at d ≡ last = ⊎_elim (λ w. let k = its.1 w in rw w (omega arith)) (λ h. rw h (its.2 h)) (cases_Bool d.wrote) in
       record { reply = reply ∙ ap (λ (b : Database). reply_to limit b d.request) (sym (ap further at ∙ same_upto last (omega arith))); wrote = wrote }
 
--- later numbers are no less
-pub numbers_from : (last : ℕ) (performed : List Done) → IsNumberedFrom last performed → All (λ e. (last ≤ e.number) × (e.wrote ≡ true → last < e.number)) performed
-numbers_from last [] numbered = All-nil (λ e. (last ≤ e.number) × (e.wrote ≡ true → last < e.number))
-numbers_from last (d ∷ performed) numbered =
-    let next = next_number last d numbered.0 in let least = next.0 in
-    All-cons (λ e. (last ≤ e.number) × (e.wrote ≡ true → last < e.number)) d performed (least, λ w. let is = next.1 w in omega arith)
-    (All-weaker (λ e. (d.number ≤ e.number) × (e.wrote ≡ true → d.number < e.number)) (λ e. (last ≤ e.number) × (e.wrote ≡ true → last < e.number))
-    (λ e h. (let a = h.0 in omega arith, λ w. let o = h.1 w in omega arith)) performed (numbers_from d.number performed numbered.1))
-
 none_counted : (last : ℕ) (performed : List Done) → IsNumberedFrom last performed → All (λ e. counted last e ≡ false) performed
 none_counted last performed numbered =
     All-weaker (λ e. (last ≤ e.number) × (e.wrote ≡ true → last < e.number)) (λ e. counted last e ≡ false)
-    (λ e h. ⊎_elim (λ w. counted_over last e (h.1 w)) (λ u. counted_read last e u) (cases_Bool e.wrote)) performed (numbers_from last performed numbered)
+    (λ e h. ⊎_elim (λ w. counted_over last e (h.1 w)) (λ u. counted_read last e u) (cases_Bool e.wrote)) performed (numbers_rise last performed numbered)
 
 -- behind the last number the database stays
 idle_after : (first limit : ℕ) (db : Database) (done : List Done) (databases : ℕ → Database) (last : ℕ) → EndBy first limit last db done databases → (k : ℕ) → databases (last + k) ≡ databases last

@@ -1,24 +1,24 @@
 -- Requests that threads answered, and the rests of their files performed behind them, are together answered at numbers.
-use Rattle.std.proofs.Common.{◌≡◌, ℕ, zero, suc, ◌+◌, ◌<◌, ◌≤◌, true, false, List, [], ◌∷◌, ◌++◌, length, map, refl, ap, ap₂, sym, ◌∙◌, subst, arith, inl, inr, ◌⊎◌, ⊎_elim, append_assoc}
+use Rattle.std.proofs.Common.{◌≡◌, ℕ, suc, ◌+◌, ◌<◌, ◌≤◌, true, false, List, [], ◌∷◌, ◌++◌, length, map, refl, ap, ap₂, sym, ◌∙◌, subst, arith, inl, inr, ◌⊎◌, ⊎_elim, append_assoc}
 use Rattle.std.specs.Prelude.{IsTrue, IsPermutation}
 use Rattle.std.specs.List.{All, AllPairs, AllZip, Contains, enumerate_from}
 use Rattle.std.proofs.lemmas.List.{map-append}
 use Rattle.std.proofs.lemmas.List.Elements.{All-nil, All-cons, All-append, All-weaker, All-contains, All-contains_itself, Contains-append_left, Contains-append_right, Contains-append_cases}
-use Rattle.std.proofs.lemmas.List.Kept.{AllPairs-cons}
 use Rattle.std.proofs.lemmas.List.Sorted.{IsPermutation-refl, IsPermutation-sym, IsPermutation-trans, IsPermutation-append, IsPermutation-append_comm, Contains-permutation}
 use Rattle.tatp_model.specs.declared.done.Done.{Done}
 use Rattle.tatp_model.specs.declared.request.Request.{Request}
 use Rattle.tatp_model.specs.declared.reply.Reply.TheVariants.{Durable}
 use Rattle.tatp_model.specs.Database.{Database}
 use Rattle.tatp_model.specs.Transaction.{after_request}
-use Rattle.tatp_model.specs.OneThread.{is_sync, is_changed, PrecedesInFiles, RepliesAlong, IndexedRequest, indexed_request_of, indexed_requests_from, IsPrefixOf, HoldsPrefixes}
-use Rattle.run_order.specs.Runs.{IsNumberedFrom, PrecedesInRounds, Performs, Collects, SyncsFollow}
-use Rattle.run_order.proofs.Pairs.{pairs_head, pairs_tail, pairs_among, one_or_other}
-use Rattle.run_order.proofs.Along.{sync_reply}
+use Rattle.tatp_model.specs.OneThread.{is_sync, PrecedesInFiles, IndexedRequest, indexed_request_of, indexed_requests_from, IsPrefixOf, HoldsPrefixes}
+use Rattle.run_order.specs.Runs.{Performs, Collects, SyncsFollow}
+use Rattle.run_order.proofs.Pairs.{pairs_among, one_or_other}
+use Rattle.run_order.proofs.Law.{Earlier, numbers_rise, earlier_pairs, syncs_durable}
 use Rattle.run_order.proofs.FileOrder.{indexed, in_files_from_holding, holds_from_permutation}
 use Rattle.legal_order.specs.Numbers.{AreDatabases, IsAnswered, Differ, FollowsInFile, IsNumbered, AreNumbered, AreAnswered}
 use Rattle.legal_order.specs.Rests.{PerformsBehind, firsts_of, rests_of, files_of, LengthsAre, shifted, AreAnsweredUpTo, AreAnsweredOn, PerformsRests, LawOfRests, LawOfSyncs}
-use Rattle.legal_order.proofs.Performing.{performs_behind, numbers_from, answer_stays}
+use Rattle.legal_order.proofs.Members.{contains_map, map_contains}
+use Rattle.legal_order.proofs.Performing.{performs_behind, answer_stays}
 
 -- ---- requests at their indices
 abbrev moved : (ℕ → ℕ) → IndexedRequest → IndexedRequest
@@ -94,38 +94,6 @@ map_requests : (counts : ℕ → ℕ) (done : List Done) → map indexed_request
 map_requests counts [] = refl
 map_requests counts (d ∷ done) = ap (λ (l : List IndexedRequest). indexed_request_of (shifted counts d) ∷ l) (map_requests counts done)
 
-shifted_back : (counts : ℕ → ℕ) (done : List Done) (d : Done) → Contains (map (shifted counts) done) d → (e : Done) × Contains done e × (shifted counts e ≡ d)
-shifted_back counts [] d c = absurd (omega (arith, c.1))
-shifted_back counts (x ∷ done) d (zero, within, is) = (x, (0, omega arith, refl), is)
-shifted_back counts (x ∷ done) d (suc k, within, is) = let r = shifted_back counts done d (k, omega (arith, within), is) in (r.0, (suc r.1.0, (let b = r.1.1 in omega arith), r.1.2), r.2)
-
-shifted_in : (counts : ℕ → ℕ) (done : List Done) (e : Done) → Contains done e → Contains (map (shifted counts) done) (shifted counts e)
-shifted_in counts [] e c = absurd (omega (arith, c.1))
-shifted_in counts (x ∷ done) e (zero, within, is) = (0, omega arith, ap (shifted counts) is)
-shifted_in counts (x ∷ done) e (suc k, within, is) = let r = shifted_in counts done e (k, omega (arith, within), is) in (suc r.0, (let b = r.1 in omega arith), r.2)
-
--- ---- of what one thread performed behind the last number
--- d was performed before e
-record Earlier (d e : Done) : Type 0 where
-  upto : d.number ≤ e.number
-  under : e.wrote ≡ true → d.number < e.number
-  rounds : PrecedesInRounds d e
-
-earlier_pairs : (last : ℕ) (performed : List Done) → IsNumberedFrom last performed → AllPairs PrecedesInRounds performed → AllPairs Earlier performed
-earlier_pairs last [] numbered rounds = λ i j d before within. absurd (omega (arith, within))
-earlier_pairs last (d ∷ performed) numbered rounds =
-    let rise = numbers_from d.number performed numbered.1 in
-    let later = pairs_head PrecedesInRounds d performed rounds in
-    AllPairs-cons Earlier d performed (λ k e within. record { upto = (rise k e within).0; under = (rise k e within).1; rounds = later k e within })
-    (earlier_pairs d.number performed numbered.1 (pairs_tail PrecedesInRounds d performed rounds))
-
-syncs_durable : (limit : ℕ) (db : Database) (performed : List Done) → RepliesAlong limit db performed → All (λ d. is_sync d.request ≡ true → (d.reply ≡ Durable) × (d.wrote ≡ false)) performed
-syncs_durable limit db [] along = All-nil (λ d. is_sync d.request ≡ true → (d.reply ≡ Durable) × (d.wrote ≡ false))
-syncs_durable limit db (d ∷ performed) along =
-    All-cons (λ e. is_sync e.request ≡ true → (e.reply ≡ Durable) × (e.wrote ≡ false)) d performed
-    (λ sync. let durable : d.reply ≡ Durable = along.0 ∙ sync_reply limit db d.request sync in (durable, along.1 ∙ ap is_changed durable))
-    (syncs_durable limit (after_request limit db d.request) performed along.2)
-
 in_files_once : (d e : Done) → PrecedesInFiles d e → PrecedesInFiles e d → ⊥
 in_files_once d e before after =
     ⊎_elim (λ p. ⊎_elim (λ q. absurd (omega (arith, p, q))) (λ q. absurd (omega (arith, p, q.0))) after) (λ p. ⊎_elim (λ q. absurd (omega (arith, p.0, q))) (λ q. absurd (omega (arith, p.1, q.1))) after) before
@@ -159,14 +127,14 @@ module _ (first limit last : ℕ) (db : Database) (counts : ℕ → ℕ) (parts 
   which : (d : Done) → Contains done d → Contains threads d ⊎ ((e : Done) × Contains performed e × (shifted counts e ≡ d))
   which d at =
       ⊎_elim (λ here. inl here)
-      (λ there. let r = shifted_back counts collected d there in inr (r.0, Contains-permutation collected performed r.0 (IsPermutation-sym performed collected c.same) r.1, r.2))
+      (λ there. let r = map_contains (shifted counts) collected d there in inr (r.0, Contains-permutation collected performed r.0 (IsPermutation-sym performed collected c.same) r.1, r.2))
       (Contains-append_cases threads (map (shifted counts) collected) d (Contains-permutation done (threads ++ map (shifted counts) collected) d (IsPermutation-sym (threads ++ map (shifted counts) collected) done same) at))
 
   of_threads : (d : Done) → Contains threads d → Contains done d
   of_threads d at = Contains-permutation (threads ++ map (shifted counts) collected) done d same (Contains-append_left threads (map (shifted counts) collected) d at)
 
   of_performed : (e : Done) → Contains performed e → Contains done (shifted counts e)
-  of_performed e at = Contains-permutation (threads ++ map (shifted counts) collected) done (shifted counts e) same (Contains-append_right threads (map (shifted counts) collected) (shifted counts e) (shifted_in counts collected e (Contains-permutation performed collected e c.same at)))
+  of_performed e at = Contains-permutation (threads ++ map (shifted counts) collected) done (shifted counts e) same (Contains-append_right threads (map (shifted counts) collected) (shifted counts e) (contains_map (shifted counts) collected e (Contains-permutation performed collected e c.same at)))
 
   -- ---- the requests
   held : HoldsPrefixes (files_of parts) done
@@ -178,14 +146,14 @@ module _ (first limit last : ℕ) (db : Database) (counts : ℕ → ℕ) (parts 
 
   -- ---- each request alone
   later : (e : Done) → Contains performed e → (last ≤ e.number) × (e.wrote ≡ true → last < e.number)
-  later e at = All-contains (λ x. (last ≤ x.number) × (x.wrote ≡ true → last < x.number)) performed e (numbers_from last performed p.numbered) at
+  later e at = All-contains (λ x. (last ≤ x.number) × (x.wrote ≡ true → last < x.number)) performed e (numbers_rise last performed p.numbered) at
 
   early : (d : Done) → Contains threads d → d.number ≤ last
   early d at = All-contains (λ x. x.number ≤ last) threads d t.ends.upto at
 
   numbered_one : (d : Done) → Contains done d → IsNumbered first d
   numbered_one d at = ⊎_elim
-      (λ here. All-contains (IsNumbered first) threads d t.each here)
+      (λ here. All-contains (IsNumbered first) threads d t.numbered.each here)
       (λ r. subst (λ (x : Done). IsNumbered first x) r.2 (
       let l = later r.0 r.1 in let f = t.ends.from in
       record {
@@ -204,12 +172,7 @@ module _ (first limit last : ℕ) (db : Database) (counts : ℕ → ℕ) (parts 
   index_under : (d : Done) → Contains threads d → d.index < counts d.file
   index_under d at =
       let all : All (λ r. r.index < counts r.file) (map indexed_request_of threads) = rw t.all (firsts_under counts 0 (firsts_of parts) lengths) in
-      All-contains (λ r. r.index < counts r.file) (map indexed_request_of threads) (indexed_request_of d) all (mapped threads d at)
-    where
-      mapped : (l : List Done) (x : Done) → Contains l x → Contains (map indexed_request_of l) (indexed_request_of x)
-      mapped [] x at = absurd (omega (arith, at.1))
-      mapped (y ∷ l) x (zero, within, is) = (0, omega arith, ap indexed_request_of is)
-      mapped (y ∷ l) x (suc k, within, is) = let r = mapped l x (k, omega (arith, within), is) in (suc r.0, (let b = r.1 in omega arith), r.2)
+      All-contains (λ r. r.index < counts r.file) (map indexed_request_of threads) (indexed_request_of d) all (contains_map indexed_request_of threads d at)
 
   -- two of them, in the order of files
   pair : (d e : Done) → Contains done d → Contains done e → PrecedesInFiles d e → Differ d e × FollowsInFile d e
@@ -222,7 +185,7 @@ module _ (first limit last : ℕ) (db : Database) (counts : ℕ → ℕ) (parts 
       (λ r. (r.1.0, r.1.1))
       (λ r. absurd (in_files_once d e before r.0)) other)
       (one_or_other (λ u v. PrecedesInFiles u v × (Differ u v × FollowsInFile u v)) threads d e
-      (λ i j f low within. (in_threads i j f low within, (t.differ i j f low within, t.follow i j f low within))) here here'))
+      (λ i j f low within. (in_threads i j f low within, (t.numbered.differ i j f low within, t.numbered.follow i j f low within))) here here'))
       (λ r. let u = early d here in let l = later r.0 r.1 in
       subst (λ (x : Done). Differ d x × FollowsInFile d x) r.2
       ((λ w w' same. let o = l.1 w' in omega arith), (λ f n n'. record { upto = (let o = l.0 in omega arith); under = λ w. let o = l.1 w in omega arith })))
@@ -245,11 +208,11 @@ module _ (first limit last : ℕ) (db : Database) (counts : ℕ → ℕ) (parts 
           ⊎_elim
           (λ one. absurd (in_files_once (shifted counts x) (shifted counts x) (subst (λ (u : Done). PrecedesInFiles (shifted counts x) (shifted counts u)) (sym one) before) (subst (λ (u : Done). PrecedesInFiles (shifted counts x) (shifted counts u)) (sym one) before)))
           (λ other. ⊎_elim
-          (λ r. ((λ w w' same. let o = r.under w' in omega arith), (λ f n n'. record { upto = r.upto; under = r.under })))
+          (λ r. ((λ w w' same. let o = r.1 w' in omega arith), (λ f n n'. record { upto = r.0; under = r.1 })))
           (λ r. (
-            (λ w w' same. let o = r.under w in omega arith),
+            (λ w w' same. let o = r.1 w in omega arith),
             (λ f n n'. let sf : counts x.file ≡ counts y.file = ap counts f in
-                ⊎_elim (λ less. absurd (omega arith)) (λ index. let i = index.1 in ⊎_elim (λ less. absurd (omega arith)) (λ less. let j = less.1 in absurd (omega arith)) r.rounds) before),
+                ⊎_elim (λ less. absurd (omega arith)) (λ index. let i = index.1 in ⊎_elim (λ less. absurd (omega arith)) (λ less. let j = less.1 in absurd (omega arith)) r.2) before),
           ))
           other)
           (one_or_other Earlier performed x y earlier cx cy)
@@ -290,11 +253,11 @@ module _ (first limit last : ℕ) (db : Database) (counts : ℕ → ℕ) (parts 
           let n = ap (λ (u : Done). u.number) is in let n' = ap (λ (u : Done). u.number) is' in
           ⊎_elim
           (λ one. let itself : PrecedesInFiles d d = subst (λ (u : Done). PrecedesInFiles d u) (sym is' ∙ (ap (shifted counts) (sym one) ∙ is)) before in absurd (in_files_once d d itself itself))
-          (λ other. ⊎_elim (λ r. let u = r.upto in omega arith)
+          (λ other. ⊎_elim (λ r. let u = r.0 in omega arith)
           (λ r. let file = ap (λ (u : Done). u.file) is in let file' = ap (λ (u : Done). u.file) is' in
           let index = ap (λ (u : Done). u.index) is in let index' = ap (λ (u : Done). u.index) is' in
           let sf : counts x.file ≡ counts y.file = ap counts (file ∙ (f ∙ sym file')) in
-          ⊎_elim (λ less. absurd (omega arith)) (λ less. let i = less.1 in ⊎_elim (λ l. absurd (omega arith)) (λ l. let j = l.1 in let k = l.0 in absurd (omega arith)) r.rounds) before) other)
+          ⊎_elim (λ less. absurd (omega arith)) (λ less. let i = less.1 in ⊎_elim (λ l. absurd (omega arith)) (λ l. let j = l.1 in let k = l.0 in absurd (omega arith)) r.2) before) other)
           (one_or_other Earlier performed x y earlier cx cy)
 
   syncs : SyncsFollow threads → SyncsFollow done

@@ -24,7 +24,7 @@ pub record NumbersOfOneThread (first : ℕ) (files : List (List Request)) (done 
   pub printed : IsPrintedOrder done order
   pub files_in_order : AllPairs (λ d e. d.file ≡ e.file → d.index < e.index) order
 
--- all that it says, in two parts: the replies are one thread's along the printed order
+-- all that `RepliesOfOneThread` says, in two parts: these numbers, and replies that are one thread's along the printed order
 abbrev pub RepliesInOrder : (first limit : ℕ) → Database → (files : List (List Request)) → (done : List Done) → Type 0
 RepliesInOrder first limit db files done = (numbers : NumbersOfOneThread first files done) × RepliesAlong limit db numbers.order
 
@@ -34,7 +34,7 @@ pub record PrintsAt (first limit : ℕ) (db : Database) (done : List Done) (data
   pub printed : IsPrintedOrder done order
   pub along : (n : ℕ) → first ≤ n → after_number limit db order n ≡ databases n
 
--- requests that have numbers have a printed order that keeps each file's, whatever the replies
+-- requests that have numbers have a printed order that keeps each file's, whatever was replied
 abbrev pub LawOfPrintedOrder : Type 0
 LawOfPrintedOrder = (first : ℕ) (files : List (List Request)) (done : List Done) → AreNumbered first files done → NumbersOfOneThread first files done
 

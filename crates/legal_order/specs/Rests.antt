@@ -5,7 +5,7 @@ use Rattle.tatp_model.specs.declared.done.Done.{Done}
 use Rattle.tatp_model.specs.Database.{Database}
 use Rattle.tatp_model.specs.OneThread.{PrecedesInFiles, AllAreDone, RepliesAlong, after_number}
 use Rattle.run_order.specs.Runs.{IsNumberedFrom, Performs, Collects, SyncsFollow}
-use Rattle.legal_order.specs.Numbers.{AreDatabases, IsAnswered, IsNumbered, Differ, FilesFollow, AreNumbered, AreAnswered}
+use Rattle.legal_order.specs.Numbers.{AreDatabases, IsAnswered, AreNumbered, AreAnswered}
 
 -- ---- one thread goes on
 -- these are the databases at the numbers, none of which is over the last one
@@ -57,9 +57,7 @@ shifted counts d = record d { index = counts d.file + d.index }
 -- All requests of these files were answered, at numbers up to the last one.
 pub record AreAnsweredUpTo (first limit last : ℕ) (db : Database) (files : List (List Request)) (done : List Done) (databases : ℕ → Database) : Type 0 where
   pub all : AllAreDone files done
-  pub each : All (IsNumbered first) done
-  pub differ : AllPairs Differ done
-  pub follow : FilesFollow done
+  pub numbered : AreNumbered first files done
   pub ends : EndBy first limit last db done databases
   pub answers : AreAnswered limit databases done
 

@@ -8,7 +8,7 @@ ghost use Rattle.legal_order.specs.Rests.{LawOfPerforming, LawOfRests, LawOfSync
 /// each file's: that is all of what is said of one thread but its replies. Where each was answered
 /// on the database at its number, the replies are one thread's too. These databases are those
 /// along the printed order, and rest on the requests that wrote alone.
-pub fn law_of_numbers()
+pub fn law_of_numbered_requests()
     ensures printed { LawOfPrintedOrder }
     ensures parts { LawOfParts }
     ensures replies { LawOfReplies }

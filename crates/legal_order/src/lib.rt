@@ -4,4 +4,4 @@
 
 mod laws;
 
-pub use laws::{law_of_numbers, law_of_rests};
+pub use laws::{law_of_numbered_requests, law_of_rests};

@@ -8,17 +8,18 @@ use Rattle.std.proofs.lemmas.List.Kept.{AllPairs-filter}
 use Rattle.std.proofs.lemmas.List.Sorted.{IsPermutation-refl, IsPermutation-sym, IsPermutation-trans, IsPermutation-cons, IsPermutation-remove, Contains-permutation}
 use Rattle.run_order.proofs.Pairs.{pairs_head, pairs_tail, pairs_permuted}
 
+-- the elements of a list with one more in front
 module _ {X : Type 0} where
   contains_nothing : (x : X) → Contains [] x → ⊥
   contains_nothing x c = absurd (omega (arith, c.1))
 
-  first_among : (x : X) (xs : List X) → Contains (x ∷ xs) x
+  pub first_among : (x : X) (xs : List X) → Contains (x ∷ xs) x
   first_among x xs = (0, omega arith, refl)
 
-  other_among : (x y : X) (xs : List X) → Contains xs x → Contains (y ∷ xs) x
+  pub other_among : (x y : X) (xs : List X) → Contains xs x → Contains (y ∷ xs) x
   other_among x y xs c = (suc c.0, omega (arith, c.1), c.2)
 
-  first_or_other : (x y : X) (xs : List X) → Contains (y ∷ xs) x → (y ≡ x) ⊎ Contains xs x
+  pub first_or_other : (x y : X) (xs : List X) → Contains (y ∷ xs) x → (y ≡ x) ⊎ Contains xs x
   first_or_other x y xs (zero, within, is) = inl is
   first_or_other x y xs (suc k, within, is) = inr (k, omega (arith, within), is)
 

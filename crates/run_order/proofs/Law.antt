@@ -23,11 +23,11 @@ use Rattle.run_order.proofs.Along.{sync_reply}
 use Rattle.run_order.proofs.Printing.{is_printed, wrote, Printed, printed_run}
 
 -- d was performed before e: its number isn't greater, and less where e wrote
-abbrev Earlier : Done → Done → Type 0
+abbrev pub Earlier : Done → Done → Type 0
 Earlier d e = (d.number ≤ e.number) × (e.wrote ≡ true → d.number < e.number) × PrecedesInRounds d e
 
 -- the later numbers are no less, and greater where the request wrote
-numbers_rise : (last : ℕ) (performed : List Done) → IsNumberedFrom last performed → All (λ e. (last ≤ e.number) × (e.wrote ≡ true → last < e.number)) performed
+pub numbers_rise : (last : ℕ) (performed : List Done) → IsNumberedFrom last performed → All (λ e. (last ≤ e.number) × (e.wrote ≡ true → last < e.number)) performed
 numbers_rise last [] numbered = All-nil (λ e. (last ≤ e.number) × (e.wrote ≡ true → last < e.number))
 numbers_rise last (d ∷ performed) numbered =
     let next = next_number last d numbered.0 in
@@ -36,7 +36,7 @@ numbers_rise last (d ∷ performed) numbered =
     (All-weaker (λ e. (d.number ≤ e.number) × (e.wrote ≡ true → d.number < e.number)) (λ e. (last ≤ e.number) × (e.wrote ≡ true → last < e.number))
     (λ e h. (omega (arith, least, h.0), λ w. let over : d.number < e.number = h.1 w in omega (arith, least, over))) performed (numbers_rise d.number performed numbered.1))
 
-earlier_pairs : (last : ℕ) (performed : List Done) → IsNumberedFrom last performed → AllPairs PrecedesInRounds performed → AllPairs Earlier performed
+pub earlier_pairs : (last : ℕ) (performed : List Done) → IsNumberedFrom last performed → AllPairs PrecedesInRounds performed → AllPairs Earlier performed
 earlier_pairs last [] numbered rounds = λ i j d before within. absurd (omega (arith, within))
 earlier_pairs last (d ∷ performed) numbered rounds =
     let rise = numbers_rise d.number performed numbered.1 in
@@ -50,7 +50,7 @@ record IsAnswered (first : ℕ) (d : Done) : Type 0 where
   over : d.wrote ≡ true → first < d.number
   durable : is_sync d.request ≡ true → (d.reply ≡ Durable) × (d.wrote ≡ false)
 
-syncs_durable : (limit : ℕ) (db : Database) (performed : List Done) → RepliesAlong limit db performed → All (λ d. is_sync d.request ≡ true → (d.reply ≡ Durable) × (d.wrote ≡ false)) performed
+pub syncs_durable : (limit : ℕ) (db : Database) (performed : List Done) → RepliesAlong limit db performed → All (λ d. is_sync d.request ≡ true → (d.reply ≡ Durable) × (d.wrote ≡ false)) performed
 syncs_durable limit db [] along = All-nil (λ d. is_sync d.request ≡ true → (d.reply ≡ Durable) × (d.wrote ≡ false))
 syncs_durable limit db (d ∷ performed) along =
     All-cons (λ e. is_sync e.request ≡ true → (e.reply ≡ Durable) × (e.wrote ≡ false)) d performed

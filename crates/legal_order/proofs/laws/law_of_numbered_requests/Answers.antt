@@ -1,6 +1,6 @@
 use Rattle.legal_order.proofs.Databases.{law_writers}
 use Rattle.legal_order.proofs.Printing.{law_printed, law_parts, law_replies, law_databases}
-use Rattle.legal_order.proofs.laws.law_of_numbers.Goals as goal
+use Rattle.legal_order.proofs.laws.law_of_numbered_requests.Goals as goal
 
 pub returns-clause-printed : goal.returns-clause-printed
 returns-clause-printed c = law_printed
