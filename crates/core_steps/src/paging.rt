@@ -5,7 +5,7 @@ ghost use Rattle.core_events.specs.Setups.{page_of};
 ghost use Rattle.core_events.specs.Events.{entry, pin, load_touch, evict, fill, show, name, view_after};
 ghost use Rattle.core_events.specs.Conditions.{May};
 ghost use Rattle.core_view.specs.Named.{word_of, of_page};
-ghost use Rattle.core_steps.specs.Moves.{Becomes};
+ghost use Rattle.core_steps.specs.Moves.{Becomes, replaced};
 
 use core_view::deed::PageDeed;
 use core_view::setup::{Setup, frame_in};
@@ -27,21 +27,26 @@ pub(crate) fn page(
     ensures err { OnErr result (view.new ≡ view.old) }
 {
     match deed {
-        PageDeed::Entry { page } => see_entry(view, z, *page, found)?,
-        PageDeed::Pin { page } => pin(view, z, *page, found)?,
-        PageDeed::Unpin { page } => view.paging.pins.remove(*page),
-        PageDeed::Touch { page } => view.paging.touched.put_first(*page)?,
-        PageDeed::LoadTouch { page } => load_touch(view, z, *page, found)?,
-        PageDeed::Evict { page } => evict(view, z, *page, found)?,
+        PageDeed::Entry { page } => see_entry(view, z, *page, found),
+        PageDeed::Pin { page } => pin(view, z, *page, found),
+        PageDeed::Unpin { page } => {
+            view.paging.pins.remove(*page);
+            Ok(())
+        }
+        PageDeed::Touch { page } => {
+            view.paging.touched.put_first(*page)?;
+            Ok(())
+        }
+        PageDeed::LoadTouch { page } => load_touch(view, z, *page, found),
+        PageDeed::Evict { page } => evict(view, z, *page, found),
         PageDeed::Fill {
             page,
             frame,
             at,
             value,
-        } => fill(view, z, *page, *frame, *at, *value, found)?,
-        PageDeed::Show { page, frame } => show(view, z, *page, *frame, found)?,
+        } => fill(view, z, *page, *frame, *at, *value, found),
+        PageDeed::Show { page, frame } => show(view, z, *page, *frame, found),
     }
-    Ok(())
 }
 
 fn see_entry(view: &mut View, z: &Setup, page: u64, found: u64) -> Result<(), AllocError>
@@ -61,8 +66,7 @@ fn pin(view: &mut View, z: &Setup, page: u64, found: u64) -> Result<(), AllocErr
         view.paging.pins.put_first(page, frame_in(found))?;
         return Ok(());
     }
-    view.paging.entries.put_first(page, found)?;
-    view.notice(Word::Entry(page), found);
+    see_entry(view, z, page, found)?;
     Ok(())
 }
 
@@ -80,13 +84,21 @@ fn evict(view: &mut View, z: &Setup, page: u64, found: u64) -> Result<(), AllocE
     ensures err { OnErr result (view.new ≡ view.old) }
 {
     if view.would_evict(page, found) {
-        view.paging.entries.put_first(page, 0)?;
-        view.turn.touches.remove(page);
-        view.turn.filled.remove_page(page);
+        replace(view, page, 0)?;
         return Ok(());
     }
-    view.paging.entries.put_first(page, found)?;
-    view.notice(Word::Entry(page), found);
+    see_entry(view, z, page, found)?;
+    Ok(())
+}
+
+// This is the entry kept of the page now, and what was kept of the page in the turn is dropped.
+fn replace(view: &mut View, page: u64, entry: u64) -> Result<(), AllocError>
+    ensures ok { OnOk result (view.new ≡ replaced page entry view.old) }
+    ensures err { OnErr result (view.new ≡ view.old) }
+{
+    view.paging.entries.put_first(page, entry)?;
+    view.turn.touches.remove(page);
+    view.turn.filled.remove_page(page);
     Ok(())
 }
 
@@ -112,8 +124,6 @@ fn show(view: &mut View, z: &Setup, page: u64, frame: u64, found: u64) -> Result
     ensures ok { OnOk result (view.new ≡ view_after z.now (show page frame) view.old found) }
     ensures err { OnErr result (view.new ≡ view.old) }
 {
-    view.paging.entries.put_first(page, z.entry_of(frame))?;
-    view.turn.touches.remove(page);
-    view.turn.filled.remove_page(page);
+    replace(view, page, z.entry_of(frame))?;
     Ok(())
 }

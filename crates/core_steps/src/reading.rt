@@ -71,7 +71,7 @@ fn reach(view: &mut View, z: &Setup, goal: u64)
     }
 }
 
-fn look(view: &mut View, z: &Setup, lock: u64, found: u64)
+pub(crate) fn look(view: &mut View, z: &Setup, lock: u64, found: u64)
     ensures { view.new ≡ view_after z.now (look lock) view.old found }
 {
     view.tx.look = Some((lock, found));
