@@ -66,9 +66,9 @@ fn reach(view: &mut View, z: &Setup, goal: u64)
     if view.tx.reads.all_checked(z, &view.tx.checked) {
         view.tx.snapshot = goal;
         view.tx.extension = None;
-    } else {
-        view.tx.extension = Some(goal);
+        return;
     }
+    view.tx.extension = Some(goal);
 }
 
 pub(crate) fn look(view: &mut View, z: &Setup, lock: u64, found: u64)
