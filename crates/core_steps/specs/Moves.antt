@@ -1,9 +1,9 @@
 -- What a view becomes by an event, and by the parts of a check.
-use Rattle.std.specs.Prelude.{◌≡◌, ◌==◌, ℕ, [], ◌∷◌, ◌++◌, None, if◌then◌else◌}
+use Rattle.std.specs.Prelude.{◌≡◌, ◌==◌, ℕ, true, [], ◌∷◌, ◌++◌, None, if◌then◌else◌}
 use prog.Atomic.{either}
 use Rattle.core_events.specs.Setups.{Setup}
 use Rattle.core_events.specs.Views.{View}
-use Rattle.core_events.specs.Events.{Event, view_after, looked_word, own_word, is_good, all_checked, reaching, extending, validating}
+use Rattle.core_events.specs.Events.{Event, view_after, looked_word, own_word, is_good, all_checked, reaching, extending, validating, replacing}
 
 -- the view v becomes w by the event, which found the number n
 abbrev pub Becomes : Setup → Event → View → ℕ → View → Type 0
@@ -24,6 +24,10 @@ extended z goal lock n v = record v { tx = extending z (is_good v.part.thread v.
 -- after the draw the word n of the lock was found
 abbrev pub validated : ℕ → ℕ → View → View
 validated lock n v = record v { tx = validating (is_good v.part.thread v.tx.snapshot n) lock v.tx }
+
+-- the entry n of the page p is the one kept of it, and what was kept of the page in the turn is dropped
+abbrev pub replaced : ℕ → ℕ → View → View
+replaced p n v = record v { paging = record v.paging { entries = (p, n) ∷ v.paging.entries }; turn = replacing true p v.turn }
 
 -- what becomes of the word n of a lock that is taken: the thread's own word, where n is the looked-at one
 abbrev pub word_taken : View → ℕ → ℕ

@@ -36,6 +36,6 @@ pub fn advance(
         Deed::Read(deed) => read(view, alloc, z, deed, word, found),
         Deed::Write(deed) => write(view, alloc, z, deed, word, found),
         Deed::Turn(deed) => turn(view, z, deed, word, found),
-        Deed::Page(deed) => page(view, z, deed, found),
+        Deed::Page(deed) => page(view, z, deed, word, found),
     }
 }

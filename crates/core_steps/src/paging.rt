@@ -2,10 +2,10 @@
 
 ghost use Rattle.std.specs.Prelude.{◌≡◌, ◌<◌, OnOk, OnErr};
 ghost use Rattle.core_events.specs.Setups.{page_of};
-ghost use Rattle.core_events.specs.Events.{entry, pin, evict, fill, show, view_after};
+ghost use Rattle.core_events.specs.Events.{entry, pin, load_touch, evict, fill, show, name, view_after};
 ghost use Rattle.core_events.specs.Conditions.{May};
-ghost use Rattle.core_view.specs.Named.{of_page};
-ghost use Rattle.core_steps.specs.Moves.{Becomes};
+ghost use Rattle.core_view.specs.Named.{word_of, of_page};
+ghost use Rattle.core_steps.specs.Moves.{Becomes, replaced};
 
 use core_view::deed::PageDeed;
 use core_view::setup::{Setup, frame_in};
@@ -14,30 +14,39 @@ use core_view::word::Word;
 use std::alloc::AllocError;
 
 /// Makes an event of a page or of a frame, where it found this in its word.
-pub(crate) fn page(view: &mut View, z: &Setup, deed: &PageDeed, found: u64) -> Result<(), AllocError>
+pub(crate) fn page(
+    view: &mut View,
+    z: &Setup,
+    deed: &PageDeed,
+    word: Word,
+    found: u64,
+) -> Result<(), AllocError>
     requires may { May z.now (of_page deed.now) view.old }
+    requires name { word_of word ≡ name z.now (of_page deed.now) view.old }
     ensures ok { OnOk result (view.new ≡ view_after z.now (of_page deed.now) view.old found) }
     ensures err { OnErr result (view.new ≡ view.old) }
 {
     match deed {
-        PageDeed::Entry { page } => see_entry(view, z, *page, found)?,
-        PageDeed::Pin { page } => pin(view, z, *page, found)?,
-        PageDeed::Unpin { page } => view.paging.pins.remove(*page),
-        PageDeed::Touch { page } => view.paging.touched.put_first(*page)?,
-        PageDeed::LoadTouch { page } => {
-            view.turn.touches.put_first(*page, found)?;
-            view.notice(Word::Touch(*page), found);
+        PageDeed::Entry { page } => see_entry(view, z, *page, found),
+        PageDeed::Pin { page } => pin(view, z, *page, found),
+        PageDeed::Unpin { page } => {
+            view.paging.pins.remove(*page);
+            Ok(())
         }
-        PageDeed::Evict { page } => evict(view, z, *page, found)?,
+        PageDeed::Touch { page } => {
+            view.paging.touched.put_first(*page)?;
+            Ok(())
+        }
+        PageDeed::LoadTouch { page } => load_touch(view, z, *page, found),
+        PageDeed::Evict { page } => evict(view, z, *page, found),
         PageDeed::Fill {
             page,
             frame,
             at,
             value,
-        } => fill(view, z, *page, *frame, *at, *value, found)?,
-        PageDeed::Show { page, frame } => show(view, z, *page, *frame, found)?,
+        } => fill(view, z, *page, *frame, *at, *value, found),
+        PageDeed::Show { page, frame } => show(view, z, *page, *frame, found),
     }
-    Ok(())
 }
 
 fn see_entry(view: &mut View, z: &Setup, page: u64, found: u64) -> Result<(), AllocError>
@@ -57,7 +66,17 @@ fn pin(view: &mut View, z: &Setup, page: u64, found: u64) -> Result<(), AllocErr
         view.paging.pins.put_first(page, frame_in(found))?;
         return Ok(());
     }
-    see_entry(view, z, page, found)
+    see_entry(view, z, page, found)?;
+    Ok(())
+}
+
+fn load_touch(view: &mut View, z: &Setup, page: u64, found: u64) -> Result<(), AllocError>
+    ensures ok { OnOk result (view.new ≡ view_after z.now (load_touch page) view.old found) }
+    ensures err { OnErr result (view.new ≡ view.old) }
+{
+    view.turn.touches.put_first(page, found)?;
+    view.notice(Word::Touch(page), found);
+    Ok(())
 }
 
 fn evict(view: &mut View, z: &Setup, page: u64, found: u64) -> Result<(), AllocError>
@@ -65,12 +84,22 @@ fn evict(view: &mut View, z: &Setup, page: u64, found: u64) -> Result<(), AllocE
     ensures err { OnErr result (view.new ≡ view.old) }
 {
     if view.would_evict(page, found) {
-        view.paging.entries.put_first(page, 0)?;
-        view.turn.touches.remove(page);
-        view.turn.filled.remove_page(page);
+        replace(view, page, 0)?;
         return Ok(());
     }
-    see_entry(view, z, page, found)
+    see_entry(view, z, page, found)?;
+    Ok(())
+}
+
+// This is the entry kept of the page now, and what was kept of the page in the turn is dropped.
+fn replace(view: &mut View, page: u64, entry: u64) -> Result<(), AllocError>
+    ensures ok { OnOk result (view.new ≡ replaced page entry view.old) }
+    ensures err { OnErr result (view.new ≡ view.old) }
+{
+    view.paging.entries.put_first(page, entry)?;
+    view.turn.touches.remove(page);
+    view.turn.filled.remove_page(page);
+    Ok(())
 }
 
 // Filling another page into a frame drops what was filled there.
@@ -95,8 +124,6 @@ fn show(view: &mut View, z: &Setup, page: u64, frame: u64, found: u64) -> Result
     ensures ok { OnOk result (view.new ≡ view_after z.now (show page frame) view.old found) }
     ensures err { OnErr result (view.new ≡ view.old) }
 {
-    view.paging.entries.put_first(page, z.entry_of(frame))?;
-    view.turn.touches.remove(page);
-    view.turn.filled.remove_page(page);
+    replace(view, page, z.entry_of(frame))?;
     Ok(())
 }

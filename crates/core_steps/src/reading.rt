@@ -66,12 +66,12 @@ fn reach(view: &mut View, z: &Setup, goal: u64)
     if view.tx.reads.all_checked(z, &view.tx.checked) {
         view.tx.snapshot = goal;
         view.tx.extension = None;
-    } else {
-        view.tx.extension = Some(goal);
+        return;
     }
+    view.tx.extension = Some(goal);
 }
 
-fn look(view: &mut View, z: &Setup, lock: u64, found: u64)
+pub(crate) fn look(view: &mut View, z: &Setup, lock: u64, found: u64)
     ensures { view.new ≡ view_after z.now (look lock) view.old found }
 {
     view.tx.look = Some((lock, found));

@@ -8,6 +8,7 @@ ghost use Rattle.core_events.specs.Conditions.{May};
 ghost use Rattle.core_view.specs.Named.{word_of, of_write};
 ghost use Rattle.core_steps.specs.Moves.{Becomes};
 
+use crate::reading::look;
 use core_view::about::About;
 use core_view::deed::WriteDeed;
 use core_view::entry::Entry;
@@ -32,14 +33,22 @@ pub(crate) fn write(
     ensures err { OnErr result (view.new ≡ view.old) }
 {
     match deed {
-        WriteDeed::Take { lock } => take(view, z, *lock, found)?,
-        WriteDeed::Draw { about, writes } => draw(view, z, about, writes, found)?,
-        WriteDeed::Decide => decide(view, alloc, z, word, found)?,
-        WriteDeed::Store { at } => view.tx.hand.stored.put_first(*at)?,
-        WriteDeed::Release { lock } => view.tx.owned.remove(*lock),
-        WriteDeed::Restore { lock } => view.tx.owned.remove(*lock),
+        WriteDeed::Take { lock } => take(view, z, *lock, found),
+        WriteDeed::Draw { about, writes } => draw(view, z, about, writes, found),
+        WriteDeed::Decide => decide(view, alloc, z, word, found),
+        WriteDeed::Store { at } => {
+            view.tx.hand.stored.put_first(*at)?;
+            Ok(())
+        }
+        WriteDeed::Release { lock } => {
+            view.tx.owned.remove(*lock);
+            Ok(())
+        }
+        WriteDeed::Restore { lock } => {
+            view.tx.owned.remove(*lock);
+            Ok(())
+        }
     }
-    Ok(())
 }
 
 fn take(view: &mut View, z: &Setup, lock: u64, found: u64) -> Result<(), AllocError>
@@ -51,9 +60,7 @@ fn take(view: &mut View, z: &Setup, lock: u64, found: u64) -> Result<(), AllocEr
         view.tx.loaded = None;
         return Ok(());
     }
-    view.tx.look = Some((lock, found));
-    view.tx.loaded = None;
-    view.notice(Word::Lock(lock), found);
+    look(view, z, lock, found);
     Ok(())
 }
 
@@ -93,11 +100,12 @@ fn decide(
     ensures ok { OnOk result (view.new ≡ view_after z.now decide view.old found) }
     ensures err { OnErr result (view.new ≡ view.old) }
 {
+    let reads = view.tx.reads.copy(alloc)?;
     let entry = Entry {
         number: view.tx.hand.number,
         wrote: true,
         about: view.tx.hand.about.copy(),
-        reads: view.tx.reads.copy(alloc)?,
+        reads,
         writes: view.tx.hand.writes.copy(),
     };
     view.entries.push(entry)?;

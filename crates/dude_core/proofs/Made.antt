@@ -1,5 +1,7 @@
 -- What a step that was made, or not, leaves.
-use Rattle.std.proofs.Common.{◌≡◌, Result, Ok, Err, OnOk, OnErr, ◌∷◌, [], refl, sym, subst}
+use Rattle.std.proofs.Common.{◌≡◌, ◌≤◌, ℕ, List, Result, Ok, Err, OnOk, OnErr, ◌∷◌, [], refl, sym, subst}
+use Rattle.dude_base.specs.declared.run.Run.{Run}
+use Rattle.dude_base.specs.declared.sizes.Sizes.{Sizes}
 use Rattle.core_events.specs.Setups.{Setup, IsSetup}
 use Rattle.core_events.specs.Words.{State}
 use Rattle.core_events.specs.Partings.{Step, event, parting, joining, Leads, start}
@@ -8,6 +10,8 @@ use Rattle.core_events.specs.Persisted.{RecordsLead, DurablePersisted}
 use Rattle.core_events.proofs.Keeps.{steps_keep}
 use Rattle.core_events.proofs.Persists.{step_persists, start_persists}
 use Rattle.core_events.proofs.Start.{start_keeps}
+use Rattle.core_view.specs.RunSetups.{setup_of}
+use Rattle.dude_core.specs.MadeCores.{FitsImage}
 
 -- a step that the records allow too is one of the machine
 step_of_machine : (z : Setup) (s : Step) (c d : State) → RecordsLead z c s d → Leads z c s d
@@ -28,3 +32,7 @@ kept_at_start z c within is = subst (Kept z) (sym is) (start_keeps z within)
 
 pub persisted_at_start : (z : Setup) (c : State) → c ≡ start z → DurablePersisted z c
 persisted_at_start z c is = subst (DurablePersisted z) (sym is) (start_persists z)
+
+-- a run whose setup is one fits an image that has a ring for each thread
+pub fits_image : (words : List ℕ) (sizes : Sizes) (run : Run) (threads number : ℕ) → IsSetup (setup_of words sizes.pages run threads number) → threads ≤ sizes.rings → FitsImage sizes run threads
+fits_image words sizes run threads number is le = (record { low = is.threads.low; high = le }, is.run)

@@ -10,6 +10,12 @@ use Rattle.dude_core.proofs.steps.step.Goals as goal
 pub returns-in-Split-clause-off : goal.returns-in-Split-clause-off
 returns-in-Split-clause-off c = subst (λ (e : Event). IsErrOf c.split.result Off ↔ IsOffAt c.args.z.now c.args.state.now (step_of c.args.who e)) (sym c.in-Split.is) c.split.ensures.off
 
+pub returns-in-Split-clause-ok : goal.returns-in-Split-clause-ok
+returns-in-Split-clause-ok c = subst (λ (e : Event). OnOk c.split.result (RecordsLead c.args.z.now c.args.state.now (step_of c.args.who e) c.split.new.self)) (sym c.in-Split.is) c.split.ensures.ok
+
+pub returns-in-Join-clause-ok : goal.returns-in-Join-clause-ok
+returns-in-Join-clause-ok c = subst (λ (e : Event). OnOk c.join.result (RecordsLead c.args.z.now c.args.state.now (step_of c.args.who e) c.join.new.self)) (sym c.in-Join.is) c.join.ensures.ok
+
 pub returns-in-Join-clause-off : goal.returns-in-Join-clause-off
 returns-in-Join-clause-off c = subst (λ (e : Event). IsErrOf c.join.result Off ↔ IsOffAt c.args.z.now c.args.state.now (step_of c.args.who e)) (sym c.in-Join.is) c.join.ensures.off
 
