@@ -1,10 +1,10 @@
 -- The first element of a list that is as said.
-use Rattle.std.proofs.Common.{◌≡◌, ℕ, ◌+◌, ◌<◌, ◌≤◌, List, [], ◌∷◌, ◌++◌, length, get_or, take, drop, map, refl, sym, ◌∙◌, ap, subst, arith, add-one}
+use Rattle.std.proofs.Common.{◌≡◌, ℕ, ◌+◌, ◌<◌, ◌≤◌, List, [], ◌∷◌, ◌++◌, length, get_or, take, drop, map, refl, sym, ◌∙◌, ap, subst, arith, add-one, append_assoc}
 use Rattle.std.specs.Prelude.{All}
 use Rattle.std.specs.List.{AllZip}
 use Rattle.std.proofs.Math.Seq.{drop-cons}
 use Rattle.std.proofs.lemmas.List.{take-append-drop, length-append, length-take-le, map-append, length-map}
-use Rattle.std.proofs.lemmas.List.Elements.{All-nil, All-cons, All-head, All-tail}
+use Rattle.std.proofs.lemmas.List.Elements.{All-append, All-map, All-nil, All-cons, All-head, All-tail}
 use Rattle.command_edges.specs.Files.{IsFirst}
 
 split_at : {X : Type 0} (xs : List X) (i : ℕ) (d : X) → i < length xs → xs ≡ take i xs ++ get_or xs i d ∷ drop (i + 1) xs
@@ -43,6 +43,30 @@ IsFirst-map-at f P Q xs i d below earlier is = record {
   counted = (place_in_map f xs i d below).2;
   each_earlier = earlier;
   is_this = is;
+}
+
+-- such an element of a list is one of the mapped list
+pub IsFirst-mapped : {X Y : Type 0} (f : X → Y) (P Q : Y → Type 0) (xs : List X) (n : ℕ) → IsFirst (λ x. P (f x)) (λ x. Q (f x)) xs n → IsFirst P Q (map f xs) n
+IsFirst-mapped f P Q xs n first = record {
+  earlier = map f first.earlier;
+  this = f first.this;
+  later = map f first.later;
+  split = ap (map f) first.split ∙ map-append f first.earlier (first.this ∷ first.later);
+  counted = let long = length-map first.earlier f in let count = first.counted in omega (arith, long, count);
+  each_earlier = All-map P f first.earlier first.each_earlier;
+  is_this = first.is_this;
+}
+
+-- and it is one behind others that are as said of earlier ones
+pub IsFirst-behind : {X : Type 0} (P Q : X → Type 0) (before xs : List X) (n : ℕ) → All P before → IsFirst P Q xs n → IsFirst P Q (before ++ xs) (length before + n)
+IsFirst-behind {X = X} P Q before xs n all first = record {
+  earlier = before ++ first.earlier;
+  this = first.this;
+  later = first.later;
+  split = ap (λ (l : List X). before ++ l) first.split ∙ sym (append_assoc before first.earlier (first.this ∷ first.later));
+  counted = let long = length-append before first.earlier in let count = first.counted in omega (arith, long, count);
+  each_earlier = All-append P before first.earlier all first.each_earlier;
+  is_this = first.is_this;
 }
 
 -- of two related lists the first one has such an element where the second has one

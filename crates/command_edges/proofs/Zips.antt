@@ -1,7 +1,8 @@
 -- Lists whose elements are related, place by place.
-use Rattle.std.proofs.Common.{List, [], ◌∷◌, ◌++◌}
-use Rattle.std.specs.Prelude.{All}
+use Rattle.std.proofs.Common.{◌≡◌, ◌-◌, refl, get_or, drop, take, length, arith, List, [], ◌∷◌, ◌++◌}
+use Rattle.std.specs.Prelude.{All, map}
 use Rattle.std.specs.List.{AllZip}
+use Rattle.std.proofs.lemmas.List.{take_all}
 use Rattle.std.proofs.lemmas.List.Elements.{All-nil, All-cons}
 
 module _ {A B : Type 0} (R : A → B → Type 0) where
@@ -34,3 +35,24 @@ AllZip-then R S T [] (y ∷ ys) zs f r s = absurd r
 AllZip-then R S T (x ∷ xs) [] zs f r s = absurd r
 AllZip-then R S T (x ∷ xs) (y ∷ ys) [] f r s = absurd s
 AllZip-then R S T (x ∷ xs) (y ∷ ys) (z ∷ zs) f r s = (f x y z r.0 s.0, AllZip-then R S T xs ys zs f r.1 s.1)
+
+-- a relation of a mapped list
+pub AllZip-unmapped : {X A B : Type 0} (R : A → B → Type 0) (f : X → A) (xs : List X) (ys : List B) → AllZip R (map f xs) ys → AllZip (λ x y. R (f x) y) xs ys
+AllZip-unmapped R f [] [] both = tt
+AllZip-unmapped R f [] (v ∷ ys) both = absurd both
+AllZip-unmapped R f (u ∷ xs) [] both = absurd both
+AllZip-unmapped R f (u ∷ xs) (v ∷ ys) both = (both.0, AllZip-unmapped R f xs ys both.1)
+
+-- the first element's other one, and the pairs behind it
+pub AllZip-front : {A B : Type 0} (R : A → B → Type 0) (x : A) (xs : List A) (ys : List B) → AllZip R (x ∷ xs) ys → (y : B) × R x y × ((d : B) → y ≡ get_or ys 0 d)
+AllZip-front R x xs [] both = absurd both
+AllZip-front R x xs (y ∷ ys) both = (y, both.0, λ d. refl)
+
+pub AllZip-behind : {A B : Type 0} (R : A → B → Type 0) (x : A) (xs : List A) (ys : List B) → AllZip R (x ∷ xs) ys → AllZip R xs (drop 1 ys)
+AllZip-behind R x xs [] both = absurd both
+AllZip-behind R x xs (y ∷ ys) both = both.1
+
+-- a slice behind the first element is all that is behind it
+pub all_behind : {X : Type 0} (xs : List X) → take (length xs - 1) (drop 1 xs) ≡ drop 1 xs
+all_behind [] = refl
+all_behind (x ∷ xs) = take_all (length (x ∷ xs) - 1) xs (omega arith)

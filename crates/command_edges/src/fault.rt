@@ -42,6 +42,9 @@ pub enum Fault {
     Output,
     /// There was no memory.
     Memory,
+    /// What was given as printed is no one-thread run of the files from the image. The line is the first wrong one, counted
+    /// from 1, or 0 where the text is too long.
+    Audit { line: u64 },
 }
 
 impl Fault {
@@ -68,6 +71,7 @@ impl Fault {
             Fault::Device => 6,
             Fault::Output => 7,
             Fault::Memory => 8,
+            Fault::Audit { .. } => 10,
         }
     }
 }
@@ -123,6 +127,7 @@ impl fmt::Display for Fault {
             Fault::Device => f.write_str("device"),
             Fault::Output => f.write_str("output"),
             Fault::Memory => f.write_str("memory"),
+            Fault::Audit { line } => write_one(f, "audit line ", line),
         }
     }
 }

@@ -2,11 +2,13 @@
 
 ghost use Rattle.std.specs.Prelude.{◌≡◌, map, OnOk, IfOk, IfErr};
 ghost use Rattle.std.specs.Result.{result_err};
+ghost use Rattle.command_edges.specs.CommandFile.{request_files};
 ghost use Rattle.command_edges.specs.Files.{AreOfFiles, AreInRange, AreFew, IsFileFault, MissingStops, BadStops};
 ghost use Rattle.command_edges.specs.Reads.{ReadsInOrder};
 
 use crate::fault::Fault;
 use crate::file_texts::read_texts;
+use crate::file_wanted::want_requests;
 use crate::lists::parse_texts;
 use dude_io::Files;
 use std::alloc::Global;
@@ -20,21 +22,24 @@ pub fn read_files<F: Files, S: AsStr>(
     names: &[S],
     files: &mut F,
 ) -> Result<Vec<Vec<Request>>, Fault>
-    ensures reads { ReadsInOrder (map S.text names.now) (result_err result)
+    ensures reads { ReadsInOrder (request_files (map S.text names.now)) (result_err result)
         (F.sight files.old) (F.sight files.new) }
     ensures calm { OnOk result ((F.sight files.new).faults ≡ (F.sight files.old).faults) }
     ensures read { IfOk result (AreOfFiles (F.sight files.old) (map S.text names.now)) }
     ensures in_range { IfOk result AreInRange }
     ensures few { IfOk result AreFew }
-    ensures cause { IfErr result (IsFileFault F.sight (map S.text names.now) files.old files.new) }
+    ensures cause { IfErr result (IsFileFault F.sight (request_files (map S.text names.now))
+        files.old files.new) }
 
     // Where the files are visible, a missing one is answered before a bad one, and a bad one is never passed over.
-    ensures missing { MissingStops (F.sight files.old) (map S.text names.now) result }
-    ensures bad { BadStops (F.sight files.old) (map S.text names.now) result }
+    ensures missing { MissingStops (F.sight files.old) (request_files (map S.text names.now)) result }
+    ensures bad { BadStops (F.sight files.old) (request_files (map S.text names.now)) result }
 {
-    let texts = match read_texts(alloc, names, files) {
+    let mut wanted = Vec::new(alloc);
+    want_requests(names, &mut wanted)?;
+    let texts = match read_texts(alloc, &wanted, files) {
         Ok(texts) => texts,
         Err(fault) => return Err(fault),
     };
-    parse_texts(alloc, &texts)
+    parse_texts(alloc, &texts, 0)
 }

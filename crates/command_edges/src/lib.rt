@@ -3,13 +3,17 @@
 #![tactic(auto)]
 
 mod fault;
+mod file_kind;
 mod file_texts;
+mod file_wanted;
 mod files;
 mod lines;
 mod lists;
+mod printed_run;
 mod text;
 
 pub use fault::{Fault, fault_text};
 pub use files::read_files;
 pub use lines::print_lines;
+pub use printed_run::{PrintedRun, read_printed_run};
 pub use text::print_text;

@@ -1,6 +1,6 @@
 //! The requests of texts.
 
-ghost use Rattle.std.specs.Prelude.{IfOk, IfErr};
+ghost use Rattle.std.specs.Prelude.{◌≤◌, IfOk, IfErr};
 ghost use Rattle.command_edges.specs.Texts.{HoldEachRequests, HoldsRequests, IsTextFault, IsFirstTextFault};
 
 use crate::fault::Fault;
@@ -30,14 +30,19 @@ fn parse_text(alloc: Global, text: &FileText, number: u64) -> Result<Vec<Request
     })
 }
 
-/// The requests of each text. The first bad text ends it.
-pub fn parse_texts(alloc: Global, texts: &[FileText]) -> Result<Vec<Vec<Request>>, Fault>
+/// The requests of each text. The first bad text ends it; they are the texts of files behind so many others.
+pub fn parse_texts(
+    alloc: Global,
+    texts: &[FileText],
+    before: u64,
+) -> Result<Vec<Vec<Request>>, Fault>
+    requires few { before ≤ 1 }
     ensures parsed { IfOk result (HoldEachRequests texts.now) }
-    ensures cause { IfErr result (IsFirstTextFault texts.now) }
+    ensures cause { IfErr result (IsFirstTextFault before texts.now) }
 {
     let mut lists = Vec::new(alloc);
     for (index, text) in texts.iter().enumerate() {
-        match parse_text(alloc, text, index as u64 + 1) {
+        match parse_text(alloc, text, before + (index as u64 + 1)) {
             Ok(requests) => lists.push(requests)?,
             Err(fault) => return Err(fault),
         }

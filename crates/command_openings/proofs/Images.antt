@@ -29,7 +29,7 @@ use Rattle.command_openings.specs.Opens.{ShowsOpening}
 use Rattle.command_openings.specs.Openings.{new_opening}
 
 -- There are no more call rows than there is room for.
-calls_fit : (s : Sizes) (array : List ℕ) (db : Database) → StandsFor s array db → length db.calls ≤ s.calls
+pub calls_fit : (s : Sizes) (array : List ℕ) (db : Database) → StandsFor s array db → length db.calls ≤ s.calls
 calls_fit s array db stands =
     let rows = stands.calls in
     let records = records_in rows.chains in

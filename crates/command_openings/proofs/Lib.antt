@@ -3,3 +3,4 @@ pub mod Announced
 pub mod ImageOpened
 pub mod OneOpening
 pub mod Results
+pub mod ReadOnly

@@ -1,30 +1,17 @@
 //! The image on a medium is opened, and its opening number told.
 
-ghost use Rattle.std.specs.Prelude.{◌≡◌, IfOk, IfErr};
+ghost use Rattle.std.specs.Prelude.{IfOk, IfErr};
 ghost use Rattle.pmem_trait.specs.Sights.{IsAtRest};
 ghost use Rattle.image_opening.specs.Opened.{IsOpened};
 ghost use Rattle.command_openings.specs.Announcing.{FailsTelling, IsAnnounced, IsSameImage, RanTelling, RisesFaults, ShowsWhileTelling};
 ghost use Rattle.command_openings.specs.Opens.{OpensOwn, OpensOwnPartly, OnlyReadsUnopened};
-ghost use Rattle.command_openings.specs.Faults.{IsOpenRefusal, fault_of_opening};
+ghost use Rattle.command_openings.specs.Faults.{IsOpenRefusal};
 
+use crate::fault::fault_of;
 use command_edges::Fault;
 use image_opening::{Opened, open};
-use image_recovery::OpenFault;
 use pmem_trait::Medium;
 use std::alloc::Global;
-
-// What a fault of opening is for the command.
-fn fault_of(fault: OpenFault) -> Fault
-    ensures { result ≡ fault_of_opening fault }
-{
-    match fault {
-        OpenFault::Unformatted => Fault::Unformatted,
-        OpenFault::Damaged { line } => Fault::Damaged { line },
-        OpenFault::NotDb { word } => Fault::NotDb { word },
-        OpenFault::Device => Fault::Device,
-        OpenFault::NoMemory => Fault::Memory,
-    }
-}
 
 // Tells the opening number of an opened image.
 fn announce<M: Medium>(opened: Opened<M>) -> Result<Opened<M>, (Fault, M)>

@@ -1,6 +1,6 @@
 mod Along
 mod Files
-mod Law
+pub mod Law
 mod Necessary
 mod OneThreadRuns
 mod OneReason

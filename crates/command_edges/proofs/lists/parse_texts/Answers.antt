@@ -8,8 +8,8 @@ use Rattle.command_edges.proofs.lists.parse_texts.Goals as goal
 
 pub returns-in-Err-clause-cause : goal.returns-in-Err-clause-cause
 returns-in-Err-clause-cause c =
-    first_text_fault c.args.texts.now c.loop-index.index c.index-texts-index.result (requests_in c.loop-index.lists.items) c.in-Err.fault c.loop-index-test.true c.loop-index.invariant
-    (subst (λ text. IsTextFault text (c.loop-index.index + 1) c.in-Err.fault) c.index-texts-index.is c.in-Err.ensures.cause)
+    first_text_fault c.args.before c.args.texts.now c.loop-index.index c.index-texts-index.result (requests_in c.loop-index.lists.items) c.in-Err.fault c.loop-index-test.true c.loop-index.invariant
+    (subst (λ text. IsTextFault text (c.args.before + (c.loop-index.index + 1)) c.in-Err.fault) c.index-texts-index.is c.in-Err.ensures.cause)
 
 pub loop-index-preserved : goal.loop-index-preserved
 loop-index-preserved c =
