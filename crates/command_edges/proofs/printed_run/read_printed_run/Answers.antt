@@ -7,7 +7,8 @@ use Rattle.command_edges.specs.declared.fault.Fault.{Fault}
 use Rattle.command_edges.specs.declared.file_wanted.FileWanted.{FileWanted}
 use Rattle.command_edges.specs.declared.file_kind.FileKind.TheVariants.{Printed}
 use Rattle.command_edges.specs.CommandFile.{CommandFile, audit_files, files_wanted, request_file, request_files}
-use Rattle.command_edges.specs.Files.{IsGoodFile, IsThere, OfFile, requests_in}
+use Rattle.tatp_model.specs.Files.{requests_in}
+use Rattle.command_edges.specs.Files.{IsGoodFile, IsThere, OfFile}
 use Rattle.command_edges.specs.Reads.{ReadsInOrder}
 use Rattle.command_edges.specs.Texts.{HoldsRequests, IsTextOf}
 use Rattle.command_edges.proofs.Order.{is_memory, stopped_in_order, whole_none}
