@@ -19,10 +19,18 @@ texts_more f xs i before so_far comma after x lt so_far_is comma_is x_is after_i
     let whole = append_assoc (before ++ flat_map (λ n. 44 ∷ f n) (take i xs)) (44 ∷ []) (f (get_or xs i 0)) in
     rw (take_more xs i 0 lt, after_is, comma_is, so_far_is, x_is) (whole ∙ flat_map_more (λ n. 44 ∷ f n) before (take i xs) (get_or xs i 0))
 
+-- and all texts, behind the loop
+pub texts_all : (f : ℕ → List ℕ) (xs : List ℕ) (i : ℕ) (before after : List ℕ) → length xs ≤ i → after ≡ before ++ flat_map (λ n. 44 ∷ f n) (take i xs) → after ≡ before ++ flat_map (λ n. 44 ∷ f n) xs
+texts_all f xs i before after all after_is = after_is ∙ ap (λ (l : List ℕ). before ++ flat_map (λ n. 44 ∷ f n) l) (take_all i xs all)
+
 -- one number more as a field, as a loop adds them
 pub numbers_more : (xs : List ℕ) (i : ℕ) (before so_far after : List (List ℕ)) (x : ℕ) → i < length xs → so_far ≡ before ++ map decimal (take i xs) → x ≡ get_or xs i 0 → after ≡ so_far ++ decimal x ∷ [] → after ≡ before ++ map decimal (take (i + 1) xs)
 numbers_more xs i before so_far after x lt so_far_is x_is after_is =
     rw (map_more decimal xs i 0 lt, after_is, so_far_is, x_is) (append_assoc before (map decimal (take i xs)) (decimal (get_or xs i 0) ∷ []))
+
+-- and all numbers, behind the loop
+pub numbers_all : (xs : List ℕ) (i : ℕ) (before after : List (List ℕ)) → length xs ≤ i → after ≡ before ++ map decimal (take i xs) → after ≡ before ++ map decimal xs
+numbers_all xs i before after all after_is = after_is ∙ ap (λ (l : List ℕ). before ++ map decimal l) (take_all i xs all)
 
 -- the first text, and then each other behind the byte
 pub join_with_byte-first : (c : ℕ) (first : List ℕ) (others : List (List ℕ)) → join_with_byte c (first ∷ others) ≡ first ++ flat_map (λ other. c ∷ other) others

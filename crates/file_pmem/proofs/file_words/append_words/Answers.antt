@@ -1,6 +1,6 @@
-use Rattle.std.proofs.Common.{[], ◌∙◌, arith}
+use Rattle.std.proofs.Common.{[], ◌∙◌, refl, sym, append-nil, arith}
 use Rattle.std.specs.Int.{w64, from_le_bytes}
-use Rattle.file_pmem.proofs.Pieces.{mapped_more}
+use Rattle.file_pmem.proofs.Pieces.{mapped_all, mapped_more}
 use Rattle.file_pmem.proofs.file_words.append_words.Goals as goal
 
 pub loop-word-preserved : goal.loop-word-preserved
@@ -9,3 +9,10 @@ loop-word-preserved c = record {
   len = omega (arith, c.push_reserved.ensures.len, c.loop-word.invariant.len);
   capacity = c.push_reserved.ensures.capacity ∙ c.loop-word.invariant.capacity;
 }
+
+pub loop-word-init : goal.loop-word-init
+loop-word-init c = record { items = sym (append-nil c.args.words.now.items); len = omega arith; capacity = refl }
+
+pub returns-clause-items : goal.returns-clause-items
+returns-clause-items c =
+    mapped_all (from_le_bytes w64) c.as_chunks.result.0.now _ c.loop-word.word-index c.args.words.now.items c.loop-word.words.items c.loop-word-test.false c.as_chunks.ensures.front c.loop-word.invariant.items
