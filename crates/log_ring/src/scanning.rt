@@ -23,7 +23,6 @@ use std::alloc::Global;
 /// The medium is only read. A head with a number over `above` that has no complete record is damage, and so is one whose
 /// first number isn't over it; where each is sound, so is a head of which a head at a lower line covers a number. The first
 /// line of such a head is answered. Their bundles are read by `read_bundle`, so that one at a time is in memory.
-#[tactic(auto, using(pmem_trait::proofs::ReadRuns::reading))]
 pub fn heads<M: Medium>(
     alloc: Global,
     m: &mut M,

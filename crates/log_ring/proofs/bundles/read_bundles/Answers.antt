@@ -68,13 +68,13 @@ loop-head-preserved g c =
       few = (let before = c.loop-head.invariant.few in let more = c.in_ok-read_bundle.ensures.few in omega arith);
       count = omega (arith, c.push_reserved.ensures.len, c.loop-head.invariant.count);
       capacity = c.push_reserved.ensures.capacity ∙ c.loop-head.invariant.capacity;
-      replayable = subst (All (IsReplayable c.args.place.now)) (sym c.push_reserved.ensures.items) (All-push (IsReplayable c.args.place.now) c.loop-head.bundles.items b c.loop-head.invariant.replayable c.in_ok-read_bundle.ensures.replayable);
+      replayable = subst (All (IsReplayable c.args.place.now)) (sym {A = List RedoBundle} c.push_reserved.ensures.items) (All-push (IsReplayable c.args.place.now) c.loop-head.bundles.items b c.loop-head.invariant.replayable c.in_ok-read_bundle.ensures.replayable);
       bundles = λ told content is.
           let own : b ≡ bundle_of_head c.args.place.now content head =
           content_before {P = λ l. b ≡ bundle_of_head c.args.place.now l head} {ok = true} c.loop-head.invariant.reads c.in_ok-read_bundle.ensures.bundle told content is in
           c.push_reserved.ensures.items ∙ ap (λ (r : RedoBundle). c.loop-head.bundles.items ++ r ∷ []) own
           ∙ ap (λ (rs : List RedoBundle). rs ++ bundle_of_head c.args.place.now content head ∷ []) (c.loop-head.invariant.bundles told content is)
-          ∙ sym (map_push (bundle_of_head c.args.place.now content) (take i found) head) ∙ ap (map (bundle_of_head c.args.place.now content)) (sym next);
+          ∙ sym {A = List RedoBundle} (map_push (bundle_of_head c.args.place.now content) (take i found) head) ∙ ap (map (bundle_of_head c.args.place.now content)) (sym next);
     }
 
 pub returns-clause-len : goal.returns-clause-len

@@ -13,10 +13,10 @@ returns-in_err-word-clause-reads g c =
     stopped failed (read_alone {ok = false} c.in_err-word.ensures.one_call)
 
 pub returns-in_default-clause-reads : goal.returns-in_default-clause-reads
-returns-in_default-clause-reads g c = read_alone c.in_ok-word.ensures.one_call
+returns-in_default-clause-reads g c = read_alone {ok = true} c.in_ok-word.ensures.one_call
 
 pub returns-then-cells-sizes-clause-reads : goal.returns-then-cells-sizes-clause-reads
-returns-then-cells-sizes-clause-reads g c = read_alone c.in_ok-word.ensures.one_call
+returns-then-cells-sizes-clause-reads g c = read_alone {ok = true} c.in_ok-word.ensures.one_call
 
 pub returns-in_err-read_cells-clause-reads : goal.returns-in_err-read_cells-clause-reads
 returns-in_err-read_cells-clause-reads g c =
@@ -72,3 +72,18 @@ returns-clause-record g c = λ told content is.
     let few = c.in-Some.ensures.some.1 in
     record_is c.args.place.now content c.read_cells.new.words (cell_at c.args.ring c.args.head) c.in-Some.count c.cells_for-cells.result (omega arith) (omega arith) (omega arith) c.read_cells.array_long
     c.args.version (λ one. let most = c.in-Some.ensures.some.2 one in omega arith) (ap (λ (x : ℕ). x % 256) word ∙ sym counted) words c.home_record.result c.home_record.ensures
+
+pub returns-in_err-word-clause-len : goal.returns-in_err-word-clause-len
+returns-in_err-word-clause-len g c = c.in_err-word.ensures.one_call.later.len
+
+pub returns-in_default-clause-len : goal.returns-in_default-clause-len
+returns-in_default-clause-len g c = c.in_ok-word.ensures.one_call.later.len
+
+pub returns-then-cells-sizes-clause-len : goal.returns-then-cells-sizes-clause-len
+returns-then-cells-sizes-clause-len g c = c.in_ok-word.ensures.one_call.later.len
+
+pub returns-in_err-read_cells-clause-len : goal.returns-in_err-read_cells-clause-len
+returns-in_err-read_cells-clause-len g c = c.read_cells.ensures.len ∙ c.in_ok-word.ensures.one_call.later.len
+
+pub returns-clause-len : goal.returns-clause-len
+returns-clause-len g c = c.in_ok-read_cells.ensures.len ∙ c.in_ok-word.ensures.one_call.later.len

@@ -38,12 +38,12 @@ returns-in_err-head-clause-torn g c line is = λ told content holds version befo
     (torn_first c.args.place.now c.args.above content cell c.loop-cell.found found (c.loop-cell.invariant.knows told content holds version before))
 
 pub returns-in_err-take-clause-reads : goal.returns-in_err-take-clause-reads
-returns-in_err-take-clause-reads g c = made_well c.from_residual-in_err-take.result (search rules) (reads_then c.loop-cell.invariant.reads c.in_ok-head.ensures.reads)
+returns-in_err-take-clause-reads g c = made_well c.from_residual-in_err-take.result (search rules) (reads_then {ok = true} c.loop-cell.invariant.reads c.in_ok-head.ensures.reads)
 
 pub loop-cell-preserved : goal.loop-cell-preserved
 loop-cell-preserved g c = record {
   len = c.in_ok-head.ensures.len ∙ c.loop-cell.invariant.len;
-  reads = reads_then c.loop-cell.invariant.reads c.in_ok-head.ensures.reads;
+  reads = reads_then {ok = true} c.loop-cell.invariant.reads c.in_ok-head.ensures.reads;
   few = omega arith;
   holds = λ before.
       let cells : c.sizes-cell-end.result.cells ≡ c.args.place.now.cells = ap (λ s. s.cells) c.sizes-cell-end.ensures.sizes in
@@ -88,3 +88,15 @@ returns-clause-holds g c = λ before.
     let cells : c.sizes-cell-end.result.cells ≡ c.args.place.now.cells = ap (λ s. s.cells) c.sizes-cell-end.ensures.sizes in
     let last : c.loop-cell.cell ≡ c.args.place.now.cells = omega arith in
     held_skip c.args.place.now _ _ c.loop-cell.found (omega (arith, suc-mul c.args.ring c.args.place.now.cells)) (c.loop-cell.invariant.holds before)
+
+pub returns-in_err-head-clause-len : goal.returns-in_err-head-clause-len
+returns-in_err-head-clause-len g c = c.scan_cell.ensures.len ∙ c.loop-cell.invariant.len
+
+pub returns-in_err-take-clause-len : goal.returns-in_err-take-clause-len
+returns-in_err-take-clause-len g c = c.in_ok-head.ensures.len ∙ c.loop-cell.invariant.len
+
+pub returns-clause-len : goal.returns-clause-len
+returns-clause-len g c = c.loop-cell.invariant.len
+
+pub returns-clause-reads : goal.returns-clause-reads
+returns-clause-reads g c = c.loop-cell.invariant.reads

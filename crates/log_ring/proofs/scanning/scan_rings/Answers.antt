@@ -82,3 +82,9 @@ returns-clause-damaged g c line is = λ told content holds version.
     let rings : c.sizes-ring-end.result.rings ≡ c.args.place.now.rings = ap (λ s. s.rings) c.sizes-ring-end.ensures.sizes in
     let known = subst (λ n. KnowsBelow c.args.place.now c.args.above content (2 + n * c.args.place.now.cells) c.loop-ring.found) (omega arith) (c.loop-ring.invariant.knows told content holds version) in
     damaged_duplicate c.args.place.now c.args.above content c.loop-ring.found known line (c.into_heads.ensures.damaged line is)
+
+pub returns-in_err-scan_ring-clause-len : goal.returns-in_err-scan_ring-clause-len
+returns-in_err-scan_ring-clause-len g c = c.scan_ring.ensures.len ∙ c.loop-ring.invariant.len
+
+pub returns-clause-len : goal.returns-clause-len
+returns-clause-len g c = c.loop-ring.invariant.len
