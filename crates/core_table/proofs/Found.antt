@@ -1,12 +1,11 @@
--- What a step that was made, and found a number, leaves of its seat.
+-- What a step that was made leaves of its seat, and what a join leaves.
 use Rattle.std.proofs.Common.{◌≡◌, ℕ, refl, ◌∙◌}
 use Rattle.atomic_table.specs.declared.shared.Seat.{Seat}
 use Rattle.core_events.specs.Setups.{Setup}
 use Rattle.core_events.specs.Events.{Event}
-use Rattle.core_events.specs.Telling.{IsTold}
 use Rattle.core_table.specs.Layout.{TableSight}
 use Rattle.core_table.specs.Known.{Known}
-use Rattle.core_table.specs.Steps.{BelongsTo, Does, IsAfter, HasFound}
+use Rattle.core_table.specs.Steps.{BelongsTo, Does, Puts, Rests, IsAfter, HasMade, HasFound, NowKnows}
 
 module _ {S X : Type 0} (t : TableSight) (z : Setup) (e : Event) (old new : Seat S (Known X)) (n : ℕ) (setup : z ≡ t.setup) (does : Does z e old.me n new.me) where
   pub view_after_step : IsAfter t e old new n
@@ -23,3 +22,25 @@ module _ {S X : Type 0} (t : TableSight) (z : Setup) (e : Event) (old new : Seat
     };
     told = rw (← setup) does.1;
   }
+
+module _ {S X : Type 0} (t : TableSight) (z : Setup) (e : Event) (old new : Seat S (Known X)) (setup : z ≡ t.setup) (puts : Puts z e old.me new.me) where
+  pub view_after_store : IsAfter t e old new 0
+  view_after_store = rw (puts.0, setup) refl
+
+  pub made_by_store : BelongsTo t old → new.table_id ≡ old.table_id → new.id ≡ old.id → HasMade t e old new
+  made_by_store seat table id = record {
+    belongs = record { table = table ∙ seat.table; small = seat.small; seated = rw (← setup) puts.1 };
+    id = id;
+    beside = rw puts.0 refl;
+    slots = rw puts.0 refl;
+    made = rw puts.0 refl;
+  }
+
+-- a seat knows k after a join, and rests in a load behind it
+pub joined_by : {S X : Type 0} (t : TableSight) (z : Setup) (old joined new : Seat S (Known X)) (k : Known X) → z ≡ t.setup → BelongsTo t old → joined.table_id ≡ old.table_id → joined.id ≡ old.id → joined.me ≡ (k, old.me.1)
+    → new.table_id ≡ joined.table_id → new.id ≡ joined.id → Rests z joined.me new.me → NowKnows t old new k
+joined_by t z old joined new k setup seat table id me table_on id_on rests = (
+  record { table = table_on ∙ (table ∙ seat.table); small = seat.small; seated = rw (rests.0, ← setup) rests.1 },
+  id_on ∙ id,
+  rests.0 ∙ me,
+)

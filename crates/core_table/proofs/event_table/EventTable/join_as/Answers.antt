@@ -1,6 +1,8 @@
 use Rattle.std.proofs.Common.{◌≡◌, ◌∙◌, sym, ap}
 use Rattle.core_table.specs.Layout.{TableSight}
+use Rattle.core_table.specs.Seats.{known_both}
 use Rattle.core_table.proofs.Events.{by_resting}
+use Rattle.core_table.proofs.Found.{joined_by}
 use Rattle.core_table.proofs.Parted.{by_join, some_word}
 use Rattle.core_table.proofs.event_table.EventTable.join_as.Goals as goal
 
@@ -26,8 +28,5 @@ load-requires g c =
 
 pub returns : goal.returns
 returns g c =
-    let r = c.requires in let joined = c.join_seat.ensures in let told = c.load.ensures in (
-      record { table = told.0 ∙ (joined.0 ∙ r.seat.table); small = r.seat.small; seated = rw (told.2.0, ← r.setup) told.2.1 },
-      told.1 ∙ joined.1,
-      told.2.0 ∙ joined.2,
-    )
+    let r = c.requires in let made = c.join_seat.ensures in let rests = c.load.ensures in
+    joined_by c.args.self.now g.C.Cut.setup c.args.seat.now c.join_seat.new.seat c.load.new.seat (known_both c.args.seat.now.me.0 c.args.other.me.0) r.setup r.seat made.0 made.1 made.2 rests.0 rests.1 rests.2
