@@ -14,7 +14,12 @@ use core_view::word::Word;
 use std::alloc::AllocError;
 
 /// Makes an event of a page or of a frame, where it found this in its word.
-pub(crate) fn page(view: &mut View, z: &Setup, deed: &PageDeed, found: u64) -> Result<(), AllocError>
+pub(crate) fn page(
+    view: &mut View,
+    z: &Setup,
+    deed: &PageDeed,
+    found: u64,
+) -> Result<(), AllocError>
     requires may { May z.now (of_page deed.now) view.old }
     ensures ok { OnOk result (view.new ≡ view_after z.now (of_page deed.now) view.old found) }
     ensures err { OnErr result (view.new ≡ view.old) }
