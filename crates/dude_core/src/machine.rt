@@ -1,17 +1,12 @@
 //! The machine: made over home words, read, and led on by one event after another.
 
 ghost use Rattle.std.specs.Prelude.{◌≡◌, ◌*◌, ◌≤◌, length, slice_get, option_map, IfOk, IfErr, OnOk, OnErr};
-ghost use Rattle.dude_base.specs.declared.limits.TheConstants.{PAGE as PAGE_WORDS, MAX_NUMBER};
-ghost use Rattle.dude_base.specs.Sizes.{IsAccepted};
 ghost use Rattle.core_events.specs.Setups.{IsSetup};
-ghost use Rattle.core_events.specs.Words.{found};
 ghost use Rattle.core_events.specs.Kept.{Kept};
 ghost use Rattle.core_events.specs.Persisted.{DurablePersisted};
-ghost use Rattle.core_view.specs.Named.{Tells};
 ghost use Rattle.core_state.specs.Steps.{IsOffOnlyAt};
-ghost use Rattle.dude_core.specs.CoreState.{LeadsTo};
-ghost use Rattle.dude_core.specs.CoreWords.{HasWord, word_at};
-ghost use Rattle.dude_core.specs.MadeCores.{IsCoreAt, RefusesSize, IsFaultOf, size_fault};
+ghost use Rattle.dude_core.specs.CoreState.{CoreState, LeadsTo};
+ghost use Rattle.dude_core.specs.MadeCores.{size_fault};
 ghost use Rattle.dude_core.specs.Steps.{step_of};
 
 use crate::core_fault::CoreFault;
@@ -38,13 +33,7 @@ pub struct Core {
 }
 
 impl Model for Core {
-    ghost use Rattle.dude_core.specs.CoreState.{CoreState};
-
     ghost Value = { CoreState };
-
-    ghost use Rattle.core_events.specs.Setups.{IsSetup};
-    ghost use Rattle.core_events.specs.Kept.{Kept};
-    ghost use Rattle.core_events.specs.Persisted.{DurablePersisted};
 
     ghost view = { λ a. record { setup = a.setup; state = a.state } };
 
@@ -52,6 +41,13 @@ impl Model for Core {
 }
 
 impl Core {
+    ghost use Rattle.dude_base.specs.declared.limits.TheConstants.{PAGE as PAGE_WORDS, MAX_NUMBER};
+    ghost use Rattle.dude_base.specs.Sizes.{IsAccepted};
+    ghost use Rattle.core_events.specs.Words.{found};
+    ghost use Rattle.core_view.specs.Named.{Tells};
+    ghost use Rattle.dude_core.specs.CoreWords.{HasWord, word_at};
+    ghost use Rattle.dude_core.specs.MadeCores.{IsCoreAt, RefusesSize, IsFaultOf};
+
     /// The machine at its start over these home words, whose first pages are in frames. Each thread
     /// has a ring of the image for its records: there are at most as many threads as rings.
     pub fn new(

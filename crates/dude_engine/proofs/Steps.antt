@@ -265,6 +265,11 @@ served_stands opening lay performed d new layout serves =
     subst (λ (db : Database). StandsFor opening.sizes new db) (sym (tables_push opening performed d))
     (subst (λ (z : Sizes). StandsFor z new (after_request z.calls (tables_after opening performed) d.request)) (sym layout) serves.stands)
 
+-- a run over equal lists of what was done
+pub running_as : {M : Type 0} {ghosts : Ghosts M} {opening : Opening} {words current : List ℕ} {lay : Sizes} {l : RunLog M ghosts} {performed done : List Done} {s t : Sight} → performed ≡ done
+    → IsRunning opening words lay l current performed s t → IsRunning opening words lay l current done s t
+running_as {opening = opening} {words = words} {current = current} {lay = lay} {l = l} {s = s} {t = t} same run = subst (λ (performed : List Done). IsRunning opening words lay l current performed s t) same run
+
 -- a request whose writes were taken was served: it comes next, and the words with its writes stand for the tables behind it
 pub record ChangeServed (opening : Opening) (performed : List Done) (d : Done) (old new : List ℕ) (writes : List Write) : Type 0 where
   pub next : IsNext opening performed d

@@ -1,13 +1,5 @@
 //! An image that can be run on.
 
-ghost use Rattle.std.specs.Prelude.{◌≡◌, ◌≤◌, IfOk, MatchResult};
-ghost use Rattle.dude_base.specs.declared.limits.TheConstants.{MAX_NUMBER};
-ghost use Rattle.dude_base.specs.Sizes.{IsAccepted};
-ghost use Rattle.dude_base.specs.Image.{image_words};
-ghost use Rattle.tatp_layout.specs.StandsFor.{IsLawful};
-ghost use Rattle.back_store.specs.BackView.{medium_of};
-ghost use Rattle.image_opening.specs.Opened.{HasParts, HoldsWhereIdle, IsOpened};
-
 use back_store::Back;
 use dude_base::sizes::Sizes;
 use pmem_trait::Medium;
@@ -27,6 +19,14 @@ pub struct Opened<M: Medium> {
 }
 
 impl<M: Medium> Opened<M> {
+    ghost use Rattle.std.specs.Prelude.{◌≡◌, ◌≤◌, IfOk, MatchResult};
+    ghost use Rattle.dude_base.specs.declared.limits.TheConstants.{MAX_NUMBER};
+    ghost use Rattle.dude_base.specs.Sizes.{IsAccepted};
+    ghost use Rattle.dude_base.specs.Image.{image_words};
+    ghost use Rattle.tatp_layout.specs.StandsFor.{IsLawful};
+    ghost use Rattle.back_store.specs.BackView.{medium_of};
+    ghost use Rattle.image_opening.specs.Opened.{HasParts, HoldsWhereIdle, IsOpened};
+
     /// The image on a medium at rest, whose home has these words. On want of memory the medium is given back.
     pub fn new(
         alloc: Global,

@@ -15,7 +15,7 @@ use Rattle.log_numbered.specs.declared.open_bundle.OpenBundle.{OpenBundle}
 use Rattle.log_numbered.specs.declared.run_log.RunLog.{RunLog}
 use Rattle.log_numbered.specs.Arrays.{LeadsToLast, RecoversIn, RunArrays, array_at, last_number, with_writes}
 use Rattle.log_numbered.specs.Backs.{Carries, LeadsUpTo, LogGoesOn}
-use Rattle.log_numbered.specs.BundleLog.{TellsNone, kept_back, kept_medium}
+use Rattle.log_numbered.specs.BundleLog.{TellsNone, kept_back, kept_medium, kept_sight}
 use Rattle.log_numbered.specs.LogCalls.{AnnouncedBy, AppendedBy, CheckpointedBy, ClosedBy, Joins, LogParts, Makes, with_joined}
 
 -- the medium of the log of a run
@@ -24,7 +24,7 @@ log_medium l = kept_medium l.log
 
 -- what clauses see of the medium of the log of a run
 abbrev pub log_sight : {M : Type 0} {ghosts : Ghosts M} → RunLog M ghosts → Sight
-log_sight {M} {ghosts} l = ghosts.sight (log_medium l)
+log_sight l = kept_sight l.log
 
 -- the back of the log of a run, without its medium
 abbrev pub log_back : {M : Type 0} {ghosts : Ghosts M} → RunLog M ghosts → BackState

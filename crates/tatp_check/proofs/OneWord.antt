@@ -42,7 +42,7 @@ kind_at-rank Access = refl
 kind_at-rank Facilities = refl
 kind_at-rank Calls = refl
 
-one_rank : (a b : TableKind) → kind_rank a ≡ kind_rank b → a ≡ b
+pub one_rank : (a b : TableKind) → kind_rank a ≡ kind_rank b → a ≡ b
 one_rank a b same = sym (kind_at-rank a) ∙ ap kind_at same ∙ kind_at-rank b
 
 module _ (s : Sizes) (array : List ℕ) where

@@ -4,6 +4,7 @@ use Rattle.dude_base.specs.declared.limits.TheConstants.{PAGE}
 use Rattle.dude_base.specs.declared.sizes.Sizes.{Sizes}
 use Rattle.hash_table.specs.declared.table.Table.{Table}
 use Rattle.hash_table.specs.Table.{FindsAll, records_in}
+use Rattle.hash_table.specs.Ranges.{AreSeparate}
 use Rattle.hash_table.proofs.Maps.{IsAt, along, lookup-is_at}
 use Rattle.record_heap.proofs.Records.{as_many}
 use Rattle.tatp_model.specs.declared.call_row.CallRow.{CallRow}
@@ -68,20 +69,21 @@ module _ {s : Sizes} {a b : List ℕ} {db : Database} (tables : HasTables s a db
     calls = rows_beside (subscribers_calls s) (omega arith) (call_room s) changes tables.calls;
   }
 
+  -- the first three, beside a table that changes
+  first_three : {changed : Table} → AreSeparate (subscriber_table s) changed → AreSeparate (number_table s) changed → AreSeparate (access_table s) changed → ChangesTable changed a b
+      → HasRows subscriber_form (subscriber_table s) b db.subscribers × HasRows number_form (number_table s) b db.subscribers × HasRows access_form (access_table s) b db.access
+  first_three subscribers numbers access changes = (
+    rows_beside (separate_flip subscribers) (omega arith) (subscriber_room s) changes tables.subscribers,
+    rows_beside (separate_flip numbers) (omega arith) (number_room s) changes tables.numbers,
+    rows_beside (separate_flip access) (omega arith) (access_room s) changes tables.access,
+  )
+
   pub facilities_changed : {rows : List FacRow} → ChangesTable (facility_table s) a b → HasRows facility_form (facility_table s) b rows → HasTables s b (record db { facilities = rows })
-  facilities_changed changes now = record {
-    subscribers = rows_beside (separate_flip (subscribers_facilities s)) (omega arith) (subscriber_room s) changes tables.subscribers;
-    numbers = rows_beside (separate_flip (numbers_facilities s)) (omega arith) (number_room s) changes tables.numbers;
-    access = rows_beside (separate_flip (access_facilities s)) (omega arith) (access_room s) changes tables.access;
-    facilities = now;
-    calls = rows_beside (facilities_calls s) (omega arith) (call_room s) changes tables.calls;
-  }
+  facilities_changed changes now =
+      let three = first_three (subscribers_facilities s) (numbers_facilities s) (access_facilities s) changes in
+      record { subscribers = three.0; numbers = three.1; access = three.2; facilities = now; calls = rows_beside (facilities_calls s) (omega arith) (call_room s) changes tables.calls }
 
   pub calls_changed : {rows : List CallRow} → ChangesTable (call_table s) a b → HasRows call_form (call_table s) b rows → HasTables s b (record db { calls = rows })
-  calls_changed changes now = record {
-    subscribers = rows_beside (separate_flip (subscribers_calls s)) (omega arith) (subscriber_room s) changes tables.subscribers;
-    numbers = rows_beside (separate_flip (numbers_calls s)) (omega arith) (number_room s) changes tables.numbers;
-    access = rows_beside (separate_flip (access_calls s)) (omega arith) (access_room s) changes tables.access;
-    facilities = rows_beside (separate_flip (facilities_calls s)) (omega arith) (facility_room s) changes tables.facilities;
-    calls = now;
-  }
+  calls_changed changes now =
+      let three = first_three (subscribers_calls s) (numbers_calls s) (access_calls s) changes in
+      record { subscribers = three.0; numbers = three.1; access = three.2; facilities = rows_beside (separate_flip (facilities_calls s)) (omega arith) (facility_room s) changes tables.facilities; calls = now }

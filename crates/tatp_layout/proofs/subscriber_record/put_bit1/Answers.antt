@@ -11,5 +11,4 @@ pub returns-in_err-write : goal.returns-in_err-write
 returns-in_err-write g c = let r = c.from_residual-in_err-write in field_left r.result r.ensures.0 r.ensures.1 (used_until c.in_ok-word.ensures.uses c.in_err-write.ensures.uses) (lit≤ tt) (lit≤ tt)
 
 pub returns : goal.returns
-returns g c = field_set c.in_ok-word.ensures.uses c.in_ok-write.ensures.uses c.in_ok-write.ensures.writes c.in_ok-write.ensures.shown (λ array below r range held.
-    bit_set c.in_ok-word.word c.args.bit (word_fits _ 2 (lit< tt) c.subscribers.ensures.table c.subscribers.ensures.fits c.requires.record (length_shown (below_before c.in_ok-word.ensures.uses below) ∙ c.requires.size)) (c.in_ok-word.ensures.value array below) range held)
+returns g c = field_set c.in_ok-word.ensures.uses c.in_ok-write.ensures.uses c.in_ok-write.ensures.writes c.in_ok-write.ensures.shown (λ array below r range held. bit_set c.in_ok-word.word c.args.bit (word_fits _ 2 (lit< tt) c.subscribers.ensures.table c.subscribers.ensures.fits c.requires.record (length_shown (below_before c.in_ok-word.ensures.uses below) ∙ c.requires.size)) (c.in_ok-word.ensures.value array below) range held)

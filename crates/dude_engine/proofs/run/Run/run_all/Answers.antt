@@ -4,43 +4,30 @@ use Rattle.word_space.specs.Flats.{words_of}
 use Rattle.log_numbered.specs.RunLog.{log_durable, log_last, log_medium, log_parts}
 use Rattle.run_order.proofs.Rounds.{Rounds, rounds_collect, rounds_first, rounds_rounds, rounds_start}
 use Rattle.dude_engine.specs.declared.run_fault.RunFault.TheVariants.{Device, NoMemory}
-use Rattle.dude_engine.specs.Running.{IsRunning}
 use Rattle.dude_engine.proofs.Serving.{runs_by}
-use Rattle.dude_engine.proofs.Steps.{failed_same, fault_on_ok, left_failed, running_settled, settled_run}
+use Rattle.dude_engine.proofs.Steps.{failed_same, fault_on_ok, left_failed, running_as, running_settled, settled_run}
 use Rattle.dude_engine.proofs.run.Run.run_all.Goals as goal
 
 pub returns-in_err-checkpoint-clause-left : goal.returns-in_err-checkpoint-clause-left
 returns-in_err-checkpoint-clause-left g c opening words s run =
-    let self = c.args.self.now in
     let served = c.serve_all.new.self in
     let is : c.from_residual-in_err-checkpoint.result ≡ Err Device = search rules in
-    let runs = c.in_ok-serve_all.ensures.leaves.left opening words s
-    (subst (λ (performed : List Done). IsRunning opening words self.lay self.log (words_of self.words) performed s (g.M.Medium.sight (log_medium self.log))) (sym c.reserve_exact.ensures.items) run) in
+    let runs = c.in_ok-serve_all.ensures.leaves.left opening words s (running_as (sym c.reserve_exact.ensures.items) run) in
     left_failed opening words c.from_residual-in_err-checkpoint.result _ s _ is
     (failed_same opening words served.lay served.log c.checkpoint.new.self (words_of served.words) served.done.items s (g.M.Medium.sight (log_medium served.log)) (g.M.Medium.sight (log_medium c.checkpoint.new.self))
     c.in_ok-serve_all.ensures.leaves.ready.alive c.in_err-checkpoint.ensures.goes_on c.checkpoint.ensures.moments runs)
 
 pub returns-clause-left : goal.returns-clause-left
 returns-clause-left g c opening words s run =
-    let self = c.args.self.now in
-    let served = c.serve_all.new.self in
+    let runs = c.in_ok-serve_all.ensures.leaves.left opening words s (running_as (sym c.reserve_exact.ensures.items) run) in
     let ok = c.in_ok-checkpoint.ensures in
-    let made = ok.checkpoints in
-    let runs = c.in_ok-serve_all.ensures.leaves.left opening words s
-    (subst (λ (performed : List Done). IsRunning opening words self.lay self.log (words_of self.words) performed s (g.M.Medium.sight (log_medium self.log))) (sym c.reserve_exact.ensures.items) run) in
-    running_settled opening words served.lay served.log c.checkpoint.new.self (words_of served.words) served.done.items s (g.M.Medium.sight (log_medium served.log)) (g.M.Medium.sight (log_medium c.checkpoint.new.self))
-    made.tells.durable ok.goes_on c.checkpoint.ensures.moments runs made.tells.last made.tells.follows
+    running_settled opening words _ _ c.checkpoint.new.self _ _ s _ (g.M.Medium.sight (log_medium c.checkpoint.new.self)) ok.checkpoints.tells.durable ok.goes_on c.checkpoint.ensures.moments runs ok.checkpoints.tells.last ok.checkpoints.tells.follows
 
 pub returns-clause-settled : goal.returns-clause-settled
 returns-clause-settled g c opening words s run =
-    let self = c.args.self.now in
-    let served = c.serve_all.new.self in
+    let runs = c.in_ok-serve_all.ensures.leaves.left opening words s (running_as (sym c.reserve_exact.ensures.items) run) in
     let ok = c.in_ok-checkpoint.ensures in
-    let made = ok.checkpoints in
-    let runs = c.in_ok-serve_all.ensures.leaves.left opening words s
-    (subst (λ (performed : List Done). IsRunning opening words self.lay self.log (words_of self.words) performed s (g.M.Medium.sight (log_medium self.log))) (sym c.reserve_exact.ensures.items) run) in
-    settled_run opening words served.lay served.log c.checkpoint.new.self (words_of served.words) served.done.items s (g.M.Medium.sight (log_medium served.log)) (g.M.Medium.sight (log_medium c.checkpoint.new.self))
-    made.tells.durable ok.goes_on c.checkpoint.ensures.moments runs made.ends made.tells.told
+    settled_run opening words _ _ c.checkpoint.new.self _ _ s _ (g.M.Medium.sight (log_medium c.checkpoint.new.self)) ok.checkpoints.tells.durable ok.goes_on c.checkpoint.ensures.moments runs ok.checkpoints.ends ok.checkpoints.tells.told
 
 pub returns-clause-calls : goal.returns-clause-calls
 returns-clause-calls g c =
