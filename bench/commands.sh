@@ -72,10 +72,24 @@ holds 'a closed pipe ends with 7' [ "${PIPESTATUS[0]}" = 7 ]
 "$program" new.img recover > out 2>&-
 holds 'a closed standard error ends with 6' [ $? = 6 ]
 try 0 'last 1' 'durable 1' new.img recover
+# An audit of a printed run: of the run, of one with a character changed, of none, and of more files than rings.
+"$program" audited.img format 8 96 2 16 > out 2> err < /dev/null
+cp audited.img copy.img
+"$program" audited.img run good.csv > right.txt 2> err < /dev/null
+sed 's/^1 DURABLE/0 DURABLE/' right.txt > wrong.txt
+cp copy.img before.img
+try 0 'yes' '' copy.img audit right.txt good.csv
+try 10 '' 'audit line 2' copy.img audit wrong.txt good.csv
+try 3 '' 'file 1' copy.img audit none.txt good.csv
+try 4 '' 'file 2 record 2 field 0' copy.img audit right.txt bad.csv
+try 10 '' 'audit line 3' copy.img audit right.txt good.csv good.csv good.csv good.csv good.csv good.csv good.csv good.csv good.csv
+try 2 '' 'usage' copy.img audit right.txt
+holds 'an audit leaves its image' cmp -s copy.img before.img
+
 cp new.img before.img
 exec 9<> new.img
 flock 9
-for words in recover dump 'run good.csv' 'drive 1 5 2' 'format 8 96 2 16' 'fresh 8 good.csv'; do
+for words in recover dump 'run good.csv' 'drive 1 5 2' 'format 8 96 2 16' 'fresh 8 good.csv' 'audit right.txt good.csv'; do
   try 6 '' 'device' new.img $words
 done
 exec 9>&-

@@ -1,5 +1,5 @@
 #!/usr/bin/env bash
-# A tour: makes an image, runs requests on it, kills a long run in its middle, and recovers what is left.
+# A tour: makes an image, runs requests on it, kills a long run in its middle, recovers what is left, and audits a run.
 #
 #     examples/tour.sh [FOLDER]     leaves tour.img in FOLDER, or here
 #
@@ -67,5 +67,11 @@ echo "$told was told as durable, and the image recovered to $number"
 
 echo
 echo "The image goes on from there: a new run takes the numbers over $number."
-show tour.img run "$here/first.csv"
-rm -f tour.out tour.told
+cp tour.img tour.copy
+show tour.img run "$here/first.csv" | tee tour.out
+
+echo
+echo "An audit of that run: a copy of the image from before it, what it printed, and its file. It only reads the copy."
+sed 1,2d tour.out > tour.printed
+show tour.copy audit tour.printed "$here/first.csv"
+rm -f tour.out tour.told tour.copy tour.printed

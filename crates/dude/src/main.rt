@@ -26,25 +26,30 @@ format S C N CELLS
   forwardings (1 to 120000), and with N log rings (1 to 16) of so many CELLS
   (16 to 4096). The new tables have up to 12 call forwardings a subscriber.
 run [--frames F] [--locks L] FILE..
-  Opens IMAGE, and carries out the requests of the files, at most one file for
-  each ring. F is from 32, or from IMAGE's pages where there are fewer, to its
-  pages, and L from 1 to 65536; nothing else depends on them yet.
+  Opens IMAGE, carries out the requests of the files, at most one file for each
+  ring, and writes what they change. F is from 32, or from IMAGE's pages where
+  there are fewer, to its pages, and L from 1 to 65536; nothing else depends on
+  them yet.
 recover
-  Opens IMAGE, and prints its last number.
+  Opens IMAGE, which writes what it recovers to, and prints its last number.
 dump
-  Opens IMAGE, and prints its tables and its last number.
+  Opens IMAGE, which writes it as recover does, and prints its tables and its
+  last number.
 drive SEED COUNT FILES
   Opens IMAGE, carries out COUNT random requests (0 to 99999) of each of so many
-  FILES (1 to 16), and prints how they were answered.
+  FILES (1 to 16), writes what they change, and prints how they were answered.
+audit PRINTED FILE..
+  Prints yes where PRINTED is what one thread could print that runs the files on
+  IMAGE, which has to be a copy from before the run. Only reads IMAGE.
 
 fresh and run print each request's number and reply, and the last number. Each
-command tells on standard error the numbers up to which all is durable.
-
-Each command writes IMAGE. While one runs, every other on that image ends with 6.
+command but audit tells on standard error the numbers up to which all is
+durable. While a command runs, every other on its IMAGE ends with 6.
 
 status: 0 done, 2 usage, 3 a file couldn't be read, 4 a file is no request file,
 5 the image doesn't fit or can't be opened, 6 the image failed or is in use, 7
-the output failed, 8 no memory, 9 the numbers may not be enough
+the output failed, 8 no memory, 9 the numbers may not be enough, 10 PRINTED is
+no such run
 ";
 
 /// What `--version` prints.

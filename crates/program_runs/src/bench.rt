@@ -2,6 +2,7 @@
 
 use crate::acts::act;
 use crate::asks::ask;
+use crate::audits::audit_run;
 use crate::outcome::Outcome;
 use crate::printing::{print_ending, print_output};
 use crate::scene::{Scene, Settings, medium_of};
@@ -110,6 +111,7 @@ impl Bench {
         let outcome = act(rt.alloc(), &self.scene(), words)?;
         print_ending(rt, &outcome)?;
         print_output(rt, &outcome)?;
+        audit_run(rt, &self.scene(), words, &outcome)?;
         Ok(outcome)
     }
 

@@ -6,6 +6,7 @@
 
 mod acts;
 mod asks;
+mod audits;
 mod bench;
 mod found;
 mod outcome;

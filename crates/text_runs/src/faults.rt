@@ -5,7 +5,7 @@ use command_edges::{Fault, fault_text};
 use std::alloc::AllocError;
 
 /// A fault of each kind, with numbers of its own.
-const FAULTS: [Fault; 15] = [
+const FAULTS: [Fault; 16] = [
     Fault::Usage,
     Fault::File { file: 2 },
     Fault::Text {
@@ -40,6 +40,7 @@ const FAULTS: [Fault; 15] = [
     Fault::Device,
     Fault::Output,
     Fault::Memory,
+    Fault::Audit { line: 3 },
 ];
 
 /// The status of each fault, and its line.

@@ -1,0 +1,81 @@
+//! What a run printed is audited, on the image from before it.
+
+use crate::acts::command_of;
+use crate::outcome::Outcome;
+use crate::printing::print_ending;
+use crate::scene::{Scene, Settings};
+use dude_io::MemFile;
+use std::alloc::{AllocError, Global};
+use std::io;
+
+/// The name of the file that has what a run printed.
+const PRINTED: &str = "run.out";
+
+/// Audits what a run of the product printed, where it ended well, and prints how that ended unless the answer is yes.
+pub fn audit_run(
+    rt: &HostRuntime,
+    scene: &Scene,
+    words: &[&str],
+    outcome: &Outcome,
+) -> io::Result<()> {
+    let Some(printed) = &outcome.printed else {
+        return Ok(());
+    };
+    let ["dude" | "aside", "run", rest @ ..] = words else {
+        return Ok(());
+    };
+    if outcome.answer.as_str() != "status 0\n" {
+        return Ok(());
+    }
+    let names = behind_option(behind_option(rest));
+    let audited = audited(rt.alloc(), scene, names, printed)?;
+    match &audited.printed {
+        Some(text) if text.as_slice() == b"yes\n" => Ok(()),
+        _ => {
+            rt.println("an audit of this run ends otherwise:")?;
+            print_ending(rt, &audited)
+        }
+    }
+}
+
+/// The words behind an option and its number, if they begin with one.
+fn behind_option<'a>(words: &'a [&'a str]) -> &'a [&'a str] {
+    match words {
+        [option, _, rest @ ..] if option.starts_with("--") => rest,
+        _ => words,
+    }
+}
+
+/// Carries out an audit of a printed run of the files of these names.
+fn audited(
+    alloc: Global,
+    scene: &Scene,
+    names: &[&str],
+    printed: &[u8],
+) -> Result<Outcome, AllocError> {
+    let mut files = Vec::new(alloc);
+    for file in scene.files {
+        files.push(MemFile {
+            name: file.name.clone()?,
+            bytes: file.bytes.clone()?,
+        })?;
+    }
+    files.push(MemFile {
+        name: String::from_str(alloc, PRINTED)?,
+        bytes: printed.to_vec(alloc)?,
+    })?;
+    let mut command = Vec::new(alloc);
+    command.push("audit")?;
+    command.push(PRINTED)?;
+    for name in names {
+        command.push(*name)?;
+    }
+    let mut settings = Settings::new();
+    settings.budget = 10_000_000;
+    let scene = Scene {
+        image: scene.image,
+        files: &files,
+        settings,
+    };
+    command_of(alloc, &scene, &command)
+}
