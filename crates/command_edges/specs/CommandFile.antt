@@ -40,6 +40,7 @@ audit_files printed names = record { name = printed; kind = Printed } ∷ reques
 abbrev pub file_wanted : FileWanted → CommandFile
 file_wanted wanted = record { name = wanted.name.now; kind = wanted.kind }
 
+-- what the code says of several files
 abbrev pub files_wanted : List FileWanted → List CommandFile
 files_wanted wanted = map file_wanted wanted
 
