@@ -65,6 +65,7 @@ module _ (printed : List ℕ) (names : List (List ℕ)) (f : FilesSight) (files 
   -- at `Yes` the text is a printed run of the files
   pub found_by : (text : FileText) → IsTextOf f (record { name = printed; kind = Printed }) text → All (All IsInRange) files → IsAnswer opening files text Yes
       → (found : IsRunFound printed names f opening) × All (All IsInRange) found.run.requests
+  unfolding whole_run
   found_by (Whole bytes) is ranges answer = (record { run = whole_run bytes.items is.0 is.1; is = answer.0.0 refl }, ranges)
   found_by TooLong is ranges answer = absurd (let no : ⊥ = cc in no)
 
@@ -73,6 +74,7 @@ module _ (printed : List ℕ) (names : List (List ℕ)) (f : FilesSight) (files 
 
   -- at `No` it is wrong at this line, or too long
   pub refused_by : (line : ℕ) (text : FileText) → IsTextOf f (record { name = printed; kind = Printed }) text → IsAnswer opening files text (No line) → IsRefusedRun printed names f opening line
+  unfolding whole_run
   refused_by line (Whole bytes) is answer = inr (record { run = whole_run bytes.items is.0 is.1; verdict = answer.1 })
   refused_by line TooLong is answer = inl (is.0, same_line line answer)
 
@@ -97,11 +99,11 @@ module _ (printed : List ℕ) (names : List (List ℕ)) (f : FilesSight) (openin
 
   pub audit_passes : (why : Fault) → MustRefuse (AuditRun printed names) f opening why → ⊥
   audit_passes why refuses =
-      passes_if (AuditRun printed names) f opening (λ line known no. not_refused line known.0 no) (omega arith) (λ w no. no) (λ w no. no) (λ known n no. no.0) why refuses
+      passes_if (AuditRun printed names) f opening (λ line known says. not_refused line known.0 says) (omega arith) (λ w no. no) (λ w no. no) (λ known n no. no.0) why refuses
 
 -- ---- how it ends
 
-module _ (printed : List ℕ) (names : List (List ℕ)) {s t : Sight} {f g : FilesSight} {k : SinkSight} (opening : Opening) (lawful : IsOpening opening) (on : IsOpeningOn s opening)
+module _ (printed : List ℕ) (names : List (List ℕ)) {s t : Sight} {f g : FilesSight} (k : SinkSight) (opening : Opening) (lawful : IsOpening opening) (on : IsOpeningOn s opening)
     (settled : IsTrue s.is_visible → IsSettled s.len (state_now s)) (reads : OnlyReads true s t) (files : FilesRead (AuditRun printed names) f g) where
   partly : (other : Opening) → IsOpeningOn s other → OpensPartly false other s t
   partly other starts = read_partly settled reads other starts
@@ -134,7 +136,7 @@ module _ (printed : List ℕ) (names : List (List ℕ)) {s t : Sight} {f g : Fil
     spared = spares (audit_opens printed names s) files partly (λ must. (true, reads));
     nothing = λ opens visible one starts why refuses. refl;
     ran = reads_ran reads other;
-    once = λ writes. inl refl;
+    once = λ writes. absurd (let never : ⊥ = cc in never);
     files = files.stays;
     sink = sink;
   }

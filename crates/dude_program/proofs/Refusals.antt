@@ -82,16 +82,16 @@ record IsAlone (meaning : Meaning) : Type 0 where
 
 -- only an audit says no
 alone : (meaning : Meaning) (f : FilesSight) (opening : Opening) (line : ℕ) → RefusesAudit meaning f opening line → IsAlone meaning
-alone (AuditRun printed files) f opening line no = record { reads = refl; files = refl; frames = λ w p h. h; few = λ s w h. h; numbers = λ h. h }
-alone (FreshRun s file) f opening line no = absurd no
-alone (FormatImage s c n k) f opening line no = absurd no
-alone (RunFiles frames locks files) f opening line no = absurd no
-alone RecoverImage f opening line no = absurd no
-alone DumpTables f opening line no = absurd no
-alone (DriveLoad seed count files) f opening line no = absurd no
+alone (AuditRun printed files) f opening line says = record { reads = refl; files = refl; frames = λ w p h. h; few = λ s w h. h; numbers = λ h. h }
+alone (FreshRun s file) f opening line says = absurd says
+alone (FormatImage s c n k) f opening line says = absurd says
+alone (RunFiles frames locks files) f opening line says = absurd says
+alone RecoverImage f opening line says = absurd says
+alone DumpTables f opening line says = absurd says
+alone (DriveLoad seed count files) f opening line says = absurd says
 
 pub never_no : (meaning : Meaning) (f : FilesSight) (opening : Opening) (line : ℕ) → only_reads meaning ≡ false → RefusesAudit meaning f opening line → ⊥
-never_no meaning f opening line writes no = let reads = (alone meaning f opening line no).reads in let never : ⊥ = cc in never
+never_no meaning f opening line writes says = let reads = (alone meaning f opening line says).reads in let never : ⊥ = cc in never
 
 -- Which refusal it is.
 data Which (meaning : Meaning) (f : FilesSight) (opening : Opening) (why : Fault) : Type 0 where

@@ -42,11 +42,7 @@ fn verdict_on(alloc: Global, image: &ImageRead, run: &PrintedRun) -> Result<Verd
 }
 
 // The verdict on a printed run, from the image on a medium on, which is only read.
-fn answer_on<M: Medium>(
-    alloc: Global,
-    medium: &mut M,
-    run: &PrintedRun,
-) -> Result<Verdict, Fault>
+fn answer_on<M: Medium>(alloc: Global, medium: &mut M, run: &PrintedRun) -> Result<Verdict, Fault>
     requires in_range { AreInRange run.now.files }
     ensures answer { IfOk result (IsAnswerOn (M.sight medium.old) run.now) }
     ensures reads { OnlyReadsImage result (M.sight medium.old) (M.sight medium.new) }

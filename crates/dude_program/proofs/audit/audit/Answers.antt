@@ -19,30 +19,30 @@ returns-in-Ok-Yes-clause-ends g c =
     let f = g.F.Files.sight c.args.files.now in
     let printed = c.args.printed.now in
     let names = map rc_str_bytes c.args.names.now in
-    let run = c.in-Ok.run in
+    let run = c.in-Ok.run' in
     let are = c.in-Ok.ensures.read in
-    let answer = c.in-Ok-Yes.ensures.answer in
+    let answer = rw c.in-Ok-Yes.field-0-is at c.in-Ok-Yes.ensures.answer in
     let found = found_by printed names f (requests_in run.files.items) answer.0 are.read run.printed are.text are.in_range answer.3 in
-    rw (c.new.ensures.medium, c.new.ensures.done, c.new.ensures.fault, c.new-in-Ok-Yes.ensures.items)
-    (ends_yes printed names answer.0 answer.1 answer.2 c.requires.settled c.in-Ok-Yes.ensures.reads (audit_files_read printed names run are c.in-Ok.ensures.reads.stays) found.0 found.1 c.print_yes.result c.print_yes.ensures)
+    rw (c.new-in-Ok-Yes.ensures.medium, c.new-in-Ok-Yes.ensures.done, c.new-in-Ok-Yes.ensures.fault, c.new.ensures.items)
+    (ends_yes printed names (g.K.Sink.sight c.args.out.now) answer.0 answer.1 answer.2 c.requires.settled c.in-Ok-Yes.ensures.reads (audit_files_read printed names run are c.in-Ok.ensures.reads.stays) found.0 found.1 c.print_yes.result c.print_yes.ensures)
 
 pub returns-in-Ok-No-clause-ends : goal.returns-in-Ok-No-clause-ends
 returns-in-Ok-No-clause-ends g c =
     let f = g.F.Files.sight c.args.files.now in
     let printed = c.args.printed.now in
     let names = map rc_str_bytes c.args.names.now in
-    let run = c.in-Ok.run in
+    let run = c.in-Ok.run' in
     let are = c.in-Ok.ensures.read in
-    let answer = c.in-Ok-No.ensures.answer in
+    let answer = rw c.in-Ok-No.field-0-is at c.in-Ok-No.ensures.answer in
     rw (c.refused-in-Ok-No.ensures.medium, c.refused-in-Ok-No.ensures.done, c.refused-in-Ok-No.ensures.fault)
-    (ends_no printed names answer.0 answer.1 answer.2 c.requires.settled c.in-Ok-No.ensures.reads (audit_files_read printed names run are c.in-Ok.ensures.reads.stays) c.in-Ok-No.line
+    (ends_no printed names (g.K.Sink.sight c.args.out.now) answer.0 answer.1 answer.2 c.requires.settled c.in-Ok-No.ensures.reads (audit_files_read printed names run are c.in-Ok.ensures.reads.stays) c.in-Ok-No.line
     (refused_by printed names f (requests_in run.files.items) answer.0 are.read c.in-Ok-No.line run.printed are.text answer.3))
 
 pub returns-clause-ends : goal.returns-clause-ends
 returns-clause-ends g c =
     let printed = c.args.printed.now in
     let names = map rc_str_bytes c.args.names.now in
-    let run = c.in-Ok.run in
+    let run = c.in-Ok.run' in
     let why = c.in-Err-answer_on.ensures.reads in
     rw (c.refused-in-Err-answer_on.ensures.medium, c.refused-in-Err-answer_on.ensures.done, c.refused-in-Err-answer_on.ensures.fault)
     (ends_at_open (audit_opens printed names (g.M.Medium.sight c.args.medium)) (audit_files_read printed names run c.in-Ok.ensures.read c.in-Ok.ensures.reads.stays)
