@@ -15,14 +15,14 @@ use Rattle.run_order.proofs.Law.{law}
 use Rattle.run_order.proofs.Performed.{performs_start}
 use Rattle.dude_io.specs.Files.{FilesSight}
 use Rattle.image_format.specs.Causes.{FitsImage}
-use Rattle.command_words.specs.Command.{Meaning, Meaning.FreshRun, Meaning.FormatImage, Meaning.RunFiles, Meaning.RecoverImage, Meaning.DumpTables, Meaning.DriveLoad}
+use Rattle.command_words.specs.Command.{Meaning, Meaning.FreshRun, Meaning.FormatImage, Meaning.RunFiles, Meaning.RecoverImage, Meaning.DumpTables, Meaning.DriveLoad, Meaning.AuditRun}
 use Rattle.dude_engine.specs.Opening.{Opening}
 use Rattle.command_edges.specs.declared.fault.Fault.{Fault}
 use Rattle.command_edges.specs.declared.fault.Fault.TheVariants.{Device, Memory}
 use Rattle.command_openings.specs.Opens.{Opens}
 use Rattle.command_openings.specs.Openings.{IsOpeningOn, new_opening}
 use Rattle.command_openings.proofs.OneOpening.{one_opening}
-use Rattle.dude_program.specs.Opening.{IsReachable, RequestsAre, Starts, ends_opened, makes_image, runs_requests}
+use Rattle.dude_program.specs.Opening.{IsReachable, RequestsAre, Starts, ends_opened, makes_image, only_reads, runs_requests}
 use Rattle.dude_program.specs.Headline.{Replies}
 use Rattle.dude_program.specs.Causes.{MustRefuse, OpensOnce, RanUnlessDevice, RefusesFormat}
 use Rattle.dude_program.specs.Work.{EndsWhole, RanOver}
@@ -34,6 +34,7 @@ use Rattle.dude_program.proofs.Stops.{IsMaker, IsOpener}
 
 -- The image of the command is opened at this opening.
 pub record ImageOpens (meaning : Meaning) (opening : Opening) (words : List ℕ) (s m : Sight) : Type 0 where
+  pub writes : only_reads meaning ≡ false
   pub starts : Starts meaning s opening
   pub is_open : Opens (makes_image meaning) opening words s m
   pub only : IsTrue s.is_visible → (other : Opening) → Starts meaning s other → other ≡ opening
@@ -43,6 +44,7 @@ pub record ImageOpens (meaning : Meaning) (opening : Opening) (words : List ℕ)
 pub opened_new : {meaning : Meaning} {sizes : Sizes} {words : List ℕ} {s m : Sight} → IsMaker meaning sizes s → FitsImage sizes s.len → Opens true (new_opening sizes) words s m
     → ImageOpens meaning (new_opening sizes) words s m
 opened_new {meaning} {sizes} {words} {s} {m} maker fits is_open = record {
+  writes = maker.writes;
   starts = maker.starts;
   is_open = subst (λ (b : Bool). Opens b (new_opening sizes) words s m) (sym maker.makes) is_open;
   only = λ visible other starts. maker.only other starts;
@@ -50,8 +52,9 @@ opened_new {meaning} {sizes} {words} {s} {m} maker fits is_open = record {
   fits = λ why refuses. fits_not_refused meaning sizes s.len why maker.sized fits refuses;
 }
 
-pub opened_old : {meaning : Meaning} {opening : Opening} {words : List ℕ} {s m : Sight} → IsOpener meaning s → IsOpeningOn s opening → Opens false opening words s m → ImageOpens meaning opening words s m
-opened_old {meaning} {opening} {words} {s} {m} opener on is_open = record {
+pub opened_old : {meaning : Meaning} {opening : Opening} {words : List ℕ} {s m : Sight} → IsOpener meaning s → only_reads meaning ≡ false → IsOpeningOn s opening → Opens false opening words s m → ImageOpens meaning opening words s m
+opened_old {meaning} {opening} {words} {s} {m} opener writes on is_open = record {
+  writes = writes;
   starts = opener.starts opening on;
   is_open = subst (λ (b : Bool). Opens b opening words s m) (sym opener.opens) is_open;
   only = λ visible other starts. one_opening s other opening visible (opener.on other starts) on;
@@ -67,6 +70,7 @@ runs_on (RunFiles frames locks files) runs = refl
 runs_on RecoverImage runs = cc runs
 runs_on DumpTables runs = cc runs
 runs_on (DriveLoad seed count number) runs = refl
+runs_on (AuditRun printed files) runs = cc runs
 
 -- no request, no reply
 collects_none : Collects [] [] []
@@ -102,6 +106,7 @@ module _ {meaning : Meaning} {f g : FilesSight} {opening : Opening} {words : Lis
   came_none : (last : ℕ) (fault : Option Fault) → (fault ≡ Some Device → ⊥) → CameBy meaning f opening [] last s m fault → Came meaning f g opening [] last fault s m
   came_none last fault other by = record {
     files = files;
+    writes = opened_image.writes;
     starts = opened_image.starts;
     lawful = opened_image.is_open.lawful;
     only = opened_image.only;
@@ -145,6 +150,7 @@ module _ {meaning : Meaning} {f g : FilesSight} {opening : Opening} {words : Lis
     came_by : (fault : Option Fault) → RanOver Reaches opening words requests done last fault m t → CameBy meaning f opening done last s t fault → Came meaning f g opening done last fault s t
     came_by fault run by = record {
       files = files;
+      writes = opened_image.writes;
       starts = opened_image.starts;
       lawful = opened_image.is_open.lawful;
       only = opened_image.only;

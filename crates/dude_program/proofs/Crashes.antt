@@ -18,7 +18,7 @@ use Rattle.tatp_model.specs.Database.{Database}
 use Rattle.tatp_model.specs.OneThread.{IsPrintedOrder, RepliesOfOneThread, after_number, after_requests, is_sync}
 use Rattle.run_order.specs.Runs.{SyncsFollow}
 use Rattle.image_recovery.specs.Recovered.{RecoversTo}
-use Rattle.command_words.specs.Command.{Meaning, Meaning.FreshRun, Meaning.FormatImage, Meaning.RunFiles, Meaning.RecoverImage, Meaning.DumpTables, Meaning.DriveLoad}
+use Rattle.command_words.specs.Command.{Meaning, Meaning.FreshRun, Meaning.FormatImage, Meaning.RunFiles, Meaning.RecoverImage, Meaning.DumpTables, Meaning.DriveLoad, Meaning.AuditRun}
 use Rattle.dude_engine.specs.Endings.{AreSyncsTold, End, LosesAtMost, WasToldLast}
 use Rattle.dude_engine.specs.Opening.{Opening, RecoversAmong, RecoversAt, last_of}
 use Rattle.dude_engine.specs.Plain.{LosesFew, RecoversAlongRun, most_lost_by}
@@ -38,6 +38,7 @@ reachable (RunFiles frames locks files) opening done n upto = tt
 reachable RecoverImage opening done n upto = upto
 reachable DumpTables opening done n upto = upto
 reachable (DriveLoad seed count files) opening done n upto = tt
+reachable (AuditRun printed files) opening done n upto = upto
 
 -- ---- the database at the opening number
 

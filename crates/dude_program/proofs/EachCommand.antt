@@ -13,13 +13,13 @@ use Rattle.dude_io.specs.Sink.{SinkSight}
 use Rattle.tatp_text.specs.Output.{output_of, last_line}
 use Rattle.image_opening.specs.declared.opened.Opened.{Opened}
 use Rattle.image_opening.specs.Opened.{IsOpened}
-use Rattle.command_words.specs.Command.{Meaning, Meaning.FreshRun, Meaning.FormatImage, Meaning.RunFiles, Meaning.RecoverImage, Meaning.DumpTables, Meaning.DriveLoad}
+use Rattle.command_words.specs.Command.{Meaning, Meaning.FreshRun, Meaning.FormatImage, Meaning.RunFiles, Meaning.RecoverImage, Meaning.DumpTables, Meaning.DriveLoad, Meaning.AuditRun}
 use Rattle.command_edges.specs.Files.{OfFile}
 use Rattle.dude_engine.specs.Opening.{Opening}
 use Rattle.dude_engine.specs.Plain.{IsOpeningOf}
 use Rattle.dude_engine.specs.Requests.{request_count}
 use Rattle.command_edges.specs.declared.fault.Fault.{Fault}
-use Rattle.command_edges.specs.declared.fault.Fault.TheVariants.{Usage, File, Text, Small, TooFew, Unformatted, Damaged, NotDb, ManyFiles, Frames, FewSubscribers, Numbers, Device, Output, Memory}
+use Rattle.command_edges.specs.declared.fault.Fault.TheVariants.{Usage, File, Text, Small, TooFew, Unformatted, Damaged, NotDb, ManyFiles, Frames, FewSubscribers, Numbers, Device, Output, Memory, Audit}
 use Rattle.command_openings.specs.Openings.{new_opening}
 use Rattle.command_openings.proofs.OneOpening.{opening_with}
 use Rattle.dude_program.specs.Opening.{fresh_sizes, load_of}
@@ -35,6 +35,7 @@ use Rattle.dude_program.proofs.Stops.{IsMaker, IsOpener}
 pub fresh_makes : (subscribers : ℕ) (file : List ℕ) (sizes : Sizes) (s : Sight) → sizes ≡ fresh_sizes subscribers → IsMaker (FreshRun subscribers file) sizes s
 fresh_makes subscribers file sizes s is = record {
   makes = refl;
+  writes = refl;
   sized = ap Some (sym is);
   starts = ap new_opening is;
   only = λ opening starts. starts ∙ ap new_opening (sym is);
@@ -43,6 +44,7 @@ fresh_makes subscribers file sizes s is = record {
 pub format_makes : (subscribers calls rings cells : ℕ) (sizes : Sizes) (s : Sight) → sizes ≡ sizes_for subscribers calls rings cells → IsMaker (FormatImage subscribers calls rings cells) sizes s
 format_makes subscribers calls rings cells sizes s is = record {
   makes = refl;
+  writes = refl;
   sized = ap Some (sym is);
   starts = ap new_opening is;
   only = λ opening starts. starts ∙ ap new_opening (sym is);
@@ -60,6 +62,9 @@ dump_opens s = record { opens = refl; sized = refl; on = λ opening starts. star
 pub drive_opens : (seed count files : ℕ) (s : Sight) → IsOpener (DriveLoad seed count files) s
 drive_opens seed count files s = record { opens = refl; sized = refl; on = λ opening starts. starts; starts = λ opening on. on }
 
+pub audit_opens : (printed : List ℕ) (files : List (List ℕ)) (s : Sight) → IsOpener (AuditRun printed files) s
+audit_opens printed files s = record { opens = refl; sized = refl; on = λ opening starts. starts; starts = λ opening on. on }
+
 -- the opening of an opened image
 abbrev pub opening_of : {M : Type 0} {ghosts : Ghosts M} (o : Opened M ghosts) → IsOpened o → Opening
 opening_of o opened = opening_with o.number o.sizes opened.lawful.0
@@ -70,16 +75,16 @@ is_opening_of o opened = record { number = refl; sizes = refl; stands = opened.l
 -- ---- which images are refused
 
 pub recover_passes : (f : FilesSight) (opening : Opening) (why : Fault) → MustRefuse RecoverImage f opening why → ⊥
-recover_passes f opening why refuses = passes_if RecoverImage f opening (omega arith) (λ w no. no) (λ w no. no) (λ known n no. no.0) why refuses
+recover_passes f opening why refuses = passes_if RecoverImage f opening (λ line known no. no) (omega arith) (λ w no. no) (λ w no. no) (λ known n no. no.0) why refuses
 
 pub dump_passes : (f : FilesSight) (opening : Opening) (why : Fault) → MustRefuse DumpTables f opening why → ⊥
-dump_passes f opening why refuses = passes_if DumpTables f opening (omega arith) (λ w no. no) (λ w no. no) (λ known n no. no.0) why refuses
+dump_passes f opening why refuses = passes_if DumpTables f opening (λ line known no. no) (omega arith) (λ w no. no) (λ w no. no) (λ known n no. no.0) why refuses
 
 module _ (frames locks : Option ℕ) (names : List (List ℕ)) (f : FilesSight) (requests : List (List Request)) (read : AllZip (OfFile f) names requests) (number : ℕ) (as_many : number ≡ length names) where
   pub run_passes : (opening : Opening) → number ≤ opening.sizes.rings → ((wanted : ℕ) → ¬ WantsFrames (RunFiles frames locks names) wanted opening.sizes.pages)
       → opening.number + 65 * request_count requests ≤ MAX_NUMBER → (why : Fault) → MustRefuse (RunFiles frames locks names) f opening why → ⊥
   run_passes opening rings none enough why refuses =
-      passes_if (RunFiles frames locks names) f opening (omega (arith, rings, as_many)) none (λ w no. no)
+      passes_if (RunFiles frames locks names) f opening (λ line known no. no) (omega (arith, rings, as_many)) none (λ w no. no)
       (λ visible count few. let same : count ≡ request_count requests = few.1.2 ∙ ap request_count (one_requests (RunFiles frames locks names) f opening few.1.0 requests visible few.1.1 read) in
       let over = few.2 in omega (arith, same, over, enough)) why refuses
 
@@ -99,6 +104,7 @@ module _ (frames locks : Option ℕ) (names : List (List ℕ)) (f : FilesSight) 
   run_refuses opening Device r = absurd r
   run_refuses opening Output r = absurd r
   run_refuses opening Memory r = absurd r
+  run_refuses opening (Audit a) r = absurd r
 
   pub run_came : (opening : Opening) (last : ℕ) (s t : Sight) → IsLeftOpened opening s t → (why : Fault) → RefusesRun (RunFiles frames locks names) number opening.sizes opening.number requests why
       → CameBy (RunFiles frames locks names) f opening [] last s t (Some why) × (◌≡◌ {A = Option Fault} (Some why) (Some Device) → ⊥)
@@ -117,12 +123,13 @@ module _ (frames locks : Option ℕ) (names : List (List ℕ)) (f : FilesSight) 
   run_came opening last s t left Device r = absurd r
   run_came opening last s t left Output r = absurd r
   run_came opening last s t left Memory r = absurd r
+  run_came opening last s t left (Audit a) r = absurd r
 
 module _ (seed count files : ℕ) (f : FilesSight) (opening : Opening) (requests : List (List Request)) (is : requests ≡ load_of opening.sizes.subscribers seed count files) where
   pub drive_passes : files ≤ opening.sizes.rings → files ≤ opening.sizes.subscribers → opening.number + 65 * request_count requests ≤ MAX_NUMBER
       → (why : Fault) → MustRefuse (DriveLoad seed count files) f opening why → ⊥
   drive_passes rings enough numbers why refuses =
-      passes_if (DriveLoad seed count files) f opening rings (λ w no. no) (λ w few. let low = few.1 in omega (arith, low, enough))
+      passes_if (DriveLoad seed count files) f opening (λ line known no. no) rings (λ w no. no) (λ w few. let low = few.1 in omega (arith, low, enough))
       (λ known n few. let same : n ≡ request_count requests = few.1.2 ∙ ap request_count (few.1.1 ∙ sym is) in let over = few.2 in omega (arith, same, over, numbers)) why refuses
 
   drive_refuses : (why : Fault) → RefusesLoad files opening.sizes opening.number requests why → (why ≡ Memory) ⊎ RefusesOpening (DriveLoad seed count files) f opening why
@@ -141,6 +148,7 @@ module _ (seed count files : ℕ) (f : FilesSight) (opening : Opening) (requests
   drive_refuses (NotDb a) r = absurd r
   drive_refuses Device r = absurd r
   drive_refuses Output r = absurd r
+  drive_refuses (Audit a) r = absurd r
 
   by_refusal : (last : ℕ) (s t : Sight) → IsLeftOpened opening s t → (why : Fault) → RefusesOpening (DriveLoad seed count files) f opening why
       → CameBy (DriveLoad seed count files) f opening [] last s t (Some why) × (◌≡◌ {A = Option Fault} (Some why) (Some Device) → ⊥)
@@ -159,6 +167,7 @@ module _ (seed count files : ℕ) (f : FilesSight) (opening : Opening) (requests
   by_refusal last s t left (NotDb a) r = absurd r
   by_refusal last s t left Device r = absurd r
   by_refusal last s t left Output r = absurd r
+  by_refusal last s t left (Audit a) r = absurd r
 
   pub drive_came : (last : ℕ) (s t : Sight) → IsLeftOpened opening s t → (why : Fault) → RefusesLoad files opening.sizes opening.number requests why
       → CameBy (DriveLoad seed count files) f opening [] last s t (Some why) × (◌≡◌ {A = Option Fault} (Some why) (Some Device) → ⊥)

@@ -6,27 +6,33 @@ use Rattle.std.specs.Bool.{MatchBool}
 use Rattle.std.proofs.lemmas.List.{length-append}
 use Rattle.std.proofs.Math.Seq.{take-append_seam}
 use Rattle.pmem_trait.specs.Sights.{Sight, Risen}
+use Rattle.pmem_trait.specs.Reads.{OnlyReads}
 use Rattle.tatp_model.specs.declared.done.Done.{Done}
 use Rattle.tatp_model.specs.OneThread.{AllAreDone}
 use Rattle.dude_io.specs.Files.{FilesSight}
 use Rattle.dude_io.specs.Sink.{SinkSight, Took}
-use Rattle.command_words.specs.Command.{Meaning}
+use Rattle.command_words.specs.Command.{Meaning, Meaning.FreshRun, Meaning.FormatImage, Meaning.RunFiles, Meaning.RecoverImage, Meaning.DumpTables, Meaning.DriveLoad, Meaning.AuditRun}
 use Rattle.dude_engine.specs.Endings.{End}
 use Rattle.dude_engine.specs.Opening.{Opening, IsOpening}
 use Rattle.command_edges.specs.declared.fault.Fault.{Fault}
-use Rattle.command_edges.specs.declared.fault.Fault.TheVariants.{Usage, File, Text, Small, TooFew, Unformatted, Damaged, NotDb, ManyFiles, Frames, FewSubscribers, Numbers, Device, Output, Memory}
+use Rattle.command_edges.specs.declared.fault.Fault.TheVariants.{Usage, File, Text, Small, TooFew, Unformatted, Damaged, NotDb, ManyFiles, Frames, FewSubscribers, Numbers, Device, Output, Memory, Audit}
 use Rattle.command_edges.specs.Printing.{StopsIn}
 use Rattle.command_openings.specs.Openings.{IsOpeningOn}
-use Rattle.dude_program.specs.World.{SinkStays, world_of}
-use Rattle.dude_program.specs.Opening.{IsOutput, IsReachable, Starts, ends_opened, makes_image}
-use Rattle.dude_program.specs.Headline.{AllDone, Crash, Headline, Printed, Replies, Sync, TookAll, TookPrefix}
-use Rattle.dude_program.specs.Causes.{Causes, HasCause, IsGood, IsLeftOpened, MustRefuse, OpensOnce, OpensOnceBy, RanUnlessDevice, RefusesFormat, RefusesOpening, StoppedByOpening, Untouched}
+use Rattle.dude_program.specs.World.{SinkStays, World, world_of}
+use Rattle.dude_program.specs.Opening.{IsOutput, IsReachable, Starts, ends_opened, makes_image, only_reads}
+use Rattle.dude_program.specs.Headline.{AllDone, Completed, Crash, Headline, MustOnlyRead, Printed, Replies, Sync, TookAll, TookPrefix}
+use Rattle.dude_program.specs.Causes.{Causes, HasCause, IsGood, IsLeft, IsLeftOpened, MustRefuse, OpensOnce, OpensOnceBy, RanUnlessDevice, RefusesFormat, RefusesOpening, StoppedByOpening, Untouched}
 use Rattle.dude_program.specs.Ending.{Ends}
 use Rattle.dude_program.specs.Work.{PrintsText}
 use Rattle.dude_program.proofs.FilesRead.{FilesRead, read_bad, read_fits, read_missing}
 use Rattle.dude_program.proofs.Contents.{opens_not_refused}
-use Rattle.dude_program.proofs.Refusals.{one_refusal}
+use Rattle.dude_program.proofs.Refusals.{never_no, one_refusal}
 use Rattle.dude_program.proofs.Crashes.{crash_each}
+
+-- a command that has an opening, and doesn't only read
+pub must_not : (meaning : Meaning) (s : Sight) → only_reads meaning ≡ false → (opening : Opening) → Starts meaning s opening → MustOnlyRead meaning s → ⊥
+must_not meaning s writes opening starts (inl only) = let no : ⊥ = cc in no
+must_not meaning s writes opening starts (inr none) = none opening starts
 
 -- All requests are done, up to this last number.
 pub record Finished (meaning : Meaning) (f : FilesSight) (opening : Opening) (done : List Done) (last : ℕ) (s t : Sight) : Type 0 where
@@ -58,6 +64,7 @@ pub record Came (meaning : Meaning) (f g : FilesSight) (opening : Opening) (done
   pub sync : Sync done s t
   pub ran : RanUnlessDevice fault s t
   pub once : OpensOnce meaning fault s t
+  pub writes : only_reads meaning ≡ false
   pub nothing : makes_image meaning ≡ false → (why : Fault) → MustRefuse meaning f opening why → done ≡ []
   pub cause : CameBy meaning f opening done last s t fault
 
@@ -65,7 +72,7 @@ pub record Came (meaning : Meaning) (f g : FilesSight) (opening : Opening) (done
 pub sink_same : {k : SinkSight} → SinkStays k k
 sink_same = record { faults = omega arith; is_visible = refl }
 
-sink_took : {bytes : List ℕ} {k l : SinkSight} → Took bytes k l → SinkStays k l
+pub sink_took : {bytes : List ℕ} {k l : SinkSight} → Took bytes k l → SinkStays k l
 sink_took took = record { faults = took.faults; is_visible = took.is_visible }
 
 -- the calls before a fault that isn't the medium's
@@ -93,7 +100,7 @@ once_by meaning (Some Output) done s t once = once
 once_by meaning fault done s t once = inr once
 
 -- the prefix of the output that was taken
-took_prefix : {text : List ℕ} {k l : SinkSight} {fault : Fault} → StopsIn text k l fault → TookPrefix k l text
+pub took_prefix : {text : List ℕ} {k l : SinkSight} {fault : Fault} → StopsIn text k l fault → TookPrefix k l text
 took_prefix {text} {k} stops visible = (
   length stops.prefix,
   omega (arith, stops.some, ap length stops.split, length-append stops.prefix stops.rest),
@@ -108,7 +115,7 @@ module _ {meaning : Meaning} {f g : FilesSight} {opening : Opening} {done : List
     crash = λ other starts. crash_each meaning opening other done s t (λ visible. came.only visible other starts) came.crash;
     sync = came.sync;
     printed = printed;
-    only_read = λ none. absurd (none opening came.starts);
+    only_read = λ must. absurd (must_not meaning s came.writes opening came.starts must);
   }
 
   -- the causes, but for those of the opened image and of what follows
@@ -132,10 +139,24 @@ module _ {meaning : Meaning} {f g : FilesSight} {opening : Opening} {done : List
     nothing = λ opens visible other starts why refuses.
         came.nothing opens why (subst (λ (o : Opening). MustRefuse meaning f o why) (came.only visible other starts) refuses);
     ran = ran;
-    once = once_by meaning fault done s t once;
+    once = λ opens. once_by meaning fault done s t once;
     files = came.files.stays;
     sink = sink;
   }
+
+-- a command that opens its image leaves it so
+is_left : (meaning : Meaning) (opening : Opening) (s t : Sight) → only_reads meaning ≡ false → IsLeftOpened opening s t → IsLeft meaning opening s t
+is_left meaning opening s t writes left = subst (λ (b : Bool). MatchBool b (OnlyReads true s t) (IsLeftOpened opening s t)) (sym writes) left
+
+-- and all is done where it ends well
+completed : (meaning : Meaning) (old new : World) (done : List Done) (Taken : List ℕ → Type 0) → only_reads meaning ≡ false → AllDone meaning old new done Taken → Completed meaning old new done Taken
+completed (FreshRun subscribers file) old new done Taken writes all = all
+completed (FormatImage s c n k) old new done Taken writes all = all
+completed (RunFiles frames locks files) old new done Taken writes all = all
+completed RecoverImage old new done Taken writes all = all
+completed DumpTables old new done Taken writes all = all
+completed (DriveLoad seed count number) old new done Taken writes all = all
+completed (AuditRun printed names) old new done Taken writes all = absurd (let no : ⊥ = cc in no)
 
 -- an opened image was refused
 ends_behind : {meaning : Meaning} {f g : FilesSight} {opening : Opening} {done : List Done} {last : ℕ} {s t : Sight} {k : SinkSight} (why : Fault) → Came meaning f g opening done last (Some why) s t
@@ -162,14 +183,14 @@ ends_faulted Memory came = record {
   headline = λ has. headline_of came (Some Memory) (inl (inl refl));
   causes = causes_of came (Some Memory) tt (λ opens visible why refuses. inr tt) (λ good medium output. inr refl) tt came.ran came.once sink_same;
 }
-ends_faulted {opening = opening} (ManyFiles a b) came =
-    ends_behind (ManyFiles a b) came came.cause.0 came.cause.2 (record { opening = opening; opens = came.cause.0; starts = came.starts; lawful = came.lawful; why = came.cause.2; left = came.cause.3 }) refl came.cause.1
-ends_faulted {opening = opening} (Frames a b) came =
-    ends_behind (Frames a b) came came.cause.0 came.cause.2 (record { opening = opening; opens = came.cause.0; starts = came.starts; lawful = came.lawful; why = came.cause.2; left = came.cause.3 }) refl came.cause.1
-ends_faulted {opening = opening} (FewSubscribers a b) came =
-    ends_behind (FewSubscribers a b) came came.cause.0 came.cause.2 (record { opening = opening; opens = came.cause.0; starts = came.starts; lawful = came.lawful; why = came.cause.2; left = came.cause.3 }) refl came.cause.1
-ends_faulted {opening = opening} (Numbers a b) came =
-    ends_behind (Numbers a b) came came.cause.0 came.cause.2 (record { opening = opening; opens = came.cause.0; starts = came.starts; lawful = came.lawful; why = came.cause.2; left = came.cause.3 }) refl came.cause.1
+ends_faulted {meaning} {opening = opening} {s = s} {t = t} (ManyFiles a b) came =
+    ends_behind (ManyFiles a b) came came.cause.0 came.cause.2 (record { opening = opening; opens = came.cause.0; starts = came.starts; lawful = came.lawful; why = came.cause.2; left = is_left meaning opening s t came.writes came.cause.3 }) refl came.cause.1
+ends_faulted {meaning} {opening = opening} {s = s} {t = t} (Frames a b) came =
+    ends_behind (Frames a b) came came.cause.0 came.cause.2 (record { opening = opening; opens = came.cause.0; starts = came.starts; lawful = came.lawful; why = came.cause.2; left = is_left meaning opening s t came.writes came.cause.3 }) refl came.cause.1
+ends_faulted {meaning} {opening = opening} {s = s} {t = t} (FewSubscribers a b) came =
+    ends_behind (FewSubscribers a b) came came.cause.0 came.cause.2 (record { opening = opening; opens = came.cause.0; starts = came.starts; lawful = came.lawful; why = came.cause.2; left = is_left meaning opening s t came.writes came.cause.3 }) refl came.cause.1
+ends_faulted {meaning} {opening = opening} {s = s} {t = t} (Numbers a b) came =
+    ends_behind (Numbers a b) came came.cause.0 came.cause.2 (record { opening = opening; opens = came.cause.0; starts = came.starts; lawful = came.lawful; why = came.cause.2; left = is_left meaning opening s t came.writes came.cause.3 }) refl came.cause.1
 ends_faulted Usage came = absurd came.cause.2
 ends_faulted (File n) came = absurd came.cause.2
 ends_faulted (Text n r c) came = absurd came.cause.2
@@ -179,6 +200,7 @@ ends_faulted Unformatted came = absurd came.cause.2
 ends_faulted (Damaged a) came = absurd came.cause.2
 ends_faulted (NotDb a) came = absurd came.cause.2
 ends_faulted Output came = absurd came.cause.2
+ends_faulted {meaning} {f} {opening = opening} (Audit line) came = absurd (never_no meaning f opening line came.writes came.cause.2)
 
 module _ {meaning : Meaning} {f g : FilesSight} {opening : Opening} {done : List Done} {last : ℕ} {s t : Sight} (came : Came meaning f g opening done last None s t) (text : List ℕ)
     (output : IsOutput meaning opening done last text) where
@@ -205,7 +227,7 @@ module _ {meaning : Meaning} {f g : FilesSight} {opening : Opening} {done : List
   -- all was done and printed
   ends_whole : {k l : SinkSight} → Took text k l → Ends meaning (world_of s f k) (world_of t g l) done None
   ends_whole {k} {l} took = record {
-    headline = λ has. headline_of came None (all_done k l {Taken = TookAll k l} took.taken);
+    headline = λ has. headline_of came None (completed meaning (world_of s f k) (world_of t g l) done (TookAll k l) came.writes (all_done k l {Taken = TookAll k l} took.taken));
     causes = causes_of came None tt (passed None) (λ good medium output. inl refl) tt came.ran came.once (sink_took took);
   }
 
@@ -216,8 +238,8 @@ module _ {meaning : Meaning} {f g : FilesSight} {opening : Opening} {done : List
       P : Fault → Type 0
       P x = Ends meaning (world_of s f k) (world_of t g l) done (Some x)
 
-      all : AllDone meaning (world_of s f k) (world_of t g l) done (TookPrefix k l)
-      all = all_done k l {Taken = TookPrefix k l} (took_prefix stops)
+      all : Completed meaning (world_of s f k) (world_of t g l) done (TookPrefix k l)
+      all = completed meaning (world_of s f k) (world_of t g l) done (TookPrefix k l) came.writes (all_done k l {Taken = TookPrefix k l} (took_prefix stops))
 
       at_output : Risen k.faults l.faults → P Output
       at_output risen = record {

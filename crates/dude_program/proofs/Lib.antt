@@ -6,4 +6,5 @@ pub mod Endings
 pub mod Stops
 pub mod Came
 pub mod EachCommand
+pub mod Audits
 pub mod Works

@@ -1,16 +1,16 @@
 -- An opened image is refused for one reason.
-use Rattle.std.proofs.Common.{◌≡◌, ℕ, ◌<◌, ◌≤◌, List, [], ◌∷◌, Some, None, IsTrue, refl, sym, ap, ◌∙◌, subst, arith}
+use Rattle.std.proofs.Common.{◌≡◌, ℕ, ◌<◌, ◌≤◌, List, [], ◌∷◌, Bool, true, false, Some, None, IsTrue, refl, sym, ap, ◌∙◌, subst, arith}
 use Rattle.std.specs.List.{AllZip}
 use Rattle.tatp_model.specs.declared.request.Request.{Request}
 use Rattle.dude_io.specs.Files.{FilesSight}
-use Rattle.command_words.specs.Command.{Meaning, Meaning.FreshRun, Meaning.FormatImage, Meaning.RunFiles, Meaning.RecoverImage, Meaning.DumpTables, Meaning.DriveLoad}
+use Rattle.command_words.specs.Command.{Meaning, Meaning.FreshRun, Meaning.FormatImage, Meaning.RunFiles, Meaning.RecoverImage, Meaning.DumpTables, Meaning.DriveLoad, Meaning.AuditRun}
 use Rattle.command_edges.specs.Files.{OfFile}
 use Rattle.dude_engine.specs.Opening.{Opening}
 use Rattle.dude_engine.specs.Requests.{request_count}
 use Rattle.command_edges.specs.declared.fault.Fault.{Fault}
-use Rattle.command_edges.specs.declared.fault.Fault.TheVariants.{Usage, File, Text, Small, TooFew, Unformatted, Damaged, NotDb, ManyFiles, Frames, FewSubscribers, Numbers, Device, Output, Memory}
-use Rattle.dude_program.specs.Opening.{RequestsAre}
-use Rattle.dude_program.specs.Causes.{KnowsCause, KnowsRequests, MustRefuse, RefusesOpening, WantsFrames, WantsNumbers, WantsSubscribers, files_run}
+use Rattle.command_edges.specs.declared.fault.Fault.TheVariants.{Usage, File, Text, Small, TooFew, Unformatted, Damaged, NotDb, ManyFiles, Frames, FewSubscribers, Numbers, Device, Output, Memory, Audit}
+use Rattle.dude_program.specs.Opening.{RequestsAre, only_reads}
+use Rattle.dude_program.specs.Causes.{DrawsNumbers, KnowsCause, KnowsRequests, MustRefuse, RefusesAudit, RefusesOpening, WantsFrames, WantsNumbers, WantsSubscribers, files_run}
 
 -- where files tell, they hold one list of requests each
 one_of_file : (f : FilesSight) (name : List ℕ) (a b : List Request) → IsTrue f.is_visible → OfFile f name a → OfFile f name b → a ≡ b
@@ -23,7 +23,7 @@ one_of_none f [] [] one other = refl
 one_of_none f [] (y ∷ b) one other = absurd other
 one_of_none f (x ∷ a) b one other = absurd one
 
-one_of_files : (f : FilesSight) (names : List (List ℕ)) (a b : List (List Request)) → IsTrue f.is_visible → AllZip (OfFile f) names a → AllZip (OfFile f) names b → a ≡ b
+pub one_of_files : (f : FilesSight) (names : List (List ℕ)) (a b : List (List Request)) → IsTrue f.is_visible → AllZip (OfFile f) names a → AllZip (OfFile f) names b → a ≡ b
 one_of_files f [] a b visible one other = one_of_none f a b one other
 one_of_files f (name ∷ names) (x ∷ a) (y ∷ b) visible one other =
     let head : x ≡ y = one_of_file f name x y visible one.0 other.0 in
@@ -39,6 +39,7 @@ one_requests (FormatImage s c n k) f opening a b known one other = one ∙ sym o
 one_requests (RunFiles frames locks files) f opening a b visible one other = one_of_files f files a b visible one other
 one_requests RecoverImage f opening a b known one other = one ∙ sym other
 one_requests DumpTables f opening a b known one other = one ∙ sym other
+one_requests (AuditRun printed files) f opening a b known one other = one ∙ sym other
 one_requests (DriveLoad seed count files) f opening a b known one other = one ∙ sym other
 
 -- the frames that are wanted are those that the words name
@@ -50,6 +51,7 @@ one_frames (FormatImage s c n k) v w pages one other = absurd one
 one_frames RecoverImage v w pages one other = absurd one
 one_frames DumpTables v w pages one other = absurd one
 one_frames (DriveLoad seed count files) v w pages one other = absurd one
+one_frames (AuditRun printed files) v w pages one other = absurd one
 
 one_load : (meaning : Meaning) (subscribers v w : ℕ) → WantsSubscribers meaning subscribers v → WantsSubscribers meaning subscribers w → v ≡ w
 one_load (DriveLoad seed count files) subscribers v w one other = one.0 ∙ sym other.0
@@ -58,6 +60,7 @@ one_load (FreshRun s file) subscribers v w one other = absurd one
 one_load (FormatImage s c n k) subscribers v w one other = absurd one
 one_load RecoverImage subscribers v w one other = absurd one
 one_load DumpTables subscribers v w one other = absurd one
+one_load (AuditRun printed files) subscribers v w one other = absurd one
 
 -- no command wants both
 never_both : (meaning : Meaning) (v w pages subscribers : ℕ) → WantsFrames meaning v pages → WantsSubscribers meaning subscribers w → ⊥
@@ -67,6 +70,28 @@ never_both (FreshRun s file) v w pages subscribers one other = absurd one
 never_both (FormatImage s c n k) v w pages subscribers one other = absurd one
 never_both RecoverImage v w pages subscribers one other = absurd one
 never_both DumpTables v w pages subscribers one other = absurd one
+never_both (AuditRun printed files) v w pages subscribers one other = absurd one
+
+-- What an audit has none of.
+record IsAlone (meaning : Meaning) : Type 0 where
+  reads : only_reads meaning ≡ true
+  files : files_run meaning ≡ 0
+  frames : (wanted pages : ℕ) → WantsFrames meaning wanted pages → ⊥
+  few : (subscribers wanted : ℕ) → WantsSubscribers meaning subscribers wanted → ⊥
+  numbers : DrawsNumbers meaning → ⊥
+
+-- only an audit says no
+alone : (meaning : Meaning) (f : FilesSight) (opening : Opening) (line : ℕ) → RefusesAudit meaning f opening line → IsAlone meaning
+alone (AuditRun printed files) f opening line says = record { reads = refl; files = refl; frames = λ w p h. h; few = λ s w h. h; numbers = λ h. h }
+alone (FreshRun s file) f opening line says = absurd says
+alone (FormatImage s c n k) f opening line says = absurd says
+alone (RunFiles frames locks files) f opening line says = absurd says
+alone RecoverImage f opening line says = absurd says
+alone DumpTables f opening line says = absurd says
+alone (DriveLoad seed count files) f opening line says = absurd says
+
+pub never_no : (meaning : Meaning) (f : FilesSight) (opening : Opening) (line : ℕ) → only_reads meaning ≡ false → RefusesAudit meaning f opening line → ⊥
+never_no meaning f opening line writes says = let reads = (alone meaning f opening line says).reads in let never : ⊥ = cc in never
 
 -- Which refusal it is.
 data Which (meaning : Meaning) (f : FilesSight) (opening : Opening) (why : Fault) : Type 0 where
@@ -76,6 +101,7 @@ data Which (meaning : Meaning) (f : FilesSight) (opening : Opening) (why : Fault
       → Which meaning f opening why
   numbers : (count : ℕ) → (why ≡ Numbers opening.number count) → (files_run meaning ≤ opening.sizes.rings) → ((wanted : ℕ) → ¬ WantsFrames meaning wanted opening.sizes.pages)
       → ((wanted : ℕ) → ¬ WantsSubscribers meaning opening.sizes.subscribers wanted) → WantsNumbers meaning f opening count → Which meaning f opening why
+  said_no : (line : ℕ) → (why ≡ Audit line) → RefusesAudit meaning f opening line → Which meaning f opening why
 
 which : (meaning : Meaning) (f : FilesSight) (opening : Opening) (why : Fault) → RefusesOpening meaning f opening why → Which meaning f opening why
 which meaning f opening (ManyFiles wanted rings) r = many (let e = r.0 in let h = r.1 in cc) (omega (arith, r.0, r.1, r.2))
@@ -93,18 +119,20 @@ which meaning f opening (NotDb a) r = absurd r
 which meaning f opening Device r = absurd r
 which meaning f opening Output r = absurd r
 which meaning f opening Memory r = absurd r
+which meaning f opening (Audit line) r = said_no line refl r
 
 -- an opened image isn't refused where nothing refuses it
-pub passes_if : (meaning : Meaning) (f : FilesSight) (opening : Opening) → files_run meaning ≤ opening.sizes.rings → ((wanted : ℕ) → ¬ WantsFrames meaning wanted opening.sizes.pages)
+pub passes_if : (meaning : Meaning) (f : FilesSight) (opening : Opening) → ((line : ℕ) → KnowsCause meaning f opening (Audit line) → RefusesAudit meaning f opening line → ⊥) → files_run meaning ≤ opening.sizes.rings → ((wanted : ℕ) → ¬ WantsFrames meaning wanted opening.sizes.pages)
     → ((wanted : ℕ) → ¬ WantsSubscribers meaning opening.sizes.subscribers wanted) → (KnowsRequests meaning f → (count : ℕ) → ¬ WantsNumbers meaning f opening count)
     → (why : Fault) → MustRefuse meaning f opening why → ⊥
-passes_if meaning f opening rings no_frames no_few no_numbers why refuses = by (which meaning f opening why refuses.0)
+passes_if meaning f opening no_no rings no_frames no_few no_numbers why refuses = by (which meaning f opening why refuses.0)
   where
     by : Which meaning f opening why → ⊥
     by (many e x) = omega (arith, x, rings)
     by (frames w e x wants) = no_frames w wants
     by (few w e x wants) = no_few w wants
-    by (numbers count e x y z wants) = no_numbers (subst (KnowsCause meaning f) e refuses.1) count wants
+    by (numbers count e x y z wants) = no_numbers (subst (KnowsCause meaning f opening) e refuses.1) count wants
+    by (said_no line e says) = no_no line (subst (KnowsCause meaning f opening) e refuses.1) says
 
 pub one_refusal : (meaning : Meaning) (f : FilesSight) (opening : Opening) (a b : Fault) → RefusesOpening meaning f opening a → MustRefuse meaning f opening b → a ≡ b
 one_refusal meaning f opening a b one other = by (which meaning f opening a one) (which meaning f opening b other.0)
@@ -126,5 +154,14 @@ one_refusal meaning f opening a b one other = by (which meaning f opening a one)
     by (numbers u e x none z m) (frames v g y w) = absurd (none v w)
     by (numbers u e x z none m) (few v g y w) = absurd (none v w)
     by (numbers u e x w z m) (numbers v g y p q n) =
-        let same = one_requests meaning f opening m.1.0 n.1.0 (subst (KnowsCause meaning f) g other.1) m.1.1 n.1.1 in
+        let same = one_requests meaning f opening m.1.0 n.1.0 (subst (KnowsCause meaning f opening) g other.1) m.1.1 n.1.1 in
         e ∙ (ap (Numbers opening.number) (m.1.2 ∙ (ap request_count same ∙ sym n.1.2)) ∙ sym g)
+    by (said_no line e says) (many g y) = absurd (let none = (alone meaning f opening line says).files in omega (arith, none, y))
+    by (said_no line e says) (frames v g y w) = absurd ((alone meaning f opening line says).frames v opening.sizes.pages w)
+    by (said_no line e says) (few v g y w) = absurd ((alone meaning f opening line says).few opening.sizes.subscribers v w)
+    by (said_no line e says) (numbers v g y p q n) = absurd ((alone meaning f opening line says).numbers n.0)
+    by (said_no line e says) (said_no also g same) = e ∙ (ap Audit ((subst (KnowsCause meaning f opening) g other.1).1 line says) ∙ sym g)
+    by (many e x) (said_no also g says) = absurd (let none = (alone meaning f opening also says).files in omega (arith, none, x))
+    by (frames u e x w) (said_no also g says) = absurd ((alone meaning f opening also says).frames u opening.sizes.pages w)
+    by (few u e x w) (said_no also g says) = absurd ((alone meaning f opening also says).few opening.sizes.subscribers u w)
+    by (numbers u e x w z m) (said_no also g says) = absurd ((alone meaning f opening also says).numbers m.0)

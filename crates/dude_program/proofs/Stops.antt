@@ -16,25 +16,25 @@ use Rattle.image_format.specs.Causes.{FormatsSome}
 use Rattle.image_format.specs.FormatCalls.{format_calls}
 use Rattle.image_opening.specs.Answers.{StillRecovers}
 use Rattle.image_opening.proofs.SettledReads.{content_kept}
-use Rattle.command_words.specs.Command.{Meaning, Meaning.FreshRun, Meaning.FormatImage, Meaning.RunFiles, Meaning.RecoverImage, Meaning.DumpTables, Meaning.DriveLoad}
+use Rattle.command_words.specs.Command.{Meaning, Meaning.FreshRun, Meaning.FormatImage, Meaning.RunFiles, Meaning.RecoverImage, Meaning.DumpTables, Meaning.DriveLoad, Meaning.AuditRun}
 use Rattle.command_edges.specs.Files.{HasFileFault, MissesFile}
 use Rattle.command_edges.specs.Files as read
 use Rattle.dude_engine.specs.Opening.{Opening}
 use Rattle.command_edges.specs.declared.fault.Fault.{Fault}
-use Rattle.command_edges.specs.declared.fault.Fault.TheVariants.{Usage, File, Text, Small, TooFew, Unformatted, Damaged, NotDb, ManyFiles, Frames, FewSubscribers, Numbers, Device, Output, Memory}
+use Rattle.command_edges.specs.declared.fault.Fault.TheVariants.{Usage, File, Text, Small, TooFew, Unformatted, Damaged, NotDb, ManyFiles, Frames, FewSubscribers, Numbers, Device, Output, Memory, Audit}
 use Rattle.command_openings.specs.Opens.{OpensPartly, ShowsOpening}
 use Rattle.command_openings.specs.Faults.{HasFormatFault, HasOpenFault}
 use Rattle.command_openings.specs.Openings.{IsOpeningOn, new_opening}
 use Rattle.command_openings.proofs.ImageOpened.{partly_opened}
 use Rattle.dude_program.specs.World.{world_of}
-use Rattle.dude_program.specs.Opening.{Starts, file_names, makes_image}
-use Rattle.dude_program.specs.Headline.{Headline, Printed}
+use Rattle.dude_program.specs.Opening.{Starts, command_files, makes_image, only_reads}
+use Rattle.dude_program.specs.Headline.{Headline, MustOnlyRead, Printed}
 use Rattle.dude_program.specs.Causes.{FilesRefuse, HasCause, OpensOnceBy, RanUnlessDevice, RefusesContent, RefusesFormat, RefusesInOrder, StoppedAtFiles, StoppedByOpening, StoppedReading, Untouched, sizes_made}
 use Rattle.dude_program.specs.Ending.{Ends}
 use Rattle.dude_program.proofs.FilesRead.{FilesRead, all_read, good_none_bad, one_bad, read_bad, read_fits, read_missing}
 use Rattle.dude_program.proofs.Contents.{fits_not_refused, makes_none, one_content_fault, one_format_fault, opens_not_refused}
 use Rattle.dude_program.proofs.Crashes.{crash_prefix, sync_none}
-use Rattle.dude_program.proofs.Endings.{sink_same}
+use Rattle.dude_program.proofs.Endings.{must_not, sink_same}
 
 -- the calls behind which a fault isn't the medium's
 calls_well : {fault : Option Fault} {s t : Sight} → SomeCalls true s t → (fault ≡ Some Device → ⊥) → RanUnlessDevice fault s t
@@ -46,7 +46,7 @@ calls_failed ran = (false, ran, (λ failed. refl, λ is. refl))
 calls_none : {fault : Option Fault} (s t : Sight) → t ≡ s → (fault ≡ Some Device → ⊥) → RanUnlessDevice fault s t
 calls_none {fault} s t same other = subst (λ (u : Sight). RanUnlessDevice fault s u) (sym same) (calls_well (ran_here s) other)
 
-reads_ran : {fault : Option Fault} {s t : Sight} → OnlyReads true s t → (fault ≡ Some Device → ⊥) → RanUnlessDevice fault s t
+pub reads_ran : {fault : Option Fault} {s t : Sight} → OnlyReads true s t → (fault ≡ Some Device → ⊥) → RanUnlessDevice fault s t
 reads_ran reads other = calls_well (map Read reads.words, reads.made) other
 
 -- the image was made, or no call was made
@@ -55,8 +55,8 @@ made_or_none sizes s t (inl same) = calls_none s t same (λ e. let no : ⊥ = cc
 made_or_none sizes s t (inr made) = calls_well (format_calls sizes made.0, made.2) (λ e. let no : ⊥ = cc in no)
 
 -- the headline where nothing is done
-headline_none : (meaning : Meaning) {s t : Sight} {f g : FilesSight} {k : SinkSight} (fault : Fault) → ((opening : Opening) → Starts meaning s opening → OpensPartly (makes_image meaning) opening s t)
-    → Printed meaning (world_of s f k) (world_of t g k) [] (Some fault) → (((opening : Opening) → Starts meaning s opening → ⊥) → (ok : Bool) × OnlyReads ok s t)
+pub headline_none : (meaning : Meaning) {s t : Sight} {f g : FilesSight} {k : SinkSight} (fault : Fault) → ((opening : Opening) → Starts meaning s opening → OpensPartly (makes_image meaning) opening s t)
+    → Printed meaning (world_of s f k) (world_of t g k) [] (Some fault) → (MustOnlyRead meaning s → (ok : Bool) × OnlyReads ok s t)
     → Headline meaning (world_of s f k) (world_of t g k) [] (Some fault)
 headline_none meaning {s} {t} fault prefix printed reads = record {
   replies = inl refl;
@@ -81,9 +81,9 @@ module _ (meaning : Meaning) {s : Sight} {f g : FilesSight} {k : SinkSight} (pre
     opening = λ opens visible opening starts why refuses. inr by_opening;
   }
 
-  ends_unread : (fault : Fault) → HasFileFault (file_names meaning) f g fault → (IsTrue f.is_visible → MissesFile (file_names meaning) f → read.StoppedReading fault)
+  pub ends_at_files : (fault : Fault) → HasFileFault (command_files meaning) f g fault → (IsTrue f.is_visible → MissesFile (command_files meaning) f → read.StoppedReading fault)
       → Ends meaning (world_of s f k) (world_of s g k) [] (Some fault)
-  ends_unread (File n) has missing = record {
+  ends_at_files (File n) has missing = record {
     headline = λ has. headline_none meaning (File n) prefix refl (λ none. (true, reads_here s));
     causes = record {
       cause = has;
@@ -93,33 +93,33 @@ module _ (meaning : Meaning) {s : Sight} {f g : FilesSight} {k : SinkSight} (pre
       spared = λ bad. (refl, refl);
       nothing = λ opens visible opening starts why refuses. refl;
       ran = calls_none s s refl (λ e. let no : ⊥ = cc in no);
-      once = inl refl;
+      once = λ opens. inl refl;
       files = stays;
       sink = sink_same;
     };
   }
-  ends_unread (Text n r c) has missing = record {
+  ends_at_files (Text n r c) has missing = record {
     headline = λ has. headline_none meaning (Text n r c) prefix refl (λ none. (true, reads_here s));
     causes = record {
       cause = λ reads. has.0;
       order = record {
         missing = λ visible misses. absurd (missing visible misses);
-        bad = λ reads visible number row field bad. inl (one_bad f (file_names meaning) n number r row c field visible has.0 bad);
+        bad = λ reads visible number row field bad. inl (one_bad f (command_files meaning) n number r row c field visible has.0 bad);
         format = λ why refuses. inr (all_read meaning);
         content = λ opens visible why refuses. inr (all_read meaning);
         opening = λ opens visible opening starts why refuses. inr (all_read meaning);
       };
-      complete = λ good medium files output. absurd (good_none_bad f (file_names meaning) n r c good.files good.good has.0);
+      complete = λ good medium files output. absurd (good_none_bad f (command_files meaning) n r c good.files good.good has.0);
       untouched = ((λ reads. refl), refl);
       spared = λ bad. (refl, refl);
       nothing = λ opens visible opening starts why refuses. refl;
       ran = calls_none s s refl (λ e. let no : ⊥ = cc in no);
-      once = inl refl;
+      once = λ opens. inl refl;
       files = stays;
       sink = sink_same;
     };
   }
-  ends_unread Memory has missing = record {
+  ends_at_files Memory has missing = record {
     headline = λ has. headline_none meaning Memory prefix (inl (inl refl)) (λ none. (true, reads_here s));
     causes = record {
       cause = tt;
@@ -129,30 +129,24 @@ module _ (meaning : Meaning) {s : Sight} {f g : FilesSight} {k : SinkSight} (pre
       spared = λ bad. (refl, refl);
       nothing = λ opens visible opening starts why refuses. refl;
       ran = calls_none s s refl (λ e. let no : ⊥ = cc in no);
-      once = inl refl;
+      once = λ opens. inl refl;
       files = stays;
       sink = sink_same;
     };
   }
-  ends_unread Usage has missing = absurd has
-  ends_unread (Small a b) has missing = absurd has
-  ends_unread (TooFew a b) has missing = absurd has
-  ends_unread Unformatted has missing = absurd has
-  ends_unread (Damaged a) has missing = absurd has
-  ends_unread (NotDb a) has missing = absurd has
-  ends_unread (ManyFiles a b) has missing = absurd has
-  ends_unread (Frames a b) has missing = absurd has
-  ends_unread (FewSubscribers a b) has missing = absurd has
-  ends_unread (Numbers a b) has missing = absurd has
-  ends_unread Device has missing = absurd has
-  ends_unread Output has missing = absurd has
-
-  -- by the names of the command's files
-  pub ends_at_files : (fault : Fault) (names : List (List ℕ)) → file_names meaning ≡ names → HasFileFault names f g fault → (IsTrue f.is_visible → MissesFile names f → read.StoppedReading fault)
-      → Ends meaning (world_of s f k) (world_of s g k) [] (Some fault)
-  ends_at_files fault names is has missing =
-      ends_unread fault (subst (λ (names : List (List ℕ)). HasFileFault names f g fault) (sym is) has)
-      (λ visible misses. missing visible (subst (λ (names : List (List ℕ)). MissesFile names f) is misses))
+  ends_at_files Usage has missing = absurd has
+  ends_at_files (Small a b) has missing = absurd has
+  ends_at_files (TooFew a b) has missing = absurd has
+  ends_at_files Unformatted has missing = absurd has
+  ends_at_files (Damaged a) has missing = absurd has
+  ends_at_files (NotDb a) has missing = absurd has
+  ends_at_files (ManyFiles a b) has missing = absurd has
+  ends_at_files (Frames a b) has missing = absurd has
+  ends_at_files (FewSubscribers a b) has missing = absurd has
+  ends_at_files (Numbers a b) has missing = absurd has
+  ends_at_files Device has missing = absurd has
+  ends_at_files Output has missing = absurd has
+  ends_at_files (Audit a) has missing = absurd has
 
 -- a medium that wasn't called
 prefix_new : (opening : Opening) (s : Sight) → OpensPartly true opening s s
@@ -172,17 +166,19 @@ prefix_at_rest (RunFiles frames locks files) s settled opening starts = prefix_o
 prefix_at_rest RecoverImage s settled opening starts = prefix_old opening s settled starts
 prefix_at_rest DumpTables s settled opening starts = prefix_old opening s settled starts
 prefix_at_rest (DriveLoad seed count files) s settled opening starts = prefix_old opening s settled starts
+prefix_at_rest (AuditRun printed files) s settled opening starts = prefix_old opening s settled starts
 
 -- there was no memory for the words
 pub ends_at_words : (meaning : Meaning) (s : Sight) (f : FilesSight) (k : SinkSight) → (IsTrue s.is_visible → IsSettled s.len (state_now s)) → FilesStay f f
     → Ends meaning (world_of s f k) (world_of s f k) [] (Some Memory)
-ends_at_words meaning s f k settled stays = ends_at_files meaning (prefix_at_rest meaning s settled) stays Memory (file_names meaning) refl tt (λ visible misses. tt)
+ends_at_words meaning s f k settled stays = ends_at_files meaning (prefix_at_rest meaning s settled) stays Memory tt (λ visible misses. tt)
 
 -- ---- where an image is made
 
 -- A command that makes an image of these sizes.
 pub record IsMaker (meaning : Meaning) (sizes : Sizes) (s : Sight) : Type 0 where
   pub makes : makes_image meaning ≡ true
+  pub writes : only_reads meaning ≡ false
   pub sized : sizes_made meaning ≡ Some sizes
   pub starts : Starts meaning s (new_opening sizes)
   pub only : (opening : Opening) → Starts meaning s opening → opening ≡ new_opening sizes
@@ -209,7 +205,7 @@ module _ {meaning : Meaning} {sizes : Sizes} {s t : Sight} {f g : FilesSight} (m
   ends_refused : {k : SinkSight} (why : Fault) → t ≡ s → (why_not : RefusesFormat meaning s.len why) → HasCause meaning (world_of s f k) (world_of t g k) (Some why) → Printed meaning (world_of s f k) (world_of t g k) [] (Some why)
       → Untouched meaning (Some why) s t [] → OpensOnceBy meaning (Some why) [] s t → (◌≡◌ {A = Option Fault} (Some why) (Some Device) → ⊥) → Ends meaning (world_of s f k) (world_of t g k) [] (Some why)
   ends_refused why same refuses cause printed untouched once other = record {
-    headline = λ has. headline_none meaning why prefix_each printed (λ none. absurd (none (new_opening sizes) maker.starts));
+    headline = λ has. headline_none meaning why prefix_each printed (λ must. absurd (must_not meaning s maker.writes (new_opening sizes) maker.starts must));
     causes = record {
       cause = cause;
       order = order_made why (λ also r. inl (ap Some (one_format_fault meaning sizes s.len why also maker.sized refuses r)));
@@ -218,7 +214,7 @@ module _ {meaning : Meaning} {sizes : Sizes} {s t : Sight} {f g : FilesSight} (m
       spared = λ bad. (same, refl);
       nothing = λ opens visible opening starts why refuses. refl;
       ran = calls_none s t same other;
-      once = once;
+      once = λ opens. once;
       files = files.stays;
       sink = sink_same;
     };
@@ -230,7 +226,7 @@ module _ {meaning : Meaning} {sizes : Sizes} {s t : Sight} {f g : FilesSight} (m
   ends_at_format (TooFew a b) has =
       ends_refused (TooFew a b) has.0 (sizes, maker.sized, has.1, has.2, has.3, has.4) (sizes, maker.sized, has.1, has.2, has.3, has.4) refl (has.0, refl) (inl refl) (λ e. let no : ⊥ = cc in no)
   ends_at_format Device has = record {
-    headline = λ has. headline_none meaning Device prefix_each (inl refl) (λ none. absurd (none (new_opening sizes) maker.starts));
+    headline = λ has. headline_none meaning Device prefix_each (inl refl) (λ must. absurd (must_not meaning s maker.writes (new_opening sizes) maker.starts must));
     causes = record {
       cause = has.1;
       order = order_made Device (λ why r. absurd (fits_not_refused meaning sizes s.len why maker.sized has.0 r));
@@ -239,13 +235,13 @@ module _ {meaning : Meaning} {sizes : Sizes} {s t : Sight} {f g : FilesSight} (m
       spared = λ bad. absurd (elim bad [ inl unread ↦ read_fits files unread | inr refuses ↦ fits_not_refused meaning sizes s.len refuses.0 maker.sized has.0 refuses.1 ]);
       nothing = λ opens visible opening starts why refuses. refl;
       ran = calls_failed (format_calls sizes has.2.0, has.2.2);
-      once = inl refl;
+      once = λ opens. inl refl;
       files = files.stays;
       sink = sink_same;
     };
   }
   ends_at_format Memory has = record {
-    headline = λ has. headline_none meaning Memory prefix_each (inl (inl refl)) (λ none. absurd (none (new_opening sizes) maker.starts));
+    headline = λ has. headline_none meaning Memory prefix_each (inl (inl refl)) (λ must. absurd (must_not meaning s maker.writes (new_opening sizes) maker.starts must));
     causes = record {
       cause = tt;
       order = order_made Memory (λ why r. inr tt);
@@ -254,7 +250,7 @@ module _ {meaning : Meaning} {sizes : Sizes} {s t : Sight} {f g : FilesSight} (m
       spared = λ bad. absurd (elim bad [ inl unread ↦ read_fits files unread | inr refuses ↦ fits_not_refused meaning sizes s.len refuses.0 maker.sized has.0 refuses.1 ]);
       nothing = λ opens visible opening starts why refuses. refl;
       ran = made_or_none sizes s t has.1;
-      once = inl refl;
+      once = λ opens. inl refl;
       files = files.stays;
       sink = sink_same;
     };
@@ -270,6 +266,7 @@ module _ {meaning : Meaning} {sizes : Sizes} {s t : Sight} {f g : FilesSight} (m
   ends_at_format (FewSubscribers a b) has = absurd has
   ends_at_format (Numbers a b) has = absurd has
   ends_at_format Output has = absurd has
+  ends_at_format (Audit a) has = absurd has
 
 -- ---- where an image is opened
 
@@ -280,16 +277,19 @@ pub record IsOpener (meaning : Meaning) (s : Sight) : Type 0 where
   pub on : (opening : Opening) → Starts meaning s opening → IsOpeningOn s opening
   pub starts : (opening : Opening) → IsOpeningOn s opening → Starts meaning s opening
 
+-- one that doesn't only read, and reads where its content is no opening
+pub unless_opened : {meaning : Meaning} {s t : Sight} → IsOpener meaning s → only_reads meaning ≡ false → (((opening : Opening) → IsOpeningOn s opening → ⊥) → (ok : Bool) × OnlyReads ok s t)
+    → MustOnlyRead meaning s → (ok : Bool) × OnlyReads ok s t
+unless_opened opener writes reads (inl only) = absurd (let no : ⊥ = cc in no)
+unless_opened opener writes reads (inr none) = reads (λ opening on. none opening (opener.starts opening on))
+
 module _ {meaning : Meaning} {s t : Sight} {f g : FilesSight} (opener : IsOpener meaning s) (files : FilesRead meaning f g)
     (prefix : (opening : Opening) → IsOpeningOn s opening → OpensPartly false opening s t)
-    (reads : ((opening : Opening) → IsOpeningOn s opening → ⊥) → (ok : Bool) × OnlyReads ok s t) where
-  prefix_opened : (opening : Opening) → Starts meaning s opening → OpensPartly (makes_image meaning) opening s t
+    (reads : MustOnlyRead meaning s → (ok : Bool) × OnlyReads ok s t) where
+  pub prefix_opened : (opening : Opening) → Starts meaning s opening → OpensPartly (makes_image meaning) opening s t
   prefix_opened opening starts = subst (λ (b : Bool). OpensPartly b opening s t) (sym opener.opens) (prefix opening (opener.on opening starts))
 
-  reads_only : ((opening : Opening) → Starts meaning s opening → ⊥) → (ok : Bool) × OnlyReads ok s t
-  reads_only none = reads (λ opening on. none opening (opener.starts opening on))
-
-  spares : (FilesRefuse meaning f ⊎ ((why : Fault) × RefusesFormat meaning s.len why)) → (t ≡ s) × (◌≡◌ {A = List Done} [] [])
+  pub spares : (FilesRefuse meaning f ⊎ ((why : Fault) × RefusesFormat meaning s.len why)) → (t ≡ s) × (◌≡◌ {A = List Done} [] [])
   spares bad = absurd (elim bad [ inl unread ↦ read_fits files unread | inr refuses ↦ makes_none meaning s.len refuses.0 opener.sized refuses.1 ])
 
   -- its content was refused
@@ -297,7 +297,7 @@ module _ {meaning : Meaning} {s t : Sight} {f g : FilesSight} (opener : IsOpener
       → Printed meaning (world_of s f k) (world_of t g k) [] (Some why) → Untouched meaning (Some why) s t [] → OpensOnceBy meaning (Some why) [] s t → (◌≡◌ {A = Option Fault} (Some why) (Some Device) → ⊥)
       → Ends meaning (world_of s f k) (world_of t g k) [] (Some why)
   ends_unopened why refuses read cause printed untouched once other = record {
-    headline = λ has. headline_none meaning why prefix_opened printed reads_only;
+    headline = λ has. headline_none meaning why prefix_opened printed reads;
     causes = record {
       cause = cause;
       order = record {
@@ -312,7 +312,7 @@ module _ {meaning : Meaning} {s t : Sight} {f g : FilesSight} (opener : IsOpener
       spared = spares;
       nothing = λ opens visible opening starts why refuses. refl;
       ran = reads_ran read other;
-      once = once;
+      once = λ opens. once;
       files = files.stays;
       sink = sink_same;
     };
@@ -332,7 +332,7 @@ module _ {meaning : Meaning} {s t : Sight} {f g : FilesSight} (opener : IsOpener
   ends_at_open (Damaged line) has = ends_unopened (Damaged line) has.0 has.1 (opener.opens, has.0) refl (has.1, refl) (inl refl) (λ e. let no : ⊥ = cc in no)
   ends_at_open (NotDb word) has = ends_unopened (NotDb word) has.0 has.1 (opener.opens, has.0) refl (has.1, refl) (inl refl) (λ e. let no : ⊥ = cc in no)
   ends_at_open Device has = record {
-    headline = λ has. headline_none meaning Device prefix_opened (inl refl) reads_only;
+    headline = λ has. headline_none meaning Device prefix_opened (inl refl) reads;
     causes = record {
       cause = has.0;
       order = order_stopped Device tt;
@@ -341,13 +341,13 @@ module _ {meaning : Meaning} {s t : Sight} {f g : FilesSight} (opener : IsOpener
       spared = spares;
       nothing = λ opens visible opening starts why refuses. refl;
       ran = calls_failed has.1;
-      once = inl refl;
+      once = λ opens. inl refl;
       files = files.stays;
       sink = sink_same;
     };
   }
   ends_at_open Memory has = record {
-    headline = λ has. headline_none meaning Memory prefix_opened (inl (inl refl)) reads_only;
+    headline = λ has. headline_none meaning Memory prefix_opened (inl (inl refl)) reads;
     causes = record {
       cause = tt;
       order = order_stopped Memory tt;
@@ -356,7 +356,7 @@ module _ {meaning : Meaning} {s t : Sight} {f g : FilesSight} (opener : IsOpener
       spared = spares;
       nothing = λ opens visible opening starts why refuses. refl;
       ran = calls_well has (λ e. let no : ⊥ = cc in no);
-      once = inl refl;
+      once = λ opens. inl refl;
       files = files.stays;
       sink = sink_same;
     };
@@ -371,3 +371,4 @@ module _ {meaning : Meaning} {s t : Sight} {f g : FilesSight} (opener : IsOpener
   ends_at_open (FewSubscribers a b) has = absurd has
   ends_at_open (Numbers a b) has = absurd has
   ends_at_open Output has = absurd has
+  ends_at_open (Audit a) has = absurd has

@@ -13,15 +13,16 @@ use Rattle.tatp_model.specs.Population.{population_calls}
 use Rattle.dude_io.specs.Files.{FilesSight, FilesStay}
 use Rattle.redo_record.specs.Recovery.{IsFormatted, IsDamaged}
 use Rattle.image_recovery.specs.Recovered.{IsNoDatabase, RecoversTo}
-use Rattle.command_words.specs.Command.{Meaning, Meaning.FreshRun, Meaning.FormatImage, Meaning.RunFiles, Meaning.RecoverImage, Meaning.DumpTables, Meaning.DriveLoad}
+use Rattle.command_words.specs.Command.{Meaning, Meaning.FreshRun, Meaning.FormatImage, Meaning.RunFiles, Meaning.RecoverImage, Meaning.DumpTables, Meaning.DriveLoad, Meaning.AuditRun}
 use Rattle.command_edges.specs.Files.{HasReadFault, IsFirstBad, IsGoodFile, MissesFile}
 use Rattle.command_openings.specs.Opens.{OpensByCalls}
 use Rattle.dude_engine.specs.Opening.{Opening, IsOpening}
 use Rattle.dude_engine.specs.Requests.{request_count}
 use Rattle.command_edges.specs.declared.fault.Fault.{Fault}
-use Rattle.command_edges.specs.declared.fault.Fault.TheVariants.{Usage, File, Text, Small, TooFew, Unformatted, Damaged, NotDb, ManyFiles, Frames, FewSubscribers, Numbers, Device, Output, Memory}
-use Rattle.dude_program.specs.CommandFile.{IsInLimit}
-use Rattle.dude_program.specs.Opening.{RequestsAre, Starts, command_files, ends_opened, file_names, fresh_sizes, makes_image, reads_requests}
+use Rattle.command_edges.specs.declared.fault.Fault.TheVariants.{Usage, File, Text, Small, TooFew, Unformatted, Damaged, NotDb, ManyFiles, Frames, FewSubscribers, Numbers, Device, Output, Memory, Audit}
+use Rattle.command_edges.specs.CommandFile.{IsInLimit}
+use Rattle.dude_program.specs.Audit.{IsRefusedRun}
+use Rattle.dude_program.specs.Opening.{RequestsAre, Starts, command_files, ends_opened, fresh_sizes, judges_files, makes_image, only_reads}
 use Rattle.dude_program.specs.World.{World, IsSameWorld, SinkStays}
 
 -- the sizes of the image that a command makes, if it makes one
@@ -32,8 +33,9 @@ sizes_made (RunFiles frames locks files) = None
 sizes_made RecoverImage = None
 sizes_made DumpTables = None
 sizes_made (DriveLoad seed count number) = None
+sizes_made (AuditRun printed files) = None
 
--- how many files the command runs: request files, or those of its load
+-- how many files the command runs: request files, or those of its load; an audit runs none
 abbrev pub files_run : Meaning → ℕ
 files_run (FreshRun subscribers file) = 1
 files_run (FormatImage subscribers calls rings cells) = 0
@@ -41,6 +43,7 @@ files_run (RunFiles frames locks files) = length files
 files_run RecoverImage = 0
 files_run DumpTables = 0
 files_run (DriveLoad seed count number) = number
+files_run (AuditRun printed files) = 0
 
 -- The frames asked for are out of their limits: more than the pages, or fewer than 32 and than the pages.
 abbrev pub WantsFrames : Meaning → ℕ → ℕ → Type 0
@@ -51,6 +54,7 @@ WantsFrames (RunFiles (Some frames) locks files) wanted pages = (wanted ≡ fram
 WantsFrames RecoverImage wanted pages = ⊥
 WantsFrames DumpTables wanted pages = ⊥
 WantsFrames (DriveLoad seed count number) wanted pages = ⊥
+WantsFrames (AuditRun printed files) wanted pages = ⊥
 
 -- the command is a load of more files than there are subscribers
 abbrev pub WantsSubscribers : Meaning → ℕ → ℕ → Type 0
@@ -60,6 +64,7 @@ WantsSubscribers (RunFiles frames locks files) subscribers wanted = ⊥
 WantsSubscribers RecoverImage subscribers wanted = ⊥
 WantsSubscribers DumpTables subscribers wanted = ⊥
 WantsSubscribers (DriveLoad seed count number) subscribers wanted = (wanted ≡ number) × (subscribers < number)
+WantsSubscribers (AuditRun printed files) subscribers wanted = ⊥
 
 -- whether the numbers of the command may run out
 abbrev pub DrawsNumbers : Meaning → Type 0
@@ -69,6 +74,7 @@ DrawsNumbers (RunFiles frames locks files) = ⊤
 DrawsNumbers RecoverImage = ⊥
 DrawsNumbers DumpTables = ⊥
 DrawsNumbers (DriveLoad seed count number) = ⊤
+DrawsNumbers (AuditRun printed files) = ⊥
 
 -- the numbers from the opening one on may not be enough for so many requests
 abbrev pub WantsNumbers : Meaning → FilesSight → Opening → ℕ → Type 0
@@ -76,10 +82,20 @@ WantsNumbers meaning files opening count =
     DrawsNumbers meaning × ((requests : List (List Request)) × RequestsAre meaning files opening requests × (count ≡ request_count requests))
     × (MAX_NUMBER < opening.number + 65 * count)
 
--- Why the opened image is refused: the first of these that fits.
+-- an audit says no, and names this line
+abbrev pub RefusesAudit : Meaning → FilesSight → Opening → ℕ → Type 0
+RefusesAudit (FreshRun subscribers file) files opening line = ⊥
+RefusesAudit (FormatImage subscribers calls rings cells) files opening line = ⊥
+RefusesAudit (RunFiles frames locks names) files opening line = ⊥
+RefusesAudit RecoverImage files opening line = ⊥
+RefusesAudit DumpTables files opening line = ⊥
+RefusesAudit (DriveLoad seed count number) files opening line = ⊥
+RefusesAudit (AuditRun printed names) files opening line = IsRefusedRun printed names files opening line
+
+-- Why the opened image, or the one that was only read, is refused: the first of these that fits.
 abbrev pub RefusesOpening : Meaning → FilesSight → Opening → Fault → Type 0
 RefusesOpening meaning files opening (ManyFiles wanted rings) =
-    (wanted ≡ files_run meaning) × (rings ≡ opening.sizes.rings) × (rings < wanted) × IsTrue (reads_requests meaning)
+    (wanted ≡ files_run meaning) × (rings ≡ opening.sizes.rings) × (rings < wanted) × IsTrue (judges_files meaning)
 RefusesOpening meaning files opening (Frames wanted pages) =
     (files_run meaning ≤ opening.sizes.rings) × (pages ≡ opening.sizes.pages) × WantsFrames meaning wanted pages
 RefusesOpening meaning files opening (FewSubscribers subscribers wanted) =
@@ -88,6 +104,7 @@ RefusesOpening meaning files opening (Numbers number count) =
     (files_run meaning ≤ opening.sizes.rings) × ((wanted : ℕ) → ¬ WantsFrames meaning wanted opening.sizes.pages)
     × ((wanted : ℕ) → ¬ WantsSubscribers meaning opening.sizes.subscribers wanted)
     × (number ≡ opening.number) × WantsNumbers meaning files opening count
+RefusesOpening meaning files opening (Audit line) = RefusesAudit meaning files opening line
 RefusesOpening meaning files opening _ = ⊥
 
 -- The requests of the command are known: those of its files where the files are visible, and any others always.
@@ -98,15 +115,19 @@ KnowsRequests (RunFiles frames locks names) files = IsTrue files.is_visible
 KnowsRequests RecoverImage files = ⊤
 KnowsRequests DumpTables files = ⊤
 KnowsRequests (DriveLoad seed count number) files = ⊤
+KnowsRequests (AuditRun printed names) files = ⊤
 
--- What a refusal of the opened image rests on is known: for too few numbers the requests too, else the words and the image.
-abbrev pub KnowsCause : Meaning → FilesSight → Fault → Type 0
-KnowsCause meaning files (Numbers number count) = KnowsRequests meaning files
-KnowsCause meaning files _ = ⊤
+-- What a refusal of the opened image rests on is known: for too few numbers the requests too; for an audit the files, and that
+-- no other line is named; else the words and the image.
+abbrev pub KnowsCause : Meaning → FilesSight → Opening → Fault → Type 0
+KnowsCause meaning files opening (Numbers number count) = KnowsRequests meaning files
+KnowsCause meaning files opening (Audit line) =
+    IsTrue files.is_visible × ((other : ℕ) → RefusesAudit meaning files opening other → other ≡ line)
+KnowsCause meaning files opening _ = ⊤
 
 -- The opened image is refused for this, and what that rests on is known.
 abbrev pub MustRefuse : Meaning → FilesSight → Opening → Fault → Type 0
-MustRefuse meaning files opening why = RefusesOpening meaning files opening why × KnowsCause meaning files why
+MustRefuse meaning files opening why = RefusesOpening meaning files opening why × KnowsCause meaning files opening why
 
 -- Why the medium can't be formatted: the first of these that fits.
 abbrev pub RefusesFormat : Meaning → ℕ → Fault → Type 0
@@ -133,25 +154,29 @@ pub record IsLeftOpened (opening : Opening) (s t : Sight) : Type 0 where
   pub images : IsTrue s.is_visible
       → EveryImage t.len (λ told image. RecoversTo image opening.number opening.sizes opening.database) (state_now t)
 
+-- A command that opens its image leaves it opened; one that only reads has read the medium.
+abbrev pub IsLeft : Meaning → Opening → Sight → Sight → Type 0
+IsLeft meaning opening s t = MatchBool (only_reads meaning) (OnlyReads true s t) (IsLeftOpened opening s t)
+
 -- An opening of the command is refused so.
 pub record RefusedBehind (meaning : Meaning) (old new : World) (fault : Fault) : Type 0 where
   pub opening : Opening
   pub opens : makes_image meaning ≡ false
   pub starts : Starts meaning old.medium opening
   pub lawful : IsOpening opening
-  -- the opened image refuses the command
+  -- the image refuses the command
   pub why : RefusesOpening meaning old.files opening fault
-  -- it is left opened
-  pub left : IsLeftOpened opening old.medium new.medium
+  -- it is left opened, or was only read
+  pub left : IsLeft meaning opening old.medium new.medium
 
 -- Why the command ended with this fault, if any. Want of memory is free.
 abbrev pub HasCause : Meaning → World → World → Option Fault → Type 0
 HasCause meaning old new None = ⊤
 HasCause meaning old new (Some Memory) = ⊤
 HasCause meaning old new (Some Usage) = ⊥
-HasCause meaning old new (Some (File number)) = HasReadFault (file_names meaning) old.files new.files (File number)
+HasCause meaning old new (Some (File number)) = HasReadFault (command_files meaning) old.files new.files (File number)
 HasCause meaning old new (Some (Text number row field)) =
-    IsTrue (reads_requests meaning) → IsFirstBad (file_names meaning) old.files number row field
+    IsTrue (judges_files meaning) → IsFirstBad (command_files meaning) old.files number row field
 HasCause meaning old new (Some Unformatted) = (makes_image meaning ≡ false) × ContentHas (λ content. RefusesContent content Unformatted) old.medium
 HasCause meaning old new (Some (Damaged line)) = (makes_image meaning ≡ false) × ContentHas (λ content. RefusesContent content (Damaged line)) old.medium
 HasCause meaning old new (Some (NotDb word)) = (makes_image meaning ≡ false) × ContentHas (λ content. RefusesContent content (NotDb word)) old.medium
@@ -169,7 +194,7 @@ StoppedReading _ = ⊥
 
 -- The command ended with its files: one couldn't be read, or one of requests is bad; or there was no memory.
 abbrev pub StoppedAtFiles : Meaning → Option Fault → Type 0
-StoppedAtFiles meaning (Some (Text number row field)) = IsTrue (reads_requests meaning)
+StoppedAtFiles meaning (Some (Text number row field)) = IsTrue (judges_files meaning)
 StoppedAtFiles meaning fault = StoppedReading fault
 
 -- The command ended with its files, or since the medium failed, or there was no memory.
@@ -179,11 +204,11 @@ StoppedByOpening meaning fault = StoppedAtFiles meaning fault
 
 -- What refuses a command is answered in this order, unless a fault that is counted, or want of memory, comes before its test:
 -- a file that isn't there; a bad file of requests; a medium that can't be formatted, or whose content can't be opened; an
--- opened image that is refused, where what that rests on is known.
+-- opened image that is refused, or the answer no of an audit, where what that rests on is known.
 pub record RefusesInOrder (meaning : Meaning) (old : World) (fault : Option Fault) : Type 0 where
-  pub missing : IsTrue old.files.is_visible → MissesFile (file_names meaning) old.files → StoppedReading fault
-  pub bad : IsTrue (reads_requests meaning) → IsTrue old.files.is_visible → (number row field : ℕ)
-      → IsFirstBad (file_names meaning) old.files number row field → (fault ≡ Some (Text number row field)) ⊎ StoppedReading fault
+  pub missing : IsTrue old.files.is_visible → MissesFile (command_files meaning) old.files → StoppedReading fault
+  pub bad : IsTrue (judges_files meaning) → IsTrue old.files.is_visible → (number row field : ℕ)
+      → IsFirstBad (command_files meaning) old.files number row field → (fault ≡ Some (Text number row field)) ⊎ StoppedReading fault
   pub format : (why : Fault) → RefusesFormat meaning old.medium.len why → (fault ≡ Some why) ⊎ StoppedAtFiles meaning fault
   pub content : makes_image meaning ≡ false → IsTrue old.medium.is_visible → (why : Fault) → ContentHas (λ content. RefusesContent content why) old.medium
       → (fault ≡ Some why) ⊎ StoppedByOpening meaning fault
@@ -191,11 +216,11 @@ pub record RefusesInOrder (meaning : Meaning) (old : World) (fault : Option Faul
       → Starts meaning old.medium opening → (why : Fault) → MustRefuse meaning old.files opening why
       → (fault ≡ Some why) ⊎ StoppedByOpening meaning fault
 
--- Nothing refuses the command: its files are there and hold requests; the medium is long enough for an image that holds the
+-- Nothing refuses the command: its files are there, and those of requests hold requests; the medium is long enough for an image that holds the
 -- population, or its content recovers to an opening that isn't refused.
 pub record IsGood (meaning : Meaning) (old : World) : Type 0 where
   pub files : IsTrue old.files.is_visible
-  pub good : All (IsGoodFile old.files) (file_names meaning)
+  pub good : All (IsGoodFile old.files) (command_files meaning)
   pub fits : (why : Fault) → ¬ RefusesFormat meaning old.medium.len why
   pub opens : makes_image meaning ≡ false → IsTrue old.medium.is_visible
       × ((opening : Opening) × Starts meaning old.medium opening × ((why : Fault) → ¬ RefusesOpening meaning old.files opening why))
@@ -208,10 +233,11 @@ SucceedsIfGood meaning old new fault = IsGood meaning old
 
 -- What stays at a refusal. Nothing is done. Where a file couldn't be read, one of requests is bad, or a medium can't be
 -- formatted, the medium is as it was; where its content can't be opened it was only read. An opened image that is refused is
--- left opened, as its cause says. Where a call failed or there was no memory, nothing is said here.
+-- left opened, as its cause says; where an audit says no, the medium was only read. Where a call failed or there was no
+-- memory, nothing is said here.
 abbrev pub Untouched : Meaning → Option Fault → Sight → Sight → List Done → Type 0
 Untouched meaning (Some (File number)) s t done = (t ≡ s) × (done ≡ [])
-Untouched meaning (Some (Text number row field)) s t done = (IsTrue (reads_requests meaning) → t ≡ s) × (done ≡ [])
+Untouched meaning (Some (Text number row field)) s t done = (IsTrue (judges_files meaning) → t ≡ s) × (done ≡ [])
 Untouched meaning (Some (Small has needs)) s t done = (t ≡ s) × (done ≡ [])
 Untouched meaning (Some (TooFew rows calls)) s t done = (t ≡ s) × (done ≡ [])
 Untouched meaning (Some Unformatted) s t done = OnlyReads true s t × (done ≡ [])
@@ -221,13 +247,14 @@ Untouched meaning (Some (ManyFiles files rings)) s t done = done ≡ []
 Untouched meaning (Some (Frames frames pages)) s t done = done ≡ []
 Untouched meaning (Some (FewSubscribers subscribers files)) s t done = done ≡ []
 Untouched meaning (Some (Numbers number requests)) s t done = done ≡ []
+Untouched meaning (Some (Audit line)) s t done = OnlyReads true s t × (done ≡ [])
 Untouched meaning _ s t done = ⊤
 
--- The command's files are of requests and visible, and refuse it: not each is there and holds requests, or one is too long.
+-- The command's files are judged first and visible, and refuse it: not each is there and good, or one is too long.
 pub record FilesRefuse (meaning : Meaning) (files : FilesSight) : Type 0 where
-  pub are_requests : IsTrue (reads_requests meaning)
+  pub are_judged : IsTrue (judges_files meaning)
   pub visible : IsTrue files.is_visible
-  pub why : (All (IsGoodFile files) (file_names meaning) → ⊥) ⊎ (All (IsInLimit files) (command_files meaning) → ⊥)
+  pub why : (All (IsGoodFile files) (command_files meaning) → ⊥) ⊎ (All (IsInLimit files) (command_files meaning) → ⊥)
 
 -- A command whose files or whose medium's length are refused leaves the medium as it is, and does nothing, also where it is
 -- answered that there was no memory.
@@ -279,8 +306,8 @@ pub record Causes (meaning : Meaning) (old new : World) (done : List Done) (faul
   pub nothing : DoesNothingRefused meaning old done
   -- no call on the medium failed but the last one, where the fault is `Device`
   pub ran : RanUnlessDevice fault old.medium new.medium
-  -- its calls begin with exactly those of one opening
-  pub once : OpensOnceBy meaning fault done old.medium new.medium
+  -- its calls begin with exactly those of one opening, unless it only reads
+  pub once : only_reads meaning ≡ false → OpensOnceBy meaning fault done old.medium new.medium
   -- the files stay, and the count of their faults only rises
   pub files : FilesStay old.files new.files
   pub sink : SinkStays old.sink new.sink

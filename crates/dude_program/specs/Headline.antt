@@ -20,10 +20,11 @@ use Rattle.dude_engine.specs.Endings.{AreSyncsTold, End, LosesAtMost}
 use Rattle.dude_engine.specs.Plain.{most_lost_by}
 use Rattle.command_edges.specs.declared.fault.Fault.{Fault}
 use Rattle.command_edges.specs.declared.fault.Fault.TheVariants.{Device, Output, Memory}
-use Rattle.command_words.specs.Command.{Meaning}
+use Rattle.command_words.specs.Command.{Meaning, Meaning.FreshRun, Meaning.FormatImage, Meaning.RunFiles, Meaning.RecoverImage, Meaning.DumpTables, Meaning.DriveLoad, Meaning.AuditRun}
+use Rattle.dude_program.specs.Audit.{IsRunFound}
 use Rattle.dude_program.specs.World.{World}
 use Rattle.command_openings.specs.Opens.{TellsAtMost}
-use Rattle.dude_program.specs.Opening.{makes_image, runs_requests, Starts, RequestsAre, IsReachable, IsOutput, prints_early}
+use Rattle.dude_program.specs.Opening.{makes_image, only_reads, runs_requests, Starts, RequestsAre, IsReachable, IsOutput, prints_early}
 
 -- Replies: of the command's requests these are done, each file's first ones in its order, each once; and the replies are
 -- those of one thread along the printed order. A `SYNC` has a number from the opening number on.
@@ -92,6 +93,32 @@ pub record AllDone (meaning : Meaning) (old new : World) (done : List Done) (Tak
   -- and the sink took this much of it
   pub bytes : Taken text
 
+-- An audit said yes: the printed text is the printed run of its files from the opening on. Nothing is done, and of the
+-- output the sink took this much.
+pub record SaidYes (printed : List ℕ) (names : List (List ℕ)) (old : World) (done : List Done) (Taken : List ℕ → Type 0) : Type 0 where
+  -- the command starts from this opening
+  pub opening : Opening
+  pub starts : Starts (AuditRun printed names) old.medium opening
+  pub lawful : IsOpening opening
+  -- the text is the printed run of the files
+  pub found : IsRunFound printed names old.files opening
+  pub none : done ≡ []
+  -- this text is the command's output
+  pub text : List ℕ
+  pub output : IsOutput (AuditRun printed names) opening done opening.number text
+  -- and the sink took this much of it
+  pub bytes : Taken text
+
+-- What a command that came to its output has found or done: an audit has said yes, and each other one has done all.
+abbrev pub Completed : Meaning → World → World → List Done → (List ℕ → Type 0) → Type 0
+Completed (FreshRun subscribers file) old new done Taken = AllDone (FreshRun subscribers file) old new done Taken
+Completed (FormatImage subscribers calls rings cells) old new done Taken = AllDone (FormatImage subscribers calls rings cells) old new done Taken
+Completed (RunFiles frames locks files) old new done Taken = AllDone (RunFiles frames locks files) old new done Taken
+Completed RecoverImage old new done Taken = AllDone RecoverImage old new done Taken
+Completed DumpTables old new done Taken = AllDone DumpTables old new done Taken
+Completed (DriveLoad seed count number) old new done Taken = AllDone (DriveLoad seed count number) old new done Taken
+Completed (AuditRun printed names) old new done Taken = SaidYes printed names old done Taken
+
 -- the sink took all of a text
 abbrev pub TookAll : SinkSight → SinkSight → List ℕ → Type 0
 TookAll s t text = IsTrue s.is_visible → t.taken ≡ s.taken ++ text
@@ -119,17 +146,22 @@ StopsPrinting meaning old new done = (new.sink ≡ old.sink) ⊎ PrintedEarly me
 
 -- Bytes: where the command ended well, all is done and printed; where the output failed, all is done and a prefix was
 -- printed; where there was no memory, either so or nothing was printed; else nothing was printed. Where the medium failed or
--- there was no memory, a command that prints while it runs may have printed some.
+-- there was no memory, a command that prints while it runs may have printed some. For an audit, that all is done is that it
+-- said yes.
 abbrev pub Printed : Meaning → World → World → List Done → Option Fault → Type 0
-Printed meaning old new done None = AllDone meaning old new done (TookAll old.sink new.sink)
-Printed meaning old new done (Some Output) = AllDone meaning old new done (TookPrefix old.sink new.sink)
+Printed meaning old new done None = Completed meaning old new done (TookAll old.sink new.sink)
+Printed meaning old new done (Some Output) = Completed meaning old new done (TookPrefix old.sink new.sink)
 Printed meaning old new done (Some Device) = StopsPrinting meaning old new done
 Printed meaning old new done (Some Memory) =
-    StopsPrinting meaning old new done ⊎ AllDone meaning old new done (TookPrefix old.sink new.sink)
+    StopsPrinting meaning old new done ⊎ Completed meaning old new done (TookPrefix old.sink new.sink)
 Printed meaning old new done (Some _) = new.sink ≡ old.sink
 
--- The headline, of a command that means something and ended with this fault or none. Where it has no opening, it only
--- read the medium.
+-- the command only reads, or it has no opening
+abbrev pub MustOnlyRead : Meaning → Sight → Type 0
+MustOnlyRead meaning s = IsTrue (only_reads meaning) ⊎ ((opening : Opening) → Starts meaning s opening → ⊥)
+
+-- The headline, of a command that means something and ended with this fault or none. Where it only reads, or has no opening,
+-- it only read the medium.
 pub record Headline (meaning : Meaning) (old new : World) (done : List Done) (fault : Option Fault) : Type 0 where
   -- nothing is done; or what is done is answered as by one thread that starts from the opening
   pub replies : (done ≡ [])
@@ -140,5 +172,5 @@ pub record Headline (meaning : Meaning) (old new : World) (done : List Done) (fa
   pub sync : Sync done old.medium new.medium
   -- what the sink took, and, where all is done, what the medium holds at the end
   pub printed : Printed meaning old new done fault
-  -- where the command has no opening, it only read the medium
-  pub only_read : ((opening : Opening) → Starts meaning old.medium opening → ⊥) → (ok : Bool) × OnlyReads ok old.medium new.medium
+  -- where the command only reads, or has no opening, it only read the medium
+  pub only_read : MustOnlyRead meaning old.medium → (ok : Bool) × OnlyReads ok old.medium new.medium

@@ -1,7 +1,8 @@
+pub mod Audit
 pub mod Causes
-pub mod CommandFile
 pub mod Ending
 pub mod Headline
+pub mod Judging
 pub mod Opening
 pub mod Work
 pub mod World

@@ -1,5 +1,5 @@
 -- What a command starts from, and what it runs: the cases, a command each, below the headline.
-use Rattle.std.specs.Prelude.{◌≡◌, ℕ, ◌*◌, ◌≤◌, ⊤, Bool, true, false, List, [], ◌∷◌, map}
+use Rattle.std.specs.Prelude.{◌≡◌, ℕ, ◌*◌, ◌≤◌, ⊤, Bool, true, false, List, [], ◌∷◌, ◌++◌, codes, map}
 use Rattle.std.specs.List.{AllZip, list_all, range_with_len}
 use Rattle.dude_base.specs.declared.sizes.Sizes.{Sizes}
 use Rattle.dude_base.specs.Sizes.{sizes_for}
@@ -11,11 +11,11 @@ use Rattle.tatp_text.specs.Dump.{dump_text}
 use Rattle.tatp_text.specs.Load.{mixed}
 use Rattle.tatp_text.specs.Summary.{summary_of}
 use Rattle.dude_io.specs.Files.{FilesSight}
-use Rattle.command_words.specs.Command.{Meaning, Meaning.FreshRun, Meaning.FormatImage, Meaning.RunFiles, Meaning.RecoverImage, Meaning.DumpTables, Meaning.DriveLoad}
+use Rattle.command_words.specs.Command.{Meaning, Meaning.FreshRun, Meaning.FormatImage, Meaning.RunFiles, Meaning.RecoverImage, Meaning.DumpTables, Meaning.DriveLoad, Meaning.AuditRun}
 use Rattle.command_edges.specs.Files.{OfFile}
 use Rattle.dude_engine.specs.Opening.{Opening, last_of}
 use Rattle.command_openings.specs.Openings.{IsOpeningOn, new_opening}
-use Rattle.dude_program.specs.CommandFile.{CommandFile, is_requests, request_files}
+use Rattle.command_edges.specs.CommandFile.{CommandFile, audit_files, is_judged_first, request_files}
 
 -- the sizes of the image that `fresh` makes
 abbrev pub fresh_sizes : ℕ → Sizes
@@ -29,6 +29,7 @@ makes_image (RunFiles frames locks files) = false
 makes_image RecoverImage = false
 makes_image DumpTables = false
 makes_image (DriveLoad seed count number) = false
+makes_image (AuditRun printed files) = false
 
 -- whether the command carries requests out
 abbrev pub runs_requests : Meaning → Bool
@@ -38,6 +39,7 @@ runs_requests (RunFiles frames locks files) = true
 runs_requests RecoverImage = false
 runs_requests DumpTables = false
 runs_requests (DriveLoad seed count number) = true
+runs_requests (AuditRun printed files) = false
 
 -- whether the command makes no call on the medium behind its opening
 abbrev pub ends_opened : Meaning → Bool
@@ -47,6 +49,17 @@ ends_opened (RunFiles frames locks files) = false
 ends_opened RecoverImage = true
 ends_opened DumpTables = true
 ends_opened (DriveLoad seed count number) = false
+ends_opened (AuditRun printed files) = true
+
+-- whether the command only reads the medium, at every end: it opens no image and tells nothing
+abbrev pub only_reads : Meaning → Bool
+only_reads (FreshRun subscribers file) = false
+only_reads (FormatImage subscribers calls rings cells) = false
+only_reads (RunFiles frames locks files) = false
+only_reads RecoverImage = false
+only_reads DumpTables = false
+only_reads (DriveLoad seed count number) = false
+only_reads (AuditRun printed files) = true
 
 -- whether the headline is said of the command: one without it has a theorem of its own
 abbrev pub has_headline : Meaning → Bool
@@ -56,6 +69,7 @@ has_headline (RunFiles frames locks files) = true
 has_headline RecoverImage = true
 has_headline DumpTables = true
 has_headline (DriveLoad seed count number) = true
+has_headline (AuditRun printed files) = true
 
 -- The command starts from this opening. One that makes its image starts with the new image's, each other one with what the
 -- content at entry recovers to.
@@ -66,12 +80,13 @@ Starts (RunFiles frames locks files) medium opening = IsOpeningOn medium opening
 Starts RecoverImage medium opening = IsOpeningOn medium opening
 Starts DumpTables medium opening = IsOpeningOn medium opening
 Starts (DriveLoad seed count number) medium opening = IsOpeningOn medium opening
+Starts (AuditRun printed files) medium opening = IsOpeningOn medium opening
 
 -- the load of so many files, one of each
 abbrev pub load_of : ℕ → ℕ → ℕ → ℕ → List (List Request)
 load_of subscribers seed count files = map (λ file. mixed seed file files subscribers count) (range_with_len 0 files)
 
--- the files that the command reads
+-- the files that the command reads, in their order
 abbrev pub command_files : Meaning → List CommandFile
 command_files (FreshRun subscribers file) = request_files (file ∷ [])
 command_files (FormatImage subscribers calls rings cells) = []
@@ -79,15 +94,12 @@ command_files (RunFiles frames locks files) = request_files files
 command_files RecoverImage = []
 command_files DumpTables = []
 command_files (DriveLoad seed count number) = []
+command_files (AuditRun printed files) = audit_files printed files
 
--- the names of the command's files
-abbrev pub file_names : Meaning → List (List ℕ)
-file_names meaning = map (λ file. file.name) (command_files meaning)
-
--- Whether all that the command reads in files is requests, if it reads any. Such files are judged before its medium is called;
--- a command with others says by itself when it judges them.
-abbrev pub reads_requests : Meaning → Bool
-reads_requests meaning = list_all (λ file. is_requests file.kind) (command_files meaning)
+-- Whether all that the command reads in files is judged before its medium is called. A command with other files says by
+-- itself when it judges them.
+abbrev pub judges_files : Meaning → Bool
+judges_files meaning = list_all (λ file. is_judged_first file.kind) (command_files meaning)
 
 -- whether the command prints while it runs, so that some is printed also where the medium fails or there is no memory
 abbrev pub prints_early : Meaning → Bool
@@ -97,6 +109,7 @@ prints_early (RunFiles frames locks files) = false
 prints_early RecoverImage = false
 prints_early DumpTables = false
 prints_early (DriveLoad seed count number) = false
+prints_early (AuditRun printed files) = false
 
 -- The lists of requests that the command runs: those of its files, one for each; or those of its load; or none.
 abbrev pub RequestsAre : Meaning → FilesSight → Opening → List (List Request) → Type 0
@@ -105,6 +118,7 @@ RequestsAre (FormatImage subscribers calls rings cells) files opening requests =
 RequestsAre (RunFiles frames locks names) files opening requests = AllZip (OfFile files) names requests
 RequestsAre RecoverImage files opening requests = requests ≡ []
 RequestsAre DumpTables files opening requests = requests ≡ []
+RequestsAre (AuditRun printed names) files opening requests = requests ≡ []
 RequestsAre (DriveLoad seed count number) files opening requests = requests ≡ load_of opening.sizes.subscribers seed count number
 
 -- The command may come to this number. Where threads may run, numbers may follow those of what is done.
@@ -115,6 +129,7 @@ IsReachable (RunFiles frames locks files) opening done n = ⊤
 IsReachable RecoverImage opening done n = n ≤ last_of opening.number done
 IsReachable DumpTables opening done n = n ≤ last_of opening.number done
 IsReachable (DriveLoad seed count number) opening done n = ⊤
+IsReachable (AuditRun printed files) opening done n = n ≤ last_of opening.number done
 
 -- This text is the output of the command. It is a relation, since what is done doesn't fix the output of each command.
 abbrev pub IsOutput : Meaning → Opening → List Done → ℕ → List ℕ → Type 0
@@ -124,3 +139,4 @@ IsOutput (RunFiles frames locks files) opening done last text = text ≡ output_
 IsOutput RecoverImage opening done last text = text ≡ last_line last
 IsOutput DumpTables opening done last text = text ≡ dump_text opening.database last
 IsOutput (DriveLoad seed count number) opening done last text = text ≡ summary_of done
+IsOutput (AuditRun printed files) opening done last text = text ≡ codes "yes" ++ 10 ∷ []

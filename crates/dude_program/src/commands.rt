@@ -1,4 +1,4 @@
-//! The six commands: each reads its files, makes or opens the image, does its work, and prints.
+//! The commands that make or open the image: each reads its files, makes or opens the image, does its work, and prints.
 
 ghost use Rattle.std.specs.Prelude.{◌≡◌, ◌≤◌, ℕ, Option, map};
 ghost use Rattle.std.specs.Rc.{rc_str_bytes};

@@ -4,6 +4,7 @@
 //! (`specs/Headline.antt`) with the cause of each fault beside it (`specs/Causes.antt`).
 #![tactic(auto)]
 
+mod audit;
 mod checks;
 mod commands;
 mod ended;

@@ -8,6 +8,7 @@ ghost use Rattle.command_edges.specs.Fault.{status_of};
 ghost use Rattle.dude_program.specs.Ending.{CausesByWords, Ends, HeadlineByWords, RefusesNoCommand};
 ghost use Rattle.dude_program.specs.World.{world_of};
 
+use crate::audit::audit;
 use crate::commands::{ImageCounts, drive, dump, format, fresh, recover, run};
 use crate::ended::Ended;
 use crate::load::Load;
@@ -62,13 +63,17 @@ fn carry_out<M: Medium, F: Files, K: Sink>(
         Command::Drive { seed, count, files } => {
             drive(alloc, Load { seed, count, files }, medium, out)
         }
+        Command::Audit {
+            printed,
+            files: names,
+        } => audit(alloc, printed, names, medium, files, out),
     }
 }
 
 /// Carries out a command.
 ///
 /// The words are the command and its arguments, without the image's name. `medium` is the image; `files` gives the
-/// request files, and `out` gets the output. The medium is given back, also after a fault.
+/// request files and a printed run, and `out` gets the output. The medium is given back, also after a fault.
 pub fn dude<M: Medium + Send, F: Files, K: Sink>(
     alloc: Global,
     words: &[RcStr],

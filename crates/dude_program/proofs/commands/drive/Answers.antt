@@ -1,11 +1,11 @@
 use Rattle.std.proofs.Common.{◌≡◌, ◌∙◌, refl, ap}
 use Rattle.back_store.specs.BackView.{medium_of}
-use Rattle.command_words.specs.Command.{Meaning.DriveLoad}
+use Rattle.command_words.specs.Command.{Meaning.DriveLoad, Meaning.AuditRun}
 use Rattle.command_edges.specs.Files.{requests_in}
 use Rattle.dude_program.specs.Opening.{load_of}
 use Rattle.dude_program.proofs.FilesRead.{no_files}
 use Rattle.dude_program.proofs.Endings.{ends_faulted, ends_printed}
-use Rattle.dude_program.proofs.Stops.{ends_at_open}
+use Rattle.dude_program.proofs.Stops.{ends_at_open, unless_opened}
 use Rattle.dude_program.proofs.Crashes.{left_opened, reachable}
 use Rattle.dude_program.proofs.Came.{opened_old, came_ran, came_refused}
 use Rattle.dude_program.proofs.EachCommand.{drive_came, drive_opens, drive_passes, is_opening_of, opening_of}
@@ -15,7 +15,7 @@ pub returns-in-Err-clause-ends : goal.returns-in-Err-clause-ends
 returns-in-Err-clause-ends g c f =
     let load = c.args.load in
     rw (c.refused.ensures.medium, c.refused.ensures.done, c.refused.ensures.fault)
-    (ends_at_open (drive_opens load.seed load.count load.files _) (no_files (DriveLoad load.seed load.count load.files) f refl) c.in-Err.ensures.prefix c.in-Err.ensures.only_read c.in-Err.fault c.in-Err.ensures.fault)
+    (ends_at_open (drive_opens load.seed load.count load.files _) (no_files (DriveLoad load.seed load.count load.files) f refl) c.in-Err.ensures.prefix (unless_opened (drive_opens load.seed load.count load.files _) refl c.in-Err.ensures.only_read) c.in-Err.fault c.in-Err.ensures.fault)
 
 pub returns-in-Ok-make_load-clause-ends : goal.returns-in-Ok-make_load-clause-ends
 returns-in-Ok-make_load-clause-ends g c f =
@@ -27,7 +27,7 @@ returns-in-Ok-make_load-clause-ends g c f =
     let is_open = c.in-Ok.ensures.is_open opening (is_opening_of o opened) in
     let made = c.in-Ok-make_load.ensures.made in
     let are : requests_in lists ≡ load_of o.sizes.subscribers load.seed load.count load.files = ap requests_in c.deref.ensures.value ∙ made.requests in
-    let came = came_ran (no_files (DriveLoad load.seed load.count load.files) f refl) (opened_old (drive_opens load.seed load.count load.files _) is_open.0 is_open.1)
+    let came = came_ran (no_files (DriveLoad load.seed load.count load.files) f refl) (opened_old (drive_opens load.seed load.count load.files _) refl is_open.0 is_open.1)
     (reachable (DriveLoad load.seed load.count load.files) opening) refl are
     (λ opens why refuses. drive_passes load.seed load.count load.files f opening (requests_in lists) are made.files made.subscribers (rw c.deref.ensures.value made.numbers) why refuses)
     c.work.result.fault (c.work.ensures opening (is_opening_of o opened)) in
@@ -42,5 +42,5 @@ returns-in-Err-make_load-clause-ends g c f =
     let is_open = c.in-Ok.ensures.is_open opening (is_opening_of o opened) in
     let why = drive_came load.seed load.count load.files f opening (load_of o.sizes.subscribers load.seed load.count load.files) refl 0 (g.M.Medium.sight c.args.medium) (g.M.Medium.sight (medium_of o.back)) (left_opened _ _ _ _ is_open.1)
     c.in-Err-make_load.fault c.in-Err-make_load.ensures.err in
-    let came = came_refused (no_files (DriveLoad load.seed load.count load.files) f refl) (opened_old (drive_opens load.seed load.count load.files _) is_open.0 is_open.1) 0 c.in-Err-make_load.fault why.1 why.0 in
+    let came = came_refused (no_files (DriveLoad load.seed load.count load.files) f refl) (opened_old (drive_opens load.seed load.count load.files _) refl is_open.0 is_open.1) 0 c.in-Err-make_load.fault why.1 why.0 in
     rw (c.refused-in-Err-make_load.ensures.medium, c.refused-in-Err-make_load.ensures.done, c.refused-in-Err-make_load.ensures.fault, c.into_medium.ensures) (ends_faulted c.in-Err-make_load.fault came)

@@ -8,6 +8,7 @@ use Rattle.command_words.specs.Command.{Meaning.FreshRun}
 use Rattle.command_edges.specs.Files.{OfFile, requests_in}
 use Rattle.command_openings.specs.Openings.{new_opening}
 use Rattle.dude_engine.specs.Requests.{request_count}
+use Rattle.dude_program.proofs.FilesRead.{fresh_files}
 use Rattle.dude_program.proofs.Endings.{ends_printed}
 use Rattle.dude_program.proofs.Stops.{ends_at_files, ends_at_format, prefix_at_rest}
 use Rattle.dude_program.proofs.Came.{opened_new, came_ran}
@@ -20,7 +21,7 @@ pub returns-in-Err-clause-ends : goal.returns-in-Err-clause-ends
 returns-in-Err-clause-ends g c =
     rw (c.refused.ensures.medium, c.refused.ensures.done, c.refused.ensures.fault)
     (ends_at_files (FreshRun c.args.subscribers c.args.file.now) (prefix_at_rest (FreshRun c.args.subscribers c.args.file.now) (g.M.Medium.sight c.args.medium) c.requires.settled)
-    c.in-Err.ensures.reads.stays c.in-Err.fault (c.args.file.now ∷ []) refl c.in-Err.ensures.cause c.in-Err.ensures.missing)
+    c.in-Err.ensures.reads.stays c.in-Err.fault c.in-Err.ensures.cause c.in-Err.ensures.missing)
 
 pub work-requires-clause-rings : goal.work-requires-clause-rings
 work-requires-clause-rings g c =
@@ -41,7 +42,7 @@ returns-in-Ok-make_and_open-clause-ends g c =
     let e = c.in-Ok-make_and_open.ensures in
     let maker = fresh_makes c.args.subscribers c.args.file.now c.in-Ok.sizes (g.M.Medium.sight c.args.medium) c.in-Ok.ensures.ok.0 in
     let read : AllZip (OfFile (g.F.Files.sight c.args.files.now)) (c.args.file.now ∷ []) (requests_in c.deref.result.now) = rw c.deref.ensures.value c.in-Ok-read_files.ensures.read in
-    let came = came_ran (record { lists = requests_in c.deref.result.now; read = read; stays = c.in-Ok-read_files.ensures.reads.stays }) (opened_new maker e.fits e.is_open)
+    let came = came_ran (fresh_files c.args.subscribers c.args.file.now (requests_in c.deref.result.now) read c.in-Ok-read_files.ensures.reads.stays) (opened_new maker e.fits e.is_open)
     (reachable (FreshRun c.args.subscribers c.args.file.now) (new_opening c.in-Ok.sizes)) refl read
     (λ opens. let no : ⊥ = cc in absurd no) c.work.result.fault (c.work.ensures _ e.opening) in
     rw (c.end_with_lines.ensures.medium, c.end_with_lines.ensures.done) (ends_printed _ _ _ came refl c.end_with_lines.ensures.printed)
@@ -50,5 +51,5 @@ pub returns-clause-ends : goal.returns-clause-ends
 returns-clause-ends g c =
     let maker = fresh_makes c.args.subscribers c.args.file.now c.in-Ok.sizes (g.M.Medium.sight c.args.medium) c.in-Ok.ensures.ok.0 in
     rw (c.refused-in-Err-make_and_open.ensures.medium, c.refused-in-Err-make_and_open.ensures.done, c.refused-in-Err-make_and_open.ensures.fault)
-    (ends_at_format maker (record { lists = requests_in c.in-Ok-read_files.lists.items; read = c.in-Ok-read_files.ensures.read; stays = c.in-Ok-read_files.ensures.reads.stays })
+    (ends_at_format maker (fresh_files c.args.subscribers c.args.file.now (requests_in c.in-Ok-read_files.lists.items) c.in-Ok-read_files.ensures.read c.in-Ok-read_files.ensures.reads.stays)
     c.in-Err-make_and_open.ensures.prefix c.in-Err-make_and_open.fault c.in-Err-make_and_open.ensures.fault)

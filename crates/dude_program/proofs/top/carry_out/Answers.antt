@@ -14,3 +14,6 @@ returns-in-Dump-clause-ends g c = rw c.in-Dump.is (c.dump.ensures.ends (g.F.File
 
 pub returns-in-Drive-clause-ends : goal.returns-in-Drive-clause-ends
 returns-in-Drive-clause-ends g c = rw c.in-Drive.is (c.drive.ensures.ends (g.F.Files.sight c.args.files.now))
+
+pub returns-in-Audit-clause-ends : goal.returns-in-Audit-clause-ends
+returns-in-Audit-clause-ends g c = rw c.in-Audit.is c.audit.ensures.ends
