@@ -30,7 +30,7 @@ pub fn audit_run(
     let names = behind_option(behind_option(rest));
     let audited = audited(rt.alloc(), scene, names, printed)?;
     match &audited.printed {
-        Some(text) if text.as_slice() == b"yes\n" => Ok(()),
+        Some(text) if text.as_slice() == b"yes\n".as_slice() => Ok(()),
         _ => {
             rt.println("an audit of this run ends otherwise:")?;
             print_ending(rt, &audited)
