@@ -8,7 +8,7 @@ ghost use Rattle.group_combine.specs.Numbered.{AreInOrder, EndsWord, HasNextOfWo
 use dude_base::write::Write;
 
 /// A write, and how many come before it in the row.
-#[derive(Clone, Copy, Debug)]
+#[derive(Clone, Copy)]
 pub struct Numbered {
     pub at: u64,
     pub order: u64,

@@ -34,17 +34,32 @@ pub fn number_of(word: &str) -> Option<u64> {
 /// A number without signs.
 fn term_of(word: &str) -> Option<u128> {
     if let Some(power) = word.strip_prefix("2^") {
-        let power = power.parse::<u32>().ok()?;
-        return if power <= 64 {
-            1_u128.checked_shl(power)
-        } else {
-            None
-        };
+        return power_of(exponent_of(power)?);
     }
-    if let Some(digits) = word.strip_prefix("0x") {
-        return Some(u128::from(u64::from_str_radix(digits, 16).ok()?));
+    let number = match word.strip_prefix("0x") {
+        Some(digits) => hexadecimal_of(digits),
+        None => word.parse::<u64>().ok(),
+    };
+    Some(u128::from(number?))
+}
+
+/// Two to this power, which is at most 64.
+fn power_of(power: u32) -> Option<u128> {
+    if power <= 64 {
+        1_u128.checked_shl(power)
+    } else {
+        None
     }
-    Some(u128::from(word.parse::<u64>().ok()?))
+}
+
+/// The power that these digits are.
+fn exponent_of(digits: &str) -> Option<u32> {
+    digits.parse::<u32>().ok()
+}
+
+/// The number that these digits of base sixteen are.
+fn hexadecimal_of(digits: &str) -> Option<u64> {
+    u64::from_str_radix(digits, 16).ok()
 }
 
 /// Two numbers with `=` between them, as a word and its value.

@@ -1,6 +1,7 @@
-use Rattle.std.proofs.Common.{◌≡◌, List, get_or, ◌∙◌}
+use Rattle.std.proofs.Common.{◌≡◌, List, length, get_or, subst, ◌∙◌, arith}
 use Rattle.std.proofs.lemmas.List.{get_or_default}
 use Rattle.group_combine.specs.declared.numbered.Numbered.{Numbered}
+use Rattle.group_combine.specs.Numbered.{IsKept}
 use Rattle.group_combine.proofs.KeptRows.{kept_more, kept_same}
 use Rattle.group_combine.proofs.numbered.keep_last.Goals.{then-ends_word, else-ends_word}
 use Rattle.group_combine.proofs.numbered.keep_last.Goals as goal
@@ -20,3 +21,11 @@ loop-k-preserved c =
         capacity = rw w.writes-is c.loop-k.invariant.capacity;
       }
     ]
+
+pub returns-clause-kept : goal.returns-clause-kept
+returns-clause-kept c =
+    let end : c.loop-k.k ≡ length c.args.row.now = omega arith in
+    subst (λ k. IsKept c.args.row.now c.loop-k.writes.items k) end c.loop-k.invariant.kept
+
+pub returns-clause-capacity : goal.returns-clause-capacity
+returns-clause-capacity c = c.loop-k.invariant.capacity ∙ c.clear.ensures.capacity
