@@ -22,7 +22,7 @@ some c =
     let a = c.self.inside in
     next_has c.args.self.now c.in_ok-distance.distance c.in_ok-distance.ensures.next
     (entry_at a.by_frame.items (length a.by_page.items) a.hand c.args.self.now c.len-frames.result c.in_ok-distance.distance c.index.result.now None c.self.view_is
-        (c.len-frames.ensures ∙ a.by_frame.ok.0) c.self.invariant.in_range c.index.ensures c.in_err-page.was)
+    (c.len-frames.ensures ∙ a.by_frame.ok.0) c.self.invariant.in_range c.index.ensures c.in_err-page.was)
 
 pub returns-in_err-page-clause-victim : goal.returns-in_err-page-clause-victim
 returns-in_err-page-clause-victim c = absurd (some c)
@@ -51,7 +51,7 @@ returns-clause-victim c =
     victim_seen a.by_frame.items (length a.by_page.items) a.hand c.args.self.now c.len-frames.result c.in_ok-distance.distance c.in_ok-page.page c.self.view_is
     size c.in_ok-distance.ensures.next
     (entry_at a.by_frame.items (length a.by_page.items) a.hand c.args.self.now c.len-frames.result c.in_ok-distance.distance c.index.result.now (Some c.in_ok-page.page) c.self.view_is
-        size c.self.invariant.in_range c.index.ensures c.in_ok-page.was)
+    size c.self.invariant.in_range c.index.ensures c.in_ok-page.was)
 
 pub returns-clause-none : goal.returns-clause-none
 returns-clause-none c =
