@@ -1,12 +1,13 @@
 -- What is seen of two lists that say the same and a hand, as the map that contracts speak of.
-use Rattle.std.proofs.Common.{◌≡◌, ℕ, ◌+◌, ◌%◌, ◌<◌, ◌≤◌, ◌↔◌, ◌∙◌, Bool, true, false, cond, List, length, Option, Some, None, IsNone, is_some, slice_get, slice_set, slice_index_or, refl, ap, sym, subst, arith, ⊎_elim, length-set}
+use Rattle.std.proofs.Common.{◌≡◌, ℕ, ◌+◌, ◌%◌, ◌<◌, ◌≤◌, ◌↔◌, ◌∙◌, Bool, true, false, cond, List, length, Option, Some, None, IsNone, is_some, slice_get, slice_set, slice_index_or, refl, ap, sym, subst, arith, ⊎_elim, length-set, replicate}
 use Rattle.std.proofs.Math.Nat.{eq-or-lt_of_le}
+use Rattle.std.proofs.lemmas.List.{length-replicate}
 use Rattle.std.proofs.lemmas.Nat.{mod_below}
 use Rattle.std.proofs.lemmas.Option.{slice_get_within, slice_get_read, same_Some, none-some}
-use Rattle.shadow_pages.specs.PageMap.{PageMap, Holds, IsIn, IsOccupied, IsNextOccupied, frame_at}
+use Rattle.shadow_pages.specs.PageMap.{PageMap, Holds, IsIn, IsOccupied, IsNextOccupied, IsVictim, empty_map, frame_at}
 use Rattle.shadow_pages.specs.Pager.{IsSound}
 use Rattle.shadow_pages.proofs.Distances.{none_occupied}
-use Rattle.shadow_pages.proofs.Pagers.{Has, same_value, unset_has}
+use Rattle.shadow_pages.proofs.Pagers.{Has, fresh_sound, same_value, unset_has}
 
 abbrev pub map_of : List (Option ℕ) → ℕ → ℕ → PageMap
 map_of fs pages hand = record { pages = pages; frames = fs; hand = hand }
@@ -116,3 +117,38 @@ pub all_free : (fs : List (Option ℕ)) (pages hand : ℕ) (map : PageMap) (n d 
 all_free fs pages hand map n d seen size in_range end before =
     let P : PageMap → Type 0 = λ m. ¬ IsOccupied m in
     subst P seen (none_occupied (map_of fs pages hand) in_range (λ lesser l. before lesser (omega (arith, l, size, end))))
+
+-- what is read at this distance from the hand, of the map
+pub entry_at : (fs : List (Option ℕ)) (pages hand : ℕ) (map : PageMap) (n d : ℕ) (x y : Option ℕ) → map_of fs pages hand ≡ map → n ≡ length fs →
+    hand < length fs → x ≡ slice_index_or fs ((hand + d) % n) x → x ≡ y → slice_get map.frames (frame_at map d) ≡ Some y
+entry_at fs pages hand map n d x y seen size in_range read is =
+    let P : PageMap → Type 0 = λ m. slice_get m.frames (frame_at m d) ≡ Some y in
+    subst P seen (read_at fs n hand d x size in_range read ∙ ap (λ z. Some z) is)
+
+-- the next occupied frame has a page
+pub next_has : (map : PageMap) (d : ℕ) → IsNextOccupied map d → ¬ (slice_get map.frames (frame_at map d) ≡ Some None)
+next_has map d next empty = none-some next.page (same_Some None (Some next.page) (sym empty ∙ next.holds))
+
+-- the victim, where the hand is set behind its frame
+pub victim_seen : (fs : List (Option ℕ)) (pages hand : ℕ) (map : PageMap) (n d page : ℕ) → map_of fs pages hand ≡ map → n ≡ length fs →
+    IsNextOccupied map d → Holds map (frame_at map d) page → IsVictim map (map_of fs pages ((hand + d + 1) % n)) page
+victim_seen fs pages hand map n d page seen size next holds =
+    let behind : hand + d + 1 ≡ hand + (d + 1) = omega arith in
+    record {
+      distance = d;
+      next = next;
+      holds = holds;
+      after = ap (λ k. map_of fs pages ((hand + d + 1) % k)) size
+          ∙ ap (λ i. map_of fs pages (i % length fs)) behind
+          ∙ ap (λ (m : PageMap). map_of m.frames m.pages (frame_at m (d + 1))) seen;
+    }
+
+-- two lists of nothing say the same
+pub fresh : (fs ps : List (Option ℕ)) (frames pages : ℕ) → 0 < frames → fs ≡ replicate frames None → ps ≡ replicate pages None → IsSound fs ps 0
+fresh fs ps frames pages some is other = rw (is, other) (fresh_sound frames pages some)
+
+-- they are seen as the empty map
+pub fresh_seen : (fs ps : List (Option ℕ)) (frames pages : ℕ) → fs ≡ replicate frames None → ps ≡ replicate pages None → map_of fs (length ps) 0 ≡ empty_map pages frames
+fresh_seen fs ps frames pages is other =
+    ap (λ (xs : List (Option ℕ)). map_of xs (length ps) 0) is
+    ∙ ap (λ n. map_of (replicate frames None) n 0) (ap (λ (xs : List (Option ℕ)). length xs) other ∙ length-replicate {A = Option ℕ} pages None)

@@ -1,15 +1,13 @@
-use Rattle.std.proofs.Common.{take, arith, length-take, IfOk}
+use Rattle.std.proofs.Common.{take, arith, length-take}
 use Rattle.std.proofs.lemmas.Grind.{common_steps}
-use Rattle.pmem_trait.specs.Sights.{state_now}
-use Rattle.pmem_fake.specs.History.{IsPicked}
-use Rattle.pmem_fake.specs.Fakes.{sight}
 use Rattle.pmem_fake.proofs.Picks.{ok_allowed, each_picked}
 use Rattle.pmem_fake.proofs.mem_pmem.MemPmem.crash.Goals as goal
 
+pub returns-clause-picked : goal.returns-clause-picked
+returns-clause-picked c = grind (arith, common_steps)
+
 pub returns-clause-allowed : goal.returns-clause-allowed
-returns-clause-allowed c =
-    let picked : IfOk c.image_after.result (λ image. IsPicked (sight c.args.self.now).len (state_now (sight c.args.self.now)) c.args.picks.now image.items) = grind (arith, common_steps) in
-    ok_allowed _ _ _ _ picked
+returns-clause-allowed c = ok_allowed _ _ _ _ (returns-clause-picked c)
 
 pub returns-clause-every : goal.returns-clause-every
 returns-clause-every c =
