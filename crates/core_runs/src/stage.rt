@@ -56,11 +56,7 @@ impl Stage {
 
     /// Makes the event by this view, and says in a word whether it is allowed.
     pub fn make(&mut self, who: u64, event: &Event) -> &'static str {
-        match core_step(self.alloc, &mut self.core, who, event) {
-            Ok(()) => "allowed",
-            Err(CoreRefusal::Off) => "off",
-            Err(CoreRefusal::NoMemory) => "no memory",
-        }
+        said_of(core_step(self.alloc, &mut self.core, who, event))
     }
 
     /// What the word holds, if there is such a word.
@@ -70,6 +66,15 @@ impl Stage {
         } else {
             None
         }
+    }
+}
+
+/// What came of an event, in a word.
+fn said_of(outcome: Result<(), CoreRefusal>) -> &'static str {
+    match outcome {
+        Ok(()) => "allowed",
+        Err(CoreRefusal::Off) => "off",
+        Err(CoreRefusal::NoMemory) => "no memory",
     }
 }
 

@@ -62,13 +62,18 @@ fn make_each(
     for event in events.split("; ") {
         let word = make(rt, stage, who, event)?;
         if word != wanted {
-            rt.print(word)?;
-            rt.print(": ")?;
-            return rt.println(event);
+            return print_came_out(rt, word, event);
         }
         count = count.saturating_add(1);
     }
     print_numbers(rt, wanted, &[count])
+}
+
+/// Prints what came of an event.
+fn print_came_out(rt: &HostRuntime, word: &str, event: &str) -> io::Result<()> {
+    rt.print(word)?;
+    rt.print(": ")?;
+    rt.println(event)
 }
 
 fn make(rt: &HostRuntime, stage: &mut Stage, who: u64, event: &str) -> io::Result<&'static str> {
@@ -87,22 +92,24 @@ fn fill(rt: &HostRuntime, stage: &mut Stage, who: u64, words: &str) -> io::Resul
     let (page, frame) = (*page, *frame);
     let mut count = 0_u64;
     for at in *first..=*last {
-        let value = stage.opening_word(at);
-        let word = stage.make(
-            who,
-            &Event::Fill {
-                page,
-                frame,
-                at,
-                value,
-            },
-        );
+        let word = fill_word(stage, who, (page, frame), at);
         if word != "allowed" {
             return print_numbers(rt, word, &[at]);
         }
         count = count.saturating_add(1);
     }
     print_numbers(rt, "allowed", &[count])
+}
+
+/// Fills a home word of a page with its opening value, into a frame.
+fn fill_word(stage: &mut Stage, who: u64, place: (u64, u64), at: u64) -> &'static str {
+    let event = Event::Fill {
+        page: place.0,
+        frame: place.1,
+        at,
+        value: stage.opening_word(at),
+    };
+    stage.make(who, &event)
 }
 
 /// Prints the words of a frame that aren't the opening words of the page.
