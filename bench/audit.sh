@@ -12,7 +12,7 @@ folder=${1:-/dev/shm} program=$(readlink -f "${2:-$top/crates/dude/out/dude}")
 room=$(mktemp -d "$folder/audit.XXXXXX")
 trap 'rm -rf "$room"' EXIT
 python3 - "$top/bench" "$room" "$program" << 'RUN'
-import os, shutil, subprocess, sys, time
+import shutil, subprocess, sys, time
 
 bench, room, program = sys.argv[1:]
 sys.path[:0] = [bench, bench + "/stores"]
@@ -21,13 +21,22 @@ import load, recover
 FILES, SUBSCRIBERS = 8, 10000
 
 
+# A process of its own starts each command, since a child's peak begins with that of who starts it: some 15 MB here.
+START = """
+import os, subprocess, sys, time
+start = time.perf_counter()
+child = subprocess.Popen(sys.argv[1:], stdin=subprocess.DEVNULL)
+_, status, usage = os.wait4(child.pid, 0)
+open("used", "w").write(f"{os.waitstatus_to_exitcode(status)} {time.perf_counter() - start} {usage.ru_maxrss * 1024}")
+"""
+
+
 def ran(image, *words, out="out"):
     """The status, the seconds and the peak resident bytes of a command; its output goes to a file of the folder."""
     with open(f"{room}/{out}", "wb") as to, open(f"{room}/told", "wb") as told:
-        start = time.perf_counter()
-        child = subprocess.Popen([program, f"{room}/{image}", *words], cwd=room, stdin=subprocess.DEVNULL, stdout=to, stderr=told)
-        _, status, usage = os.wait4(child.pid, 0)
-        return os.waitstatus_to_exitcode(status), time.perf_counter() - start, usage.ru_maxrss * 1024
+        subprocess.run([sys.executable, "-c", START, program, f"{room}/{image}", *words], cwd=room, stdout=to, stderr=told, check=True)
+    status, seconds, memory = bytes_of("used").split()
+    return int(status), float(seconds), int(memory)
 
 
 def must(wanted, what, image, *words, out="out"):
