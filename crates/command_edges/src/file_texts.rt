@@ -43,7 +43,8 @@ pub fn read_texts<F: Files>(
         (F.sight files.old) (F.sight files.new) }
     ensures calm { OnOk result ((F.sight files.new).faults ≡ (F.sight files.old).faults) }
     ensures read { IfOk result (AreTextsOf (F.sight files.old) (files_wanted wanted.now)) }
-    ensures cause { IfErr result (asked.IsReadFault F.sight (files_wanted wanted.now) files.old files.new) }
+    ensures cause { IfErr result (asked.IsReadFault F.sight (files_wanted wanted.now)
+        files.old files.new) }
 {
     let mut texts = Vec::new(alloc);
     for (index, file) in wanted.iter().enumerate() {
