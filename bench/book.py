@@ -20,20 +20,8 @@ from contracts import FIELD, TOP, WORD, Book, Definition, cited_in, clause_text,
 
 OUT = f"{TOP}/out/book"
 
-# The picture: each tower with its place on a wide page and its floors of crates, from the top down. A name that is no crate
-# is passed over, and a crate that has no place here comes last.
-TOWERS = [
-    ("Program", "program", "dude; dude_program; command_words command_edges command_openings"),
-    ("Runs", "runs", "dude_engine; log_numbered run_order"),
-    ("Images", "images", "dude_recover; image_format image_opening; image_recovery"),
-    ("Log", "log", "back_store; log_waiting; log_ring; redo_record group_combine"),
-    ("Home", "home", "tatp_rows; tatp_core; tatp_read tatp_check tatp_population; tatp_layout; table_check hash_table; record_heap; word_space"),
-    ("Texts", "texts", "tatp_csv; tatp_text"),
-    ("Base", "base", "dude_io; file_pmem; dude_base tatp_model pmem_trait"),
-    ("Threads", "threads", "tiny_stm legal_entries; core_table legal_order; dude_core; core_state; core_steps; core_view; core_events; shadow_pages"),
-    ("Tests", "tests", "program_runs home_runs log_runs text_runs core_runs; slow_recovery script_words pmem_fake"),
-]
-PLACES = ["program program program threads", "runs runs runs threads", "images log home threads", "texts log home threads", "base base base base", "tests tests tests tests", "others others others others"]
+# Where each tower of the tour's picture stands on a wide page.
+PLACES = ["program program program threads", "runs runs runs threads", "images log home threads", "texts log home threads", "base base base base", "tests tests tests tests"]
 # The clause that the book begins with: its crate, its call, its name, and the definition that it cites.
 HEADLINE = ("dude_program", "dude", "headline", ("Headline", "Headline"))
 
@@ -203,17 +191,22 @@ def write_crate(book, crate):
         page(f"{crate}.{module.name}.html", f"{crate}: {module.name}", body + "".join(definition_text(book, module, it) for it in module.definitions))
 
 
+def towers():
+    """The towers of the tour's picture, from the top down: of each its name and its floors of crates, between which dots stand."""
+    with open(f"{TOP}/docs/TOUR.md", encoding="utf-8") as it:
+        lines = re.search(r"(?:^    .*\n)+", it.read(), re.M)[0].split("\n")
+    rows = [line.split(maxsplit=1) for line in lines if line.strip()]
+    return [(name, [re.findall(r"\w+", floor) for floor in floors.split(" . ")]) for name, floors in rows]
+
+
 def picture(book):
     rows = []
-    placed = " ".join(floors.replace(";", " ") for _, _, floors in TOWERS).split()
-    rest = [it for it in book.crates if it not in placed]
-    for title, place, floors in TOWERS + ([("Others", "others", " ".join(rest))] if rest else []):
+    for name, floors in towers():
         shown = ""
-        for floor in floors.split(";"):
-            crates = [it for it in floor.split() if it in book.crates]
-            links = "".join(f'<a href="{it}.html" title="{html.escape(sentence(book.sentences[it]))}">{it}</a>' for it in crates)
-            shown += f'<div class="floor">{links}</div>' if crates else ""
-        rows.append(f'<div class="tower" style="--place: {place}"><h2>{title}</h2>{shown}</div>')
+        for floor in floors:
+            links = "".join(f'<a href="{it}.html" title="{html.escape(sentence(book.sentences[it]))}">{it}</a>' for it in floor if it in book.crates)
+            shown += f'<div class="floor">{links}</div>' if links else ""
+        rows.append(f'<div class="tower" style="--place: {name}"><h2>{name.capitalize()}</h2>{shown}</div>')
     return f'<div class="towers">{"".join(rows)}</div>'
 
 
@@ -337,12 +330,16 @@ def check_links(book):
 
 
 def check_documents(book):
-    """Notes paths in documents that lead nowhere. A path with a name in capitals stands for any."""
+    """Notes paths in documents that lead nowhere, and what the tour's picture lacks or has too much. A path with a name in
+    capitals stands for any."""
     documents = [f"{TOP}/README.md", *(f"{TOP}/docs/{it}" for it in sorted(os.listdir(f"{TOP}/docs")) if it.endswith(".md"))]
     for document in documents:
         for path in re.findall(r"[`(]((?:crates|docs|bench|examples)/[\w./-]+)", "\n".join(read_lines(document))):
             if not re.search(r"/[A-Z]+(?:/|$)", path) and not os.path.exists(f"{TOP}/{path}"):
                 book.miss(f"{os.path.relpath(document, TOP)}: dead link {path}")
+    placed = [it for _, floors in towers() for floor in floors for it in floor]
+    for crate in set(book.crates) ^ set(placed):
+        book.miss(f"docs/TOUR.md: the picture {'lacks the crate' if crate in book.crates else 'has no crate'} {crate}")
 
 
 def main():
