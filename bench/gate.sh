@@ -1,7 +1,7 @@
 #!/usr/bin/env bash
 # Measures one gate from nothing (`rt ci`, with `--anew` where the kit's keeps what passed) from the system's table of
 # processes: processor seconds of each crate's proof, of its tests, of what builds and runs its program, and of each edit;
-# and the longest chain of crates.
+# and the longest chain of crates. An example of the kit is proved and built right before, alone, as a yardstick of the machine.
 #
 #     bench/gate.sh              the whole gate, at the top; writes the tables of docs/GATE.md
 #     bench/gate.sh CRATE..      these crates and those below them, on a copy; prints the tables alone. Some kits can't
@@ -128,7 +128,15 @@ def longest_chain(below, spans):
     return max(best.values(), default=(0, []))
 
 
-def tables(below, looks, wall, whole):
+def yardstick():
+    """The processor seconds of one proof and build of the kit's own example, by which tables of two machines compare."""
+    before = os.times()
+    subprocess.run(["rt", "selftest"], stdin=subprocess.DEVNULL, stdout=subprocess.DEVNULL, stderr=subprocess.DEVNULL, check=True)
+    after = os.times()
+    return after.children_user + after.children_system - before.children_user - before.children_system
+
+
+def tables(below, looks, wall, whole, measure):
     sums, kinds = looks.seconds(), ("proof", "tests", "program", "seed", "edits")
     rows, edits, total = [], [], dict.fromkeys(kinds, 0)
     for crate in below:
@@ -147,6 +155,7 @@ def tables(below, looks, wall, whole):
     return "\n".join([
         f"{whole / 60:.0f} processor minutes, {whole / 60 / (lines / 1000):.2f} a thousand lines, in {wall / 60:.0f} minutes on "
         f"{os.cpu_count()} hardware threads. {whole - sum(total.values()):.0f} processor seconds are those of `rt` itself and of what ended between two looks.",
+        f"`rt selftest`, an example of the kit, took {measure:.0f} processor seconds right before: tables of two machines compare by it.",
         "",
         "| Crate | Lines | Proof | Tests | Program | Seed of edits | Edits | All |",
         "| --- | --- | --- | --- | --- | --- | --- | --- |",
@@ -161,11 +170,12 @@ def tables(below, looks, wall, whole):
 
 
 def main(names):
-    below, begun = crates_of(), time.time()
+    below = crates_of()
     told = subprocess.run(["rt", "help"], stdin=subprocess.DEVNULL, stdout=subprocess.PIPE, stderr=subprocess.STDOUT, text=True)
     keeps = "--anew" in told.stdout
     if names and not keeps:
         sys.exit("gate.sh: this kit's rt ci takes no names")
+    measure, begun = yardstick(), time.time()
     ci = subprocess.Popen(["rt", "ci", *["--anew"] * keeps, *names], stdin=subprocess.DEVNULL)
     looks = Looks(ci.pid)
     looks.work = {(ci.pid, stat_of(ci.pid)[1]): None}
@@ -175,7 +185,7 @@ def main(names):
             break
         looks.look()
         time.sleep(LOOK)
-    made = tables(below, looks, time.time() - begun, used.ru_utime + used.ru_stime)
+    made = tables(below, looks, time.time() - begun, used.ru_utime + used.ru_stime, measure)
     print(made)
     if not names and not status:
         with open("docs/GATE.md") as it:
