@@ -3,13 +3,12 @@ use Rattle.std.proofs.Common.{◌≡◌, ℕ, ◌<◌, ◌^◌, List, ◌∷◌,
 use Rattle.std.proofs.lemmas.List.{map-set, set-get_or}
 use mathlib.Core.Option.{Option, some}
 use lib.ListN.{get_elem?}
-use Rattle.atomic_table.specs.Table.{Me, Act, keeps, Valid, homes_after, carried_after, Allows}
+use Rattle.atomic_table.specs.Table.{Me, keeps, Allows}
 use Rattle.core_events.specs.Setups.{Setup}
 use Rattle.core_events.specs.Views.{View, Word}
 use Rattle.core_events.specs.Words.{State, found}
 use Rattle.core_events.specs.Events.{Event, name, word_after, view_after}
 use Rattle.core_events.specs.Conditions.{May, IsAllowed, after}
-use Rattle.core_events.specs.Kept.{Kept}
 use Rattle.core_events.specs.Telling.{IsInside, IsTold}
 use Rattle.core_events.proofs.Lists.{set_again, at_map}
 use Rattle.core_events.proofs.Keeps.{event_keeps}
@@ -20,21 +19,14 @@ use Rattle.core_table.specs.Places.{index, count}
 use Rattle.core_table.specs.Layout.{TableSight}
 use Rattle.core_table.specs.Steps.{Rests, BelongsTo}
 use Rattle.core_table.specs.Known.{Known, view_of, beside_of, known_after}
-use Rattle.core_table.specs.Rules.{Holds, Outlasts, Foreseen}
+use Rattle.core_table.specs.Rules.{Holds, Outlasts, Foreseen, Acts}
 use Rattle.core_table.proofs.Flat.{flat_found, flat_put, placed}
 
-module _ {S X : Type 0} (slot_fact : Setup → State → List X → List (Option S) → Type 0) (z : Setup) where
-  -- What a step that is the event e owes of the slots: an act and something to keep beside the view, with which the fact of the slots holds
-  -- again, and what is told of the number found
-  abbrev pub Acts : Event → ℕ → Me S (Known X) → (ℕ → Me S (Known X) → Type 0) → Type 0
-  Acts e id me then = (c : State) (xs : List X) (homes : List (Option S)) → Kept z c → IsAllowed z c id e me.0.view → get_elem? xs id ≡ some me.0.beside → slot_fact z c xs homes
-      → (a : Act S) × (x : X) × Valid homes me.1 a × slot_fact z (after z c id me.0.view e) (set xs id x) (homes_after homes me.1 a)
-      × (IsTold z e me.0.view (found c (name z e me.0.view)) → then (found c (name z e me.0.view)) (record { view = view_after z e me.0.view (found c (name z e me.0.view)); beside = x; made = e ∷ me.0.made }, carried_after me.1 a))
-
+module _ {S X : Type 0} (slot_fact : State → List X → List (Option S) → Type 0) (z : Setup) where
   -- a step whose word becomes what the event says is allowed
   pub by_acting : (e : Event) (f : ℕ → ℕ) (then : ℕ → Me S (Known X) → Type 0) (slots id : ℕ) (me : Me S (Known X)) → IsInside z (name z e me.0.view) → May z e me.0.view → Foreseen slot_fact z e id me.0
       → ((n : ℕ) → n < 2 ^ 64 → IsTold z e me.0.view n → f n ≡ word_after e me.0.view n)
-      → Acts e id me then
+      → Acts slot_fact z e id me then
       → Allows (Holds slot_fact z) slots id me (index z (name z e me.0.view)) f then
   by_acting e f then slots id me inside may fits word acts s h _ at small =
       let c : State = h.core in let v : View = me.0.view in let x : Word = name z e v in
@@ -61,14 +53,10 @@ module _ {S X : Type 0} (slot_fact : Setup → State → List X → List (Option
         a.4 told,
       )
 
-  -- the same where no slot is moved
-  pub by_event : (e : Event) (f : ℕ → ℕ) (then : ℕ → Me S (Known X) → Type 0) (slots id : ℕ) (me : Me S (Known X)) → IsInside z (name z e me.0.view) → May z e me.0.view → Foreseen slot_fact z e id me.0 → Outlasts slot_fact z e
-      → ((n : ℕ) → n < 2 ^ 64 → IsTold z e me.0.view n → f n ≡ word_after e me.0.view n)
-      → ((n : ℕ) → IsTold z e me.0.view n → then n (known_after z e me.0 n, me.1))
-      → Allows (Holds slot_fact z) slots id me (index z (name z e me.0.view)) f then
-  by_event e f then slots id me inside may fits outlasts word told =
-      by_acting e f then slots id me inside may fits word
-      (λ c xs homes k allowed at fact. (keeps, me.0.beside, tt, rw (set_again xs id me.0.beside at) (outlasts c id me.0.view xs homes k allowed fact), (λ t. told (found c (name z e me.0.view)) t)))
+  -- an act of a step that moves no slot
+  pub by_keeping : (e : Event) (then : ℕ → Me S (Known X) → Type 0) (id : ℕ) (me : Me S (Known X)) → Outlasts slot_fact z e → ((n : ℕ) → IsTold z e me.0.view n → then n (known_after z e me.0 n, me.1)) → Acts slot_fact z e id me then
+  by_keeping e then id me outlasts told c xs homes k allowed at fact =
+      (keeps, me.0.beside, tt, rw (set_again xs id me.0.beside at) (outlasts c id me.0.view xs homes k allowed fact), (λ t. told (found c (name z e me.0.view)) t))
 
   -- a load by which nothing changes
   pub by_resting : (slots id : ℕ) (me : Me S (Known X)) → Allows (Holds slot_fact z) slots id me 0 (λ n. n) (λ n w. Rests z me w)
@@ -88,19 +76,38 @@ module _ {S X : Type 0} (slot_fact : Setup → State → List X → List (Option
         (refl, kept_seated z h.core h.kept id me.0.view is_there),
       )
 
--- what a step on a table owes, in the words of its contract
-module _ {S X : Type 0} (slot_fact : Setup → State → List X → List (Option S) → Type 0) (t : TableSight) (z : Setup) (id : TableId) (same : record { id = id; setup = z } ≡ t) (wide : id.words ≡ count z) where
-  setup_is : z ≡ t.setup
-  setup_is = ap (λ (u : TableSight). u.setup) same
+-- the key of a table is the one that it was made with, and its setup that of the key
+module _ {K : Type 0} (setup_of : K → Setup) (t : TableSight K) (key : K) (id : TableId) (same : record { id = id; key = key; setup = setup_of key } ≡ t) where
+  pub key_of : key ≡ t.key
+  key_of = ap (λ (u : TableSight K). u.key) same
 
-  pub step_allowed : (e : Event) (f : ℕ → ℕ) (then : ℕ → Me S (Known X) → Type 0) (slots place : ℕ) (seat : Seat S (Known X)) → BelongsTo t seat → May t.setup e seat.me.0.view → Foreseen slot_fact t.setup e seat.id seat.me.0 → Outlasts slot_fact t.setup e
+  pub setup_of_key : setup_of t.key ≡ t.setup
+  setup_of_key = ap setup_of (sym key_of) ∙ ap (λ (u : TableSight K). u.setup) same
+
+-- what a step on a table owes, in the words of its contract
+module _ {S X K : Type 0} (setup_of : K → Setup) (fact_of : K → State → List X → List (Option S) → Type 0) (t : TableSight K) (key : K) (id : TableId) (same : record { id = id; key = key; setup = setup_of key } ≡ t) (wide : id.words ≡ count (setup_of key)) where
+  key_is : key ≡ t.key
+  key_is = key_of setup_of t key id same
+
+  setup_is : setup_of t.key ≡ t.setup
+  setup_is = setup_of_key setup_of t key id same
+
+  pub step_acting : (e : Event) (f : ℕ → ℕ) (then : ℕ → Me S (Known X) → Type 0) (slots place : ℕ) (seat : Seat S (Known X)) → BelongsTo t seat → May t.setup e seat.me.0.view → Foreseen (fact_of t.key) t.setup e seat.id seat.me.0
+      → place ≡ index t.setup (name t.setup e seat.me.0.view)
+      → ((n : ℕ) → n < 2 ^ 64 → IsTold t.setup e seat.me.0.view n → f n ≡ word_after e seat.me.0.view n)
+      → Acts (fact_of t.key) t.setup e seat.id seat.me then
+      → (seat.table_id ≡ id) × (place < id.words) × Allows (Holds (fact_of key) (setup_of key)) slots seat.id seat.me place f then
+  step_acting e f then slots place seat belongs may fits at word acts =
+      let inside : IsInside t.setup (name t.setup e seat.me.0.view) = word_inside t.setup e seat.me.0.view belongs.small.some_lock belongs.seated may in (
+        belongs.table ∙ sym (ap (λ (u : TableSight K). u.id) same),
+        (let lt = placed t.setup (name t.setup e seat.me.0.view) inside in let w : id.words ≡ count t.setup = wide ∙ (ap (λ (k : K). count (setup_of k)) key_is ∙ ap count setup_is) in omega arith),
+        rw (at, key_is, setup_is) (by_acting (fact_of t.key) t.setup e f then slots seat.id seat.me inside may fits word acts),
+      )
+
+  pub step_allowed : (e : Event) (f : ℕ → ℕ) (then : ℕ → Me S (Known X) → Type 0) (slots place : ℕ) (seat : Seat S (Known X)) → BelongsTo t seat → May t.setup e seat.me.0.view → Foreseen (fact_of t.key) t.setup e seat.id seat.me.0 → Outlasts (fact_of t.key) t.setup e
       → place ≡ index t.setup (name t.setup e seat.me.0.view)
       → ((n : ℕ) → n < 2 ^ 64 → IsTold t.setup e seat.me.0.view n → f n ≡ word_after e seat.me.0.view n)
       → ((n : ℕ) → IsTold t.setup e seat.me.0.view n → then n (known_after t.setup e seat.me.0 n, seat.me.1))
-      → (seat.table_id ≡ id) × (place < id.words) × Allows (Holds slot_fact z) slots seat.id seat.me place f then
+      → (seat.table_id ≡ id) × (place < id.words) × Allows (Holds (fact_of key) (setup_of key)) slots seat.id seat.me place f then
   step_allowed e f then slots place seat belongs may fits outlasts at word told =
-      let inside : IsInside t.setup (name t.setup e seat.me.0.view) = word_inside t.setup e seat.me.0.view belongs.small.some_lock belongs.seated may in (
-        belongs.table ∙ sym (ap (λ (u : TableSight). u.id) same),
-        (let lt = placed t.setup (name t.setup e seat.me.0.view) inside in let w : id.words ≡ count t.setup = wide ∙ ap count setup_is in omega arith),
-        rw (at, setup_is) (by_event slot_fact t.setup e f then slots seat.id seat.me inside may fits outlasts word told),
-      )
+      step_acting e f then slots place seat belongs may fits at word (by_keeping (fact_of t.key) t.setup e then seat.id seat.me outlasts told)

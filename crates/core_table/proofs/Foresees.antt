@@ -11,19 +11,20 @@ use Rattle.core_table.specs.Foreseen.{EmptiesFull, RaisesDurable, RaisesReproduc
 use Rattle.core_table.specs.Known.{Known, view_of}
 use Rattle.core_table.specs.Rules.{Holds}
 
-module _ {S X : Type 0} (slot_fact : Setup → State → List X → List (Option S) → Type 0) where
+module _ {S X : Type 0} (slot_fact : State → List X → List (Option S) → Type 0) where
   pub is_there : (z : Setup) (id : ℕ) (k : Known X) (s : TableState S (Known X)) (h : Holds slot_fact z s) → get_elem? s.views id ≡ some k → get_elem? h.core.views id ≡ some k.view
   is_there z id k s h at = rw (← h.views) (at_map view_of s.views id k at)
 
+module _ {S X K : Type 0} (slot_fact : K → State → List X → List (Option S) → Type 0) where
   pub empties_full : EmptiesFull slot_fact
-  empties_full z id k t j n turn e s h at = let f = keeps_full z h.core h.kept id k.view (is_there z id k s h at) turn (box_of z t j) n e in let is = f.0 in let pos = f.1 in omega arith
+  empties_full key z id k t j n turn e s h at = let f = keeps_full z h.core h.kept id k.view (is_there (slot_fact key) z id k s h at) turn (box_of z t j) n e in let is = f.0 in let pos = f.1 in omega arith
 
   pub raises_durable : RaisesDurable slot_fact
-  raises_durable z id k x drawn all s h at =
-      let there = is_there z id k s h at in let up = leaves_draws z h.core h.kept id k.view there x all in let low = (has_drawn z h.core h.kept id k.view there x drawn).1 in
+  raises_durable key z id k x drawn all s h at =
+      let there = is_there (slot_fact key) z id k s h at in let up = leaves_draws z h.core h.kept id k.view there x all in let low = (has_drawn z h.core h.kept id k.view there x drawn).1 in
       let r = (has_raised z h.core h.kept id k.view there).durable.2 in (omega arith, low)
 
   pub raises_reproduced : RaisesReproduced slot_fact
-  raises_reproduced z id k x drawn all s h at =
-      let there = is_there z id k s h at in let up = leaves_draws z h.core h.kept id k.view there x all in let low = (has_drawn z h.core h.kept id k.view there x drawn).1 in
+  raises_reproduced key z id k x drawn all s h at =
+      let there = is_there (slot_fact key) z id k s h at in let up = leaves_draws z h.core h.kept id k.view there x all in let low = (has_drawn z h.core h.kept id k.view there x drawn).1 in
       let r = (has_raised z h.core h.kept id k.view there).reproduced.1 in (omega arith, low)

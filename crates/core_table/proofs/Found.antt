@@ -7,7 +7,7 @@ use Rattle.core_table.specs.Layout.{TableSight}
 use Rattle.core_table.specs.Known.{Known}
 use Rattle.core_table.specs.Steps.{BelongsTo, Does, Puts, Rests, IsAfter, HasMade, HasFound, NowKnows}
 
-module _ {S X : Type 0} (t : TableSight) (z : Setup) (e : Event) (old new : Seat S (Known X)) (n : ℕ) (setup : z ≡ t.setup) (does : Does z e old.me n new.me) where
+module _ {S X K : Type 0} (t : TableSight K) (z : Setup) (e : Event) (old new : Seat S (Known X)) (n : ℕ) (setup : z ≡ t.setup) (does : Does z e old.me n new.me) where
   pub view_after_step : IsAfter t e old new n
   view_after_step = rw (does.0, setup) refl
 
@@ -23,7 +23,7 @@ module _ {S X : Type 0} (t : TableSight) (z : Setup) (e : Event) (old new : Seat
     told = rw (← setup) does.1;
   }
 
-module _ {S X : Type 0} (t : TableSight) (z : Setup) (e : Event) (old new : Seat S (Known X)) (setup : z ≡ t.setup) (puts : Puts z e old.me new.me) where
+module _ {S X K : Type 0} (t : TableSight K) (z : Setup) (e : Event) (old new : Seat S (Known X)) (setup : z ≡ t.setup) (puts : Puts z e old.me new.me) where
   pub view_after_store : IsAfter t e old new 0
   view_after_store = rw (puts.0, setup) refl
 
@@ -37,7 +37,7 @@ module _ {S X : Type 0} (t : TableSight) (z : Setup) (e : Event) (old new : Seat
   }
 
 -- a seat knows k after a join, and rests in a load behind it
-pub joined_by : {S X : Type 0} (t : TableSight) (z : Setup) (old joined new : Seat S (Known X)) (k : Known X) → z ≡ t.setup → BelongsTo t old → joined.table_id ≡ old.table_id → joined.id ≡ old.id → joined.me ≡ (k, old.me.1)
+pub joined_by : {S X K : Type 0} (t : TableSight K) (z : Setup) (old joined new : Seat S (Known X)) (k : Known X) → z ≡ t.setup → BelongsTo t old → joined.table_id ≡ old.table_id → joined.id ≡ old.id → joined.me ≡ (k, old.me.1)
     → new.table_id ≡ joined.table_id → new.id ≡ joined.id → Rests z joined.me new.me → NowKnows t old new k
 joined_by t z old joined new k setup seat table id me table_on id_on rests = (
   record { table = table_on ∙ (table ∙ seat.table); small = seat.small; seated = rw (rests.0, ← setup) rests.1 },

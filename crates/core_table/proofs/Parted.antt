@@ -18,7 +18,7 @@ use Rattle.core_table.specs.Known.{Known, view_of, beside_of}
 use Rattle.core_table.specs.Rules.{Holds, OutlastsSplit, OutlastsJoin}
 use Rattle.core_table.specs.Seats.{CanSplit, CanJoin, known_left, known_both}
 
-module _ {S X : Type 0} (slot_fact : Setup → State → List X → List (Option S) → Type 0) (z : Setup) (x : X) where
+module _ {S X : Type 0} (slot_fact : State → List X → List (Option S) → Type 0) (z : Setup) (x : X) where
   pub by_split : (id draws : ℕ) (k : Known X) → CanSplit k.view draws → OutlastsSplit slot_fact z draws x → Splits (Holds slot_fact z) id k (known_left draws k) (record { view = newcomer z 0 draws; beside = x; made = [] })
   by_split id draws k can outlasts s h at =
       let c : State = h.core in let new : Known X = record { view = newcomer z 0 draws; beside = x; made = [] } in
@@ -57,5 +57,5 @@ seated_left z draws v s =
     record { thread = s.thread; snapshot = s.snapshot; owned = s.owned; number = s.number; no_number = s.no_number; pins = s.pins; next = s.next; entries = s.entries; draws = omega (arith, s.draws); splits = omega (arith, s.splits) }
 
 -- a table has a word
-pub some_word : (t : TableSight) (z : Setup) (id : TableId) → id.words ≡ count z → 0 < id.words
+pub some_word : {K : Type 0} (t : TableSight K) (z : Setup) (id : TableId) → id.words ≡ count z → 0 < id.words
 some_word t z id wide = omega arith

@@ -5,9 +5,10 @@ use Rattle.atomic_table.specs.Seated.{TableId}
 use Rattle.core_events.specs.Setups.{Setup}
 use Rattle.core_table.specs.Places.{count}
 
--- which table it is, and its setup
-pub record TableSight : Type 0 where
+-- which table it is, the key that it was made with, and what this sets the machine up with
+pub record TableSight (K : Type 0) : Type 0 where
   pub id : TableId
+  pub key : K
   pub setup : Setup
 
 -- the sizes are so small that the place of each word is a number of 64 bits
@@ -28,3 +29,7 @@ pub record IsLaidOut (z : Setup) (words threads locks pages frames boxes : ℕ) 
   pub pages_are : z.pages ≡ pages
   pub frames_are : z.frames ≡ frames
   pub boxes_are : z.boxes ≡ boxes
+
+-- the machine starts the same, whatever is known of its medium
+abbrev pub IsSameStart : Setup → Setup → Type 0
+IsSameStart y z = z ≡ record y { is_told = z.is_told; may_fail = z.may_fail }

@@ -8,7 +8,7 @@ use crate::slot_rule::SlotRule;
 use atomic_table::Closed;
 use std::alloc::Global;
 
-impl<S, X, P: SlotRule<S, X>> EventTable<S, X, P> {
+impl<S, X, K, P: SlotRule<S, X, K>> EventTable<S, X, K, P> {
     /// Ends the table with the last seat: its words and slots are those of a state that keeps the
     /// rule, in which the seat knows what it knows.
     pub fn close(self, seat: Seat<S, X>) -> Closed<S, Global>

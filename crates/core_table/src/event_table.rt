@@ -3,7 +3,6 @@
 use crate::known::Known;
 use crate::law::Law;
 use crate::slot_rule::SlotRule;
-use crate::terms::Terms;
 use atomic_table::Table;
 use std::alloc::Global;
 use std::marker::Model;
@@ -13,8 +12,8 @@ pub type Seat<S, X> = atomic_table::Seat<S, Known<X>>;
 
 /// The words of the machine, on a table with slots of the type `S`.
 #[derive(Drop)]
-pub struct EventTable<S, X, P: SlotRule<S, X>> {
-    pub(crate) table: Table<S, Known<X>, Terms, Law<P>, Global>,
+pub struct EventTable<S, X, K, P: SlotRule<S, X, K>> {
+    pub(crate) table: Table<S, Known<X>, K, Law<P>, Global>,
     pub(crate) threads: u64,
     pub(crate) locks: u64,
     pub(crate) pages: u64,
@@ -22,12 +21,12 @@ pub struct EventTable<S, X, P: SlotRule<S, X>> {
     pub(crate) boxes: u64,
 }
 
-impl<S, X, P: SlotRule<S, X>> Model for EventTable<S, X, P> {
+impl<S, X, K, P: SlotRule<S, X, K>> Model for EventTable<S, X, K, P> {
     ghost use Rattle.core_table.specs.Layout.{TableSight, IsLaidOut};
 
-    ghost Value = { TableSight };
+    ghost Value = { TableSight K };
 
-    ghost view = { λ t. record { id = t.table.shared.table_id; setup = t.table.shared.key } };
+    ghost view = { λ t. record { id = t.table.shared.table_id; key = t.table.shared.key; setup = P.setup t.table.shared.key } };
 
-    ghost invariant = { λ t. IsLaidOut t.table.shared.key t.table.shared.table_id.words t.threads t.locks t.pages t.frames t.boxes };
+    ghost invariant = { λ t. IsLaidOut (P.setup t.table.shared.key) t.table.shared.table_id.words t.threads t.locks t.pages t.frames t.boxes };
 }

@@ -2,7 +2,6 @@
 
 use crate::known::Known;
 use crate::slot_rule::SlotRule;
-use crate::terms::Terms;
 use atomic_table::TableRule;
 use std::marker::PhantomData;
 
@@ -11,12 +10,12 @@ pub struct Law<P> {
     marker: PhantomData<P>,
 }
 
-impl<S, X, P: SlotRule<S, X>> TableRule<S, Known<X>, Terms> for Law<P> {
+impl<S, X, K, P: SlotRule<S, X, K>> TableRule<S, Known<X>, K> for Law<P> {
     ghost use Rattle.std.specs.Prelude.{[]};
     ghost use Rattle.core_table.specs.Rules.{Holds};
     ghost use Rattle.core_table.specs.Seats.{opener};
 
-    ghost holds = { λ z. Holds P.fact z };
+    ghost holds = { λ key. Holds (P.fact key) (P.setup key) };
 
-    ghost first = { λ z. record { view = opener z; beside = P.beside; made = [] } };
+    ghost first = { λ key. record { view = opener (P.setup key); beside = P.beside; made = [] } };
 }

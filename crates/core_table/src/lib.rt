@@ -15,6 +15,8 @@ pub mod places;
 pub mod plays;
 pub mod seat_moves;
 mod sizes;
+pub mod slot_choice;
 pub mod slot_rule;
+mod slot_steps;
 mod steps;
 pub mod terms;

@@ -1,11 +1,10 @@
 //! A table is made, with the words of the state at the start.
 
-ghost use Rattle.std.specs.Prelude.{◌≡◌, ◌+◌, ◌*◌, ◌≤◌, ◌^◌, [], ◌∷◌, ◌++◌, map, replicate, IfOk, IfErr, OnOk, if◌then◌else◌, ltb};
-ghost use mathlib.Core.Option.{some};
+ghost use Rattle.std.specs.Prelude.{◌≡◌, ◌+◌, ◌*◌, ◌≤◌, ◌^◌, ◌++◌, replicate, IfOk, IfErr, OnOk, if◌then◌else◌, ltb};
 ghost use Rattle.core_events.specs.Setups.{IsSetup, entry_with};
 ghost use Rattle.core_events.specs.Partings.{first_entries, start};
 ghost use Rattle.core_table.specs.Places.{flat};
-ghost use Rattle.core_table.specs.Steps.{IsOpened};
+ghost use Rattle.core_table.specs.Steps.{MayOpen, IsOpened};
 
 use crate::event_table::{EventTable, Seat};
 use crate::places::ENTRY;
@@ -15,24 +14,23 @@ use atomic_table::{Refused, Table};
 use dude_base::limits::PAGE;
 use std::alloc::{AllocError, Global};
 
-impl<S, X, P: SlotRule<S, X>> EventTable<S, X, P> {
-    /// The table at the start, with these slots, and its first seat. Where memory is wanting the
-    /// slots come back.
+impl<S, X, K, P: SlotRule<S, X, K>> EventTable<S, X, K, P> {
+    /// The table of this key at the start, with the sizes and words of these terms, these slots,
+    /// and its first seat. Where memory is wanting the slots come back.
     pub fn new(
         alloc: Global,
+        key: &K,
         terms: &Terms,
         slots: Vec<S>,
-    ) -> Result<(EventTable<S, X, P>, Seat<S, X>), Refused<S, Global>>
-        requires setup { IsSetup terms.now }
-        requires pages { terms.now.pages ≤ 2 ^ 32 }
-        requires slots { P.fact terms.now (start terms.now) (P.beside ∷ []) (map some slots.items) }
-        ensures ok { IfOk result (λ r. IsOpened P.beside r.0 terms.now r.1) }
+    ) -> Result<(EventTable<S, X, K, P>, Seat<S, X>), Refused<S, Global>>
+        requires may { MayOpen P.setup P.fact P.beside key.now terms.now slots.items }
+        ensures ok { IfOk result (λ r. IsOpened P.setup P.beside r.0 key.now r.1) }
         ensures err { IfErr result (λ r. r.slots.items ≡ slots.items) }
     {
         let Ok(words) = start_words(alloc, terms) else {
             return Err(Refused { slots });
         };
-        let (table, seat) = Table::new(alloc, words.as_slice(), slots, terms)?;
+        let (table, seat) = Table::new(alloc, words.as_slice(), slots, key)?;
         let table = EventTable {
             table,
             threads: terms.threads,

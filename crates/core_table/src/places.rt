@@ -31,7 +31,7 @@ pub const ENTRY: u64 = 65_536;
 /// How many words stand alone, in front of all others.
 const ALONE: u64 = 5;
 
-impl<S, X, P: SlotRule<S, X>> EventTable<S, X, P> {
+impl<S, X, K, P: SlotRule<S, X, K>> EventTable<S, X, K, P> {
     /// The place of a lock.
     pub fn lock_place(&self, lock: u64) -> usize
         requires { lock < self.now.setup.locks }
@@ -67,14 +67,23 @@ impl<S, X, P: SlotRule<S, X>> EventTable<S, X, P> {
         (ALONE + self.locks + self.pages + self.pages + (frame * PAGE + at % PAGE)) as usize
     }
 
+    /// The number of a thread's box among all boxes.
+    pub fn box_number(&self, thread: u64, place: u64) -> usize
+        requires thread { thread < self.now.setup.threads }
+        requires place { place < self.now.setup.boxes }
+        ensures { result ≡ box_of self.now.setup thread place }
+    {
+        let _threads = self.threads;
+        (thread * self.boxes + place) as usize
+    }
+
     /// The place of a thread's box.
     pub fn box_place(&self, thread: u64, place: u64) -> usize
         requires thread { thread < self.now.setup.threads }
         requires place { place < self.now.setup.boxes }
         ensures { result ≡ index self.now.setup (the_box (box_of self.now.setup thread place)) }
     {
-        let _threads = self.threads;
         let before = self.locks + self.pages + self.pages + self.frames * PAGE;
-        (ALONE + before + (thread * self.boxes + place)) as usize
+        (ALONE + before) as usize + self.box_number(thread, place)
     }
 }

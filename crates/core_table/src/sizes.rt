@@ -1,11 +1,11 @@
-//! How many words there are of each kind.
+//! How many words there are of each kind, and the setup.
 
-ghost use Rattle.std.specs.Prelude.{◌≡◌};
+ghost use Rattle.std.specs.Prelude.{◌≡◌, ◌*◌};
 
 use crate::event_table::EventTable;
 use crate::slot_rule::SlotRule;
 
-impl<S, X, P: SlotRule<S, X>> EventTable<S, X, P> {
+impl<S, X, K, P: SlotRule<S, X, K>> EventTable<S, X, K, P> {
     /// How many threads may take part.
     pub fn threads(&self) -> u64
         ensures { result ≡ self.now.setup.threads }
@@ -32,6 +32,14 @@ impl<S, X, P: SlotRule<S, X>> EventTable<S, X, P> {
         ensures { result ≡ self.now.setup.frames }
     {
         self.frames
+    }
+
+    /// How many boxes there are. The setup is that of the key.
+    pub fn box_count(&self) -> usize
+        ensures count { result ≡ self.now.setup.threads * self.now.setup.boxes }
+        ensures setup { self.now.setup ≡ P.setup self.now.key }
+    {
+        (self.threads * self.boxes) as usize
     }
 
     /// How many boxes each thread has.

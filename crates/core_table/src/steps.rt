@@ -9,7 +9,7 @@ use crate::event_table::{EventTable, Seat};
 use crate::plays::{Does, Puts};
 use crate::slot_rule::SlotRule;
 
-impl<S, X, P: SlotRule<S, X>> EventTable<S, X, P> {
+impl<S, X, K, P: SlotRule<S, X, K>> EventTable<S, X, K, P> {
     /// A load that is the event of `E`. The event is picked from `_about`.
     pub fn load_as<E: Choice, T>(&self, seat: &mut Seat<S, X>, place: usize, _about: &T) -> u64
         requires setup { E.setup ≡ self.now.setup }

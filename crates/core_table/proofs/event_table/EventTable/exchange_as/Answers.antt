@@ -9,7 +9,7 @@ use Rattle.core_table.proofs.event_table.EventTable.exchange_as.Goals as goal
 pub compare_exchange-requires : goal.compare_exchange-requires
 compare_exchange-requires g c =
     let t = c.args.self.now in let i = c.self.inside.table.shared in let seat = c.args.seat.now in let e : Event = g.E.Choice.event in let r = c.requires in
-    step_allowed g.P.SlotRule.fact t i.key i.table_id c.self.view_is c.self.invariant.words_are e (λ n. either (n == c.args.old) c.args.new n)
+    step_allowed g.P.SlotRule.setup g.P.SlotRule.fact t i.key i.table_id c.self.view_is c.self.invariant.words_are e (λ n. either (n == c.args.old) c.args.new n)
     (Does g.E.Choice.setup e seat.me) i.table_id.slots c.args.place seat r.may.seat r.may.may r.fits r.may.slots r.place
     (λ n _ told. sym (r.word n told)) (λ n told. rw r.setup (refl, told))
 

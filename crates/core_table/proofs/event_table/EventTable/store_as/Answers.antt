@@ -9,7 +9,7 @@ use Rattle.core_table.proofs.event_table.EventTable.store_as.Goals as goal
 pub store-requires : goal.store-requires
 store-requires g c =
     let t = c.args.self.now in let i = c.self.inside.table.shared in let seat = c.args.seat.now in let e : Event = g.E.Choice.event in let r = c.requires in
-    step_allowed g.P.SlotRule.fact t i.key i.table_id c.self.view_is c.self.invariant.words_are e (λ _. c.args.new)
+    step_allowed g.P.SlotRule.setup g.P.SlotRule.fact t i.key i.table_id c.self.view_is c.self.invariant.words_are e (λ _. c.args.new)
     (λ _ w. Puts g.E.Choice.setup e seat.me w) i.table_id.slots c.args.place seat r.may.seat r.may.may r.fits r.may.slots r.place
     (λ n _ told. sym (r.word n told)) (λ n told. rw r.setup (ap (λ (v : View). (record { view = v; beside = seat.me.0.beside; made = e ∷ seat.me.0.made }, seat.me.1)) (r.blind n), told.after))
 

@@ -9,7 +9,7 @@ use Rattle.core_table.proofs.event_table.EventTable.subtract_as.Goals as goal
 pub fetch_sub-requires : goal.fetch_sub-requires
 fetch_sub-requires g c =
     let t = c.args.self.now in let i = c.self.inside.table.shared in let seat = c.args.seat.now in let e : Event = g.E.Choice.event in let r = c.requires in
-    step_allowed g.P.SlotRule.fact t i.key i.table_id c.self.view_is c.self.invariant.words_are e (λ n. (n + (2 ^ 64 - c.args.less)) % 2 ^ 64)
+    step_allowed g.P.SlotRule.setup g.P.SlotRule.fact t i.key i.table_id c.self.view_is c.self.invariant.words_are e (λ n. (n + (2 ^ 64 - c.args.less)) % 2 ^ 64)
     (Does g.E.Choice.setup e seat.me) i.table_id.slots c.args.place seat r.may.seat r.may.may r.fits r.may.slots r.place
     (λ n small told. let w = r.word n told in subtracted n c.args.less w.1 w.2 small ∙ sym w.0) (λ n told. rw r.setup (refl, told))
 

@@ -1,0 +1,107 @@
+//! The atomic steps that move slots, each once for any event that is a step of its form, and the
+//! change of a slot that a seat took.
+
+ghost use Rattle.std.specs.Prelude.{◌≡◌, ◌==◌, ◌∷◌};
+ghost use prog.Atomic.{either};
+ghost use Rattle.atomic_table.specs.Table.{rest};
+ghost use Rattle.core_table.specs.Steps.{MayAct, IsForeseen, place_at, WordBecomes, WordRises, IsSameSeat, HasSlot};
+
+use crate::event_table::{EventTable, Seat};
+use crate::plays::{DoesWithSlots, PutsWithSlots};
+use crate::slot_choice::SlotChoice;
+use crate::slot_rule::SlotRule;
+
+impl<S, X, K, P: SlotRule<S, X, K>> EventTable<S, X, K, P> {
+    /// A load that is the event of `E`. The event is picked from `_about`.
+    pub fn load_by<E: SlotChoice<S, X>, T>(
+        &self,
+        seat: &mut Seat<S, X>,
+        place: usize,
+        _about: &T,
+    ) -> u64
+        requires setup { E.setup ≡ self.now.setup }
+        requires may { MayAct P.fact self.now E.event seat.old E.then }
+        requires fits { IsForeseen P.fact self.now E.event seat.old }
+        requires place { place ≡ place_at self.now E.event seat.old }
+        requires word { WordBecomes self.now E.event seat.old (λ n. n) }
+        ensures seat { IsSameSeat seat.old seat.new }
+        ensures then { E.then result seat.new.me }
+    {
+        self.table.shared.load::<DoesWithSlots<E>>(seat, place)
+    }
+
+    /// A store that is the event of `E`. It isn't told what it found.
+    pub fn store_by<E: SlotChoice<S, X>, T>(
+        &self,
+        seat: &mut Seat<S, X>,
+        place: usize,
+        new: u64,
+        _about: &T,
+    )
+        requires setup { E.setup ≡ self.now.setup }
+        requires may { MayAct P.fact self.now E.event seat.old (λ n. E.then 0) }
+        requires fits { IsForeseen P.fact self.now E.event seat.old }
+        requires place { place ≡ place_at self.now E.event seat.old }
+        requires word { WordBecomes self.now E.event seat.old (λ n. new) }
+        ensures seat { IsSameSeat seat.old seat.new }
+        ensures then { E.then 0 seat.new.me }
+    {
+        self.table
+            .shared
+            .store::<PutsWithSlots<E>>(seat, place, new)
+    }
+
+    /// A compare-exchange that is the event of `E`.
+    pub fn exchange_by<E: SlotChoice<S, X>, T>(
+        &self,
+        seat: &mut Seat<S, X>,
+        place: usize,
+        old: u64,
+        new: u64,
+        _about: &T,
+    ) -> u64
+        requires setup { E.setup ≡ self.now.setup }
+        requires may { MayAct P.fact self.now E.event seat.old E.then }
+        requires fits { IsForeseen P.fact self.now E.event seat.old }
+        requires place { place ≡ place_at self.now E.event seat.old }
+        requires word { WordBecomes self.now E.event seat.old (λ n. either (n == old) new n) }
+        ensures seat { IsSameSeat seat.old seat.new }
+        ensures then { E.then result seat.new.me }
+    {
+        self.table
+            .shared
+            .compare_exchange::<DoesWithSlots<E>>(seat, place, old, new)
+    }
+
+    /// An addition that is the event of `E`. It doesn't wrap.
+    pub fn add_by<E: SlotChoice<S, X>, T>(
+        &self,
+        seat: &mut Seat<S, X>,
+        place: usize,
+        more: u64,
+        _about: &T,
+    ) -> u64
+        requires setup { E.setup ≡ self.now.setup }
+        requires may { MayAct P.fact self.now E.event seat.old E.then }
+        requires fits { IsForeseen P.fact self.now E.event seat.old }
+        requires place { place ≡ place_at self.now E.event seat.old }
+        requires word { WordRises self.now E.event seat.old more }
+        ensures seat { IsSameSeat seat.old seat.new }
+        ensures then { E.then result seat.new.me }
+    {
+        self.table
+            .shared
+            .fetch_add::<DoesWithSlots<E>>(seat, place, more)
+    }
+
+    /// Puts a value in the slot that the seat took last, and gives the one that was there.
+    pub fn change_slot(&self, seat: &mut Seat<S, X>, slot: usize, new: S) -> S
+        requires table { seat.old.table_id ≡ self.now.id }
+        requires front { HasSlot seat.old slot }
+        ensures seat { IsSameSeat seat.old seat.new }
+        ensures me { seat.new.me ≡ (seat.old.me.0, (slot, new) ∷ rest seat.old.me.1) }
+        ensures was { seat.old.me.1 ≡ (slot, result) ∷ rest seat.old.me.1 }
+    {
+        self.table.shared.exchange(seat, slot, new)
+    }
+}
