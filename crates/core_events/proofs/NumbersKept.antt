@@ -41,6 +41,25 @@ all_cons : {X : Type 0} (P : X → Type 0) (a : X) (xs : List X) → P a → All
 all_cons P a xs h all zero d lt = h
 all_cons P a xs h all (suc k) d lt = all k d (omega arith)
 
+-- The number n leaves its place in a list of one kind of places, for one of another kind; the others of the list stay where they are.
+module _ (first clock : ℕ) (place : ℕ → Place) (kind : ℕ → Place) (apart : (i j : ℕ) → kind i ≡ kind j → i ≡ j) (list : List ℕ) (n i : ℕ) (held : get_elem? list i ≡ some n) (to : Place) (away : (j : ℕ) → to ≡ kind j → ⊥)
+    (listed : (m j : ℕ) → first < m → m ≤ clock → place m ≡ kind j → get_elem? list j ≡ some m) (placed : (m j : ℕ) → get_elem? list j ≡ some m → 0 < m → (place m ≡ kind j) × (first < m) × (m ≤ clock)) where
+  left_listed : (m j : ℕ) → first < m → m ≤ clock → change place n to m ≡ kind j → get_elem? (set list i 0) j ≡ some m
+  left_listed m j lt le e = ⊎_elim
+      (λ t. absurd (away j (sym t.1 ∙ e)))
+      (λ t. let old = listed m j lt le (sym t.1 ∙ e) in
+      let other : j ≢ i = λ f. t.0 (some-injective m n (sym old ∙ (ap (get_elem? list) f ∙ held))) in
+      set_else list i j 0 other ∙ old)
+      (at_change place n to m)
+
+  left_placed : 0 < n → (m j : ℕ) → get_elem? (set list i 0) j ≡ some m → 0 < m → (change place n to m ≡ kind j) × (first < m) × (m ≤ clock)
+  left_placed pos m j e lt = ⊎_elim
+      (λ t. absurd (let f = t.1 in omega arith))
+      (λ t. let old = placed m j t.1 lt in
+      let other : m ≢ n = λ f. t.0 (apart j i (sym old.0 ∙ (ap place f ∙ (placed n i held pos).0))) in
+      (⊎_elim (λ u. absurd (other u.0)) (λ u. u.1) (at_change place n to m) ∙ old.0, old.1, old.2))
+      (at_set list i j 0 m e)
+
 module _ (first : ℕ) (place : ℕ → Place) (clock : ℕ) (numbers boxes persisted : List ℕ) (k : NumbersPlaced first place clock numbers boxes persisted) where
   -- the view id, which has no open number, draws the next one
   pub placed_draw : (id : ℕ) → get_elem? numbers id ≡ some 0 → first ≤ clock → NumbersPlaced first (change place (clock + 1) (in_view id)) (clock + 1) (set numbers id (clock + 1)) boxes persisted
@@ -79,18 +98,8 @@ module _ (first : ℕ) (place : ℕ → Place) (clock : ℕ) (numbers boxes pers
       let else_ : (m : ℕ) → m ≢ n → change place n (in_box b) m ≡ place m = λ m o. ⊎_elim (λ t. absurd (o t.0)) (λ t. t.1) (at m) in
       let now : change place n (in_box b) n ≡ in_box b = ⊎_elim (λ t. t.1) (λ t. absurd (t.0 refl)) (at n) in
       record {
-        in_views = λ m j lt le e. ⊎_elim
-            (λ t. let f : in_box b ≡ in_view j = sym t.1 ∙ e in absurd cc)
-            (λ t. let old = k.in_views m j lt le (sym t.1 ∙ e) in
-            let other : j ≢ id = λ f. t.0 (some-injective m n (sym old ∙ (ap (get_elem? numbers) f ∙ mine))) in
-            set_else numbers id j 0 other ∙ old)
-            (at m);
-        of_views = λ m j e lt. ⊎_elim
-            (λ t. absurd (let f = t.1 in omega arith))
-            (λ t. let old = k.of_views m j t.1 lt in
-            let other : m ≢ n = λ f. let g : in_view j ≡ in_view id = sym old.0 ∙ (ap place f ∙ had.0) in t.0 (let s : j ≡ id = cc in s) in
-            (else_ m other ∙ old.0, old.1, old.2))
-            (at_set numbers id j 0 m e);
+        in_views = left_listed first clock place in_view (λ i j e. cc) numbers n id mine (in_box b) (λ j e. cc) k.in_views k.of_views;
+        of_views = left_placed first clock place in_view (λ i j e. cc) numbers n id mine (in_box b) (λ j e. cc) k.in_views k.of_views pos;
         in_boxes = λ m a lt le e. ⊎_elim
             (λ t. let f : in_box b ≡ in_box a = sym t.1 ∙ e in let same : b ≡ a = cc in rw (← same, t.0) (set_here boxes b n (there boxes b 0 empty)))
             (λ t. let old = k.in_boxes m a lt le (sym t.1 ∙ e) in
@@ -127,18 +136,8 @@ module _ (first : ℕ) (place : ℕ → Place) (clock : ℕ) (numbers boxes pers
         of_views = λ m j e lt. let old = k.of_views m j e lt in
             let other : m ≢ n = λ f. let g : in_view j ≡ in_box b = sym old.0 ∙ (ap place f ∙ had.0) in cc in
             (else_ m other ∙ old.0, old.1, old.2);
-        in_boxes = λ m a lt le e. ⊎_elim
-            (λ t. let f : behind_boxes ≡ in_box a = sym t.1 ∙ e in absurd cc)
-            (λ t. let old = k.in_boxes m a lt le (sym t.1 ∙ e) in
-            let other : a ≢ b = λ f. t.0 (some-injective m n (sym old ∙ (ap (get_elem? boxes) f ∙ full))) in
-            set_else boxes b a 0 other ∙ old)
-            (at m);
-        of_boxes = λ m a e lt. ⊎_elim
-            (λ t. absurd (let f = t.1 in omega arith))
-            (λ t. let old = k.of_boxes m a t.1 lt in
-            let other : m ≢ n = λ f. let g : in_box a ≡ in_box b = sym old.0 ∙ (ap place f ∙ had.0) in t.0 (let s : a ≡ b = cc in s) in
-            (else_ m other ∙ old.0, old.1, old.2))
-            (at_set boxes b a 0 m e);
+        in_boxes = left_listed first clock place in_box (λ i j e. cc) boxes n b full behind_boxes (λ j e. cc) k.in_boxes k.of_boxes;
+        of_boxes = left_placed first clock place in_box (λ i j e. cc) boxes n b full behind_boxes (λ j e. cc) k.in_boxes k.of_boxes pos;
         behind = λ m lt le e. ⊎_elim
             (λ t. rw (t.0, eq-eqb n n refl) refl)
             (λ t. or_right (n == m) (has persisted m) (k.behind m lt le (sym t.1 ∙ e)))

@@ -90,22 +90,23 @@ pair_rises a b c d x y before = grind (arith, nat_tests)
 pub keys_apart : (a b c d : ℕ) → IsKind b → IsKind d → 4 * a + b - 1 < 4 * c + d - 1 → (a < c) ⊎ ((a ≡ c) × (b < d))
 keys_apart a b c d low high less = ⊎_elim (λ lt. inl lt) (λ ge. inr (omega (arith, ge, less, low, high), omega (arith, ge, less, low, high))) (cases_lt a c)
 
+-- rows that rise by a number and a kind, found by halves
+pair_halved : {R : Type 0} (number kind : R → ℕ) (x y : ℕ) (rows : List R) → All (λ r. IsKind (kind r)) rows → IsStrictlyIncreasing (map (λ r. 4 * number r + kind r - 1) rows)
+    → ((r : R) → ((number r == x) && (kind r == y)) ≡ true → 4 * number r + kind r - 1 ≡ 4 * x + y - 1)
+    → (r : Result ℕ ℕ) → IsSearchInRange r (length rows) → IsBinarySearchResult (λ row. pair_cmp (number row) (kind row) x y) rows r → result_ok r ≡ position (λ row. (number row == x) && (kind row == y)) rows
+pair_halved {R} number kind x y rows kinds rise keyed =
+    let key : R → ℕ = λ r. 4 * number r + kind r - 1 in
+    let pairs = pairs_from_rising key rows rise in
+    halved (λ row. pair_cmp (number row) (kind row) x y) (λ row. (number row == x) && (kind row == y)) rows (λ r e. equal_pair (number r) (kind r) x y e) (λ r e. pair_equal (number r) (kind r) x y e)
+    (AtMostOne-from_keys (λ row. (number row == x) && (kind row == y)) key (4 * x + y - 1) rows keyed (keys_differ key rows rise))
+    (rises (λ row. ordering_index (pair_cmp (number row) (kind row) x y)) rows (λ i j d before within.
+    let r : R = get_or rows i d in let s : R = get_or rows j d in
+    pair_rises (number r) (kind r) (number s) (kind s) x y (keys_apart (number r) (kind r) (number s) (kind s) (kinds i d (omega (arith, before, within))) (kinds j d within) (pairs i j d before within))))
+
 pub facility_halved : (s_id sf_type : ℕ) (rows : List FacRow) → All IsFacRow rows → IsStrictlyIncreasing (map facility_key rows)
     → (r : Result ℕ ℕ) → IsSearchInRange r (length rows) → IsBinarySearchResult (λ row. pair_cmp row.s_id row.sf_type s_id sf_type) rows r → result_ok r ≡ position (is_facility s_id sf_type) rows
-facility_halved s_id sf_type rows in_range rise =
-    let pairs = pairs_from_rising facility_key rows rise in
-    halved (λ row. pair_cmp row.s_id row.sf_type s_id sf_type) (is_facility s_id sf_type) rows (λ r e. equal_pair r.s_id r.sf_type s_id sf_type e) (λ r e. pair_equal r.s_id r.sf_type s_id sf_type e)
-    (AtMostOne-from_keys (is_facility s_id sf_type) facility_key (4 * s_id + sf_type - 1) rows (facility_key-is_facility s_id sf_type) (keys_differ facility_key rows rise))
-    (rises (λ row. ordering_index (pair_cmp row.s_id row.sf_type s_id sf_type)) rows (λ i j d before within.
-    let r : FacRow = get_or rows i d in let s : FacRow = get_or rows j d in
-    pair_rises r.s_id r.sf_type s.s_id s.sf_type s_id sf_type (keys_apart r.s_id r.sf_type s.s_id s.sf_type (in_range i d (omega (arith, before, within))).sf_type (in_range j d within).sf_type (pairs i j d before within))))
+facility_halved s_id sf_type rows in_range rise = pair_halved (λ r. r.s_id) (λ r. r.sf_type) s_id sf_type rows (λ i d within. (in_range i d within).sf_type) rise (facility_key-is_facility s_id sf_type)
 
 pub access_halved : (s_id ai_type : ℕ) (rows : List AccessRow) → All IsAccessRow rows → IsStrictlyIncreasing (map access_key rows)
     → (r : Result ℕ ℕ) → IsSearchInRange r (length rows) → IsBinarySearchResult (λ row. pair_cmp row.s_id row.ai_type s_id ai_type) rows r → result_ok r ≡ position (is_access s_id ai_type) rows
-access_halved s_id ai_type rows in_range rise =
-    let pairs = pairs_from_rising access_key rows rise in
-    halved (λ row. pair_cmp row.s_id row.ai_type s_id ai_type) (is_access s_id ai_type) rows (λ r e. equal_pair r.s_id r.ai_type s_id ai_type e) (λ r e. pair_equal r.s_id r.ai_type s_id ai_type e)
-    (AtMostOne-from_keys (is_access s_id ai_type) access_key (4 * s_id + ai_type - 1) rows (access_key-is_access s_id ai_type) (keys_differ access_key rows rise))
-    (rises (λ row. ordering_index (pair_cmp row.s_id row.ai_type s_id ai_type)) rows (λ i j d before within.
-    let r : AccessRow = get_or rows i d in let s : AccessRow = get_or rows j d in
-    pair_rises r.s_id r.ai_type s.s_id s.ai_type s_id ai_type (keys_apart r.s_id r.ai_type s.s_id s.ai_type (in_range i d (omega (arith, before, within))).ai_type (in_range j d within).ai_type (pairs i j d before within))))
+access_halved s_id ai_type rows in_range rise = pair_halved (λ r. r.s_id) (λ r. r.ai_type) s_id ai_type rows (λ i d within. (in_range i d within).ai_type) rise (access_key-is_access s_id ai_type)

@@ -8,7 +8,7 @@ use Rattle.std.specs.List.Sorted.{IsStrictlyIncreasing}
 use Rattle.std.proofs.lemmas.Bool.{cases_Bool, ltb-true, le-ltb, eqb-true, and_parts, not-false, leb-false}
 use Rattle.std.proofs.lemmas.List.Folds.{Any-from_list_any}
 use Rattle.std.proofs.lemmas.List.Filters.{length-filter_both}
-use Rattle.std.proofs.lemmas.List.{length-map, get_or-map}
+use Rattle.std.proofs.lemmas.List.{length-map, get_or-map, map-id}
 use Rattle.std.proofs.lemmas.List.Elements.{All-map, All-weaker, All-filter, All-append, All-cons, All-set, filter_passes}
 use Rattle.std.proofs.lemmas.List.Kept.{AllPairs-filter, AllPairs-cons}
 use Rattle.tatp_model.specs.declared.sub_row.SubRow.{SubRow}
@@ -24,7 +24,6 @@ use Rattle.tatp_model.specs.declared.reply.Reply.{Reply}
 use Rattle.tatp_model.specs.declared.reply.Reply.TheVariants.{Missing, NoFacility, Duplicate, FullTable}
 use Rattle.tatp_model.proofs.Rows.{All-find}
 use Rattle.tatp_model.proofs.Rising.{pairs_from_rising}
-use Rattle.tatp_model.proofs.Numbered.{keys-update_where}
 
 -- rows that rise pair by pair rise
 pub rising_from_pairs : {R : Type 0} (key : R → ℕ) (rows : List R) → AllPairs (λ r s. key r < key s) rows → IsStrictlyIncreasing (map key rows)
@@ -59,48 +58,55 @@ Any-map P Q f rows keeps there =
 choice : {R : Type 0} (P : R → Type 0) (p : R → Bool) (f : R → R) (r : R) → P r → P (f r) → P (cond (p r) (f r) r)
 choice P p f r kept rewritten = ⊎_elim (λ e. rw e rewritten) (λ e. rw e kept) (cases_Bool (p r))
 
--- rewritten subscribers that keep their names and ranges
-IsInOrder-subscribers : (db : Database) (p : SubRow → Bool) (f : SubRow → SubRow) → ((r : SubRow) → (f r).s_id ≡ r.s_id) → ((r : SubRow) → (f r).sub_nbr ≡ r.sub_nbr) → ((r : SubRow) → IsSubRow r → IsSubRow (f r)) → IsInOrder db → IsInOrder (record db { subscribers = update_where p f db.subscribers })
-IsInOrder-subscribers db p f same_id same_number in_range order =
-    let g = λ (r : SubRow). cond (p r) (f r) r in
-    let id : (r : SubRow) → (g r).s_id ≡ r.s_id = λ r. choice (λ x. x.s_id ≡ r.s_id) p f r refl (same_id r) in
-    let number : (r : SubRow) → (g r).sub_nbr ≡ r.sub_nbr = λ r. choice (λ x. x.sub_nbr ≡ r.sub_nbr) p f r refl (same_number r) in
-    record {
-      subscribers_rise = subst IsStrictlyIncreasing (sym (keys-update_where (λ r. r.s_id) p f db.subscribers same_id)) order.subscribers_rise;
-      access_rise = order.access_rise;
-      facilities_rise = order.facilities_rise;
-      calls_rise = order.calls_rise;
-      subscribers_in_range = All-map IsSubRow g db.subscribers (All-weaker IsSubRow (λ r. IsSubRow (g r)) (λ r h. choice IsSubRow p f r h (in_range r h)) db.subscribers order.subscribers_in_range);
-      access_in_range = order.access_in_range;
-      facilities_in_range = order.facilities_in_range;
-      calls_in_range = order.calls_in_range;
-      phones_differ = AllPairs-map (λ r s. r.sub_nbr ≢ s.sub_nbr) g db.subscribers (λ i j d h l e. order.phones_differ i j d h l (sym (number (get_or db.subscribers i d)) ∙ e ∙ number (get_or db.subscribers j d)));
-      access_belongs = All-weaker (λ a. Any (λ r. r.s_id ≡ a.s_id) db.subscribers) (λ a. Any (λ r. r.s_id ≡ a.s_id) (map g db.subscribers)) (λ a there. Any-map (λ r. r.s_id ≡ a.s_id) (λ r. r.s_id ≡ a.s_id) g db.subscribers (λ r e. id r ∙ e) there) db.access order.access_belongs;
-      facilities_belong = All-weaker (λ a. Any (λ r. r.s_id ≡ a.s_id) db.subscribers) (λ a. Any (λ r. r.s_id ≡ a.s_id) (map g db.subscribers)) (λ a there. Any-map (λ r. r.s_id ≡ a.s_id) (λ r. r.s_id ≡ a.s_id) g db.subscribers (λ r e. id r ∙ e) there) db.facilities order.facilities_belong;
-      calls_belong = order.calls_belong;
-    }
+-- keys that a rewrite leaves
+keys-map : {R : Type 0} (key : R → ℕ) (f : R → R) (rows : List R) → ((r : R) → key (f r) ≡ key r) → map key (map f rows) ≡ map key rows
+keys-map key f [] same = refl
+keys-map key f (r ∷ rows) same = ap₂ (λ k ks. k ∷ ks) (same r) (keys-map key f rows same)
 
--- rewritten facilities that keep their names and ranges
-IsInOrder-facilities : (db : Database) (p : FacRow → Bool) (f : FacRow → FacRow) → ((r : FacRow) → (f r).s_id ≡ r.s_id) → ((r : FacRow) → (f r).sf_type ≡ r.sf_type) → ((r : FacRow) → IsFacRow r → IsFacRow (f r)) → IsInOrder db → IsInOrder (record db { facilities = update_where p f db.facilities })
-IsInOrder-facilities db p f same_id same_type in_range order =
-    let g = λ (r : FacRow). cond (p r) (f r) r in
-    let id : (r : FacRow) → (g r).s_id ≡ r.s_id = λ r. choice (λ x. x.s_id ≡ r.s_id) p f r refl (same_id r) in
-    let type : (r : FacRow) → (g r).sf_type ≡ r.sf_type = λ r. choice (λ x. x.sf_type ≡ r.sf_type) p f r refl (same_type r) in
-    let key : (r : FacRow) → facility_key (f r) ≡ facility_key r = λ r. ap₂ (λ s t. 4 * s + t - 1) (same_id r) (same_type r) in
-    record {
-      subscribers_rise = order.subscribers_rise;
-      access_rise = order.access_rise;
-      facilities_rise = subst IsStrictlyIncreasing (sym (keys-update_where facility_key p f db.facilities key)) order.facilities_rise;
-      calls_rise = order.calls_rise;
-      subscribers_in_range = order.subscribers_in_range;
-      access_in_range = order.access_in_range;
-      facilities_in_range = All-map IsFacRow g db.facilities (All-weaker IsFacRow (λ r. IsFacRow (g r)) (λ r h. choice IsFacRow p f r h (in_range r h)) db.facilities order.facilities_in_range);
-      calls_in_range = order.calls_in_range;
-      phones_differ = order.phones_differ;
-      access_belongs = order.access_belongs;
-      facilities_belong = All-map (λ a. Any (λ r. r.s_id ≡ a.s_id) db.subscribers) g db.facilities (All-weaker (λ a. Any (λ r. r.s_id ≡ a.s_id) db.subscribers) (λ a. Any (λ r. r.s_id ≡ (g a).s_id) db.subscribers) (λ a there. (there.0, there.1, there.2, there.3, there.4 ∙ sym (id a))) db.facilities order.facilities_belong);
-      calls_belong = All-weaker (λ c. Any (λ r. (r.s_id ≡ c.s_id) × (r.sf_type ≡ c.sf_type)) db.facilities) (λ c. Any (λ r. (r.s_id ≡ c.s_id) × (r.sf_type ≡ c.sf_type)) (map g db.facilities)) (λ c there. Any-map (λ r. (r.s_id ≡ c.s_id) × (r.sf_type ≡ c.sf_type)) (λ r. (r.s_id ≡ c.s_id) × (r.sf_type ≡ c.sf_type)) g db.facilities (λ r e. (id r ∙ e.0, type r ∙ e.1)) there) db.calls order.calls_belong;
-    }
+-- a rewrite of subscribers that keeps their names and ranges
+record KeepsSubscribers (f : SubRow → SubRow) : Type 0 where
+  s_id : (r : SubRow) → (f r).s_id ≡ r.s_id
+  sub_nbr : (r : SubRow) → (f r).sub_nbr ≡ r.sub_nbr
+  in_range : (r : SubRow) → IsSubRow r → IsSubRow (f r)
+
+-- a rewrite of facilities that keeps their names and ranges
+record KeepsFacilities (f : FacRow → FacRow) : Type 0 where
+  s_id : (r : FacRow) → (f r).s_id ≡ r.s_id
+  sf_type : (r : FacRow) → (f r).sf_type ≡ r.sf_type
+  in_range : (r : FacRow) → IsFacRow r → IsFacRow (f r)
+
+-- subscribers and facilities, rewritten so
+IsInOrder-rewritten : (db : Database) (f : SubRow → SubRow) (g : FacRow → FacRow) → KeepsSubscribers f → KeepsFacilities g → IsInOrder db → IsInOrder (record db { subscribers = map f db.subscribers; facilities = map g db.facilities })
+IsInOrder-rewritten db f g of_subscribers of_facilities order = record {
+  subscribers_rise = subst IsStrictlyIncreasing (sym (keys-map (λ r. r.s_id) f db.subscribers of_subscribers.s_id)) order.subscribers_rise;
+  access_rise = order.access_rise;
+  facilities_rise = subst IsStrictlyIncreasing (sym (keys-map facility_key g db.facilities (λ r. ap₂ (λ s t. 4 * s + t - 1) (of_facilities.s_id r) (of_facilities.sf_type r)))) order.facilities_rise;
+  calls_rise = order.calls_rise;
+  subscribers_in_range = All-map IsSubRow f db.subscribers (All-weaker IsSubRow (λ r. IsSubRow (f r)) of_subscribers.in_range db.subscribers order.subscribers_in_range);
+  access_in_range = order.access_in_range;
+  facilities_in_range = All-map IsFacRow g db.facilities (All-weaker IsFacRow (λ r. IsFacRow (g r)) of_facilities.in_range db.facilities order.facilities_in_range);
+  calls_in_range = order.calls_in_range;
+  phones_differ = AllPairs-map (λ r s. r.sub_nbr ≢ s.sub_nbr) f db.subscribers (λ i j d h l e. order.phones_differ i j d h l (sym (of_subscribers.sub_nbr (get_or db.subscribers i d)) ∙ e ∙ of_subscribers.sub_nbr (get_or db.subscribers j d)));
+  access_belongs = All-weaker (λ a. Any (λ r. r.s_id ≡ a.s_id) db.subscribers) (λ a. Any (λ r. r.s_id ≡ a.s_id) (map f db.subscribers)) (λ a there. Any-map (λ r. r.s_id ≡ a.s_id) (λ r. r.s_id ≡ a.s_id) f db.subscribers (λ r e. of_subscribers.s_id r ∙ e) there) db.access order.access_belongs;
+  facilities_belong = All-map (λ a. Any (λ r. r.s_id ≡ a.s_id) (map f db.subscribers)) g db.facilities (All-weaker (λ a. Any (λ r. r.s_id ≡ a.s_id) db.subscribers) (λ a. Any (λ r. r.s_id ≡ (g a).s_id) (map f db.subscribers)) (λ a there. Any-map (λ r. r.s_id ≡ a.s_id) (λ r. r.s_id ≡ (g a).s_id) f db.subscribers (λ r e. of_subscribers.s_id r ∙ e ∙ sym (of_facilities.s_id a)) there) db.facilities order.facilities_belong);
+  calls_belong = All-weaker (λ c. Any (λ r. (r.s_id ≡ c.s_id) × (r.sf_type ≡ c.sf_type)) db.facilities) (λ c. Any (λ r. (r.s_id ≡ c.s_id) × (r.sf_type ≡ c.sf_type)) (map g db.facilities)) (λ c there. Any-map (λ r. (r.s_id ≡ c.s_id) × (r.sf_type ≡ c.sf_type)) (λ r. (r.s_id ≡ c.s_id) × (r.sf_type ≡ c.sf_type)) g db.facilities (λ r e. (of_facilities.s_id r ∙ e.0, of_facilities.sf_type r ∙ e.1)) there) db.calls order.calls_belong;
+}
+
+-- a rewrite of the subscribers alone that pass a test
+keeps_subscribers : (p : SubRow → Bool) (f : SubRow → SubRow) → KeepsSubscribers f → KeepsSubscribers (λ r. cond (p r) (f r) r)
+keeps_subscribers p f keeps = record {
+  s_id = λ r. choice (λ x. x.s_id ≡ r.s_id) p f r refl (keeps.s_id r);
+  sub_nbr = λ r. choice (λ x. x.sub_nbr ≡ r.sub_nbr) p f r refl (keeps.sub_nbr r);
+  in_range = λ r h. choice IsSubRow p f r h (keeps.in_range r h);
+}
+
+-- a rewrite of the facilities alone that pass a test
+keeps_facilities : (p : FacRow → Bool) (f : FacRow → FacRow) → KeepsFacilities f → KeepsFacilities (λ r. cond (p r) (f r) r)
+keeps_facilities p f keeps = record {
+  s_id = λ r. choice (λ x. x.s_id ≡ r.s_id) p f r refl (keeps.s_id r);
+  sf_type = λ r. choice (λ x. x.sf_type ≡ r.sf_type) p f r refl (keeps.sf_type r);
+  in_range = λ r h. choice IsFacRow p f r h (keeps.in_range r h);
+}
 
 -- other call rows that rise, are in range and have their facilities
 IsInOrder-calls : (db : Database) (calls : List CallRow) → AllPairs (λ r s. call_key r < call_key s) calls → All IsCallRow calls → All (λ c. Any (λ f. (f.s_id ≡ c.s_id) × (f.sf_type ≡ c.sf_type)) db.facilities) calls → IsInOrder db → IsInOrder (record db { calls = calls })
@@ -200,14 +206,17 @@ KeepsOrder-after_request limit db (UpdateSubscriber s b f d) range kept =
     let rows = update_where (is_subscriber s) (λ r. record r { bits = slice_set r.bits 0 b }) db.subscribers in
     let facilities = update_where (is_facility s f) (λ r. record r { data_a = d }) db.facilities in
     keeps_cond limit (list_any (is_subscriber s) db.subscribers && list_any (is_facility s f) db.facilities) (changes (record db { subscribers = rows; facilities = facilities })) (answers db Missing) (λ _. record {
-      order =
-          IsInOrder-facilities (record db { subscribers = rows }) (is_facility s f) (λ r. record r { data_a = d }) (λ r. refl) (λ r. refl) (λ r h. record { s_id = h.s_id; sf_type = h.sf_type; is_active = h.is_active; error_cntrl = h.error_cntrl; data_a = range.3; data_b = h.data_b })
-          (IsInOrder-subscribers db (is_subscriber s) (λ r. record r { bits = slice_set r.bits 0 b }) (λ r. refl) (λ r. refl) (λ r h. record { s_id = h.s_id; sub_nbr = h.sub_nbr; bits = All-set IsBit r.bits 0 b range.1 h.bits; hexes = h.hexes; bytes = h.bytes; msc = h.msc; vlr = h.vlr }) kept.order);
+      order = IsInOrder-rewritten db (λ r. cond (is_subscriber s r) (record r { bits = slice_set r.bits 0 b }) r) (λ r. cond (is_facility s f r) (record r { data_a = d }) r)
+          (keeps_subscribers (is_subscriber s) (λ r. record r { bits = slice_set r.bits 0 b }) (record { s_id = λ r. refl; sub_nbr = λ r. refl; in_range = λ r h. record { s_id = h.s_id; sub_nbr = h.sub_nbr; bits = All-set IsBit r.bits 0 b range.1 h.bits; hexes = h.hexes; bytes = h.bytes; msc = h.msc; vlr = h.vlr } }))
+          (keeps_facilities (is_facility s f) (λ r. record r { data_a = d }) (record { s_id = λ r. refl; sf_type = λ r. refl; in_range = λ r h. record { s_id = h.s_id; sf_type = h.sf_type; is_active = h.is_active; error_cntrl = h.error_cntrl; data_a = range.3; data_b = h.data_b } })) kept.order;
       room = kept.room;
     }) (λ _. kept)
 KeepsOrder-after_request limit db (UpdateLocation n v) range kept =
     keeps_cond limit (list_any (has_phone n) db.subscribers) (changes (record db { subscribers = update_where (has_phone n) (λ r. record r { vlr = v }) db.subscribers })) (answers db Missing) (λ _. record {
-      order = IsInOrder-subscribers db (has_phone n) (λ r. record r { vlr = v }) (λ r. refl) (λ r. refl) (λ r h. record { s_id = h.s_id; sub_nbr = h.sub_nbr; bits = h.bits; hexes = h.hexes; bytes = h.bytes; msc = h.msc; vlr = range.1 }) kept.order;
+      order = subst (λ rows. IsInOrder (record db { subscribers = update_where (has_phone n) (λ r. record r { vlr = v }) db.subscribers; facilities = rows })) (map-id db.facilities)
+          (IsInOrder-rewritten db (λ r. cond (has_phone n r) (record r { vlr = v }) r) (λ r. r)
+          (keeps_subscribers (has_phone n) (λ r. record r { vlr = v }) (record { s_id = λ r. refl; sub_nbr = λ r. refl; in_range = λ r h. record { s_id = h.s_id; sub_nbr = h.sub_nbr; bits = h.bits; hexes = h.hexes; bytes = h.bytes; msc = h.msc; vlr = range.1 } }))
+          (record { s_id = λ r. refl; sf_type = λ r. refl; in_range = λ r h. h }) kept.order);
       room = kept.room;
     }) (λ _. kept)
 KeepsOrder-after_request limit db (InsertCall n f t e x) range kept =
