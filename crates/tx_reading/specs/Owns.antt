@@ -1,0 +1,39 @@
+-- Locks that are taken, and what a call leaves of them.
+use Rattle.std.specs.Prelude.{◌≡◌, ℕ, List, None}
+use Rattle.atomic_table.specs.declared.shared.Seat.{Seat}
+use Rattle.dude_base.specs.declared.write.Write.{Write}
+use Rattle.core_events.specs.Views.{View}
+use Rattle.core_table.specs.Known.{Known}
+use Rattle.core_table.specs.Layout.{TableSight}
+use Rattle.tx_reading.specs.Looks.{AreUpTo, InConflict, Within}
+use Rattle.tx_reading.specs.Pairs.{Noted, pairs_of}
+use Rattle.tx_reading.specs.Seats.{HasNotFallen}
+
+-- the view after a lock was taken, or a try of it, with these locks and this snapshot
+pub record AfterOwn (owned : List (ℕ × ℕ)) (snapshot2 : ℕ) (v w : View) : Type 0 where
+  pub within : Within v w
+  pub like : w.tx ≡ record v.tx { snapshot = w.tx.snapshot; extension = w.tx.extension; checked = w.tx.checked; look = w.tx.look; loaded = w.tx.loaded; owned = w.tx.owned }
+  pub snap : w.tx.snapshot ≡ snapshot2
+  pub ended : w.tx.extension ≡ None
+  pub owned_are : w.tx.owned ≡ owned
+  pub upto : AreUpTo v.tx.snapshot v → AreUpTo snapshot2 v
+  pub counted : HasNotFallen v.count w.count
+
+-- ---- of a seat
+
+-- the locks of the view are those that are noted
+abbrev pub OwnsHeld : List Write → View → Type 0
+OwnsHeld held v = v.tx.owned ≡ pairs_of held
+
+module _ {S X : Type 0} where
+  -- the lock is owned and noted, at this snapshot
+  abbrev pub HasOwned : ℕ → List Write → List Write → ℕ → Seat S (Known X) → Seat S (Known X) → Type 0
+  HasOwned lock held held2 snapshot old new = AfterOwn (pairs_of held2) snapshot old.me.0.view new.me.0.view × Noted lock held held2
+
+  -- no lock was taken
+  abbrev pub HasOwnedNone : List Write → List Write → ℕ → Seat S (Known X) → Seat S (Known X) → Type 0
+  HasOwnedNone held held2 snapshot old new = (held2 ≡ held) × AfterOwn (pairs_of held) snapshot old.me.0.view new.me.0.view
+
+  -- this lock has this word, which isn't good
+  abbrev pub FailsToOwn : {K : Type 0} → ℕ → ℕ → List (ℕ × ℕ) → ℕ → TableSight K → Seat S (Known X) → Seat S (Known X) → (ℕ × ℕ) → Type 0
+  FailsToOwn thread snapshot reads lock t old new c = InConflict t.setup thread snapshot reads lock c.0 c.1 old.me.0.view new.me.0.view
