@@ -12,7 +12,7 @@ use Rattle.core_events.specs.Views.{Hand, Transaction, View}
 use Rattle.core_events.specs.Events.{release, restore}
 use Rattle.core_events.specs.Conditions.{Can}
 use Rattle.core_events.specs.Ghosts.{Hold, free, taken, writing, version, word_of, IsWriting, Claims}
-use Rattle.core_events.specs.KeptLocks.{hand_of, draws_of, Knows, LocksKept}
+use Rattle.core_events.specs.KeptLocks.{LocksOwned, UndecidedExclusive, hand_of, draws_of, Knows, LocksKept}
 use Rattle.core_events.proofs.Lists.{unmoved, total_set, find_gone, find_without, at_change}
 use Rattle.core_events.proofs.Stays.{Moves, lock_moves, numbers_put, together, new_hand}
 use Rattle.core_events.proofs.Stores.{none_after}
@@ -57,6 +57,16 @@ module _ (z : Setup) (q : Claims) (thread : ℕ → ℕ) (clock : ℕ) (locks : 
       waits = λ i y e. let r = m.look.waits i y e in (record { is_open = r.0.is_open; no_number = r.0.no_number }, r.1, r.2);
     };
   }
+
+  -- the layer of locks is kept where the lock l is given back with the version n, as its owners and the undecided writes say
+  lets_go : (n : ℕ) (w : View) → w.tx ≡ record v.tx { owned = without v.tx.owned l } → w.part ≡ v.part → w.draws ≡ v.draws
+      → LocksOwned z q.hist (change q.lock l (free n)) thread clock (set locks l (2 * n)) (map hand_of views) → UndecidedExclusive z q.pending (change q.lock l (free n)) (map hand_of views)
+      → Moves z id clock q clock (record q { lock = change q.lock l (free n) }) → Knows z (record q { lock = change q.lock l (free n) }) clock id v.part.thread (record v.tx { owned = without v.tx.owned l })
+      → LocksKept z (record q { lock = change q.lock l (free n) }) thread clock (set locks l (2 * n)) (set views id w)
+  lets_go n w tx part draws owned undecided moves knows =
+      let sums = total_set draws_of views id v w at in let hands = hands_stay w tx in
+      together z q thread clock locks views k id v w at (record q { lock = change q.lock l (free n) }) thread clock (set locks l (2 * n)) (rw hands owned) (rw hands undecided)
+      (numbers_put z q.hist q.pending clock locks l (2 * n) k.numbers) moves (rw (tx, part) knows) (let s = k.bounded in omega arith)
 
   -- ---- with the number
   module _ (can : Can z (release l) v) where
@@ -111,9 +121,8 @@ module _ (z : Setup) (q : Claims) (thread : ℕ → ℕ) (clock : ℕ) (locks : 
 
     pub release_keeps : (w : View) → w.tx ≡ record v.tx { owned = without v.tx.owned l } → w.part ≡ v.part → w.draws ≡ v.draws → LocksKept z released_claims thread clock (set locks l (2 * n)) (set views id w)
     release_keeps w tx part draws =
-        let sums = total_set draws_of views id v w at in let hands = hands_stay w tx in let sized = k.numbers.sized in
-        together z q thread clock locks views k id v w at released_claims thread clock (set locks l (2 * n))
-        (rw hands record {
+        lets_go n w tx part draws
+        (record {
           shows = shown_with n;
           upto = λ i. ⊎_elim (λ t. let e : version (lock2 i) ≡ n = ap version t.1 in let le = (m.number.numbered pos).1 in omega arith) (λ t. let e : version (lock2 i) ≡ version (q.lock i) = ap version t.1 in let le = k.owned.upto i in omega arith) (at2 i);
           covered = λ x i y lt f. ⊎_elim
@@ -121,14 +130,11 @@ module _ (z : Setup) (q : Claims) (thread : ℕ → ℕ) (clock : ℕ) (locks : 
               (λ t. let e : version (lock2 (lock_of z i)) ≡ version (q.lock (lock_of z i)) = ap version t.1 in let o = k.owned.covered x i y (omega arith) f in (o.0, o.1, o.2, t.1 ∙ o.3, o.4, o.5))
               (at2 (lock_of z i));
         })
-        (rw hands record {
+        (record {
           waiting = λ x i y f. let o = k.undecided.waiting x i y f in
               (o.0, o.1, o.2, on_other (lock_of z i) (λ s. let e : writing id mine.0 ≡ taken o.0 o.1 = sym mine.2 ∙ (ap q.lock (sym s) ∙ o.3) in absurd cc) ∙ o.3, o.4, o.5, o.6);
         })
-        (numbers_put z q.hist q.pending clock locks l (2 * n) k.numbers)
-        release_moves
-        (rw (tx, part) release_knows)
-        (let s = k.bounded in omega arith)
+        release_moves release_knows
 
   -- ---- with its old word
   module _ (can : Can z (restore l) v) where
@@ -188,17 +194,13 @@ module _ (z : Setup) (q : Claims) (thread : ℕ → ℕ) (clock : ℕ) (locks : 
 
     pub restore_keeps : (w : View) → w.tx ≡ record v.tx { owned = without v.tx.owned l } → w.part ≡ v.part → w.draws ≡ v.draws → LocksKept z restored_claims thread clock (set locks l (2 * u)) (set views id w)
     restore_keeps w tx part draws =
-        let sums = total_set draws_of views id v w at in let hands = hands_stay w tx in let sized = k.numbers.sized in
-        together z q thread clock locks views k id v w at restored_claims thread clock (set locks l (2 * u))
-        (rw hands record {
+        lets_go u w tx part draws
+        (record {
           shows = shown_with u;
           upto = λ i. let e = same_version i in let le = k.owned.upto i in omega arith;
           covered = λ n i x lt f. let e = same_version (lock_of z i) in let o = k.owned.covered n i x (omega arith) f in (o.0, o.1, o.2, writing_stays (lock_of z i) o.0 o.1 o.3, o.4, o.5);
         })
-        (rw hands record {
+        (record {
           waiting = λ n i x f. let o = k.undecided.waiting n i x f in let other = theirs n i x o.0 o.2 f o.4 o.5 o.6 in (o.0, o.1, o.2, taken_stays (lock_of z i) o.0 o.1 other o.3, o.4, o.5, o.6);
         })
-        (numbers_put z q.hist q.pending clock locks l (2 * u) k.numbers)
-        restore_moves
-        (rw (tx, part) restore_knows)
-        (let s = k.bounded in omega arith)
+        restore_moves restore_knows

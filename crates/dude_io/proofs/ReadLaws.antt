@@ -118,32 +118,28 @@ module _ {name bytes : List ℕ} {at n : ℕ} {old new : List ℕ} {s t u : File
       and_some (s.text name) (λ text. GivesBytes text (length bytes) n old new) (λ text. bytes ≡ text) (given here sofar gave told) (λ text is gives.
       let had = sofar.prefix told text is in prefix_is_all had.0 had.1 (gives.end empty))
 
+  -- no more was read of the file, and its end came, if its text is within the limit
+  read_ended : (limit : ℕ) → at ≡ length bytes → length bytes ≤ limit → ReadSoFar name bytes s t → Gave name at n old new t u → (IsTrue s.is_visible → IfSome (s.text name) (λ text. length text ≤ limit → length bytes ≡ length text))
+      → (reads : List ReadMade) × ReadsWhole limit s name reads × ListsReads reads s u
+  read_ended limit here within sofar gave ended =
+      let last = read_last u false here within sofar gave.listed in (
+        last.0,
+        record { of_file = last.1.0; whole = λ told. subst (λ end. IfSome (s.text name) (λ text. length text ≤ limit → end ≡ length text)) (sym last.1.1) (ended told) },
+        last.2,
+      )
+
   -- so the file was read whole, up to its end
   pub read_whole : (limit : ℕ) → at ≡ length bytes → length bytes ≤ limit → ReadSoFar name bytes s t → Gave name at n old new t u → n ≡ 0
       → (reads : List ReadMade) × ReadsWhole limit s name reads × ListsReads reads s u
-  read_whole limit here within sofar gave empty =
-      let last = read_last u false here within sofar gave.listed in (
-        last.0,
-        record {
-          of_file = last.1.0;
-          whole = λ told. if_some (s.text name) (λ text. bytes ≡ text) _ (read_end here sofar gave empty told) (λ text all short. last.1.1 ∙ ap length all);
-        },
-        last.2,
-      )
+  read_whole limit here within sofar gave empty = read_ended limit here within sofar gave (λ told.
+      if_some (s.text name) (λ text. bytes ≡ text) _ (read_end here sofar gave empty told) (λ text all short. ap length all))
 
   -- more came than the limit
   pub read_over : (limit : ℕ) → at ≡ length bytes → length bytes ≤ limit → ReadSoFar name bytes s t → Gave name at n old new t u → limit - length bytes < n
       → (reads : List ReadMade) × ReadsWhole limit s name reads × ListsReads reads s u
-  read_over limit here within sofar gave over =
-      let last = read_last u false here within sofar gave.listed in (
-        last.0,
-        record {
-          of_file = last.1.0;
-          whole = λ told. if_some (s.text name) (λ text. GivesBytes text (length bytes) n old new) _ (given here sofar gave told)
-              (λ text gives short. absurd (let rest = gives.within in omega (arith, rest, over, within, short)));
-        },
-        last.2,
-      )
+  read_over limit here within sofar gave over = read_ended limit here within sofar gave (λ told.
+      if_some (s.text name) (λ text. GivesBytes text (length bytes) n old new) _ (given here sofar gave told)
+      (λ text gives short. absurd (let rest = gives.within in omega (arith, rest, over, within, short))))
 
   -- so its text is over the limit
   pub read_past : (limit : ℕ) → at ≡ length bytes → length bytes ≤ limit → ReadSoFar name bytes s t → Gave name at n old new t u → limit - length bytes < n → IsTrue s.is_visible

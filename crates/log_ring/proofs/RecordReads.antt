@@ -3,16 +3,19 @@ use Rattle.std.proofs.Common.{◌≡◌, ◌≢◌, ⊎_elim, ℕ, ◌+◌, ◌*
 use Rattle.std.proofs.lemmas.Bool.{cases_eq}
 use Rattle.dude_base.specs.declared.sizes.Sizes.{Sizes}
 use Rattle.dude_base.specs.Records.{RedoBundle, first_of}
+use Rattle.pmem_trait.specs.Sights.{Sight}
+use Rattle.pmem_trait.specs.Reads.{ContentHas}
 use Rattle.redo_record.specs.Tags.{IsHeadOver}
 use Rattle.dude_base.specs.Image.{Cell, cell_start}
-use Rattle.redo_record.specs.Cells.{IsCell}
+use Rattle.redo_record.specs.Cells.{IsCell, line_of}
 use Rattle.redo_record.specs.Record.{cells_for, count_of, FitsVersion}
 use Rattle.redo_record.specs.Encoding.{word_in_slice}
 use Rattle.redo_record.specs.Images.{tag_of, version_of, word_in_image, IsComplete, IsNewHead, IsSound}
+use Rattle.redo_record.specs.Damage.{IsTorn}
 use Rattle.redo_record.proofs.CellPlaces.{first_cell}
 use Rattle.redo_record.proofs.HeldRecords.{AreSame, holds_same, complete_same, count_same, record_same}
 use Rattle.log_ring.specs.Heads.{head_at}
-use Rattle.log_ring.specs.Scanning.{HoldsHome, IsHomeRecord, IsRecordAt}
+use Rattle.log_ring.specs.Scanning.{HoldsHome, IsHomeRecord, IsRecordAt, VersionHas}
 
 -- one word more
 pub word_more : (f : ℕ → ℕ) (words : List ℕ) (i v : ℕ) → i < length words → ((j : ℕ) → j < i → slice_index words j ≡ f j) → f i ≡ v
@@ -99,3 +102,11 @@ module _ (s : Sizes) (content words : List ℕ) (head : Cell) (count cells : ℕ
     fits,
     record_same back ∙ sym some.1,
   )
+
+-- at the line of a cell whose tag is that of a head over this number, but which has no sound record, a torn head is named
+pub named_torn : (s : Sizes) (version above : ℕ) (cell : Cell) (start tag line : ℕ) (m : Sight) → IsCell s cell → start ≡ cell_start s cell → line ≡ start / 8 → ContentHas (λ content. slice_index content start ≡ tag) m
+    → tag / 2 ^ 62 ≡ 1 → above < tag % 2 ^ 62 → VersionHas version (λ content. ¬ IsSound s above content cell) m → (line ≡ line_of s cell) × VersionHas version (λ content. IsTorn s above content cell) m
+named_torn s version above cell start tag line m is_cell at on tagged kind over unsound = (
+  omega (arith, at, on),
+  λ told content holds of_version. record { head = new_head s above content cell start tag is_cell at (tagged told content holds) kind over; incomplete = unsound told content holds of_version },
+)

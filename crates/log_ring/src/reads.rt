@@ -83,6 +83,7 @@ fn count_in(word: u64, version: u64) -> Option<u64>
 }
 
 /// The bundle whose head stands in this slot of a ring, where it is complete in an image of this version.
+#[tactic(auto, using(crate::proofs::Replayable::one_moment))]
 pub fn read_record<M: Medium>(
     m: &mut M,
     place: &Place,

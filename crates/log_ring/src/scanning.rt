@@ -94,6 +94,7 @@ fn scan_ring<M: Medium>(
 }
 
 // The head in this cell, where it is one with a number over `above`.
+#[tactic(auto, using(crate::proofs::Replayable::one_moment))]
 fn scan_cell<M: Medium>(
     m: &mut M,
     place: &Place,

@@ -20,27 +20,35 @@ use Rattle.tatp_check.proofs.Subscribers.{PassesSubscriber, subscriber_in_range,
 
 -- ---- the tests
 
-module _ (kind : TableKind) (offset word : ℕ) (answer : Bool) where
-  pub subscribers_allow : kind ≡ Subscribers → answer ≡ subscriber_word offset word → word < 2 ^ 64 → IsTrue answer ↔ content_of kind offset word
-  unfolding content_of
-  subscribers_allow is says fits =
-      subst (λ k. IsTrue answer ↔ content_of k offset word) (sym is) ((λ t. subscriber_may word offset fits (sym says ∙ t)), (λ h. says ∙ subscriber_passes offset word h))
+-- the test of each kind of table
+abbrev pub word_of : TableKind → ℕ → ℕ → Bool
+word_of Subscribers = subscriber_word
+word_of Numbers = number_word
+word_of Access = access_word
+word_of Facilities = facility_word
+word_of Calls = call_word
 
-  pub numbers_allow : kind ≡ Numbers → answer ≡ number_word offset word → IsTrue answer ↔ content_of kind offset word
+module _ (offset word : ℕ) (fits : word < 2 ^ 64) where
+  -- what it lets through, and nothing else
+  may : (kind : TableKind) → word_of kind offset word ≡ true → content_of kind offset word
   unfolding content_of
-  numbers_allow is says = subst (λ k. IsTrue answer ↔ content_of k offset word) (sym is) ((λ t. number_may word offset (sym says ∙ t)), (λ h. says ∙ number_passes word offset h))
+  may Subscribers = subscriber_may word offset fits
+  may Numbers = number_may word offset
+  may Access = access_may word offset
+  may Facilities = facility_may word offset
+  may Calls = call_may word offset
 
-  pub access_allows : kind ≡ Access → answer ≡ access_word offset word → IsTrue answer ↔ content_of kind offset word
+  passes : (kind : TableKind) → content_of kind offset word → word_of kind offset word ≡ true
   unfolding content_of
-  access_allows is says = subst (λ k. IsTrue answer ↔ content_of k offset word) (sym is) ((λ t. access_may word offset (sym says ∙ t)), (λ h. says ∙ access_passes word offset h))
+  passes Subscribers = subscriber_passes offset word
+  passes Numbers = number_passes word offset
+  passes Access = access_passes word offset
+  passes Facilities = facility_passes word offset
+  passes Calls = call_passes word offset
 
-  pub facilities_allow : kind ≡ Facilities → answer ≡ facility_word offset word → IsTrue answer ↔ content_of kind offset word
-  unfolding content_of
-  facilities_allow is says = subst (λ k. IsTrue answer ↔ content_of k offset word) (sym is) ((λ t. facility_may word offset (sym says ∙ t)), (λ h. says ∙ facility_passes word offset h))
-
-  pub calls_allow : kind ≡ Calls → answer ≡ call_word offset word → IsTrue answer ↔ content_of kind offset word
-  unfolding content_of
-  calls_allow is says = subst (λ k. IsTrue answer ↔ content_of k offset word) (sym is) ((λ t. call_may word offset (sym says ∙ t)), (λ h. says ∙ call_passes word offset h))
+  -- the answer of a test is whether a record of its table may hold the word
+  pub allows : (kind one : TableKind) (answer : Bool) → kind ≡ one → answer ≡ word_of one offset word → IsTrue answer ↔ content_of kind offset word
+  allows kind one answer is says = subst (λ k. IsTrue answer ↔ content_of k offset word) (sym is) ((λ t. may one (sym says ∙ t)), (λ h. says ∙ passes one h))
 
 -- ---- rows
 

@@ -18,9 +18,9 @@ use Rattle.tatp_model.specs.Request.{IsInRange}
 use Rattle.tatp_model.specs.Transaction.{after_request}
 use Rattle.tatp_layout.specs.StandsFor.{StandsFor}
 use Rattle.tatp_layout.proofs.Seen.{stands_bare}
-use Rattle.tatp_read.specs.Lookups.{AnswersRequest, reads_of}
+use Rattle.tatp_read.specs.Lookups.{AnswersRequest, CanServe, reads_of}
 use Rattle.tatp_core.specs.Reads.{IsRead}
-use Rattle.tatp_core.specs.Serves.{CanServe, Answers, Serves, ServesRequest, WritesIfChanged, max_reads, max_writes, most_reads, most_writes}
+use Rattle.tatp_core.specs.Serves.{Answers, Serves, ServesRequest, WritesIfChanged, max_reads, max_writes, most_reads, most_writes}
 
 -- no request writes more words than an insertion
 most_writes_few : (request : Request) → most_writes request ≤ max_writes

@@ -13,21 +13,11 @@ use Rattle.tatp_model.specs.declared.reply.Reply.TheVariants.{Changed}
 use Rattle.tatp_model.specs.declared.request.Request.{Request}
 use Rattle.tatp_model.specs.declared.request.Request.TheVariants.{UpdateSubscriber, UpdateLocation, InsertCall, DeleteCall}
 use Rattle.tatp_model.specs.Database.{Database}
-use Rattle.tatp_model.specs.Request.{IsInRange}
 use Rattle.tatp_model.specs.Transaction.{reply_to, after_request}
 use Rattle.tatp_layout.specs.Layout.{call_table, facility_table, subscriber_table}
 use Rattle.tatp_layout.specs.StandsFor.{StandsFor}
 use Rattle.tatp_read.specs.Lookups.{reads_of}
 use Rattle.tatp_core.specs.Phones.{id_reads}
-
--- What serving a request asks of it and of the words.
-pub record CanServe (s : Sizes) (request : Request) (w : WordsSight) : Type 0 where
-  -- its fields are in their ranges
-  pub in_range : IsInRange request
-  -- the words are those of a home of these sizes
-  pub size : w.count ≡ s.pages * PAGE
-  -- none is written yet
-  pub no_writes : w.writes ≡ []
 
 -- the reply is that of the transaction step, and the array stands for the step's tables afterwards
 pub record Serves (s : Sizes) (db : Database) (request : Request) (reply : Reply) (new : List ℕ) : Type 0 where

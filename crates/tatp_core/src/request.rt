@@ -4,7 +4,7 @@ ghost use Rattle.std.specs.Prelude.{◌≡◌, ◌*◌, [], false};
 ghost use Rattle.dude_base.specs.declared.limits.TheConstants.{PAGE};
 ghost use Rattle.tatp_model.specs.OneThread.{is_sync};
 ghost use Rattle.tatp_model.specs.Request.{IsInRange};
-ghost use Rattle.tatp_read.specs.Lookups.{AnswersRequest};
+ghost use Rattle.tatp_read.specs.Lookups.{AnswersRequest, CanServe};
 ghost use Rattle.tatp_core.specs.Reads.{IsRead};
 ghost use Rattle.tatp_core.specs.Serves.{ServesRequest};
 
@@ -39,9 +39,7 @@ pub fn run_request<W: Words>(lay: &Layout, w: &mut W, q: &Request) -> Result<Rep
 // Answers a request that only reads.
 fn read_request<W: Words>(lay: &Layout, w: &mut W, q: &Request) -> Result<Reply, Stop>
     requires read { IsRead q.now }
-    requires in_range { IsInRange q.now }
-    requires size { (W.sight w.old).count ≡ lay.now.pages * PAGE }
-    requires no_writes { (W.sight w.old).writes ≡ [] }
+    requires can { CanServe lay.now q.now (W.sight w.old) }
     ensures { AnswersRequest W.sight W.turns_into lay.now q.now result w.old w.new }
 {
     match q {

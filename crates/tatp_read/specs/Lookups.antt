@@ -1,7 +1,8 @@
 -- What the look-ups of rows find in an array that stands for tables, and how many reads they make at most.
-use Rattle.std.specs.Prelude.{◌≡◌, ◌≢◌, ℕ, ◌+◌, ◌*◌, Bool, List, Option, Result, IfOk, map, filter}
+use Rattle.std.specs.Prelude.{◌≡◌, ◌≢◌, ℕ, ◌+◌, ◌*◌, Bool, List, [], Option, Result, IfOk, map, filter}
 use Rattle.std.specs.List.{list_any}
 use Rattle.std.specs.Option.{option_to_list}
+use Rattle.dude_base.specs.declared.limits.TheConstants.{PAGE}
 use Rattle.dude_base.specs.declared.sizes.Sizes.{Sizes}
 use Rattle.word_space.specs.declared.stop.Stop.{Stop}
 use Rattle.word_space.specs.Sights.{WordsSight, IsBelow}
@@ -13,9 +14,19 @@ use Rattle.tatp_model.specs.declared.request.Request.{Request}
 use Rattle.tatp_model.specs.declared.request.Request.TheVariants.{GetSubscriber, GetDestination, GetAccess}
 use Rattle.tatp_model.specs.Database.{Database}
 use Rattle.tatp_model.specs.Numbers.{numbers_of}
+use Rattle.tatp_model.specs.Request.{IsInRange}
 use Rattle.tatp_model.specs.Transaction.{forwards, is_active_facility, reply_to}
 use Rattle.tatp_layout.specs.StandsFor.{StandsFor}
 use Rattle.tatp_read.specs.Forwarding.{numbers_at}
+
+-- What serving a request asks of it and of the words.
+pub record CanServe (s : Sizes) (request : Request) (w : WordsSight) : Type 0 where
+  -- its fields are in their ranges
+  pub in_range : IsInRange request
+  -- the words are those of a home of these sizes
+  pub size : w.count ≡ s.pages * PAGE
+  -- none is written yet
+  pub no_writes : w.writes ≡ []
 
 -- the answer is whether the subscriber has this facility, and it is active
 abbrev pub FindsActive : Sizes → ℕ → ℕ → List ℕ → Bool → Type 0

@@ -1,12 +1,11 @@
 //! `GET_NEW_DESTINATION`.
 
-ghost use Rattle.std.specs.Prelude.{◌≡◌, ◌*◌, []};
+ghost use Rattle.std.specs.Prelude.{◌≡◌, ◌*◌};
 ghost use Rattle.dude_base.specs.declared.limits.TheConstants.{PAGE};
 ghost use Rattle.word_space.specs.Steps.{AnswersSeen, UsesWords};
 ghost use Rattle.tatp_model.specs.Ranges.{IsId, IsKind, IsStartTime};
-ghost use Rattle.tatp_model.specs.Request.{IsInRange};
 ghost use Rattle.tatp_read.specs.Kinds.{IsGetDestination};
-ghost use Rattle.tatp_read.specs.Lookups.{AnswersRequest, FindsActive, FindsPhone, FindsPhones, call_reads, kind_reads};
+ghost use Rattle.tatp_read.specs.Lookups.{AnswersRequest, CanServe, FindsActive, FindsPhone, FindsPhones, call_reads, kind_reads};
 
 use tatp_layout::keys::{first_call_key, kind_key};
 use tatp_layout::{Layout, find_row};
@@ -18,9 +17,7 @@ use word_space::words::Words;
 /// most three call rows.
 pub fn read_destination<W: Words>(lay: &Layout, w: &mut W, q: &Request) -> Result<Reply, Stop>
     requires kind { IsGetDestination q.now }
-    requires in_range { IsInRange q.now }
-    requires size { (W.sight w.old).count ≡ lay.now.pages * PAGE }
-    requires no_writes { (W.sight w.old).writes ≡ [] }
+    requires can { CanServe lay.now q.now (W.sight w.old) }
     ensures { AnswersRequest W.sight W.turns_into lay.now q.now result w.old w.new }
 {
     let Request::GetDestination {

@@ -1,10 +1,7 @@
 //! `GET_SUBSCRIBER_DATA`.
 
-ghost use Rattle.std.specs.Prelude.{◌≡◌, ◌*◌, []};
-ghost use Rattle.dude_base.specs.declared.limits.TheConstants.{PAGE};
-ghost use Rattle.tatp_model.specs.Request.{IsInRange};
 ghost use Rattle.tatp_read.specs.Kinds.{IsGetSubscriber};
-ghost use Rattle.tatp_read.specs.Lookups.{AnswersRequest};
+ghost use Rattle.tatp_read.specs.Lookups.{AnswersRequest, CanServe};
 
 use tatp_layout::{Layout, find_row};
 use tatp_model::{Reply, Request, SubRow};
@@ -14,9 +11,7 @@ use word_space::words::Words;
 /// Answers a `GetSubscriber` from the words of the subscriber's chain and record.
 pub fn read_subscriber<W: Words>(lay: &Layout, w: &mut W, q: &Request) -> Result<Reply, Stop>
     requires kind { IsGetSubscriber q.now }
-    requires in_range { IsInRange q.now }
-    requires size { (W.sight w.old).count ≡ lay.now.pages * PAGE }
-    requires no_writes { (W.sight w.old).writes ≡ [] }
+    requires can { CanServe lay.now q.now (W.sight w.old) }
     ensures { AnswersRequest W.sight W.turns_into lay.now q.now result w.old w.new }
 {
     let Request::GetSubscriber { s_id } = *q else {

@@ -25,12 +25,19 @@ returns-then-is_end-clause-text g c =
     let here : c.len.result ≡ length c.pieces.bytes.items = c.len.ensures ∙ c.pieces.bytes.ok.0 in
     read_end here c.pieces.invariant.read c.in_ok-given.ensures c.if-is_end.true
 
-pub returns-then-limit-len-clause-reads : goal.returns-then-limit-len-clause-reads
-returns-then-limit-len-clause-reads g c =
+pub returns-then-limit-len : goal.returns-then-limit-len
+returns-then-limit-len g c =
     let here : c.len.result ≡ length c.pieces.bytes.items = c.len.ensures ∙ c.pieces.bytes.ok.0 in
     let within : length c.pieces.bytes.items ≤ c.args.limit = omega (arith, c.pieces.invariant.bounded, c.pieces.bytes.ok.0) in
     let over : c.args.limit - length c.pieces.bytes.items < c.in_ok-given.given = omega (arith, c.if-limit-len.true, c.len-in-pieces.ensures, c.pieces.bytes.ok.0) in
-    read_over c.args.limit here within c.pieces.invariant.read c.in_ok-given.ensures over
+    record {
+      stays = files_stay-then c.pieces.invariant.read.stays c.in_ok-given.ensures.stays;
+      bounded = tt;
+      reads = read_over c.args.limit here within c.pieces.invariant.read c.in_ok-given.ensures over;
+      text = read_past c.args.limit here within c.pieces.invariant.read c.in_ok-given.ensures over;
+      calm = c.in_ok-given.ensures.calm ∙ c.pieces.invariant.read.calm;
+      cause = tt;
+    }
 
 pub returns-in_err-extend_from_slice-clause-reads : goal.returns-in_err-extend_from_slice-clause-reads
 returns-in_err-extend_from_slice-clause-reads g c =
@@ -58,9 +65,6 @@ returns-in_err-given-clause-stays g c = files_stay-then c.pieces.invariant.read.
 pub returns-then-is_end-clause-stays : goal.returns-then-is_end-clause-stays
 returns-then-is_end-clause-stays g c = files_stay-then c.pieces.invariant.read.stays c.in_ok-given.ensures.stays
 
-pub returns-then-limit-len-clause-stays : goal.returns-then-limit-len-clause-stays
-returns-then-limit-len-clause-stays g c = files_stay-then c.pieces.invariant.read.stays c.in_ok-given.ensures.stays
-
 pub returns-in_err-extend_from_slice-clause-stays : goal.returns-in_err-extend_from_slice-clause-stays
 returns-in_err-extend_from_slice-clause-stays g c =
     files_stay-then c.pieces.invariant.read.stays c.in_ok-given.ensures.stays
@@ -68,16 +72,6 @@ returns-in_err-extend_from_slice-clause-stays g c =
 pub returns-then-is_end-clause-calm : goal.returns-then-is_end-clause-calm
 returns-then-is_end-clause-calm g c = c.in_ok-given.ensures.calm ∙ c.pieces.invariant.read.calm
 
-pub returns-then-limit-len-clause-calm : goal.returns-then-limit-len-clause-calm
-returns-then-limit-len-clause-calm g c = c.in_ok-given.ensures.calm ∙ c.pieces.invariant.read.calm
-
 pub returns-in_err-given-clause-cause : goal.returns-in_err-given-clause-cause
 returns-in_err-given-clause-cause g c =
     failed_cause (g.F.Files.sight c.args.files.now) (g.F.Files.sight c.read.new.self) c.from_residual.result c.from_residual.ensures.1 (rw c.pieces.invariant.read.calm at c.in_err-given.ensures.cause)
-
-pub returns-then-limit-len-clause-text : goal.returns-then-limit-len-clause-text
-returns-then-limit-len-clause-text g c =
-    let here : c.len.result ≡ length c.pieces.bytes.items = c.len.ensures ∙ c.pieces.bytes.ok.0 in
-    let within : length c.pieces.bytes.items ≤ c.args.limit = omega (arith, c.pieces.invariant.bounded, c.pieces.bytes.ok.0) in
-    let over : c.args.limit - length c.pieces.bytes.items < c.in_ok-given.given = omega (arith, c.if-limit-len.true, c.len-in-pieces.ensures, c.pieces.bytes.ok.0) in
-    read_past c.args.limit here within c.pieces.invariant.read c.in_ok-given.ensures over

@@ -4,7 +4,7 @@ use Rattle.redo_record.specs.Images.{word_in_image}
 use Rattle.dude_base.specs.Image.{cell_at}
 use Rattle.log_ring.proofs.RecordReads.{word_of_head, record_is}
 use Rattle.log_ring.proofs.ScanReads.{stopped}
-use Rattle.log_ring.proofs.Replayable.{one_moment, home_replayable}
+use Rattle.log_ring.proofs.Replayable.{home_replayable}
 use Rattle.log_ring.proofs.reads.read_record.Goals as goal
 
 pub returns-in_err-word-clause-reads : goal.returns-in_err-word-clause-reads
@@ -25,21 +25,6 @@ returns-in_err-read_cells-clause-reads g c =
 
 pub returns-clause-reads : goal.returns-clause-reads
 returns-clause-reads g c = reads_then {ok = true} (read_alone {ok = true} c.in_ok-word.ensures.one_call) c.in_ok-read_cells.ensures.reads
-
-pub returns-in_err-word-clause-few : goal.returns-in_err-word-clause-few
-returns-in_err-word-clause-few g c = let one = one_moment c.in_err-word.ensures.one_call in omega arith
-
-pub returns-in_default-clause-few : goal.returns-in_default-clause-few
-returns-in_default-clause-few g c = let one = one_moment c.in_ok-word.ensures.one_call in omega arith
-
-pub returns-then-cells-sizes-clause-few : goal.returns-then-cells-sizes-clause-few
-returns-then-cells-sizes-clause-few g c = let one = one_moment c.in_ok-word.ensures.one_call in omega arith
-
-pub returns-in_err-read_cells-clause-few : goal.returns-in_err-read_cells-clause-few
-returns-in_err-read_cells-clause-few g c = let one = one_moment c.in_ok-word.ensures.one_call in omega arith
-
-pub returns-clause-few : goal.returns-clause-few
-returns-clause-few g c = let one = one_moment c.in_ok-word.ensures.one_call in omega arith
 
 pub returns-clause-replayable : goal.returns-clause-replayable
 returns-clause-replayable g c = home_replayable c.args.place.now _ c.home_record.result c.home_record.ensures
