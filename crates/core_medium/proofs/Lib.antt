@@ -1,0 +1,9 @@
+pub mod Unchanged
+pub mod StoreEvents
+pub mod Devices
+pub mod Crashes
+pub mod Keeps
+pub mod WholeCalls
+pub mod Start
+pub mod Openings
+pub mod Combined

@@ -1,0 +1,6 @@
+pub mod Stores
+pub mod BackCalls
+pub mod Machines
+pub mod KeptStore
+pub mod Crash
+pub mod MachineLaws

@@ -1,0 +1,3 @@
+pub mod KeptLog
+pub mod BoxBundles
+pub mod HistoryLaws
