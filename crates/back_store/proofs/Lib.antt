@@ -3,6 +3,7 @@ pub mod Announced
 pub mod Causes
 pub mod Ends
 pub mod KeptLogs
+pub mod NoTells
 pub mod PageReads
 pub mod Persisted
 pub mod ReadPages

@@ -1,5 +1,5 @@
 -- How a back goes on from call to call.
-use Rattle.std.proofs.Common.{◌≡◌, ◌⊎◌, ℕ, ◌+◌, ◌≤◌, Bool, true, false, IsTrue, List, ◌++◌, All, Result, Ok, Err, is_ok, sym, ap, ◌∙◌, subst, ⊎_elim, arith}
+use Rattle.std.proofs.Common.{◌≡◌, ◌⊎◌, ℕ, ◌≤◌, Bool, true, false, IsTrue, List, ◌++◌, All, Result, Ok, Err, is_ok, sym, ap, ◌∙◌, subst, ⊎_elim, arith}
 use Rattle.std.specs.Prelude.{IfOk, OnOk}
 use Rattle.dude_base.specs.Image.{image_words}
 use Rattle.pmem_trait.specs.declared.call.Call.{Call}
@@ -15,7 +15,7 @@ use Rattle.log_numbered.specs.Arrays.{RecoversIn, RunArrays, array_at}
 use Rattle.back_store.specs.Told.{WereTold}
 use Rattle.log_numbered.specs.Backs.{Any, Carries, CarriesOn, HoldsArrays, LogGoesOn, HomeIsAt, LeadsUpTo, RecoversAlong}
 use Rattle.log_numbered.proofs.HeldArrays.{moments_less, recovers_in}
-use Rattle.log_numbered.proofs.NoTells.{TellsNothing, told_same}
+use Rattle.back_store.proofs.NoTells.{TellsNothing, told_same}
 use Rattle.back_store.proofs.ToldNumbers.{tells_none, tells_then}
 
 -- of an alive back a call fails by its device

@@ -7,7 +7,6 @@ pub mod HeldArrays
 pub mod Joining
 pub mod LedLogs
 pub mod LoggedCalls
-pub mod NoTells
 pub mod OpenedLogs
 pub mod Persisting
 pub mod Reproducing

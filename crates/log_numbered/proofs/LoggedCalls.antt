@@ -1,6 +1,5 @@
 -- The calls by which a log announces, settles and appends.
-use Rattle.std.proofs.Common.{◌≡◌, ℕ, ◌+◌, true, IsTrue, ◌++◌, Option, Some, None, Result, Ok, Err, refl, ap, ◌∙◌, subst, inr}
-use Rattle.std.specs.Prelude.{OnOk}
+use Rattle.std.proofs.Common.{◌≡◌, ℕ, ◌+◌, true, IsTrue, ◌++◌, Option, Some, None, Ok, refl, ap, ◌∙◌, subst, inr}
 use Rattle.dude_base.specs.Records.{RedoBundle, RedoRecord, bundle_of, first_of}
 use Rattle.pmem_trait.specs.Sights.{Sight, state_now, CallsMade}
 use Rattle.pmem_trait.proofs.Runs.{made_then}
@@ -13,7 +12,7 @@ use Rattle.back_store.specs.Back.{BackState, IsEnd, IsRingFull, waiting_now}
 use Rattle.back_store.specs.Answers.{Announces, Reproduces, announced, reproduced}
 use Rattle.log_numbered.specs.declared.open_bundle.OpenBundle.{OpenBundle}
 use Rattle.log_numbered.specs.LogCalls.{AnnouncedBy, AppendedBy, BroughtHomeBy, BundlePersistedBy, CheckpointedBy, ClosedBy, Joins, LogParts, Makes, PersistedBy, SettledBy, settled}
-use Rattle.log_numbered.proofs.NoTells.{append_tells_nothing, told_same}
+use Rattle.back_store.proofs.NoTells.{append_tells_nothing, told_same}
 
 -- the number announced is the one to which the records lead
 pub announced_by : (v : BackState) (number last : ℕ) (s t : Sight) → IsLawful v.log → IsEnd v last → Announces v (Ok number) s t → CallsMade (announce_calls last) true s t

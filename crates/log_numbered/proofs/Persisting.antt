@@ -1,5 +1,5 @@
 -- A bundle of the next numbers is persisted.
-use Rattle.std.proofs.Common.{◌≡◌, ◌⊎◌, ℕ, ◌+◌, ◌*◌, ◌<◌, ◌≤◌, true, false, IsTrue, [], All, Result, Ok, Err, refl, sym, ap, ◌∙◌, subst, ⊎_elim, arith}
+use Rattle.std.proofs.Common.{◌≡◌, ◌⊎◌, ℕ, ◌+◌, ◌*◌, ◌<◌, ◌≤◌, true, false, IsTrue, [], All, Result, Err, refl, sym, ap, ◌∙◌, subst, ⊎_elim, arith}
 use Rattle.std.specs.Prelude.{◌↔◌, IsErrOf}
 use Rattle.dude_base.specs.declared.limits.TheConstants.{MAX_NUMBER}
 use Rattle.dude_base.specs.Records.{RedoBundle, first_of}
@@ -16,7 +16,7 @@ use Rattle.log_numbered.specs.Backs.{Any, Carries, CarriesOn, LogGoesOn, HoldsAr
 use Rattle.log_numbered.proofs.GoingOn.{by_device, failed_untold, visible_before, went_on}
 use Rattle.log_numbered.proofs.HeldArrays.{holds_added, moments_less, recovers_in}
 use Rattle.log_numbered.proofs.LedLogs.{end_added, leads_added}
-use Rattle.log_numbered.proofs.NoTells.{append_tells_nothing, told_same}
+use Rattle.back_store.proofs.NoTells.{append_tells_nothing, told_same}
 use Rattle.back_store.proofs.ToldNumbers.{tells_none}
 
 module _ (v : BackState) (end : ℕ) (s : Sight) (leads : LeadsUpTo v end) (ring : ℕ) (b : RedoBundle) (below : ring < v.log.sizes.rings) (next : first_of b ≡ end + 1) where

@@ -4,7 +4,7 @@ use Rattle.std.specs.Prelude.{◌↔◌, IsErrOf}
 use Rattle.std.proofs.lemmas.List.Elements.{All-nil}
 use Rattle.dude_base.specs.declared.limits.TheConstants.{MAX_NUMBER}
 use Rattle.pmem_trait.specs.declared.call.Call.{Call}
-use Rattle.pmem_trait.specs.Sights.{Sight, state_now, CallsMade}
+use Rattle.pmem_trait.specs.Sights.{Sight, state_now}
 use Rattle.log_waiting.specs.Backlog.{StopsAfter}
 use Rattle.back_store.specs.Back.{BackState, home_now}
 use Rattle.back_store.specs.Answers.{ReproducedBy, ReproducesUnlessDead, ReproducesUpTo, answered, reproduced}
@@ -16,7 +16,7 @@ use Rattle.log_numbered.specs.Backs.{Any, CarriesOn, LogGoesOn, HomeIsAt, LeadsU
 use Rattle.log_numbered.proofs.GoingOn.{by_device, carried_on, failed_untold, went_on}
 use Rattle.log_numbered.proofs.HeldArrays.{holds_reproduced}
 use Rattle.log_numbered.proofs.LedLogs.{Reproduced, durable_least, leads_reproduced, none_waits, numbers_reproduced, reproduced_least, stop_last}
-use Rattle.log_numbered.proofs.NoTells.{TellsNothing, reproduce_tells_nothing, told_same}
+use Rattle.back_store.proofs.NoTells.{TellsNothing, reproduce_tells_nothing, told_same}
 use Rattle.back_store.proofs.ToldNumbers.{tells_none}
 
 -- a reproduction tells nothing

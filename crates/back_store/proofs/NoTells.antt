@@ -1,17 +1,19 @@
 -- Calls that tell nothing.
-use Rattle.std.proofs.Common.{◌≡◌, ℕ, Bool, IsTrue, List, [], ◌∷◌, ◌++◌, All, refl, ◌∙◌, ⊎_elim}
+use Rattle.std.specs.List.{range_with_len}
+use Rattle.std.proofs.Common.{◌≡◌, ℕ, ◌*◌, Bool, IsTrue, List, [], ◌∷◌, ◌++◌, All, map, refl, ◌∙◌, ⊎_elim}
 use Rattle.std.proofs.lemmas.List.Elements.{All-append, All-cons, All-head, All-nil, All-tail}
+use Rattle.dude_base.specs.declared.limits.TheConstants.{PAGE}
 use Rattle.dude_base.specs.declared.sizes.Sizes.{Sizes}
 use Rattle.dude_base.specs.declared.write.Write.{Write}
-use Rattle.dude_base.specs.Image.{Cell}
+use Rattle.dude_base.specs.Image.{Cell, home_word}
 use Rattle.dude_base.specs.Records.{RedoBundle}
 use Rattle.pmem_trait.specs.declared.call.Call.{Call}
-use Rattle.pmem_trait.specs.declared.call.Call.TheVariants.{Put, Flush, Fence}
+use Rattle.pmem_trait.specs.declared.call.Call.TheVariants.{Put, Flush, Fence, Read}
 use Rattle.pmem_trait.specs.Words.{told_after}
 use Rattle.pmem_trait.specs.Sights.{Sight, state_now, OneCall, CallsMade, CallsMade.none, CallsMade.stop, CallsMade.step}
 use Rattle.pmem_trait.specs.Groups.{flush_lines, group_calls, put_pairs}
 use Rattle.redo_record.specs.Calls.{append_calls}
-use Rattle.redo_record.specs.BackCalls.{reproduce_calls}
+use Rattle.redo_record.specs.BackCalls.{read_page_calls, reproduce_calls}
 use Rattle.back_store.proofs.ToldNumbers.{one_told}
 
 -- the call tells nothing
@@ -47,3 +49,10 @@ append_tells_nothing s head r = All-append TellsNothing _ _ (group_tells_nothing
 pub reproduce_tells_nothing : (s : Sizes) (ws : List Write) (number : ℕ) → All TellsNothing (reproduce_calls s ws number)
 unfolding reproduce_calls
 reproduce_tells_nothing s ws number = All-append TellsNothing _ _ (group_tells_nothing _ _) (group_tells_nothing _ _)
+
+reads_tell_nothing : (words : List ℕ) → All TellsNothing (map Read words)
+reads_tell_nothing [] = All-nil TellsNothing
+reads_tell_nothing (w ∷ ws) = All-cons TellsNothing (Read w) (map Read ws) (λ told. refl) (reads_tell_nothing ws)
+
+pub page_tells_nothing : (s : Sizes) (page : ℕ) → All TellsNothing (read_page_calls s page)
+page_tells_nothing s page = reads_tell_nothing (range_with_len (home_word s (page * PAGE)) PAGE)
