@@ -1,0 +1,14 @@
+pub mod Alike
+pub mod Queueing
+pub mod Listing
+pub mod Staged
+pub mod Turning
+pub mod Taken
+pub mod Boxing
+pub mod Acting
+pub mod Quiet
+pub mod Pinning
+pub mod Owning
+pub mod Parting
+pub mod Drawing
+pub mod BoxActs
