@@ -2,6 +2,8 @@ pub mod Unchanged
 pub mod StoreEvents
 pub mod Devices
 pub mod Crashes
+pub mod Heads
+pub mod Images
 pub mod Keeps
 pub mod WholeCalls
 pub mod Start

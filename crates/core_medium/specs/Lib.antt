@@ -3,4 +3,5 @@ pub mod BackCalls
 pub mod Machines
 pub mod KeptStore
 pub mod Crash
+pub mod Images
 pub mod MachineLaws

@@ -19,6 +19,7 @@ use Rattle.core_medium.specs.BackCalls.{BackCall, MayCall, calls_of, store_behin
 use Rattle.core_medium.specs.Machines.{Machine, MachineStep, device, AllMachineLead, words_of}
 use Rattle.core_medium.specs.KeptStore.{MachineKept, HasPlaces, IsStart, opening_medium, start_machine}
 use Rattle.core_medium.specs.Crash.{RecoversTo}
+use Rattle.core_medium.specs.Images.{ImagesHave}
 
 -- The machine is reached by these steps from the start, over a medium that fits it.
 pub record IsReached (z : Setup) (ss : List MachineStep) (m : Machine) : Type 0 where
@@ -44,6 +45,10 @@ LawOfWordSteps = (z : Setup) (ss : List MachineStep) (m : Machine) → IsReached
 abbrev pub LawOfCrashes : Type 0
 LawOfCrashes = (z : Setup) (ss : List MachineStep) (m : Machine) (len : ℕ) → IsReached z ss m → image_words m.store.log.sizes ≤ len
     → EveryImage len (RecoversTo z m) (medium_of m.store)
+
+-- after every list of steps each word may hold what the log and the call under way say, and nothing else
+abbrev pub LawOfImages : Type 0
+LawOfImages = (z : Setup) (ss : List MachineStep) (m : Machine) → IsReached z ss m → ImagesHave z m
 
 -- A call of the back that is allowed can be made to its end, call by call on the medium, by the view that has the turn: from where these
 -- calls are left of it

@@ -21,12 +21,12 @@ pub record Machine : Type 0 where
   pub store : Store
 
 -- ---- events on words
--- What an event asks of words and store, beside what its view allows. The turn is given away where no call of the back is under way. A box is
+-- What an event asks of words and store, beside what its view allows. The turn is given away where no call of the back is under way, and no call fails here. A box is
 -- emptied that is full and whose number is on the medium. The durable word rises to a number that was told, the reproduced one to a number
 -- at which the mark was settled. A free frame is filled with a word that was read, of a page whose touch is up to the reproduced number.
 -- Every other event asks nothing. A tell is a whole call of the back, so what was told was told when the last one ended
 abbrev pub Meets : Setup → Event → State → Store → View → Type 0
-Meets z (give_turn failed) c d v = d.calls ≡ []
+Meets z (give_turn failed) c d v = (d.calls ≡ []) × (failed ≡ false)
 Meets z (empty_box t j) c d v = (0 < slice_index c.boxes (box_of z t j)) × IsOnMedium d.log (slice_index c.boxes (box_of z t j))
 Meets z (raise_durable x) c d v = (c.durable ≤ x) × IsIn x d.rest.told
 Meets z (raise_reproduced x) c d v = (c.reproduced ≤ x) × IsIn x d.marks

@@ -1,7 +1,7 @@
 //! What every list of steps leaves, and what every crash after it.
 
 ghost use Rattle.core_medium.specs.MachineLaws.{LawOfStart, LawOfMachines, LawOfWordSteps};
-ghost use Rattle.core_medium.specs.MachineLaws.{LawOfCrashes, LawOfWholeCalls, LawOfCombinedWrites};
+ghost use Rattle.core_medium.specs.MachineLaws.{LawOfCrashes, LawOfImages, LawOfWholeCalls, LawOfCombinedWrites};
 
 /// There is a medium to start with.
 pub fn law_of_start()
@@ -23,6 +23,12 @@ pub fn law_of_word_steps()
 /// to the values at it; each number up to it is posted, and no greater one was told.
 pub fn law_of_crashes()
     ensures { LawOfCrashes }
+{}
+
+/// After every list of steps each word of the medium may hold what the log and the call under way
+/// say, and nothing else.
+pub fn law_of_images()
+    ensures { LawOfImages }
 {}
 
 /// A call of the back that is allowed can be made to its end by the view that has the turn, call by

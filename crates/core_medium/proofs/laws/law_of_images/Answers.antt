@@ -1,0 +1,6 @@
+use Rattle.core_medium.proofs.Images.{images_have}
+use Rattle.core_medium.proofs.Start.{machine_reached}
+use Rattle.core_medium.proofs.laws.law_of_images.Goals as goal
+
+pub returns : goal.returns
+returns c = λ z ss m is. let k = machine_reached z ss m is in images_have z k.ghost_is m.core k.layers m.store k.store
