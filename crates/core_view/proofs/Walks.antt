@@ -63,6 +63,11 @@ find_on xs k i lt so e = so ∙ (rw (rest_cons xs i (0, 0) lt, ne_eqb (get_or xs
 pub find_end : (xs : List (ℕ × ℕ)) (k i : ℕ) → length xs ≤ i → find xs k ≡ find (drop i xs) k → None ≡ find xs k
 find_end xs k i le so = sym (so ∙ (rw (rest_all xs i le) refl))
 
+-- a search for a number, and one for a key
+pub ruleset has_walk = (has_here, has_on, has_end)
+
+pub ruleset find_walk = (find_here, find_on, find_end)
+
 -- ---- what holds of all elements, or of one
 pub get_of : {A : Type 0} (xs : List A) (k : ℕ) (d : A) → k < length xs → slice_get xs k ≡ Some (get_or xs k d)
 get_of [] k d lt = absurd (omega arith)

@@ -38,6 +38,7 @@ impl Numbers {
     }
 
     /// Whether the number stands in the list.
+    #[tactic(auto, using(crate::proofs::Walks::has_walk))]
     pub fn has(&self, number: u64) -> bool
         ensures { result ≡ has self.now number }
     {

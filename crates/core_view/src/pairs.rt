@@ -60,6 +60,7 @@ impl Pairs {
     }
 
     /// The value under the key.
+    #[tactic(auto, using(crate::proofs::Walks::find_walk))]
     pub fn find(&self, key: u64) -> Option<u64>
         ensures { result ≡ find self.now key }
     {
