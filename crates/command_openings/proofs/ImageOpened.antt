@@ -10,7 +10,7 @@ use Rattle.pmem_trait.proofs.Runs.{made_later, ran_on}
 use Rattle.pmem_trait.proofs.Told.{last_image}
 use Rattle.tatp_layout.specs.StandsFor.{StandsFor}
 use Rattle.image_recovery.specs.Faults.{IsFaultOn}
-use Rattle.image_recovery.specs.Recovered.{RecoversArray, RecoversTo}
+use Rattle.image_recovery.specs.Recovered.{IsRecovered, RecoversArray, RecoversTo}
 use Rattle.image_recovery.specs.declared.open_fault.OpenFault.{OpenFault}
 use Rattle.image_recovery.specs.declared.open_fault.OpenFault.TheVariants as opening
 use Rattle.image_recovery.proofs.Accepted.{never_out}
@@ -81,7 +81,7 @@ pub open_fault : (fault : OpenFault) (s t : Sight) → LeftBy fault s t
 open_fault opening.Unformatted s t left is device = (is, left)
 open_fault (opening.Damaged line) s t left is device = (is, left)
 open_fault (opening.NotDb word) s t left is device = (is, left)
-open_fault opening.Device s t left is device = (device refl, left)
+open_fault opening.Device s t left is device = (device refl, inl left)
 open_fault opening.NoMemory s t left is device = left
 
 -- why an image couldn't be made
@@ -167,8 +167,19 @@ module _ {M : Type 0} {ghosts : Ghosts M} (o : Opened M ghosts) (s m t : Sight) 
   pub announced_opens : ((opening : Opening) → IsOpeningOn s opening → ⊥) → ⊥
   announced_opens none = none own (on_it own own_is)
 
-  pub announced_fault : (fault : Fault) → fault ≡ Device → Risen m.faults t.faults → CallsMade (Tell o.number ∷ []) false m t → HasOpenFault s t fault
-  announced_fault fault is risen tells = subst (HasOpenFault s t) (sym is) (risen_later s.faults m.faults t.faults t.faults (made_later calls.1).faults risen (omega arith), ran_on calls tells)
+  pub announced_fault : (fault : Fault) → fault ≡ Device → IsRecovered s.len o.sizes o.number o.words.items → answers.Opens true o.sizes o.number o.words.items s m
+      → Risen m.faults t.faults → CallsMade (Tell o.number ∷ []) false m t → HasOpenFault s t fault
+  announced_fault fault is found opens risen tells = subst (HasOpenFault s t) (sym is) (
+    risen_later s.faults m.faults t.faults t.faults (made_later calls.1).faults risen (omega arith),
+    inr (record {
+      sizes = o.sizes;
+      number = o.number;
+      words = o.words.items;
+      is = found;
+      recovered = recovered;
+      calls = record { opened = m; opens = opens; tells = tells };
+    }),
+  )
 
 -- an image was made, and is opened as it is
 pub made_opening : {M : Type 0} {ghosts : Ghosts M} (o : Opened M ghosts) (sizes : Sizes) (words : List ℕ) → o.sizes ≡ sizes → o.number ≡ 0 → o.words.items ≡ words

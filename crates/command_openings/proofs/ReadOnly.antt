@@ -1,9 +1,8 @@
 -- An image that is only read.
-use Rattle.std.proofs.Common.{◌≡◌, ℕ, Bool, true, false, IsTrue, List, map, refl, sym, subst}
+use Rattle.std.proofs.Common.{◌≡◌, ℕ, Bool, true, false, IsTrue, List, inl, refl}
 use Rattle.std.specs.Prelude.{Err}
 use Rattle.dude_base.specs.declared.sizes.Sizes.{Sizes}
-use Rattle.pmem_trait.specs.declared.call.Call.TheVariants.{Read}
-use Rattle.pmem_trait.specs.Sights.{Sight, Risen, SomeCalls, state_now}
+use Rattle.pmem_trait.specs.Sights.{Sight, Risen, state_now}
 use Rattle.pmem_trait.specs.Words.{IsSettled}
 use Rattle.pmem_trait.specs.Reads.{ContentHas, OnlyReads}
 use Rattle.tatp_model.specs.declared.tables.Tables.{Tables}
@@ -16,25 +15,20 @@ use Rattle.image_recovery.specs.declared.open_fault.OpenFault.TheVariants as ope
 use Rattle.image_opening.specs.Answers.{StillRecovers}
 use Rattle.image_opening.proofs.SettledReads.{content_kept, reads_keep}
 use Rattle.dude_engine.specs.Opening.{Opening, IsOpening}
-use Rattle.command_edges.specs.declared.fault.Fault.{Fault}
-use Rattle.command_openings.specs.Faults.{HasOpenFault, fault_of_opening}
+use Rattle.command_openings.specs.Faults.{fault_of_opening}
 use Rattle.command_openings.specs.ImageRead.{FailsReading}
 use Rattle.command_openings.specs.Opens.{OpensPartly}
 use Rattle.command_openings.specs.Openings.{IsOpeningOn}
 use Rattle.command_openings.proofs.Images.{calls_fit}
 use Rattle.command_openings.proofs.ImageOpened.{on_content, partly_opened}
 
--- reads are calls
-pub some_reads : {ok : Bool} {s t : Sight} → OnlyReads ok s t → SomeCalls ok s t
-some_reads reads = (map Read reads.words, reads.made)
-
 -- why an image wasn't recovered
 pub fails_reading : (X : Type 0) (fault : OpenFault) (s t : Sight) → ReadsMade {X = X} (Err fault) s t → IsFaultOn s fault → (fault ≡ opening.Device → Risen s.faults t.faults) → FailsReading s t (fault_of_opening fault)
 fails_reading X opening.Unformatted s t reads is device = ((is, reads), (true, reads))
 fails_reading X (opening.Damaged line) s t reads is device = ((is, reads), (true, reads))
 fails_reading X (opening.NotDb word) s t reads is device = ((is, reads), (true, reads))
-fails_reading X opening.Device s t reads is device = ((device refl, some_reads reads), (false, reads))
-fails_reading X opening.NoMemory s t reads is device = (some_reads reads, (true, reads))
+fails_reading X opening.Device s t reads is device = ((device refl, inl (inl reads)), (false, reads))
+fails_reading X opening.NoMemory s t reads is device = (inl reads, (true, reads))
 
 -- what was recovered is an opening of the content
 pub read_on : (sizes : Sizes) (number : ℕ) (words : List ℕ) (tables : Tables) (s : Sight) → IsRecovered s.len sizes number words → ContentHas (RecoversArray sizes number words) s → StandsFor sizes words (database_of tables)

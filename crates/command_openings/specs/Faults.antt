@@ -2,16 +2,18 @@
 use Rattle.std.specs.Prelude.{◌≡◌, ◌⊎◌, ◌<◌, ◌≤◌, ⊤, true, false}
 use Rattle.dude_base.specs.declared.sizes.Sizes.{Sizes}
 use Rattle.dude_base.specs.Image.{image_words}
-use Rattle.pmem_trait.specs.Sights.{Sight, Risen, SomeCalls}
+use Rattle.pmem_trait.specs.Sights.{Sight, Risen}
 use Rattle.pmem_trait.specs.Reads.{ContentHas, OnlyReads}
 use Rattle.tatp_model.specs.Population.{population_calls}
 use Rattle.redo_record.specs.Recovery.{IsFormatted, IsDamaged}
 use Rattle.image_recovery.specs.Recovered.{IsNoDatabase}
 use Rattle.image_recovery.specs.declared.open_fault.OpenFault.{OpenFault}
 use Rattle.image_recovery.specs.declared.open_fault.OpenFault.TheVariants as opening
+use Rattle.image_opening.specs.Answers.{OpensSome}
 use Rattle.image_format.specs.Causes.{FitsImage, FormatsSome}
 use Rattle.image_format.specs.declared.format_fault.FormatFault.{FormatFault}
 use Rattle.image_format.specs.declared.format_fault.FormatFault.TheVariants as format
+use Rattle.command_openings.specs.Opens.{FailsOpening}
 use Rattle.command_edges.specs.declared.fault.Fault.{Fault}
 use Rattle.command_edges.specs.declared.fault.Fault.TheVariants.{Small, TooFew, Unformatted, Damaged, NotDb, Device, Memory}
 
@@ -25,14 +27,14 @@ HasFormatFault sizes s t Device = FitsImage sizes s.len × Risen s.faults t.faul
 HasFormatFault sizes s t Memory = FitsImage sizes s.len × ((t ≡ s) ⊎ FormatsSome sizes true s t)
 HasFormatFault sizes s t _ = ⊥
 
--- Why the image isn't open: its content says why, and the medium was only read; or the last call failed, or there was no
--- memory.
+-- Why the image isn't open: its content says why, and the medium was only read; or a call of the opening failed; or there was
+-- no memory, before the calls that open the image or behind them.
 abbrev pub HasOpenFault : Sight → Sight → Fault → Type 0
 HasOpenFault s t Unformatted = ContentHas (λ content. ¬ IsFormatted content) s × OnlyReads true s t
 HasOpenFault s t (Damaged line) = ContentHas (λ content. IsFormatted content × IsDamaged content line) s × OnlyReads true s t
 HasOpenFault s t (NotDb word) = ContentHas (IsNoDatabase word) s × OnlyReads true s t
-HasOpenFault s t Device = Risen s.faults t.faults × SomeCalls false s t
-HasOpenFault s t Memory = SomeCalls true s t
+HasOpenFault s t Device = Risen s.faults t.faults × FailsOpening s t
+HasOpenFault s t Memory = OpensSome true s t
 HasOpenFault s t _ = ⊥
 
 -- what a fault of opening is for the command

@@ -40,6 +40,11 @@ pub record OpensAndTells (ok : Bool) (sizes : Sizes) (number : ℕ) (words : Lis
   pub opens : answers.Opens true sizes number words s opened
   pub tells : CallsMade (Tell number ∷ []) ok opened t
 
+-- A call of the opening failed, and exactly the calls up to it were made: reads; or reads, and then those that open the image
+-- that was recovered; or all these, and then the tell.
+abbrev pub FailsOpening : Sight → Sight → Type 0
+FailsOpening s t = answers.OpensSome false s t ⊎ answers.BehindRecovery (OpensAndTells false) s t
+
 -- Exactly these calls were made, up to the tell of the opening number: those that make the image, of which the last one tells;
 -- or reads, then those that open it, then the tell.
 abbrev pub OpensByCalls : Bool → Opening → List ℕ → Sight → Sight → Type 0

@@ -4,7 +4,7 @@ pub mod Law
 mod Necessary
 mod OneThreadRuns
 mod OneReason
-mod OneVerdict
+pub mod OneVerdict
 mod Orders
 mod Passing
 mod Printing

@@ -1,5 +1,5 @@
 -- How an audit ends, from what it read and the verdict on it.
-use Rattle.std.proofs.Common.{◌≡◌, ◌⊎◌, ℕ, ◌<◌, ◌≤◌, Bool, true, false, IsTrue, List, [], ◌∷◌, ◌++◌, codes, length, inl, inr, refl, sym, ap, ◌∙◌, subst, arith, Option, Some, None}
+use Rattle.std.proofs.Common.{◌≡◌, ◌⊎◌, ℕ, ◌≤◌, true, false, IsTrue, List, [], ◌∷◌, ◌++◌, codes, length, inl, inr, refl, sym, ap, ◌∙◌, subst, arith, Option, Some, None}
 use Rattle.std.specs.Prelude.{IsSomeAnd}
 use Rattle.std.specs.List.{All, AllZip}
 use Rattle.std.proofs.lemmas.List.Elements.{All-cons}
@@ -8,12 +8,12 @@ use Rattle.pmem_trait.specs.Sights.{Sight, Risen, state_now}
 use Rattle.pmem_trait.specs.Reads.{OnlyReads}
 use Rattle.tatp_model.specs.declared.request.Request.{Request}
 use Rattle.tatp_model.specs.Request.{IsInRange}
-use Rattle.dude_io.specs.Files.{FilesSight, FilesStay}
-use Rattle.dude_io.specs.Sink.{SinkSight, Took}
+use Rattle.dude_io.specs.Files.{FilesSight}
+use Rattle.dude_io.specs.Sink.{SinkSight}
 use Rattle.dude_io.specs.declared.file_text.FileText.{FileText}
 use Rattle.dude_io.specs.declared.file_text.FileText.TheVariants.{Whole, TooLong}
 use Rattle.command_words.specs.Command.{Meaning.AuditRun}
-use Rattle.command_edges.specs.CommandFile.{request_files}
+use Rattle.command_edges.specs.CommandFile.{audit_files, request_files}
 use Rattle.command_edges.specs.declared.file_kind.FileKind.TheVariants.{Printed}
 use Rattle.command_edges.specs.declared.printed_run.PrintedRun.{PrintedRun}
 use Rattle.tatp_model.specs.Files.{requests_in}
@@ -23,6 +23,8 @@ use Rattle.command_edges.specs.Printing.{StopsIn}
 use Rattle.command_edges.specs.Texts.{IsTextOf}
 use Rattle.command_edges.specs.declared.fault.Fault.{Fault}
 use Rattle.command_edges.specs.declared.fault.Fault.TheVariants.{Audit, Device, Memory, Output}
+use Rattle.command_edges.specs.Reads.{ReadsInOrder}
+use Rattle.command_edges.proofs.Order.{IsNoReadFault}
 use Rattle.command_edges.proofs.Told.{all_good, file_is_there, some_is}
 use Rattle.command_openings.specs.Openings.{IsOpeningOn}
 use Rattle.command_openings.specs.Opens.{OpensPartly}
@@ -40,20 +42,21 @@ use Rattle.dude_program.specs.Headline.{Headline, Printed as PrintedText, SaidYe
 use Rattle.dude_program.specs.Causes.{Causes, HasCause, MustRefuse, RefusesOpening, StoppedByOpening, SucceedsIfGood, Untouched}
 use Rattle.dude_program.specs.Ending.{Ends}
 use Rattle.dude_program.specs.Work.{PrintsText}
-use Rattle.dude_program.proofs.FilesRead.{FilesRead, read_bad, read_fits, read_missing}
+use Rattle.dude_program.proofs.FilesRead.{FilesRead, read_bad, read_before, read_missing}
 use Rattle.dude_program.proofs.Contents.{makes_none, opens_not_refused}
 use Rattle.dude_program.proofs.Crashes.{crash_prefix, sync_none}
-use Rattle.dude_program.proofs.Refusals.{one_of_files, one_refusal, passes_if}
+use Rattle.dude_program.proofs.Refusals.{long_or_read, one_of_files, one_refusal, one_text, passes_if}
 use Rattle.dude_program.proofs.Endings.{sink_same, sink_took, took_prefix}
 use Rattle.dude_program.proofs.Stops.{reads_ran, spares}
 use Rattle.dude_program.proofs.EachCommand.{audit_opens}
 
 -- the files of an audit were read, and are good
-pub audit_files_read : (printed : List ℕ) (names : List (List ℕ)) {f g : FilesSight} (run : PrintedRun) → AreOfRun f printed names run → FilesStay f g → FilesRead (AuditRun printed names) f g
-audit_files_read printed names {f} run are stays = record {
+pub audit_files_read : (printed : List ℕ) (names : List (List ℕ)) {f g : FilesSight} (run : PrintedRun) → AreOfRun f printed names run
+    → ReadsInOrder (audit_files printed names) None f g → FilesRead (AuditRun printed names) f g
+audit_files_read printed names {f} run are reads = record {
   good = All-cons (IsGoodFile f) (record { name = printed; kind = Printed }) (request_files names)
       (λ visible. file_is_there f (record { name = printed; kind = Printed }) run.printed are.text visible) (all_good f names (requests_in run.files.items) are.read);
-  stays = stays;
+  reads = reads;
 }
 
 -- ---- the verdict
@@ -80,14 +83,8 @@ module _ (printed : List ℕ) (names : List (List ℕ)) (f : FilesSight) (files 
 
 -- where files are visible, a printed run isn't refused
 module _ (printed : List ℕ) (names : List (List ℕ)) (f : FilesSight) (opening : Opening) (lawful : IsOpening opening) (found : IsRunFound printed names f opening) (ranges : All (All IsInRange) found.run.requests) where
-  one_text : (a b : List ℕ) → ◌≡◌ {A = Option (List ℕ)} (Some a) (Some b) → a ≡ b
-  one_text a b is = cc
-
   not_refused : (line : ℕ) → IsTrue f.is_visible → IsRefusedRun printed names f opening line → ⊥
-  not_refused line visible (inl long) =
-      let over = subst (λ (o : Option (List ℕ)). IsSomeAnd o (λ text. 268435456 < length text)) (found.run.of_file visible) (long.0 visible) in
-      let short = found.run.short in
-      omega (arith, over, short)
+  not_refused line visible (inl long) = long_or_read printed names f opening visible long.0 found.run
   not_refused line visible (inr wrong) =
       let requests = one_of_files f names wrong.run.requests found.run.requests visible wrong.run.read found.run.read in
       let text = one_text wrong.run.text found.run.text (sym (wrong.run.of_file visible) ∙ found.run.of_file visible) in
@@ -99,7 +96,7 @@ module _ (printed : List ℕ) (names : List (List ℕ)) (f : FilesSight) (openin
 
   pub audit_passes : (why : Fault) → MustRefuse (AuditRun printed names) f opening why → ⊥
   audit_passes why refuses =
-      passes_if (AuditRun printed names) f opening (λ line known says. not_refused line known.0 says) (omega arith) (λ w no. no) (λ w no. no) (λ known n no. no.0) why refuses
+      passes_if (AuditRun printed names) f opening (λ line visible says. not_refused line visible says) (omega arith) (λ w no. no) (λ w no. no) (λ known n no. no.0) why refuses
 
 -- ---- how it ends
 
@@ -117,11 +114,11 @@ module _ (printed : List ℕ) (names : List (List ℕ)) {s t : Sight} {f g : Fil
     only_read = λ must. (true, reads);
   }
 
-  causes_read : {l : SinkSight} (fault : Option Fault) → HasCause (AuditRun printed names) (world_of s f k) (world_of t g l) fault
+  causes_read : {l : SinkSight} (fault : Option Fault) → IsNoReadFault fault → HasCause (AuditRun printed names) (world_of s f k) (world_of t g l) fault
       → (IsTrue s.is_visible → (why : Fault) → MustRefuse (AuditRun printed names) f opening why → (fault ≡ Some why) ⊎ StoppedByOpening (AuditRun printed names) fault)
       → SucceedsIfGood (AuditRun printed names) (world_of s f k) (world_of t g l) fault
       → Untouched (AuditRun printed names) fault s t [] → (fault ≡ Some Device → ⊥) → SinkStays k l → Causes (AuditRun printed names) (world_of s f k) (world_of t g l) [] fault
-  causes_read fault cause refused complete untouched other sink = record {
+  causes_read fault unread cause refused complete untouched other sink = record {
     cause = cause;
     order = record {
       missing = λ visible misses. absurd (read_missing files visible misses);
@@ -137,7 +134,7 @@ module _ (printed : List ℕ) (names : List (List ℕ)) {s t : Sight} {f g : Fil
     nothing = λ opens visible one starts why refuses. refl;
     ran = reads_ran reads other;
     once = λ writes. absurd (let never : ⊥ = cc in never);
-    files = files.stays;
+    reads = read_before files fault unread;
     sink = sink;
   }
 
@@ -145,7 +142,7 @@ module _ (printed : List ℕ) (names : List (List ℕ)) {s t : Sight} {f g : Fil
   pub ends_no : (line : ℕ) → IsRefusedRun printed names f opening line → Ends (AuditRun printed names) (world_of s f k) (world_of t g k) [] (Some (Audit line))
   ends_no line refused = record {
     headline = λ has. headline_read (Some (Audit line)) refl;
-    causes = causes_read (Some (Audit line)) (record { opening = opening; opens = refl; starts = on; lawful = lawful; why = refused; left = reads })
+    causes = causes_read (Some (Audit line)) tt (record { opening = opening; opens = refl; starts = on; lawful = lawful; why = refused; left = reads })
         (λ visible why also. inl (ap Some (one_refusal (AuditRun printed names) f opening (Audit line) why refused also)))
         (λ good medium unread output. absurd (let o = (good.opens refl).1 in
         o.2 (Audit line) (subst (λ (p : Opening). RefusesOpening (AuditRun printed names) f p (Audit line)) (sym (one_opening s o.0 opening (good.opens refl).0 o.1 on)) refused)))
@@ -166,19 +163,19 @@ module _ (printed : List ℕ) (names : List (List ℕ)) {s t : Sight} {f g : Fil
     at_output : {l : SinkSight} (fault : Fault) → StopsIn yes_text k l fault → Risen k.faults l.faults → Ends (AuditRun printed names) (world_of s f k) (world_of t g l) [] (Some Output)
     at_output {l} fault stops risen = record {
       headline = λ has. headline_read (Some Output) (yes_with l (TookPrefix k l) (took_prefix stops));
-      causes = causes_read (Some Output) risen (passed (Some Output)) (λ good medium unread output. absurd (output risen)) tt (λ e. let no : ⊥ = cc in no) (sink_took stops.took);
+      causes = causes_read (Some Output) tt risen (passed (Some Output)) (λ good medium unread output. absurd (output risen)) tt (λ e. let no : ⊥ = cc in no) (sink_took stops.took);
     }
 
     at_memory : {l : SinkSight} (fault : Fault) → StopsIn yes_text k l fault → Ends (AuditRun printed names) (world_of s f k) (world_of t g l) [] (Some Memory)
     at_memory {l} fault stops = record {
       headline = λ has. headline_read (Some Memory) (inr (yes_with l (TookPrefix k l) (took_prefix stops)));
-      causes = causes_read (Some Memory) tt (passed (Some Memory)) (λ good medium unread output. inr refl) tt (λ e. let no : ⊥ = cc in no) (sink_took stops.took);
+      causes = causes_read (Some Memory) tt tt (passed (Some Memory)) (λ good medium unread output. inr refl) tt (λ e. let no : ⊥ = cc in no) (sink_took stops.took);
     }
 
     pub ends_yes : {l : SinkSight} (fault : Option Fault) → PrintsText yes_text None fault k l → Ends (AuditRun printed names) (world_of s f k) (world_of t g l) [] fault
     ends_yes {l} None took = record {
       headline = λ has. headline_read None (yes_with l (TookAll k l) took.taken);
-      causes = causes_read None tt (passed None) (λ good medium unread output. inl refl) tt (λ e. let no : ⊥ = cc in no) (sink_took took);
+      causes = causes_read None tt tt (passed None) (λ good medium unread output. inl refl) tt (λ e. let no : ⊥ = cc in no) (sink_took took);
     }
     ends_yes {l} (Some fault) (inl stops) = elim stops.only [
       | inl is ↦ subst (λ (x : Fault). Ends (AuditRun printed names) (world_of s f k) (world_of t g l) [] (Some x)) (sym is) (at_output fault stops (stops.cause is))
@@ -188,5 +185,5 @@ module _ (printed : List ℕ) (names : List (List ℕ)) {s t : Sight} {f g : Fil
         subst (λ (x : Fault). Ends (AuditRun printed names) (world_of s f k) (world_of t g l) [] (Some x)) (sym none.0)
         (subst (λ (x : SinkSight). Ends (AuditRun printed names) (world_of s f k) (world_of t g x) [] (Some Memory)) (sym none.1) (record {
           headline = λ has. headline_read (Some Memory) (inl (inl refl));
-          causes = causes_read (Some Memory) tt (passed (Some Memory)) (λ good medium unread output. inr refl) tt (λ e. let no : ⊥ = cc in no) sink_same;
+          causes = causes_read (Some Memory) tt tt (passed (Some Memory)) (λ good medium unread output. inr refl) tt (λ e. let no : ⊥ = cc in no) sink_same;
         }))

@@ -1,11 +1,10 @@
 -- What a command comes to before its output, from the opening of its image and its run.
 use Rattle.std.proofs.Common.{◌≡◌, ◌⊎◌, ℕ, ◌≤◌, Bool, true, false, IsTrue, List, [], refl, sym, subst, inl, inr, arith, Option, Some, None}
-use Rattle.std.specs.List.{All}
 use Rattle.std.specs.Bool.{MatchBool}
 use Rattle.std.proofs.lemmas.List.Elements.{All-nil}
 use Rattle.std.proofs.lemmas.List.Sorted.{IsPermutation-refl}
 use Rattle.dude_base.specs.declared.sizes.Sizes.{Sizes}
-use Rattle.pmem_trait.specs.Sights.{Sight}
+use Rattle.pmem_trait.specs.Sights.{Sight, CallsMade.none}
 use Rattle.pmem_trait.proofs.Runs.{made_later, ran_here, ran_then, risen_later}
 use Rattle.tatp_model.specs.declared.done.Done.{Done}
 use Rattle.tatp_model.specs.declared.request.Request.{Request}
@@ -14,6 +13,7 @@ use Rattle.run_order.specs.Runs.{Collects}
 use Rattle.run_order.proofs.Law.{law}
 use Rattle.run_order.proofs.Performed.{performs_start}
 use Rattle.dude_io.specs.Files.{FilesSight}
+use Rattle.back_store.specs.Back.{idle}
 use Rattle.image_format.specs.Causes.{FitsImage}
 use Rattle.command_words.specs.Command.{Meaning, Meaning.FreshRun, Meaning.FormatImage, Meaning.RunFiles, Meaning.RecoverImage, Meaning.DumpTables, Meaning.DriveLoad, Meaning.AuditRun}
 use Rattle.dude_engine.specs.Opening.{Opening}
@@ -24,7 +24,8 @@ use Rattle.command_openings.specs.Openings.{IsOpeningOn, new_opening}
 use Rattle.command_openings.proofs.OneOpening.{one_opening}
 use Rattle.dude_program.specs.Opening.{IsReachable, RequestsAre, Starts, ends_opened, makes_image, only_reads, runs_requests}
 use Rattle.dude_program.specs.Headline.{Replies}
-use Rattle.dude_program.specs.Causes.{MustRefuse, OpensOnce, RanUnlessDevice, RefusesFormat}
+use Rattle.dude_program.specs.Causes.{EndedWell, MustRefuse, OpensOnce, RanUnlessDevice, RefusesFormat}
+use Rattle.dude_program.specs.LogOperations.{MakesOperations, OperatesLog.rests}
 use Rattle.dude_program.specs.Work.{EndsWhole, RanOver}
 use Rattle.dude_program.proofs.FilesRead.{FilesRead}
 use Rattle.dude_program.proofs.Contents.{fits_not_refused, makes_none}
@@ -88,14 +89,16 @@ module _ {meaning : Meaning} {f g : FilesSight} {opening : Opening} {words : Lis
   opened_well : {fault : Option Fault} → (fault ≡ Some Device → ⊥) → RanUnlessDevice fault s m
   opened_well other = (true, opened_image.is_open.ran, (λ failed. absurd (let no : ⊥ = cc in no), λ is. absurd (other is)))
 
-  opens_once : {fault : Option Fault} {t : Sight} → MatchBool (ends_opened meaning) (t ≡ m) (RanUnlessDevice fault m t) → OpensOnce meaning fault s t
-  opens_once behind = record {
+  opens_once : {fault : Option Fault} {t : Sight} → MatchBool (ends_opened meaning) (t ≡ m) (RanUnlessDevice fault m t)
+      → (EndedWell fault → MakesOperations (idle opening.sizes opening.number) m t) → OpensOnce meaning fault s t
+  opens_once behind operates = record {
     opening = opening;
     starts = opened_image.starts;
     words = words;
     opened = m;
     calls = opened_image.is_open.calls;
     behind = behind;
+    operates = operates;
   }
 
   none_behind : (b : Bool) {fault : Option Fault} → (fault ≡ Some Device → ⊥) → MatchBool b (m ≡ m) (RanUnlessDevice fault m m)
@@ -116,7 +119,7 @@ module _ {meaning : Meaning} {f g : FilesSight} {opening : Opening} {words : Lis
     crash = crash_prefix meaning opening s m (opens_prefix (makes_image meaning) opening words s m opened_image.is_open);
     sync = sync_none s m;
     ran = opened_well other;
-    once = opens_once (none_behind (ends_opened meaning) other);
+    once = opens_once (none_behind (ends_opened meaning) other) (λ well. (idle opening.sizes opening.number, ([], rests, none)));
     nothing = λ opens why refuses. refl;
     cause = by;
   }
@@ -147,8 +150,8 @@ module _ {meaning : Meaning} {f g : FilesSight} {opening : Opening} {words : Lis
     abbrev replies_run : {fault : Option Fault} → RanOver Reaches opening words requests done last fault m t → Replies meaning f opening done
     replies_run run = record { requests = requests; read = are; answered = run.replies; syncs_from = run.syncs_from }
 
-    came_by : (fault : Option Fault) → RanOver Reaches opening words requests done last fault m t → CameBy meaning f opening done last s t fault → Came meaning f g opening done last fault s t
-    came_by fault run by = record {
+    came_by : (fault : Option Fault) → (EndedWell fault → fault ≡ None) → RanOver Reaches opening words requests done last fault m t → CameBy meaning f opening done last s t fault → Came meaning f g opening done last fault s t
+    came_by fault well run by = record {
       files = files;
       writes = opened_image.writes;
       starts = opened_image.starts;
@@ -160,7 +163,7 @@ module _ {meaning : Meaning} {f g : FilesSight} {opening : Opening} {words : Lis
       crash = crash_run Reaches meaning opening words requests done s m t runs opened_image.is_open reaches run.replies run.moments run.few_lost;
       sync = sync_run (makes_image meaning) opening words done s m t opened_image.is_open run.syncs_follow run.syncs_told;
       ran = ran_behind run.ran;
-      once = opens_once (subst (λ (b : Bool). MatchBool b (t ≡ m) (RanUnlessDevice fault m t)) (sym (runs_on meaning runs)) run.ran);
+      once = opens_once (subst (λ (b : Bool). MatchBool b (t ≡ m) (RanUnlessDevice fault m t)) (sym (runs_on meaning runs)) run.ran) (λ ended. run.operates (well ended));
       nothing = λ opens why refuses. absurd (passes opens why refuses);
       cause = by;
     }
@@ -189,7 +192,7 @@ module _ {meaning : Meaning} {f g : FilesSight} {opening : Opening} {words : Lis
         Q o = Came meaning f g opening done last o s t
 
         by : (fault ≡ None) ⊎ (fault ≡ Some Device) ⊎ (fault ≡ Some Memory) → Came meaning f g opening done last fault s t
-        by (inl e) = subst Q (sym e) (came_by None (subst P e run) (finished (subst P e run)))
-        by (inr (inl e)) = subst Q (sym e) (came_by (Some Device) (subst P e run)
+        by (inl e) = subst Q (sym e) (came_by None (λ ended. refl) (subst P e run) (finished (subst P e run)))
+        by (inr (inl e)) = subst Q (sym e) (came_by (Some Device) (λ ended. absurd ended) (subst P e run)
             (risen_later s.faults m.faults t.faults t.faults (made_later opened_image.is_open.ran.1).faults (run.cause e) (omega arith)))
-        by (inr (inr e)) = subst Q (sym e) (came_by (Some Memory) (subst P e run) tt)
+        by (inr (inr e)) = subst Q (sym e) (came_by (Some Memory) (λ ended. absurd ended) (subst P e run) tt)

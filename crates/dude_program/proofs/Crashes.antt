@@ -20,12 +20,12 @@ use Rattle.run_order.specs.Runs.{SyncsFollow}
 use Rattle.image_recovery.specs.Recovered.{RecoversTo}
 use Rattle.command_words.specs.Command.{Meaning, Meaning.FreshRun, Meaning.FormatImage, Meaning.RunFiles, Meaning.RecoverImage, Meaning.DumpTables, Meaning.DriveLoad, Meaning.AuditRun}
 use Rattle.dude_engine.specs.Endings.{AreSyncsTold, End, LosesAtMost, WasToldLast}
-use Rattle.dude_engine.specs.Opening.{Opening, RecoversAmong, RecoversAt, last_of}
+use Rattle.dude_engine.specs.Opening.{Opening, RecoversAmong, last_of}
 use Rattle.dude_engine.specs.Plain.{LosesFew, RecoversAlongRun, most_lost_by}
 use Rattle.dude_engine.proofs.Numbering.{greatest_from}
 use Rattle.command_openings.specs.Opens.{Opens, OpensPartly, ShowsOpening, TellsAtMost}
 use Rattle.dude_program.specs.Opening.{IsReachable, makes_image, runs_requests}
-use Rattle.dude_program.specs.Headline.{Crash, LosesFewAtExit, RecoversSince, Sync, WasToldFirst}
+use Rattle.dude_program.specs.Headline.{Crash, RecoversSince, Sync, WasToldFirst}
 use Rattle.dude_program.specs.Causes.{IsLeftOpened}
 
 -- ---- numbers

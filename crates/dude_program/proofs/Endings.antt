@@ -17,6 +17,7 @@ use Rattle.dude_engine.specs.Opening.{Opening, IsOpening}
 use Rattle.command_edges.specs.declared.fault.Fault.{Fault}
 use Rattle.command_edges.specs.declared.fault.Fault.TheVariants.{Usage, File, Text, Small, TooFew, Unformatted, Damaged, NotDb, ManyFiles, Frames, FewSubscribers, Numbers, Device, Output, Memory, Audit}
 use Rattle.command_edges.specs.Printing.{StopsIn}
+use Rattle.command_edges.proofs.Order.{IsNoReadFault}
 use Rattle.command_openings.specs.Openings.{IsOpeningOn}
 use Rattle.dude_program.specs.World.{SinkStays, World, world_of}
 use Rattle.dude_program.specs.Opening.{IsOutput, IsReachable, Starts, ends_opened, makes_image, only_reads}
@@ -24,7 +25,7 @@ use Rattle.dude_program.specs.Headline.{AllDone, Completed, Crash, Headline, Mus
 use Rattle.dude_program.specs.Causes.{Causes, HasCause, IsGood, IsLeft, IsLeftOpened, MustRefuse, OpensOnce, OpensOnceBy, RanUnlessDevice, RefusesFormat, RefusesOpening, StoppedByOpening, Untouched}
 use Rattle.dude_program.specs.Ending.{Ends}
 use Rattle.dude_program.specs.Work.{PrintsText}
-use Rattle.dude_program.proofs.FilesRead.{FilesRead, read_bad, read_fits, read_missing}
+use Rattle.dude_program.proofs.FilesRead.{FilesRead, read_bad, read_before, read_fits, read_missing}
 use Rattle.dude_program.proofs.Contents.{opens_not_refused}
 use Rattle.dude_program.proofs.Refusals.{never_no, one_refusal}
 use Rattle.dude_program.proofs.Crashes.{crash_each}
@@ -92,6 +93,7 @@ once_well {meaning} {t = t} once other = record {
   opened = once.opened;
   calls = once.calls;
   behind = behind_well (ends_opened meaning) once.opened t once.behind other;
+  operates = λ well. once.operates tt;
 }
 
 once_by : (meaning : Meaning) (fault : Option Fault) (done : List Done) (s t : Sight) → OpensOnce meaning fault s t → OpensOnceBy meaning fault done s t
@@ -119,11 +121,11 @@ module _ {meaning : Meaning} {f g : FilesSight} {opening : Opening} {done : List
   }
 
   -- the causes, but for those of the opened image and of what follows
-  causes_of : {k l : SinkSight} (fault : Option Fault) → HasCause meaning (world_of s f k) (world_of t g l) fault
+  causes_of : {k l : SinkSight} (fault : Option Fault) → IsNoReadFault fault → HasCause meaning (world_of s f k) (world_of t g l) fault
       → (makes_image meaning ≡ false → IsTrue s.is_visible → (why : Fault) → MustRefuse meaning f opening why → (fault ≡ Some why) ⊎ StoppedByOpening meaning fault)
       → (IsGood meaning (world_of s f k) → (Risen s.faults t.faults → ⊥) → (Risen k.faults l.faults → ⊥) → (fault ≡ None) ⊎ (fault ≡ Some Memory))
       → Untouched meaning fault s t done → RanUnlessDevice fault s t → OpensOnce meaning fault s t → SinkStays k l → Causes meaning (world_of s f k) (world_of t g l) done fault
-  causes_of fault cause refused complete untouched ran once sink = record {
+  causes_of fault unread cause refused complete untouched ran once sink = record {
     cause = cause;
     order = record {
       missing = λ visible misses. absurd (read_missing came.files visible misses);
@@ -140,7 +142,7 @@ module _ {meaning : Meaning} {f g : FilesSight} {opening : Opening} {done : List
         came.nothing opens why (subst (λ (o : Opening). MustRefuse meaning f o why) (came.only visible other starts) refuses);
     ran = ran;
     once = λ opens. once_by meaning fault done s t once;
-    files = came.files.stays;
+    reads = read_before came.files fault unread;
     sink = sink;
   }
 
@@ -161,11 +163,11 @@ completed (AuditRun printed names) old new done Taken writes all = absurd (let n
 -- an opened image was refused
 ends_behind : {meaning : Meaning} {f g : FilesSight} {opening : Opening} {done : List Done} {last : ℕ} {s t : Sight} {k : SinkSight} (why : Fault) → Came meaning f g opening done last (Some why) s t
     → makes_image meaning ≡ false → RefusesOpening meaning f opening why
-    → HasCause meaning (world_of s f k) (world_of t g k) (Some why) → Printed meaning (world_of s f k) (world_of t g k) done (Some why) → Untouched meaning (Some why) s t done
+    → IsNoReadFault (Some why) → HasCause meaning (world_of s f k) (world_of t g k) (Some why) → Printed meaning (world_of s f k) (world_of t g k) done (Some why) → Untouched meaning (Some why) s t done
     → Ends meaning (world_of s f k) (world_of t g k) done (Some why)
-ends_behind {meaning} {f} {g} {opening} {done} {s = s} {t = t} {k = k} why came opens refuses cause printed untouched = record {
+ends_behind {meaning} {f} {g} {opening} {done} {s = s} {t = t} {k = k} why came opens refuses unread cause printed untouched = record {
   headline = λ has. headline_of came (Some why) printed;
-  causes = causes_of came (Some why) cause
+  causes = causes_of came (Some why) unread cause
       (λ _ visible other also. inl (ap Some (one_refusal meaning f opening why other refuses also)))
       (λ good medium output. absurd (let o = (good.opens opens).1 in
       o.2 why (subst (λ (p : Opening). RefusesOpening meaning f p why) (sym (came.only (good.opens opens).0 o.0 o.1)) refuses)))
@@ -177,20 +179,20 @@ pub ends_faulted : {meaning : Meaning} {f g : FilesSight} {opening : Opening} {d
     → Ends meaning (world_of s f k) (world_of t g k) done (Some fault)
 ends_faulted Device came = record {
   headline = λ has. headline_of came (Some Device) (inl refl);
-  causes = causes_of came (Some Device) came.cause (λ opens visible why refuses. inr tt) (λ good medium output. absurd (medium came.cause)) tt came.ran came.once sink_same;
+  causes = causes_of came (Some Device) tt came.cause (λ opens visible why refuses. inr tt) (λ good medium output. absurd (medium came.cause)) tt came.ran came.once sink_same;
 }
 ends_faulted Memory came = record {
   headline = λ has. headline_of came (Some Memory) (inl (inl refl));
-  causes = causes_of came (Some Memory) tt (λ opens visible why refuses. inr tt) (λ good medium output. inr refl) tt came.ran came.once sink_same;
+  causes = causes_of came (Some Memory) tt tt (λ opens visible why refuses. inr tt) (λ good medium output. inr refl) tt came.ran came.once sink_same;
 }
 ends_faulted {meaning} {opening = opening} {s = s} {t = t} (ManyFiles a b) came =
-    ends_behind (ManyFiles a b) came came.cause.0 came.cause.2 (record { opening = opening; opens = came.cause.0; starts = came.starts; lawful = came.lawful; why = came.cause.2; left = is_left meaning opening s t came.writes came.cause.3 }) refl came.cause.1
+    ends_behind (ManyFiles a b) came came.cause.0 came.cause.2 tt (record { opening = opening; opens = came.cause.0; starts = came.starts; lawful = came.lawful; why = came.cause.2; left = is_left meaning opening s t came.writes came.cause.3 }) refl came.cause.1
 ends_faulted {meaning} {opening = opening} {s = s} {t = t} (Frames a b) came =
-    ends_behind (Frames a b) came came.cause.0 came.cause.2 (record { opening = opening; opens = came.cause.0; starts = came.starts; lawful = came.lawful; why = came.cause.2; left = is_left meaning opening s t came.writes came.cause.3 }) refl came.cause.1
+    ends_behind (Frames a b) came came.cause.0 came.cause.2 tt (record { opening = opening; opens = came.cause.0; starts = came.starts; lawful = came.lawful; why = came.cause.2; left = is_left meaning opening s t came.writes came.cause.3 }) refl came.cause.1
 ends_faulted {meaning} {opening = opening} {s = s} {t = t} (FewSubscribers a b) came =
-    ends_behind (FewSubscribers a b) came came.cause.0 came.cause.2 (record { opening = opening; opens = came.cause.0; starts = came.starts; lawful = came.lawful; why = came.cause.2; left = is_left meaning opening s t came.writes came.cause.3 }) refl came.cause.1
+    ends_behind (FewSubscribers a b) came came.cause.0 came.cause.2 tt (record { opening = opening; opens = came.cause.0; starts = came.starts; lawful = came.lawful; why = came.cause.2; left = is_left meaning opening s t came.writes came.cause.3 }) refl came.cause.1
 ends_faulted {meaning} {opening = opening} {s = s} {t = t} (Numbers a b) came =
-    ends_behind (Numbers a b) came came.cause.0 came.cause.2 (record { opening = opening; opens = came.cause.0; starts = came.starts; lawful = came.lawful; why = came.cause.2; left = is_left meaning opening s t came.writes came.cause.3 }) refl came.cause.1
+    ends_behind (Numbers a b) came came.cause.0 came.cause.2 tt (record { opening = opening; opens = came.cause.0; starts = came.starts; lawful = came.lawful; why = came.cause.2; left = is_left meaning opening s t came.writes came.cause.3 }) refl came.cause.1
 ends_faulted Usage came = absurd came.cause.2
 ends_faulted (File n) came = absurd came.cause.2
 ends_faulted (Text n r c) came = absurd came.cause.2
@@ -228,7 +230,7 @@ module _ {meaning : Meaning} {f g : FilesSight} {opening : Opening} {done : List
   ends_whole : {k l : SinkSight} → Took text k l → Ends meaning (world_of s f k) (world_of t g l) done None
   ends_whole {k} {l} took = record {
     headline = λ has. headline_of came None (completed meaning (world_of s f k) (world_of t g l) done (TookAll k l) came.writes (all_done k l {Taken = TookAll k l} took.taken));
-    causes = causes_of came None tt (passed None) (λ good medium output. inl refl) tt came.ran came.once (sink_took took);
+    causes = causes_of came None tt tt (passed None) (λ good medium output. inl refl) tt came.ran came.once (sink_took took);
   }
 
   -- all was done, and a prefix of it printed
@@ -244,13 +246,13 @@ module _ {meaning : Meaning} {f g : FilesSight} {opening : Opening} {done : List
       at_output : Risen k.faults l.faults → P Output
       at_output risen = record {
         headline = λ has. headline_of came (Some Output) all;
-        causes = causes_of came (Some Output) risen (passed (Some Output)) (λ good medium output. absurd (output risen)) tt (ran_well came.ran (λ e. let no : ⊥ = cc in no)) (once_well came.once (λ e. let no : ⊥ = cc in no)) (sink_took stops.took);
+        causes = causes_of came (Some Output) tt risen (passed (Some Output)) (λ good medium output. absurd (output risen)) tt (ran_well came.ran (λ e. let no : ⊥ = cc in no)) (once_well came.once (λ e. let no : ⊥ = cc in no)) (sink_took stops.took);
       }
 
       at_memory : P Memory
       at_memory = record {
         headline = λ has. headline_of came (Some Memory) (inr all);
-        causes = causes_of came (Some Memory) tt (passed (Some Memory)) (λ good medium output. inr refl) tt (ran_well came.ran (λ e. let no : ⊥ = cc in no)) (once_well came.once (λ e. let no : ⊥ = cc in no)) (sink_took stops.took);
+        causes = causes_of came (Some Memory) tt tt (passed (Some Memory)) (λ good medium output. inr refl) tt (ran_well came.ran (λ e. let no : ⊥ = cc in no)) (once_well came.once (λ e. let no : ⊥ = cc in no)) (sink_took stops.took);
       }
 
       by_fault : (fault ≡ Output) ⊎ (fault ≡ Memory) → P fault
@@ -261,7 +263,7 @@ module _ {meaning : Meaning} {f g : FilesSight} {opening : Opening} {done : List
   ends_untold : {k : SinkSight} → Ends meaning (world_of s f k) (world_of t g k) done (Some Memory)
   ends_untold = record {
     headline = λ has. headline_of came (Some Memory) (inl (inl refl));
-    causes = causes_of came (Some Memory) tt (passed (Some Memory)) (λ good medium output. inr refl) tt (ran_well came.ran (λ e. let no : ⊥ = cc in no)) (once_well came.once (λ e. let no : ⊥ = cc in no)) sink_same;
+    causes = causes_of came (Some Memory) tt tt (passed (Some Memory)) (λ good medium output. inr refl) tt (ran_well came.ran (λ e. let no : ⊥ = cc in no)) (once_well came.once (λ e. let no : ⊥ = cc in no)) sink_same;
   }
 
 -- What is printed decides how the command ends.

@@ -1,20 +1,21 @@
 -- What is known of files that were read.
-use Rattle.std.proofs.Common.{◌≡◌, ℕ, ◌+◌, ◌<◌, ◌≤◌, Bool, true, false, IsTrue, List, [], ◌∷◌, length, map, get_or, inl, inr, refl, sym, ap, ◌∙◌, subst, arith, Option, Some, None, IsSome, Result, Ok, Err}
+use Rattle.std.proofs.Common.{◌≡◌, ℕ, ◌+◌, ◌<◌, ◌≤◌, Bool, true, false, IsTrue, List, [], ◌∷◌, length, get_or, inl, inr, refl, sym, ap, ◌∙◌, subst, arith, Option, Some, None, IsSome, Result, Ok, Err}
 use Rattle.std.specs.Prelude.{if◌then◌else◌, nat_lt}
 use Rattle.std.specs.List.{All, AllZip, list_all}
 use Rattle.std.proofs.lemmas.Bool.Decides.{nat_tests}
 use Rattle.std.proofs.lemmas.List.{length-append, get_or_append_left}
-use Rattle.std.proofs.lemmas.List.Elements.{All-nil, All-cons, All-map}
+use Rattle.std.proofs.lemmas.List.Elements.{All-nil}
 use Rattle.std.proofs.Math.Seq.{get_or-append_seam}
 use Rattle.tatp_model.specs.declared.request.Request.{Request}
 use Rattle.tatp_csv.specs.RequestFile.{requests_of}
-use Rattle.dude_io.specs.Files.{FilesSight, FilesStay}
-use Rattle.dude_io.proofs.ReadLaws.{files_stay}
+use Rattle.dude_io.specs.Files.{FilesSight}
 use Rattle.command_edges.specs.CommandFile.{CommandFile, IsInLimit, IsInLimitAs, is_judged_first, request_file, request_files}
 use Rattle.command_edges.specs.declared.file_kind.FileKind.{FileKind}
 use Rattle.command_edges.specs.declared.file_kind.FileKind.TheVariants.{Requests, Printed}
 use Rattle.command_edges.specs.Files.{IsBadAs, IsBadAt, IsFirst, IsFirstBad, IsGoodAs, IsGoodFile, MissesFile, OfFile}
+use Rattle.command_edges.specs.Reads.{ReadsInOrder}
 use Rattle.command_edges.proofs.Told.{all_good, not_both}
+use Rattle.command_edges.proofs.Order.{IsNoReadFault, all_in_order, then_fault, whole_none}
 use Rattle.command_words.specs.Command.{Meaning, Meaning.FreshRun, Meaning.FormatImage, Meaning.RunFiles, Meaning.RecoverImage, Meaning.DumpTables, Meaning.DriveLoad, Meaning.AuditRun}
 use Rattle.command_edges.specs.declared.fault.Fault.{Fault}
 use Rattle.command_edges.specs.declared.fault.Fault.TheVariants.{Text}
@@ -24,7 +25,7 @@ use Rattle.dude_program.specs.Causes.{FilesRefuse}
 -- The files of the command were read, and are good.
 pub record FilesRead (meaning : Meaning) (f g : FilesSight) : Type 0 where
   pub good : All (IsGoodFile f) (command_files meaning)
-  pub stays : FilesStay f g
+  pub reads : ReadsInOrder (command_files meaning) None f g
 
 -- the element that is the first, where all are as said
 this_of : {X : Type 0} (P : X → Type 0) {Earlier This : X → Type 0} (xs : List X) (number : ℕ) → All P xs → (first : IsFirst Earlier This xs number) → P first.this
@@ -137,16 +138,25 @@ module _ {meaning : Meaning} {f g : FilesSight} (files : FilesRead meaning f g) 
   pub read_bad : (number row field : ℕ) → IsTrue f.is_visible → IsFirstBad (command_files meaning) f number row field → ⊥
   read_bad number row field visible first = good_none_bad f (command_files meaning) number row field visible files.good first
 
+  -- they were read before any other fault came
+  pub read_before : (fault : Option Fault) → IsNoReadFault fault → ReadsInOrder (command_files meaning) fault f g
+  read_before fault other = then_fault fault other files.reads
+
   pub read_fits : FilesRefuse meaning f → ⊥
   read_fits refuse = elim refuse.why [ inl bad ↦ bad files.good | inr long ↦ long (files_in_limit f (command_files meaning) files.good) ]
 
 -- the request files of `fresh` and `run`
-pub fresh_files : (subscribers : ℕ) (file : List ℕ) {f g : FilesSight} (lists : List (List Request)) → AllZip (OfFile f) (file ∷ []) lists → FilesStay f g → FilesRead (FreshRun subscribers file) f g
-fresh_files subscribers file {f} lists read stays = record { good = all_good f (file ∷ []) lists read; stays = stays }
+pub fresh_files : (subscribers : ℕ) (file : List ℕ) {f g : FilesSight} (lists : List (List Request)) → AllZip (OfFile f) (file ∷ []) lists
+    → ReadsInOrder (request_files (file ∷ [])) None f g → FilesRead (FreshRun subscribers file) f g
+fresh_files subscribers file {f} lists read reads = record { good = all_good f (file ∷ []) lists read; reads = reads }
 
-pub run_files : (frames locks : Option ℕ) (names : List (List ℕ)) {f g : FilesSight} (lists : List (List Request)) → AllZip (OfFile f) names lists → FilesStay f g → FilesRead (RunFiles frames locks names) f g
-run_files frames locks names {f} lists read stays = record { good = all_good f names lists read; stays = stays }
+pub run_files : (frames locks : Option ℕ) (names : List (List ℕ)) {f g : FilesSight} (lists : List (List Request)) → AllZip (OfFile f) names lists
+    → ReadsInOrder (request_files names) None f g → FilesRead (RunFiles frames locks names) f g
+run_files frames locks names {f} lists read reads = record { good = all_good f names lists read; reads = reads }
 
 -- a command without files
 pub no_files : (meaning : Meaning) (f : FilesSight) → command_files meaning ≡ [] → FilesRead meaning f f
-no_files meaning f none = record { good = subst (λ files. All (IsGoodFile f) files) (sym none) (All-nil (IsGoodFile f)); stays = files_stay }
+no_files meaning f none = record {
+  good = subst (λ files. All (IsGoodFile f) files) (sym none) (All-nil (IsGoodFile f));
+  reads = subst (λ files. ReadsInOrder files None f f) (sym none) (all_in_order [] (whole_none f));
+}

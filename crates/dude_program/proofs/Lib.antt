@@ -8,3 +8,4 @@ pub mod Came
 pub mod EachCommand
 pub mod Audits
 pub mod Works
+pub mod LogOperations

@@ -1,5 +1,6 @@
 -- An opened image is refused for one reason.
-use Rattle.std.proofs.Common.{◌≡◌, ℕ, ◌<◌, ◌≤◌, List, [], ◌∷◌, Bool, true, false, Some, None, IsTrue, refl, sym, ap, ◌∙◌, subst, arith}
+use Rattle.std.proofs.Common.{◌≡◌, ℕ, ◌<◌, ◌≤◌, List, [], ◌∷◌, true, false, Some, None, IsTrue, Option, length, inl, inr, refl, sym, ap, ◌∙◌, subst, arith}
+use Rattle.std.specs.Prelude.{IsSomeAnd}
 use Rattle.std.specs.List.{AllZip}
 use Rattle.tatp_model.specs.declared.request.Request.{Request}
 use Rattle.dude_io.specs.Files.{FilesSight}
@@ -9,6 +10,11 @@ use Rattle.dude_engine.specs.Opening.{Opening}
 use Rattle.dude_engine.specs.Requests.{request_count}
 use Rattle.command_edges.specs.declared.fault.Fault.{Fault}
 use Rattle.command_edges.specs.declared.fault.Fault.TheVariants.{Usage, File, Text, Small, TooFew, Unformatted, Damaged, NotDb, ManyFiles, Frames, FewSubscribers, Numbers, Device, Output, Memory, Audit}
+use Rattle.dude_audit.specs.PrintedRun.{IsVerdict}
+use Rattle.dude_audit.specs.declared.verdict.Verdict.{Verdict}
+use Rattle.dude_audit.specs.declared.verdict.Verdict.TheVariants.{No}
+use Rattle.dude_audit.proofs.OneVerdict.{one_verdict}
+use Rattle.dude_program.specs.Audit.{IsLongRun, IsRefusedRun, IsWrongRun, RunRead}
 use Rattle.dude_program.specs.Opening.{RequestsAre, only_reads}
 use Rattle.dude_program.specs.Causes.{DrawsNumbers, KnowsCause, KnowsRequests, MustRefuse, RefusesAudit, RefusesOpening, WantsFrames, WantsNumbers, WantsSubscribers, files_run}
 
@@ -31,6 +37,43 @@ one_of_files f (name ∷ names) (x ∷ a) (y ∷ b) visible one other =
     cc
 one_of_files f (name ∷ names) [] b visible one other = absurd one
 one_of_files f (name ∷ names) (x ∷ a) [] visible one other = absurd other
+
+pub one_text : (a b : List ℕ) → ◌≡◌ {A = Option (List ℕ)} (Some a) (Some b) → a ≡ b
+one_text a b is = cc
+
+-- where files tell, an audit names one line: bytes have one verdict, and a text that is too long has none
+module _ (printed : List ℕ) (names : List (List ℕ)) (f : FilesSight) (opening : Opening) (visible : IsTrue f.is_visible) where
+  pub long_or_read : IsLongRun printed f → RunRead printed names f → ⊥
+  long_or_read long run =
+      let over = subst (λ (o : Option (List ℕ)). IsSomeAnd o (λ text. 268435456 < length text)) (run.of_file visible) (long visible) in
+      let short = run.short in
+      omega (arith, over, short)
+
+  one_verdict_line : (a b : ℕ) → IsWrongRun printed names f opening a → IsWrongRun printed names f opening b → a ≡ b
+  one_verdict_line a b one other =
+      let requests = one_of_files f names one.run.requests other.run.requests visible one.run.read other.run.read in
+      let text = one_text one.run.text other.run.text (sym (one.run.of_file visible) ∙ other.run.of_file visible) in
+      let verdict : IsVerdict opening.number opening.sizes.calls opening.database other.run.requests other.run.text (No a) =
+      subst (λ (t : List ℕ). IsVerdict opening.number opening.sizes.calls opening.database other.run.requests t (No a)) text
+      (subst (λ (q : List (List Request)). IsVerdict opening.number opening.sizes.calls opening.database q one.run.text (No a)) requests one.verdict) in
+      let same : ◌≡◌ {A = Verdict} (No a) (No b) = one_verdict other.run.requests other.run.text opening.number opening.sizes.calls opening.database (No a) (No b) verdict other.verdict in
+      cc
+
+  one_line : (a b : ℕ) → IsRefusedRun printed names f opening a → IsRefusedRun printed names f opening b → a ≡ b
+  one_line a b (inl long) (inl other) = long.1 ∙ sym other.1
+  one_line a b (inl long) (inr wrong) = absurd (long_or_read long.0 wrong.run)
+  one_line a b (inr wrong) (inl long) = absurd (long_or_read long.0 wrong.run)
+  one_line a b (inr one) (inr other) = one_verdict_line a b one other
+
+-- so one line is named, whatever the command
+one_no : (meaning : Meaning) (f : FilesSight) (opening : Opening) (a b : ℕ) → IsTrue f.is_visible → RefusesAudit meaning f opening a → RefusesAudit meaning f opening b → a ≡ b
+one_no (AuditRun printed names) f opening a b visible one other = one_line printed names f opening visible a b one other
+one_no (FreshRun subscribers file) f opening a b visible one other = absurd one
+one_no (FormatImage s c n k) f opening a b visible one other = absurd one
+one_no (RunFiles frames locks files) f opening a b visible one other = absurd one
+one_no RecoverImage f opening a b visible one other = absurd one
+one_no DumpTables f opening a b visible one other = absurd one
+one_no (DriveLoad seed count files) f opening a b visible one other = absurd one
 
 -- the command runs one list of lists of requests, where they are known
 pub one_requests : (meaning : Meaning) (f : FilesSight) (opening : Opening) (a b : List (List Request)) → KnowsRequests meaning f → RequestsAre meaning f opening a → RequestsAre meaning f opening b → a ≡ b
@@ -160,7 +203,7 @@ one_refusal meaning f opening a b one other = by (which meaning f opening a one)
     by (said_no line e says) (frames v g y w) = absurd ((alone meaning f opening line says).frames v opening.sizes.pages w)
     by (said_no line e says) (few v g y w) = absurd ((alone meaning f opening line says).few opening.sizes.subscribers v w)
     by (said_no line e says) (numbers v g y p q n) = absurd ((alone meaning f opening line says).numbers n.0)
-    by (said_no line e says) (said_no also g same) = e ∙ (ap Audit ((subst (KnowsCause meaning f opening) g other.1).1 line says) ∙ sym g)
+    by (said_no line e says) (said_no also g same) = e ∙ (ap Audit (one_no meaning f opening line also (subst (KnowsCause meaning f opening) g other.1) says same) ∙ sym g)
     by (many e x) (said_no also g says) = absurd (let none = (alone meaning f opening also says).files in omega (arith, none, x))
     by (frames u e x w) (said_no also g says) = absurd ((alone meaning f opening also says).frames u opening.sizes.pages w)
     by (few u e x w) (said_no also g says) = absurd ((alone meaning f opening also says).few opening.sizes.subscribers u w)

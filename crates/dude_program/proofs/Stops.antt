@@ -1,5 +1,6 @@
 -- How a command ends that stops before its image is opened.
-use Rattle.std.proofs.Common.{◌≡◌, ◌⊎◌, ℕ, Bool, true, false, IsTrue, List, [], length, map, refl, sym, ap, subst, inl, inr, Option, Some, None}
+use Rattle.std.proofs.Common.{◌≡◌, ◌⊎◌, Bool, true, false, IsTrue, List, [], length, map, refl, sym, ap, subst, inl, inr, Option, Some, None}
+use Rattle.std.specs.Bool.{MatchBool}
 use Rattle.std.proofs.Math.Seq.{drop-length}
 use Rattle.dude_base.specs.declared.sizes.Sizes.{Sizes}
 use Rattle.pmem_trait.specs.declared.call.Call.TheVariants.{Read}
@@ -7,31 +8,34 @@ use Rattle.pmem_trait.specs.Words.{IsSettled}
 use Rattle.pmem_trait.specs.Sights.{Sight, state_now, SomeCalls}
 use Rattle.pmem_trait.specs.Reads.{ContentHas, OnlyReads}
 use Rattle.pmem_trait.proofs.Laws.{every_moment_here}
-use Rattle.pmem_trait.proofs.Runs.{ran_here}
+use Rattle.pmem_trait.proofs.Runs.{ran_here, ran_on}
 use Rattle.pmem_trait.proofs.ReadRuns.{reads_here}
 use Rattle.tatp_model.specs.declared.done.Done.{Done}
-use Rattle.dude_io.specs.Files.{FilesSight, FilesStay}
+use Rattle.dude_io.specs.Files.{FilesSight}
 use Rattle.dude_io.specs.Sink.{SinkSight}
 use Rattle.image_format.specs.Causes.{FormatsSome}
 use Rattle.image_format.specs.FormatCalls.{format_calls}
-use Rattle.image_opening.specs.Answers.{StillRecovers}
+use Rattle.image_opening.specs.Answers.{OpensSome, StillRecovers}
+use Rattle.image_opening.proofs.OpeningMoments.{opened_some, opens_calls}
 use Rattle.image_opening.proofs.SettledReads.{content_kept}
 use Rattle.command_words.specs.Command.{Meaning, Meaning.FreshRun, Meaning.FormatImage, Meaning.RunFiles, Meaning.RecoverImage, Meaning.DumpTables, Meaning.DriveLoad, Meaning.AuditRun}
 use Rattle.command_edges.specs.Files.{HasFileFault, MissesFile}
 use Rattle.command_edges.specs.Files as read
+use Rattle.command_edges.specs.Reads.{ReadsInOrder}
+use Rattle.command_edges.proofs.Order.{IsNoReadFault, stopped_in_order, whole_none}
 use Rattle.dude_engine.specs.Opening.{Opening}
 use Rattle.command_edges.specs.declared.fault.Fault.{Fault}
 use Rattle.command_edges.specs.declared.fault.Fault.TheVariants.{Usage, File, Text, Small, TooFew, Unformatted, Damaged, NotDb, ManyFiles, Frames, FewSubscribers, Numbers, Device, Output, Memory, Audit}
-use Rattle.command_openings.specs.Opens.{OpensPartly, ShowsOpening}
+use Rattle.command_openings.specs.Opens.{FailsOpening, OpensPartly, ShowsOpening}
 use Rattle.command_openings.specs.Faults.{HasFormatFault, HasOpenFault}
 use Rattle.command_openings.specs.Openings.{IsOpeningOn, new_opening}
 use Rattle.command_openings.proofs.ImageOpened.{partly_opened}
 use Rattle.dude_program.specs.World.{world_of}
 use Rattle.dude_program.specs.Opening.{Starts, command_files, makes_image, only_reads}
 use Rattle.dude_program.specs.Headline.{Headline, MustOnlyRead, Printed}
-use Rattle.dude_program.specs.Causes.{FilesRefuse, HasCause, OpensOnceBy, RanUnlessDevice, RefusesContent, RefusesFormat, RefusesInOrder, StoppedAtFiles, StoppedByOpening, StoppedReading, Untouched, sizes_made}
+use Rattle.dude_program.specs.Causes.{FilesRefuse, HasCause, MakesSome, OpensOnceBy, RanUnlessDevice, RefusesContent, RefusesFormat, RefusesInOrder, StoppedAtFiles, StoppedByOpening, StoppedReading, Untouched, sizes_made}
 use Rattle.dude_program.specs.Ending.{Ends}
-use Rattle.dude_program.proofs.FilesRead.{FilesRead, all_read, good_none_bad, one_bad, read_bad, read_fits, read_missing}
+use Rattle.dude_program.proofs.FilesRead.{FilesRead, all_read, good_none_bad, one_bad, read_bad, read_before, read_fits, read_missing}
 use Rattle.dude_program.proofs.Contents.{fits_not_refused, makes_none, one_content_fault, one_format_fault, opens_not_refused}
 use Rattle.dude_program.proofs.Crashes.{crash_prefix, sync_none}
 use Rattle.dude_program.proofs.Endings.{must_not, sink_same}
@@ -54,6 +58,16 @@ made_or_none : (sizes : Sizes) (s t : Sight) → (t ≡ s) ⊎ FormatsSome sizes
 made_or_none sizes s t (inl same) = calls_none s t same (λ e. let no : ⊥ = cc in no)
 made_or_none sizes s t (inr made) = calls_well (format_calls sizes made.0, made.2) (λ e. let no : ⊥ = cc in no)
 
+-- the calls of an opening that failed
+opening_calls_failed : {s t : Sight} → FailsOpening s t → SomeCalls false s t
+opening_calls_failed (inl some) = opened_some some
+opening_calls_failed (inr told) = ran_on (opens_calls told.calls.opens) told.calls.tells
+
+-- an opening that wasn't begun
+unopened : (meaning : Meaning) (b : Bool) (s : Sight) → MatchBool b ((s ≡ s) ⊎ MakesSome meaning true s s) (OpensSome true s s)
+unopened meaning true s = inl refl
+unopened meaning false s = inl (reads_here s)
+
 -- the headline where nothing is done
 pub headline_none : (meaning : Meaning) {s t : Sight} {f g : FilesSight} {k : SinkSight} (fault : Fault) → ((opening : Opening) → Starts meaning s opening → OpensPartly (makes_image meaning) opening s t)
     → Printed meaning (world_of s f k) (world_of t g k) [] (Some fault) → (MustOnlyRead meaning s → (ok : Bool) × OnlyReads ok s t)
@@ -69,7 +83,7 @@ headline_none meaning {s} {t} fault prefix printed reads = record {
 -- ---- at the files
 
 -- on a medium at rest
-module _ (meaning : Meaning) {s : Sight} {f g : FilesSight} {k : SinkSight} (prefix : (opening : Opening) → Starts meaning s opening → OpensPartly (makes_image meaning) opening s s) (stays : FilesStay f g) where
+module _ (meaning : Meaning) {s : Sight} {f : FilesSight} {k : SinkSight} (prefix : (opening : Opening) → Starts meaning s opening → OpensPartly (makes_image meaning) opening s s) where
   -- reading stopped for this fault
   order_unread : (fault : Fault) → StoppedReading (Some fault) → StoppedAtFiles meaning (Some fault) → StoppedByOpening meaning (Some fault)
       → RefusesInOrder meaning (world_of s f k) (Some fault)
@@ -81,9 +95,9 @@ module _ (meaning : Meaning) {s : Sight} {f g : FilesSight} {k : SinkSight} (pre
     opening = λ opens visible opening starts why refuses. inr by_opening;
   }
 
-  pub ends_at_files : (fault : Fault) → HasFileFault (command_files meaning) f g fault → (IsTrue f.is_visible → MissesFile (command_files meaning) f → read.StoppedReading fault)
+  pub ends_at_files : {g : FilesSight} (fault : Fault) → ReadsInOrder (command_files meaning) (Some fault) f g → HasFileFault (command_files meaning) f g fault → (IsTrue f.is_visible → MissesFile (command_files meaning) f → read.StoppedReading fault)
       → Ends meaning (world_of s f k) (world_of s g k) [] (Some fault)
-  ends_at_files (File n) has missing = record {
+  ends_at_files (File n) read has missing = record {
     headline = λ has. headline_none meaning (File n) prefix refl (λ none. (true, reads_here s));
     causes = record {
       cause = has;
@@ -93,12 +107,12 @@ module _ (meaning : Meaning) {s : Sight} {f g : FilesSight} {k : SinkSight} (pre
       spared = λ bad. (refl, refl);
       nothing = λ opens visible opening starts why refuses. refl;
       ran = calls_none s s refl (λ e. let no : ⊥ = cc in no);
-      once = λ opens. inl refl;
-      files = stays;
+      once = λ opens. inl (refl, tt);
+      reads = read;
       sink = sink_same;
     };
   }
-  ends_at_files (Text n r c) has missing = record {
+  ends_at_files (Text n r c) read has missing = record {
     headline = λ has. headline_none meaning (Text n r c) prefix refl (λ none. (true, reads_here s));
     causes = record {
       cause = λ reads. has.0;
@@ -114,12 +128,12 @@ module _ (meaning : Meaning) {s : Sight} {f g : FilesSight} {k : SinkSight} (pre
       spared = λ bad. (refl, refl);
       nothing = λ opens visible opening starts why refuses. refl;
       ran = calls_none s s refl (λ e. let no : ⊥ = cc in no);
-      once = λ opens. inl refl;
-      files = stays;
+      once = λ opens. inl (refl, tt);
+      reads = read;
       sink = sink_same;
     };
   }
-  ends_at_files Memory has missing = record {
+  ends_at_files Memory read has missing = record {
     headline = λ has. headline_none meaning Memory prefix (inl (inl refl)) (λ none. (true, reads_here s));
     causes = record {
       cause = tt;
@@ -129,24 +143,24 @@ module _ (meaning : Meaning) {s : Sight} {f g : FilesSight} {k : SinkSight} (pre
       spared = λ bad. (refl, refl);
       nothing = λ opens visible opening starts why refuses. refl;
       ran = calls_none s s refl (λ e. let no : ⊥ = cc in no);
-      once = λ opens. inl refl;
-      files = stays;
+      once = λ opens. inl (refl, unopened meaning (makes_image meaning) s);
+      reads = read;
       sink = sink_same;
     };
   }
-  ends_at_files Usage has missing = absurd has
-  ends_at_files (Small a b) has missing = absurd has
-  ends_at_files (TooFew a b) has missing = absurd has
-  ends_at_files Unformatted has missing = absurd has
-  ends_at_files (Damaged a) has missing = absurd has
-  ends_at_files (NotDb a) has missing = absurd has
-  ends_at_files (ManyFiles a b) has missing = absurd has
-  ends_at_files (Frames a b) has missing = absurd has
-  ends_at_files (FewSubscribers a b) has missing = absurd has
-  ends_at_files (Numbers a b) has missing = absurd has
-  ends_at_files Device has missing = absurd has
-  ends_at_files Output has missing = absurd has
-  ends_at_files (Audit a) has missing = absurd has
+  ends_at_files Usage read has missing = absurd has
+  ends_at_files (Small a b) read has missing = absurd has
+  ends_at_files (TooFew a b) read has missing = absurd has
+  ends_at_files Unformatted read has missing = absurd has
+  ends_at_files (Damaged a) read has missing = absurd has
+  ends_at_files (NotDb a) read has missing = absurd has
+  ends_at_files (ManyFiles a b) read has missing = absurd has
+  ends_at_files (Frames a b) read has missing = absurd has
+  ends_at_files (FewSubscribers a b) read has missing = absurd has
+  ends_at_files (Numbers a b) read has missing = absurd has
+  ends_at_files Device read has missing = absurd has
+  ends_at_files Output read has missing = absurd has
+  ends_at_files (Audit a) read has missing = absurd has
 
 -- a medium that wasn't called
 prefix_new : (opening : Opening) (s : Sight) → OpensPartly true opening s s
@@ -169,9 +183,10 @@ prefix_at_rest (DriveLoad seed count files) s settled opening starts = prefix_ol
 prefix_at_rest (AuditRun printed files) s settled opening starts = prefix_old opening s settled starts
 
 -- there was no memory for the words
-pub ends_at_words : (meaning : Meaning) (s : Sight) (f : FilesSight) (k : SinkSight) → (IsTrue s.is_visible → IsSettled s.len (state_now s)) → FilesStay f f
+pub ends_at_words : (meaning : Meaning) (s : Sight) (f : FilesSight) (k : SinkSight) → (IsTrue s.is_visible → IsSettled s.len (state_now s))
     → Ends meaning (world_of s f k) (world_of s f k) [] (Some Memory)
-ends_at_words meaning s f k settled stays = ends_at_files meaning (prefix_at_rest meaning s settled) stays Memory tt (λ visible misses. tt)
+ends_at_words meaning s f k settled =
+    ends_at_files meaning (prefix_at_rest meaning s settled) Memory (stopped_in_order (command_files meaning) [] (command_files meaning) refl (whole_none f)) tt (λ visible misses. tt)
 
 -- ---- where an image is made
 
@@ -203,8 +218,8 @@ module _ {meaning : Meaning} {sizes : Sizes} {s t : Sight} {f g : FilesSight} (m
 
   -- the medium's length was refused
   ends_refused : {k : SinkSight} (why : Fault) → t ≡ s → (why_not : RefusesFormat meaning s.len why) → HasCause meaning (world_of s f k) (world_of t g k) (Some why) → Printed meaning (world_of s f k) (world_of t g k) [] (Some why)
-      → Untouched meaning (Some why) s t [] → OpensOnceBy meaning (Some why) [] s t → (◌≡◌ {A = Option Fault} (Some why) (Some Device) → ⊥) → Ends meaning (world_of s f k) (world_of t g k) [] (Some why)
-  ends_refused why same refuses cause printed untouched once other = record {
+      → Untouched meaning (Some why) s t [] → OpensOnceBy meaning (Some why) [] s t → (◌≡◌ {A = Option Fault} (Some why) (Some Device) → ⊥) → IsNoReadFault (Some why) → Ends meaning (world_of s f k) (world_of t g k) [] (Some why)
+  ends_refused why same refuses cause printed untouched once other unread = record {
     headline = λ has. headline_none meaning why prefix_each printed (λ must. absurd (must_not meaning s maker.writes (new_opening sizes) maker.starts must));
     causes = record {
       cause = cause;
@@ -215,16 +230,21 @@ module _ {meaning : Meaning} {sizes : Sizes} {s t : Sight} {f g : FilesSight} (m
       nothing = λ opens visible opening starts why refuses. refl;
       ran = calls_none s t same other;
       once = λ opens. once;
-      files = files.stays;
+      reads = read_before files (Some why) unread;
       sink = sink_same;
     };
   }
 
+  -- the image was made, or no call was made
+  made_some : (t ≡ s) ⊎ FormatsSome sizes true s t → (t ≡ s) ⊎ MakesSome meaning true s t
+  made_some (inl same) = inl same
+  made_some (inr made) = inr (sizes, maker.sized, made)
+
   pub ends_at_format : {k : SinkSight} (fault : Fault) → HasFormatFault sizes s t fault → Ends meaning (world_of s f k) (world_of t g k) [] (Some fault)
   ends_at_format (Small a b) has =
-      ends_refused (Small a b) has.0 (sizes, maker.sized, has.1, has.2, has.3) (sizes, maker.sized, has.1, has.2, has.3) refl (has.0, refl) (inl refl) (λ e. let no : ⊥ = cc in no)
+      ends_refused (Small a b) has.0 (sizes, maker.sized, has.1, has.2, has.3) (sizes, maker.sized, has.1, has.2, has.3) refl (has.0, refl) (inl (refl, tt)) (λ e. let no : ⊥ = cc in no) tt
   ends_at_format (TooFew a b) has =
-      ends_refused (TooFew a b) has.0 (sizes, maker.sized, has.1, has.2, has.3, has.4) (sizes, maker.sized, has.1, has.2, has.3, has.4) refl (has.0, refl) (inl refl) (λ e. let no : ⊥ = cc in no)
+      ends_refused (TooFew a b) has.0 (sizes, maker.sized, has.1, has.2, has.3, has.4) (sizes, maker.sized, has.1, has.2, has.3, has.4) refl (has.0, refl) (inl (refl, tt)) (λ e. let no : ⊥ = cc in no) tt
   ends_at_format Device has = record {
     headline = λ has. headline_none meaning Device prefix_each (inl refl) (λ must. absurd (must_not meaning s maker.writes (new_opening sizes) maker.starts must));
     causes = record {
@@ -235,8 +255,8 @@ module _ {meaning : Meaning} {sizes : Sizes} {s t : Sight} {f g : FilesSight} (m
       spared = λ bad. absurd (elim bad [ inl unread ↦ read_fits files unread | inr refuses ↦ fits_not_refused meaning sizes s.len refuses.0 maker.sized has.0 refuses.1 ]);
       nothing = λ opens visible opening starts why refuses. refl;
       ran = calls_failed (format_calls sizes has.2.0, has.2.2);
-      once = λ opens. inl refl;
-      files = files.stays;
+      once = λ opens. inl (refl, subst (λ (b : Bool). MatchBool b (MakesSome meaning false s t) (FailsOpening s t)) (sym maker.makes) (sizes, maker.sized, has.2));
+      reads = read_before files (Some Device) tt;
       sink = sink_same;
     };
   }
@@ -250,8 +270,8 @@ module _ {meaning : Meaning} {sizes : Sizes} {s t : Sight} {f g : FilesSight} (m
       spared = λ bad. absurd (elim bad [ inl unread ↦ read_fits files unread | inr refuses ↦ fits_not_refused meaning sizes s.len refuses.0 maker.sized has.0 refuses.1 ]);
       nothing = λ opens visible opening starts why refuses. refl;
       ran = made_or_none sizes s t has.1;
-      once = λ opens. inl refl;
-      files = files.stays;
+      once = λ opens. inl (refl, subst (λ (b : Bool). MatchBool b ((t ≡ s) ⊎ MakesSome meaning true s t) (OpensSome true s t)) (sym maker.makes) (made_some has.1));
+      reads = read_before files (Some Memory) tt;
       sink = sink_same;
     };
   }
@@ -295,8 +315,8 @@ module _ {meaning : Meaning} {s t : Sight} {f g : FilesSight} (opener : IsOpener
   -- its content was refused
   ends_unopened : {k : SinkSight} (why : Fault) → ContentHas (λ content. RefusesContent content why) s → OnlyReads true s t → HasCause meaning (world_of s f k) (world_of t g k) (Some why)
       → Printed meaning (world_of s f k) (world_of t g k) [] (Some why) → Untouched meaning (Some why) s t [] → OpensOnceBy meaning (Some why) [] s t → (◌≡◌ {A = Option Fault} (Some why) (Some Device) → ⊥)
-      → Ends meaning (world_of s f k) (world_of t g k) [] (Some why)
-  ends_unopened why refuses read cause printed untouched once other = record {
+      → IsNoReadFault (Some why) → Ends meaning (world_of s f k) (world_of t g k) [] (Some why)
+  ends_unopened why refuses read cause printed untouched once other unread = record {
     headline = λ has. headline_none meaning why prefix_opened printed reads;
     causes = record {
       cause = cause;
@@ -313,7 +333,7 @@ module _ {meaning : Meaning} {s t : Sight} {f g : FilesSight} (opener : IsOpener
       nothing = λ opens visible opening starts why refuses. refl;
       ran = reads_ran read other;
       once = λ opens. once;
-      files = files.stays;
+      reads = read_before files (Some why) unread;
       sink = sink_same;
     };
   }
@@ -328,9 +348,9 @@ module _ {meaning : Meaning} {s t : Sight} {f g : FilesSight} (opener : IsOpener
   }
 
   pub ends_at_open : {k : SinkSight} (fault : Fault) → HasOpenFault s t fault → Ends meaning (world_of s f k) (world_of t g k) [] (Some fault)
-  ends_at_open Unformatted has = ends_unopened Unformatted has.0 has.1 (opener.opens, has.0) refl (has.1, refl) (inl refl) (λ e. let no : ⊥ = cc in no)
-  ends_at_open (Damaged line) has = ends_unopened (Damaged line) has.0 has.1 (opener.opens, has.0) refl (has.1, refl) (inl refl) (λ e. let no : ⊥ = cc in no)
-  ends_at_open (NotDb word) has = ends_unopened (NotDb word) has.0 has.1 (opener.opens, has.0) refl (has.1, refl) (inl refl) (λ e. let no : ⊥ = cc in no)
+  ends_at_open Unformatted has = ends_unopened Unformatted has.0 has.1 (opener.opens, has.0) refl (has.1, refl) (inl (refl, tt)) (λ e. let no : ⊥ = cc in no) tt
+  ends_at_open (Damaged line) has = ends_unopened (Damaged line) has.0 has.1 (opener.opens, has.0) refl (has.1, refl) (inl (refl, tt)) (λ e. let no : ⊥ = cc in no) tt
+  ends_at_open (NotDb word) has = ends_unopened (NotDb word) has.0 has.1 (opener.opens, has.0) refl (has.1, refl) (inl (refl, tt)) (λ e. let no : ⊥ = cc in no) tt
   ends_at_open Device has = record {
     headline = λ has. headline_none meaning Device prefix_opened (inl refl) reads;
     causes = record {
@@ -340,9 +360,9 @@ module _ {meaning : Meaning} {s t : Sight} {f g : FilesSight} (opener : IsOpener
       untouched = tt;
       spared = spares;
       nothing = λ opens visible opening starts why refuses. refl;
-      ran = calls_failed has.1;
-      once = λ opens. inl refl;
-      files = files.stays;
+      ran = calls_failed (opening_calls_failed has.1);
+      once = λ opens. inl (refl, subst (λ (b : Bool). MatchBool b (MakesSome meaning false s t) (FailsOpening s t)) (sym opener.opens) has.1);
+      reads = read_before files (Some Device) tt;
       sink = sink_same;
     };
   }
@@ -355,9 +375,9 @@ module _ {meaning : Meaning} {s t : Sight} {f g : FilesSight} (opener : IsOpener
       untouched = tt;
       spared = spares;
       nothing = λ opens visible opening starts why refuses. refl;
-      ran = calls_well has (λ e. let no : ⊥ = cc in no);
-      once = λ opens. inl refl;
-      files = files.stays;
+      ran = calls_well (opened_some has) (λ e. let no : ⊥ = cc in no);
+      once = λ opens. inl (refl, subst (λ (b : Bool). MatchBool b ((t ≡ s) ⊎ MakesSome meaning true s t) (OpensSome true s t)) (sym opener.opens) has);
+      reads = read_before files (Some Memory) tt;
       sink = sink_same;
     };
   }

@@ -10,18 +10,23 @@ use Rattle.pmem_trait.specs.Reads.{ContentHas, OnlyReads}
 use Rattle.tatp_model.specs.declared.done.Done.{Done}
 use Rattle.tatp_model.specs.declared.request.Request.{Request}
 use Rattle.tatp_model.specs.Population.{population_calls}
-use Rattle.dude_io.specs.Files.{FilesSight, FilesStay}
+use Rattle.dude_io.specs.Files.{FilesSight}
 use Rattle.redo_record.specs.Recovery.{IsFormatted, IsDamaged}
+use Rattle.back_store.specs.Back.{idle}
 use Rattle.image_recovery.specs.Recovered.{IsNoDatabase, RecoversTo}
+use Rattle.image_format.specs.Causes.{FormatsSome}
+use Rattle.image_opening.specs.Answers.{OpensSome}
 use Rattle.command_words.specs.Command.{Meaning, Meaning.FreshRun, Meaning.FormatImage, Meaning.RunFiles, Meaning.RecoverImage, Meaning.DumpTables, Meaning.DriveLoad, Meaning.AuditRun}
 use Rattle.command_edges.specs.Files.{HasReadFault, IsFirstBad, IsGoodFile, MissesFile}
-use Rattle.command_openings.specs.Opens.{OpensByCalls}
+use Rattle.command_edges.specs.Reads.{ReadsInOrder}
+use Rattle.command_openings.specs.Opens.{FailsOpening, OpensByCalls}
 use Rattle.dude_engine.specs.Opening.{Opening, IsOpening}
 use Rattle.dude_engine.specs.Requests.{request_count}
 use Rattle.command_edges.specs.declared.fault.Fault.{Fault}
 use Rattle.command_edges.specs.declared.fault.Fault.TheVariants.{Usage, File, Text, Small, TooFew, Unformatted, Damaged, NotDb, ManyFiles, Frames, FewSubscribers, Numbers, Device, Output, Memory, Audit}
 use Rattle.command_edges.specs.CommandFile.{IsInLimit}
 use Rattle.dude_program.specs.Audit.{IsRefusedRun}
+use Rattle.dude_program.specs.LogOperations.{MakesOperations}
 use Rattle.dude_program.specs.Opening.{RequestsAre, Starts, command_files, ends_opened, fresh_sizes, judges_files, makes_image, only_reads}
 use Rattle.dude_program.specs.World.{World, IsSameWorld, SinkStays}
 
@@ -117,12 +122,11 @@ KnowsRequests DumpTables files = ⊤
 KnowsRequests (DriveLoad seed count number) files = ⊤
 KnowsRequests (AuditRun printed names) files = ⊤
 
--- What a refusal of the opened image rests on is known: for too few numbers the requests too; for an audit the files, and that
--- no other line is named; else the words and the image.
+-- What a refusal of the opened image rests on is known: for too few numbers the requests too; for an audit the files, which have
+-- one verdict at most; else the words and the image.
 abbrev pub KnowsCause : Meaning → FilesSight → Opening → Fault → Type 0
 KnowsCause meaning files opening (Numbers number count) = KnowsRequests meaning files
-KnowsCause meaning files opening (Audit line) =
-    IsTrue files.is_visible × ((other : ℕ) → RefusesAudit meaning files opening other → other ≡ line)
+KnowsCause meaning files opening (Audit line) = IsTrue files.is_visible
 KnowsCause meaning files opening _ = ⊤
 
 -- The opened image is refused for this, and what that rests on is known.
@@ -272,6 +276,12 @@ DoesNothingRefused meaning old done = makes_image meaning ≡ false → IsTrue o
 abbrev pub RanUnlessDevice : Option Fault → Sight → Sight → Type 0
 RanUnlessDevice fault s t = (ok : Bool) × SomeCalls ok s t × ((ok ≡ false) ↔ (fault ≡ Some Device))
 
+-- it ended well, or only its output failed
+abbrev pub EndedWell : Option Fault → Type 0
+EndedWell None = ⊤
+EndedWell (Some Output) = ⊤
+EndedWell _ = ⊥
+
 -- The calls of the command begin with exactly those that make its image, or open it and tell its number.
 pub record OpensOnce (meaning : Meaning) (fault : Option Fault) (s t : Sight) : Type 0 where
   -- the command starts from this opening
@@ -283,12 +293,27 @@ pub record OpensOnce (meaning : Meaning) (fault : Option Fault) (s t : Sight) : 
   pub calls : OpensByCalls (makes_image meaning) opening words s opened
   -- behind them come calls of the command's work; or none, where it ends with its opening
   pub behind : MatchBool (ends_opened meaning) (t ≡ opened) (RanUnlessDevice fault opened t)
+  -- and where it ended well these are operations of the opened log
+  pub operates : EndedWell fault → MakesOperations (idle opening.sizes opening.number) opened t
 
--- So it is of a command that ended well or whose output failed, and of one that did anything.
+-- exactly the calls that make the command's image were made; or, where ok is false, these up to one that failed
+abbrev pub MakesSome : Meaning → Bool → Sight → Sight → Type 0
+MakesSome meaning ok s t = (sizes : Sizes) × (sizes_made meaning ≡ Some sizes) × FormatsSome sizes ok s t
+
+-- The opening of the command's image ended early. At a failed call exactly the calls up to it were made, of those that make
+-- the image, or of those that open it and tell its number. Where there was no memory, none was made but reads, or exactly
+-- those that make the image or open it. At another fault its cause and what stays say it.
+abbrev pub StopsOpening : Meaning → Option Fault → Sight → Sight → Type 0
+StopsOpening meaning (Some Device) s t = MatchBool (makes_image meaning) (MakesSome meaning false s t) (FailsOpening s t)
+StopsOpening meaning (Some Memory) s t = MatchBool (makes_image meaning) ((t ≡ s) ⊎ MakesSome meaning true s t) (OpensSome true s t)
+StopsOpening meaning fault s t = ⊤
+
+-- So it is of a command that ended well or whose output failed. Each other one did so, or its opening ended early, and nothing
+-- is done.
 abbrev pub OpensOnceBy : Meaning → Option Fault → List Done → Sight → Sight → Type 0
 OpensOnceBy meaning None done s t = OpensOnce meaning None s t
 OpensOnceBy meaning (Some Output) done s t = OpensOnce meaning (Some Output) s t
-OpensOnceBy meaning fault done s t = (done ≡ []) ⊎ OpensOnce meaning fault s t
+OpensOnceBy meaning fault done s t = ((done ≡ []) × StopsOpening meaning fault s t) ⊎ OpensOnce meaning fault s t
 
 -- When a command that means something ends with which fault, and what stays.
 pub record Causes (meaning : Meaning) (old new : World) (done : List Done) (fault : Option Fault) : Type 0 where
@@ -306,10 +331,10 @@ pub record Causes (meaning : Meaning) (old new : World) (done : List Done) (faul
   pub nothing : DoesNothingRefused meaning old done
   -- no call on the medium failed but the last one, where the fault is `Device`
   pub ran : RanUnlessDevice fault old.medium new.medium
-  -- its calls begin with exactly those of one opening, unless it only reads
+  -- unless it only reads, its calls begin with exactly those of one opening, or they are these up to one that failed
   pub once : only_reads meaning ≡ false → OpensOnceBy meaning fault done old.medium new.medium
-  -- the files stay, and the count of their faults only rises
-  pub files : FilesStay old.files new.files
+  -- its files were read in order, each once, up to one that couldn't be read, and no other file
+  pub reads : ReadsInOrder (command_files meaning) fault old.files new.files
   pub sink : SinkStays old.sink new.sink
 
 -- Words that are refused: so it is answered, or that there was no memory; nothing was called and nothing is done.

@@ -5,6 +5,7 @@ use Rattle.dude_base.specs.declared.limits.TheConstants.{MAX_NUMBER}
 use Rattle.dude_base.specs.declared.sizes.Sizes.{Sizes}
 use Rattle.pmem_trait.specs.declared.medium.Medium.{Ghosts}
 use Rattle.pmem_trait.specs.Sights.{Sight, Risen, SomeCalls}
+use Rattle.back_store.specs.Back.{idle}
 use Rattle.back_store.specs.BackView.{medium_of}
 use Rattle.image_opening.specs.declared.opened.Opened.{Opened}
 use Rattle.image_opening.specs.Opened.{HoldsOpened}
@@ -30,6 +31,7 @@ use Rattle.command_words.specs.Command.{Meaning, Meaning.RunFiles}
 use Rattle.dude_program.specs.declared.load.Load.{Load}
 use Rattle.dude_program.specs.declared.worked.Worked.{Worked}
 use Rattle.dude_program.specs.Causes.{RanUnlessDevice, WantsFrames}
+use Rattle.dude_program.specs.LogOperations.{MakesOperations}
 use Rattle.dude_program.specs.Opening.{load_of}
 
 -- the fault that a run ended with, if any
@@ -63,6 +65,8 @@ pub record RanOver (Reaches : List Done → ℕ → Type 0) (opening : Opening) 
   pub moments : RecoversAlongRun Reaches opening words done s t
   -- with no fault all is done, the last number was told, and every image recovers to it
   pub whole : fault ≡ None → EndsWhole Reaches opening words requests done last s t
+  -- and the calls made are operations of the opened log
+  pub operates : fault ≡ None → MakesOperations (idle opening.sizes opening.number) s t
   -- at the end few of the numbers done are lost: at most 256, or 257 where the last call on the medium failed
   pub few_lost : (ok : Bool) × SomeCalls ok s t × LosesFew (most_lost_by ok) opening words done s t
   -- no call on the medium failed but the last one, where the fault is `Device`

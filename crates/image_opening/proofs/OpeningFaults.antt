@@ -7,7 +7,7 @@ use Rattle.image_recovery.specs.declared.open_fault.OpenFault.{OpenFault}
 use Rattle.image_recovery.specs.declared.open_fault.OpenFault.TheVariants.{Unformatted, Damaged, NotDb, Device, NoMemory}
 use Rattle.image_recovery.specs.Faults.{IsFaultOn, IsReadFault, ReadsMade}
 use Rattle.image_recovery.proofs.Reading.{refused_at_device, refused_without_memory}
-use Rattle.image_opening.specs.Answers.{StopsBy, StopsOnTheWay}
+use Rattle.image_opening.specs.Answers.{BehindRecovery, Opens, StopsBy}
 
 -- the same fault with another type of answer, behind some reads
 pub stops_again : {X Y : Type 0} (r : Result X OpenFault) (q : Result Y OpenFault) (fault : OpenFault) (s t u : Sight) → r ≡ Err fault → q ≡ Err fault → OnlyReads true s t → ReadsMade q t u → IfErr r (λ fault. StopsBy fault s u)
@@ -26,7 +26,7 @@ pub stops_at_read : {X : Type 0} (r : Result X OpenFault) {s t : Sight} → r �
 stops_at_read {X} r {s} {t} is reads = subst (λ (r : Result X OpenFault). IfErr r (λ fault. StopsBy fault s t)) (sym is) (inl reads)
 
 -- a call that opens the image failed
-pub stops_on_the_way : {X : Type 0} (r : Result X OpenFault) {s t : Sight} → r ≡ Err Device → StopsOnTheWay s t → IfErr r (λ fault. StopsBy fault s t)
+pub stops_on_the_way : {X : Type 0} (r : Result X OpenFault) {s t : Sight} → r ≡ Err Device → BehindRecovery (Opens false) s t → IfErr r (λ fault. StopsBy fault s t)
 stops_on_the_way {X} r {s} {t} is way = subst (λ (r : Result X OpenFault). IfErr r (λ fault. StopsBy fault s t)) (sym is) (inr way)
 
 -- a fault of reads alone says nothing of the image

@@ -20,7 +20,7 @@ use Rattle.image_recovery.specs.declared.open_fault.OpenFault.{OpenFault}
 use Rattle.image_recovery.specs.declared.open_fault.OpenFault.TheVariants.{Unformatted, Damaged, NotDb, Device, NoMemory}
 use Rattle.image_recovery.specs.Recovered.{IsRecovered, RecoversArray, RecoversTo}
 use Rattle.image_recovery.proofs.OneRecovery.{same_replay}
-use Rattle.image_opening.specs.Answers.{Opens, OpensAt, LeftBy, StopsBy, StillRecovers}
+use Rattle.image_opening.specs.Answers.{Opens, OpensAt, OpensSome, LeftBy, StopsBy, StillRecovers}
 use Rattle.image_opening.specs.Opened.{HasToldNoMore}
 use Rattle.image_opening.specs.OpeningCalls.{stale_lines, opening_calls}
 use Rattle.image_opening.specs.OpeningLaw.{StillRecoversArray, IsOpenedState}
@@ -95,6 +95,11 @@ module _ {ok : Bool} {sizes : Sizes} {number : ℕ} {words : List ℕ} {s t : Si
 pub opens_calls : {ok : Bool} {sizes : Sizes} {number : ℕ} {words : List ℕ} {s t : Sight} → Opens ok sizes number words s t → SomeCalls ok s t
 opens_calls {sizes = sizes} {number = number} {words = words} opens = (map Read opens.reads.words ++ opening_calls opens.version sizes number words opens.stale, made_then opens.reads.made opens.made)
 
+-- and so are those of an opening that stopped
+pub opened_some : {ok : Bool} {s t : Sight} → OpensSome ok s t → SomeCalls ok s t
+opened_some (inl reads) = (map Read reads.words, reads.made)
+opened_some (inr way) = opens_calls way.calls
+
 -- where no call failed, the medium rests at the image
 pub opens_rests : {sizes : Sizes} {number : ℕ} {words : List ℕ} {s t : Sight} → (IsTrue s.is_visible → IsSettled s.len (state_now s)) → number ≤ MAX_NUMBER
     → ContentHas (RecoversArray sizes number words) s → Opens true sizes number words s t → (before : ℕ) → HasToldNoMore before number s → IsTrue s.is_visible → IsIdleMedium before sizes number words (state_now t)
@@ -118,6 +123,7 @@ pub opened_at : {sizes : Sizes} {number : ℕ} {words : List ℕ} {s t : Sight} 
 opened_at {sizes} {number} {words} {s} {t} settled is recovered len opens =
     let rests = opens_rests settled is.small recovered opens in
     record {
+      found = is;
       recovered = recovered;
       len = len;
       calls = opens_calls opens;
@@ -160,16 +166,15 @@ module _ (s t : Sight) (settled : IsTrue s.is_visible → IsSettled s.len (state
   left_by Unformatted stops = stops
   left_by (Damaged line) stops = stops
   left_by (NotDb word) stops = stops
-  left_by Device (inl reads) = (map Read reads.words, reads.made)
-  left_by Device (inr way) = opens_calls way.opens
-  left_by NoMemory reads = (map Read reads.words, reads.made)
+  left_by Device stops = stops
+  left_by NoMemory reads = inl reads
 
   -- Device has a cause
   pub stops_cause : (fault : OpenFault) → StopsBy fault s t → fault ≡ Device → Risen s.faults t.faults
   stops_cause Unformatted stops is = absurd (cc)
   stops_cause (Damaged line) stops is = absurd (cc)
   stops_cause (NotDb word) stops is = absurd (cc)
-  stops_cause Device stops is = made_cause (left_by Device stops).1
+  stops_cause Device stops is = made_cause (opened_some stops).1
   stops_cause NoMemory stops is = absurd (cc)
 
   module _ (number : ℕ) (sizes : Sizes) (db : Database) (to : ContentHas (λ content. RecoversTo content number sizes db) s) where
@@ -181,5 +186,5 @@ module _ (s t : Sight) (settled : IsTrue s.is_visible → IsSettled s.len (state
     stopped_moments (Damaged line) reads = only_read reads
     stopped_moments (NotDb word) reads = only_read reads
     stopped_moments Device (inl reads) = only_read reads
-    stopped_moments Device (inr way) = opens_moments settled way.is.small way.recovered way.opens number sizes db to
+    stopped_moments Device (inr way) = opens_moments settled way.is.small way.recovered way.calls number sizes db to
     stopped_moments NoMemory reads = only_read reads

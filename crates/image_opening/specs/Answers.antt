@@ -7,7 +7,7 @@ use Rattle.pmem_trait.specs.Reads.{OnlyReads, ContentHas}
 use Rattle.redo_record.specs.Images.{version_of}
 use Rattle.tatp_model.specs.Database.{Database}
 use Rattle.image_recovery.specs.declared.open_fault.OpenFault.{OpenFault}
-use Rattle.image_recovery.specs.declared.open_fault.OpenFault.TheVariants.{Unformatted, Damaged, NotDb, Device, NoMemory}
+use Rattle.image_recovery.specs.declared.open_fault.OpenFault.TheVariants.{Device, NoMemory}
 use Rattle.back_store.specs.BackView.{sight_of}
 use Rattle.back_store.specs.Images.{IsIdleMedium}
 use Rattle.image_recovery.specs.declared.recovered.Recovered.{Recovered}
@@ -28,31 +28,30 @@ pub record Opens (ok : Bool) (sizes : Sizes) (number : ℕ) (words : List ℕ) (
   pub named : ContentHas (λ content. version ≡ version_of content) s
   pub made : CallsMade (opening_calls version sizes number words stale) ok read t
 
--- Where an image can't be opened, the medium was only read. Where a call failed, it was the last one. There may be no memory
--- before the first put or behind the last.
-abbrev pub LeftBy : OpenFault → Sight → Sight → Type 0
-LeftBy Unformatted s t = OnlyReads true s t
-LeftBy (Damaged line) s t = OnlyReads true s t
-LeftBy (NotDb word) s t = OnlyReads true s t
-LeftBy Device s t = SomeCalls false s t
-LeftBy NoMemory s t = SomeCalls true s t
-
--- The image was recovered, and opened up to a call that failed.
-pub record StopsOnTheWay (s t : Sight) : Type 0 where
+-- The image was recovered to these sizes, this number and these home words, and by then these calls were made.
+pub record BehindRecovery (Calls : Sizes → ℕ → List ℕ → Sight → Sight → Type 0) (s t : Sight) : Type 0 where
   pub sizes : Sizes
   pub number : ℕ
   pub words : List ℕ
   pub is : IsRecovered s.len sizes number words
   pub recovered : ContentHas (RecoversArray sizes number words) s
-  pub opens : Opens false sizes number words s t
+  pub calls : Calls sizes number words s t
 
--- Before the back is made: the medium was only read. Where a call failed, it was a read, or one of those that open the image.
+-- Reads alone; or reads, and then exactly the calls that open the image that was recovered. Where ok is false, these up to one
+-- that failed.
+abbrev pub OpensSome : Bool → Sight → Sight → Type 0
+OpensSome ok s t = OnlyReads ok s t ⊎ BehindRecovery (Opens ok) s t
+
+-- Before the back is made: the medium was only read; or a call failed, a read or one of those that open the image.
 abbrev pub StopsBy : OpenFault → Sight → Sight → Type 0
-StopsBy Unformatted s t = OnlyReads true s t
-StopsBy (Damaged line) s t = OnlyReads true s t
-StopsBy (NotDb word) s t = OnlyReads true s t
-StopsBy Device s t = OnlyReads false s t ⊎ StopsOnTheWay s t
-StopsBy NoMemory s t = OnlyReads true s t
+StopsBy Device s t = OpensSome false s t
+StopsBy _ s t = OnlyReads true s t
+
+-- Where an image can't be opened, the medium was only read. Where a call failed, exactly the calls up to it were made. There
+-- may be no memory before the first put or behind the last.
+abbrev pub LeftBy : OpenFault → Sight → Sight → Type 0
+LeftBy NoMemory s t = OpensSome true s t
+LeftBy fault s t = StopsBy fault s t
 
 -- Nothing more is told, and the image recovers to this number and this database.
 abbrev pub StillRecovers : List ℕ → ℕ → Sizes → Database → List ℕ → List ℕ → Type 0
@@ -73,6 +72,8 @@ OpensFound s t found = Opens true found.0 found.1.number found.1.words.items s t
 
 -- What an opening at this number makes of its medium and leaves of it.
 pub record OpensAt (sizes : Sizes) (number : ℕ) (words : List ℕ) (s t : Sight) : Type 0 where
+  -- they are ones to which an image of this length may recover
+  pub found : IsRecovered s.len sizes number words
   -- the content recovers to the number and these home words, where the medium is visible
   pub recovered : ContentHas (RecoversArray sizes number words) s
   -- the length stays
@@ -101,7 +102,7 @@ pub record IsNotOpened (fault : OpenFault) (s t : Sight) : Type 0 where
   pub cause : fault ≡ Device → Risen s.faults t.faults
   -- the length stays
   pub len : t.len ≡ s.len
-  -- where the image can't be opened, the medium was only read; where a call failed, it was the last one
+  -- where the image can't be opened, the medium was only read; where a call failed, exactly the calls up to it were made
   pub calls : LeftBy fault s t
   -- at each moment every image recovers to what the content at entry recovers to, and nothing more is told
   pub moments : StillRecoversAll s t

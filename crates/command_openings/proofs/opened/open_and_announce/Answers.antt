@@ -23,7 +23,7 @@ returns-in-Ok-clause-fault g c = if_err c.announce.result (λ r is.
     let failed = err_of _ is c.announce.ensures.failed in
     announced_fault c.in-Ok.opened _ _ _ c.in-Ok.ensures.opened c.in-Ok.ensures.opens.recovered c.in-Ok.ensures.opens.calls c.in-Ok.ensures.opens.holds c.in-Ok.ensures.opens.moments
     (λ opening before own held. match_err _ _ is (c.announce.ensures.moments opening before own held))
-    r.0 failed.fault (err_of _ is c.announce.ensures.cause) (match_err _ _ is c.announce.ensures.ran))
+    r.0 failed.fault c.in-Ok.ensures.opens.found c.in-Ok.ensures.opens.made (err_of _ is c.announce.ensures.cause) (match_err _ _ is c.announce.ensures.ran))
 
 pub returns-in-Ok-clause-only_read : goal.returns-in-Ok-clause-only_read
 returns-in-Ok-clause-only_read g c none = if_err c.announce.result (λ r is. absurd (

@@ -12,7 +12,7 @@ pub returns-in-Err-clause-ends : goal.returns-in-Err-clause-ends
 returns-in-Err-clause-ends g c =
     let meaning = AuditRun c.args.printed.now (map rc_str_bytes c.args.names.now) in
     rw (c.refused.ensures.medium, c.refused.ensures.done, c.refused.ensures.fault)
-    (ends_at_files meaning (prefix_at_rest meaning (g.M.Medium.sight c.args.medium) c.requires.settled) c.in-Err.ensures.reads.stays c.in-Err.fault c.in-Err.ensures.cause c.in-Err.ensures.missing)
+    (ends_at_files meaning (prefix_at_rest meaning (g.M.Medium.sight c.args.medium) c.requires.settled) c.in-Err.fault c.in-Err.ensures.reads c.in-Err.ensures.cause c.in-Err.ensures.missing)
 
 pub returns-in-Ok-Yes-clause-ends : goal.returns-in-Ok-Yes-clause-ends
 returns-in-Ok-Yes-clause-ends g c =
@@ -24,7 +24,7 @@ returns-in-Ok-Yes-clause-ends g c =
     let answer = rw c.in-Ok-Yes.field-0-is at c.in-Ok-Yes.ensures.answer in
     let found = found_by printed names f (requests_in run.files.items) answer.0 are.read run.printed are.text are.in_range answer.3 in
     rw (c.new-in-Ok-Yes.ensures.medium, c.new-in-Ok-Yes.ensures.done, c.new-in-Ok-Yes.ensures.fault, c.new.ensures.items)
-    (ends_yes printed names (g.K.Sink.sight c.args.out.now) answer.0 answer.1 answer.2 c.requires.settled c.in-Ok-Yes.ensures.reads (audit_files_read printed names run are c.in-Ok.ensures.reads.stays) found.0 found.1 c.print_yes.result c.print_yes.ensures)
+    (ends_yes printed names (g.K.Sink.sight c.args.out.now) answer.0 answer.1 answer.2 c.requires.settled c.in-Ok-Yes.ensures.reads (audit_files_read printed names run are c.in-Ok.ensures.reads) found.0 found.1 c.print_yes.result c.print_yes.ensures)
 
 pub returns-in-Ok-No-clause-ends : goal.returns-in-Ok-No-clause-ends
 returns-in-Ok-No-clause-ends g c =
@@ -35,7 +35,7 @@ returns-in-Ok-No-clause-ends g c =
     let are = c.in-Ok.ensures.read in
     let answer = rw c.in-Ok-No.field-0-is at c.in-Ok-No.ensures.answer in
     rw (c.refused-in-Ok-No.ensures.medium, c.refused-in-Ok-No.ensures.done, c.refused-in-Ok-No.ensures.fault)
-    (ends_no printed names (g.K.Sink.sight c.args.out.now) answer.0 answer.1 answer.2 c.requires.settled c.in-Ok-No.ensures.reads (audit_files_read printed names run are c.in-Ok.ensures.reads.stays) c.in-Ok-No.line
+    (ends_no printed names (g.K.Sink.sight c.args.out.now) answer.0 answer.1 answer.2 c.requires.settled c.in-Ok-No.ensures.reads (audit_files_read printed names run are c.in-Ok.ensures.reads) c.in-Ok-No.line
     (refused_by printed names f (requests_in run.files.items) answer.0 are.read c.in-Ok-No.line run.printed are.text answer.3))
 
 pub returns-clause-ends : goal.returns-clause-ends
@@ -45,5 +45,5 @@ returns-clause-ends g c =
     let run = c.in-Ok.run' in
     let why = c.in-Err-answer_on.ensures.reads in
     rw (c.refused-in-Err-answer_on.ensures.medium, c.refused-in-Err-answer_on.ensures.done, c.refused-in-Err-answer_on.ensures.fault)
-    (ends_at_open (audit_opens printed names (g.M.Medium.sight c.args.medium)) (audit_files_read printed names run c.in-Ok.ensures.read c.in-Ok.ensures.reads.stays)
+    (ends_at_open (audit_opens printed names (g.M.Medium.sight c.args.medium)) (audit_files_read printed names run c.in-Ok.ensures.read c.in-Ok.ensures.reads)
     (λ other starts. read_partly c.requires.settled why.1.1 other starts) (λ must. why.1) c.in-Err-answer_on.fault why.0)

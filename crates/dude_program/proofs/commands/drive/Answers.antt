@@ -1,6 +1,6 @@
 use Rattle.std.proofs.Common.{◌≡◌, ◌∙◌, refl, ap}
 use Rattle.back_store.specs.BackView.{medium_of}
-use Rattle.command_words.specs.Command.{Meaning.DriveLoad, Meaning.AuditRun}
+use Rattle.command_words.specs.Command.{Meaning.DriveLoad}
 use Rattle.tatp_model.specs.Files.{requests_in}
 use Rattle.dude_program.specs.Opening.{load_of}
 use Rattle.dude_program.proofs.FilesRead.{no_files}

@@ -22,7 +22,7 @@ pub returns-in-Err-clause-ends : goal.returns-in-Err-clause-ends
 returns-in-Err-clause-ends g c =
     rw (c.refused.ensures.medium, c.refused.ensures.done, c.refused.ensures.fault)
     (ends_at_files (FreshRun c.args.subscribers c.args.file.now) (prefix_at_rest (FreshRun c.args.subscribers c.args.file.now) (g.M.Medium.sight c.args.medium) c.requires.settled)
-    c.in-Err.ensures.reads.stays c.in-Err.fault c.in-Err.ensures.cause c.in-Err.ensures.missing)
+    c.in-Err.fault c.in-Err.ensures.reads c.in-Err.ensures.cause c.in-Err.ensures.missing)
 
 pub work-requires-clause-rings : goal.work-requires-clause-rings
 work-requires-clause-rings g c =
@@ -43,7 +43,7 @@ returns-in-Ok-make_and_open-clause-ends g c =
     let e = c.in-Ok-make_and_open.ensures in
     let maker = fresh_makes c.args.subscribers c.args.file.now c.in-Ok.sizes (g.M.Medium.sight c.args.medium) c.in-Ok.ensures.ok.0 in
     let read : AllZip (OfFile (g.F.Files.sight c.args.files.now)) (c.args.file.now ∷ []) (requests_in c.deref.result.now) = rw c.deref.ensures.value c.in-Ok-read_files.ensures.read in
-    let came = came_ran (fresh_files c.args.subscribers c.args.file.now (requests_in c.deref.result.now) read c.in-Ok-read_files.ensures.reads.stays) (opened_new maker e.fits e.is_open)
+    let came = came_ran (fresh_files c.args.subscribers c.args.file.now (requests_in c.deref.result.now) read c.in-Ok-read_files.ensures.reads) (opened_new maker e.fits e.is_open)
     (reachable (FreshRun c.args.subscribers c.args.file.now) (new_opening c.in-Ok.sizes)) refl read
     (λ opens. let no : ⊥ = cc in absurd no) c.work.result.fault (c.work.ensures _ e.opening) in
     rw (c.end_with_lines.ensures.medium, c.end_with_lines.ensures.done) (ends_printed _ _ _ came refl c.end_with_lines.ensures.printed)
@@ -52,5 +52,5 @@ pub returns-clause-ends : goal.returns-clause-ends
 returns-clause-ends g c =
     let maker = fresh_makes c.args.subscribers c.args.file.now c.in-Ok.sizes (g.M.Medium.sight c.args.medium) c.in-Ok.ensures.ok.0 in
     rw (c.refused-in-Err-make_and_open.ensures.medium, c.refused-in-Err-make_and_open.ensures.done, c.refused-in-Err-make_and_open.ensures.fault)
-    (ends_at_format maker (fresh_files c.args.subscribers c.args.file.now (requests_in c.in-Ok-read_files.lists.items) c.in-Ok-read_files.ensures.read c.in-Ok-read_files.ensures.reads.stays)
+    (ends_at_format maker (fresh_files c.args.subscribers c.args.file.now (requests_in c.in-Ok-read_files.lists.items) c.in-Ok-read_files.ensures.read c.in-Ok-read_files.ensures.reads)
     c.in-Err-make_and_open.ensures.prefix c.in-Err-make_and_open.fault c.in-Err-make_and_open.ensures.fault)

@@ -20,13 +20,13 @@ pub returns-in-Err-clause-ends : goal.returns-in-Err-clause-ends
 returns-in-Err-clause-ends g c locks =
     let meaning = RunFiles c.args.frames locks (map rc_str_bytes c.args.names.now) in
     rw (c.refused.ensures.medium, c.refused.ensures.done, c.refused.ensures.fault)
-    (ends_at_files meaning (prefix_at_rest meaning (g.M.Medium.sight c.args.medium) c.requires.settled) c.in-Err.ensures.reads.stays c.in-Err.fault c.in-Err.ensures.cause c.in-Err.ensures.missing)
+    (ends_at_files meaning (prefix_at_rest meaning (g.M.Medium.sight c.args.medium) c.requires.settled) c.in-Err.fault c.in-Err.ensures.reads c.in-Err.ensures.cause c.in-Err.ensures.missing)
 
 pub returns-in-Err-open_and_announce-clause-ends : goal.returns-in-Err-open_and_announce-clause-ends
 returns-in-Err-open_and_announce-clause-ends g c locks =
     rw (c.refused-in-Err-open_and_announce.ensures.medium, c.refused-in-Err-open_and_announce.ensures.done, c.refused-in-Err-open_and_announce.ensures.fault)
     (ends_at_open (run_opens c.args.frames locks (map rc_str_bytes c.args.names.now) _)
-    (run_files c.args.frames locks (map rc_str_bytes c.args.names.now) (requests_in c.in-Ok.lists.items) c.in-Ok.ensures.read c.in-Ok.ensures.reads.stays)
+    (run_files c.args.frames locks (map rc_str_bytes c.args.names.now) (requests_in c.in-Ok.lists.items) c.in-Ok.ensures.read c.in-Ok.ensures.reads)
     c.in-Err-open_and_announce.ensures.prefix (unless_opened (run_opens c.args.frames locks (map rc_str_bytes c.args.names.now) _) refl c.in-Err-open_and_announce.ensures.only_read) c.in-Err-open_and_announce.fault c.in-Err-open_and_announce.ensures.fault)
 
 pub returns-in-Ok-check_run-clause-ends : goal.returns-in-Ok-check_run-clause-ends
@@ -42,7 +42,7 @@ returns-in-Ok-check_run-clause-ends g c locks =
     let as_many : length lists ≡ length names = sym (length-map lists (λ (list : Vec Request Global). list.items)) ∙ AllZip-long (OfFile f) names (requests_in lists) read in
     let same : c.deref.result.now ≡ lists = c.deref.ensures.value ∙ sym c.deref-in-Ok-check_run.ensures.value in
     let checked = rw same at c.in-Ok-check_run.ensures in
-    let came = came_ran (run_files c.args.frames locks names (requests_in lists) read c.in-Ok.ensures.reads.stays) (opened_old (run_opens c.args.frames locks names _) refl is_open.0 is_open.1)
+    let came = came_ran (run_files c.args.frames locks names (requests_in lists) read c.in-Ok.ensures.reads) (opened_old (run_opens c.args.frames locks names _) refl is_open.0 is_open.1)
     (reachable (RunFiles c.args.frames locks names) opening) refl read
     (λ opens why refuses. run_passes c.args.frames locks names f (requests_in lists) read (length lists) as_many opening checked.rings (checked.frames locks names) checked.numbers why refuses)
     c.work.result.fault (c.work.ensures opening (is_opening_of o opened)) in
@@ -60,5 +60,5 @@ returns-clause-ends g c locks =
     let read : AllZip (OfFile f) names (requests_in lists) = rw c.deref.ensures.value c.in-Ok.ensures.read in
     let as_many : length lists ≡ length names = sym (length-map lists (λ (list : Vec Request Global). list.items)) ∙ AllZip-long (OfFile f) names (requests_in lists) read in
     let why = run_came c.args.frames locks names f (requests_in lists) read (length lists) as_many opening 0 (g.M.Medium.sight c.args.medium) (g.M.Medium.sight (medium_of o.back)) (left_opened _ _ _ _ is_open.1) c.in-Err-check_run.fault (c.in-Err-check_run.ensures.err locks names) in
-    let came = came_refused (run_files c.args.frames locks names (requests_in lists) read c.in-Ok.ensures.reads.stays) (opened_old (run_opens c.args.frames locks names _) refl is_open.0 is_open.1) 0 c.in-Err-check_run.fault why.1 why.0 in
+    let came = came_refused (run_files c.args.frames locks names (requests_in lists) read c.in-Ok.ensures.reads) (opened_old (run_opens c.args.frames locks names _) refl is_open.0 is_open.1) 0 c.in-Err-check_run.fault why.1 why.0 in
     rw (c.refused-in-Err-check_run.ensures.medium, c.refused-in-Err-check_run.ensures.done, c.refused-in-Err-check_run.ensures.fault, c.into_medium.ensures) (ends_faulted c.in-Err-check_run.fault came)

@@ -3,6 +3,7 @@ use Rattle.pmem_trait.specs.Sights.{Sight}
 use Rattle.back_store.specs.BackView.{sight_of}
 use Rattle.tatp_model.specs.Files.{requests_in}
 use Rattle.dude_program.proofs.Works.{device_end, ends_whole_at, lost_end, only_ends, ran_end, whole_end}
+use Rattle.dude_program.proofs.LogOperations.{run_makes}
 use Rattle.dude_program.proofs.worked.work.Goals as goal
 
 pub returns : goal.returns
@@ -21,6 +22,7 @@ returns g c opening own =
       syncs_told = syncs.told;
       moments = c.plain-ran.ensures.moments opening own;
       whole = λ none. ends_whole_at opening words (requests_in c.args.files.now) done c.plain-ran.result.last s t (ends.whole (whole_end end none) opening own);
+      operates = λ none. run_makes (ends.calls (whole_end end none)) c.requires.opened.idle own.sizes own.number;
       few_lost = lost_end end opening words done s t ends.ran (ends.few_lost opening own);
       ran = ran_end end _ _ ends.ran;
       cause = λ is. ends.cause (device_end end is);

@@ -1,7 +1,7 @@
-use Rattle.std.proofs.Common.{sym, ap, subst}
+use Rattle.std.proofs.Common.{sym, ap, subst, inr}
 use Rattle.image_recovery.specs.Faults.{IsFaultOn}
 use Rattle.image_opening.proofs.OpeningFaults.{no_device}
-use Rattle.image_opening.proofs.OpeningMoments.{array_recovers, opened_at, opened_same, opens_calls, opens_moments, left_by, stops_cause, stops_reading, stopped_moments}
+use Rattle.image_opening.proofs.OpeningMoments.{array_recovers, opened_at, opened_same, opens_moments, left_by, stops_cause, stops_reading, stopped_moments}
 use Rattle.image_opening.proofs.opening.open.Goals as goal
 
 pub returns-in-Ok-new-clause-opens : goal.returns-in-Ok-new-clause-opens
@@ -30,7 +30,14 @@ returns-in-Err-new-clause-refused g c =
       content = subst (IsFaultOn s) (sym c.from.ensures) (λ visible content holds. tt);
       cause = λ is. absurd (no_device c.from.result c.from.ensures is);
       len = found.len;
-      calls = rw c.from.ensures (opens_calls found.made);
+      calls = rw c.from.ensures (inr (record {
+        sizes = c.in-Ok.found.0;
+        number = c.in-Ok.found.1.number;
+        words = c.in-Ok.found.1.words.items;
+        is = found.lawful;
+        recovered = found.recovered;
+        calls = found.made;
+      }));
       moments = opens_moments c.requires.settled found.lawful.small found.recovered found.made;
       only_read = λ nothing. absurd (nothing c.in-Ok.found.1.number c.in-Ok.found.0 found.lawful.lawful.0 (array_recovers s found.recovered found.lawful.lawful));
     })

@@ -36,7 +36,7 @@ returns-in_err-settle_image-clause-stopped g c =
       words = c.in_ok-lay.recovered.words.items;
       is = c.in_ok-lay.ensures.lawful;
       recovered = c.in_ok-lay.ensures.recovered;
-      opens = opens_behind (c.of-place.ensures ∙ c.sizes.ensures.sizes) c.deref.ensures.value c.deref-2.ensures.value c.in_ok-lay.ensures.reads c.in_ok-stale.ensures.reads c.in_ok-version.ensures.one_call
+      calls = opens_behind (c.of-place.ensures ∙ c.sizes.ensures.sizes) c.deref.ensures.value c.deref-2.ensures.value c.in_ok-lay.ensures.reads c.in_ok-stale.ensures.reads c.in_ok-version.ensures.one_call
           (omega (arith, c.in_ok-lay.ensures.lawful.room)) c.in_ok-version.ensures.value c.in_ok-stale.ensures.lines c.in_err-settle_image.ensures.made;
     })
 
