@@ -12,3 +12,6 @@ pub mod Owning
 pub mod Parting
 pub mod Drawing
 pub mod BoxActs
+pub mod Starting
+pub mod KeptBacks
+pub mod Closing

@@ -6,4 +6,7 @@ pub mod Lists
 pub mod Pages
 pub mod Rule
 pub mod QuietSteps
+pub mod Opened
+pub mod KeptBack
+pub mod Closed
 pub mod Turns
