@@ -9,3 +9,4 @@ pub mod WholeCalls
 pub mod Start
 pub mod Openings
 pub mod Combined
+pub mod DurableCommit

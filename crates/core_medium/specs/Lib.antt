@@ -5,3 +5,4 @@ pub mod KeptStore
 pub mod Crash
 pub mod Images
 pub mod MachineLaws
+pub mod DurableCommit
