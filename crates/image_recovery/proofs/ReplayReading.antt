@@ -3,11 +3,12 @@ use Rattle.std.proofs.Common.{◌≡◌, inl, inr, ℕ, true, false, Result, Err
 use Rattle.pmem_trait.specs.Sights.{Sight, Risen}
 use Rattle.pmem_trait.specs.Reads.{ContentHas, OnlyReads}
 use Rattle.pmem_trait.proofs.Runs.{made_cause}
-use Rattle.pmem_trait.proofs.ReadRuns.{reads_then}
+use Rattle.pmem_trait.proofs.ReadRuns.{read_alone, reads_here, reads_then}
 use Rattle.redo_record.specs.Recovery.{IsFormatted, IsDamaged}
 use Rattle.log_ring.specs.declared.scan_fault.ScanFault.{ScanFault}
 use Rattle.log_ring.specs.declared.scan_fault.ScanFault.TheVariants as scan
 use Rattle.log_ring.specs.Scan as scanning
+use Rattle.log_ring.proofs.Replayable.{one_moment}
 use Rattle.image_recovery.specs.declared.open_fault.OpenFault.{OpenFault}
 use Rattle.image_recovery.specs.declared.open_fault.OpenFault.TheVariants.{Unformatted, Damaged, NotDb, Device, NoMemory}
 use Rattle.image_recovery.specs.Faults.{fault_of_scan, IsReadFault, IsReplayFaultOn, ReadsMade}
@@ -19,6 +20,9 @@ made_at_device r {s} {t} is reads = subst (λ (r : Result _ OpenFault). ReadsMad
 -- there is no memory
 pub made_without_memory : {X : Type 0} (r : Result X OpenFault) {s t : Sight} → r ≡ Err NoMemory → OnlyReads true s t → ReadsMade r s t
 made_without_memory r {s} {t} is reads = subst (λ (r : Result _ OpenFault). ReadsMade r s t) (sym is) reads
+
+-- reads one by one, and what they come to
+pub ruleset recovering = (reads_here, read_alone, reads_then, one_moment, made_at_device, made_without_memory)
 
 -- the same fault with another type of answer, after some reads
 pub made_again : {X Y : Type 0} (r : Result X OpenFault) (q : Result Y OpenFault) (fault : OpenFault) (s t u : Sight) → r ≡ Err fault → q ≡ Err fault → OnlyReads true s t → ReadsMade q t u → ReadsMade r s u

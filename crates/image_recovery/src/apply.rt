@@ -12,6 +12,7 @@ use pmem_trait::Medium;
 
 /// Overwrites an array of home words by the bundles whose numbers follow this one without a gap, in their order, and
 /// answers the last such number. Of the bundles, whose heads a scan found, one at a time is read.
+#[tactic(auto, using(log_ring::proofs::ScanReads::scanning))]
 pub fn apply_consecutive<M: Medium>(
     m: &mut M,
     place: &Place,

@@ -38,6 +38,7 @@ fn sizes_in(header: &[u64; MARK as usize], len: u64) -> Option<Sizes>
 }
 
 // The words before the mark.
+#[tactic(auto, using(log_ring::proofs::ScanReads::reading_on))]
 fn read_words<M: Medium>(m: &mut M, header: &mut [u64; MARK as usize]) -> Result<(), Failed>
     requires { MARK ≤ (M.sight m.old).len }
     ensures len { (M.sight m.new).len ≡ (M.sight m.old).len }
@@ -52,6 +53,7 @@ fn read_words<M: Medium>(m: &mut M, header: &mut [u64; MARK as usize]) -> Result
 }
 
 /// The sizes of the image on a medium, where it is formatted and whole.
+#[tactic(auto, using(log_ring::proofs::ScanReads::reading_on))]
 pub fn read_sizes<M: Medium>(m: &mut M) -> Result<Option<Sizes>, Failed>
     ensures len { (M.sight m.new).len ≡ (M.sight m.old).len }
     ensures reads { OnlyReads (is_ok result) (M.sight m.old) (M.sight m.new) }

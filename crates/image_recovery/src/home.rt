@@ -13,6 +13,7 @@ use pmem_trait::Medium;
 use std::alloc::Global;
 
 /// The home words of the image on a medium.
+#[tactic(auto, using(crate::proofs::ReplayReading::recovering))]
 pub fn read_home<M: Medium>(alloc: Global, m: &mut M, place: &Place) -> Result<Vec<u64>, OpenFault>
     requires { image_words place.now ≤ (M.sight m.old).len }
     ensures len { (M.sight m.new).len ≡ (M.sight m.old).len }

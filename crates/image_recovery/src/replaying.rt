@@ -23,6 +23,7 @@ use std::alloc::Global;
 /// The home is overwritten by the records of the numbers that follow the mark without a gap; records behind a gap are
 /// passed over. One record at a time is in memory. It is refused for the first reason that fits: it isn't formatted, the mark
 /// is too great, the log is damaged.
+#[tactic(auto, using(log_ring::proofs::Replayable::one_moment))]
 pub fn replay<M: Medium>(alloc: Global, m: &mut M) -> Result<ReplayedImage, OpenFault>
     ensures len { (M.sight m.new).len ≡ (M.sight m.old).len }
     ensures reads { ReadsMade result (M.sight m.old) (M.sight m.new) }

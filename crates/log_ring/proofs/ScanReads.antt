@@ -3,10 +3,11 @@ use Rattle.std.proofs.Common.{◌≡◌, ◌≢◌, Bool, true, false, Result, O
 use Rattle.pmem_trait.specs.Sights.{Sight, Risen}
 use Rattle.pmem_trait.specs.Reads.{OnlyReads}
 use Rattle.pmem_trait.proofs.Runs.{made_cause}
-use Rattle.pmem_trait.proofs.ReadRuns.{reads_here, reads_then}
+use Rattle.pmem_trait.proofs.ReadRuns.{read_alone, reads_here, reads_then}
 use Rattle.log_ring.specs.declared.scan_fault.ScanFault.{ScanFault}
 use Rattle.log_ring.specs.declared.scan_fault.ScanFault.TheVariants.{Damaged, Device, NoMemory}
 use Rattle.log_ring.specs.Scan.{ReadsMade}
+use Rattle.log_ring.proofs.Replayable.{one_moment}
 
 -- a read failed
 pub made_at_device : {X : Type 0} (r : Result X ScanFault) {s t : Sight} → r ≡ Err Device → OnlyReads false s t → ReadsMade r s t
@@ -50,3 +51,9 @@ made_behind (Ok found) s t u before made = reads_then before made
 made_behind (Err (Damaged line)) s t u before made = reads_then before made
 made_behind (Err NoMemory) s t u before made = reads_then before made
 made_behind (Err Device) s t u before made = reads_then before made
+
+-- reads one by one, and what they come to
+pub ruleset reading_on = (reads_here, read_alone, reads_then, one_moment, stopped)
+
+-- the same, where the answer is that of a scan
+pub ruleset scanning = (reads_here, read_alone, reads_then, one_moment, made_well, made_at_device)

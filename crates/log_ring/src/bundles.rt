@@ -45,6 +45,7 @@ pub fn scan<M: Medium>(
 }
 
 // Reads the bundles of these heads.
+#[tactic(auto, using(crate::proofs::ScanReads::scanning))]
 fn read_bundles<M: Medium>(
     alloc: Global,
     m: &mut M,

@@ -17,6 +17,7 @@ use redo_record::{RECORD_CELLS, SPAN_UNIT, cells_for, decode, start_after};
 const RECORD_WORDS: u64 = LINE * RECORD_CELLS;
 
 // The words of some cells, one after another.
+#[tactic(auto, using(crate::proofs::ScanReads::reading_on))]
 fn read_cells<M: Medium>(
     m: &mut M,
     place: &Place,
@@ -83,7 +84,7 @@ fn count_in(word: u64, version: u64) -> Option<u64>
 }
 
 /// The bundle whose head stands in this slot of a ring, where it is complete in an image of this version.
-#[tactic(auto, using(crate::proofs::Replayable::one_moment))]
+#[tactic(auto, using(crate::proofs::ScanReads::reading_on))]
 pub fn read_record<M: Medium>(
     m: &mut M,
     place: &Place,

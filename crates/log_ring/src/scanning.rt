@@ -43,6 +43,7 @@ pub fn heads<M: Medium>(
 }
 
 // Finds the heads of all rings, by this version.
+#[tactic(auto, using(crate::proofs::ScanReads::scanning))]
 fn scan_rings<M: Medium>(
     alloc: Global,
     m: &mut M,
@@ -67,6 +68,7 @@ fn scan_rings<M: Medium>(
 }
 
 // Takes in what one ring has.
+#[tactic(auto, using(crate::proofs::ScanReads::scanning))]
 fn scan_ring<M: Medium>(
     m: &mut M,
     place: &Place,
@@ -94,7 +96,7 @@ fn scan_ring<M: Medium>(
 }
 
 // The head in this cell, where it is one with a number over `above`.
-#[tactic(auto, using(crate::proofs::Replayable::one_moment))]
+#[tactic(auto, using(crate::proofs::ScanReads::scanning))]
 fn scan_cell<M: Medium>(
     m: &mut M,
     place: &Place,

@@ -1,8 +1,8 @@
-use Rattle.std.proofs.Common.{◌≡◌, ◌+◌, ◌++◌, [], ◌∷◌, true, Err, List, ℕ, get_or, map, take, refl, sym, ap, ◌∙◌, subst, arith, rules}
+use Rattle.std.proofs.Common.{◌≡◌, ◌+◌, ◌++◌, [], ◌∷◌, true, Err, List, ℕ, get_or, map, take, sym, ap, ◌∙◌, subst, arith, rules}
 use Rattle.std.proofs.lemmas.List.{get_or_default}
 use Rattle.dude_base.specs.Records.{RedoBundle, first_of}
 use Rattle.dude_base.specs.Writes.{overwritten}
-use Rattle.pmem_trait.proofs.ReadRuns.{reads_here, reads_then, content_before}
+use Rattle.pmem_trait.proofs.ReadRuns.{reads_then, content_before}
 use Rattle.redo_record.specs.Images.{IsComplete}
 use Rattle.redo_record.specs.Recovery.{AreConsecutive, overwritten_by_all}
 use Rattle.redo_record.proofs.WaitingRecords.{consecutive_push}
@@ -17,17 +17,6 @@ use Rattle.image_recovery.proofs.apply.apply_consecutive.Goals as goal
 abbrev no_head : Head
 no_head = record { last = 0; span = 0; ring = 0; slot = 0 }
 
-pub loop-head-init : goal.loop-head-init
-loop-head-init g c = record {
-  len = refl;
-  reads = reads_here _;
-  few = omega arith;
-  small = c.requires.in_limits;
-  size = refl;
-  lead = λ told content is. refl;
-  result = λ told content is. refl;
-}
-
 pub returns-in_err-bundle-clause-reads : goal.returns-in_err-bundle-clause-reads
 returns-in_err-bundle-clause-reads g c =
     made_again c.from_residual.result c.read_bundle.result c.in_err-bundle.field-0.0 _ (g.M.Medium.sight c.loop-head.m) _ (search rules) c.in_err-bundle.was c.loop-head.invariant.reads c.read_bundle.ensures.reads
@@ -38,9 +27,6 @@ returns-in_err-bundle-clause-damaged g c line is = λ told content holds are.
     let head : Head = get_or c.args.log.now c.loop-head.head-index no_head in
     content_before {P = λ l. ¬ IsComplete c.args.place.now l (cell_of head)} {ok = true} c.loop-head.invariant.reads (c.read_bundle.ensures.damaged line was) told content holds
     (heads_complete c.args.place.now c.args.mark content c.args.log.now are c.loop-head.head-index no_head c.loop-head-test.true)
-
-pub returns-then-first-number-clause-reads : goal.returns-then-first-number-clause-reads
-returns-then-first-number-clause-reads g c = reads_then c.loop-head.invariant.reads c.in_ok-bundle.ensures.reads
 
 pub returns-then-first-number-clause-applied : goal.returns-then-first-number-clause-applied
 returns-then-first-number-clause-applied g c = λ told content holds are.

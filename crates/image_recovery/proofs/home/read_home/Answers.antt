@@ -1,32 +1,10 @@
-use Rattle.std.proofs.Common.{◌≡◌, slice_index, refl, sym, ap, ◌∙◌, arith, rules}
+use Rattle.std.proofs.Common.{◌≡◌, slice_index, sym, ap, ◌∙◌, arith, rules}
 use Rattle.dude_base.specs.declared.sizes.Sizes.{Sizes}
-use Rattle.pmem_trait.proofs.ReadRuns.{reads_here, reads_then, read_alone, read_content}
+use Rattle.pmem_trait.proofs.ReadRuns.{reads_then, read_alone, read_content}
 use Rattle.log_ring.proofs.Replayable.{one_moment}
 use Rattle.image_recovery.proofs.Homes.{home_same, word_pushed}
-use Rattle.image_recovery.proofs.ReplayReading.{made_at_device, made_without_memory}
+use Rattle.image_recovery.proofs.ReplayReading.{made_at_device}
 use Rattle.image_recovery.proofs.home.read_home.Goals as goal
-
-pub returns-in_err-words-clause-reads : goal.returns-in_err-words-clause-reads
-returns-in_err-words-clause-reads g c = made_without_memory c.from_residual.result (search rules) (reads_here (g.M.Medium.sight c.args.m.now))
-
-pub loop-i-init : goal.loop-i-init
-loop-i-init g c = record {
-  len = refl;
-  reads = reads_here _;
-  few = omega arith;
-  size = c.in_ok-words.ensures.len;
-  capacity = omega (arith, c.in_ok-words.ensures.exact);
-  words = λ told content is i none. absurd (omega arith);
-}
-
-pub returns-in_err-read-clause-reads : goal.returns-in_err-read-clause-reads
-returns-in_err-read-clause-reads g c = made_at_device c.from_residual-in_err-read.result (search rules) (reads_then c.loop-i.invariant.reads (read_alone c.in_err-read.ensures.one_call))
-
-pub returns-in_err-read-clause-len : goal.returns-in_err-read-clause-len
-returns-in_err-read-clause-len g c = c.in_err-read.ensures.one_call.later.len ∙ c.loop-i.invariant.len
-
-pub returns-in_err-read-clause-few : goal.returns-in_err-read-clause-few
-returns-in_err-read-clause-few g c = let one = one_moment c.in_err-read.ensures.one_call in omega arith
 
 pub loop-i-preserved : goal.loop-i-preserved
 loop-i-preserved g c = record {
@@ -45,8 +23,5 @@ returns-clause-words g c = λ told content is.
     let sizes : c.sizes.result.pages ≡ c.args.place.now.pages = ap (λ (s : Sizes). s.pages) c.sizes.ensures.sizes in
     home_same c.args.place.now content c.loop-i.words.items (omega (arith, is.size)) (omega (arith, c.loop-i.words.ok, c.loop-i.invariant.size)) (λ i below. c.loop-i.invariant.words told content is i (omega arith))
 
-pub returns-clause-len : goal.returns-clause-len
-returns-clause-len g c = c.loop-i.invariant.len
-
-pub returns-clause-reads : goal.returns-clause-reads
-returns-clause-reads g c = c.loop-i.invariant.reads
+pub returns-in_err-read-clause-reads : goal.returns-in_err-read-clause-reads
+returns-in_err-read-clause-reads g c = made_at_device c.from_residual-in_err-read.result (search rules) (reads_then c.loop-i.invariant.reads (read_alone c.in_err-read.ensures.one_call))

@@ -9,53 +9,16 @@ use Rattle.redo_record.specs.Recovery.{Recovers}
 use Rattle.log_ring.specs.declared.head.Head.{Head}
 use Rattle.log_ring.specs.Heads.{bundle_of_head}
 use Rattle.log_ring.specs.Scan.{AreHeads}
-use Rattle.log_ring.proofs.Replayable.{one_moment}
 use Rattle.image_recovery.specs.Replays.{AreApplied, HasSizes}
 use Rattle.image_recovery.proofs.ReplayReading.{made_at_device, made_again, made_by_scan, read_cause, replay_by_scan, replay_unread}
 use Rattle.image_recovery.proofs.ReplayedContent.{at_content, recovered}
 use Rattle.image_recovery.proofs.replaying.replay.Goals as goal
 
-pub returns-in_err-mark-clause-len : goal.returns-in_err-mark-clause-len
-returns-in_err-mark-clause-len g c = c.in_err-mark.ensures.one_call.later.len ∙ c.in_ok-sizes.ensures.len
-
-pub returns-in_err-mark-clause-few : goal.returns-in_err-mark-clause-few
-returns-in_err-mark-clause-few g c = let one = one_moment c.in_err-mark.ensures.one_call in omega arith
-
-pub returns-then-mark-gt-MAX_NUMBER-clause-len : goal.returns-then-mark-gt-MAX_NUMBER-clause-len
-returns-then-mark-gt-MAX_NUMBER-clause-len g c = c.in_ok-mark.ensures.one_call.later.len ∙ c.in_ok-sizes.ensures.len
-
-pub returns-then-mark-gt-MAX_NUMBER-clause-few : goal.returns-then-mark-gt-MAX_NUMBER-clause-few
-returns-then-mark-gt-MAX_NUMBER-clause-few g c = let one = one_moment c.in_ok-mark.ensures.one_call in omega arith
-
-pub returns-in_err-log-clause-len : goal.returns-in_err-log-clause-len
-returns-in_err-log-clause-len g c = c.heads.ensures.len ∙ (c.in_ok-mark.ensures.one_call.later.len ∙ c.in_ok-sizes.ensures.len)
-
-pub returns-in_err-log-clause-few : goal.returns-in_err-log-clause-few
-returns-in_err-log-clause-few g c = let one = one_moment c.in_ok-mark.ensures.one_call in omega arith
-
-pub returns-in_err-words-clause-len : goal.returns-in_err-words-clause-len
-returns-in_err-words-clause-len g c = c.read_home.ensures.len ∙ (c.in_ok-log.ensures.len ∙ (c.in_ok-mark.ensures.one_call.later.len ∙ c.in_ok-sizes.ensures.len))
-
-pub returns-in_err-words-clause-few : goal.returns-in_err-words-clause-few
-returns-in_err-words-clause-few g c = let one = one_moment c.in_ok-mark.ensures.one_call in omega arith
-
-pub returns-in_err-number-clause-len : goal.returns-in_err-number-clause-len
-returns-in_err-number-clause-len g c = c.apply_consecutive.ensures.len ∙ (c.in_ok-words.ensures.len ∙ (c.in_ok-log.ensures.len ∙ (c.in_ok-mark.ensures.one_call.later.len ∙ c.in_ok-sizes.ensures.len)))
-
-pub returns-clause-len : goal.returns-clause-len
-returns-clause-len g c = c.in_ok-number.ensures.len ∙ (c.in_ok-words.ensures.len ∙ (c.in_ok-log.ensures.len ∙ (c.in_ok-mark.ensures.one_call.later.len ∙ c.in_ok-sizes.ensures.len)))
-
 pub returns-in_err-sizes-clause-cause : goal.returns-in_err-sizes-clause-cause
 returns-in_err-sizes-clause-cause g c = λ is. made_cause c.in_err-sizes.ensures.reads.made
 
-pub returns-in_err-mark-clause-reads : goal.returns-in_err-mark-clause-reads
-returns-in_err-mark-clause-reads g c = made_at_device c.from_residual-in_err-mark.result (search rules) (reads_then c.in_ok-sizes.ensures.reads (read_alone c.in_err-mark.ensures.one_call))
-
 pub returns-in_err-mark-clause-cause : goal.returns-in_err-mark-clause-cause
 returns-in_err-mark-clause-cause g c = λ is. made_cause (reads_then c.in_ok-sizes.ensures.reads (read_alone {ok = false} c.in_err-mark.ensures.one_call)).made
-
-pub returns-then-mark-gt-MAX_NUMBER-clause-reads : goal.returns-then-mark-gt-MAX_NUMBER-clause-reads
-returns-then-mark-gt-MAX_NUMBER-clause-reads g c = reads_then c.in_ok-sizes.ensures.reads (read_alone c.in_ok-mark.ensures.one_call)
 
 pub returns-then-mark-gt-MAX_NUMBER-clause-refused : goal.returns-then-mark-gt-MAX_NUMBER-clause-refused
 returns-then-mark-gt-MAX_NUMBER-clause-refused g c = λ told content holds.
@@ -120,10 +83,6 @@ returns-in_err-number-clause-refused g c = replay_by_scan c.from_residual-in_err
     absurd (content_before {P = λ l. AreHeads c.of-place.result c.in_ok-mark.mark l c.deref.result.now → ⊥} (reads_then (reads_then before c.in_ok-log.ensures.reads) c.in_ok-words.ensures.reads)
     (c.apply_consecutive.ensures.damaged line is) told content holds log))
 
-pub returns-clause-reads : goal.returns-clause-reads
-returns-clause-reads g c =
-    reads_then (reads_then (reads_then (reads_then c.in_ok-sizes.ensures.reads (read_alone c.in_ok-mark.ensures.one_call)) c.in_ok-log.ensures.reads) c.in_ok-words.ensures.reads) c.in_ok-number.ensures.reads
-
 pub returns-clause-replayed : goal.returns-clause-replayed
 returns-clause-replayed g c = λ told content holds.
     let has = subst (λ found. HasSizes found content) c.in-Some.is (c.in_ok-sizes.ensures.sizes told content holds) in
@@ -144,3 +103,13 @@ returns-clause-replayed g c = λ told content holds.
           has.0 (omega arith) (c.deref_mut.ensures.value ∙ home) (λ over rising. applied));
       same_sizes = has.1;
     }
+
+pub returns-in_err-mark-clause-reads : goal.returns-in_err-mark-clause-reads
+returns-in_err-mark-clause-reads g c = made_at_device c.from_residual-in_err-mark.result (search rules) (reads_then c.in_ok-sizes.ensures.reads (read_alone c.in_err-mark.ensures.one_call))
+
+pub returns-then-mark-gt-MAX_NUMBER-clause-reads : goal.returns-then-mark-gt-MAX_NUMBER-clause-reads
+returns-then-mark-gt-MAX_NUMBER-clause-reads g c = reads_then c.in_ok-sizes.ensures.reads (read_alone c.in_ok-mark.ensures.one_call)
+
+pub returns-clause-reads : goal.returns-clause-reads
+returns-clause-reads g c =
+    reads_then (reads_then (reads_then (reads_then c.in_ok-sizes.ensures.reads (read_alone c.in_ok-mark.ensures.one_call)) c.in_ok-log.ensures.reads) c.in_ok-words.ensures.reads) c.in_ok-number.ensures.reads

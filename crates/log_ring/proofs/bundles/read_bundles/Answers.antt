@@ -8,14 +8,11 @@ use Rattle.log_ring.specs.declared.head.Head.{Head}
 use Rattle.log_ring.specs.declared.scan_fault.ScanFault.TheVariants.{Damaged}
 use Rattle.log_ring.specs.Heads.{bundle_of_head, cell_of}
 use Rattle.log_ring.specs.Scan.{IsReplayable}
-use Rattle.log_ring.proofs.ScanReads.{made_well, made_again}
+use Rattle.log_ring.proofs.ScanReads.{made_again}
 use Rattle.log_ring.proofs.bundles.read_bundles.Goals as goal
 
 abbrev no_head : Head
 no_head = record { last = 0; span = 0; ring = 0; slot = 0 }
-
-pub returns-in_err-bundles-clause-reads : goal.returns-in_err-bundles-clause-reads
-returns-in_err-bundles-clause-reads g c = made_well c.from_residual.result (search rules) (reads_here _)
 
 pub loop-head-init : goal.loop-head-init
 loop-head-init g c = record {
@@ -30,20 +27,6 @@ loop-head-init g c = record {
 
 pub read_bundle-requires-clause-room : goal.read_bundle-requires-clause-room
 read_bundle-requires-clause-room g c = omega (arith, c.loop-head.invariant.len, c.requires.room)
-
-pub returns-in_err-read_bundle-clause-len : goal.returns-in_err-read_bundle-clause-len
-returns-in_err-read_bundle-clause-len g c = c.read_bundle.ensures.len ∙ c.loop-head.invariant.len
-
-pub returns-in_err-read_bundle-clause-reads : goal.returns-in_err-read_bundle-clause-reads
-returns-in_err-read_bundle-clause-reads g c =
-    made_again c.from_residual-in_err-read_bundle.result c.read_bundle.result c.in_err-read_bundle.field-0.0 _ (g.M.Medium.sight c.loop-head.m) _ (search rules) c.in_err-read_bundle.was c.loop-head.invariant.reads c.read_bundle.ensures.reads
-
-pub returns-in_err-read_bundle-clause-few : goal.returns-in_err-read_bundle-clause-few
-returns-in_err-read_bundle-clause-few g c =
-    let before = c.loop-head.invariant.few in
-    let more = c.read_bundle.ensures.few in
-    let below = c.loop-head-test.true in
-    omega arith
 
 pub returns-in_err-read_bundle-clause-damaged : goal.returns-in_err-read_bundle-clause-damaged
 returns-in_err-read_bundle-clause-damaged g c line is = λ told content holds complete.
@@ -77,18 +60,10 @@ loop-head-preserved g c =
           ∙ sym {A = List RedoBundle} (map_push (bundle_of_head c.args.place.now content) (take i found) head) ∙ ap (map (bundle_of_head c.args.place.now content)) (sym next);
     }
 
-pub returns-clause-len : goal.returns-clause-len
-returns-clause-len g c = c.loop-head.invariant.len
-
-pub returns-clause-reads : goal.returns-clause-reads
-returns-clause-reads g c = c.loop-head.invariant.reads
-
-pub returns-clause-few : goal.returns-clause-few
-returns-clause-few g c = let before = c.loop-head.invariant.few in let past = c.loop-head-test.false in omega arith
-
-pub returns-clause-replayable : goal.returns-clause-replayable
-returns-clause-replayable g c = c.loop-head.invariant.replayable
-
 pub returns-clause-bundles : goal.returns-clause-bundles
 returns-clause-bundles g c = λ told content is.
     c.loop-head.invariant.bundles told content is ∙ ap (map (bundle_of_head c.args.place.now content)) (take_all c.loop-head.head-index c.args.found.now (omega arith))
+
+pub returns-in_err-read_bundle-clause-reads : goal.returns-in_err-read_bundle-clause-reads
+returns-in_err-read_bundle-clause-reads g c =
+    made_again c.from_residual-in_err-read_bundle.result c.read_bundle.result c.in_err-read_bundle.field-0.0 _ (g.M.Medium.sight c.loop-head.m) _ (search rules) c.in_err-read_bundle.was c.loop-head.invariant.reads c.read_bundle.ensures.reads

@@ -1,30 +1,10 @@
-use Rattle.std.proofs.Common.{◌≡◌, ℕ, ◌+◌, ◌*◌, ◌%◌, ◌<◌, ◌≤◌, true, false, is_ok, slice_index, Option, IfNone, subst, ap, sym, ◌∙◌, arith, rules}
-use Rattle.pmem_trait.proofs.ReadRuns.{reads_here, reads_then, read_alone, read_content, content_before}
+use Rattle.std.proofs.Common.{◌≡◌, ℕ, ◌+◌, ◌*◌, ◌%◌, ◌<◌, ◌≤◌, true, slice_index, Option, IfNone, subst, ap, sym, ◌∙◌, arith}
+use Rattle.pmem_trait.proofs.ReadRuns.{reads_here, read_alone, read_content, content_before}
 use Rattle.redo_record.specs.Images.{word_in_image}
 use Rattle.dude_base.specs.Image.{cell_at}
 use Rattle.log_ring.proofs.RecordReads.{word_of_head, record_is}
-use Rattle.log_ring.proofs.ScanReads.{stopped}
 use Rattle.log_ring.proofs.Replayable.{home_replayable}
 use Rattle.log_ring.proofs.reads.read_record.Goals as goal
-
-pub returns-in_err-word-clause-reads : goal.returns-in_err-word-clause-reads
-returns-in_err-word-clause-reads g c =
-    let failed : is_ok c.from_residual.result ≡ false = search rules in
-    stopped failed (read_alone {ok = false} c.in_err-word.ensures.one_call)
-
-pub returns-in_default-clause-reads : goal.returns-in_default-clause-reads
-returns-in_default-clause-reads g c = read_alone {ok = true} c.in_ok-word.ensures.one_call
-
-pub returns-then-cells-sizes-clause-reads : goal.returns-then-cells-sizes-clause-reads
-returns-then-cells-sizes-clause-reads g c = read_alone {ok = true} c.in_ok-word.ensures.one_call
-
-pub returns-in_err-read_cells-clause-reads : goal.returns-in_err-read_cells-clause-reads
-returns-in_err-read_cells-clause-reads g c =
-    let failed : is_ok c.from_residual-in_err-read_cells.result ≡ false = search rules in
-    stopped failed (reads_then {ok = false} (read_alone {ok = true} c.in_ok-word.ensures.one_call) c.in_err-read_cells.ensures.reads)
-
-pub returns-clause-reads : goal.returns-clause-reads
-returns-clause-reads g c = reads_then {ok = true} (read_alone {ok = true} c.in_ok-word.ensures.one_call) c.in_ok-read_cells.ensures.reads
 
 pub returns-clause-replayable : goal.returns-clause-replayable
 returns-clause-replayable g c = home_replayable c.args.place.now _ c.home_record.result c.home_record.ensures
@@ -57,18 +37,3 @@ returns-clause-record g c = λ told content is.
     let few = c.in-Some.ensures.some.1 in
     record_is c.args.place.now content c.read_cells.new.words (cell_at c.args.ring c.args.head) c.in-Some.count c.cells_for-cells.result (omega arith) (omega arith) (omega arith) c.read_cells.array_long
     c.args.version (λ one. let most = c.in-Some.ensures.some.2 one in omega arith) (ap (λ (x : ℕ). x % 256) word ∙ sym counted) words c.home_record.result c.home_record.ensures
-
-pub returns-in_err-word-clause-len : goal.returns-in_err-word-clause-len
-returns-in_err-word-clause-len g c = c.in_err-word.ensures.one_call.later.len
-
-pub returns-in_default-clause-len : goal.returns-in_default-clause-len
-returns-in_default-clause-len g c = c.in_ok-word.ensures.one_call.later.len
-
-pub returns-then-cells-sizes-clause-len : goal.returns-then-cells-sizes-clause-len
-returns-then-cells-sizes-clause-len g c = c.in_ok-word.ensures.one_call.later.len
-
-pub returns-in_err-read_cells-clause-len : goal.returns-in_err-read_cells-clause-len
-returns-in_err-read_cells-clause-len g c = c.read_cells.ensures.len ∙ c.in_ok-word.ensures.one_call.later.len
-
-pub returns-clause-len : goal.returns-clause-len
-returns-clause-len g c = c.in_ok-read_cells.ensures.len ∙ c.in_ok-word.ensures.one_call.later.len

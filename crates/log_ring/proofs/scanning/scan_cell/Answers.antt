@@ -1,31 +1,12 @@
-use Rattle.std.proofs.Common.{◌∙◌, false, ℕ, true, Some, arith, rules, subst}
-use Rattle.pmem_trait.proofs.ReadRuns.{reads_here, reads_then, read_alone, read_content, content_before}
+use Rattle.std.proofs.Common.{ℕ, true, Some, arith, rules, subst}
+use Rattle.pmem_trait.proofs.ReadRuns.{reads_here, read_alone, read_content, content_before}
 use Rattle.dude_base.specs.Image.{cell_at}
 use Rattle.redo_record.specs.Record.{FitsVersion}
 use Rattle.redo_record.specs.Images.{word_in_image}
 use Rattle.log_ring.specs.Scanning.{IsRecordAt}
 use Rattle.log_ring.proofs.RecordReads.{named_torn, new_head, no_head, sound_head, unsound_head, head_of_record}
-use Rattle.log_ring.proofs.ScanReads.{made_at_device}
 use Rattle.log_ring.proofs.scanning.scan_cell.Goals.{then-tag-ne1-via-then-tag-ne1, then-tag-ne1-via-else-tag-ne1+then-tag-above}
 use Rattle.log_ring.proofs.scanning.scan_cell.Goals as goal
-
-pub returns-in_err-tag-clause-reads : goal.returns-in_err-tag-clause-reads
-returns-in_err-tag-clause-reads g c = made_at_device c.from_residual.result (search rules) (read_alone {ok = false} c.in_err-tag.ensures.one_call)
-
-pub returns-then-tag-ne1-clause-reads : goal.returns-then-tag-ne1-clause-reads
-returns-then-tag-ne1-clause-reads g c = read_alone {ok = true} c.in_ok-tag.ensures.one_call
-
-pub returns-in_err-bundle-clause-reads : goal.returns-in_err-bundle-clause-reads
-returns-in_err-bundle-clause-reads g c = made_at_device c.from_residual-in_err-bundle.result (search rules) (reads_then {ok = false} (read_alone {ok = true} c.in_ok-tag.ensures.one_call) c.in_err-bundle.ensures.reads)
-
-pub returns-in_default-clause-reads : goal.returns-in_default-clause-reads
-returns-in_default-clause-reads g c = reads_then {ok = true} (read_alone {ok = true} c.in_ok-tag.ensures.one_call) c.in_ok-bundle.ensures.reads
-
-pub returns-then-first-above-clause-reads : goal.returns-then-first-above-clause-reads
-returns-then-first-above-clause-reads g c = reads_then {ok = true} (read_alone {ok = true} c.in_ok-tag.ensures.one_call) c.in_ok-bundle.ensures.reads
-
-pub returns-clause-reads : goal.returns-clause-reads
-returns-clause-reads g c = reads_then {ok = true} (read_alone {ok = true} c.in_ok-tag.ensures.one_call) c.in_ok-bundle.ensures.reads
 
 pub returns-then-tag-ne1-clause-seen : goal.returns-then-tag-ne1-clause-seen
 returns-then-tag-ne1-clause-seen g c = λ told content holds version.
@@ -57,21 +38,3 @@ returns-clause-seen g c = λ told content holds version.
       sound_head c.args.place.now c.args.version c.args.above content (cell_at c.args.ring c.args.cell) c.in-Some.bundle is version (omega arith),
       head_of_record c.args.place.now c.args.version c.args.above content (cell_at c.args.ring c.args.cell) c.in-Some.bundle is _ _ (omega arith) (omega arith),
     )
-
-pub returns-in_err-tag-clause-len : goal.returns-in_err-tag-clause-len
-returns-in_err-tag-clause-len g c = c.in_err-tag.ensures.one_call.later.len
-
-pub returns-then-tag-ne1-clause-len : goal.returns-then-tag-ne1-clause-len
-returns-then-tag-ne1-clause-len g c = c.in_ok-tag.ensures.one_call.later.len
-
-pub returns-in_err-bundle-clause-len : goal.returns-in_err-bundle-clause-len
-returns-in_err-bundle-clause-len g c = c.read_record.ensures.len ∙ c.in_ok-tag.ensures.one_call.later.len
-
-pub returns-in_default-clause-len : goal.returns-in_default-clause-len
-returns-in_default-clause-len g c = c.in_ok-bundle.ensures.len ∙ c.in_ok-tag.ensures.one_call.later.len
-
-pub returns-then-first-above-clause-len : goal.returns-then-first-above-clause-len
-returns-then-first-above-clause-len g c = c.in_ok-bundle.ensures.len ∙ c.in_ok-tag.ensures.one_call.later.len
-
-pub returns-clause-len : goal.returns-clause-len
-returns-clause-len g c = c.in_ok-bundle.ensures.len ∙ c.in_ok-tag.ensures.one_call.later.len

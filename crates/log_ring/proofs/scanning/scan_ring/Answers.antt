@@ -24,10 +24,6 @@ loop-cell-init g c = record {
   knows = λ told content is version before. subst (λ n. KnowsBelow c.args.place.now c.args.above content n c.args.found.now) (omega arith) before;
 }
 
-pub returns-in_err-head-clause-reads : goal.returns-in_err-head-clause-reads
-returns-in_err-head-clause-reads g c =
-    made_again c.from_residual.result c.scan_cell.result c.in_err-head.field-0.0 _ (g.M.Medium.sight c.loop-cell.m) _ (search rules) c.in_err-head.was c.loop-cell.invariant.reads c.scan_cell.ensures.reads
-
 pub returns-in_err-head-clause-torn : goal.returns-in_err-head-clause-torn
 returns-in_err-head-clause-torn g c line is = λ told content holds version before.
     let cell : Cell = cell_at c.args.ring c.loop-cell.cell in
@@ -36,9 +32,6 @@ returns-in_err-head-clause-torn g c line is = λ told content holds version befo
     let found = content_before {P = λ l. version_of l ≡ c.args.version → IsTorn c.args.place.now c.args.above l cell} {ok = true} c.loop-cell.invariant.reads torn.1 told content holds version in
     subst (IsLeastLine c.args.place.now (IsTorn c.args.place.now c.args.above content)) (sym torn.0)
     (torn_first c.args.place.now c.args.above content cell c.loop-cell.found found (c.loop-cell.invariant.knows told content holds version before))
-
-pub returns-in_err-take-clause-reads : goal.returns-in_err-take-clause-reads
-returns-in_err-take-clause-reads g c = made_well c.from_residual-in_err-take.result (search rules) (reads_then {ok = true} c.loop-cell.invariant.reads c.in_ok-head.ensures.reads)
 
 pub loop-cell-preserved : goal.loop-cell-preserved
 loop-cell-preserved g c = record {
@@ -89,14 +82,9 @@ returns-clause-holds g c = λ before.
     let last : c.loop-cell.cell ≡ c.args.place.now.cells = omega arith in
     held_skip c.args.place.now _ _ c.loop-cell.found (omega (arith, suc-mul c.args.ring c.args.place.now.cells)) (c.loop-cell.invariant.holds before)
 
-pub returns-in_err-head-clause-len : goal.returns-in_err-head-clause-len
-returns-in_err-head-clause-len g c = c.scan_cell.ensures.len ∙ c.loop-cell.invariant.len
+pub returns-in_err-head-clause-reads : goal.returns-in_err-head-clause-reads
+returns-in_err-head-clause-reads g c =
+    made_again c.from_residual.result c.scan_cell.result c.in_err-head.field-0.0 _ (g.M.Medium.sight c.loop-cell.m) _ (search rules) c.in_err-head.was c.loop-cell.invariant.reads c.scan_cell.ensures.reads
 
-pub returns-in_err-take-clause-len : goal.returns-in_err-take-clause-len
-returns-in_err-take-clause-len g c = c.in_ok-head.ensures.len ∙ c.loop-cell.invariant.len
-
-pub returns-clause-len : goal.returns-clause-len
-returns-clause-len g c = c.loop-cell.invariant.len
-
-pub returns-clause-reads : goal.returns-clause-reads
-returns-clause-reads g c = c.loop-cell.invariant.reads
+pub returns-in_err-take-clause-reads : goal.returns-in_err-take-clause-reads
+returns-in_err-take-clause-reads g c = made_well c.from_residual-in_err-take.result (search rules) (reads_then {ok = true} c.loop-cell.invariant.reads c.in_ok-head.ensures.reads)

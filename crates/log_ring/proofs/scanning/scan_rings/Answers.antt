@@ -11,7 +11,7 @@ use Rattle.log_ring.specs.declared.head.Head.{Head}
 use Rattle.log_ring.specs.Heads.{cell_of}
 use Rattle.log_ring.specs.Scan.{AreHeads, HoldsCells}
 use Rattle.log_ring.specs.Scanning.{KnowsBelow}
-use Rattle.log_ring.proofs.ScanReads.{made_well, made_again}
+use Rattle.log_ring.proofs.ScanReads.{made_again}
 use Rattle.log_ring.proofs.Replayable.{none_held, held_skip, all_inside, count_inside}
 use Rattle.log_ring.proofs.ScanSteps.{knows_nothing}
 use Rattle.log_ring.proofs.ScanEnd.{damaged_duplicate, are_heads}
@@ -25,10 +25,6 @@ loop-ring-init g c = record {
   holds = held_skip c.args.place.now 0 _ c.new-found.result (omega arith) (none_held c.args.place.now c.new-found.result c.new-found.ensures.heads);
   knows = λ told content holds version. knows_nothing c.args.place.now c.args.above content _ c.new-found.result (omega arith) c.new-found.ensures.heads c.new-found.ensures.duplicate;
 }
-
-pub returns-in_err-scan_ring-clause-reads : goal.returns-in_err-scan_ring-clause-reads
-returns-in_err-scan_ring-clause-reads g c =
-    made_again c.from_residual.result c.scan_ring.result c.in_err-scan_ring.field-0.0 _ (g.M.Medium.sight c.loop-ring.m) _ (search rules) c.in_err-scan_ring.was c.loop-ring.invariant.reads c.scan_ring.ensures.reads
 
 pub returns-in_err-scan_ring-clause-damaged : goal.returns-in_err-scan_ring-clause-damaged
 returns-in_err-scan_ring-clause-damaged g c line is = λ told content holds version.
@@ -46,9 +42,6 @@ loop-ring-preserved g c = record {
       content_before {P = λ l. version_of l ≡ c.args.version → KnowsBelow c.args.place.now c.args.above l (2 + c.loop-ring.ring * c.args.place.now.cells) c.loop-ring.found → KnowsBelow c.args.place.now c.args.above l (2 + (c.loop-ring.ring + 1) * c.args.place.now.cells) c.scan_ring.new.found} {ok = true}
       c.loop-ring.invariant.reads c.in_ok-scan_ring.ensures.knows told content holds version (c.loop-ring.invariant.knows told content holds version);
 }
-
-pub returns-clause-reads : goal.returns-clause-reads
-returns-clause-reads g c = made_well c.into_heads.result c.into_heads.ensures.fault c.loop-ring.invariant.reads
 
 pub returns-clause-inside : goal.returns-clause-inside
 returns-clause-inside g c =
@@ -83,8 +76,6 @@ returns-clause-damaged g c line is = λ told content holds version.
     let known = subst (λ n. KnowsBelow c.args.place.now c.args.above content (2 + n * c.args.place.now.cells) c.loop-ring.found) (omega arith) (c.loop-ring.invariant.knows told content holds version) in
     damaged_duplicate c.args.place.now c.args.above content c.loop-ring.found known line (c.into_heads.ensures.damaged line is)
 
-pub returns-in_err-scan_ring-clause-len : goal.returns-in_err-scan_ring-clause-len
-returns-in_err-scan_ring-clause-len g c = c.scan_ring.ensures.len ∙ c.loop-ring.invariant.len
-
-pub returns-clause-len : goal.returns-clause-len
-returns-clause-len g c = c.loop-ring.invariant.len
+pub returns-in_err-scan_ring-clause-reads : goal.returns-in_err-scan_ring-clause-reads
+returns-in_err-scan_ring-clause-reads g c =
+    made_again c.from_residual.result c.scan_ring.result c.in_err-scan_ring.field-0.0 _ (g.M.Medium.sight c.loop-ring.m) _ (search rules) c.in_err-scan_ring.was c.loop-ring.invariant.reads c.scan_ring.ensures.reads
