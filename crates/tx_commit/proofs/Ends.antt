@@ -1,0 +1,47 @@
+-- A commit is lost before its draw.
+use Rattle.std.proofs.Common.{◌≡◌, ℕ, List, [], sym, ap, ◌∙◌, subst, arith}
+use Rattle.dude_base.specs.declared.write.Write.{Write}
+use Rattle.word_space.specs.declared.stop.Stop.{Stop}
+use Rattle.word_space.specs.declared.stop.Stop.TheVariants as stop
+use Rattle.core_events.specs.Setups.{Setup}
+use Rattle.core_events.specs.Views.{View}
+use Rattle.tx_commit.specs.Ends.{AsLost, HasMissed, IsLost}
+use Rattle.tx_commit.specs.Pages.{IsPageStop}
+use Rattle.tx_reading.specs.Pairs.{pairs_of}
+use Rattle.tx_reading.specs.Pins.{Paged}
+use Rattle.tx_reading.specs.Running.{IsRunning}
+use Rattle.tx_reading.specs.Seats.{HasRisen}
+use Rattle.tx_commit.specs.declared.lost.Lost.{Lost}
+
+-- v0 lets its page go, and then pins pages of its writes up to one that it can't pin; w has none of them, and no lock
+pub missed : (z : Setup) (thread snapshot : ℕ) (reads : List (ℕ × ℕ)) (ws : List Write) (held pins : List (ℕ × ℕ)) (v0 : View) → IsRunning z thread snapshot reads ws held pins v0 → (v : View) → Paged [] v0 v
+    → (frames : List Write) (e : Stop) (v2 w : View) → Paged (pairs_of frames) v v2 → IsPageStop z ws e v2 × (HasRisen v.count v2.count)
+    → w ≡ record v2 { tx = record v2.tx { owned = [] }; paging = record v2.paging { pins = [] } } → HasMissed z ws e v0 w
+missed z thread snapshot reads ws held pins v0 r v p frames e v2 w q why is = record {
+  ended = record {
+    part = ap (λ (u : View). u.part) is ∙ (ap (λ (u : View). u.part) q.rest ∙ ap (λ (u : View). u.part) p.rest);
+    turn = ap (λ (u : View). u.turn) is ∙ (ap (λ (u : View). u.turn) q.rest ∙ ap (λ (u : View). u.turn) p.rest);
+    draws = ap (λ (u : View). u.draws) is ∙ (ap (λ (u : View). u.draws) q.rest ∙ ap (λ (u : View). u.draws) p.rest);
+    drawn = ap (λ (u : View). u.drawn) is ∙ (ap (λ (u : View). u.drawn) q.rest ∙ ap (λ (u : View). u.drawn) p.rest);
+    entries = ap (λ (u : View). u.entries) is ∙ (ap (λ (u : View). u.entries) q.rest ∙ ap (λ (u : View). u.entries) p.rest);
+    box = ap (λ (u : View). u.box) is ∙ (ap (λ (u : View). u.box) q.rest ∙ ap (λ (u : View). u.box) p.rest);
+    idle = record {
+      no_number = ap (λ (u : View). u.tx.hand.number) is ∙ (ap (λ (u : View). u.tx.hand.number) q.rest ∙ (ap (λ (u : View). u.tx.hand.number) p.rest ∙ r.steady.undrawn.no_number));
+      no_lock = ap (λ (u : View). u.tx.owned) is;
+      no_pin = ap (λ (u : View). u.paging.pins) is;
+    };
+    counted = (let a = p.counted in let b = q.counted in let c = ap (λ (u : View). u.count) is in omega arith);
+  };
+  at = v2;
+  why = why.0;
+  found = ap (λ (u : View). u.found) is;
+  count = ap (λ (u : View). u.count) is;
+  counted = (let a = p.counted in let b = why.1 in let c = ap (λ (u : View). u.count) is in omega arith);
+}
+
+pub lost_as : (z : Setup) (thread snapshot : ℕ) (reads : List (ℕ × ℕ)) (ws : List Write) (e : Stop) (l : Lost) (v w : View) → AsLost e l → HasMissed z ws e v w → IsLost z thread snapshot reads ws l v w
+lost_as z thread snapshot reads ws (stop.Conflict lock seen) l v w same h = absurd same
+lost_as z thread snapshot reads ws (stop.Out p) l v w same h = subst (λ (x : Lost). IsLost z thread snapshot reads ws x v w) (sym same) h
+lost_as z thread snapshot reads ws (stop.Busy p seen) l v w same h = subst (λ (x : Lost). IsLost z thread snapshot reads ws x v w) (sym same) h
+lost_as z thread snapshot reads ws stop.Wide l v w same h = absurd same
+lost_as z thread snapshot reads ws stop.NoMemory l v w same h = absurd same

@@ -1,0 +1,5 @@
+pub mod Rule
+pub mod Pages
+pub mod Draws
+pub mod Settles
+pub mod Ends
