@@ -1,0 +1,33 @@
+-- What calls make of the numbers of a pass.
+use Rattle.std.specs.Prelude.{ℕ, ◌+◌, ◌-◌, ◌%◌, ◌||◌, Bool, true, false, max}
+use Rattle.pmem_trait.specs.Faults.{up_to_last}
+use Rattle.stm_passes.specs.declared.pass_numbers.PassNumbers.{PassNumbers}
+
+-- 1 where it is so
+abbrev pub bit : Bool → ℕ
+bit true = 1
+bit false = 0
+
+-- so many refusals more; the count stays at its last value
+abbrev pub with_refusals : ℕ → PassNumbers → PassNumbers
+with_refusals more f = record f { refused = up_to_last (f.refused + more) }
+
+-- this number was drawn: the next box is the one behind, and one draw less is left
+abbrev pub after_draw : ℕ → ℕ → PassNumbers → PassNumbers
+after_draw number boxes f = record f { next = (f.next + 1) % boxes; drawn = number; left = f.left - 1; had_turn = false }
+
+-- an entry was made with this number, which is none under the last one
+abbrev pub with_entry : ℕ → PassNumbers → PassNumbers
+with_entry number f = record f { last = number }
+
+-- so many draws and one split went to another pass
+abbrev pub left_numbers : ℕ → PassNumbers → PassNumbers
+left_numbers draws f = record f { left = f.left - draws; splits = f.splits - 1 }
+
+-- a pass of this thread that did nothing yet, with so many draws and no splits
+abbrev pub newcomer_numbers : ℕ → ℕ → ℕ → PassNumbers
+newcomer_numbers thread draws opening = record { thread = thread; next = 0; last = opening; drawn = 0; left = draws; splits = 0; durable = opening; met_fault = false; refused = 0; had_turn = false; opening = opening }
+
+-- another pass was taken in: the greater last and durable number, the draws and splits of both, and a fault where one met one
+abbrev pub both_numbers : PassNumbers → PassNumbers → PassNumbers
+both_numbers f g = record f { last = max f.last g.last; left = f.left + g.left; splits = f.splits + g.splits; durable = max f.durable g.durable; met_fault = f.met_fault || g.met_fault }
