@@ -15,3 +15,5 @@ pub mod BoxActs
 pub mod Starting
 pub mod KeptBacks
 pub mod Closing
+pub mod Mapping
+pub mod PageActs
