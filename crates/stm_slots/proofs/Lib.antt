@@ -17,3 +17,4 @@ pub mod KeptBacks
 pub mod Closing
 pub mod Mapping
 pub mod PageActs
+pub mod Following
