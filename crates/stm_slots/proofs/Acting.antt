@@ -146,10 +146,10 @@ module _ {M : Type 0} {ghosts : Ghosts M} (sight : M → Sight) (o : Opening M g
     abbrev now_beside : Beside
     now_beside = record x { turn = Some (record hands { lists = m }) }
 
-    now_kept : SlotsKeptBy sight o (stage_of c) (set xs id now_beside) homes (record hands { lists = m })
+    pub now_kept : SlotsKeptBy sight o (stage_of c) (set xs id now_beside) homes (record hands { lists = m })
     now_kept = followed sight o (stage_of c) xs homes hands kept_by (boxes_sized z c k) id (owner_of v) x at_owner at (alone z c k id v is_there has) (some_turn z c k id v is_there has) (of_thread z c k) (once z c k) m follows
 
-    now_at : get_elem? (set xs id now_beside) id ≡ some now_beside
+    pub now_at : get_elem? (set xs id now_beside) id ≡ some now_beside
     now_at = set_here xs id now_beside (there xs id x at)
 
   module _ (id : ℕ) (me : Seated) (has : me.0.view.turn.has_it ≡ true) (hands : Hands) (is : me.0.beside.turn ≡ Some hands) (m : BackLists) (follows : Follows z hands.next hands.boxes hands.lists m) where

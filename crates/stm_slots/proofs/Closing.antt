@@ -1,8 +1,8 @@
 -- The table is closed: what was kept of the slots is handed on.
-use Rattle.std.proofs.Common.{◌≡◌, ◌≢◌, ℕ, zero, suc, ◌+◌, ◌≤◌, true, false, List, [], ◌∷◌, map, refl, sym, ap, ◌∙◌, subst, ⊎_elim, arith}
+use Rattle.std.proofs.Common.{◌≡◌, ◌≢◌, ℕ, zero, suc, ◌+◌, ◌<◌, ◌≤◌, true, false, List, [], ◌∷◌, map, refl, sym, ap, ◌∙◌, subst, ⊎_elim, arith}
 use Rattle.std.specs.Prelude.{Some}
 use Rattle.std.specs.List.{Contains}
-use Rattle.std.proofs.lemmas.Bool.{true≢false}
+use Rattle.std.proofs.lemmas.Bool.{true≢false, cases_eq}
 use mathlib.Core.Option.{Option as Maybe, some, some-injective, some-ne-none}
 use mathlib.Core.Logic.{dite}
 use native.Mathlib.Decide.{dec_lt, ℕ_discrete}
@@ -72,6 +72,16 @@ module _ {M : Type 0} {ghosts : Ghosts M} (sight : M → Sight) (o : Opening M g
   abbrev fact : State → List Beside → List (Maybe (Slot M ghosts)) → Type 0
   fact c xs homes = SlotsKept sight o (stage_of c) xs homes
 
+  -- no view has an open number
+  none_open : (c : State) (k : Kept z c) (id : ℕ) (v : View) → get_elem? c.views id ≡ some v → HasAll z v → v.tx.hand.number ≡ 0 → (j t : ℕ) (p : Owner) → get_elem? (map owner_of c.views) j ≡ some p → 0 < p.number → p.thread ≡ Some t → ⊥
+  none_open c k id v at has_all idle j t p at_p pos of_p =
+      let u = of_map owner_of c.views j p at_p in
+      ⊎_elim
+      (λ same. let eq : u.0 ≡ v = some-injective u.0 v (sym u.1 ∙ (ap (get_elem? c.views) same ∙ at)) in
+      let n : p.number ≡ 0 = ap (λ (a : Owner). a.number) (sym u.2) ∙ (ap (λ (a : View). a.tx.hand.number) eq ∙ idle) in absurd (omega arith))
+      (λ other. no_other z c k id v at has_all j t u.0 u.1 other (ap (λ (a : Owner). a.thread) u.2 ∙ of_p))
+      (cases_eq j id)
+
   pub closed : (id : ℕ) (kn : Known Beside) (words : List ℕ) (slots : List (Slot M ghosts)) → Final (Seen (Holds fact z) id kn) words slots → HasAll z kn.view → kn.view.turn.has_it ≡ false → kn.view.tx.hand.number ≡ 0 → IsClosed sight o kn.view words slots
   closed id kn words slots f has_all no_turn idle =
       let s = f.0 in let h = f.1.0 in let c : State = h.core in let v : View = kn.view in
@@ -85,12 +95,7 @@ module _ {M : Type 0} {ghosts : Ghosts M} (sight : M → Sight) (o : Opening M g
         home = home.0;
         is_home = f.4 (back_slot z) (Home home.0) home.2;
         back = kept_by sight o c h.kept home.0 h.slots.hands is h.slots.kept.lists;
-        empty = λ k at_box. f.4 k Empty (⊎_elim (λ e. e)
-            (λ w. let u = of_map owner_of c.views w.0 w.2 w.3 in absurd (dite (ℕ_discrete w.0 id)
-            (λ same. let eq : u.0 ≡ v = some-injective u.0 v (sym u.1 ∙ (ap (get_elem? c.views) same ∙ at)) in
-            let n : w.2.number ≡ 0 = ap (λ (a : Owner). a.number) (sym u.2) ∙ (ap (λ (a : View). a.tx.hand.number) eq ∙ idle) in let pos = w.4 in omega arith)
-            (λ other. no_other z c h.kept id v at has_all w.0 w.1 u.0 u.1 other (ap (λ (a : Owner). a.thread) u.2 ∙ w.5))))
-            (boxes.free k at_box));
+        empty = λ k at_box. f.4 k Empty (⊎_elim (λ e. e) (λ w. absurd (none_open c h.kept id v at has_all idle w.0 w.1 w.2 w.3 w.4 w.5)) (boxes.free k at_box));
         full = λ k n at_box pos. ⊎_elim
             (λ e. absurd (contains_none (k, e.0) (subst (λ bs. Contains bs (k, e.0)) is.boxes e.1)))
             (λ r. let told = out.boxes n k at_box pos in

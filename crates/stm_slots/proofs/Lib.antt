@@ -15,3 +15,6 @@ pub mod BoxActs
 pub mod Starting
 pub mod KeptBacks
 pub mod Closing
+pub mod Mapping
+pub mod PageActs
+pub mod Following

@@ -1,5 +1,5 @@
 -- What the steps of the turn tell the seat that makes them, which move slots or change what it keeps beside its view.
-use Rattle.std.specs.Prelude.{◌≡◌, ◌==◌, ◌⊎◌, ◌*◌, ℕ, ◌<◌, ◌≤◌, Bool, true, false, List, [], ◌∷◌, ◌++◌, Some, None, MatchBool, slice_index, All, length}
+use Rattle.std.specs.Prelude.{◌≡◌, ◌==◌, ◌⊎◌, ◌*◌, ℕ, ◌<◌, ◌≤◌, Bool, true, false, List, [], ◌∷◌, ◌++◌, Some, None, MatchBool, slice_index, All, length, if◌then◌else◌}
 use Rattle.std.specs.List.{Contains}
 use Rattle.dude_base.specs.declared.limits.TheConstants.{PAGE, MAX_NUMBER}
 use Rattle.dude_base.specs.Records.{RedoBundle, RedoRecord}
@@ -8,10 +8,12 @@ use Rattle.pmem_trait.specs.Sights.{Sight}
 use Rattle.pmem_trait.specs.declared.medium.Medium.{Ghosts}
 use Rattle.back_store.specs.Back.{waiting_of_ring}
 use Rattle.atomic_table.specs.Table.{Me}
-use Rattle.core_events.specs.Setups.{Setup, box_of}
-use Rattle.core_events.specs.Events.{Event, take_turn, give_turn, see_full, view_after}
+use Rattle.core_events.specs.Setups.{Setup, box_of, frame_in, without_pins}
+use Rattle.core_events.specs.Views.{View}
+use Rattle.core_events.specs.Events.{Event, take_turn, give_turn, see_full, kept_entry, view_after}
 use Rattle.core_events.specs.Telling.{IsTold, IsSeated}
 use Rattle.core_table.specs.Known.{Known, known_after}
+use Rattle.shadow_pages.specs.PageMap.{PageMap, map_with}
 use Rattle.known_back.specs.Lists.{BackLists, LawfulLists}
 use Rattle.known_back.specs.Records.{AreNew, HasRecord, LacksRecord, writes_in}
 use Rattle.stm_slots.specs.Beside.{Hands, Beside}
@@ -67,6 +69,12 @@ pub record MayBeHanded (z : Setup) (l : BackLists) (thread : ℕ) (r : RedoRecor
   pub lacks : l.state.dead ≡ false → LacksRecord l.records r.number
   pub newest : l.state.dead ≡ false → All (λ q. q.last < r.number) (waiting_of_ring l.state thread)
 
+-- ---- the map of pages
+-- the map where the entry n of a page was found by an eviction: the page leaves its frame where it has no pins and is still in the frame that
+-- the view kept
+abbrev pub map_evicted : ℕ → View → PageMap → ℕ → PageMap
+map_evicted p v map n = if n == without_pins (kept_entry v p) then map_with map (frame_in n) None else map
+
 -- ---- what the steps tell
 -- what a seat of the table has: what it knows, and slots
 abbrev pub Seated : (M : Type 0) → Ghosts M → Type 0
@@ -119,6 +127,10 @@ module _ {M : Type 0} {ghosts : Ghosts M} (sight : M → Sight) where
     pub view : w.0.view ≡ view_after (setup_of sight o) e m.0.view n
     pub beside : w.0.beside ≡ record m.0.beside { turn = Some hands }
     pub slots : w.1 ≡ left
+
+  -- what a step on a page's entry tells that leaves the holder of the turn with a map made of what it found
+  abbrev pub MappedTo : Opening M ghosts → Event → Hands → (ℕ → PageMap) → Seated M ghosts → ℕ → Seated M ghosts → Type 0
+  MappedTo o e hands map_after m n w = WentOn o e (record hands { map = map_after n }) m.1 m n w
 
   -- what a step tells that moves a slot of a box, and leaves all else of the seat: it has these slots then
   pub record Moved (o : Opening M ghosts) (e : Event) (left : List (ℕ × Slot M ghosts)) (m : Seated M ghosts) (n : ℕ) (w : Seated M ghosts) : Type 0 where
