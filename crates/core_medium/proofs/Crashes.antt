@@ -1,5 +1,5 @@
 -- Every image of a kept machine's medium recovers to the values at a number.
-use Rattle.std.proofs.Common.{◌≡◌, ℕ, ◌*◌, ◌≤◌, nat_lt, List, ◌∷◌, ◌++◌, length, take, sym, ap, ◌∙◌, subst, inl, inr, ⊎_elim, arith}
+use Rattle.std.proofs.Common.{◌≡◌, ℕ, ◌*◌, ◌≤◌, nat_lt, List, ◌∷◌, ◌++◌, length, take, sym, ap, ◌∙◌, subst, inl, inr, ⊎_elim, arith, refl}
 use Rattle.std.specs.List.{filter}
 use Rattle.dude_base.specs.declared.limits.TheConstants.{PAGE}
 use Rattle.dude_base.specs.Image.{image_words, cell_at}
@@ -9,7 +9,7 @@ use Rattle.pmem_trait.specs.Words.{State as MediumState, EveryImage, AfterEachCa
 use Rattle.pmem_trait.proofs.Laws.{after_each_prefix}
 use Rattle.redo_record.specs.Waiting.{IsEnd}
 use Rattle.redo_record.specs.LogState.{LogState, RecoversAmong}
-use Rattle.redo_record.proofs.WaitingRecords.{waiting_law, keeps_filter}
+use Rattle.redo_record.proofs.WaitingRecords.{waiting_law, keeps_filter, consecutive_up}
 use Rattle.redo_record.proofs.Persisting.{persist_law}
 use Rattle.redo_record.proofs.Reproducing.{reproduce_law}
 use Rattle.redo_record.proofs.HeldLog.{held_log_law, announce_law}
@@ -24,7 +24,7 @@ use Rattle.core_medium.specs.Stores.{Store, medium_of}
 use Rattle.core_medium.specs.BackCalls.{BackCall, persisting, announcing, reproducing, reading, MayCall, calls_of}
 use Rattle.core_medium.specs.KeptStore.{StoreKept}
 use Rattle.core_medium.specs.Machines.{Machine}
-use Rattle.core_medium.specs.Crash.{IsEndNow, RecoversTo}
+use Rattle.core_medium.specs.Crash.{IsEndNow, RecoversToValues}
 use Rattle.core_medium.proofs.Devices.{take_front, log2, stands2, can, logged, adds, can_reproduce, still, told_upto}
 
 module _ (z : Setup) (g : Ghost) (c : State) (l : LayersKept z g c) (d : Store) (k : StoreKept z g c d) where
@@ -32,16 +32,18 @@ module _ (z : Setup) (g : Ghost) (c : State) (l : LayersKept z g c) (d : Store) 
   m = record { core = c; store = d }
 
   -- what an image that recovers so has, where a log of this home stands
-  among : (l2 : LogState) → length l2.home ≡ z.pages * PAGE → LogIn z g c l2 → ((n : ℕ) → IsEnd l2.waiting l2.reproduced n → IsEndNow z m n) → (told image : List ℕ) (low high : ℕ)
-      → RecoversAmong l2 0 low high told image → RecoversTo z m told image
-  among l2 long stands ends told image low high is =
+  among : (l2 : LogState) → l2.sizes ≡ d.log.sizes → length l2.home ≡ z.pages * PAGE → LogIn z g c l2 → ((n : ℕ) → IsEnd l2.waiting l2.reproduced n → IsEndNow z m n) → (told image : List ℕ) (low high : ℕ)
+      → RecoversAmong l2 0 low high told image → RecoversToValues z m told image
+  among l2 sizes long stands ends told image low high is =
       let law = array_law z g c l2 is.number is.array l stands long is.is_array in record {
         number = is.number;
         array = is.array;
         recovered = is.recovered;
+        same_sizes = is.same_sizes ∙ sizes;
         size = ap length is.is_array.result ∙ (length-overwritten_by_all is.is_array.records l2.home ∙ long);
         values = law.0;
         is_end = ends is.number (record { records = is.is_array.records; lead = is.is_array.lead });
+        from = (let up = consecutive_up l2.reproduced is.number is.is_array.records is.is_array.lead.consecutive in let from = stands.from in omega arith);
         posted = law.1;
         least = is.floor;
       }
@@ -56,39 +58,39 @@ module _ (z : Setup) (g : Ghost) (c : State) (l : LayersKept z g c) (d : Store) 
       subst (λ (cs : List Call). P (after_all cs d.rest)) calls (after_each_prefix (length d.calls) along)
 
   module _ (len : ℕ) (long : image_words d.log.sizes ≤ len) where
-    every : (l2 : LogState) → length l2.home ≡ z.pages * PAGE → LogIn z g c l2 → ((n : ℕ) → IsEnd l2.waiting l2.reproduced n → IsEndNow z m n) → (low high : ℕ) (p : MediumState)
-        → EveryImage len (RecoversAmong l2 0 low high) p → EveryImage len (RecoversTo z m) p
-    every l2 home stands ends low high p all = record { each = λ image is. among l2 home stands ends p.told image low high (all.each image is) }
+    every : (l2 : LogState) → l2.sizes ≡ d.log.sizes → length l2.home ≡ z.pages * PAGE → LogIn z g c l2 → ((n : ℕ) → IsEnd l2.waiting l2.reproduced n → IsEndNow z m n) → (low high : ℕ) (p : MediumState)
+        → EveryImage len (RecoversAmong l2 0 low high) p → EveryImage len (RecoversToValues z m) p
+    every l2 sizes home stands ends low high p all = record { each = λ image is. among l2 sizes home stands ends p.told image low high (all.each image is) }
 
-    at_rest : EveryImage len (RecoversTo z m) d.rest
+    at_rest : EveryImage len (RecoversToValues z m) d.rest
     at_rest =
         let end = waiting_law.some_end d.log.waiting d.log.reproduced in
-        every d.log home_long k.stands (λ n is. inl is) end.0 end.0 d.rest (held_log_law d.log d.rest len 0 end.0 k.holds long end.1 (told_upto z g c l d k end.0 end.1))
+        every d.log refl home_long k.stands (λ n is. inl is) end.0 end.0 d.rest (held_log_law d.log d.rest len 0 end.0 k.holds long end.1 (told_upto z g c l d k end.0 end.1))
 
-    under : (b : BackCall) (later : List Call) → MayCall z c.boxes c.records d.log d.rest.told b → calls_of z c.records d.log.sizes d.next b ≡ d.calls ++ later → EveryImage len (RecoversTo z m) (medium_of d)
+    under : (b : BackCall) (later : List Call) → MayCall z c.boxes c.records d.log d.rest.told b → calls_of z c.records d.log.sizes d.next b ≡ d.calls ++ later → EveryImage len (RecoversToValues z m) (medium_of d)
     under (persisting t j more) later may whole =
         let log = log2 z g c l d k t j more may in
         let low = waiting_law.some_end d.log.waiting d.log.reproduced in let high = waiting_law.some_end log.waiting d.log.reproduced in
         let law =
         persist_law d.log (cell_at t (d.next t)) (bundle_in z c.records t j more) log.rings log.waiting d.rest k.holds
         (can z g c l d k t j more may) (logged z g c l d k t j more may) (adds z g c l d k t j more may) in
-        every log home_long (stands2 z g c l d k t j more may) (λ n is. inr (t, j, more, record { may = may; later = later; whole = whole }, is)) low.0 high.0 (medium_of d)
+        every log refl home_long (stands2 z g c l d k t j more may) (λ n is. inr (t, j, more, record { may = may; later = later; whole = whole }, is)) low.0 high.0 (medium_of d)
         (front (EveryImage len (RecoversAmong log 0 low.0 high.0)) (calls_of z c.records d.log.sizes d.next (persisting t j more)) later whole
         (law.0 len 0 low.0 high.0 long low.1 high.1 (told_upto z g c l d k low.0 low.1)))
     under (announcing n) later may whole =
-        every d.log home_long k.stands (λ x is. inl is) n n (medium_of d)
+        every d.log refl home_long k.stands (λ x is. inl is) n n (medium_of d)
         (front (EveryImage len (RecoversAmong d.log 0 n n)) (calls_of z c.records d.log.sizes d.next (announcing n)) later whole
         ((announce_law d.log n d.rest k.holds).0 len 0 n long may (told_upto z g c l d k n may) (omega arith)))
     under (reproducing rs ws x) later may whole =
         let end = waiting_law.some_end d.log.waiting d.log.reproduced in
         let law = reproduce_law d.log rs ws x (filter (λ w. nat_lt x w.redo.last) d.log.waiting) d.rest k.holds (can_reproduce z g c l d k rs ws x may) (keeps_filter x d.log.waiting) in
-        every d.log home_long k.stands (λ n is. inl is) end.0 end.0 (medium_of d)
+        every d.log refl home_long k.stands (λ n is. inl is) end.0 end.0 (medium_of d)
         (front (EveryImage len (RecoversAmong d.log 0 end.0 end.0)) (calls_of z c.records d.log.sizes d.next (reproducing rs ws x)) later whole
         (law.0 len 0 end.0 long end.1 (told_upto z g c l d k end.0 end.1)))
-    under (reading p) later may whole = subst (λ (q : MediumState). EveryImage len (RecoversTo z m) q) (sym (still z g c l d k p may later whole)) at_rest
+    under (reading p) later may whole = subst (λ (q : MediumState). EveryImage len (RecoversToValues z m) q) (sym (still z g c l d k p may later whole)) at_rest
 
-    pub recovers : EveryImage len (RecoversTo z m) (medium_of d)
+    pub recovers : EveryImage len (RecoversToValues z m) (medium_of d)
     recovers = ⊎_elim
-        (λ none. subst (λ (cs : List Call). EveryImage len (RecoversTo z m) (after_all cs d.rest)) (sym none) at_rest)
+        (λ none. subst (λ (cs : List Call). EveryImage len (RecoversToValues z m) (after_all cs d.rest)) (sym none) at_rest)
         (λ u. under u.back (u.call ∷ u.later) u.may u.whole)
         k.under

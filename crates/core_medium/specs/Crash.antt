@@ -3,6 +3,7 @@ use Rattle.std.specs.Prelude.{◌≡◌, ℕ, ◌*◌, ◌<◌, ◌≤◌, ◌�
 use Rattle.dude_base.specs.declared.limits.TheConstants.{PAGE}
 use Rattle.pmem_trait.specs.declared.call.Call.{Call}
 use Rattle.pmem_trait.specs.Words.{IsIn}
+use Rattle.redo_record.specs.Images.{sizes_of}
 use Rattle.redo_record.specs.Recovery.{Recovers}
 use Rattle.redo_record.specs.Waiting.{Waiting, IsEnd}
 use Rattle.core_events.specs.Setups.{Setup}
@@ -29,14 +30,16 @@ IsEndNow z m n =
     IsEnd m.store.log.waiting m.store.log.reproduced n
     ⊎ ((t : ℕ) × (j : ℕ) × (more : List (ℕ × ℕ)) × IsPersisting z m t j more × IsEnd (waiting_with z m t j more) m.store.log.reproduced n)
 
--- The image recovers to a number, which is an end, and to the values of all words at it; each number up to it is posted; and no greater
--- number was told
-pub record RecoversTo (z : Setup) (m : Machine) (told image : List ℕ) : Type 0 where
+-- The image recovers to a number from the opening one on, which is an end, and to the values of all words at it; each number up to it is
+-- posted; and no greater number was told
+pub record RecoversToValues (z : Setup) (m : Machine) (told image : List ℕ) : Type 0 where
   pub number : ℕ
   pub array : List ℕ
   pub recovered : Recovers image number array
+  pub same_sizes : sizes_of image ≡ m.store.log.sizes
   pub size : length array ≡ z.pages * PAGE
   pub values : (i : ℕ) → i < z.pages * PAGE → slice_index array i ≡ value_at z.opening (all_entries m.core.views) number i
   pub is_end : IsEndNow z m number
+  pub from : z.first ≤ number
   pub posted : (n : ℕ) → z.first < n → n ≤ number → IsPosted m.core.boxes (numbers_of m.core.persisted) n
   pub least : (x : ℕ) → IsIn x told → x ≤ number

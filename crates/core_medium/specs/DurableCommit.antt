@@ -56,10 +56,11 @@ events_before =
     number ∷ see_box ∷ begin ∷ entry 0 ∷ pin 0 ∷ look 0 ∷ load 3 ∷ check 0 ∷ take 0 ∷ draw no_about one_write ∷ check 0
     ∷ decide ∷ store 3 ∷ touch 0 ∷ release 0 ∷ unpin 0 ∷ post ∷ take_turn ∷ []
 
--- the calls that persist the bundle, and those that reproduce it
+-- the calls that persist the bundle
 abbrev pub persist_one : List MachineStep
 persist_one = calls_by_first (append_calls small_sizes (cell_at 0 0) one_bundle)
 
+-- the calls that reproduce it
 abbrev pub reproduce_one : List MachineStep
 reproduce_one = calls_by_first (reproduce_calls small_sizes one_write 1)
 

@@ -18,7 +18,7 @@ use Rattle.core_medium.specs.Stores.{Store, medium_of}
 use Rattle.core_medium.specs.BackCalls.{BackCall, MayCall, calls_of, store_behind}
 use Rattle.core_medium.specs.Machines.{Machine, MachineStep, device, AllMachineLead, words_of}
 use Rattle.core_medium.specs.KeptStore.{MachineKept, HasPlaces, IsStart, opening_medium, start_machine}
-use Rattle.core_medium.specs.Crash.{RecoversTo}
+use Rattle.core_medium.specs.Crash.{RecoversToValues}
 use Rattle.core_medium.specs.Images.{ImagesHave}
 
 -- The machine is reached by these steps from the start, over a medium that fits it.
@@ -44,7 +44,7 @@ LawOfWordSteps = (z : Setup) (ss : List MachineStep) (m : Machine) → IsReached
 -- after every list of steps every image of the medium recovers to an end and to the values at it
 abbrev pub LawOfCrashes : Type 0
 LawOfCrashes = (z : Setup) (ss : List MachineStep) (m : Machine) (len : ℕ) → IsReached z ss m → image_words m.store.log.sizes ≤ len
-    → EveryImage len (RecoversTo z m) (medium_of m.store)
+    → EveryImage len (RecoversToValues z m) (medium_of m.store)
 
 -- after every list of steps each word may hold what the log and the call under way say, and nothing else
 abbrev pub LawOfImages : Type 0
