@@ -22,45 +22,47 @@ use Rattle.command_edges.specs.declared.fault.Fault.TheVariants.{Device, Memory}
 use Rattle.command_openings.specs.Opens.{Opens}
 use Rattle.command_openings.specs.Openings.{IsOpeningOn, new_opening}
 use Rattle.command_openings.proofs.OneOpening.{one_opening}
-use Rattle.dude_program.specs.Opening.{IsReachable, RequestsAre, Starts, ends_opened, makes_image, only_reads, runs_requests}
+use Rattle.dude_program.specs.Opening.{IsReachable, RequestsAre, ends_opened, makes_image, only_reads, runs_requests}
 use Rattle.dude_program.specs.Headline.{Replies}
-use Rattle.dude_program.specs.Causes.{EndedWell, MustRefuse, OpensOnce, RanUnlessDevice, RefusesFormat}
+use Rattle.dude_program.specs.Causes.{EndedWell, MustRefuse, OpensOnce, RanUnlessDevice}
 use Rattle.dude_program.specs.LogOperations.{MakesOperations, OperatesLog.rests}
 use Rattle.dude_program.specs.Work.{EndsWhole, RanOver}
 use Rattle.dude_program.proofs.FilesRead.{FilesRead}
 use Rattle.dude_program.proofs.Contents.{fits_not_refused, makes_none}
 use Rattle.dude_program.proofs.Crashes.{opens_prefix, crash_prefix, crash_run, end_opened, end_run, reachable, sync_none, sync_run}
-use Rattle.dude_program.proofs.Endings.{Came, CameBy, Finished}
+use Rattle.dude_program.proofs.Endings.{Came, CameBy, Finished, StartsAt}
 use Rattle.dude_program.proofs.Stops.{IsMaker, IsOpener}
 
 -- The image of the command is opened at this opening.
 pub record ImageOpens (meaning : Meaning) (opening : Opening) (words : List ℕ) (s m : Sight) : Type 0 where
-  pub writes : only_reads meaning ≡ false
-  pub starts : Starts meaning s opening
+  pub at : StartsAt meaning opening s
   pub is_open : Opens (makes_image meaning) opening words s m
-  pub only : IsTrue s.is_visible → (other : Opening) → Starts meaning s other → other ≡ opening
-  pub on : makes_image meaning ≡ false → IsOpeningOn s opening
-  pub fits : (why : Fault) → RefusesFormat meaning s.len why → ⊥
 
 pub opened_new : {meaning : Meaning} {sizes : Sizes} {words : List ℕ} {s m : Sight} → IsMaker meaning sizes s → FitsImage sizes s.len → Opens true (new_opening sizes) words s m
     → ImageOpens meaning (new_opening sizes) words s m
 opened_new {meaning} {sizes} {words} {s} {m} maker fits is_open = record {
-  writes = maker.writes;
-  starts = maker.starts;
+  at = record {
+    writes = maker.writes;
+    starts = maker.starts;
+    lawful = is_open.lawful;
+    only = λ visible other starts. maker.only other starts;
+    on = λ opens. absurd (let e = maker.makes in let no : ⊥ = cc in no);
+    fits = λ why refuses. fits_not_refused meaning sizes s.len why maker.sized fits refuses;
+  };
   is_open = subst (λ (b : Bool). Opens b (new_opening sizes) words s m) (sym maker.makes) is_open;
-  only = λ visible other starts. maker.only other starts;
-  on = λ opens. absurd (let e = maker.makes in let no : ⊥ = cc in no);
-  fits = λ why refuses. fits_not_refused meaning sizes s.len why maker.sized fits refuses;
 }
 
 pub opened_old : {meaning : Meaning} {opening : Opening} {words : List ℕ} {s m : Sight} → IsOpener meaning s → only_reads meaning ≡ false → IsOpeningOn s opening → Opens false opening words s m → ImageOpens meaning opening words s m
 opened_old {meaning} {opening} {words} {s} {m} opener writes on is_open = record {
-  writes = writes;
-  starts = opener.starts opening on;
+  at = record {
+    writes = writes;
+    starts = opener.starts opening on;
+    lawful = is_open.lawful;
+    only = λ visible other starts. one_opening s other opening visible (opener.on other starts) on;
+    on = λ opens. on;
+    fits = λ why refuses. makes_none meaning s.len why opener.sized refuses;
+  };
   is_open = subst (λ (b : Bool). Opens b opening words s m) (sym opener.opens) is_open;
-  only = λ visible other starts. one_opening s other opening visible (opener.on other starts) on;
-  on = λ opens. on;
-  fits = λ why refuses. makes_none meaning s.len why opener.sized refuses;
 }
 
 -- a command that carries requests out makes calls behind its opening
@@ -93,7 +95,7 @@ module _ {meaning : Meaning} {f g : FilesSight} {opening : Opening} {words : Lis
       → (EndedWell fault → MakesOperations (idle opening.sizes opening.number) m t) → OpensOnce meaning fault s t
   opens_once behind operates = record {
     opening = opening;
-    starts = opened_image.starts;
+    starts = opened_image.at.starts;
     words = words;
     opened = m;
     calls = opened_image.is_open.calls;
@@ -109,12 +111,7 @@ module _ {meaning : Meaning} {f g : FilesSight} {opening : Opening} {words : Lis
   came_none : (last : ℕ) (fault : Option Fault) → (fault ≡ Some Device → ⊥) → CameBy meaning f opening [] last s m fault → Came meaning f g opening [] last fault s m
   came_none last fault other by = record {
     files = files;
-    writes = opened_image.writes;
-    starts = opened_image.starts;
-    lawful = opened_image.is_open.lawful;
-    only = opened_image.only;
-    on = opened_image.on;
-    fits = opened_image.fits;
+    at = opened_image.at;
     replies = inl refl;
     crash = crash_prefix meaning opening s m (opens_prefix (makes_image meaning) opening words s m opened_image.is_open);
     sync = sync_none s m;
@@ -153,12 +150,7 @@ module _ {meaning : Meaning} {f g : FilesSight} {opening : Opening} {words : Lis
     came_by : (fault : Option Fault) → (EndedWell fault → fault ≡ None) → RanOver Reaches opening words requests done last fault m t → CameBy meaning f opening done last s t fault → Came meaning f g opening done last fault s t
     came_by fault well run by = record {
       files = files;
-      writes = opened_image.writes;
-      starts = opened_image.starts;
-      lawful = opened_image.is_open.lawful;
-      only = opened_image.only;
-      on = opened_image.on;
-      fits = opened_image.fits;
+      at = opened_image.at;
       replies = inr (replies_run run);
       crash = crash_run Reaches meaning opening words requests done s m t runs opened_image.is_open reaches run.replies run.moments run.few_lost;
       sync = sync_run (makes_image meaning) opening words done s m t opened_image.is_open run.syncs_follow run.syncs_told;

@@ -52,20 +52,24 @@ CameBy meaning f opening done last s t (Some Device) = Risen s.faults t.faults
 CameBy meaning f opening done last s t (Some Memory) = ⊤
 CameBy meaning f opening done last s t (Some why) = (makes_image meaning ≡ false) × (done ≡ []) × RefusesOpening meaning f opening why × IsLeftOpened opening s t
 
--- What a command came to before its output: its files were read, and its image was opened at this opening.
-pub record Came (meaning : Meaning) (f g : FilesSight) (opening : Opening) (done : List Done) (last : ℕ) (fault : Option Fault) (s t : Sight) : Type 0 where
-  pub files : FilesRead meaning f g
+-- The command starts from this opening, from no other where the medium is visible, and doesn't only read; its medium fits.
+pub record StartsAt (meaning : Meaning) (opening : Opening) (s : Sight) : Type 0 where
+  pub writes : only_reads meaning ≡ false
   pub starts : Starts meaning s opening
   pub lawful : IsOpening opening
   pub only : IsTrue s.is_visible → (other : Opening) → Starts meaning s other → other ≡ opening
   pub on : makes_image meaning ≡ false → IsOpeningOn s opening
   pub fits : (why : Fault) → RefusesFormat meaning s.len why → ⊥
+
+-- What a command came to before its output: its files were read, and its image was opened at this opening.
+pub record Came (meaning : Meaning) (f g : FilesSight) (opening : Opening) (done : List Done) (last : ℕ) (fault : Option Fault) (s t : Sight) : Type 0 where
+  pub files : FilesRead meaning f g
+  pub at : StartsAt meaning opening s
   pub replies : (done ≡ []) ⊎ Replies meaning f opening done
   pub crash : Crash meaning opening done s t
   pub sync : Sync done s t
   pub ran : RanUnlessDevice fault s t
   pub once : OpensOnce meaning fault s t
-  pub writes : only_reads meaning ≡ false
   pub nothing : makes_image meaning ≡ false → (why : Fault) → MustRefuse meaning f opening why → done ≡ []
   pub cause : CameBy meaning f opening done last s t fault
 
@@ -113,11 +117,11 @@ module _ {meaning : Meaning} {f g : FilesSight} {opening : Opening} {done : List
   -- the headline, but for what was printed
   headline_of : {k l : SinkSight} (fault : Option Fault) → Printed meaning (world_of s f k) (world_of t g l) done fault → Headline meaning (world_of s f k) (world_of t g l) done fault
   headline_of fault printed = record {
-    replies = elim came.replies [ inl none ↦ inl none | inr replies ↦ inr (opening, came.starts, came.lawful, replies) ];
-    crash = λ other starts. crash_each meaning opening other done s t (λ visible. came.only visible other starts) came.crash;
+    replies = elim came.replies [ inl none ↦ inl none | inr replies ↦ inr (opening, came.at.starts, came.at.lawful, replies) ];
+    crash = λ other starts. crash_each meaning opening other done s t (λ visible. came.at.only visible other starts) came.crash;
     sync = came.sync;
     printed = printed;
-    only_read = λ must. absurd (must_not meaning s came.writes opening came.starts must);
+    only_read = λ must. absurd (must_not meaning s came.at.writes opening came.at.starts must);
   }
 
   -- the causes, but for those of the opened image and of what follows
@@ -130,16 +134,16 @@ module _ {meaning : Meaning} {f g : FilesSight} {opening : Opening} {done : List
     order = record {
       missing = λ visible misses. absurd (read_missing came.files visible misses);
       bad = λ reads visible number row field bad. absurd (read_bad came.files number row field visible bad);
-      format = λ why refuses. absurd (came.fits why refuses);
-      content = λ opens visible why refuses. absurd (opens_not_refused s opening why visible (came.on opens) refuses);
+      format = λ why refuses. absurd (came.at.fits why refuses);
+      content = λ opens visible why refuses. absurd (opens_not_refused s opening why visible (came.at.on opens) refuses);
       opening = λ opens visible other starts why refuses.
-          refused opens visible why (subst (λ (o : Opening). MustRefuse meaning f o why) (came.only visible other starts) refuses);
+          refused opens visible why (subst (λ (o : Opening). MustRefuse meaning f o why) (came.at.only visible other starts) refuses);
     };
     complete = λ good medium files output. complete good medium output;
     untouched = untouched;
-    spared = λ bad. elim bad [ inl files ↦ absurd (read_fits came.files files) | inr refuses ↦ absurd (came.fits refuses.0 refuses.1) ];
+    spared = λ bad. elim bad [ inl files ↦ absurd (read_fits came.files files) | inr refuses ↦ absurd (came.at.fits refuses.0 refuses.1) ];
     nothing = λ opens visible other starts why refuses.
-        came.nothing opens why (subst (λ (o : Opening). MustRefuse meaning f o why) (came.only visible other starts) refuses);
+        came.nothing opens why (subst (λ (o : Opening). MustRefuse meaning f o why) (came.at.only visible other starts) refuses);
     ran = ran;
     once = λ opens. once_by meaning fault done s t once;
     reads = read_before came.files fault unread;
@@ -170,7 +174,7 @@ ends_behind {meaning} {f} {g} {opening} {done} {s = s} {t = t} {k = k} why came 
   causes = causes_of came (Some why) unread cause
       (λ _ visible other also. inl (ap Some (one_refusal meaning f opening why other refuses also)))
       (λ good medium output. absurd (let o = (good.opens opens).1 in
-      o.2 why (subst (λ (p : Opening). RefusesOpening meaning f p why) (sym (came.only (good.opens opens).0 o.0 o.1)) refuses)))
+      o.2 why (subst (λ (p : Opening). RefusesOpening meaning f p why) (sym (came.at.only (good.opens opens).0 o.0 o.1)) refuses)))
       untouched came.ran came.once sink_same;
 }
 
@@ -186,13 +190,13 @@ ends_faulted Memory came = record {
   causes = causes_of came (Some Memory) tt tt (λ opens visible why refuses. inr tt) (λ good medium output. inr refl) tt came.ran came.once sink_same;
 }
 ends_faulted {meaning} {opening = opening} {s = s} {t = t} (ManyFiles a b) came =
-    ends_behind (ManyFiles a b) came came.cause.0 came.cause.2 tt (record { opening = opening; opens = came.cause.0; starts = came.starts; lawful = came.lawful; why = came.cause.2; left = is_left meaning opening s t came.writes came.cause.3 }) refl came.cause.1
+    ends_behind (ManyFiles a b) came came.cause.0 came.cause.2 tt (record { opening = opening; opens = came.cause.0; starts = came.at.starts; lawful = came.at.lawful; why = came.cause.2; left = is_left meaning opening s t came.at.writes came.cause.3 }) refl came.cause.1
 ends_faulted {meaning} {opening = opening} {s = s} {t = t} (Frames a b) came =
-    ends_behind (Frames a b) came came.cause.0 came.cause.2 tt (record { opening = opening; opens = came.cause.0; starts = came.starts; lawful = came.lawful; why = came.cause.2; left = is_left meaning opening s t came.writes came.cause.3 }) refl came.cause.1
+    ends_behind (Frames a b) came came.cause.0 came.cause.2 tt (record { opening = opening; opens = came.cause.0; starts = came.at.starts; lawful = came.at.lawful; why = came.cause.2; left = is_left meaning opening s t came.at.writes came.cause.3 }) refl came.cause.1
 ends_faulted {meaning} {opening = opening} {s = s} {t = t} (FewSubscribers a b) came =
-    ends_behind (FewSubscribers a b) came came.cause.0 came.cause.2 tt (record { opening = opening; opens = came.cause.0; starts = came.starts; lawful = came.lawful; why = came.cause.2; left = is_left meaning opening s t came.writes came.cause.3 }) refl came.cause.1
+    ends_behind (FewSubscribers a b) came came.cause.0 came.cause.2 tt (record { opening = opening; opens = came.cause.0; starts = came.at.starts; lawful = came.at.lawful; why = came.cause.2; left = is_left meaning opening s t came.at.writes came.cause.3 }) refl came.cause.1
 ends_faulted {meaning} {opening = opening} {s = s} {t = t} (Numbers a b) came =
-    ends_behind (Numbers a b) came came.cause.0 came.cause.2 tt (record { opening = opening; opens = came.cause.0; starts = came.starts; lawful = came.lawful; why = came.cause.2; left = is_left meaning opening s t came.writes came.cause.3 }) refl came.cause.1
+    ends_behind (Numbers a b) came came.cause.0 came.cause.2 tt (record { opening = opening; opens = came.cause.0; starts = came.at.starts; lawful = came.at.lawful; why = came.cause.2; left = is_left meaning opening s t came.at.writes came.cause.3 }) refl came.cause.1
 ends_faulted Usage came = absurd came.cause.2
 ends_faulted (File n) came = absurd came.cause.2
 ends_faulted (Text n r c) came = absurd came.cause.2
@@ -202,15 +206,15 @@ ends_faulted Unformatted came = absurd came.cause.2
 ends_faulted (Damaged a) came = absurd came.cause.2
 ends_faulted (NotDb a) came = absurd came.cause.2
 ends_faulted Output came = absurd came.cause.2
-ends_faulted {meaning} {f} {opening = opening} (Audit line) came = absurd (never_no meaning f opening line came.writes came.cause.2)
+ends_faulted {meaning} {f} {opening = opening} (Audit line) came = absurd (never_no meaning f opening line came.at.writes came.cause.2)
 
 module _ {meaning : Meaning} {f g : FilesSight} {opening : Opening} {done : List Done} {last : ℕ} {s t : Sight} (came : Came meaning f g opening done last None s t) (text : List ℕ)
     (output : IsOutput meaning opening done last text) where
   all_done : (k l : SinkSight) {Taken : List ℕ → Type 0} → Taken text → AllDone meaning (world_of s f k) (world_of t g l) done Taken
   all_done k l taken = record {
     opening = opening;
-    starts = came.starts;
-    lawful = came.lawful;
+    starts = came.at.starts;
+    lawful = came.at.lawful;
     replies = came.cause.replies;
     all = came.cause.all;
     last = last;
@@ -229,7 +233,7 @@ module _ {meaning : Meaning} {f g : FilesSight} {opening : Opening} {done : List
   -- all was done and printed
   ends_whole : {k l : SinkSight} → Took text k l → Ends meaning (world_of s f k) (world_of t g l) done None
   ends_whole {k} {l} took = record {
-    headline = λ has. headline_of came None (completed meaning (world_of s f k) (world_of t g l) done (TookAll k l) came.writes (all_done k l {Taken = TookAll k l} took.taken));
+    headline = λ has. headline_of came None (completed meaning (world_of s f k) (world_of t g l) done (TookAll k l) came.at.writes (all_done k l {Taken = TookAll k l} took.taken));
     causes = causes_of came None tt tt (passed None) (λ good medium output. inl refl) tt came.ran came.once (sink_took took);
   }
 
@@ -241,7 +245,7 @@ module _ {meaning : Meaning} {f g : FilesSight} {opening : Opening} {done : List
       P x = Ends meaning (world_of s f k) (world_of t g l) done (Some x)
 
       all : Completed meaning (world_of s f k) (world_of t g l) done (TookPrefix k l)
-      all = completed meaning (world_of s f k) (world_of t g l) done (TookPrefix k l) came.writes (all_done k l {Taken = TookPrefix k l} (took_prefix stops))
+      all = completed meaning (world_of s f k) (world_of t g l) done (TookPrefix k l) came.at.writes (all_done k l {Taken = TookPrefix k l} (took_prefix stops))
 
       at_output : Risen k.faults l.faults → P Output
       at_output risen = record {

@@ -33,7 +33,7 @@ use Rattle.command_openings.proofs.ImageOpened.{partly_opened}
 use Rattle.dude_program.specs.World.{world_of}
 use Rattle.dude_program.specs.Opening.{Starts, command_files, makes_image, only_reads}
 use Rattle.dude_program.specs.Headline.{Headline, MustOnlyRead, Printed}
-use Rattle.dude_program.specs.Causes.{FilesRefuse, HasCause, MakesSome, OpensOnceBy, RanUnlessDevice, RefusesContent, RefusesFormat, RefusesInOrder, StoppedAtFiles, StoppedByOpening, StoppedReading, Untouched, sizes_made}
+use Rattle.dude_program.specs.Causes.{FilesRefuse, HasCause, MakesSome, OpensOnceBy, RanUnlessDevice, RefusesContent, RefusesFormat, RefusesInOrder, StoppedAtFiles, StoppedByOpening, StoppedReading, SucceedsIfGood, Untouched, sizes_made}
 use Rattle.dude_program.specs.Ending.{Ends}
 use Rattle.dude_program.proofs.FilesRead.{FilesRead, all_read, good_none_bad, one_bad, read_bad, read_before, read_fits, read_missing}
 use Rattle.dude_program.proofs.Contents.{fits_not_refused, makes_none, one_content_fault, one_format_fault, opens_not_refused}
@@ -95,59 +95,41 @@ module _ (meaning : Meaning) {s : Sight} {f : FilesSight} {k : SinkSight} (prefi
     opening = λ opens visible opening starts why refuses. inr by_opening;
   }
 
-  pub ends_at_files : {g : FilesSight} (fault : Fault) → ReadsInOrder (command_files meaning) (Some fault) f g → HasFileFault (command_files meaning) f g fault → (IsTrue f.is_visible → MissesFile (command_files meaning) f → read.StoppedReading fault)
+  -- the medium wasn't called, for this fault
+  ends_uncalled : {g : FilesSight} (fault : Fault) → ReadsInOrder (command_files meaning) (Some fault) f g → HasCause meaning (world_of s f k) (world_of s g k) (Some fault)
+      → RefusesInOrder meaning (world_of s f k) (Some fault) → SucceedsIfGood meaning (world_of s f k) (world_of s g k) (Some fault) → Untouched meaning (Some fault) s s []
+      → OpensOnceBy meaning (Some fault) [] s s → Printed meaning (world_of s f k) (world_of s g k) [] (Some fault) → (◌≡◌ {A = Option Fault} (Some fault) (Some Device) → ⊥)
       → Ends meaning (world_of s f k) (world_of s g k) [] (Some fault)
-  ends_at_files (File n) read has missing = record {
-    headline = λ has. headline_none meaning (File n) prefix refl (λ none. (true, reads_here s));
+  ends_uncalled fault read cause order complete untouched once printed other = record {
+    headline = λ has. headline_none meaning fault prefix printed (λ none. (true, reads_here s));
     causes = record {
-      cause = has;
-      order = order_unread (File n) tt tt tt;
-      complete = λ good medium files output. absurd (files has.1);
-      untouched = (refl, refl);
+      cause = cause;
+      order = order;
+      complete = complete;
+      untouched = untouched;
       spared = λ bad. (refl, refl);
       nothing = λ opens visible opening starts why refuses. refl;
-      ran = calls_none s s refl (λ e. let no : ⊥ = cc in no);
-      once = λ opens. inl (refl, tt);
+      ran = calls_none s s refl other;
+      once = λ opens. once;
       reads = read;
       sink = sink_same;
     };
   }
-  ends_at_files (Text n r c) read has missing = record {
-    headline = λ has. headline_none meaning (Text n r c) prefix refl (λ none. (true, reads_here s));
-    causes = record {
-      cause = λ reads. has.0;
-      order = record {
+
+  pub ends_at_files : {g : FilesSight} (fault : Fault) → ReadsInOrder (command_files meaning) (Some fault) f g → HasFileFault (command_files meaning) f g fault → (IsTrue f.is_visible → MissesFile (command_files meaning) f → read.StoppedReading fault)
+      → Ends meaning (world_of s f k) (world_of s g k) [] (Some fault)
+  ends_at_files (File n) read has missing =
+      ends_uncalled (File n) read has (order_unread (File n) tt tt tt) (λ good medium files output. absurd (files has.1)) (refl, refl) (inl (refl, tt)) refl (λ e. let no : ⊥ = cc in no)
+  ends_at_files (Text n r c) read has missing =
+      ends_uncalled (Text n r c) read (λ reads. has.0) (record {
         missing = λ visible misses. absurd (missing visible misses);
         bad = λ reads visible number row field bad. inl (one_bad f (command_files meaning) n number r row c field visible has.0 bad);
         format = λ why refuses. inr (all_read meaning);
         content = λ opens visible why refuses. inr (all_read meaning);
         opening = λ opens visible opening starts why refuses. inr (all_read meaning);
-      };
-      complete = λ good medium files output. absurd (good_none_bad f (command_files meaning) n r c good.files good.good has.0);
-      untouched = ((λ reads. refl), refl);
-      spared = λ bad. (refl, refl);
-      nothing = λ opens visible opening starts why refuses. refl;
-      ran = calls_none s s refl (λ e. let no : ⊥ = cc in no);
-      once = λ opens. inl (refl, tt);
-      reads = read;
-      sink = sink_same;
-    };
-  }
-  ends_at_files Memory read has missing = record {
-    headline = λ has. headline_none meaning Memory prefix (inl (inl refl)) (λ none. (true, reads_here s));
-    causes = record {
-      cause = tt;
-      order = order_unread Memory tt tt tt;
-      complete = λ good medium files output. inr refl;
-      untouched = tt;
-      spared = λ bad. (refl, refl);
-      nothing = λ opens visible opening starts why refuses. refl;
-      ran = calls_none s s refl (λ e. let no : ⊥ = cc in no);
-      once = λ opens. inl (refl, unopened meaning (makes_image meaning) s);
-      reads = read;
-      sink = sink_same;
-    };
-  }
+      }) (λ good medium files output. absurd (good_none_bad f (command_files meaning) n r c good.files good.good has.0)) ((λ reads. refl), refl) (inl (refl, tt)) refl (λ e. let no : ⊥ = cc in no)
+  ends_at_files Memory read has missing =
+      ends_uncalled Memory read tt (order_unread Memory tt tt tt) (λ good medium files output. inr refl) tt (inl (refl, unopened meaning (makes_image meaning) s)) (inl (inl refl)) (λ e. let no : ⊥ = cc in no)
   ends_at_files Usage read has missing = absurd has
   ends_at_files (Small a b) read has missing = absurd has
   ends_at_files (TooFew a b) read has missing = absurd has
