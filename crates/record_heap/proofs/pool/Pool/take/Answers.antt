@@ -1,7 +1,7 @@
-use Rattle.std.proofs.Common.{None, ap, sym, ◌∙◌, ◌+◌, subst, slice_index, arith}
+use Rattle.std.proofs.Common.{None, ap, sym, ◌∙◌, ◌+◌, subst, slice_index, arith, lit≤}
 use Rattle.std.proofs.lemmas.Bool.{false≢true}
 use Rattle.word_space.specs.Sights.{shown}
-use Rattle.word_space.proofs.Runs.{below_before, length_shown, shown_same, used_then}
+use Rattle.word_space.proofs.Runs.{used_until, below_before, length_shown, shown_same, used_handed, used_then, wrote_none, wrote_then}
 use Rattle.record_heap.specs.Pool.{Takes, FitsPool, IsRecord, with_header}
 use Rattle.record_heap.proofs.Pools.{takes_none, takes_first}
 use Rattle.record_heap.proofs.pool.Pool.take.Goals as goal
@@ -46,3 +46,10 @@ returns-clause-takes g c = λ array below free taken lawful.
     c.saturating_add-live.ensures
     (put_step.shown array ∙ ap (with_header pool (record { first = c.in_ok-next.next; live = c.saturating_add-live.result })) (shown_same (used_then header_step.uses next_step.uses) array))
     free taken lawful
+
+pub returns-in_err-put_header-clause-uses : goal.returns-in_err-put_header-clause-uses
+returns-in_err-put_header-clause-uses g c = used_handed c.from_residual-in_err-put_header.result c.from_residual-in_err-put_header.ensures.1
+    (used_until (used_then c.in_ok-header.ensures.uses c.in_ok-next.ensures.uses) c.in_err-put_header.ensures.uses) (lit≤ tt) (lit≤ tt)
+
+pub returns-clause-wrote : goal.returns-clause-wrote
+returns-clause-wrote g c = wrote_then (wrote_none (used_then c.in_ok-header.ensures.uses c.in_ok-next.ensures.uses)) c.in_ok-put_header.ensures.wrote
