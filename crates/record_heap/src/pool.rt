@@ -43,6 +43,7 @@ impl Pool {
     /// Takes the first free record, and answers it.
     ///
     /// In an array that is no lawful pool, a link that is no record ends the free list.
+    #[tactic(auto, using(word_space::proofs::Runs::using_words))]
     pub fn take<W: Words>(&self, w: &mut W) -> Result<Option<u64>, Stop>
         requires fits { FitsPool self.now (W.sight w.old).count }
         ensures uses { UsesWords W.sight W.turns_into 3 2 result w.old w.new }
@@ -65,6 +66,7 @@ impl Pool {
     ///
     /// What it does is said of arrays in which that record is not free. After a Stop the writes made before it are still
     /// pending, here as in `take`: the caller drops them.
+    #[tactic(auto, using(word_space::proofs::Runs::using_words))]
     pub fn give<W: Words>(&self, w: &mut W, at: u64) -> Result<(), Stop>
         requires fits { FitsPool self.now (W.sight w.old).count }
         requires record { IsRecord self.now at }

@@ -210,3 +210,6 @@ wrote_some {n} {s} wrote some = omega (arith, some_after wrote.made s.writes (om
 -- no write leaves the list of writes
 pub wrote_zero : {s t : WordsSight} → Wrote 0 s t → t.writes ≡ s.writes
 wrote_zero wrote = none_made wrote.made (omega (arith, wrote.count)) wrote.writes
+
+-- calls one by one, and what they come to
+pub ruleset using_words = (used_then, used_until, used_more, used_handed, wrote_none, wrote_one, wrote_then)

@@ -13,22 +13,6 @@ write-requires g c = record { inside = omega (arith, c.requires.fits.inside _ c.
 pub put_header-requires : goal.put_header-requires
 put_header-requires g c = record { fits = subst (FitsPool c.args.self.now) (sym (c.in_ok-write.ensures.uses.count ∙ c.in_ok-header.ensures.uses.count)) c.requires.fits }
 
-pub returns-in_err-header-clause-uses : goal.returns-in_err-header-clause-uses
-returns-in_err-header-clause-uses g c = used_handed c.from_residual.result c.from_residual.ensures.1 c.in_err-header.ensures.uses (lit≤ tt) (lit≤ tt)
-
-pub returns-in_err-write-clause-uses : goal.returns-in_err-write-clause-uses
-returns-in_err-write-clause-uses g c = used_handed c.from_residual-in_err-write.result c.from_residual-in_err-write.ensures.1 (used_until c.in_ok-header.ensures.uses c.in_err-write.ensures.uses) (lit≤ tt) (lit≤ tt)
-
-pub returns-in_err-put_header-clause-uses : goal.returns-in_err-put_header-clause-uses
-returns-in_err-put_header-clause-uses g c = used_handed c.from_residual-in_err-put_header.result c.from_residual-in_err-put_header.ensures.1
-    (used_until (used_then c.in_ok-header.ensures.uses c.in_ok-write.ensures.uses) c.in_err-put_header.ensures.uses) (lit≤ tt) (lit≤ tt)
-
-pub returns-clause-uses : goal.returns-clause-uses
-returns-clause-uses g c = used_then c.in_ok-header.ensures.uses (used_then c.in_ok-write.ensures.uses c.in_ok-put_header.ensures.uses)
-
-pub returns-clause-wrote : goal.returns-clause-wrote
-returns-clause-wrote g c = wrote_then (wrote_none c.in_ok-header.ensures.uses) (wrote_then (wrote_one c.in_ok-write.ensures.writes) c.in_ok-put_header.ensures.wrote)
-
 pub returns-clause-gives : goal.returns-clause-gives
 returns-clause-gives g c = λ array below free taken lawful kept.
     let pool = c.args.self.now in
@@ -42,3 +26,13 @@ returns-clause-gives g c = λ array below free taken lawful kept.
     (put_step.shown array ∙ ap (with_header pool (record { first = at; live = c.saturating_sub-live.result }))
     (link_step.shown array ∙ ap (λ words. slice_set words (at + 1) c.in_ok-header.header.first) (shown_same header_step.uses array)))
     free taken lawful kept
+
+pub returns-in_err-put_header-clause-uses : goal.returns-in_err-put_header-clause-uses
+returns-in_err-put_header-clause-uses g c = used_handed c.from_residual-in_err-put_header.result c.from_residual-in_err-put_header.ensures.1
+    (used_until (used_then c.in_ok-header.ensures.uses c.in_ok-write.ensures.uses) c.in_err-put_header.ensures.uses) (lit≤ tt) (lit≤ tt)
+
+pub returns-clause-uses : goal.returns-clause-uses
+returns-clause-uses g c = used_then c.in_ok-header.ensures.uses (used_then c.in_ok-write.ensures.uses c.in_ok-put_header.ensures.uses)
+
+pub returns-clause-wrote : goal.returns-clause-wrote
+returns-clause-wrote g c = wrote_then (wrote_none c.in_ok-header.ensures.uses) (wrote_then (wrote_one c.in_ok-write.ensures.writes) c.in_ok-put_header.ensures.wrote)

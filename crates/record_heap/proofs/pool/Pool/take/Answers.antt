@@ -1,7 +1,7 @@
 use Rattle.std.proofs.Common.{None, ap, sym, ◌∙◌, ◌+◌, subst, slice_index, arith, lit≤}
 use Rattle.std.proofs.lemmas.Bool.{false≢true}
 use Rattle.word_space.specs.Sights.{shown}
-use Rattle.word_space.proofs.Runs.{used_until, below_before, length_shown, shown_same, used_handed, used_more, used_then, wrote_none, wrote_then}
+use Rattle.word_space.proofs.Runs.{used_until, below_before, length_shown, shown_same, used_handed, used_then, wrote_none, wrote_then}
 use Rattle.record_heap.specs.Pool.{Takes, FitsPool, IsRecord, with_header}
 use Rattle.record_heap.proofs.Pools.{takes_none, takes_first}
 use Rattle.record_heap.proofs.pool.Pool.take.Goals as goal
@@ -15,15 +15,6 @@ read-requires g c = record { inside = omega (arith, c.requires.fits.inside _ (c.
 pub put_header-requires : goal.put_header-requires
 put_header-requires g c = record { fits = subst (FitsPool c.args.self.now) (sym (c.in_ok-next.ensures.uses.count ∙ c.in_ok-header.ensures.uses.count)) c.requires.fits }
 
-pub returns-in_err-header-clause-uses : goal.returns-in_err-header-clause-uses
-returns-in_err-header-clause-uses g c = used_handed c.from_residual.result c.from_residual.ensures.1 c.in_err-header.ensures.uses (lit≤ tt) (lit≤ tt)
-
-pub returns-then-not-has-clause-uses : goal.returns-then-not-has-clause-uses
-returns-then-not-has-clause-uses g c = used_more c.in_ok-header.ensures.uses (lit≤ tt) (lit≤ tt)
-
-pub returns-then-not-has-clause-wrote : goal.returns-then-not-has-clause-wrote
-returns-then-not-has-clause-wrote g c = wrote_none c.in_ok-header.ensures.uses
-
 pub returns-then-not-has-clause-first : goal.returns-then-not-has-clause-first
 returns-then-not-has-clause-first g c = λ array below there.
     false≢true (c.if-not-has.ensures.1 (subst (IsRecord c.args.self.now) (sym (c.in_ok-header.ensures.words array below).first) there))
@@ -34,19 +25,6 @@ returns-then-not-has-clause-takes g c = λ array below free taken lawful.
     let old = shown (g.W.Words.sight c.args.w.now) array in
     subst (λ new. Takes c.args.self.now free taken None old new) (sym (shown_same seen.uses array))
     (takes_none (seen.words array below).first (λ there. false≢true (c.if-not-has.ensures.1 there)) free taken lawful)
-
-pub returns-in_err-next-clause-uses : goal.returns-in_err-next-clause-uses
-returns-in_err-next-clause-uses g c = used_handed c.from_residual-in_err-next.result c.from_residual-in_err-next.ensures.1 (used_until c.in_ok-header.ensures.uses c.in_err-next.ensures.uses) (lit≤ tt) (lit≤ tt)
-
-pub returns-in_err-put_header-clause-uses : goal.returns-in_err-put_header-clause-uses
-returns-in_err-put_header-clause-uses g c = used_handed c.from_residual-in_err-put_header.result c.from_residual-in_err-put_header.ensures.1
-    (used_until (used_then c.in_ok-header.ensures.uses c.in_ok-next.ensures.uses) c.in_err-put_header.ensures.uses) (lit≤ tt) (lit≤ tt)
-
-pub returns-clause-uses : goal.returns-clause-uses
-returns-clause-uses g c = used_then c.in_ok-header.ensures.uses (used_then c.in_ok-next.ensures.uses c.in_ok-put_header.ensures.uses)
-
-pub returns-clause-wrote : goal.returns-clause-wrote
-returns-clause-wrote g c = wrote_then (wrote_none (used_then c.in_ok-header.ensures.uses c.in_ok-next.ensures.uses)) c.in_ok-put_header.ensures.wrote
 
 pub returns-clause-first : goal.returns-clause-first
 returns-clause-first g c = λ array below.
@@ -68,3 +46,10 @@ returns-clause-takes g c = λ array below free taken lawful.
     c.saturating_add-live.ensures
     (put_step.shown array ∙ ap (with_header pool (record { first = c.in_ok-next.next; live = c.saturating_add-live.result })) (shown_same (used_then header_step.uses next_step.uses) array))
     free taken lawful
+
+pub returns-in_err-put_header-clause-uses : goal.returns-in_err-put_header-clause-uses
+returns-in_err-put_header-clause-uses g c = used_handed c.from_residual-in_err-put_header.result c.from_residual-in_err-put_header.ensures.1
+    (used_until (used_then c.in_ok-header.ensures.uses c.in_ok-next.ensures.uses) c.in_err-put_header.ensures.uses) (lit≤ tt) (lit≤ tt)
+
+pub returns-clause-wrote : goal.returns-clause-wrote
+returns-clause-wrote g c = wrote_then (wrote_none (used_then c.in_ok-header.ensures.uses c.in_ok-next.ensures.uses)) c.in_ok-put_header.ensures.wrote
