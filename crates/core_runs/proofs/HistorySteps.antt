@@ -24,15 +24,15 @@ turn_taken = after_all ((take_turn, 0) ∷ (see_full 0 0, 1) ∷ []) posted
 abbrev pub durable_one : View
 durable_one = view_after two (raise_durable 1) emptied 0
 
-module _ {S X : Type 0} (slot_fact : Setup → State → List X → List (Option S) → Type 0) (id : ℕ) (k : Known X) where
-  pub empty_fits : EmptiesFull slot_fact → k.view ≡ turn_taken → Foreseen slot_fact two (empty_box 0 0) id k
-  empty_fits law is = law two id k 0 0 1 (ap (λ (v : View). v.turn.has_it) is) (ap (λ (v : View). find v.turn.full 0) is)
+module _ {S X K : Type 0} (slot_fact : K → State → List X → List (Option S) → Type 0) (key : K) (id : ℕ) (k : Known X) where
+  pub empty_fits : EmptiesFull slot_fact → k.view ≡ turn_taken → Foreseen (slot_fact key) two (empty_box 0 0) id k
+  empty_fits law is = law key two id k 0 0 1 (ap (λ (v : View). v.turn.has_it) is) (ap (λ (v : View). find v.turn.full 0) is)
 
-  pub durable_fits : RaisesDurable slot_fact → k.view ≡ emptied → Foreseen slot_fact two (raise_durable 1) id k
-  durable_fits law is = let draws : k.view.draws ≡ emptied.draws = ap (λ (v : View). v.draws) is in law two id k 1 (ap (λ (v : View). has v.drawn 1) is) (omega arith)
+  pub durable_fits : RaisesDurable slot_fact → k.view ≡ emptied → Foreseen (slot_fact key) two (raise_durable 1) id k
+  durable_fits law is = let draws : k.view.draws ≡ emptied.draws = ap (λ (v : View). v.draws) is in law key two id k 1 (ap (λ (v : View). has v.drawn 1) is) (omega arith)
 
-  pub reproduced_fits : RaisesReproduced slot_fact → k.view ≡ durable_one → Foreseen slot_fact two (raise_reproduced 1) id k
-  reproduced_fits law is = let draws : k.view.draws ≡ durable_one.draws = ap (λ (v : View). v.draws) is in law two id k 1 (ap (λ (v : View). has v.drawn 1) is) (omega arith)
+  pub reproduced_fits : RaisesReproduced slot_fact → k.view ≡ durable_one → Foreseen (slot_fact key) two (raise_reproduced 1) id k
+  reproduced_fits law is = let draws : k.view.draws ≡ durable_one.draws = ap (λ (v : View). v.draws) is in law key two id k 1 (ap (λ (v : View). has v.drawn 1) is) (omega arith)
 
 -- the view after a step, where the one before and the number found are known
 pub next_view : (z : Setup) (e : Event) (v w u : View) (n m : ℕ) → z ≡ two → v ≡ u → n ≡ m → w ≡ view_after z e v n → w ≡ view_after two e u m

@@ -9,11 +9,15 @@ use Rattle.core_events.specs.Views.{View}
 use Rattle.core_events.specs.Events.{Event, number, see_box, begin, entry, pin, look, load, check, finish, take, draw, decide, store, touch, release, unpin, post, take_turn, see_full, empty_box, raise_durable, raise_reproduced, give_turn, extend, restore, evict, load_touch, view_after}
 use Rattle.core_events.specs.Partings.{newcomer, left_of, both_of}
 use Rattle.core_table.specs.Seats.{opener}
-use Rattle.tiny_stm.specs.Abouts.{about}
+use Rattle.stm_steps.specs.Abouts.{about}
 
 -- two threads, one lock, page, frame and box; all words are 0
 abbrev pub two : Setup
-two = record { threads = 2; locks = 1; pages = 1; frames = 1; boxes = 1; opening = replicate PAGE 0; first = 0; is_told = true; may_fail = false }
+two = record { threads = 2; locks = 1; pages = 1; frames = 1; boxes = 1; opening = replicate PAGE 0; first = 0; is_told = true; may_fail = true }
+
+-- these terms, where it is known what the medium gives, and a turn may fail
+abbrev pub told_all : Setup → Setup
+told_all z = record z { is_told = true; may_fail = true }
 
 -- the writes of the transaction: 7 to word 3
 abbrev pub one_write : List Write

@@ -1,7 +1,7 @@
 //! Histories of steps of running transactions, from a new table on.
 
 ghost use Rattle.std.specs.Prelude.{◌≡◌, IfOk, OnOk};
-ghost use Rattle.core_runs.specs.Views.{two, one_write};
+ghost use Rattle.core_runs.specs.Views.{two, told_all, one_write};
 
 use crate::history::{Small, begin, begin_again, empty, own, publish, read, read_again, settle};
 use crate::others::{drop_page, give_back};
@@ -12,7 +12,7 @@ use dude_base::write::Write;
 use dude_base::write_list::WriteList;
 use std::alloc::{AllocError, Global};
 use std::io;
-use tiny_stm::stm::Stm;
+use stm_steps::stm::Stm;
 
 /// Carries out the history of this name, and prints whether it came to its end.
 pub fn print_history(rt: &HostRuntime, name: &str) -> io::Result<()> {
@@ -35,7 +35,7 @@ pub fn print_history(rt: &HostRuntime, name: &str) -> io::Result<()> {
 fn whole(alloc: Global) -> Result<(), Trouble> {
     let terms = smallest(alloc)?;
     let writes = one_write();
-    let (stm, mut seat): (Small, _) = Stm::new(alloc, &terms, Vec::new(alloc))?;
+    let (stm, mut seat): (Small, _) = Stm::new(alloc, &terms, &terms, Vec::new(alloc))?;
     let mut other = stm.split(&mut seat, 0);
     expect(stm.number(&mut seat), 0)?;
     expect(stm.number(&mut other), 1)?;
@@ -54,7 +54,7 @@ fn whole(alloc: Global) -> Result<(), Trouble> {
 /// One seat gives a lock back, and drops a page.
 fn others(alloc: Global) -> Result<(), Trouble> {
     let terms = smallest(alloc)?;
-    let (stm, mut seat): (Small, _) = Stm::new(alloc, &terms, Vec::new(alloc))?;
+    let (stm, mut seat): (Small, _) = Stm::new(alloc, &terms, &terms, Vec::new(alloc))?;
     expect(stm.number(&mut seat), 0)?;
     give_back(&stm, &mut seat)?;
     drop_page(&stm, &mut seat)?;
@@ -63,7 +63,7 @@ fn others(alloc: Global) -> Result<(), Trouble> {
 
 /// Two threads, and one of each other thing.
 fn smallest(alloc: Global) -> Result<Terms, AllocError>
-    ensures { IfOk result (λ terms. terms ≡ two) }
+    ensures { IfOk result (λ terms. told_all terms ≡ two) }
 {
     Ok(Terms {
         threads: 2,
@@ -73,8 +73,6 @@ fn smallest(alloc: Global) -> Result<Terms, AllocError>
         boxes: 1,
         opening: vec![in alloc; 0u64; 64]?,
         first: 0,
-        is_told: true,
-        may_fail: false,
     })
 }
 

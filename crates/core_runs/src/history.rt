@@ -8,13 +8,14 @@ use crate::trouble::{Trouble, expect};
 use core_table::event_table::Seat;
 use core_table::foreseen::law_of_foreseen;
 use core_table::slot_rule::AnySlots;
+use core_table::terms::Terms;
 use dude_base::write_list::WriteList;
+use stm_steps::stm::Stm;
 use tatp_model::reply::Reply;
 use tatp_model::request::Request;
-use tiny_stm::stm::Stm;
 
 /// The machine of a short history, with nothing in its slots.
-pub type Small = Stm<(), (), AnySlots>;
+pub type Small = Stm<(), (), Terms, AnySlots>;
 
 /// A transaction begins, pins the page of the word 3 and looks at its lock.
 pub fn begin(stm: &Small, seat: &mut Seat<(), ()>) -> Result<(), Trouble>
@@ -100,7 +101,7 @@ pub fn empty(stm: &Small, seat: &mut Seat<(), ()>) -> Result<(), Trouble>
     ensures seat { OnOk result (BelongsTo stm.now.events seat.new) }
     ensures view { OnOk result (seat.new.me.0.view ≡ emptied) }
 {
-    law_of_foreseen::<(), (), AnySlots>();
+    law_of_foreseen::<(), (), Terms, AnySlots>();
     expect(stm.take_turn(seat, 0), 0)?;
     expect(stm.see_full(seat, 0, 0), 1)?;
     stm.empty_box(seat, 0, 0);
@@ -115,7 +116,7 @@ pub fn settle(stm: &Small, seat: &mut Seat<(), ()>)
     ensures seat { BelongsTo stm.now.events seat.new }
     ensures view { seat.new.me.0.view ≡ settled }
 {
-    law_of_foreseen::<(), (), AnySlots>();
+    law_of_foreseen::<(), (), Terms, AnySlots>();
     stm.raise_durable(seat, 1);
     stm.raise_reproduced(seat, 1);
     stm.give_turn(seat, false);

@@ -1,0 +1,20 @@
+-- Lists of boxes whose slots are out.
+use Rattle.std.proofs.Common.{◌≡◌, ℕ, zero, suc, ◌<◌, ◌⊎◌, List, [], ◌∷◌, length, get_or, refl, inl, inr, arith}
+use Rattle.std.specs.List.{Contains}
+
+module _ {A : Type 0} where
+  pub contains_here : (x : A) (xs : List A) → Contains (x ∷ xs) x
+  contains_here x xs = (0, omega arith, refl)
+
+  pub contains_more : (x : A) (xs : List A) (y : A) → Contains xs y → Contains (x ∷ xs) y
+  contains_more x xs y h = let lt = h.1 in (suc h.0, omega arith, h.2)
+
+  pub contains_either : (x : A) (xs : List A) (y : A) → Contains (x ∷ xs) y → (x ≡ y) ⊎ Contains xs y
+  contains_either x xs y h = by_place h.0 h.1 h.2
+    where
+      by_place : (i : ℕ) → i < length (x ∷ xs) → get_or (x ∷ xs) i y ≡ y → (x ≡ y) ⊎ Contains xs y
+      by_place zero lt e = inl e
+      by_place (suc i) lt e = inr (i, omega arith, e)
+
+  pub contains_none : (y : A) → Contains [] y → ⊥
+  contains_none y h = let lt = h.1 in absurd (omega arith)
