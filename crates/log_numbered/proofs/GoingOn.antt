@@ -1,5 +1,5 @@
 -- How a back goes on from call to call.
-use Rattle.std.proofs.Common.{◌≡◌, ◌⊎◌, ℕ, ◌+◌, ◌≤◌, Bool, true, false, IsTrue, List, ◌++◌, All, Result, Ok, Err, is_ok, sym, ap, ◌∙◌, subst, ⊎_elim, arith}
+use Rattle.std.proofs.Common.{◌≡◌, ◌⊎◌, ℕ, ◌≤◌, Bool, true, false, IsTrue, List, ◌++◌, All, Result, Ok, Err, is_ok, sym, ap, ◌∙◌, subst, ⊎_elim, arith}
 use Rattle.std.specs.Prelude.{IfOk, OnOk}
 use Rattle.dude_base.specs.Image.{image_words}
 use Rattle.pmem_trait.specs.declared.call.Call.{Call}

@@ -1,6 +1,5 @@
 -- The calls by which a log announces, settles and appends.
-use Rattle.std.proofs.Common.{◌≡◌, ℕ, ◌+◌, true, IsTrue, ◌++◌, Option, Some, None, Result, Ok, Err, refl, ap, ◌∙◌, subst, inr}
-use Rattle.std.specs.Prelude.{OnOk}
+use Rattle.std.proofs.Common.{◌≡◌, ℕ, ◌+◌, true, IsTrue, ◌++◌, Option, Some, None, Ok, refl, ap, ◌∙◌, subst, inr}
 use Rattle.dude_base.specs.Records.{RedoBundle, RedoRecord, bundle_of, first_of}
 use Rattle.pmem_trait.specs.Sights.{Sight, state_now, CallsMade}
 use Rattle.pmem_trait.proofs.Runs.{made_then}
