@@ -1,5 +1,5 @@
 -- What a command's words mean, where it is known what `clap` makes of them.
-use Rattle.std.proofs.Common.{◌≡◌, ◌∙◌, Bool, true, false, List, [], ◌∷◌, Option, Some, None, subst, sym, ap}
+use Rattle.std.proofs.Common.{◌≡◌, ◌∙◌, Bool, true, false, List, [], ◌∷◌, Option, Some, None, refl, subst, sym, ap}
 use Rattle.std.specs.Prelude.{if◌then◌else◌, IfOk, Result, Ok, Err}
 use Rattle.std.specs.Option.{option_map}
 use Rattle.command_words.specs.declared.command.Command.{Command}
@@ -50,6 +50,15 @@ taken-in app known words found m meaning reading same some read reads =
 pub refused-in : (app known : App) (words : List Text) (found : Option ArgMatches) (meaning : Option Meaning) (reading : List Row → Option Meaning)
     → app ≡ known → found ≡ None → IsReading app words found → Reads known words meaning reading → meaning ≡ None
 refused-in app known words found meaning reading same none read reads = reads.refused (rw (none, same) at read)
+
+-- the same, where what is read is what the words mean
+pub read-taken : (app : App) (words : List Text) (reading : List Row → Option Meaning) {found : Option ArgMatches} {m : ArgMatches} {meaning : Option Meaning}
+    → found ≡ Some m → IsReading app words found → Reads app words meaning reading → reading (rows_of (found_of m)) ≡ meaning
+read-taken app words reading {found} {m} {meaning} some read reads = sym (taken-in app app words found m meaning reading refl some read reads)
+
+pub read-refused : (app : App) (words : List Text) (reading : List Row → Option Meaning) {found : Option ArgMatches} {meaning : Option Meaning}
+    → found ≡ None → IsReading app words found → Reads app words meaning reading → None ≡ meaning
+read-refused app words reading {found} {meaning} none read reads = sym (refused-in app app words found meaning reading refl none read reads)
 
 -- a command that is answered for what words mean by one definition is answered by another
 pub means-if-ok : {E : Type 0} (r : Result (Option Command) E) (m n : Option Meaning) → m ≡ n

@@ -1,5 +1,5 @@
 -- A record joins the open bundle, or begins one.
-use Rattle.std.proofs.Common.{◌≡◌, ℕ, ◌+◌, ◌*◌, ◌<◌, ◌≤◌, true, IsTrue, List, [], ◌∷◌, ◌++◌, All, Bool, if◌then◌else◌, length, map, Option, Some, None, refl, sym, ap, ◌∙◌, subst, inl, inr, arith}
+use Rattle.std.proofs.Common.{◌≡◌, ℕ, ◌+◌, ◌*◌, ◌<◌, ◌≤◌, true, List, [], ◌∷◌, ◌++◌, All, Bool, if◌then◌else◌, length, map, Option, Some, None, sym, ap, ◌∙◌, subst, inl, inr, arith}
 use Rattle.std.specs.Prelude.{◌==◌, is_some}
 use Rattle.std.proofs.lemmas.Bool.{cases_Bool}
 use Rattle.std.proofs.lemmas.List.Elements.{All-cons, All-head, All-nil, All-push, All-tail}
@@ -11,7 +11,6 @@ use Rattle.dude_base.specs.Writes.{IsWriteList, overwritten, put_all, put_write,
 use Rattle.dude_base.proofs.Joining.{joining_law}
 use Rattle.pmem_trait.specs.declared.medium.Medium.{Ghosts}
 use Rattle.pmem_trait.specs.Sights.{AtEveryMoment, Sight, state_now, CallsMade, CallsMade.none}
-use Rattle.back_store.specs.Back.{BackState}
 use Rattle.log_numbered.specs.declared.bundle_log.BundleLog.{BundleLog}
 use Rattle.log_numbered.specs.declared.open_bundle.OpenBundle.{OpenBundle}
 use Rattle.log_numbered.specs.declared.run_log.RunLog.{RunLog}

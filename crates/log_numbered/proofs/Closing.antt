@@ -1,20 +1,22 @@
 -- The open bundle is closed, and calls follow.
-use Rattle.std.proofs.Common.{◌≡◌, ℕ, ◌+◌, ◌≤◌, true, IsTrue, List, [], ◌∷◌, ◌++◌, Option, Some, None, append_assoc, refl, sym, ap, ◌∙◌, subst, arith}
+use Rattle.std.proofs.Common.{◌≡◌, ℕ, ◌+◌, ◌≤◌, true, IsTrue, List, [], ◌∷◌, ◌++◌, Option, Some, None, refl, sym, ap, ◌∙◌, subst, arith}
 use Rattle.dude_base.specs.declared.limits.TheConstants.{MAX_SPAN}
 use Rattle.pmem_trait.specs.declared.medium.Medium.{Ghosts}
-use Rattle.pmem_trait.specs.Words.{EveryImage, IsImage}
-use Rattle.pmem_trait.specs.Sights.{Sight, state_now, AtEveryMoment}
+use Rattle.pmem_trait.specs.Words.{IsImage}
+use Rattle.pmem_trait.specs.Sights.{Sight, state_now}
 use Rattle.pmem_trait.proofs.Laws.{every_moment_then, every_moment_weaker}
+use Rattle.back_store.specs.Answers.{announced}
 use Rattle.back_store.specs.Back.{home_now}
 use Rattle.log_numbered.specs.declared.bundle_log.BundleLog.{BundleLog}
 use Rattle.log_numbered.specs.declared.open_bundle.OpenBundle.{OpenBundle}
 use Rattle.log_numbered.specs.declared.run_log.RunLog.{RunLog}
 use Rattle.log_numbered.specs.Arrays.{LeadsToLast, RecoversIn, RunArrays, array_at, last_number}
-use Rattle.back_store.specs.Told.{WereTold}
 use Rattle.log_numbered.specs.Backs.{Any, CarriesOn, LogGoesOn, HomeIsAt, LeadsUpTo, RecoversAlong}
-use Rattle.log_numbered.specs.BundleLog.{TellsOne, kept_back, kept_sight}
-use Rattle.log_numbered.specs.RunLog.{Closes, EndsAtLast, Follows, FollowsOn, HomeIsLast, IsAlive, IsOpen, OpenLeads, OpensUpTo, RecoversOn, TellsRun, log_back, log_durable, log_end, log_last, log_open, log_sight, log_sizes}
+use Rattle.log_numbered.specs.BundleLog.{AnnouncesLast, MakesCheckpoint, TellsOne, kept_back, kept_sight}
+use Rattle.log_numbered.specs.LogCalls.{settled}
+use Rattle.log_numbered.specs.RunLog.{AnnouncesRun, CheckpointsRun, Closes, EndsAtLast, Follows, FollowsOn, HomeIsLast, IsAlive, IsOpen, OpenLeads, OpensUpTo, RecoversOn, TellsRun, log_back, log_durable, log_end, log_last, log_open, log_parts, log_sight, log_sizes}
 use Rattle.log_numbered.proofs.GoingOn.{visible_after}
+use Rattle.log_numbered.proofs.LoggedCalls.{announced_behind, checkpointed_behind, parts_are}
 use Rattle.back_store.proofs.ToldNumbers.{told_more}
 
 module _ {M : Type 0} {ghosts : Ghosts M} where
@@ -118,4 +120,25 @@ module _ {M : Type 0} {ghosts : Ghosts M} where
     durable = durable ∙ closed.end;
     follows = λ before a f.
         closed_follows m (record m { log = n }) (log_sight m) (kept_sight n) Any (λ before a f. tt) carries (end ∙ closed.end ∙ sym last) refl closed.none_open before a (closed.follows before a f);
+  }
+
+  -- the open bundle was closed, and the last number then announced
+  pub announces_behind : (k m : RunLog M ghosts) (n : BundleLog M ghosts) → log_last m ≡ log_last k → Closes k m → LogGoesOn true (log_back k) (log_sight k) (log_back m) (log_sight m) → n.end ≡ log_end m
+      → AnnouncesLast m.log n → AnnouncesRun k (record m { log = n })
+  announces_behind k m n last closed goes end told = record {
+    calls = announced_behind (log_parts k) (log_parts (record m { log = n })) (log_back m) (log_end m) (log_last k) (log_sight k) (log_sight m) (kept_sight n) closed.end closed.calls
+        (parts_are (kept_back n) (announced (log_back m) (log_end m)) (log_open m) None told.back closed.none_open) told.calls;
+    tells = tells_behind k m n last closed goes end told.durable told.told told.carries;
+  }
+
+  -- and then all that waits reproduced
+  pub checkpoints_behind : (k m : RunLog M ghosts) (n : BundleLog M ghosts) → log_last m ≡ log_last k → Closes k m → LogGoesOn true (log_back k) (log_sight k) (log_back m) (log_sight m) → n.end ≡ log_end m
+      → RecoversAlong Any (log_back m) (log_end m) (log_sight m) (kept_sight n) → (kept_sight n).len ≡ (log_sight m).len → MakesCheckpoint m.log n → CheckpointsRun k (record m { log = n })
+  checkpoints_behind k m n last closed goes end moments len told = record {
+    calls = checkpointed_behind (log_parts k) (log_parts (record m { log = n })) (log_back m) (log_end m) (log_last k) (log_sight k) (log_sight m) (kept_sight n) closed.end closed.calls
+        (parts_are (kept_back n) (settled (log_back m) (log_end m)) (log_open m) None told.back closed.none_open) told.calls;
+    tells = tells_behind k m n last closed goes end told.durable told.told told.carries;
+    reproduced = told.reproduced_is ∙ closed.end;
+    home = home_behind k m (log_sight k) (log_sight m) (kept_sight n) closed.end goes.sizes goes closed.follows told.home;
+    ends = ends_behind k m (log_sight k) (log_sight m) (kept_sight n) closed.end goes.sizes goes closed.follows moments len;
   }

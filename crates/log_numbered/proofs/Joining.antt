@@ -1,5 +1,5 @@
 -- Why an open bundle takes no record.
-use Rattle.std.proofs.Common.{◌≡◌, ℕ, ◌+◌, sym, ap, ◌∙◌, arith}
+use Rattle.std.proofs.Common.{ℕ, ◌+◌, sym, ap, ◌∙◌, arith}
 use Rattle.dude_base.specs.Joins.{CanJoin, Refuses}
 use Rattle.dude_base.specs.Records.{RedoBundle, RedoRecord}
 use Rattle.dude_base.specs.declared.no_join.NoJoin.{NoJoin}

@@ -1,5 +1,5 @@
 -- What contracts see of the persisted part of a log, and what its calls leave.
-use Rattle.std.specs.Prelude.{◌≡◌, ℕ, ◌+◌, ◌*◌, ◌<◌, ◌≤◌, All, Bool, IsTrue, List, [], ◌∷◌, ◌++◌, false, true}
+use Rattle.std.specs.Prelude.{◌≡◌, ℕ, ◌+◌, ◌*◌, ◌<◌, ◌≤◌, All, Bool, IsTrue, [], ◌∷◌, ◌++◌, false, true}
 use Rattle.dude_base.specs.declared.limits.TheConstants.{MAX_NUMBER, PAGE}
 use Rattle.dude_base.specs.Records.{RedoBundle, first_of}
 use Rattle.pmem_trait.specs.declared.medium.Medium.{Ghosts}

@@ -113,6 +113,7 @@ impl<M: Medium> RunLog<M> {
     }
 
     /// Persists the open bundle, announces the last number, and answers it.
+    #[tactic(auto, using(crate::proofs::GoingOn::if_ok_same))]
     pub fn announce(&mut self) -> Result<u64, Failed>
         requires alive { IsAlive self.old }
         ensures goes_on { RunGoesOn (is_ok result) self.old self.new }
@@ -127,6 +128,7 @@ impl<M: Medium> RunLog<M> {
 
     /// Persists the open bundle, announces the last number, and reproduces all that waits: the home is then the last array.
     /// Answers the number.
+    #[tactic(auto, using(crate::proofs::GoingOn::if_ok_same))]
     pub fn checkpoint(&mut self) -> Result<u64, Failed>
         requires alive { IsAlive self.old }
         ensures goes_on { RunGoesOn (is_ok result) self.old self.new }

@@ -1,4 +1,4 @@
-use Rattle.std.proofs.Common.{ℕ, ◌+◌, refl, sym, inl, subst, arith}
+use Rattle.std.proofs.Common.{ℕ, refl, sym, inl, subst, arith}
 use Rattle.back_store.specs.BackView.{medium_of, state_of}
 use Rattle.back_store.specs.Answers.{persist_calls}
 use Rattle.log_numbered.specs.Arrays.{LeadsToLast}

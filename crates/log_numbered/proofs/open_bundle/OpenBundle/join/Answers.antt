@@ -1,4 +1,4 @@
-use Rattle.std.proofs.Common.{◌≡◌, ◌≤◌, ℕ, ap, ◌∙◌, subst, arith}
+use Rattle.std.proofs.Common.{◌≤◌, ℕ, ap, ◌∙◌, subst, arith}
 use Rattle.dude_base.specs.Records.{RedoBundle}
 use Rattle.redo_record.specs.Record.{cells_for}
 use Rattle.log_numbered.proofs.Joining.{refused_by}

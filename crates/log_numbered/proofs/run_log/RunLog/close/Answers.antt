@@ -1,4 +1,4 @@
-use Rattle.std.proofs.Common.{◌≡◌, ℕ, ◌≤◌, [], None, Option, Some, true, IsTrue, refl, sym, ap, ◌∙◌, subst}
+use Rattle.std.proofs.Common.{◌≡◌, ℕ, ◌≤◌, [], None, Option, Some, refl, sym, ◌∙◌, subst}
 use Rattle.dude_base.specs.declared.limits.TheConstants.{MAX_NUMBER}
 use Rattle.pmem_trait.specs.Sights.{CallsMade.none}
 use Rattle.log_numbered.specs.declared.open_bundle.OpenBundle.{OpenBundle}
@@ -6,7 +6,7 @@ use Rattle.log_numbered.specs.Arrays.{LeadsToLast}
 use Rattle.log_numbered.specs.Backs.{Any}
 use Rattle.log_numbered.specs.BundleLog.{AppendsNext, kept_back, kept_medium}
 use Rattle.log_numbered.specs.LogCalls.{ClosedBy, Makes}
-use Rattle.log_numbered.specs.RunLog.{Closes, IsOpen, log_back, log_end, log_last, log_medium, log_open, log_sizes}
+use Rattle.log_numbered.specs.RunLog.{Closes, log_back, log_end, log_last, log_medium, log_open}
 use Rattle.log_numbered.proofs.Appending.{goes_here}
 use Rattle.log_numbered.proofs.Closing.{closed_alive, closed_follows, leads_to, none_end, opened, recovers_closing}
 use Rattle.log_numbered.proofs.GoingOn.{ok_holds, on_ok, recovers_here}
