@@ -21,10 +21,10 @@ use play::Play;
 use script_words::is_remark;
 use std::io;
 
-fn main(rt: HostRuntime) -> io::Result<()> {
-    let script = io::read_to_string(rt.alloc(), rt.reader())?;
+/// Carries out a script, and prints what it leaves.
+pub fn follow(rt: HostRuntime, script: &str) -> io::Result<()> {
     let mut play = Play::new();
-    for line in script.as_str().lines() {
+    for line in script.lines() {
         take_line(&rt, &mut play, line)?;
     }
     Ok(())
