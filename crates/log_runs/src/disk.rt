@@ -4,6 +4,7 @@ use crate::call_list::CallList;
 use crate::edges::text_of;
 use crate::faulty_host::FaultyHost;
 use crate::medium::{Subject, say_size};
+use crate::say::say_pair;
 use dude_io::{EdgeFault, FilePmem};
 use std::rc::Rc;
 use std::{fs, io};
@@ -14,9 +15,8 @@ pub fn say_file(rt: HostRuntime, name: &str, places: &[u64]) -> io::Result<()> {
     let count = bytes.len();
     print!(rt; "{count} bytes:")?;
     for at in 0..count {
-        let byte = bytes[at];
-        if is_wanted(places, at as u64, byte) {
-            print!(rt; " {at}={byte}")?;
+        if is_wanted(places, at as u64, bytes[at]) {
+            say_pair(rt, at as u64, u64::from(bytes[at]))?;
         }
     }
     println!(rt)
@@ -37,7 +37,13 @@ pub fn open(rt: HostRuntime, name: &str, failing: Option<u64>) -> io::Result<Sub
     open_on(rt, FaultyHost { rt, failing, list }, name)
 }
 
-/// The same where each call on files is printed, and the one of this count fails, from 1.
+/// Opens the medium in a file beside another, prints what the same opening prints, and lets it go.
+pub fn open_beside(rt: HostRuntime, name: &str) -> io::Result<()> {
+    drop(open(rt, name, None)?);
+    Ok(())
+}
+
+/// Opens the medium where each call on files is printed, and the one of this count fails, from 1.
 pub fn watch(rt: HostRuntime, name: &str, failing: u64) -> io::Result<Subject> {
     let list = Some(Rc::new(rt.alloc(), CallList::new(rt, failing))?);
     open_on(

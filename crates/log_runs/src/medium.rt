@@ -3,11 +3,13 @@
 use crate::faulty_host::FaultyHost;
 use crate::replays::{say_moments, say_replay, say_scan};
 use crate::save::save_safe;
-use crate::say::{say_back_fault, say_done, say_words};
+use crate::say::{say_back_fault, say_done, say_numbers, say_value, say_words};
 use crate::trial::Trial;
+use back_store::BackFault;
 use dude_io::FilePmem;
 use pmem_fake::MemPmem;
 use pmem_trait::{Call, Failed, Medium};
+use std::alloc::Global;
 use std::io;
 
 /// What the calls of a script are made on.
@@ -20,6 +22,22 @@ pub enum Subject {
 }
 
 impl Subject {
+    /// A back over the medium in memory; none where there is no such medium with room for it.
+    pub fn with_back(self, alloc: Global) -> Option<Subject> {
+        let Subject::Memory(medium) = self else {
+            return None;
+        };
+        Some(Subject::Back(Trial::new(alloc, medium)?))
+    }
+
+    /// The medium in memory below the back; none where there is no back.
+    pub fn without_back(self) -> Option<Subject> {
+        let Subject::Back(trial) = self else {
+            return None;
+        };
+        Some(Subject::Memory(trial.back.into_medium()))
+    }
+
     /// Carries out a command.
     pub fn carry_out(&mut self, rt: HostRuntime, name: &str, numbers: &[u64]) -> io::Result<()> {
         match self {
@@ -34,14 +52,23 @@ impl Subject {
 /// Carries out a command on a medium in memory.
 fn on_memory(rt: HostRuntime, medium: &mut MemPmem, name: &str, numbers: &[u64]) -> io::Result<()> {
     match (name, numbers) {
-        ("image", [moment, picks @ ..]) => match medium.images_at(rt.alloc(), *moment, picks) {
-            Ok(image) => say_words(rt, &image),
-            Err(fault) => rt.println(fault),
-        },
-        ("crash", picks) => say_words(rt, &medium.crash(rt.alloc(), picks)?),
+        ("image", [moment, picks @ ..]) => say_image(rt, medium, *moment, picks),
+        ("crash", picks) => say_crash(rt, medium, picks),
         ("content", &[]) => say_words(rt, medium.content()),
         ("made", &[]) => say_made(rt, medium),
         ("state", &[]) => say_state(rt, medium),
+        _ => on_small_image(rt, medium, name, numbers),
+    }
+}
+
+/// Carries out a command on a medium with the small image, or makes a call.
+fn on_small_image(
+    rt: HostRuntime,
+    medium: &mut MemPmem,
+    name: &str,
+    numbers: &[u64],
+) -> io::Result<()> {
+    match (name, numbers) {
         ("replay", &[]) => say_replay(rt, medium),
         ("scan", &[above]) => say_scan(rt, medium, above),
         ("moments", &[]) => say_moments(rt, medium),
@@ -52,19 +79,37 @@ fn on_memory(rt: HostRuntime, medium: &mut MemPmem, name: &str, numbers: &[u64])
     }
 }
 
+/// Prints the image that a crash leaves at a moment.
+fn say_image(rt: HostRuntime, medium: &MemPmem, moment: u64, picks: &[u64]) -> io::Result<()> {
+    match medium.images_at(rt.alloc(), moment, picks) {
+        Ok(image) => say_words(rt, &image),
+        Err(fault) => rt.println(fault),
+    }
+}
+
+/// Prints the image that a crash leaves now.
+fn say_crash(rt: HostRuntime, medium: &MemPmem, picks: &[u64]) -> io::Result<()> {
+    say_words(rt, &medium.crash(rt.alloc(), picks)?)
+}
+
 /// Prints the calls made, and which of them failed.
 fn say_made(rt: HostRuntime, medium: &MemPmem) -> io::Result<()> {
     for made in medium.made() {
-        match made.call {
-            Call::Read(at) => print!(rt; "read {at}")?,
-            Call::Put { at, value } => print!(rt; "put {at} {value}")?,
-            Call::Flush(line) => print!(rt; "flush {line}")?,
-            Call::Fence => rt.print("fence")?,
-            Call::Tell(number) => print!(rt; "tell {number}")?,
-        }
+        say_call(rt, made.call)?;
         rt.println(if made.failed { " failed" } else { "" })?;
     }
     Ok(())
+}
+
+/// Prints a call.
+fn say_call(rt: HostRuntime, call: Call) -> io::Result<()> {
+    match call {
+        Call::Read(at) => say_numbers(rt, "read", &[at]),
+        Call::Put { at, value } => say_numbers(rt, "put", &[at, value]),
+        Call::Flush(line) => say_numbers(rt, "flush", &[line]),
+        Call::Fence => rt.print("fence"),
+        Call::Tell(number) => say_numbers(rt, "tell", &[number]),
+    }
 }
 
 /// Prints how many calls were made, and failed, and the last number told.
@@ -122,13 +167,11 @@ fn make_call<M: Medium>(
     name: &str,
     numbers: &[u64],
 ) -> io::Result<()> {
+    let words = medium.len();
     match (name, numbers) {
-        ("read", &[at]) if at < medium.len() => match medium.read(at) {
-            Ok(value) => rt.println(value),
-            Err(fault) => say_done(rt, Err(fault)),
-        },
-        ("put", &[at, value]) if at < medium.len() => say_done(rt, medium.put(at, value)),
-        ("flush", &[line]) if line < medium.len() / 8 => say_done(rt, medium.flush(line)),
+        ("read", &[at]) if at < words => say_value(rt, medium.read(at)),
+        ("put", &[at, value]) if at < words => say_done(rt, medium.put(at, value)),
+        ("flush", &[line]) if line < words / 8 => say_done(rt, medium.flush(line)),
         ("fence", &[]) => say_done(rt, medium.fence()),
         ("tell", &[number]) => say_done(rt, medium.tell(number)),
         _ => rt.println("no command, or no such place"),
@@ -138,16 +181,24 @@ fn make_call<M: Medium>(
 /// Carries out a command on a back.
 fn on_back(rt: HostRuntime, trial: &mut Trial, name: &str, numbers: &[u64]) -> io::Result<()> {
     match (name, numbers) {
-        ("page", &[page]) if page < 15 => match trial.page(page) {
-            Ok(words) => say_words(rt, &words),
-            Err(fault) => say_back_fault(rt, fault),
-        },
-        ("numbers", &[]) => {
-            let durable = trial.back.durable();
-            let reproduced = trial.back.reproduced();
-            let dead = trial.back.is_dead();
-            println!(rt; "durable {durable}, reproduced {reproduced}, dead {dead}")
-        }
+        ("page", &[page]) if page < 15 => say_page(rt, trial.page(page)),
+        ("numbers", &[]) => say_back_numbers(rt, trial),
         _ => rt.println("no command, or no such page"),
     }
+}
+
+/// Prints the words of a page, or why they weren't read.
+fn say_page(rt: HostRuntime, found: Result<[u64; 64], BackFault>) -> io::Result<()> {
+    match found {
+        Ok(words) => say_words(rt, &words),
+        Err(fault) => say_back_fault(rt, fault),
+    }
+}
+
+/// Prints the numbers of a back, and whether it is dead.
+fn say_back_numbers(rt: HostRuntime, trial: &Trial) -> io::Result<()> {
+    let durable = trial.back.durable();
+    let reproduced = trial.back.reproduced();
+    let dead = trial.back.is_dead();
+    println!(rt; "durable {durable}, reproduced {reproduced}, dead {dead}")
 }
