@@ -18,25 +18,9 @@ mod trouble;
 mod words;
 
 use play::Play;
-use script_words::is_remark;
 use std::io;
 
 /// Carries out a script, and prints what it leaves.
 pub fn follow(rt: HostRuntime, script: &str) -> io::Result<()> {
-    let mut play = Play::new();
-    for line in script.lines() {
-        take_line(&rt, &mut play, line)?;
-    }
-    Ok(())
-}
-
-/// Prints a remark again, and carries out another line but for the reason behind ` # `.
-fn take_line(rt: &HostRuntime, play: &mut Play, line: &str) -> io::Result<()> {
-    if is_remark(line) {
-        return rt.println(line);
-    }
-    match line.split_once(" # ") {
-        Some((command, _)) => play.carry_out(rt, command),
-        None => play.carry_out(rt, line),
-    }
+    Play::new().follow(&rt, script)
 }

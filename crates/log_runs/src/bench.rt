@@ -1,10 +1,11 @@
 //! What a script's lines are carried out on.
 
 use crate::crashes::{medium_of, say_failures};
-use crate::disk::{change, open, open_beside, say_file, watch};
+use crate::disk::{change, open_beside, say_edge_fault, say_file};
 use crate::edges::{say_disk, say_output, say_sink, say_text, text_of};
+use crate::faulty_host::FaultyHost;
 use crate::log::Log;
-use crate::medium::Subject;
+use crate::medium::{Subject, say_size};
 use crate::records::{
     record_of, say_added, say_bundle, say_cells, say_combined, say_decoded, say_joined,
 };
@@ -224,7 +225,9 @@ impl Bench {
         match (name, numbers) {
             ("file", &[]) => self.add_file(file, lines),
             ("text", _) => say_text(self.rt, &self.texts, file, numbers),
-            ("open", writes) => self.open(file, writes.first().copied()),
+            ("open", writes) => {
+                self.open(FaultyHost::new(self.rt, writes.first().copied()), file)
+            }
             ("watch", &[failing]) => self.watch(file, failing),
             ("open_beside", &[]) => open_beside(self.rt, file),
             _ => on_file(self.rt, name, numbers, file, lines),
@@ -300,25 +303,27 @@ impl Bench {
     /// Makes a back of the medium in memory.
     fn begin_back(&mut self) -> io::Result<()> {
         self.steps.clear();
-        let begun = self.taken().with_back(self.rt.alloc());
-        self.take_made(begun, "no room")
+        match self.taken() {
+            Subject::Memory(medium) => match Trial::new(self.rt.alloc(), medium) {
+                Some(trial) => self.take_made(Subject::Back(trial)),
+                None => self.rt.println("no room"),
+            },
+            _ => self.rt.println("no room"),
+        }
     }
 
     /// Makes a medium in memory of the back.
     fn end_back(&mut self) -> io::Result<()> {
-        let ended = self.taken().without_back();
-        self.take_made(ended, "no back")
+        match self.taken() {
+            Subject::Back(trial) => self.take_made(Subject::Memory(trial.into_medium())),
+            _ => self.rt.println("no back"),
+        }
     }
 
-    /// Takes what was made for what calls are made on, and prints whether there is one.
-    fn take_made(&mut self, made: Option<Subject>, none: &str) -> io::Result<()> {
-        match made {
-            Some(subject) => {
-                self.work_on(subject);
-                self.rt.println("ok")
-            }
-            None => self.rt.println(none),
-        }
+    /// Takes what was made for what calls are made on.
+    fn take_made(&mut self, subject: Subject) -> io::Result<()> {
+        self.work_on(subject);
+        self.rt.println("ok")
     }
 
     /// Makes a call on the back, and prints its answer.
@@ -335,20 +340,23 @@ impl Bench {
         }
     }
 
-    /// Opens the medium in a file, once that of before is let go.
-    fn open(&mut self, file: &str, failing: Option<u64>) -> io::Result<()> {
+    /// Opens the medium in a file of a host, once that of before is let go, and prints its size, or why there is none.
+    fn open(&mut self, host: FaultyHost, file: &str) -> io::Result<()> {
         self.work_on(Subject::Nothing);
-        let subject = open(self.rt, file, failing)?;
-        self.work_on(subject);
-        Ok(())
+        match FilePmem::open(host, file) {
+            Ok(medium) => {
+                let said = say_size(self.rt, &medium);
+                self.work_on(Subject::File(medium));
+                said
+            }
+            Err(fault) => say_edge_fault(self.rt, fault),
+        }
     }
 
-    /// The same where each call on files is printed.
+    /// The same where each call on files is printed, and the one of this count fails, from 1.
     fn watch(&mut self, file: &str, failing: u64) -> io::Result<()> {
-        self.work_on(Subject::Nothing);
-        let subject = watch(self.rt, file, failing)?;
-        self.work_on(subject);
-        Ok(())
+        let host = FaultyHost::watched(self.rt, failing)?;
+        self.open(host, file)
     }
 
     /// Adds a file in memory, and prints how many bytes it has.

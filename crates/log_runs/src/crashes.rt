@@ -55,7 +55,7 @@ fn goes_well(
     };
     let dies = dies(&mut trial, steps)?;
     let numbers = (trial.back.durable(), trial.last_number());
-    let medium = trial.back.into_medium();
+    let medium = trial.into_medium();
     let survives = survives_twice(alloc, &medium, steps, numbers)?;
     Ok(dies & survives & (medium.now() == call) & (medium.faults() == 1))
 }
@@ -82,15 +82,19 @@ fn first_fault(
 
 /// Whether the back is dead, and each call answers that.
 fn stays_dead(trial: &mut Trial) -> Result<bool, AllocError> {
-    let dead = Some(Err(BackFault::Dead));
     let Ok(redo) = record_of(9, &[(5, 90), (576, 109)]) else {
         return Ok(false);
     };
-    let announced = trial.take(&Step::Announce)? == dead;
-    let reproduced = trial.take(&Step::Reproduce(9))? == dead;
-    let persisted = trial.take(&Step::Persist(0, Bundle::one(&redo)))? == dead;
-    let read = trial.page(0) == Err(BackFault::Dead);
+    let announced = answers_dead(trial, &Step::Announce)?;
+    let reproduced = answers_dead(trial, &Step::Reproduce(9))?;
+    let persisted = answers_dead(trial, &Step::Persist(0, Bundle::one(&redo)))?;
+    let read = matches!(trial.page(0), Err(BackFault::Dead));
     Ok(trial.back.is_dead() & announced & reproduced & persisted & read)
+}
+
+/// Whether a step is answered by that the back is dead.
+fn answers_dead(trial: &mut Trial, step: &Step) -> Result<bool, AllocError> {
+    Ok(matches!(trial.take(step)?, Some(Err(BackFault::Dead))))
 }
 
 /// Whether a crash now leaves images that recover, one of the settled values and one of first later ones.

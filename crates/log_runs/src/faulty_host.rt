@@ -3,7 +3,7 @@
 
 use crate::call_list::{CallList, enter, failure};
 use crate::faulty_file::FaultyFile;
-use std::alloc::{Allocator, Global};
+use std::alloc::{AllocError, Allocator, Global};
 use std::fmt::Display;
 use std::fs::{Metadata, OpenOptions};
 use std::io;
@@ -14,10 +14,30 @@ use std::rt::Files;
 /// a file asks no host for, as a copy or a list of names, fails.
 #[derive(Drop)]
 pub struct FaultyHost {
-    pub rt: HostRuntime,
-    pub failing: Option<u64>,
+    rt: HostRuntime,
+    failing: Option<u64>,
     /// What prints the calls, where they are printed.
-    pub list: Option<Rc<CallList>>,
+    list: Option<Rc<CallList>>,
+}
+
+impl FaultyHost {
+    /// The host, of whose files the write after so many fails; none without a number.
+    pub fn new(rt: HostRuntime, failing: Option<u64>) -> FaultyHost {
+        FaultyHost {
+            rt,
+            failing,
+            list: None,
+        }
+    }
+
+    /// The host, each of whose calls is printed, and the one of this count fails, from 1.
+    pub fn watched(rt: HostRuntime, failing: u64) -> Result<FaultyHost, AllocError> {
+        Ok(FaultyHost {
+            rt,
+            failing: None,
+            list: Some(Rc::new(rt.alloc(), CallList::new(rt, failing))?),
+        })
+    }
 }
 
 impl Files for FaultyHost {

@@ -9,7 +9,6 @@ use back_store::BackFault;
 use dude_io::FilePmem;
 use pmem_fake::MemPmem;
 use pmem_trait::{Call, Failed, Medium};
-use std::alloc::Global;
 use std::io;
 
 /// What the calls of a script are made on.
@@ -22,22 +21,6 @@ pub enum Subject {
 }
 
 impl Subject {
-    /// A back over the medium in memory; none where there is no such medium with room for it.
-    pub fn with_back(self, alloc: Global) -> Option<Subject> {
-        let Subject::Memory(medium) = self else {
-            return None;
-        };
-        Some(Subject::Back(Trial::new(alloc, medium)?))
-    }
-
-    /// The medium in memory below the back; none where there is no back.
-    pub fn without_back(self) -> Option<Subject> {
-        let Subject::Back(trial) = self else {
-            return None;
-        };
-        Some(Subject::Memory(trial.back.into_medium()))
-    }
-
     /// Carries out a command.
     pub fn carry_out(&mut self, rt: HostRuntime, name: &str, numbers: &[u64]) -> io::Result<()> {
         match self {

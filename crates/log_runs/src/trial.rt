@@ -63,6 +63,11 @@ impl Trial {
         }
     }
 
+    /// The medium below the back.
+    pub fn into_medium(self) -> MemPmem {
+        self.back.into_medium()
+    }
+
     /// Makes a call; `None` where the back doesn't take it. One that persists answers the last number.
     pub fn take(&mut self, step: &Step) -> Result<Option<Result<u64, BackFault>>, AllocError> {
         match step {
