@@ -15,7 +15,7 @@ use dude_base::bundle::Bundle;
 use dude_base::redo::Redo;
 use dude_io::FilePmem;
 use pmem_fake::MemPmem;
-use script_words::{is_remark, number_of, numbers_of, pairs_of, words_of};
+use script_words::{is_remark, number_at, number_of, numbers_of, pairs_of, words_of};
 use std::{io, mem};
 
 /// What a script's lines are carried out on.
@@ -53,11 +53,11 @@ fn on_file(
     file: &str,
     lines: &[&str],
 ) -> io::Result<()> {
-    match (name, numbers) {
-        ("disk", &[limit]) => say_disk(rt, file, limit),
-        ("sink", _) => say_sink(rt, file, numbers),
-        ("output", &[]) => say_output(rt, file),
-        ("bytes", places) => say_file(rt, file, places),
+    match name {
+        "disk" => say_disk(rt, file, number_at(numbers, 0)),
+        "sink" => say_sink(rt, file, numbers),
+        "output" => say_output(rt, file),
+        "bytes" => say_file(rt, file, numbers),
         _ => change(rt, name, numbers, file, lines),
     }
 }
@@ -123,27 +123,28 @@ impl Bench {
 
     /// Carries out a command that has only numbers.
     fn by_numbers(&mut self, name: &str, numbers: &[u64]) -> io::Result<()> {
-        match (name, numbers) {
-            ("words", &[count, value]) => self.fill(count, value),
-            ("set", [at, values @ ..]) => self.set(*at, values),
-            ("memory", [late, budget, fail @ ..]) => self.start(*late != 0, *budget, fail),
-            ("decode", words) => say_decoded(self.rt, words),
-            ("join", &[count]) => say_joined(self.rt, &mut self.bundle, count),
-            ("cells", &[]) => say_cells(self.rt, &self.bundle),
+        match name {
+            "words" => self.fill(number_at(numbers, 0), number_at(numbers, 1)),
+            "set" => self.set(numbers),
+            "memory" => self.start(numbers),
+            "decode" => say_decoded(self.rt, numbers),
+            "join" => say_joined(self.rt, &mut self.bundle, number_at(numbers, 0)),
+            "cells" => say_cells(self.rt, &self.bundle),
             _ => self.by_state(name, numbers),
         }
     }
 
     /// Carries out a command on the ring, on the back, or on the medium.
     fn by_state(&mut self, name: &str, numbers: &[u64]) -> io::Result<()> {
-        match (name, numbers) {
-            ("ring", &[ring]) => self.begin_ring(ring),
-            ("release", &[number]) => self.release(number),
-            ("back", &[]) => self.begin_back(),
-            ("end", &[]) => self.end_back(),
-            ("announce", &[]) => self.step(Step::Announce),
-            ("reproduce", &[most]) => self.step(Step::Reproduce(most)),
-            ("each", &[calls]) => say_failures(self.rt, &self.words, &self.steps, calls),
+        let number = number_at(numbers, 0);
+        match name {
+            "ring" => self.begin_ring(number),
+            "release" => self.release(number),
+            "back" => self.begin_back(),
+            "end" => self.end_back(),
+            "announce" => self.step(Step::Announce),
+            "reproduce" => self.step(Step::Reproduce(number)),
+            "each" => say_failures(self.rt, &self.words, &self.steps, number),
             _ => self.subject.carry_out(self.rt, name, numbers),
         }
     }
@@ -198,12 +199,12 @@ impl Bench {
 
     /// Carries out a command on a record.
     fn on_record(&mut self, name: &str, numbers: &[u64], redo: &Redo) -> io::Result<()> {
-        match (name, numbers) {
-            ("one", &[_]) => self.begin_bundle(redo),
-            ("add", &[_]) => say_added(self.rt, &mut self.bundle, redo),
-            ("encode", &[_]) => say_cells(self.rt, &Bundle::one(redo)),
-            ("append", &[_]) => self.append(&Bundle::one(redo)),
-            ("persist", &[ring, _]) => self.step(Step::Persist(ring, Bundle::one(redo))),
+        match name {
+            "one" => self.begin_bundle(redo),
+            "add" => say_added(self.rt, &mut self.bundle, redo),
+            "encode" => say_cells(self.rt, &Bundle::one(redo)),
+            "append" => self.append(&Bundle::one(redo)),
+            "persist" => self.step(Step::Persist(number_at(numbers, 0), Bundle::one(redo))),
             _ => self.rt.println("no command"),
         }
     }
@@ -222,14 +223,12 @@ impl Bench {
         file: &str,
         lines: &[&str],
     ) -> io::Result<()> {
-        match (name, numbers) {
-            ("file", &[]) => self.add_file(file, lines),
-            ("text", _) => say_text(self.rt, &self.texts, file, numbers),
-            ("open", writes) => {
-                self.open(FaultyHost::new(self.rt, writes.first().copied()), file)
-            }
-            ("watch", &[failing]) => self.watch(file, failing),
-            ("open_beside", &[]) => open_beside(self.rt, file),
+        match name {
+            "file" => self.add_file(file, lines),
+            "text" => say_text(self.rt, &self.texts, file, numbers),
+            "open" => self.open(FaultyHost::new(self.rt, numbers.first().copied()), file),
+            "watch" => self.watch(file, number_at(numbers, 0)),
+            "open_beside" => open_beside(self.rt, file),
             _ => on_file(self.rt, name, numbers, file, lines),
         }
     }
@@ -240,10 +239,11 @@ impl Bench {
         self.say_count()
     }
 
-    /// Sets words from a place on.
-    fn set(&mut self, at: u64, values: &[u64]) -> io::Result<()> {
+    /// Sets words from a place on, the first of these numbers, to the others.
+    fn set(&mut self, numbers: &[u64]) -> io::Result<()> {
+        let (at, values) = numbers.split_first().unwrap_or((&0, &[]));
         for k in 0..values.len() {
-            let place = k.saturating_add(at as usize);
+            let place = k.saturating_add(*at as usize);
             if place < self.words.len() {
                 self.words[place] = values[k];
             }
@@ -251,8 +251,10 @@ impl Bench {
         self.say_count()
     }
 
-    /// Makes a medium in memory with the words.
-    fn start(&mut self, late: bool, budget: u64, fail: &[u64]) -> io::Result<()> {
+    /// Makes a medium in memory with the words: the numbers are whether calls fail late, how many may be made, and those that fail.
+    fn start(&mut self, numbers: &[u64]) -> io::Result<()> {
+        let (late, budget) = (number_at(numbers, 0) != 0, number_at(numbers, 1));
+        let fail = numbers.get(2..).unwrap_or_default();
         let medium = medium_of(self.rt.alloc(), &self.words, late, budget, fail)?;
         self.work_on(Subject::Memory(medium));
         self.say_count()

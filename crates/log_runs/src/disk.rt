@@ -5,6 +5,7 @@ use crate::faulty_host::FaultyHost;
 use crate::medium::say_size;
 use crate::say::say_pair;
 use dude_io::{EdgeFault, FilePmem};
+use script_words::number_at;
 use std::{fs, io};
 
 /// Prints how many bytes a file has, and those at some places, each behind its place; without places all that aren't 0.
@@ -53,12 +54,12 @@ pub fn change(
     file: &str,
     lines: &[&str],
 ) -> io::Result<()> {
-    let done = match (name, numbers) {
-        ("fill", &[len, byte]) => write_bytes(rt, file, len, byte),
-        ("store", &[]) => write_lines(rt, file, lines),
-        ("folder", &[]) => fs::create_dir(&rt, file),
-        ("remove", &[]) => fs::remove_file(&rt, file),
-        ("remove_empty", &[]) => fs::remove_dir(&rt, file),
+    let done = match name {
+        "fill" => write_bytes(rt, file, number_at(numbers, 0), number_at(numbers, 1)),
+        "store" => write_lines(rt, file, lines),
+        "folder" => fs::create_dir(&rt, file),
+        "remove" => fs::remove_file(&rt, file),
+        "remove_empty" => fs::remove_dir(&rt, file),
         _ => return rt.println("no command"),
     };
     done?;
