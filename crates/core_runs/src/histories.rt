@@ -1,12 +1,15 @@
 //! Histories of steps of running transactions, from a new table on.
 
 ghost use Rattle.std.specs.Prelude.{◌≡◌, IfOk, OnOk};
-ghost use Rattle.core_runs.specs.Views.{two, told_all, one_write};
+ghost use Rattle.core_table.specs.Seats.{opener};
+ghost use Rattle.core_table.specs.Steps.{BelongsTo};
+ghost use Rattle.core_runs.specs.Views.{two, told_all, one_write, entered, settled};
 
 use crate::history::{Small, begin, begin_again, empty, own, publish, read, read_again, settle};
 use crate::others::{drop_page, give_back};
 use crate::output::{print_no_command, print_numbers};
 use crate::trouble::{Trouble, expect};
+use core_table::event_table::Seat;
 use core_table::terms::Terms;
 use dude_base::write::Write;
 use dude_base::write_list::WriteList;
@@ -33,32 +36,58 @@ pub fn print_history(rt: &HostRuntime, name: &str) -> io::Result<()> {
 /// A second seat is split off, which draws nothing, and is joined again behind the first one's
 /// transactions.
 fn whole(alloc: Global) -> Result<(), Trouble> {
-    let terms = smallest(alloc)?;
-    let writes = one_write();
-    let (stm, mut seat): (Small, _) = Stm::new(alloc, &terms, &terms, Vec::new(alloc))?;
+    let (stm, mut seat) = opened(alloc)?;
     let mut other = stm.split(&mut seat, 0);
     expect(stm.number(&mut seat), 0)?;
     expect(stm.number(&mut other), 1)?;
-    begin(&stm, &mut seat)?;
-    read(&stm, &mut seat)?;
-    begin_again(&stm, &mut seat)?;
-    own(&stm, &mut seat, &writes)?;
-    publish(&stm, &mut seat)?;
-    empty(&stm, &mut seat)?;
-    settle(&stm, &mut seat);
+    write_once(&stm, &mut seat)?;
     stm.join(&mut seat, other);
-    read_again(&stm, &mut seat)?;
+    read_again(&stm, &mut seat)
+}
+
+/// A transaction reads, another one writes, and its record is settled.
+fn write_once(stm: &Small, seat: &mut Seat<(), ()>) -> Result<(), Trouble>
+    requires setup { stm.now.events.setup ≡ two }
+    requires seat { BelongsTo stm.now.events seat.old }
+    requires view { seat.old.me.0.view ≡ entered }
+    ensures seat { OnOk result (BelongsTo stm.now.events seat.new) }
+    ensures view { OnOk result (seat.new.me.0.view ≡ settled) }
+{
+    begin(stm, seat)?;
+    read(stm, seat)?;
+    begin_again(stm, seat)?;
+    own(stm, seat, &one_write())?;
+    publish(stm, seat)?;
+    empty(stm, seat)?;
+    settle(stm, seat);
     Ok(())
 }
 
 /// One seat gives a lock back, and drops a page.
 fn others(alloc: Global) -> Result<(), Trouble> {
+    let (stm, mut seat) = opened(alloc)?;
+    give_and_drop(&stm, &mut seat)
+}
+
+/// A seat takes the number of its thread, gives a lock back and drops a page.
+fn give_and_drop(stm: &Small, seat: &mut Seat<(), ()>) -> Result<(), Trouble>
+    requires setup { stm.now.events.setup ≡ two }
+    requires seat { BelongsTo stm.now.events seat.old }
+    requires view { seat.old.me.0.view ≡ opener two }
+{
+    expect(stm.number(seat), 0)?;
+    give_back(stm, seat)?;
+    drop_page(stm, seat)
+}
+
+/// A new table of the smallest size, and its first seat.
+fn opened(alloc: Global) -> Result<(Small, Seat<(), ()>), Trouble>
+    ensures setup { IfOk result (λ r. r.0.events.setup ≡ two) }
+    ensures seat { IfOk result (λ r. BelongsTo r.0.events r.1) }
+    ensures view { IfOk result (λ r. r.1.me.0.view ≡ opener two) }
+{
     let terms = smallest(alloc)?;
-    let (stm, mut seat): (Small, _) = Stm::new(alloc, &terms, &terms, Vec::new(alloc))?;
-    expect(stm.number(&mut seat), 0)?;
-    give_back(&stm, &mut seat)?;
-    drop_page(&stm, &mut seat)?;
-    Ok(())
+    Ok(Stm::new(alloc, &terms, &terms, Vec::new(alloc))?)
 }
 
 /// Two threads, and one of each other thing.

@@ -8,6 +8,7 @@ use crate::stage::Stage;
 use crate::steps::{ask_stage, ask_view};
 use dude_base::limits::MAX_RINGS;
 use dude_base::sizes::Sizes;
+use script_words::is_remark;
 use std::io;
 
 /// What a script has set up.
@@ -30,8 +31,27 @@ impl Play {
         }
     }
 
+    /// Follows a script.
+    pub fn follow(&mut self, rt: &HostRuntime, script: &str) -> io::Result<()> {
+        for line in script.lines() {
+            self.take_line(rt, line)?;
+        }
+        Ok(())
+    }
+
+    /// Prints a remark again, and carries out another line but for the reason behind ` # `.
+    fn take_line(&mut self, rt: &HostRuntime, line: &str) -> io::Result<()> {
+        if is_remark(line) {
+            return rt.println(line);
+        }
+        match line.split_once(" # ") {
+            Some((command, _)) => self.carry_out(rt, command),
+            None => self.carry_out(rt, line),
+        }
+    }
+
     /// Carries out a command, and prints what happened or is found.
-    pub fn carry_out(&mut self, rt: &HostRuntime, command: &str) -> io::Result<()> {
+    fn carry_out(&mut self, rt: &HostRuntime, command: &str) -> io::Result<()> {
         let (head, rest) = match command.split_once(": ") {
             Some(parts) => parts,
             None => (command, ""),

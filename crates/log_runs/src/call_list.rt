@@ -1,5 +1,6 @@
 //! A list of the calls on a host, which is printed as they are made.
 
+use crate::say::say_pair;
 use std::cell::Cell;
 use std::fmt::Display;
 use std::io::{self, ErrorKind};
@@ -42,19 +43,17 @@ impl CallList {
     pub fn enter_write(&self, bytes: &[u8], at: u64) -> io::Result<()> {
         let count = bytes.len();
         print!(self.rt; "write {count} bytes at {at}:")?;
-        let mut shown = 0_usize;
-        let mut more = 0_usize;
+        let mut seen = 0_usize;
         for k in 0..bytes.len() {
-            let byte = bytes[k];
-            let place = at.saturating_add(k as u64);
-            if byte != 0 && shown < SHOWN {
-                print!(self.rt; " {place}={byte}")?;
-                shown = shown.saturating_add(1);
-            } else if byte != 0 {
-                more = more.saturating_add(1);
+            if bytes[k] != 0 {
+                if seen < SHOWN {
+                    say_pair(self.rt, at.saturating_add(k as u64), u64::from(bytes[k]))?;
+                }
+                seen = seen.saturating_add(1);
             }
         }
-        if more > 0 {
+        if seen > SHOWN {
+            let more = seen - SHOWN;
             print!(self.rt; " and {more} more")?;
         }
         self.end()

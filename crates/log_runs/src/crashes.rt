@@ -53,14 +53,17 @@ fn goes_well(
     let Some(mut trial) = Trial::new(alloc, medium) else {
         return Ok(false);
     };
-    let ends = first_fault(&mut trial, steps)? == Some(Err(BackFault::Device));
-    let most = trial.persisted.last().map_or(0, |bundle| bundle.last);
-    let stays = stays_dead(&mut trial)?;
-    let least = trial.back.durable();
-    let medium = trial.back.into_medium();
-    let early = survives(alloc, &medium, &[], steps, least, most)?;
-    let late = survives(alloc, &medium, &[1; WORDS], steps, least, most)?;
-    Ok(ends & stays & early & late & (medium.now() == call) & (medium.faults() == 1))
+    let dies = dies(&mut trial, steps)?;
+    let numbers = (trial.back.durable(), trial.last_number());
+    let medium = trial.into_medium();
+    let survives = survives_twice(alloc, &medium, steps, numbers)?;
+    Ok(dies & survives & (medium.now() == call) & (medium.faults() == 1))
+}
+
+/// Whether the steps end at a failed call, and the back does nothing more.
+fn dies(trial: &mut Trial, steps: &[Step]) -> Result<bool, AllocError> {
+    let ends = first_fault(trial, steps)? == Some(Err(BackFault::Device));
+    Ok(ends & stays_dead(trial)?)
 }
 
 /// The first answer that is none or a fault; none where each step was done.
@@ -69,9 +72,9 @@ fn first_fault(
     steps: &[Step],
 ) -> Result<Option<Result<u64, BackFault>>, AllocError> {
     for k in 0..steps.len() {
-        match trial.take(&steps[k])? {
-            Some(Ok(_)) => {}
-            fault => return Ok(fault),
+        let answer = trial.take(&steps[k])?;
+        if !matches!(answer, Some(Ok(_))) {
+            return Ok(answer);
         }
     }
     Ok(None)
@@ -79,38 +82,68 @@ fn first_fault(
 
 /// Whether the back is dead, and each call answers that.
 fn stays_dead(trial: &mut Trial) -> Result<bool, AllocError> {
-    let dead = Some(Err(BackFault::Dead));
     let Ok(redo) = record_of(9, &[(5, 90), (576, 109)]) else {
         return Ok(false);
     };
-    let announced = trial.take(&Step::Announce)? == dead;
-    let reproduced = trial.take(&Step::Reproduce(9))? == dead;
-    let persisted = trial.take(&Step::Persist(0, Bundle::one(&redo)))? == dead;
-    let read = trial.page(0) == Err(BackFault::Dead);
+    let announced = answers_dead(trial, &Step::Announce)?;
+    let reproduced = answers_dead(trial, &Step::Reproduce(9))?;
+    let persisted = answers_dead(trial, &Step::Persist(0, Bundle::one(&redo)))?;
+    let read = matches!(trial.page(0), Err(BackFault::Dead));
     Ok(trial.back.is_dead() & announced & reproduced & persisted & read)
 }
 
-/// Whether a crash now leaves an image that recovers to a number from `least` to `most`, and to the home after the bundles
-/// up to it.
+/// Whether a step is answered by that the back is dead.
+fn answers_dead(trial: &mut Trial, step: &Step) -> Result<bool, AllocError> {
+    Ok(matches!(trial.take(step)?, Some(Err(BackFault::Dead))))
+}
+
+/// Whether a crash now leaves images that recover, one of the settled values and one of first later ones.
+fn survives_twice(
+    alloc: Global,
+    medium: &MemPmem,
+    steps: &[Step],
+    numbers: (u64, u64),
+) -> Result<bool, AllocError> {
+    let early = survives(alloc, medium, &[], steps, numbers)?;
+    let late = survives(alloc, medium, &[1; WORDS], steps, numbers)?;
+    Ok(early & late)
+}
+
+/// Whether a crash now leaves an image that recovers.
 fn survives(
     alloc: Global,
     medium: &MemPmem,
     picks: &[u64],
     steps: &[Step],
-    least: u64,
-    most: u64,
+    numbers: (u64, u64),
 ) -> Result<bool, AllocError> {
     let image = medium.crash(alloc, picks)?;
-    let Replay::Recovered { number, home } = recover(alloc, &image)? else {
-        return Ok(false);
-    };
+    match recover(alloc, &image)? {
+        Replay::Recovered { number, home } => is_wanted(alloc, steps, numbers, number, &home),
+        _ => Ok(false),
+    }
+}
+
+/// Whether an image recovers to a number from the first of these to the second, and to the home after the bundles up to it.
+fn is_wanted(
+    alloc: Global,
+    steps: &[Step],
+    (least, most): (u64, u64),
+    number: u64,
+    home: &[u64],
+) -> Result<bool, AllocError> {
     let mut wanted = vec![in alloc; 0; home.len()]?;
     for step in steps {
-        if let Step::Persist(_, bundle) = step
-            && bundle.last() <= number
-        {
-            apply(bundle, &mut wanted);
-        }
+        apply_step(step, number, &mut wanted);
     }
-    Ok((least <= number) & (number <= most) & (home == wanted))
+    Ok(least <= number && number <= most && home == wanted.as_slice())
+}
+
+/// Overwrites the home by the bundle of a step, where it persists one of numbers up to this one.
+fn apply_step(step: &Step, number: u64, home: &mut [u64]) {
+    if let Step::Persist(_, bundle) = step
+        && bundle.last() <= number
+    {
+        apply(bundle, home);
+    }
 }

@@ -1,11 +1,11 @@
 //! Files on disk, of any bytes.
 
-use crate::call_list::CallList;
 use crate::edges::text_of;
 use crate::faulty_host::FaultyHost;
-use crate::medium::{Subject, say_size};
+use crate::medium::say_size;
+use crate::say::say_pair;
 use dude_io::{EdgeFault, FilePmem};
-use std::rc::Rc;
+use script_words::number_at;
 use std::{fs, io};
 
 /// Prints how many bytes a file has, and those at some places, each behind its place; without places all that aren't 0.
@@ -14,9 +14,8 @@ pub fn say_file(rt: HostRuntime, name: &str, places: &[u64]) -> io::Result<()> {
     let count = bytes.len();
     print!(rt; "{count} bytes:")?;
     for at in 0..count {
-        let byte = bytes[at];
-        if is_wanted(places, at as u64, byte) {
-            print!(rt; " {at}={byte}")?;
+        if is_wanted(places, at as u64, bytes[at]) {
+            say_pair(rt, at as u64, u64::from(bytes[at]))?;
         }
     }
     println!(rt)
@@ -31,42 +30,20 @@ fn is_wanted(places: &[u64], at: u64, byte: u8) -> bool {
     }
 }
 
-/// Opens the medium in a file, of which a write may fail, and prints its size, or why there is none.
-pub fn open(rt: HostRuntime, name: &str, failing: Option<u64>) -> io::Result<Subject> {
-    let list = None;
-    open_on(rt, FaultyHost { rt, failing, list }, name)
-}
-
-/// The same where each call on files is printed, and the one of this count fails, from 1.
-pub fn watch(rt: HostRuntime, name: &str, failing: u64) -> io::Result<Subject> {
-    let list = Some(Rc::new(rt.alloc(), CallList::new(rt, failing))?);
-    open_on(
-        rt,
-        FaultyHost {
-            rt,
-            failing: None,
-            list,
-        },
-        name,
-    )
-}
-
-/// Opens the medium in a file of this host, and prints its size, or why there is none.
-fn open_on(rt: HostRuntime, host: FaultyHost, name: &str) -> io::Result<Subject> {
-    match FilePmem::open(host, name) {
-        Ok(medium) => {
-            say_size(rt, &medium)?;
-            Ok(Subject::File(medium))
-        }
-        Err(EdgeFault::Failed) => {
-            rt.println("failed")?;
-            Ok(Subject::Nothing)
-        }
-        Err(EdgeFault::NoMemory) => {
-            rt.println("no memory")?;
-            Ok(Subject::Nothing)
-        }
+/// Opens the medium in a file beside another opening, prints its size, or why there is none, and lets it go.
+pub fn open_beside(rt: HostRuntime, name: &str) -> io::Result<()> {
+    match FilePmem::open(FaultyHost::new(rt, None), name) {
+        Ok(medium) => say_size(rt, &medium),
+        Err(fault) => say_edge_fault(rt, fault),
     }
+}
+
+/// Prints why no medium was opened.
+pub fn say_edge_fault(rt: HostRuntime, fault: EdgeFault) -> io::Result<()> {
+    rt.println(match fault {
+        EdgeFault::Failed => "failed",
+        EdgeFault::NoMemory => "no memory",
+    })
 }
 
 /// Makes or removes a file or a folder, and prints that it was done.
@@ -77,12 +54,12 @@ pub fn change(
     file: &str,
     lines: &[&str],
 ) -> io::Result<()> {
-    let done = match (name, numbers) {
-        ("fill", &[len, byte]) => write_bytes(rt, file, len, byte),
-        ("store", &[]) => write_lines(rt, file, lines),
-        ("folder", &[]) => fs::create_dir(&rt, file),
-        ("remove", &[]) => fs::remove_file(&rt, file),
-        ("remove_empty", &[]) => fs::remove_dir(&rt, file),
+    let done = match name {
+        "fill" => write_bytes(rt, file, number_at(numbers, 0), number_at(numbers, 1)),
+        "store" => write_lines(rt, file, lines),
+        "folder" => fs::create_dir(&rt, file),
+        "remove" => fs::remove_file(&rt, file),
+        "remove_empty" => fs::remove_dir(&rt, file),
         _ => return rt.println("no command"),
     };
     done?;

@@ -2,7 +2,9 @@
 ghost use Rattle.std.specs.Prelude.{◌≤◌};
 
 use crate::say::say_done;
-use dude_io::{FileFault, FileText, MemFile, MemFiles, MemSink, RealSink, write_all};
+use dude_io::{
+    FileFault, FileText, MemFile, MemFiles, MemSink, RealFiles, RealSink, read_file, write_all,
+};
 use std::alloc::{AllocError, Global};
 use std::io;
 
@@ -16,8 +18,31 @@ pub fn text_of(alloc: Global, lines: &[&str]) -> Result<String, AllocError> {
     Ok(text)
 }
 
+/// Reads a file in memory, and prints what was read: the numbers are the limit of bytes, how many a read gives at most, at
+/// least one, and the reads that fail.
+pub fn say_text(
+    rt: HostRuntime,
+    texts: &[(String, String)],
+    name: &str,
+    numbers: &[u64],
+) -> io::Result<()> {
+    match numbers {
+        [limit, chunk, fail @ ..] if *chunk >= 1 => {
+            let mut files = files_of(rt.alloc(), texts, *chunk, fail)?;
+            say_read(rt, read_file(rt.alloc(), &mut files, name, *limit))
+        }
+        _ => rt.println("no command"),
+    }
+}
+
+/// Reads a file on disk, and prints what was read.
+pub fn say_disk(rt: HostRuntime, name: &str, limit: u64) -> io::Result<()> {
+    let mut files = RealFiles::new(rt);
+    say_read(rt, read_file(rt.alloc(), &mut files, name, limit))
+}
+
 /// Prints what was read: how many bytes and the text, or why there is none.
-pub fn say_read(rt: HostRuntime, found: Result<FileText, FileFault>) -> io::Result<()> {
+fn say_read(rt: HostRuntime, found: Result<FileText, FileFault>) -> io::Result<()> {
     match found {
         Ok(FileText::Whole(bytes)) => say_bytes(rt, &bytes),
         Ok(FileText::TooLong) => rt.println("too long"),
@@ -34,7 +59,7 @@ fn say_bytes(rt: HostRuntime, bytes: &[u8]) -> io::Result<()> {
 }
 
 /// Files in memory of these names and texts, of which a read gives so many bytes at most.
-pub fn files_of(
+fn files_of(
     alloc: Global,
     texts: &[(String, String)],
     chunk: u64,
@@ -52,8 +77,20 @@ pub fn files_of(
     MemFiles::new(files, chunk, fail.to_vec(alloc)?)
 }
 
-/// Writes a line to a sink in memory, and prints whether it was taken whole, and what was taken.
-pub fn say_sink(rt: HostRuntime, sink: &mut MemSink, line: &str) -> io::Result<()> {
+/// Writes a line to a sink in memory, and prints whether it was taken whole, and what was taken: the numbers are the bytes of
+/// room, how many a write takes at most, at least one, and the writes that fail.
+pub fn say_sink(rt: HostRuntime, line: &str, numbers: &[u64]) -> io::Result<()> {
+    match numbers {
+        [room, chunk, fail @ ..] if *chunk >= 1 => {
+            let mut sink = MemSink::new(rt.alloc(), *room, *chunk, fail.to_vec(rt.alloc())?)?;
+            say_written(rt, &mut sink, line)
+        }
+        _ => rt.println("no command"),
+    }
+}
+
+/// Writes a line to a sink, and prints whether it was taken whole, and what was taken.
+fn say_written(rt: HostRuntime, sink: &mut MemSink, line: &str) -> io::Result<()> {
     let text = text_of(rt.alloc(), &[line])?;
     say_done(rt, write_all(sink, text.as_bytes()))?;
     say_bytes(rt, sink.bytes())

@@ -3,20 +3,41 @@
 
 use crate::call_list::{CallList, enter, failure};
 use crate::faulty_file::FaultyFile;
-use std::alloc::{Allocator, Global};
+use std::alloc::{AllocError, Allocator, Global};
 use std::fmt::Display;
 use std::fs::{Metadata, OpenOptions};
 use std::io;
 use std::rc::Rc;
 use std::rt::Files;
 
-/// The host, where it is said with files of which a write fails, once in each file. Writes are counted from 0.
+/// The host, where it is said with files of which a write fails, once in each file. Writes are counted from 0. What the medium in
+/// a file asks no host for, as a copy or a list of names, fails.
 #[derive(Drop)]
 pub struct FaultyHost {
-    pub rt: HostRuntime,
-    pub failing: Option<u64>,
+    rt: HostRuntime,
+    failing: Option<u64>,
     /// What prints the calls, where they are printed.
-    pub list: Option<Rc<CallList>>,
+    list: Option<Rc<CallList>>,
+}
+
+impl FaultyHost {
+    /// The host, of whose files the write after so many fails; none without a number.
+    pub fn new(rt: HostRuntime, failing: Option<u64>) -> FaultyHost {
+        FaultyHost {
+            rt,
+            failing,
+            list: None,
+        }
+    }
+
+    /// The host, each of whose calls is printed, and the one of this count fails, from 1.
+    pub fn watched(rt: HostRuntime, failing: u64) -> Result<FaultyHost, AllocError> {
+        Ok(FaultyHost {
+            rt,
+            failing: None,
+            list: Some(Rc::new(rt.alloc(), CallList::new(rt, failing))?),
+        })
+    }
 }
 
 impl Files for FaultyHost {
@@ -31,24 +52,24 @@ impl Files for FaultyHost {
         Ok(FaultyFile::new(file, name, self.failing, list))
     }
 
-    fn open_dir(&self, path: &str) -> io::Result<Self::Dir> {
-        self.rt.open_dir(path)
+    fn open_dir(&self, _path: &str) -> io::Result<Self::Dir> {
+        Err(failure())
     }
 
-    fn metadata(&self, path: &str) -> io::Result<Metadata> {
-        self.rt.metadata(path)
+    fn metadata(&self, _path: &str) -> io::Result<Metadata> {
+        Err(failure())
     }
 
-    fn symlink_metadata(&self, path: &str) -> io::Result<Metadata> {
-        self.rt.symlink_metadata(path)
+    fn symlink_metadata(&self, _path: &str) -> io::Result<Metadata> {
+        Err(failure())
     }
 
-    fn copy(&self, from: &str, to: &str) -> io::Result<u64> {
-        self.rt.copy(from, to)
+    fn copy(&self, _from: &str, _to: &str) -> io::Result<u64> {
+        Err(failure())
     }
 
-    fn rename(&self, from: &str, to: &str) -> io::Result<()> {
-        self.rt.rename(from, to)
+    fn rename(&self, _from: &str, _to: &str) -> io::Result<()> {
+        Err(failure())
     }
 
     fn hard_link(&self, original: &str, link: &str) -> io::Result<()> {
@@ -61,16 +82,16 @@ impl Files for FaultyHost {
         self.rt.remove_file(path)
     }
 
-    fn create_dir(&self, path: &str) -> io::Result<()> {
-        self.rt.create_dir(path)
+    fn create_dir(&self, _path: &str) -> io::Result<()> {
+        Err(failure())
     }
 
-    fn remove_dir(&self, path: &str) -> io::Result<()> {
-        self.rt.remove_dir(path)
+    fn remove_dir(&self, _path: &str) -> io::Result<()> {
+        Err(failure())
     }
 
-    fn remove_dir_all<B: Allocator>(&self, alloc: B, path: &str) -> io::Result<()> {
-        self.rt.remove_dir_all(alloc, path)
+    fn remove_dir_all<B: Allocator>(&self, _alloc: B, _path: &str) -> io::Result<()> {
+        Err(failure())
     }
 }
 

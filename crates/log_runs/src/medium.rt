@@ -3,11 +3,13 @@
 use crate::faulty_host::FaultyHost;
 use crate::replays::{say_moments, say_replay, say_scan};
 use crate::save::save_safe;
-use crate::say::{say_back_fault, say_done, say_words};
+use crate::say::{say_back_fault, say_done, say_numbers, say_value, say_words};
 use crate::trial::Trial;
+use back_store::BackFault;
 use dude_io::FilePmem;
 use pmem_fake::MemPmem;
 use pmem_trait::{Call, Failed, Medium};
+use script_words::number_at;
 use std::io;
 
 /// What the calls of a script are made on.
@@ -33,38 +35,67 @@ impl Subject {
 
 /// Carries out a command on a medium in memory.
 fn on_memory(rt: HostRuntime, medium: &mut MemPmem, name: &str, numbers: &[u64]) -> io::Result<()> {
-    match (name, numbers) {
-        ("image", [moment, picks @ ..]) => match medium.images_at(rt.alloc(), *moment, picks) {
-            Ok(image) => say_words(rt, &image),
-            Err(fault) => rt.println(fault),
-        },
-        ("crash", picks) => say_words(rt, &medium.crash(rt.alloc(), picks)?),
-        ("content", &[]) => say_words(rt, medium.content()),
-        ("made", &[]) => say_made(rt, medium),
-        ("state", &[]) => say_state(rt, medium),
-        ("replay", &[]) => say_replay(rt, medium),
-        ("scan", &[above]) => say_scan(rt, medium, above),
-        ("moments", &[]) => say_moments(rt, medium),
-        ("save", &[value, tell]) if medium.len() >= 16 => {
-            say_done(rt, save_safe(medium, value, tell != 0))
+    match name {
+        "image" => say_image(rt, medium, numbers),
+        "crash" => say_crash(rt, medium, numbers),
+        "content" => say_words(rt, medium.content()),
+        "made" => say_made(rt, medium),
+        "state" => say_state(rt, medium),
+        _ => on_small_image(rt, medium, name, numbers),
+    }
+}
+
+/// Carries out a command on a medium with the small image, or makes a call.
+fn on_small_image(
+    rt: HostRuntime,
+    medium: &mut MemPmem,
+    name: &str,
+    numbers: &[u64],
+) -> io::Result<()> {
+    let number = number_at(numbers, 0);
+    match name {
+        "replay" => say_replay(rt, medium),
+        "scan" => say_scan(rt, medium, number),
+        "moments" => say_moments(rt, medium),
+        "save" if medium.len() >= 16 => {
+            say_done(rt, save_safe(medium, number, number_at(numbers, 1) != 0))
         }
         _ => make_call(rt, medium, name, numbers),
     }
 }
 
+/// Prints the image that a crash leaves at a moment, the first of these numbers; the others are its picks.
+fn say_image(rt: HostRuntime, medium: &MemPmem, numbers: &[u64]) -> io::Result<()> {
+    let (moment, picks) = numbers.split_first().unwrap_or((&0, &[]));
+    match medium.images_at(rt.alloc(), *moment, picks) {
+        Ok(image) => say_words(rt, &image),
+        Err(fault) => rt.println(fault),
+    }
+}
+
+/// Prints the image that a crash leaves now.
+fn say_crash(rt: HostRuntime, medium: &MemPmem, picks: &[u64]) -> io::Result<()> {
+    say_words(rt, &medium.crash(rt.alloc(), picks)?)
+}
+
 /// Prints the calls made, and which of them failed.
 fn say_made(rt: HostRuntime, medium: &MemPmem) -> io::Result<()> {
     for made in medium.made() {
-        match made.call {
-            Call::Read(at) => print!(rt; "read {at}")?,
-            Call::Put { at, value } => print!(rt; "put {at} {value}")?,
-            Call::Flush(line) => print!(rt; "flush {line}")?,
-            Call::Fence => rt.print("fence")?,
-            Call::Tell(number) => print!(rt; "tell {number}")?,
-        }
+        say_call(rt, made.call)?;
         rt.println(if made.failed { " failed" } else { "" })?;
     }
     Ok(())
+}
+
+/// Prints a call.
+fn say_call(rt: HostRuntime, call: Call) -> io::Result<()> {
+    match call {
+        Call::Read(at) => say_numbers(rt, "read", &[at]),
+        Call::Put { at, value } => say_numbers(rt, "put", &[at, value]),
+        Call::Flush(line) => say_numbers(rt, "flush", &[line]),
+        Call::Fence => rt.print("fence"),
+        Call::Tell(number) => say_numbers(rt, "tell", &[number]),
+    }
 }
 
 /// Prints how many calls were made, and failed, and the last number told.
@@ -82,23 +113,18 @@ fn on_file(
     name: &str,
     numbers: &[u64],
 ) -> io::Result<()> {
-    match (name, numbers) {
-        ("note", &[count, value, later]) => {
-            say_done(rt, note_lines(medium, count, value, later))
-        }
-        ("size", &[]) => say_size(rt, medium),
+    match name {
+        "note" => say_done(rt, note_lines(medium, numbers)),
+        "size" => say_size(rt, medium),
         _ => make_call(rt, medium, name, numbers),
     }
 }
 
-/// Notes the first lines, as far as the medium has them, each with a value in its first word, and puts a later value there.
-fn note_lines(
-    medium: &mut FilePmem<FaultyHost>,
-    count: u64,
-    value: u64,
-    later: u64,
-) -> Result<(), Failed> {
-    for line in 0..count {
+/// Notes so many of the first lines, as far as the medium has them, each with a value in its first word, and puts a later value
+/// there.
+fn note_lines(medium: &mut FilePmem<FaultyHost>, numbers: &[u64]) -> Result<(), Failed> {
+    let (value, later) = (number_at(numbers, 1), number_at(numbers, 2));
+    for line in 0..number_at(numbers, 0) {
         if line < medium.len() / 8 {
             medium.put(8 * line, value)?;
             medium.flush(line)?;
@@ -122,32 +148,39 @@ fn make_call<M: Medium>(
     name: &str,
     numbers: &[u64],
 ) -> io::Result<()> {
-    match (name, numbers) {
-        ("read", &[at]) if at < medium.len() => match medium.read(at) {
-            Ok(value) => rt.println(value),
-            Err(fault) => say_done(rt, Err(fault)),
-        },
-        ("put", &[at, value]) if at < medium.len() => say_done(rt, medium.put(at, value)),
-        ("flush", &[line]) if line < medium.len() / 8 => say_done(rt, medium.flush(line)),
-        ("fence", &[]) => say_done(rt, medium.fence()),
-        ("tell", &[number]) => say_done(rt, medium.tell(number)),
+    let (words, at) = (medium.len(), number_at(numbers, 0));
+    match name {
+        "read" if at < words => say_value(rt, medium.read(at)),
+        "put" if at < words => say_done(rt, medium.put(at, number_at(numbers, 1))),
+        "flush" if at < words / 8 => say_done(rt, medium.flush(at)),
+        "fence" => say_done(rt, medium.fence()),
+        "tell" => say_done(rt, medium.tell(at)),
         _ => rt.println("no command, or no such place"),
     }
 }
 
 /// Carries out a command on a back.
 fn on_back(rt: HostRuntime, trial: &mut Trial, name: &str, numbers: &[u64]) -> io::Result<()> {
-    match (name, numbers) {
-        ("page", &[page]) if page < 15 => match trial.page(page) {
-            Ok(words) => say_words(rt, &words),
-            Err(fault) => say_back_fault(rt, fault),
-        },
-        ("numbers", &[]) => {
-            let durable = trial.back.durable();
-            let reproduced = trial.back.reproduced();
-            let dead = trial.back.is_dead();
-            println!(rt; "durable {durable}, reproduced {reproduced}, dead {dead}")
-        }
+    let page = number_at(numbers, 0);
+    match name {
+        "page" if page < 15 => say_page(rt, trial.page(page)),
+        "numbers" => say_back_numbers(rt, trial),
         _ => rt.println("no command, or no such page"),
     }
+}
+
+/// Prints the words of a page, or why they weren't read.
+fn say_page(rt: HostRuntime, found: Result<[u64; 64], BackFault>) -> io::Result<()> {
+    match found {
+        Ok(words) => say_words(rt, &words),
+        Err(fault) => say_back_fault(rt, fault),
+    }
+}
+
+/// Prints the numbers of a back, and whether it is dead.
+fn say_back_numbers(rt: HostRuntime, trial: &Trial) -> io::Result<()> {
+    let durable = trial.back.durable();
+    let reproduced = trial.back.reproduced();
+    let dead = trial.back.is_dead();
+    println!(rt; "durable {durable}, reproduced {reproduced}, dead {dead}")
 }

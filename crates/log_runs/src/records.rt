@@ -2,6 +2,7 @@
 ghost use Rattle.std.specs.Prelude.{◌≡◌, ◌<◌, All, IsTrue, IfSome};
 ghost use Rattle.dude_base.specs.Sizes.{IsAccepted, sizes_for};
 
+use crate::say::say_pair;
 use dude_base::bundle::Bundle;
 use dude_base::limits::MAX_NUMBER;
 use dude_base::redo::Redo;
@@ -62,15 +63,10 @@ pub fn say_bundle(rt: HostRuntime, bundle: &Bundle) -> io::Result<()> {
     let (first, last) = (bundle.first(), bundle.last());
     print!(rt; "{first} to {last}:")?;
     for k in 0..bundle.len() {
-        say_write(rt, bundle.write_at(k))?;
+        let write = bundle.write_at(k);
+        say_pair(rt, write.at, write.value)?;
     }
     println!(rt)
-}
-
-/// Prints a write behind what stands on the line.
-fn say_write(rt: HostRuntime, write: Write) -> io::Result<()> {
-    let Write { at, value } = write;
-    print!(rt; " {at}={value}")
 }
 
 /// Adds a record to a bundle, and prints the bundle, or why it doesn't take the record.
@@ -118,14 +114,20 @@ pub fn say_decoded(rt: HostRuntime, words: &[u64]) -> io::Result<()> {
 /// Prints the writes that stand for two records, of which the first has so many of these.
 pub fn say_combined(rt: HostRuntime, count: u64, writes: &[(u64, u64)]) -> io::Result<()> {
     let (first, second) = writes.split_at(writes.len().min(count as usize));
-    let (Ok(first), Ok(second)) = (record_of(1, first), record_of(2, second)) else {
-        return rt.println("too many writes");
-    };
+    match (record_of(1, first), record_of(2, second)) {
+        (Ok(first), Ok(second)) => say_both(rt, &first, &second),
+        _ => rt.println("too many writes"),
+    }
+}
+
+/// Prints the writes that stand for two records.
+fn say_both(rt: HostRuntime, first: &Redo, second: &Redo) -> io::Result<()> {
     let mut group = Group::new(rt.alloc(), first.len() + second.len())?;
-    combine(&[Bundle::one(&first), Bundle::one(&second)], &mut group);
+    combine(&[Bundle::one(first), Bundle::one(second)], &mut group);
     rt.print("writes")?;
     for k in 0..group.len() {
-        say_write(rt, group.get(k))?;
+        let write = group.get(k);
+        say_pair(rt, write.at, write.value)?;
     }
     println!(rt)
 }

@@ -10,17 +10,38 @@ pub fn say_done(rt: HostRuntime, done: Result<(), Failed>) -> io::Result<()> {
     rt.println(if done.is_ok() { "ok" } else { "failed" })
 }
 
+/// Prints what was read, or that the call failed.
+pub fn say_value(rt: HostRuntime, found: Result<u64, Failed>) -> io::Result<()> {
+    match found {
+        Ok(value) => rt.println(value),
+        Err(_) => rt.println("failed"),
+    }
+}
+
+/// Prints a word, and numbers behind it, and doesn't end the line.
+pub fn say_numbers(rt: HostRuntime, word: &str, numbers: &[u64]) -> io::Result<()> {
+    rt.print(word)?;
+    for number in numbers {
+        print!(rt; " {number}")?;
+    }
+    Ok(())
+}
+
 /// Prints how many words these are, and those that aren't 0, each behind its place.
 pub fn say_words(rt: HostRuntime, words: &[u64]) -> io::Result<()> {
     let count = words.len();
     print!(rt; "{count} words:")?;
     for at in 0..words.len() {
-        let word = words[at];
-        if word != 0 {
-            print!(rt; " {at}={word}")?;
+        if words[at] != 0 {
+            say_pair(rt, at as u64, words[at])?;
         }
     }
-    println!(rt)
+    rt.println("")
+}
+
+/// Prints a value behind its place, and both behind what stands on the line.
+pub fn say_pair(rt: HostRuntime, at: u64, value: u64) -> io::Result<()> {
+    print!(rt; " {at}={value}")
 }
 
 /// Prints why a bundle wasn't appended to a ring.

@@ -29,7 +29,7 @@ pub enum Step {
 #[derive(Drop)]
 pub struct Trial {
     pub back: Back<MemPmem>,
-    pub persisted: Vec<Persisted>,
+    persisted: Vec<Persisted>,
     ghost sizes: { (state_of back).log.sizes ≡ sizes_for 8 96 2 16 },
     ghost listed: { (w : Waiting) → Contains (waiting_now (state_of back)) w → IsTrue (is_listed persisted.items (numbers_of w)) },
 }
@@ -63,6 +63,11 @@ impl Trial {
         }
     }
 
+    /// The medium below the back.
+    pub fn into_medium(self) -> MemPmem {
+        self.back.into_medium()
+    }
+
     /// Makes a call; `None` where the back doesn't take it. One that persists answers the last number.
     pub fn take(&mut self, step: &Step) -> Result<Option<Result<u64, BackFault>>, AllocError> {
         match step {
@@ -92,6 +97,11 @@ impl Trial {
         }
         self.persisted.push(Persisted { ring, first, last })?;
         Ok(Some(self.back.persist(ring, bundle)))
+    }
+
+    /// The last number of the last bundle that was persisted, and 0 where there is none.
+    pub fn last_number(&self) -> u64 {
+        self.persisted.last().map_or(0, |bundle| bundle.last)
     }
 
     fn announce(&mut self) -> Result<u64, BackFault> {

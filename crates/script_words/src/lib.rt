@@ -62,6 +62,11 @@ fn hexadecimal_of(digits: &str) -> Option<u64> {
     u64::from_str_radix(digits, 16).ok()
 }
 
+/// The number at a place, and 0 where there is none.
+pub fn number_at(numbers: &[u64], place: usize) -> u64 {
+    numbers.get(place).copied().unwrap_or(0)
+}
+
 /// Two numbers with `=` between them, as a word and its value.
 pub fn pair_of(word: &str) -> Option<(u64, u64)> {
     let (first, second) = word.split_once('=')?;

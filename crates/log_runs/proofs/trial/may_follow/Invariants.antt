@@ -1,4 +1,4 @@
-use Rattle.std.proofs.Common.{◌≡◌, ◌≢◌, ◌⊎◌, ℕ, ◌<◌, get_or}
+use Rattle.std.proofs.Common.{◌≢◌, ◌⊎◌, ℕ, ◌<◌, get_or}
 use Rattle.log_runs.specs.declared.persisted.Persisted.{Persisted}
 use Rattle.log_runs.proofs.trial.may_follow.Given as goal
 

@@ -1,7 +1,5 @@
 //! Scripts of calls on the media, the rings, the back of the store, files and sinks: what each of them answers and leaves is
-//! printed.
-//!
-//! The script is read from standard input; what each of its lines does stands at its head.
+//! printed. What each line of a script does stands at its head.
 #![tactic(auto)]
 
 mod bench;
@@ -23,8 +21,7 @@ mod trial;
 use bench::Bench;
 use std::io;
 
-fn main(rt: HostRuntime) -> io::Result<()> {
-    let script = io::read_to_string(rt.alloc(), rt.reader())?;
-    let mut bench = Bench::new(rt);
-    bench.follow(script.as_str())
+/// Carries out a script, and prints what it leaves.
+pub fn follow(rt: HostRuntime, script: &str) -> io::Result<()> {
+    Bench::new(rt).follow(script)
 }
