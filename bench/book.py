@@ -31,7 +31,7 @@ TOWERS = [
     ("Texts", "texts", "tatp_csv; tatp_text"),
     ("Base", "base", "dude_io; file_pmem; dude_base tatp_model pmem_trait"),
     ("Threads", "threads", "tiny_stm legal_entries; core_table legal_order; dude_core; core_state; core_steps; core_view; core_events; shadow_pages"),
-    ("Tests", "tests", "program_runs home_runs log_runs text_runs core_runs; slow_recovery script_words pmem_fake"),
+    ("Tests", "tests", "all_runs; program_runs home_runs log_runs text_runs core_runs; slow_recovery script_words pmem_fake"),
 ]
 PLACES = ["program program program threads", "runs runs runs threads", "images log home threads", "texts log home threads", "base base base base", "tests tests tests tests", "others others others others"]
 # The clause that the book begins with: its crate, its call, its name, and the definition that it cites.
