@@ -53,10 +53,8 @@ fn made_image(alloc: Global, rest: &[&str]) -> Result<Option<Vec<u64>>, AllocErr
         return Ok(None);
     };
     let image = vec![in alloc; 0; count as usize]?;
-    let settings = Settings {
-        budget: 1_000_000,
-        ..Settings::new()
-    };
+    let mut settings = Settings::new();
+    settings.budget = 1_000_000;
     let scene = Scene {
         image: &image,
         files: &[],

@@ -18,17 +18,16 @@ mod words;
 
 use page::Page;
 use play::Play;
-use std::io::{self, ErrorKind, Write};
+use std::io::{self, ErrorKind};
 
-fn main(rt: HostRuntime) -> io::Result<()> {
-    let script = io::read_to_string(rt.alloc(), rt.reader())?;
+/// Carries out a script, and prints what it leaves.
+pub fn follow(rt: HostRuntime, script: &str) -> io::Result<()> {
     let mut play = Play::new(rt.alloc());
-    let mut writer = io::writer(&rt);
     for line in script.lines() {
         let mut page = Page::new(rt.alloc());
         play.take_line(rt.alloc(), line, &mut page);
         match page.text() {
-            Some(text) => writer.write_all(text)?,
+            Some(text) => rt.print(str::from_utf8(text).unwrap_or("no UTF-8\n"))?,
             None => return Err(io::Error::from(ErrorKind::OutOfMemory)),
         }
     }

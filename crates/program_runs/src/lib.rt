@@ -1,0 +1,27 @@
+//! Scripts of commands of the product, and of openings, formats and recoveries of images, carried out over a medium, files and a
+//! sink in memory, also where something fails.
+#![tactic(auto)]
+
+mod acts;
+mod asks;
+mod audits;
+mod bench;
+mod found;
+mod outcome;
+mod printing;
+mod scene;
+mod setup;
+mod stored;
+mod turns;
+
+use bench::Bench;
+use std::io;
+
+/// Carries out a script, and prints what it leaves.
+pub fn follow(rt: HostRuntime, script: &str) -> io::Result<()> {
+    let mut bench = Bench::new(rt.alloc())?;
+    for line in script.lines() {
+        bench.take_line(&rt, line)?;
+    }
+    Ok(())
+}
