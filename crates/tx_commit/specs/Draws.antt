@@ -9,10 +9,12 @@ use Rattle.core_events.specs.Events.{is_good}
 use Rattle.core_events.specs.Conditions.{IsUndecided}
 use Rattle.core_table.specs.Known.{Known}
 use Rattle.core_table.specs.Layout.{TableSight}
+use Rattle.tx_reading.specs.declared.bad_lock.BadLock.{BadLock}
 use Rattle.tx_reading.specs.declared.pinned.Pinned.{Pinned}
 use Rattle.tx_reading.specs.Pairs.{pairs_of}
 use Rattle.tx_reading.specs.Pins.{pin_list}
 use Rattle.tx_reading.specs.Running.{IsRunning}
+use Rattle.tx_commit.specs.declared.commit.Commit.{Commit}
 use Rattle.tx_reading.specs.Seats.{HasNotFallen, HasRisen, IsOf}
 
 -- a number is drawn and neither decided nor void, and the reads are to be checked
@@ -45,17 +47,17 @@ pub record IsVoided (z : Setup) (thread snapshot : ℕ) (reads : List (ℕ × �
 -- ---- of a seat
 module _ {S X : Type 0} where
   -- its transaction runs, and pins the pages of its writes
-  abbrev pub RunsPaged : {K : Type 0} → TableSight K → ℕ → ℕ → List (ℕ × ℕ) → List Write → List Write → List Write → Seat S (Known X) → Type 0
-  RunsPaged t thread snapshot reads writes held frames s = IsRunning t.setup thread snapshot reads writes (pairs_of held) (pairs_of frames) s.me.0.view
+  abbrev pub RunsPaged : {K : Type 0} → TableSight K → Commit → List Write → Seat S (Known X) → Type 0
+  RunsPaged t c frames s = IsRunning t.setup c.thread c.snapshot c.reads.now c.writes.now (pairs_of c.held.now) (pairs_of frames) s.me.0.view
 
   -- its transaction runs, and pins the page that it read last, or none
-  abbrev pub RunsPinned : {K : Type 0} → TableSight K → ℕ → ℕ → List (ℕ × ℕ) → List Write → List Write → Option Pinned → Seat S (Known X) → Type 0
-  RunsPinned t thread snapshot reads writes held pinned s = IsRunning t.setup thread snapshot reads writes (pairs_of held) (pin_list pinned) s.me.0.view
+  abbrev pub RunsPinned : {K : Type 0} → TableSight K → Commit → Option Pinned → Seat S (Known X) → Type 0
+  RunsPinned t c pinned s = IsRunning t.setup c.thread c.snapshot c.reads.now c.writes.now (pairs_of c.held.now) (pin_list pinned) s.me.0.view
 
   -- each lock of the reads was found good
   abbrev pub HasChecked : {K : Type 0} → List (ℕ × ℕ) → TableSight K → Seat S (Known X) → Seat S (Known X) → Type 0
   HasChecked reads t old new = IsChecked t.setup reads old.me.0.view new.me.0.view
 
   -- this lock has this word, which isn't good, and the number is void
-  abbrev pub HasVoided : {K : Type 0} → ℕ → ℕ → List (ℕ × ℕ) → TableSight K → Seat S (Known X) → Seat S (Known X) → (ℕ × ℕ) → Type 0
-  HasVoided thread snapshot reads t old new c = IsVoided t.setup thread snapshot reads c.0 c.1 old.me.0.view new.me.0.view
+  abbrev pub HasVoided : {K : Type 0} → ℕ → ℕ → List (ℕ × ℕ) → TableSight K → Seat S (Known X) → Seat S (Known X) → BadLock → Type 0
+  HasVoided thread snapshot reads t old new c = IsVoided t.setup thread snapshot reads c.lock c.seen old.me.0.view new.me.0.view

@@ -12,9 +12,16 @@ use Rattle.core_events.specs.Conditions.{IsIdle}
 use Rattle.core_table.specs.Known.{Known}
 use Rattle.core_table.specs.Layout.{TableSight}
 use Rattle.tx_reading.specs.Seats.{HasNotFallen, HasRisen}
+use Rattle.stm_steps.specs.Abouts.{about}
+use Rattle.tx_commit.specs.declared.commit.Commit.{Commit}
+use Rattle.tx_commit.specs.declared.served.Served.{Served}
 use Rattle.tx_commit.specs.declared.lost.Lost.{Lost}
 use Rattle.tx_commit.specs.declared.lost.Lost.TheVariants as lost
 use Rattle.tx_commit.specs.Pages.{IsPageStop}
+
+-- what the entry is about
+abbrev pub about_of : Served → About
+about_of s = about s.file s.index s.request.now s.reply.now
 
 -- whether there are writes
 abbrev pub has_writes : List Write → Bool
@@ -101,17 +108,13 @@ AsLost _ l = ⊥
 
 -- ---- of a seat
 module _ {S X : Type 0} where
-  -- the transaction made this entry, with this number
-  abbrev pub Enters : {K : Type 0} → About → List (ℕ × ℕ) → List Write → TableSight K → Seat S (Known X) → Seat S (Known X) → ℕ → Type 0
-  Enters about reads writes t old new n = HasEntered t.setup n about reads writes old.me.0.view new.me.0.view
-
-  -- it made none, and the number drawn is void, since this lock has this word
-  abbrev pub Voids : {K : Type 0} → ℕ → ℕ → List (ℕ × ℕ) → TableSight K → Seat S (Known X) → Seat S (Known X) → (ℕ × ℕ × ℕ) → Type 0
-  Voids thread snapshot reads t old new c = HasLost t.setup thread snapshot reads c.0 c.1 c.2 old.me.0.view new.me.0.view
+  -- the transaction made its entry, with this number
+  abbrev pub Enters : {K : Type 0} → Served → Commit → TableSight K → Seat S (Known X) → Seat S (Known X) → ℕ → Type 0
+  Enters s c t old new n = HasEntered t.setup n (about_of s) c.reads.now c.writes.now old.me.0.view new.me.0.view
 
   -- it made none, and this is why
-  abbrev pub IsLostBy : {K : Type 0} → ℕ → ℕ → List (ℕ × ℕ) → List Write → TableSight K → Seat S (Known X) → Seat S (Known X) → Lost → Type 0
-  IsLostBy thread snapshot reads writes t old new l = IsLost t.setup thread snapshot reads writes l old.me.0.view new.me.0.view
+  abbrev pub IsLostBy : {K : Type 0} → Commit → TableSight K → Seat S (Known X) → Seat S (Known X) → Lost → Type 0
+  IsLostBy c t old new l = IsLost t.setup c.thread c.snapshot c.reads.now c.writes.now l old.me.0.view new.me.0.view
 
   -- the view is as before, but for its locks and pins, of which it has none
   abbrev pub OnlyUndoes : Seat S (Known X) → Seat S (Known X) → Type 0

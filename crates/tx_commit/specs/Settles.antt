@@ -10,6 +10,8 @@ use Rattle.core_events.specs.Events.{place_behind, write_entry}
 use Rattle.core_events.specs.Conditions.{IsIdle, IsUndecided}
 use Rattle.core_table.specs.Known.{Known}
 use Rattle.tx_reading.specs.Pairs.{pairs_of}
+use Rattle.core_table.specs.Layout.{TableSight}
+use Rattle.tx_commit.specs.declared.commit.Commit.{Commit}
 use Rattle.tx_reading.specs.Seats.{IsLive, IsOf}
 use Rattle.tx_commit.specs.Pages.{ArePaged, IsWrittenPage}
 
@@ -88,6 +90,10 @@ AreTouched frames v = All (λ f. has v.paging.touched f.at ≡ true) frames
 
 -- ---- of a seat
 module _ {S X : Type 0} where
+  -- its transaction's number may be decided: each lock of its reads was found good since the draw
+  abbrev pub Decides : {K : Type 0} → Commit → ℕ → List Write → TableSight K → Seat S (Known X) → Type 0
+  Decides c number frames t s = MayDecide t.setup c.thread number c.writes.now c.held.now frames s.me.0.view
+
   -- the view is as before, but for what is stored
   abbrev pub OnlyStores : Seat S (Known X) → Seat S (Known X) → Type 0
   OnlyStores old new = new.me.0.view ≡ record old.me.0.view { tx = record old.me.0.view.tx { hand = record old.me.0.view.tx.hand { stored = new.me.0.view.tx.hand.stored } } }

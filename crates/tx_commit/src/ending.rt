@@ -1,7 +1,6 @@
 //! A transaction ends: with its entry, or without one.
 
 ghost use Rattle.std.specs.Prelude.{◌≡◌, ◌<◌, [], length, IfOk, IfErr, OnErr};
-ghost use Rattle.stm_steps.specs.Abouts.{about};
 ghost use Rattle.core_table.specs.Steps.{BelongsTo};
 ghost use Rattle.tx_reading.specs.Seats.{Stays};
 ghost use Rattle.tx_reading.specs.Pins.{IsPinning, pin_list};
@@ -11,16 +10,16 @@ ghost use Rattle.tx_commit.specs.Draws.{RunsPinned};
 ghost use Rattle.tx_commit.specs.Ends.{AsLost, Enters, HasEnded, IsLostBy, IsPinStop, OnlyUndoes};
 ghost use Rattle.tx_commit.specs.Rule.{OutlastsCommit};
 
+use crate::commit::Commit;
 use crate::lost::Lost;
 use crate::pinning::pin_all;
 use crate::publishing::publish;
+use crate::served::Served;
 use crate::storing::{restore_all, unpin_all};
 use core_table::event_table::Seat;
 use core_table::slot_rule::SlotRule;
 use dude_base::write_list::WriteList;
 use stm_steps::stm::Stm;
-use tatp_model::reply::Reply;
-use tatp_model::request::Request;
 use tx_reading::pages::let_go;
 use tx_reading::pinned::Pinned;
 use word_space::stop::Stop;
@@ -79,45 +78,35 @@ fn lost_of(stop: Stop) -> Lost
 pub fn commit_all<S, X, K, P: SlotRule<S, X, K>>(
     stm: &Stm<S, X, K, P>,
     seat: &mut Seat<S, X>,
-    thread: u64,
-    place: u64,
-    snapshot: u64,
+    commit: &Commit,
     pinned: &Option<Pinned>,
-    file: u64,
-    index: u64,
-    request: &Request,
-    reply: &Reply,
-    reads: &[(u64, u64)],
-    writes: &WriteList,
-    held: &WriteList,
+    served: &Served,
 ) -> Result<u64, Lost>
     requires seat { BelongsTo stm.now.events seat.old }
     requires slots { OutlastsCommit P.fact stm.now.events }
-    requires running { RunsPinned stm.now.events thread snapshot reads.now writes.now held.now pinned.now seat.old }
-    requires draws { 0 < length writes.now → 0 < seat.old.me.0.view.draws }
-    requires place { seat.old.me.0.view.box.next ≡ place }
+    requires running { RunsPinned stm.now.events commit.now pinned.now seat.old }
+    requires draws { 0 < length commit.now.writes.now → 0 < seat.old.me.0.view.draws }
+    requires place { seat.old.me.0.view.box.next ≡ commit.now.place }
     ensures stays { Stays stm.now.events seat.old seat.new }
-    ensures ok { IfOk result (Enters (about file index request.now reply.now)
-        reads.now writes.now stm.now.events seat.old seat.new) }
-    ensures err { IfErr result
-        (IsLostBy thread snapshot reads.now writes.now stm.now.events seat.old seat.new) }
-    ensures wrote { OnErr result (0 < length writes.now) }
+    ensures ok { IfOk result (Enters served.now commit.now stm.now.events seat.old seat.new) }
+    ensures err { IfErr result (IsLostBy commit.now stm.now.events seat.old seat.new) }
+    ensures wrote { OnErr result (0 < length commit.now.writes.now) }
 {
     let_go(stm, seat, pinned);
-    if writes.len() == 0 {
-        stm.finish(seat, file, index, request, reply);
-        return Ok(snapshot);
+    if commit.writes.len() == 0 {
+        stm.finish(
+            seat,
+            served.file,
+            served.index,
+            served.request,
+            served.reply,
+        );
+        return Ok(commit.snapshot);
     }
     let mut frames = WriteList::new();
-    if let Err(stop) = pin_all(stm, seat, writes, &mut frames) {
-        undo(stm, seat, held, &frames);
+    if let Err(stop) = pin_all(stm, seat, commit.writes, &mut frames) {
+        undo(stm, seat, commit.held, &frames);
         return Err(lost_of(stop));
     }
-    match publish(
-        stm, seat, thread, place, snapshot, file, index, request, reply, reads, writes, held,
-        &frames,
-    ) {
-        Ok(number) => Ok(number),
-        Err((lock, seen, number)) => Err(Lost::Conflict { lock, seen, number }),
-    }
+    publish(stm, seat, commit, served, &frames)
 }

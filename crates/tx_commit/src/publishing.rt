@@ -5,14 +5,16 @@ ghost use Rattle.dude_base.specs.Writes.{IsWriteList};
 ghost use Rattle.core_events.specs.Setups.{page_of};
 ghost use Rattle.core_events.specs.Keyed.{find};
 ghost use Rattle.core_events.specs.Events.{draw};
-ghost use Rattle.stm_steps.specs.Abouts.{about};
 ghost use Rattle.core_table.specs.Steps.{BelongsTo};
 ghost use Rattle.tx_reading.specs.Seats.{Stays};
 ghost use Rattle.tx_commit.specs.Draws.{RunsPaged};
-ghost use Rattle.tx_commit.specs.Ends.{Enters, Voids};
+ghost use Rattle.tx_commit.specs.Ends.{Enters, IsLostBy};
 ghost use Rattle.tx_commit.specs.Pages.{ArePagesOf};
 ghost use Rattle.tx_commit.specs.Rule.{OutlastsCommit};
 
+use crate::commit::Commit;
+use crate::lost::Lost;
+use crate::served::Served;
 use crate::settling::settle;
 use crate::storing::{restore_all, unpin_all};
 use crate::validating::validate;
@@ -20,47 +22,48 @@ use core_table::event_table::Seat;
 use core_table::slot_rule::SlotRule;
 use dude_base::write_list::WriteList;
 use stm_steps::stm::Stm;
-use tatp_model::reply::Reply;
-use tatp_model::request::Request;
+use tx_reading::bad_lock::BadLock;
 
-/// Draws a number for the writes, whose pages are pinned, checks the reads, and makes the writes, or gives
-/// all locks back and posts the number as void. The lock that isn't good, its word and the number are
-/// answered then.
+/// Draws a number for the writes, whose pages are pinned, checks the reads, and makes the writes. Where the lock of a read
+/// isn't good all locks get their old words, and the number is posted as void: `Conflict`.
 pub fn publish<S, X, K, P: SlotRule<S, X, K>>(
     stm: &Stm<S, X, K, P>,
     seat: &mut Seat<S, X>,
-    thread: u64,
-    place: u64,
-    snapshot: u64,
-    file: u64,
-    index: u64,
-    request: &Request,
-    reply: &Reply,
-    reads: &[(u64, u64)],
-    writes: &WriteList,
-    held: &WriteList,
+    commit: &Commit,
+    served: &Served,
     frames: &WriteList,
-) -> Result<u64, (u64, u64, u64)>
+) -> Result<u64, Lost>
     requires seat { BelongsTo stm.now.events seat.old }
     requires slots { OutlastsCommit P.fact stm.now.events }
-    requires running { RunsPaged stm.now.events thread snapshot reads.now writes.now held.now frames.now seat.old }
-    requires some { 0 < length writes.now }
+    requires running { RunsPaged stm.now.events commit.now frames.now seat.old }
+    requires some { 0 < length commit.now.writes.now }
     requires draws { 0 < seat.old.me.0.view.draws }
-    requires pages { ArePagesOf writes.now frames.now }
-    requires place { seat.old.me.0.view.box.next ≡ place }
+    requires pages { ArePagesOf commit.now.writes.now frames.now }
+    requires place { seat.old.me.0.view.box.next ≡ commit.now.place }
     ensures stays { Stays stm.now.events seat.old seat.new }
-    ensures ok { IfOk result (Enters (about file index request.now reply.now)
-        reads.now writes.now stm.now.events seat.old seat.new) }
-    ensures err { IfErr result
-        (Voids thread snapshot reads.now stm.now.events seat.old seat.new) }
+    ensures ok { IfOk result (Enters served.now commit.now stm.now.events seat.old seat.new) }
+    ensures err { IfErr result (IsLostBy commit.now stm.now.events seat.old seat.new) }
 {
-    let number = stm.draw(seat, file, index, request, reply, writes) + 1;
-    if let Err((lock, seen)) = validate(stm, seat, thread, snapshot, reads) {
-        restore_all(stm, seat, held);
+    let number = stm.draw(
+        seat,
+        served.file,
+        served.index,
+        served.request,
+        served.reply,
+        commit.writes,
+    ) + 1;
+    if let Err(BadLock { lock, seen }) = validate(
+        stm,
+        seat,
+        commit.thread,
+        commit.snapshot,
+        commit.reads,
+    ) {
+        restore_all(stm, seat, commit.held);
         unpin_all(stm, seat, frames);
-        stm.post(seat, thread, place, number);
-        return Err((lock, seen, number));
+        stm.post(seat, commit.thread, commit.place, number);
+        return Err(Lost::Conflict { lock, seen, number });
     }
-    settle(stm, seat, thread, place, number, writes, held, frames);
+    settle(stm, seat, commit, number, frames);
     Ok(number)
 }

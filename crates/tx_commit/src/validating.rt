@@ -9,17 +9,17 @@ ghost use Rattle.tx_commit.specs.Rule.{OutlastsCommit};
 use core_table::event_table::Seat;
 use core_table::slot_rule::SlotRule;
 use stm_steps::stm::Stm;
+use tx_reading::bad_lock::BadLock;
 use tx_reading::good_word::is_good_word;
 
-/// Checks each lock of the reads after the draw. One that isn't good makes the number void, and is
-/// answered with its word.
+/// Checks each lock of the reads after the draw. One that isn't good makes the number void.
 pub fn validate<S, X, K, P: SlotRule<S, X, K>>(
     stm: &Stm<S, X, K, P>,
     seat: &mut Seat<S, X>,
     thread: u64,
     snapshot: u64,
     reads: &[(u64, u64)],
-) -> Result<(), (u64, u64)>
+) -> Result<(), BadLock>
     requires seat { BelongsTo stm.now.events seat.old }
     requires slots { OutlastsCommit P.fact stm.now.events }
     requires checking { IsChecking thread snapshot reads.now seat.old.me.0.view }
@@ -33,7 +33,7 @@ pub fn validate<S, X, K, P: SlotRule<S, X, K>>(
         let lock = reads[k].0 % locks;
         let seen = stm.check(seat, lock);
         if !is_good_word(thread, snapshot, seen) {
-            return Err((lock, seen));
+            return Err(BadLock { lock, seen });
         }
     }
     Ok(())

@@ -9,6 +9,8 @@ use Rattle.core_events.specs.Conditions.{Keeps, IsSteady}
 use Rattle.core_events.specs.Telling.{IsTold}
 use Rattle.core_table.specs.Known.{Known}
 use Rattle.core_table.specs.Layout.{TableSight}
+use Rattle.tx_reading.specs.declared.bad_lock.BadLock.{BadLock}
+use Rattle.tx_reading.specs.declared.good_look.GoodLook.{GoodLook}
 use Rattle.tx_reading.specs.Seats.{HasNotFallen, HasRisen, IsOf}
 
 -- what an extension and a look need of the view
@@ -88,14 +90,14 @@ module _ {S X : Type 0} where
   Extends t old new n = Extended n old.me.0.view new.me.0.view × IsTold t.setup extend old.me.0.view n
 
   -- it stays, since this lock of a read has this word, which isn't good
-  abbrev pub FailsToExtend : {K : Type 0} → ℕ → ℕ → List (ℕ × ℕ) → TableSight K → Seat S (Known X) → Seat S (Known X) → (ℕ × ℕ) → Type 0
-  FailsToExtend thread snapshot reads t old new c = Extended snapshot old.me.0.view new.me.0.view × IsOutdated t.setup thread snapshot reads c.0 c.1
-      × (new.me.0.view.found ≡ Some (the_lock c.0, c.1)) × (HasRisen old.me.0.view.count new.me.0.view.count)
+  abbrev pub FailsToExtend : {K : Type 0} → ℕ → ℕ → List (ℕ × ℕ) → TableSight K → Seat S (Known X) → Seat S (Known X) → BadLock → Type 0
+  FailsToExtend thread snapshot reads t old new c = Extended snapshot old.me.0.view new.me.0.view × IsOutdated t.setup thread snapshot reads c.lock c.seen
+      × (new.me.0.view.found ≡ Some (the_lock c.lock, c.seen)) × (HasRisen old.me.0.view.count new.me.0.view.count)
 
   -- the lock has this word, which is good for this snapshot
-  abbrev pub LooksAt : ℕ → ℕ → Seat S (Known X) → Seat S (Known X) → (ℕ × ℕ) → Type 0
-  LooksAt thread lock old new r = HasGoodLook thread lock r.0 r.1 old.me.0.view new.me.0.view
+  abbrev pub LooksAt : ℕ → ℕ → Seat S (Known X) → Seat S (Known X) → GoodLook → Type 0
+  LooksAt thread lock old new r = HasGoodLook thread lock r.seen r.snapshot old.me.0.view new.me.0.view
 
   -- this lock has this word, which isn't good
-  abbrev pub FailsToLook : {K : Type 0} → ℕ → ℕ → List (ℕ × ℕ) → ℕ → TableSight K → Seat S (Known X) → Seat S (Known X) → (ℕ × ℕ) → Type 0
-  FailsToLook thread snapshot reads lock t old new c = HasNoLook old.me.0.view new.me.0.view × InConflict t.setup thread snapshot reads lock c.0 c.1 old.me.0.view new.me.0.view
+  abbrev pub FailsToLook : {K : Type 0} → ℕ → ℕ → List (ℕ × ℕ) → ℕ → TableSight K → Seat S (Known X) → Seat S (Known X) → BadLock → Type 0
+  FailsToLook thread snapshot reads lock t old new c = HasNoLook old.me.0.view new.me.0.view × InConflict t.setup thread snapshot reads lock c.lock c.seen old.me.0.view new.me.0.view

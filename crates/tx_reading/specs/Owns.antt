@@ -5,6 +5,7 @@ use Rattle.dude_base.specs.declared.write.Write.{Write}
 use Rattle.core_events.specs.Views.{View}
 use Rattle.core_table.specs.Known.{Known}
 use Rattle.core_table.specs.Layout.{TableSight}
+use Rattle.tx_reading.specs.declared.bad_lock.BadLock.{BadLock}
 use Rattle.tx_reading.specs.Looks.{AreUpTo, InConflict, Within}
 use Rattle.tx_reading.specs.Pairs.{Noted, pairs_of}
 use Rattle.tx_reading.specs.Seats.{HasNotFallen}
@@ -35,5 +36,5 @@ module _ {S X : Type 0} where
   HasOwnedNone held held2 snapshot old new = (held2 ≡ held) × AfterOwn (pairs_of held) snapshot old.me.0.view new.me.0.view
 
   -- this lock has this word, which isn't good
-  abbrev pub FailsToOwn : {K : Type 0} → ℕ → ℕ → List (ℕ × ℕ) → ℕ → TableSight K → Seat S (Known X) → Seat S (Known X) → (ℕ × ℕ) → Type 0
-  FailsToOwn thread snapshot reads lock t old new c = InConflict t.setup thread snapshot reads lock c.0 c.1 old.me.0.view new.me.0.view
+  abbrev pub FailsToOwn : {K : Type 0} → ℕ → ℕ → List (ℕ × ℕ) → ℕ → TableSight K → Seat S (Known X) → Seat S (Known X) → BadLock → Type 0
+  FailsToOwn thread snapshot reads lock t old new c = InConflict t.setup thread snapshot reads lock c.lock c.seen old.me.0.view new.me.0.view

@@ -5,6 +5,8 @@ ghost use Rattle.core_table.specs.Steps.{BelongsTo};
 ghost use Rattle.tx_reading.specs.Looks.{Extends, FailsToExtend, FailsToLook, IsReading, LooksAt};
 ghost use Rattle.tx_reading.specs.Seats.{OutlastsReading, Stays};
 
+use crate::bad_lock::BadLock;
+use crate::good_look::GoodLook;
 use crate::good_word::is_good_word;
 use core_table::event_table::Seat;
 use core_table::slot_rule::SlotRule;
@@ -26,7 +28,7 @@ fn is_before(reads: &[(u64, u64)], k: usize, lock: u64, locks: u64) -> bool
 }
 
 /// Extends the snapshot to the clock, where each lock of the reads is good. Each lock is checked once: the extension ends at
-/// the last one. The lock that isn't good and its word are answered.
+/// the last one.
 #[tactic(auto, using(crate::proofs::Extending::extend_may, crate::proofs::Extending::extending_none, crate::proofs::Extending::check_may, crate::proofs::Extending::extending_end))]
 pub fn extend_all<S, X, K, P: SlotRule<S, X, K>>(
     stm: &Stm<S, X, K, P>,
@@ -34,7 +36,7 @@ pub fn extend_all<S, X, K, P: SlotRule<S, X, K>>(
     thread: u64,
     snapshot: u64,
     reads: &[(u64, u64)],
-) -> Result<u64, (u64, u64)>
+) -> Result<u64, BadLock>
     requires seat { BelongsTo stm.now.events seat.old }
     requires slots { OutlastsReading P.fact stm.now.events }
     requires reading { IsReading thread snapshot reads.now seat.old.me.0.view }
@@ -50,15 +52,14 @@ pub fn extend_all<S, X, K, P: SlotRule<S, X, K>>(
         if !is_before(reads, k, lock, locks) {
             let seen = stm.check(seat, lock);
             if !is_good_word(thread, snapshot, seen) {
-                return Err((lock, seen));
+                return Err(BadLock { lock, seen });
             }
         }
     }
     Ok(n)
 }
 
-/// Looks at a lock, and extends the snapshot where the lock's version is over it. It answers the word and the snapshot, or the
-/// lock that isn't good and its word.
+/// Looks at a lock, and extends the snapshot where the lock's version is over it.
 pub fn look_at<S, X, K, P: SlotRule<S, X, K>>(
     stm: &Stm<S, X, K, P>,
     seat: &mut Seat<S, X>,
@@ -66,7 +67,7 @@ pub fn look_at<S, X, K, P: SlotRule<S, X, K>>(
     snapshot: u64,
     lock: u64,
     reads: &[(u64, u64)],
-) -> Result<(u64, u64), (u64, u64)>
+) -> Result<GoodLook, BadLock>
     requires seat { BelongsTo stm.now.events seat.old }
     requires slots { OutlastsReading P.fact stm.now.events }
     requires inside { lock < stm.now.events.setup.locks }
@@ -78,11 +79,11 @@ pub fn look_at<S, X, K, P: SlotRule<S, X, K>>(
 {
     let seen = stm.look(seat, lock);
     if is_good_word(thread, snapshot, seen) {
-        return Ok((seen, snapshot));
+        return Ok(GoodLook { seen, snapshot });
     }
     if seen % 2 == 1 {
-        return Err((lock, seen));
+        return Err(BadLock { lock, seen });
     }
-    let n = extend_all(stm, seat, thread, snapshot, reads)?;
-    Ok((seen, n))
+    let snapshot = extend_all(stm, seat, thread, snapshot, reads)?;
+    Ok(GoodLook { seen, snapshot })
 }

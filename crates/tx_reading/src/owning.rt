@@ -8,6 +8,7 @@ ghost use Rattle.tx_reading.specs.Looks.{IsReading};
 ghost use Rattle.tx_reading.specs.Owns.{FailsToOwn, HasOwned, HasOwnedNone, OwnsHeld};
 ghost use Rattle.tx_reading.specs.Seats.{OutlastsReading, Stays};
 
+use crate::bad_lock::BadLock;
 use crate::looking::look_at;
 use core_table::event_table::Seat;
 use core_table::slot_rule::SlotRule;
@@ -15,7 +16,7 @@ use dude_base::write::Write;
 use dude_base::write_list::WriteList;
 use stm_steps::stm::Stm;
 
-/// Owns a lock, and notes it with its old word, where it isn't owned yet. The lock that isn't good and its word are answered.
+/// Owns a lock, and notes it with its old word, where it isn't owned yet.
 pub fn own_lock<S, X, K, P: SlotRule<S, X, K>>(
     stm: &Stm<S, X, K, P>,
     seat: &mut Seat<S, X>,
@@ -24,7 +25,7 @@ pub fn own_lock<S, X, K, P: SlotRule<S, X, K>>(
     lock: u64,
     reads: &[(u64, u64)],
     held: &mut WriteList,
-) -> Result<(), (u64, u64)>
+) -> Result<(), BadLock>
     requires seat { BelongsTo stm.now.events seat.old }
     requires slots { OutlastsReading P.fact stm.now.events }
     requires inside { lock < stm.now.events.setup.locks }
@@ -43,11 +44,12 @@ pub fn own_lock<S, X, K, P: SlotRule<S, X, K>>(
         return Ok(());
     }
     let _len = held.len();
-    let (seen, now) = look_at(stm, seat, thread, *snapshot, lock, reads)?;
-    *snapshot = now;
+    let look = look_at(stm, seat, thread, *snapshot, lock, reads)?;
+    let seen = look.seen;
+    *snapshot = look.snapshot;
     let found = stm.take(seat, lock, seen, thread);
     if found != seen {
-        return Err((lock, found));
+        return Err(BadLock { lock, seen: found });
     }
     let Ok(()) = held.put(Write {
         at: lock,

@@ -8,6 +8,7 @@ ghost use Rattle.tx_reading.specs.Pins.{IsPinning, pin_list};
 ghost use Rattle.tx_reading.specs.Reads.{HasRead, HasReadNone, StopsRead};
 ghost use Rattle.tx_reading.specs.Seats.{OutlastsReading, Stays};
 
+use crate::bad_lock::BadLock;
 use crate::looking::look_at;
 use crate::pages::reach;
 use crate::pinned::Pinned;
@@ -43,11 +44,12 @@ pub fn read_word<S, X, K, P: SlotRule<S, X, K>>(
 {
     let lock = at % stm.events.locks();
     let frame = reach(stm, seat, at / PAGE, pinned)?;
-    let (seen, now) = match look_at(stm, seat, thread, *snapshot, lock, reads) {
-        Ok(found) => found,
-        Err((lock, seen)) => return Err(Stop::Conflict { lock, seen }),
+    let look = match look_at(stm, seat, thread, *snapshot, lock, reads) {
+        Ok(look) => look,
+        Err(BadLock { lock, seen }) => return Err(Stop::Conflict { lock, seen }),
     };
-    *snapshot = now;
+    let seen = look.seen;
+    *snapshot = look.snapshot;
     let value = stm.load(seat, at, frame);
     let again = stm.check(seat, lock);
     if again != seen {

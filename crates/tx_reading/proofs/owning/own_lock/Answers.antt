@@ -12,24 +12,24 @@ take-found-requires-clause-may g c =
     record {
       seat = c.look_at.ensures.stays.belongs;
       may = take_may c.args.stm.now.events.setup c.args.thread c.args.snapshot.now c.args.lock c.args.reads.now c.args.held.now c.args.seat.now.me.0.view c.requires.reading c.requires.owned (search rules) (search rules)
-          c.in_ok-seen.seen c.in_ok-seen.now c.look_at.new.seat.me.0.view c.in_ok-seen.ensures.ok (search rules);
+          c.in_ok-look.look.seen c.in_ok-look.look.snapshot c.look_at.new.seat.me.0.view c.in_ok-look.ensures.ok (search rules);
       slots = c.requires.slots.take c.args.lock;
     }
 
 pub returns-then-found-seen-clause-why : goal.returns-then-found-seen-clause-why
 returns-then-found-seen-clause-why g c =
     take_conflict c.args.stm.now.events.setup c.args.thread c.args.snapshot.now c.args.lock c.args.reads.now c.args.held.now c.args.seat.now.me.0.view c.requires.reading c.requires.owned (search rules) (search rules)
-    c.in_ok-seen.seen c.in_ok-seen.now c.look_at.new.seat.me.0.view c.in_ok-seen.ensures.ok
+    c.in_ok-look.look.seen c.in_ok-look.look.snapshot c.look_at.new.seat.me.0.view c.in_ok-look.ensures.ok
     c.take-found.result c.take-found.new.seat.me.0.view c.take-found.ensures.view c.take-found.ensures.found.told.word c.take-found.ensures.found.told.before (λ same. absurd (c.if-found-seen.true same))
 
 pub returns-clause-ok : goal.returns-clause-ok
 returns-clause-ok g c =
     let none : written c.args.held.now c.args.lock ≡ None = search rules in
-    let same : c.take-found.result ≡ c.in_ok-seen.seen = search rules in
-    let end = put_new c.args.held.now c.args.lock c.in_ok-seen.seen none in
+    let same : c.take-found.result ≡ c.in_ok-look.look.seen = search rules in
+    let end = put_new c.args.held.now c.args.lock c.in_ok-look.look.seen none in
     let after = take_won c.args.stm.now.events.setup c.args.thread c.args.snapshot.now c.args.lock c.args.reads.now c.args.held.now c.args.seat.now.me.0.view c.requires.reading c.requires.owned (search rules) none
-    c.in_ok-seen.seen c.in_ok-seen.now c.look_at.new.seat.me.0.view c.in_ok-seen.ensures.ok
+    c.in_ok-look.look.seen c.in_ok-look.look.snapshot c.look_at.new.seat.me.0.view c.in_ok-look.ensures.ok
     c.take-found.result c.take-found.new.seat.me.0.view c.take-found.ensures.view same in (
-      subst (λ (ws : List Write). AfterOwn (pairs_of ws) c.in_ok-seen.now c.args.seat.now.me.0.view c.take-found.new.seat.me.0.view) (sym (c.in-Ok.ensures.ok ∙ end)) after,
-      noted_new c.args.held.now c.put.new.self c.args.lock c.in_ok-seen.seen none c.in-Ok.ensures.ok,
+      subst (λ (ws : List Write). AfterOwn (pairs_of ws) c.in_ok-look.look.snapshot c.args.seat.now.me.0.view c.take-found.new.seat.me.0.view) (sym (c.in-Ok.ensures.ok ∙ end)) after,
+      noted_new c.args.held.now c.put.new.self c.args.lock c.in_ok-look.look.seen none c.in-Ok.ensures.ok,
     )
