@@ -1,0 +1,14 @@
+use Rattle.std.proofs.Common.{rules}
+use Rattle.word_space.proofs.Meets.{value_read}
+use Rattle.stm_transactions.specs.Txs.{tx_sight}
+use Rattle.stm_transactions.proofs.words.TxOverReadsWords.read.Goals as goal
+
+pub returns-in-Some-clause-value : goal.returns-in-Some-clause-value
+returns-in-Some-clause-value g c =
+    let s = tx_sight c.args.self.now in
+    value_read s s c.args.at c.in-Some.value c.requires.inside (search rules)
+
+pub returns-in-Ok-clause-value : goal.returns-in-Ok-clause-value
+returns-in-Ok-clause-value g c =
+    let s = tx_sight c.args.self.now in
+    value_read s (record s { reads = c.push_reserved.new.self.items }) c.args.at c.in-Ok.value c.requires.inside (search rules)

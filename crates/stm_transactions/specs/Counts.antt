@@ -1,0 +1,14 @@
+-- What a commit makes of the numbers of its pass.
+use Rattle.std.specs.Prelude.{ℕ, Bool, true, false, Result, Ok, Err}
+use Rattle.tx_commit.specs.declared.lost.Lost.{Lost}
+use Rattle.tx_commit.specs.declared.lost.Lost.TheVariants.{Out, Busy, Conflict}
+use Rattle.stm_passes.specs.declared.pass_numbers.PassNumbers.{PassNumbers}
+use Rattle.stm_passes.specs.Numbers.{after_draw, with_entry, with_refusals}
+
+-- the numbers after a commit that was answered so, with writes or without: a loss counts as a refusal
+abbrev pub after_commit : Bool → Result ℕ Lost → ℕ → PassNumbers → PassNumbers
+after_commit true (Ok n) boxes f = with_entry n (after_draw n boxes f)
+after_commit false (Ok n) boxes f = with_entry n f
+after_commit wrote (Err (Conflict lock seen n)) boxes f = with_refusals 1 (after_draw n boxes f)
+after_commit wrote (Err (Out page)) boxes f = with_refusals 1 f
+after_commit wrote (Err (Busy page seen)) boxes f = with_refusals 1 f

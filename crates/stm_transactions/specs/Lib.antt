@@ -1,0 +1,5 @@
+pub mod Rule
+pub mod Stops
+pub mod Counts
+pub mod Begins
+pub mod Txs

@@ -1,0 +1,31 @@
+//! A transaction begins.
+
+ghost use Rattle.std.specs.Prelude.{◌≡◌, IfOk, IfErr};
+ghost use Rattle.std.specs.Borrow.{sem, RestsIfErr};
+ghost use Rattle.stm_passes.specs.Passes.{IsRefused, IsResting};
+ghost use Rattle.stm_passes.specs.contracts.pass.Pass.{the_row};
+ghost use Rattle.stm_transactions.specs.Txs.{HasBegun};
+
+use crate::rule::{TransactionRule, let_transact};
+use crate::tx::{Tx, begin_now};
+use std::alloc::Global;
+use stm_passes::box_full::BoxFull;
+use stm_passes::pass::Pass;
+use stm_steps::stm::Stm;
+
+/// Begins a transaction of the pass, where its next box is empty.
+pub fn begin_in<'a, S, X, K, P: TransactionRule<S, X, K>>(
+    p: &'a mut Pass<X>,
+    stm: &'a Stm<S, X, K, P>,
+    alloc: Global,
+) -> Result<Tx<'a, S, X, K, P>, BoxFull>
+    requires rests { IsResting stm.now.events p.old }
+    ensures* refused { sem 𝓛 (RestsIfErr (the_row X.row) p.entry (λ t. t.pass.ghost_name) result
+        (λ n. IfErr result (λ e. IsRefused stm.now.events e.seen p.old n))) }
+    ensures same { IfOk result (λ t. t.pass.ghost_name ≡ p.entry.ghost_name) }
+    ensures begun { IfOk result (HasBegun stm.now.events p.old) }
+{
+    let_transact(stm);
+    p.see_box(stm)?;
+    Ok(begin_now(alloc, p, stm))
+}
