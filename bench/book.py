@@ -138,7 +138,7 @@ def definition_text(book, module, one):
 
 def clause_html(book, call, before, text):
     """A clause: its name, or what it is where it has none; its sentence; its text."""
-    name = re.match(r"(requires|ensures)\s*([\w-]*)", text[0])
+    name = re.match(r"(requires|ensures)\*?\s*([\w-]*)", text[0])
     place = f' id="{call.anchor()}.{name[1]}.{name[2]}"' if name[2] else ""
     said = f" <p>{prose(before)}</p>" if before else ""
     return f'<div class="clause"{place}><b>{name[1]} {name[2]}</b>{said}<pre>{linked(book, strip_braces(text), call.imports)}</pre></div>'
@@ -239,7 +239,7 @@ def write_headline(book):
     said = book.modules[crate, module].sentence.split("\n\n")
     body = "".join(f'<p{"" if k else " class=said"}>{prose(it.removeprefix("The headline: "))}</p>' for k, it in enumerate(said))
     body += f'<p class="kind">It is a clause of the public call <a href="{call.link()}">{name}</a>. Below it stands each definition that it cites, and each that these cite, down to those that cite nothing: {sum(map(len, levels))} in {len(levels)} steps.</p>'
-    body += "<h2>The clause</h2>" + "".join(clause_html(book, call, before, text) for before, text in call.clauses if re.match(rf"ensures {clause}\b", text[0]))
+    body += "<h2>The clause</h2>" + "".join(clause_html(book, call, before, text) for before, text in call.clauses if re.match(rf"ensures\*? {clause}\b", text[0]))
     for depth, level in enumerate(levels):
         body += f"<h2>{'What it says' if not depth else f'Step {depth}'}</h2>" + (names_of([(it.name, f"#{it.crate}.{it.module}.{it.name}") for it in level]) if depth else "")
         for one in level:
@@ -264,7 +264,7 @@ def write_promises(book):
 def clause_link(call, name):
     """The place of a clause; where it has no name, that of its call."""
     clause = name.split(".")[0]
-    has = any(re.match(rf"ensures {clause}\b", text[0]) for _, text in call.clauses)
+    has = any(re.match(rf"ensures\*? {clause}\b", text[0]) for _, text in call.clauses)
     return f"{call.crate}.html#{call.anchor()}.ensures.{clause}" if has else call.link()
 
 

@@ -387,7 +387,7 @@ class Book:
         """Whether a call has a clause of this name, with this field of what it cites; or one without a name that cites this."""
         clause, _, field = name.partition(".")
         for _, text in call.clauses:
-            own = re.match(r"(?:requires|ensures)\s*([\w-]*)", text[0])[1]
+            own = re.match(r"(?:requires|ensures)\*?\s*([\w-]*)", text[0])[1]
             cited = [self.find(it, call.imports) for it in cited_in(clause_text(text))]
             definitions = [it for it in cited if isinstance(it, Definition)]
             if own == clause and (not field or any(self.has_field(it, field) for it in definitions)):
@@ -488,13 +488,14 @@ class Book:
 
     def check_imports(self, imports, label):
         for name, where in imports.items():
-            if name and where[0] in self.crates and where[1] != "code" and not self.defined(*where):
+            # What stands below `contracts` the prover makes of the clauses.
+            if name and where[0] in self.crates and where[1] != "code" and not where[1].startswith("contracts.") and not self.defined(*where):
                 self.miss(f"{label}: {where[2]} is not in {where[0]}/specs/{where[1]}")
 
 
 def clause_text(text):
     """A clause without its word and its name."""
-    return [re.sub(r"^(requires|ensures)\s*[\w-]*\s*\{", "{", text[0]), *text[1:]]
+    return [re.sub(r"^(requires|ensures)\*?\s*[\w-]*\s*\{", "{", text[0]), *text[1:]]
 
 
 def handed_on_by(text, crates):
