@@ -1,5 +1,5 @@
 -- What a crash may leave of each word of the medium: of the mark, of home words, and of heads over the mark.
-use Rattle.std.specs.Prelude.{◌≡◌, ℕ, ◌*◌, ◌<◌, ◌⊎◌, List, ◌++◌}
+use Rattle.std.specs.Prelude.{◌≡◌, ℕ, ◌*◌, ◌<◌, ◌⊎◌, List, ◌++◌, length}
 use Rattle.std.specs.List.{Contains}
 use Rattle.dude_base.specs.declared.limits.TheConstants.{MARK, PAGE}
 use Rattle.dude_base.specs.declared.write.Write.{Write}
@@ -24,8 +24,9 @@ use Rattle.core_medium.specs.BackCalls.{MayReproduce, waiting_as}
 use Rattle.core_medium.specs.Machines.{Machine}
 use Rattle.core_medium.specs.Crash.{IsPersisting}
 
--- bundles up to a number are being reproduced, by these writes
+-- bundles up to a number are being reproduced, by these writes: the calls made are the first ones of their list
 pub record IsReproducing (m : Machine) (ws : List Write) (n : ℕ) : Type 0 where
+  pub made : 0 < length m.store.calls
   pub bundles : List RedoBundle
   pub may : MayReproduce m.store.log m.store.rest.told bundles ws n
   pub later : List Call
