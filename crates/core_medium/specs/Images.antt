@@ -70,7 +70,8 @@ IsValueAt z m n i x = x ≡ value_at z.opening (all_entries m.core.views) n i
 -- Each waiting bundle is settled in its cells, its tag too
 pub record ImagesHave (z : Setup) (m : Machine) : Type 0 where
   pub mark : (x : ℕ) → MayHold ((medium_of m.store).word MARK) x
-      → (x ≡ m.store.log.reproduced) ⊎ ((ws : List Write) × IsReproducing m ws x × HasSettledHome m.store.log.sizes (overwritten ws m.store.log.home) (medium_of m.store))
+      → (x ≡ m.store.log.reproduced)
+      ⊎ ((ws : List Write) × IsReproducing m ws x × HasSettledHome m.store.log.sizes (overwritten ws m.store.log.home) (medium_of m.store))
   pub homes : (i x : ℕ) → i < z.pages * PAGE → MayHold ((medium_of m.store).word (home_word m.store.log.sizes i)) x
       → IsValueAt z m m.store.log.reproduced i x ⊎ ((ws : List Write) × (n : ℕ) × IsReproducing m ws n × IsValueAt z m n i x)
   pub heads : (ring slot tag : ℕ) → MayBeHead m ring slot tag → HeadBundle z m ring slot tag
