@@ -1,6 +1,8 @@
 -- Every image of a kept machine's medium recovers to the values at a number.
-use Rattle.std.proofs.Common.{◌≡◌, ℕ, ◌*◌, ◌≤◌, nat_lt, List, ◌∷◌, ◌++◌, length, take, sym, ap, ◌∙◌, subst, inl, inr, ⊎_elim, arith, refl}
+use Rattle.std.proofs.Common.{◌≡◌, ℕ, ◌*◌, ◌<◌, ◌≤◌, nat_lt, List, [], ◌∷◌, ◌++◌, length, take, sym, ap, ◌∙◌, subst, inl, inr, ⊎_elim, arith, refl}
 use Rattle.std.specs.List.{filter}
+use mathlib.Core.Logic.{dite}
+use native.Mathlib.Decide.{dec_lt}
 use Rattle.dude_base.specs.declared.limits.TheConstants.{PAGE}
 use Rattle.dude_base.specs.Image.{image_words, cell_at}
 use Rattle.dude_base.proofs.Overwriting.{length-overwritten_by_all}
@@ -26,6 +28,11 @@ use Rattle.core_medium.specs.KeptStore.{StoreKept}
 use Rattle.core_medium.specs.Machines.{Machine}
 use Rattle.core_medium.specs.Crash.{IsEndNow, RecoversToValues}
 use Rattle.core_medium.proofs.Devices.{take_front, log2, stands2, can, logged, adds, can_reproduce, still, told_upto}
+
+-- no call was made
+pub none_made : (calls : List Call) → (0 < length calls → ⊥) → calls ≡ []
+none_made [] none = refl
+none_made (call ∷ calls) none = absurd (none (omega arith))
 
 module _ (z : Setup) (g : Ghost) (c : State) (l : LayersKept z g c) (d : Store) (k : StoreKept z g c d) where
   abbrev m : Machine
@@ -67,30 +74,30 @@ module _ (z : Setup) (g : Ghost) (c : State) (l : LayersKept z g c) (d : Store) 
         let end = waiting_law.some_end d.log.waiting d.log.reproduced in
         every d.log refl home_long k.stands (λ n is. inl is) end.0 end.0 d.rest (held_log_law d.log d.rest len 0 end.0 k.holds long end.1 (told_upto z g c l d k end.0 end.1))
 
-    under : (b : BackCall) (later : List Call) → MayCall z c.boxes c.records d.log d.rest.told b → calls_of z c.records d.log.sizes d.next b ≡ d.calls ++ later → EveryImage len (RecoversToValues z m) (medium_of d)
-    under (persisting t j more) later may whole =
+    under : (b : BackCall) (later : List Call) → 0 < length d.calls → MayCall z c.boxes c.records d.log d.rest.told b → calls_of z c.records d.log.sizes d.next b ≡ d.calls ++ later → EveryImage len (RecoversToValues z m) (medium_of d)
+    under (persisting t j more) later made may whole =
         let log = log2 z g c l d k t j more may in
         let low = waiting_law.some_end d.log.waiting d.log.reproduced in let high = waiting_law.some_end log.waiting d.log.reproduced in
         let law =
         persist_law d.log (cell_at t (d.next t)) (bundle_in z c.records t j more) log.rings log.waiting d.rest k.holds
         (can z g c l d k t j more may) (logged z g c l d k t j more may) (adds z g c l d k t j more may) in
-        every log refl home_long (stands2 z g c l d k t j more may) (λ n is. inr (t, j, more, record { may = may; later = later; whole = whole }, is)) low.0 high.0 (medium_of d)
+        every log refl home_long (stands2 z g c l d k t j more may) (λ n is. inr (t, j, more, record { made = made; may = may; later = later; whole = whole }, is)) low.0 high.0 (medium_of d)
         (front (EveryImage len (RecoversAmong log 0 low.0 high.0)) (calls_of z c.records d.log.sizes d.next (persisting t j more)) later whole
         (law.0 len 0 low.0 high.0 long low.1 high.1 (told_upto z g c l d k low.0 low.1)))
-    under (announcing n) later may whole =
+    under (announcing n) later made may whole =
         every d.log refl home_long k.stands (λ x is. inl is) n n (medium_of d)
         (front (EveryImage len (RecoversAmong d.log 0 n n)) (calls_of z c.records d.log.sizes d.next (announcing n)) later whole
         ((announce_law d.log n d.rest k.holds).0 len 0 n long may (told_upto z g c l d k n may) (omega arith)))
-    under (reproducing rs ws x) later may whole =
+    under (reproducing rs ws x) later made may whole =
         let end = waiting_law.some_end d.log.waiting d.log.reproduced in
         let law = reproduce_law d.log rs ws x (filter (λ w. nat_lt x w.redo.last) d.log.waiting) d.rest k.holds (can_reproduce z g c l d k rs ws x may) (keeps_filter x d.log.waiting) in
         every d.log refl home_long k.stands (λ n is. inl is) end.0 end.0 (medium_of d)
         (front (EveryImage len (RecoversAmong d.log 0 end.0 end.0)) (calls_of z c.records d.log.sizes d.next (reproducing rs ws x)) later whole
         (law.0 len 0 end.0 long end.1 (told_upto z g c l d k end.0 end.1)))
-    under (reading p) later may whole = subst (λ (q : MediumState). EveryImage len (RecoversToValues z m) q) (sym (still z g c l d k p may later whole)) at_rest
+    under (reading p) later made may whole = subst (λ (q : MediumState). EveryImage len (RecoversToValues z m) q) (sym (still z g c l d k p may later whole)) at_rest
 
     pub recovers : EveryImage len (RecoversToValues z m) (medium_of d)
-    recovers = ⊎_elim
-        (λ none. subst (λ (cs : List Call). EveryImage len (RecoversToValues z m) (after_all cs d.rest)) (sym none) at_rest)
-        (λ u. under u.back (u.call ∷ u.later) u.may u.whole)
-        k.under
+    recovers = ⊎_elim rests (λ u. dite (dec_lt 0 (length d.calls)) (λ made. under u.back (u.call ∷ u.later) made u.may u.whole) (λ none. rests (none_made d.calls none))) k.under
+      where
+        rests : d.calls ≡ [] → EveryImage len (RecoversToValues z m) (medium_of d)
+        rests none = subst (λ (cs : List Call). EveryImage len (RecoversToValues z m) (after_all cs d.rest)) (sym none) at_rest

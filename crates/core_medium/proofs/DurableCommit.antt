@@ -16,22 +16,28 @@ use Rattle.pmem_trait.specs.declared.call.Call.{Call}
 use Rattle.pmem_trait.specs.Groups.{group_calls}
 use Rattle.pmem_trait.specs.Words.{IsIn, after_all}
 use Rattle.redo_record.specs.Calls.{append_calls}
-use Rattle.redo_record.specs.BackCalls.{announce_calls, reproduce_calls}
+use Rattle.redo_record.specs.BackCalls.{announce_calls, reproduce_calls, read_page_calls}
 use Rattle.redo_record.specs.Waiting.{Waiting, Waits, Lead, IsContiguousEnd}
 use Rattle.core_events.specs.Setups.{IsSetup, lock_of}
 use Rattle.core_events.specs.Keyed.{find, has}
 use Rattle.core_events.specs.Views.{View}
 use Rattle.core_events.specs.Words.{State}
-use Rattle.core_events.specs.Events.{Event, number, see_box, begin, entry, pin, look, load, check, take, draw, decide, store, touch, release, unpin, post, take_turn, empty_box, raise_durable, raise_reproduced, give_turn, no_about}
+use Rattle.core_events.specs.Events.{Event, number, see_box, begin, entry, pin, look, load, check, take, draw, decide, store, touch, release, unpin, post, take_turn, empty_box, raise_durable, raise_reproduced, evict, load_touch, fill, give_turn, no_about}
 use Rattle.core_events.specs.Partings.{newcomer}
-use Rattle.core_events.specs.Conditions.{HasThread}
+use Rattle.core_events.specs.Conditions.{HasThread, IsFree}
 use Rattle.core_events.proofs.Lists.{all_one}
 use Rattle.core_events.specs.OneCommit.{one_write}
 use Rattle.core_medium.specs.Stores.{Store}
 use Rattle.core_medium.specs.BackCalls.{BackCall, persisting, announcing, reproducing, reading, MayPersist, MayReproduce, MayCall, calls_of, left_by, store_behind, waiting_as}
 use Rattle.core_medium.specs.Machines.{Machine, MachineStep, AllMachineLead, IsMet, machine_after}
-use Rattle.core_medium.specs.KeptStore.{HasPlaces, opening_medium, start_machine}
-use Rattle.core_medium.specs.DurableCommit.{small_sizes, small_setup, one_bundle, by_first, calls_by_first, events_before, persist_one, reproduce_one, last_steps, steps_announcing, durable_steps, IsDurablyCommitted}
+use Rattle.core_medium.specs.KeptStore.{HasPlaces, opening_medium, start_machine, MachineKept}
+use Rattle.core_medium.specs.DurableCommit.{small_sizes, small_setup, one_bundle, by_first, calls_by_first, events_before, persist_one, reproduce_one, last_steps, steps_announcing, durable_steps, reading_steps, IsDurablyCommitted}
+use Rattle.core_medium.specs.MachineLaws.{HasReadPage}
+use Rattle.redo_record.specs.LogState.{LogState}
+use Rattle.core_medium.proofs.Keeps.{steps_keep}
+use Rattle.core_medium.proofs.Openings.{opens}
+use Rattle.core_medium.proofs.PageReads.{whole_page_read}
+use Rattle.core_medium.proofs.Start.{machine_start}
 use Rattle.core_medium.proofs.WholeCalls.{whole_leads}
 
 -- the write is of the word 3 alone
@@ -352,10 +358,28 @@ a23 : IsMet small_setup m23 0 (raise_reproduced 1) (view_in m23.core)
 a23 = record { is_there = refl; may = record { live = refl; threaded = (0, refl); named = tt; can = refl }; meets = (omega arith, inl refl) }
 
 abbrev m25 : Machine
-m25 = next m24 (give_turn false)
+m25 = next m24 (entry 0)
 
-a24 : IsMet small_setup m24 0 (give_turn false) (view_in m24.core)
-a24 = record { is_there = refl; may = record { live = refl; threaded = (0, refl); named = tt; can = (refl, (λ e. absurd (true≢false (sym e)))) }; meets = (refl, refl) }
+a24 : IsMet small_setup m24 0 (entry 0) (view_in m24.core)
+a24 = record { is_there = refl; may = record { live = refl; threaded = (0, refl); named = omega arith; can = inr refl }; meets = tt }
+
+abbrev m26 : Machine
+m26 = next m25 (evict 0)
+
+a25 : IsMet small_setup m25 0 (evict 0) (view_in m25.core)
+a25 = record { is_there = refl; may = record { live = refl; threaded = (0, refl); named = omega arith; can = (refl, (65_536, refl, omega arith)) }; meets = tt }
+
+abbrev m27 : Machine
+m27 = next m26 (load_touch 0)
+
+a26 : IsMet small_setup m26 0 (load_touch 0) (view_in m26.core)
+a26 = record { is_there = refl; may = record { live = refl; threaded = (0, refl); named = omega arith; can = (refl, refl) }; meets = tt }
+
+abbrev m28 : Machine
+m28 = record { core = m27.core; store = store_behind small_setup m27.core.records (reading 0) m27.store (read_page_calls small_sizes 0) }
+
+reads : AllMachineLead small_setup m27 (calls_by_first (read_page_calls small_sizes 0)) m28
+reads = whole_leads small_setup m27.core 0 (view_in m27.core) refl refl (0, refl) refl (reading 0) (read_page_calls small_sizes 0) m27.store (omega arith) refl
 
 commits : AllMachineLead small_setup m0 (by_first events_before) m18
 commits = (m1, (view_in m0.core, a0, refl), (m2, (view_in m1.core, a1, refl), (m3, (view_in m2.core, a2, refl), (m4, (view_in m3.core, a3, refl), (m5, (view_in m4.core, a4, refl), (m6, (view_in m5.core, a5, refl), (m7, (view_in m6.core, a6, refl), (m8, (view_in m7.core, a7, refl), (m9, (view_in m8.core, a8, refl), (m10, (view_in m9.core, a9, refl), (m11, (view_in m10.core, a10, refl), (m12, (view_in m11.core, a11, refl), (m13, (view_in m12.core, a12, refl), (m14, (view_in m13.core, a13, refl), (m15, (view_in m14.core, a14, refl), (m16, (view_in m15.core, a15, refl), (m17, (view_in m16.core, a16, refl), (m18, (view_in m17.core, a17, refl), refl))))))))))))))))))
@@ -366,27 +390,82 @@ emptied = (m20, (view_in m19.core, a19, refl), refl)
 raised : AllMachineLead small_setup m21 (by_first (raise_durable 1 ∷ [])) m22
 raised = (m22, (view_in m21.core, a21, refl), refl)
 
-given : AllMachineLead small_setup m23 (by_first (raise_reproduced 1 ∷ give_turn false ∷ [])) m25
-given = (m24, (view_in m23.core, a23, refl), (m25, (view_in m24.core, a24, refl), refl))
+reproduced : AllMachineLead small_setup m23 (by_first (raise_reproduced 1 ∷ [])) m24
+reproduced = (m24, (view_in m23.core, a23, refl), refl)
 
--- from each leg to the end
-from_raised : AllMachineLead small_setup m22 last_steps m25
-from_raised = lead_append m22 m23 m25 reproduce_one (by_first (raise_reproduced 1 ∷ give_turn false ∷ [])) reproduces given
+evicted : AllMachineLead small_setup m24 (by_first (entry 0 ∷ evict 0 ∷ load_touch 0 ∷ [])) m27
+evicted = (m25, (view_in m24.core, a24, refl), (m26, (view_in m25.core, a25, refl), (m27, (view_in m26.core, a26, refl), refl)))
 
-from_emptied : AllMachineLead small_setup m20 steps_announcing m25
+-- from each leg to the raise of the reproduced word
+from_raised : AllMachineLead small_setup m22 last_steps m24
+from_raised = lead_append m22 m23 m24 reproduce_one (by_first (raise_reproduced 1 ∷ [])) reproduces reproduced
+
+from_emptied : AllMachineLead small_setup m20 steps_announcing m24
 from_emptied =
-    lead_append m20 m21 m25 (calls_by_first (announce_calls 1)) (by_first (raise_durable 1 ∷ []) ++ last_steps) announces
-    (lead_append m21 m22 m25 (by_first (raise_durable 1 ∷ [])) last_steps raised from_raised)
+    lead_append m20 m21 m24 (calls_by_first (announce_calls 1)) (by_first (raise_durable 1 ∷ []) ++ last_steps) announces
+    (lead_append m21 m22 m24 (by_first (raise_durable 1 ∷ [])) last_steps raised from_raised)
 
-all_lead : AllMachineLead small_setup m0 durable_steps m25
+durably : AllMachineLead small_setup m0 durable_steps m24
+durably =
+    lead_append m0 m18 m24 (by_first events_before) (persist_one ++ (by_first (empty_box 0 0 ∷ []) ++ steps_announcing)) commits
+    (lead_append m18 m19 m24 persist_one (by_first (empty_box 0 0 ∷ []) ++ steps_announcing) persists
+    (lead_append m19 m20 m24 (by_first (empty_box 0 0 ∷ [])) steps_announcing emptied from_emptied))
+
+-- ---- the page that was read
+kept : MachineKept small_setup m27
+kept =
+    steps_keep small_setup (durable_steps ++ by_first (entry 0 ∷ evict 0 ∷ load_touch 0 ∷ [])) m0 m27
+    (machine_start small_setup small_sizes (opening_medium small_setup small_sizes) small_ok (opens small_setup small_sizes small_ok small_accepted small_places))
+    (lead_append m0 m24 m27 durable_steps (by_first (entry 0 ∷ evict 0 ∷ load_touch 0 ∷ [])) durably evicted)
+
+page : HasReadPage 0 m27.store m28.store
+page = whole_page_read small_setup kept.ghost_is m27.core kept.layers 0 m27.store kept.store (omega arith) refl
+
+-- no entry names the first frame
+free_frame : IsFree small_setup m28.core 0
+free_frame zero lt pos = absurd (omega arith)
+free_frame (suc zero) lt pos = λ e. absurd (omega arith)
+free_frame (suc (suc zero)) lt pos = λ e. absurd (omega arith)
+free_frame (suc (suc (suc q))) lt pos = absurd (omega arith)
+
+abbrev m29 : Machine
+m29 = next m28 (fill 0 0 3 7)
+
+a28 : IsMet small_setup m28 0 (fill 0 0 3 7) (view_in m28.core)
+a28 = record {
+  is_there = refl;
+  may = record { live = refl; threaded = (0, refl); named = (omega arith, omega arith, omega arith); can = (refl, refl, (1, refl)) };
+  meets = (free_frame, (λ y e. (let f : Some 1 ≡ Some y = e in let same : 1 ≡ y = cc in omega arith)), page.words 3 (omega arith));
+}
+
+abbrev m30 : Machine
+m30 = next m29 (give_turn false)
+
+a29 : IsMet small_setup m29 0 (give_turn false) (view_in m29.core)
+a29 = record { is_there = refl; may = record { live = refl; threaded = (0, refl); named = tt; can = (refl, (λ e. absurd (true≢false (sym e)))) }; meets = (page.calls, refl) }
+
+filled : AllMachineLead small_setup m28 (by_first (fill 0 0 3 7 ∷ give_turn false ∷ [])) m30
+filled = (m29, (view_in m28.core, a28, refl), (m30, (view_in m29.core, a29, refl), refl))
+
+all_lead : AllMachineLead small_setup m0 (durable_steps ++ reading_steps) m30
 all_lead =
-    lead_append m0 m18 m25 (by_first events_before) (persist_one ++ (by_first (empty_box 0 0 ∷ []) ++ steps_announcing)) commits
-    (lead_append m18 m19 m25 persist_one (by_first (empty_box 0 0 ∷ []) ++ steps_announcing) persists
-    (lead_append m19 m20 m25 (by_first (empty_box 0 0 ∷ [])) steps_announcing emptied from_emptied))
+    lead_append m0 m24 m30 durable_steps reading_steps durably
+    (lead_append m24 m27 m30 (by_first (entry 0 ∷ evict 0 ∷ load_touch 0 ∷ [])) (calls_by_first (read_page_calls small_sizes 0) ++ by_first (fill 0 0 3 7 ∷ give_turn false ∷ [])) evicted
+    (lead_append m27 m28 m30 (calls_by_first (read_page_calls small_sizes 0)) (by_first (fill 0 0 3 7 ∷ give_turn false ∷ [])) reads filled))
 
 nineteen : length persist_one + length (announce_calls 1) + length reproduce_one ≡ 19
 unfolding append_calls reproduce_calls group_calls
 nineteen = refl
 
 pub commit_lasts : (m : Machine) × IsDurablyCommitted m
-commit_lasts = (m25, record { led = all_lead; durable = refl; reproduced = refl; mark = refl; word = refl; calls = nineteen })
+commit_lasts = (
+  m30,
+  record {
+    led = all_lead;
+    durable = refl;
+    reproduced = refl;
+    mark = ap (λ (l : LogState). l.reproduced) page.log;
+    word = ap (λ (l : LogState). get_or l.home 3 0) page.log;
+    calls = nineteen;
+  },
+)

@@ -3,7 +3,7 @@ use Rattle.std.proofs.Common.{◌≡◌, ◌≢◌, ℕ, ◌+◌, ◌*◌, ◌<�
 use Rattle.std.specs.Prelude.{slice_index}
 use Rattle.std.specs.List.{Contains}
 use mathlib.Core.Logic.{dite}
-use native.Mathlib.Decide.{ℕ_discrete}
+use native.Mathlib.Decide.{ℕ_discrete, dec_lt}
 use Rattle.dude_base.specs.declared.limits.TheConstants.{MARK, PAGE, VERSION}
 use Rattle.dude_base.specs.declared.write.Write.{Write}
 use Rattle.dude_base.specs.Image.{Cell, cell_at, cell_start, home_word}
@@ -38,7 +38,7 @@ use Rattle.core_medium.specs.KeptStore.{StoreKept}
 use Rattle.core_medium.specs.Machines.{Machine}
 use Rattle.core_medium.specs.Images.{IsReproducing, IsOpenHead, IsValueAt, MayBeHead, HeadBundle, ImagesHave}
 use Rattle.core_medium.proofs.Devices.{can, can_reproduce, values_there, still}
-use Rattle.core_medium.proofs.Crashes.{front}
+use Rattle.core_medium.proofs.Crashes.{none_made, front}
 use Rattle.core_medium.proofs.Heads.{Found, found, one_head}
 
 module _ (z : Setup) (g : Ghost) (c : State) (l : LayersKept z g c) (d : Store) (k : StoreKept z g c d) where
@@ -98,12 +98,12 @@ module _ (z : Setup) (g : Ghost) (c : State) (l : LayersKept z g c) (d : Store) 
     }
 
   -- ---- while bundles are reproduced
-  module _ (rs : List RedoBundle) (ws : List Write) (n : ℕ) (may : MayReproduce d.log d.rest.told rs ws n) (later : List Call) (whole : calls_of z c.records d.log.sizes d.next (reproducing rs ws n) ≡ d.calls ++ later) where
+  module _ (rs : List RedoBundle) (ws : List Write) (n : ℕ) (may : MayReproduce d.log d.rest.told rs ws n) (made : 0 < length d.calls) (later : List Call) (whole : calls_of z c.records d.log.sizes d.next (reproducing rs ws n) ≡ d.calls ++ later) where
     going : Reproducing d.log ws n d.rest (medium_of d)
     going = front z g c l d k (Reproducing d.log ws n d.rest) (calls_of z c.records d.log.sizes d.next (reproducing rs ws n)) later whole (reproducing_law d.log rs ws n d.rest k.holds (can_reproduce z g c l d k rs ws n may)).0
 
     group : IsReproducing m ws n
-    group = record { bundles = rs; may = may; later = later; whole = whole }
+    group = record { made = made; bundles = rs; may = may; later = later; whole = whole }
 
     stay : (r : RedoBundle) (cell : Cell) → IsCell d.log.sizes cell → HoldSettled d.log.sizes cell r d.rest → HoldSettled d.log.sizes cell r (medium_of d)
     stay r cell is held = settled_records_law.rest d.log.sizes cell r d.rest (medium_of d) is (λ slot j x lt small e. going.cells.stay cell.ring slot j x is.ring_is lt small e) held
@@ -126,7 +126,7 @@ module _ (z : Setup) (g : Ghost) (c : State) (l : LayersKept z g c) (d : Store) 
     }
 
   -- ---- while a bundle is persisted
-  module _ (t j : ℕ) (more : List (ℕ × ℕ)) (may : MayPersist z c.boxes c.records d.log t j more) (later : List Call) (whole : calls_of z c.records d.log.sizes d.next (persisting t j more) ≡ d.calls ++ later) where
+  module _ (t j : ℕ) (more : List (ℕ × ℕ)) (may : MayPersist z c.boxes c.records d.log t j more) (made : 0 < length d.calls) (later : List Call) (whole : calls_of z c.records d.log.sizes d.next (persisting t j more) ≡ d.calls ++ later) where
     abbrev b : RedoBundle
     b = bundle_in z c.records t j more
 
@@ -186,7 +186,7 @@ module _ (z : Setup) (g : Ghost) (c : State) (l : LayersKept z g c) (d : Store) 
       which = inr (subst (λ (r : ℕ). IsOpenHead z m (cell_at r slot) tag b) new.ring_is (record {
         place = j;
         more = more;
-        persisting = record { may = may; later = later; whole = whole };
+        persisting = record { made = made; may = may; later = later; whole = whole };
         bundle_is = refl;
         slot_is = new.slot_is;
         tag_is = new.tag_is;
@@ -223,14 +223,14 @@ module _ (z : Setup) (g : Ghost) (c : State) (l : LayersKept z g c) (d : Store) 
   nothing_made [] call later e = refl
   nothing_made (x ∷ xs) call later e = absurd (let size = length-append xs (call ∷ later) in omega arith)
 
+  no_call : d.calls ≡ [] → ImagesHave z m
+  no_call none = at_rest (λ i. ap (λ (cs : List Call). (after_all cs d.rest).word i) none)
+
   pub images_have : ImagesHave z m
-  images_have = ⊎_elim
-      (λ none. at_rest (λ i. ap (λ (cs : List Call). (after_all cs d.rest).word i) none))
-      (λ u. by u.back u.call u.later u.may u.whole)
-      k.under
+  images_have = ⊎_elim no_call (λ u. dite (dec_lt 0 (length d.calls)) (λ made. by u.back u.call u.later made u.may u.whole) (λ none. no_call (none_made d.calls none))) k.under
     where
-      by : (b : BackCall) (call : Call) (later : List Call) → MayCall z c.boxes c.records d.log d.rest.told b → calls_of z c.records d.log.sizes d.next b ≡ d.calls ++ call ∷ later → ImagesHave z m
-      by (persisting t j more) call later may whole = under_persist t j more may (call ∷ later) whole
-      by (announcing n) call later may whole = at_rest (λ i. ap (λ (cs : List Call). (after_all cs d.rest).word i) (nothing_made d.calls call later (ap length (sym whole))))
-      by (reproducing rs ws n) call later may whole = under_reproduce rs ws n may (call ∷ later) whole
-      by (reading p) call later may whole = at_rest (λ i. ap (λ (q : MediumState). q.word i) (still z g c l d k p may (call ∷ later) whole))
+      by : (b : BackCall) (call : Call) (later : List Call) → 0 < length d.calls → MayCall z c.boxes c.records d.log d.rest.told b → calls_of z c.records d.log.sizes d.next b ≡ d.calls ++ call ∷ later → ImagesHave z m
+      by (persisting t j more) call later made may whole = under_persist t j more may made (call ∷ later) whole
+      by (announcing n) call later made may whole = no_call (nothing_made d.calls call later (ap length (sym whole)))
+      by (reproducing rs ws n) call later made may whole = under_reproduce rs ws n may made (call ∷ later) whole
+      by (reading p) call later made may whole = at_rest (λ i. ap (λ (q : MediumState). q.word i) (still z g c l d k p may (call ∷ later) whole))

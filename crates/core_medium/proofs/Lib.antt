@@ -6,6 +6,7 @@ pub mod Heads
 pub mod Images
 pub mod Keeps
 pub mod WholeCalls
+pub mod PageReads
 pub mod Start
 pub mod Openings
 pub mod Combined

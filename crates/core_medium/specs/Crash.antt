@@ -14,8 +14,9 @@ use Rattle.log_history.specs.BoxBundles.{bundle_in}
 use Rattle.core_medium.specs.BackCalls.{persisting, MayPersist, calls_of, waiting_as}
 use Rattle.core_medium.specs.Machines.{Machine}
 
--- the bundle of records in these boxes is being persisted
+-- the bundle of records in these boxes is being persisted: the calls made are the first ones of its list
 pub record IsPersisting (z : Setup) (m : Machine) (t j : ℕ) (more : List (ℕ × ℕ)) : Type 0 where
+  pub made : 0 < length m.store.calls
   pub may : MayPersist z m.core.boxes m.core.records m.store.log t j more
   pub later : List Call
   pub whole : calls_of z m.core.records m.store.log.sizes m.store.next (persisting t j more) ≡ m.store.calls ++ later

@@ -1,5 +1,5 @@
 -- One transaction on the smallest image, step by step: a thread reads the word 3 and writes it, and in one turn its record is persisted,
--- announced and reproduced, call by call.
+-- announced and reproduced, call by call; then the page is evicted, and the word filled in again from the medium.
 use Rattle.std.specs.Prelude.{◌≡◌, ◌+◌, ◌*◌, List, [], ◌∷◌, ◌++◌, length, map, replicate, true, false, slice_index}
 use Rattle.dude_base.specs.declared.limits.TheConstants.{PAGE}
 use Rattle.dude_base.specs.declared.sizes.Sizes.{Sizes}
@@ -8,9 +8,9 @@ use Rattle.dude_base.specs.Records.{RedoBundle}
 use Rattle.dude_base.specs.Sizes.{sizes_for}
 use Rattle.pmem_trait.specs.declared.call.Call.{Call}
 use Rattle.redo_record.specs.Calls.{append_calls}
-use Rattle.redo_record.specs.BackCalls.{announce_calls, reproduce_calls}
+use Rattle.redo_record.specs.BackCalls.{announce_calls, reproduce_calls, read_page_calls}
 use Rattle.core_events.specs.Setups.{Setup}
-use Rattle.core_events.specs.Events.{Event, number, see_box, begin, entry, pin, look, load, check, take, draw, decide, store, touch, release, unpin, post, take_turn, empty_box, raise_durable, raise_reproduced, give_turn, no_about}
+use Rattle.core_events.specs.Events.{Event, number, see_box, begin, entry, pin, look, load, check, take, draw, decide, store, touch, release, unpin, post, take_turn, empty_box, raise_durable, raise_reproduced, evict, load_touch, fill, give_turn, no_about}
 use Rattle.core_events.specs.Partings.{event}
 use Rattle.core_events.specs.OneCommit.{one_write}
 use Rattle.core_medium.specs.Machines.{Machine, MachineStep, on_words, device, AllMachineLead}
@@ -64,24 +64,30 @@ persist_one = calls_by_first (append_calls small_sizes (cell_at 0 0) one_bundle)
 abbrev pub reproduce_one : List MachineStep
 reproduce_one = calls_by_first (reproduce_calls small_sizes one_write 1)
 
--- the bundle is reproduced, and the reproduced word raised; and the turn is given away
+-- the bundle is reproduced, and the reproduced word raised
 abbrev pub last_steps : List MachineStep
-last_steps = reproduce_one ++ by_first (raise_reproduced 1 ∷ give_turn false ∷ [])
+last_steps = reproduce_one ++ by_first (raise_reproduced 1 ∷ [])
 
 -- before that its number is announced, and the durable word raised
 abbrev pub steps_announcing : List MachineStep
 steps_announcing = calls_by_first (announce_calls 1) ++ (by_first (raise_durable 1 ∷ []) ++ last_steps)
 
--- all steps: before these the bundle is persisted, and its box emptied
+-- the steps until then: before these the bundle is persisted, and its box emptied
 abbrev pub durable_steps : List MachineStep
 durable_steps = by_first events_before ++ (persist_one ++ (by_first (empty_box 0 0 ∷ []) ++ steps_announcing))
 
+-- behind them the page is evicted and read, a frame is filled with the word that was written, and the turn is given away
+abbrev pub reading_steps : List MachineStep
+reading_steps =
+    by_first (entry 0 ∷ evict 0 ∷ load_touch 0 ∷ [])
+    ++ (calls_by_first (read_page_calls small_sizes 0) ++ by_first (fill 0 0 3 7 ∷ give_turn false ∷ []))
+
 -- All steps are allowed and lead to this machine, whose durable and reproduced word, mark and home have the commit.
 pub record IsDurablyCommitted (m : Machine) : Type 0 where
-  pub led : AllMachineLead small_setup small_machine durable_steps m
+  pub led : AllMachineLead small_setup small_machine (durable_steps ++ reading_steps) m
   pub durable : m.core.durable ≡ 1
   pub reproduced : m.core.reproduced ≡ 1
   pub mark : m.store.log.reproduced ≡ 1
   pub word : slice_index m.store.log.home 3 ≡ 7
-  -- calls on the medium
+  -- calls on the medium, beside the reads
   pub calls : length persist_one + length (announce_calls 1) + length reproduce_one ≡ 19

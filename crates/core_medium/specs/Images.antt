@@ -1,5 +1,5 @@
 -- What a crash may leave of each word of the medium: of the mark, of home words, and of heads over the mark.
-use Rattle.std.specs.Prelude.{◌≡◌, ℕ, ◌*◌, ◌<◌, ◌⊎◌, List, ◌++◌}
+use Rattle.std.specs.Prelude.{◌≡◌, ℕ, ◌*◌, ◌<◌, ◌⊎◌, List, ◌++◌, length}
 use Rattle.std.specs.List.{Contains}
 use Rattle.dude_base.specs.declared.limits.TheConstants.{MARK, PAGE}
 use Rattle.dude_base.specs.declared.write.Write.{Write}
@@ -24,8 +24,9 @@ use Rattle.core_medium.specs.BackCalls.{MayReproduce, waiting_as}
 use Rattle.core_medium.specs.Machines.{Machine}
 use Rattle.core_medium.specs.Crash.{IsPersisting}
 
--- bundles up to a number are being reproduced, by these writes
+-- bundles up to a number are being reproduced, by these writes: the calls made are the first ones of their list
 pub record IsReproducing (m : Machine) (ws : List Write) (n : ℕ) : Type 0 where
+  pub made : 0 < length m.store.calls
   pub bundles : List RedoBundle
   pub may : MayReproduce m.store.log m.store.rest.told bundles ws n
   pub later : List Call
@@ -69,7 +70,8 @@ IsValueAt z m n i x = x ≡ value_at z.opening (all_entries m.core.views) n i
 -- Each waiting bundle is settled in its cells, its tag too
 pub record ImagesHave (z : Setup) (m : Machine) : Type 0 where
   pub mark : (x : ℕ) → MayHold ((medium_of m.store).word MARK) x
-      → (x ≡ m.store.log.reproduced) ⊎ ((ws : List Write) × IsReproducing m ws x × HasSettledHome m.store.log.sizes (overwritten ws m.store.log.home) (medium_of m.store))
+      → (x ≡ m.store.log.reproduced)
+      ⊎ ((ws : List Write) × IsReproducing m ws x × HasSettledHome m.store.log.sizes (overwritten ws m.store.log.home) (medium_of m.store))
   pub homes : (i x : ℕ) → i < z.pages * PAGE → MayHold ((medium_of m.store).word (home_word m.store.log.sizes i)) x
       → IsValueAt z m m.store.log.reproduced i x ⊎ ((ws : List Write) × (n : ℕ) × IsReproducing m ws n × IsValueAt z m n i x)
   pub heads : (ring slot tag : ℕ) → MayBeHead m ring slot tag → HeadBundle z m ring slot tag

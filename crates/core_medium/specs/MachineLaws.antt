@@ -1,7 +1,8 @@
 -- What the laws of the machine with its medium say.
-use Rattle.std.specs.Prelude.{◌≡◌, ℕ, ◌<◌, ◌≤◌, true, false, List, ◌++◌, length, map, All, AllPairs}
+use Rattle.std.specs.Prelude.{◌≡◌, ℕ, ◌+◌, ◌*◌, ◌<◌, ◌≤◌, true, false, List, [], ◌++◌, length, map, All, AllPairs, Some, slice_index}
 use mathlib.Core.Option.{some}
 use lib.ListN.{get_elem?}
+use Rattle.dude_base.specs.declared.limits.TheConstants.{PAGE}
 use Rattle.dude_base.specs.declared.sizes.Sizes.{Sizes}
 use Rattle.dude_base.specs.declared.write.Write.{Write}
 use Rattle.dude_base.specs.Image.{image_words}
@@ -9,13 +10,15 @@ use Rattle.dude_base.specs.Sizes.{IsAccepted}
 use Rattle.dude_base.specs.Writes.{overwritten}
 use Rattle.pmem_trait.specs.declared.call.Call.{Call}
 use Rattle.pmem_trait.specs.Words.{State as MediumState, EveryImage}
+use Rattle.redo_record.specs.BackCalls.{read_page_calls}
 use Rattle.core_events.specs.Setups.{Setup, IsSetup}
+use Rattle.core_events.specs.Keyed.{find}
 use Rattle.core_events.specs.Views.{View}
 use Rattle.core_events.specs.Words.{State}
 use Rattle.core_events.specs.Conditions.{HasThread}
 use Rattle.core_events.specs.Partings.{AllLead, start}
 use Rattle.core_medium.specs.Stores.{Store, medium_of}
-use Rattle.core_medium.specs.BackCalls.{BackCall, MayCall, calls_of, store_behind}
+use Rattle.core_medium.specs.BackCalls.{BackCall, reading, MayCall, calls_of, store_behind}
 use Rattle.core_medium.specs.Machines.{Machine, MachineStep, device, AllMachineLead, words_of}
 use Rattle.core_medium.specs.KeptStore.{MachineKept, HasPlaces, IsStart, opening_medium, start_machine}
 use Rattle.core_medium.specs.Crash.{RecoversToValues}
@@ -57,6 +60,19 @@ LawOfWholeCalls = (z : Setup) (c : State) (d : Store) (who : ℕ) (v : View) (b 
     → get_elem? c.views who ≡ some v → v.part.is_spent ≡ false → HasThread v → v.turn.has_it ≡ true
     → MayCall z c.boxes c.records d.log d.rest.told b → calls_of z c.records d.log.sizes d.next b ≡ d.calls ++ calls
     → AllMachineLead z (record { core = c; store = d }) (map (device who) calls) (record { core = c; store = store_behind z c.records b d calls })
+
+-- The page was read whole: log and medium are as they were, no call is under way, and each word of the page is among the words read, as the
+-- home has it.
+pub record HasReadPage (p : ℕ) (d e : Store) : Type 0 where
+  pub log : e.log ≡ d.log
+  pub rest : e.rest ≡ d.rest
+  pub calls : e.calls ≡ []
+  pub words : (i : ℕ) → i < PAGE → find e.read (p * PAGE + i) ≡ Some (slice_index d.log.home (p * PAGE + i))
+
+-- in a kept machine where no call is under way the calls of a read of a page leave that
+abbrev pub LawOfPageReads : Type 0
+LawOfPageReads = (z : Setup) (m : Machine) (p : ℕ) → MachineKept z m → p < m.store.log.sizes.pages → m.store.calls ≡ []
+    → HasReadPage p m.store (store_behind z m.core.records (reading p) m.store (read_page_calls m.store.log.sizes p))
 
 -- writes in rising order of word that leave the same of every array of a length are the same
 abbrev pub LawOfCombinedWrites : Type 0

@@ -30,7 +30,8 @@ Meets z (give_turn failed) c d v = (d.calls ≡ []) × (failed ≡ false)
 Meets z (empty_box t j) c d v = (0 < slice_index c.boxes (box_of z t j)) × IsOnMedium d.log (slice_index c.boxes (box_of z t j))
 Meets z (raise_durable x) c d v = (c.durable ≤ x) × IsIn x d.rest.told
 Meets z (raise_reproduced x) c d v = (c.reproduced ≤ x) × IsIn x d.marks
-Meets z (fill p f i x) c d v = IsFree z c f × ((y : ℕ) → find v.turn.touches p ≡ Some y → y ≤ c.reproduced) × (find d.read i ≡ Some x)
+Meets z (fill p f i x) c d v =
+    IsFree z c f × ((y : ℕ) → find v.turn.touches p ≡ Some y → y ≤ c.reproduced) × (find d.read i ≡ Some x)
 Meets z e c d v = Unit {0}
 
 -- the view `who` may make the event

@@ -7,8 +7,8 @@ ghost use Rattle.core_medium.specs.KeptStore.{IsStart, opening_medium};
 ghost use Rattle.core_medium.specs.DurableCommit.{small_setup, small_sizes, IsDurablyCommitted};
 
 /// A thread reads a word and writes it, and in one turn its record is persisted, announced and
-/// reproduced by nineteen calls on the medium. All steps are allowed, and leave the word in the
-/// home, behind the mark.
+/// reproduced by nineteen calls on the medium; then the page is evicted, read, and the word filled
+/// in again. All steps are allowed, and leave the word in the home, behind the mark.
 pub fn law_of_a_durable_commit()
     ensures setup { IsSetup small_setup }
     ensures start { IsStart small_setup small_sizes (opening_medium small_setup small_sizes) }

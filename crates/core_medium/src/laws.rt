@@ -1,7 +1,9 @@
 //! What every list of steps leaves, and what every crash after it.
 
 ghost use Rattle.core_medium.specs.MachineLaws.{LawOfStart, LawOfMachines, LawOfWordSteps};
-ghost use Rattle.core_medium.specs.MachineLaws.{LawOfCrashes, LawOfImages, LawOfWholeCalls, LawOfCombinedWrites};
+ghost use Rattle.core_medium.specs.MachineLaws.{LawOfCrashes, LawOfImages};
+ghost use Rattle.core_medium.specs.MachineLaws.{LawOfWholeCalls, LawOfPageReads};
+ghost use Rattle.core_medium.specs.MachineLaws.{LawOfCombinedWrites};
 
 /// There is a medium to start with.
 pub fn law_of_start()
@@ -35,6 +37,12 @@ pub fn law_of_images()
 /// call on the medium.
 pub fn law_of_whole_calls()
     ensures { LawOfWholeCalls }
+{}
+
+/// A page that is read whole leaves each of its words among those that a frame may be filled with,
+/// as the home has it.
+pub fn law_of_page_reads()
+    ensures { LawOfPageReads }
 {}
 
 /// Writes in rising order of word that leave the same of every array of a length are the same: so

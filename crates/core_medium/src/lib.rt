@@ -8,6 +8,6 @@ mod laws;
 
 pub use durable_commit::law_of_a_durable_commit;
 pub use laws::{
-    law_of_combined_writes, law_of_crashes, law_of_images, law_of_machines, law_of_start,
-    law_of_whole_calls, law_of_word_steps,
+    law_of_combined_writes, law_of_crashes, law_of_images, law_of_machines, law_of_page_reads,
+    law_of_start, law_of_whole_calls, law_of_word_steps,
 };
