@@ -39,30 +39,37 @@ pub fn unquoted(alloc: Global, word: &[u8]) -> Result<Vec<u8>, Stop> {
         bare => bare,
     };
     let mut text = Vec::new(alloc);
-    for (index, part) in inner.split(|byte| *byte == b'\\').enumerate() {
-        if index == 0 {
-            text.extend_from_slice(part)?;
-        } else {
-            let Some((meant, rest)) = escaped(part) else {
+    let mut is_escaped = false;
+    for byte in inner {
+        if is_escaped {
+            let Some(meant) = meant_by(*byte) else {
                 return Err(Stop::NoCommand);
             };
             text.extend_from_slice(meant)?;
-            text.extend_from_slice(rest)?;
+            is_escaped = false;
+        } else if *byte == b'\\' {
+            is_escaped = true;
+        } else {
+            text.push(*byte)?;
         }
     }
-    Ok(text)
+    if is_escaped {
+        Err(Stop::NoCommand)
+    } else {
+        Ok(text)
+    }
 }
 
-/// The bytes that are meant behind a backslash, and the rest.
-fn escaped(part: &[u8]) -> Option<(&'static [u8], &[u8])> {
-    match part {
-        [b'n', rest @ ..] => Some((b"\n", rest)),
-        [b'r', rest @ ..] => Some((b"\r", rest)),
-        [b'"', rest @ ..] => Some((b"\"", rest)),
-        [b's', rest @ ..] => Some((b" ", rest)),
-        [b'0', rest @ ..] => Some((b"\0", rest)),
-        [b'f', rest @ ..] => Some((b"\xff", rest)),
-        [b'm', rest @ ..] => Some((b"\xef\xbb\xbf", rest)),
-        _ => None,
-    }
+/// The bytes that a letter behind a backslash means.
+fn meant_by(letter: u8) -> Option<&'static [u8]> {
+    Some(match letter {
+        b'n' => b"\n",
+        b'r' => b"\r",
+        b'"' => b"\"",
+        b's' => b" ",
+        b'0' => b"\0",
+        b'f' => b"\xff",
+        b'm' => b"\xef\xbb\xbf",
+        _ => return None,
+    })
 }
