@@ -30,7 +30,7 @@ TOWERS = [
     ("Home", "home", "tatp_rows; tatp_core; tatp_read tatp_check tatp_population; tatp_layout; table_check hash_table; record_heap; word_space"),
     ("Texts", "texts", "tatp_csv; tatp_text"),
     ("Base", "base", "dude_io; file_pmem; dude_base tatp_model pmem_trait"),
-    ("Threads", "threads", "tx_commit; tx_reading stm_slots; stm_steps legal_entries; core_table legal_order known_back; dude_core; core_state; core_steps; core_view; core_events; shadow_pages"),
+    ("Threads", "threads", "tx_commit stm_boxes; tx_reading stm_slots; stm_steps legal_entries; core_table legal_order known_back; dude_core; core_state; core_steps; core_view; core_events; shadow_pages"),
     ("Tests", "tests", "program_runs home_runs log_runs text_runs core_runs; slow_recovery script_words pmem_fake"),
 ]
 PLACES = ["program program program threads", "runs runs runs threads", "images log home threads", "texts log home threads", "base base base base", "tests tests tests tests", "others others others others"]

@@ -122,7 +122,7 @@ module _ {M : Type 0} {ghosts : Ghosts M} (sight : M → Sight) (o : Opening M g
             kept = subst (λ ys. SlotsKeptBy sight o (stage_of (after z c id v (draw a ws))) ys (set homes box none) f.hands) (sym (set_again xs id me.0.beside at)) (subst (λ st. SlotsKeptBy sight o st xs (set homes box none) f.hands) (sym same)
                 (drawn sight o s xs homes f.hands kept (boxes_sized z c k) id t u at_u of_me inside (only z c k id t v at_v of_me) (near z c k id t v at_v of_me) (c.clock + 1) can.steady.undrawn.no_number empty over newest));
           },
-          (λ told. record { told = told; view = refl; beside = refl; slots = refl }),
+          (λ told. record { told = told; view = refl; beside = refl; made = refl; slots = refl }),
         )
       where
         same_thread : (d : ℕ) → v.part.thread ≡ Some d → t ≡ d
@@ -149,5 +149,5 @@ module _ {M : Type 0} {ghosts : Ghosts M} (sight : M → Sight) (o : Opening M g
                 (subst (λ cs. SlotsKeptBy sight o gone (set xs id me.0.beside) (homes_after homes cs gives) f.hands) (sym slots)
                 (subst (λ ys. SlotsKeptBy sight o gone ys (set homes box (some (Record r))) f.hands) (sym (set_again xs id me.0.beside at)) done));
           },
-          (λ told. record { told = told; view = refl; beside = refl; slots = ap (λ (cs : List (ℕ × Slot M ghosts)). carried_after cs gives) slots }),
+          (λ told. record { told = told; view = refl; beside = refl; made = refl; slots = ap (λ (cs : List (ℕ × Slot M ghosts)). carried_after cs gives) slots }),
         )

@@ -18,3 +18,4 @@ pub mod Closing
 pub mod Mapping
 pub mod PageActs
 pub mod Following
+pub mod FirstPages

@@ -1,6 +1,8 @@
 -- Lists of boxes whose slots are out.
-use Rattle.std.proofs.Common.{◌≡◌, ℕ, zero, suc, ◌<◌, ◌⊎◌, List, [], ◌∷◌, length, get_or, refl, inl, inr, arith}
+use Rattle.std.proofs.Common.{◌≡◌, ℕ, zero, suc, ◌<◌, ◌⊎◌, List, [], ◌∷◌, length, get_or, refl, sym, ap, subst, inl, inr, ⊎_elim, arith}
 use Rattle.std.specs.List.{Contains}
+use Rattle.dude_base.specs.Records.{RedoRecord}
+use Rattle.stm_slots.specs.Turns.{Leaves}
 
 module _ {A : Type 0} where
   pub contains_here : (x : A) (xs : List A) → Contains (x ∷ xs) x
@@ -18,3 +20,14 @@ module _ {A : Type 0} where
 
   pub contains_none : (y : A) → Contains [] y → ⊥
   contains_none y h = let lt = h.1 in absurd (omega arith)
+
+-- without the box that was taken last the others are left, where it isn't among them
+pub leaves_last : (k : ℕ) (r : RedoRecord) (left : List (ℕ × RedoRecord)) → ((q : RedoRecord) → Contains left (k, q) → ⊥) → Leaves ((k, r) ∷ left) k left
+leaves_last k r left once = record {
+  stays = λ j q among. ⊎_elim (λ e. inl (ap (λ (p : ℕ × RedoRecord). p.0) (sym e))) inr (contains_either (k, r) left (j, q) among);
+  was = λ j q among. (contains_more (k, r) left (j, q) among, (λ e. once q (subst (λ (d : ℕ). Contains left (d, q)) e among)));
+}
+
+-- the only box that was taken leaves none
+pub leaves_none : (k : ℕ) (r : RedoRecord) → Leaves ((k, r) ∷ []) k []
+leaves_none k r = leaves_last k r [] (λ q among. contains_none (k, q) among)

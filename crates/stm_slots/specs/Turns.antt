@@ -137,4 +137,5 @@ module _ {M : Type 0} {ghosts : Ghosts M} (sight : M → Sight) where
     pub told : IsTold (setup_of sight o) e m.0.view n
     pub view : w.0.view ≡ view_after (setup_of sight o) e m.0.view n
     pub beside : w.0.beside ≡ m.0.beside
+    pub made : w.0.made ≡ e ∷ m.0.made
     pub slots : w.1 ≡ left
