@@ -21,55 +21,48 @@ use Rattle.command_edges.specs.CommandFile.{CommandFile, audit_files, is_judged_
 abbrev pub fresh_sizes : ℕ → Sizes
 fresh_sizes subscribers = sizes_for subscribers (12 * subscribers) 1 16
 
+-- What a command does and doesn't, whatever its numbers and files are; the functions below say each.
+pub record Properties : Type 0 where
+  pub makes_image : Bool
+  pub runs_requests : Bool
+  pub ends_opened : Bool
+  pub only_reads : Bool
+  pub prints_early : Bool
+  pub has_headline : Bool
+
+-- the properties of each command
+abbrev pub properties_of : Meaning → Properties
+properties_of (FreshRun subscribers file) = record { makes_image = true; runs_requests = true; ends_opened = false; only_reads = false; prints_early = false; has_headline = true }
+properties_of (FormatImage subscribers calls rings cells) = record { makes_image = true; runs_requests = false; ends_opened = true; only_reads = false; prints_early = false; has_headline = true }
+properties_of (RunFiles frames locks files) = record { makes_image = false; runs_requests = true; ends_opened = false; only_reads = false; prints_early = false; has_headline = true }
+properties_of RecoverImage = record { makes_image = false; runs_requests = false; ends_opened = true; only_reads = false; prints_early = false; has_headline = true }
+properties_of DumpTables = record { makes_image = false; runs_requests = false; ends_opened = true; only_reads = false; prints_early = false; has_headline = true }
+properties_of (DriveLoad seed count number) = record { makes_image = false; runs_requests = true; ends_opened = false; only_reads = false; prints_early = false; has_headline = true }
+properties_of (AuditRun printed files) = record { makes_image = false; runs_requests = false; ends_opened = true; only_reads = true; prints_early = false; has_headline = true }
+
 -- whether the command makes its image anew
 abbrev pub makes_image : Meaning → Bool
-makes_image (FreshRun subscribers file) = true
-makes_image (FormatImage subscribers calls rings cells) = true
-makes_image (RunFiles frames locks files) = false
-makes_image RecoverImage = false
-makes_image DumpTables = false
-makes_image (DriveLoad seed count number) = false
-makes_image (AuditRun printed files) = false
+makes_image meaning = (properties_of meaning).makes_image
 
 -- whether the command carries requests out
 abbrev pub runs_requests : Meaning → Bool
-runs_requests (FreshRun subscribers file) = true
-runs_requests (FormatImage subscribers calls rings cells) = false
-runs_requests (RunFiles frames locks files) = true
-runs_requests RecoverImage = false
-runs_requests DumpTables = false
-runs_requests (DriveLoad seed count number) = true
-runs_requests (AuditRun printed files) = false
+runs_requests meaning = (properties_of meaning).runs_requests
 
 -- whether the command makes no call on the medium behind its opening
 abbrev pub ends_opened : Meaning → Bool
-ends_opened (FreshRun subscribers file) = false
-ends_opened (FormatImage subscribers calls rings cells) = true
-ends_opened (RunFiles frames locks files) = false
-ends_opened RecoverImage = true
-ends_opened DumpTables = true
-ends_opened (DriveLoad seed count number) = false
-ends_opened (AuditRun printed files) = true
+ends_opened meaning = (properties_of meaning).ends_opened
 
 -- whether the command only reads the medium, at every end: it opens no image and tells nothing
 abbrev pub only_reads : Meaning → Bool
-only_reads (FreshRun subscribers file) = false
-only_reads (FormatImage subscribers calls rings cells) = false
-only_reads (RunFiles frames locks files) = false
-only_reads RecoverImage = false
-only_reads DumpTables = false
-only_reads (DriveLoad seed count number) = false
-only_reads (AuditRun printed files) = true
+only_reads meaning = (properties_of meaning).only_reads
+
+-- whether the command prints while it runs, so that some is printed also where the medium fails or there is no memory
+abbrev pub prints_early : Meaning → Bool
+prints_early meaning = (properties_of meaning).prints_early
 
 -- whether the headline is said of the command: one without it has a theorem of its own
 abbrev pub has_headline : Meaning → Bool
-has_headline (FreshRun subscribers file) = true
-has_headline (FormatImage subscribers calls rings cells) = true
-has_headline (RunFiles frames locks files) = true
-has_headline RecoverImage = true
-has_headline DumpTables = true
-has_headline (DriveLoad seed count number) = true
-has_headline (AuditRun printed files) = true
+has_headline meaning = (properties_of meaning).has_headline
 
 -- The command starts from this opening. One that makes its image starts with the new image's, each other one with what the
 -- content at entry recovers to.
@@ -100,16 +93,6 @@ command_files (AuditRun printed files) = audit_files printed files
 -- itself when it judges them.
 abbrev pub judges_files : Meaning → Bool
 judges_files meaning = list_all (λ file. is_judged_first file.kind) (command_files meaning)
-
--- whether the command prints while it runs, so that some is printed also where the medium fails or there is no memory
-abbrev pub prints_early : Meaning → Bool
-prints_early (FreshRun subscribers file) = false
-prints_early (FormatImage subscribers calls rings cells) = false
-prints_early (RunFiles frames locks files) = false
-prints_early RecoverImage = false
-prints_early DumpTables = false
-prints_early (DriveLoad seed count number) = false
-prints_early (AuditRun printed files) = false
 
 -- The lists of requests that the command runs: those of its files, one for each; or those of its load; or none.
 abbrev pub RequestsAre : Meaning → FilesSight → Opening → List (List Request) → Type 0
