@@ -64,29 +64,15 @@ returns-in_err-insert g c = serves_stopped c.args.lay.now c.in-InsertCall.is c.f
 
 pub returns-in-There : goal.returns-in-There
 returns-in-There g c = serves_unchanged c.args.lay.now c.in-InsertCall.is g.met.W.Words.well_formed Duplicate c.requires.can (used_then c.in_ok-s_id.ensures.uses (used_then c.in_ok-find.ensures.uses c.in_ok-insert.ensures.uses)) (omega (arith, ap walk_reads c.facilities.ensures.table, ap walk_reads c.calls.ensures.table)) (lit≤ tt) (wrote_then (wrote_none (used_then c.in_ok-s_id.ensures.uses c.in_ok-find.ensures.uses)) (subst (λ p. Wrote (write_count p) (g.W.Words.sight c.find.new.w) (g.W.Words.sight c.insert.new.w)) c.in-There.is c.in_ok-insert.ensures.wrote)) (λ same. cc)
-    (λ range array below db stands.
-    let q = c.in-InsertCall in
-    let id = c.in_ok-s_id.ensures in
-    let find = c.in_ok-find.ensures in
-    let insert = c.in_ok-insert.ensures in
-    let below_find = below_before insert.uses below in
-    (serves_twice q.sub_nbr q.sf_type q.start_time q.end_time q.numberx range stands c.in-Some.s_id
-    (known q.sub_nbr stands c.in-Some.is (id.id array (below_before find.uses below_find)))
-    (finds_at c.facilities.ensures.table (shown_same id.uses array) c.kind_key.ensures c.in-Some-2.is (find.found array below_find))
-    (inserts_at (shown (g.W.Words.sight c.insert.new.w) array) c.calls.ensures.table (shown_same (used_then id.uses find.uses) array) c.key.ensures c.in-There.is (insert.inserts array below))))
+    (λ range array below db stands. serves_twice c.in-InsertCall.sub_nbr c.in-InsertCall.sf_type c.in-InsertCall.start_time c.in-InsertCall.end_time c.in-InsertCall.numberx range stands c.in-Some.s_id (known c.in-InsertCall.sub_nbr stands c.in-Some.is (c.in_ok-s_id.ensures.id array (below_before c.in_ok-find.ensures.uses (below_before c.in_ok-insert.ensures.uses below))))
+    (finds_at c.facilities.ensures.table (shown_same c.in_ok-s_id.ensures.uses array) c.kind_key.ensures c.in-Some-2.is (c.in_ok-find.ensures.found array (below_before c.in_ok-insert.ensures.uses below)))
+    (inserts_at (shown (g.W.Words.sight c.insert.new.w) array) c.calls.ensures.table (shown_same (used_then c.in_ok-s_id.ensures.uses c.in_ok-find.ensures.uses) array) c.key.ensures c.in-There.is (c.in_ok-insert.ensures.inserts array below)))
 
 pub returns-in-Full : goal.returns-in-Full
 returns-in-Full g c = serves_unchanged c.args.lay.now c.in-InsertCall.is g.met.W.Words.well_formed FullTable c.requires.can (used_then c.in_ok-s_id.ensures.uses (used_then c.in_ok-find.ensures.uses c.in_ok-insert.ensures.uses)) (omega (arith, ap walk_reads c.facilities.ensures.table, ap walk_reads c.calls.ensures.table)) (lit≤ tt) (wrote_then (wrote_none (used_then c.in_ok-s_id.ensures.uses c.in_ok-find.ensures.uses)) (subst (λ p. Wrote (write_count p) (g.W.Words.sight c.find.new.w) (g.W.Words.sight c.insert.new.w)) c.in-Full.is c.in_ok-insert.ensures.wrote)) (λ same. cc)
-    (λ range array below db stands.
-    let q = c.in-InsertCall in
-    let id = c.in_ok-s_id.ensures in
-    let find = c.in_ok-find.ensures in
-    let insert = c.in_ok-insert.ensures in
-    let below_find = below_before insert.uses below in
-    (serves_full q.sub_nbr q.sf_type q.start_time q.end_time q.numberx range stands c.in-Some.s_id
-    (known q.sub_nbr stands c.in-Some.is (id.id array (below_before find.uses below_find)))
-    (finds_at c.facilities.ensures.table (shown_same id.uses array) c.kind_key.ensures c.in-Some-2.is (find.found array below_find))
-    (inserts_at (shown (g.W.Words.sight c.insert.new.w) array) c.calls.ensures.table (shown_same (used_then id.uses find.uses) array) c.key.ensures c.in-Full.is (insert.inserts array below))))
+    (λ range array below db stands. serves_full c.in-InsertCall.sub_nbr c.in-InsertCall.sf_type c.in-InsertCall.start_time c.in-InsertCall.end_time c.in-InsertCall.numberx range stands c.in-Some.s_id (known c.in-InsertCall.sub_nbr stands c.in-Some.is (c.in_ok-s_id.ensures.id array (below_before c.in_ok-find.ensures.uses (below_before c.in_ok-insert.ensures.uses below))))
+    (finds_at c.facilities.ensures.table (shown_same c.in_ok-s_id.ensures.uses array) c.kind_key.ensures c.in-Some-2.is (c.in_ok-find.ensures.found array (below_before c.in_ok-insert.ensures.uses below)))
+    (inserts_at (shown (g.W.Words.sight c.insert.new.w) array) c.calls.ensures.table (shown_same (used_then c.in_ok-s_id.ensures.uses c.in_ok-find.ensures.uses) array) c.key.ensures c.in-Full.is (c.in_ok-insert.ensures.inserts array below)))
 
 pub returns-in_err-put_call-in-Stored : goal.returns-in_err-put_call-in-Stored
 returns-in_err-put_call-in-Stored g c = serves_stopped c.args.lay.now c.in-InsertCall.is c.from_residual-in_err-put_call-in-Stored.result c.from_residual-in_err-put_call-in-Stored.ensures.1 c.requires.can (used_until (used_then c.in_ok-s_id.ensures.uses (used_then c.in_ok-find.ensures.uses c.in_ok-insert.ensures.uses)) c.in_err-put_call-in-Stored.ensures.uses) (omega (arith, ap walk_reads c.facilities.ensures.table, ap walk_reads c.calls.ensures.table)) (lit≤ tt)
