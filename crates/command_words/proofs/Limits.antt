@@ -156,3 +156,6 @@ pub limits-if-ok : {E : Type 0} (r : Result (Option Command) E) (m : Option Mean
     → IfOk r (λ c. option_map meaning_of_command c ≡ m) → IfOk r (λ c. IfSome c IsInLimits)
 limits-if-ok (Ok c) m h e = limits-in c m h e
 limits-if-ok (Err e) m h x = tt
+
+-- the numbers of each command are in their limits
+pub ruleset lawful = (limits-if-ok, limits-in, fresh-lawful, format-lawful, run-lawful, drive-lawful, audit-lawful, alone-lawful)

@@ -88,10 +88,14 @@ abbrev behind_of : RunOption → Text → List Text → RunWords
 behind_of of_frames = behind_frames
 behind_of of_locks = behind_locks
 
+given-one : (words : Option Text × List Text → RunWords) (b : Bool) (x y : Option Text × List Text) → words (if b then x else y) ≡ (if b then words x else words y)
+given-one words true x y = refl
+given-one words false x y = refl
+
 behind_of-two : (o : RunOption) (v word w : Text) (files : List Text) → behind_of o v (word ∷ w ∷ files)
     ≡ (if bytes_eq word (word_of (other o)) then given_by o (Some v) (Some w) files else given_by o (Some v) None (word ∷ w ∷ files))
-behind_of-two of_frames v word w files = refl
-behind_of-two of_locks v word w files = refl
+behind_of-two of_frames v word w files = given-one (λ given. record { frames = Some v; locks = given.0; files = given.1 }) (bytes_eq word (codes "--locks")) _ _
+behind_of-two of_locks v word w files = given-one (λ given. record { frames = given.0; locks = Some v; files = given.1 }) (bytes_eq word (codes "--frames")) _ _
 
 behind : (o : RunOption) (v : Text) (more : List Text) → Arrangement (word_of o ∷ v ∷ more) (behind_of o v more)
 behind of_frames v [] = one-option of_frames v []

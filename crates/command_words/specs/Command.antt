@@ -67,19 +67,18 @@ pub record RunWords : Type 0 where
   pub locks : Option (List ℕ)
   pub files : List (List ℕ)
 
+-- the number word of an option that may stand in front, and the words behind it
+abbrev pub in_front : List ℕ → List (List ℕ) → Option (List ℕ) × List (List ℕ)
+in_front option (word ∷ number ∷ more) = if bytes_eq word option then (Some number, more) else (None, word ∷ number ∷ more)
+in_front option words = (None, words)
+
 -- behind `--frames F`: perhaps `--locks L`, then the files
 abbrev pub behind_frames : List ℕ → List (List ℕ) → RunWords
-behind_frames frames (option ∷ locks ∷ files) =
-    if bytes_eq option (codes "--locks") then record { frames = Some frames; locks = Some locks; files = files }
-    else record { frames = Some frames; locks = None; files = option ∷ locks ∷ files }
-behind_frames frames files = record { frames = Some frames; locks = None; files = files }
+behind_frames frames words = let given = in_front (codes "--locks") words in record { frames = Some frames; locks = given.0; files = given.1 }
 
 -- behind `--locks L`: perhaps `--frames F`, then the files
 abbrev pub behind_locks : List ℕ → List (List ℕ) → RunWords
-behind_locks locks (option ∷ frames ∷ files) =
-    if bytes_eq option (codes "--frames") then record { frames = Some frames; locks = Some locks; files = files }
-    else record { frames = None; locks = Some locks; files = option ∷ frames ∷ files }
-behind_locks locks files = record { frames = None; locks = Some locks; files = files }
+behind_locks locks words = let given = in_front (codes "--frames") words in record { frames = given.0; locks = Some locks; files = given.1 }
 
 -- `--frames F` and `--locks L`, each at most once in either order, then the files
 abbrev pub run_words : List (List ℕ) → RunWords

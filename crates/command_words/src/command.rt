@@ -55,6 +55,7 @@ pub enum Command<'a> {
 }
 
 /// The command that the words mean; none where they are refused.
+#[tactic(auto, using(crate::proofs::Limits::lawful))]
 pub fn command_of(alloc: Global, words: &[RcStr]) -> Result<Option<Command<'_>>, AllocError>
     ensures meaning { IfOk result (HasMeaning (meaning_of (map rc_str_bytes words.now))) }
     ensures limits { IfOk result (λ command. IfSome command IsInLimits) }

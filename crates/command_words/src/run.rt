@@ -3,9 +3,9 @@
 ghost use Rattle.std.specs.Prelude.{◌≡◌, false, map, IfOk};
 ghost use Rattle.std.specs.Rc.{rc_str_bytes};
 ghost use Rattle.clap.specs.Words.{app_of, rule_of};
-ghost use Rattle.command_words.specs.Command.{HasMeaning, behind_frames, behind_locks, behind_name, run_of, run_words};
+ghost use Rattle.command_words.specs.Command.{HasMeaning, behind_name, in_front, run_of, run_words};
 ghost use Rattle.command_words.specs.Clap.{files_rule, has_run_form, option_rule, run_app};
-ghost use Rattle.command_words.specs.Run.{as_words};
+ghost use Rattle.command_words.specs.Run.{as_words, text_of};
 
 use crate::command::Command;
 use crate::form::{are_file_names, is_number_or_absent};
@@ -61,8 +61,22 @@ fn run_words(words: &[RcStr]) -> RunWords<'_>
     ensures { as_words result ≡ run_words (map rc_str_bytes words.now) }
 {
     match words {
-        [option, frames, rest @ ..] if option.as_str() == "--frames" => behind_frames(frames, rest),
-        [option, locks, rest @ ..] if option.as_str() == "--locks" => behind_locks(locks, rest),
+        [option, frames, rest @ ..] if option.as_str() == "--frames" => {
+            let (locks, files) = in_front("--locks", rest);
+            RunWords {
+                frames: Some(frames),
+                locks,
+                files,
+            }
+        }
+        [option, locks, rest @ ..] if option.as_str() == "--locks" => {
+            let (frames, files) = in_front("--frames", rest);
+            RunWords {
+                frames,
+                locks: Some(locks),
+                files,
+            }
+        }
         files => RunWords {
             frames: None,
             locks: None,
@@ -71,37 +85,14 @@ fn run_words(words: &[RcStr]) -> RunWords<'_>
     }
 }
 
-fn behind_frames<'a>(word: &'a RcStr, rest: &'a [RcStr]) -> RunWords<'a>
-    ensures { as_words result ≡ behind_frames (rc_str_bytes word.now) (map rc_str_bytes rest.now) }
-{
-    match rest {
-        [option, locks, files @ ..] if option.as_str() == "--locks" => RunWords {
-            frames: Some(word),
-            locks: Some(locks),
-            files,
-        },
-        files => RunWords {
-            frames: Some(word),
-            locks: None,
-            files,
-        },
-    }
-}
-
-fn behind_locks<'a>(locks: &'a RcStr, words: &'a [RcStr]) -> RunWords<'a>
-    ensures { as_words result ≡ behind_locks (rc_str_bytes locks.now) (map rc_str_bytes words.now) }
+// The number word of an option that may stand in front, and the words behind it.
+fn in_front<'a>(option: &str, words: &'a [RcStr]) -> (Option<&'a RcStr>, &'a [RcStr])
+    ensures number { text_of rc_str_bytes result.0 ≡ (in_front option.now (map rc_str_bytes words.now)).0 }
+    ensures rest { map rc_str_bytes result.1.now ≡ (in_front option.now (map rc_str_bytes words.now)).1 }
 {
     match words {
-        [option, frames, files @ ..] if option.as_str() == "--frames" => RunWords {
-            frames: Some(frames),
-            locks: Some(locks),
-            files,
-        },
-        files => RunWords {
-            frames: None,
-            locks: Some(locks),
-            files,
-        },
+        [word, number, rest @ ..] if word.as_str() == option => (Some(number), rest),
+        _ => (None, words),
     }
 }
 

@@ -13,7 +13,7 @@ use Rattle.hash_table.specs.Table.{FindsAll}
 use Rattle.tatp_layout.specs.Layout.{number_table}
 use Rattle.tatp_layout.specs.StandsFor.{StandsFor}
 use Rattle.tatp_layout.proofs.Found.{find_found, find_none, number_tells_id, same_row, tests_phone, told_number}
-use Rattle.tatp_core.specs.Phones.{id_by_phone}
+use Rattle.tatp_core.specs.Phones.{FindsId, id_by_phone}
 
 -- the one that a look-up of the number finds, and its id
 pub record HasPhone (db : Database) (sub_nbr s_id : ℕ) : Type 0 where
@@ -60,6 +60,13 @@ module _ {s : Sizes} {a : List ℕ} {db : Database} (sub_nbr : ℕ) (stands : St
 
   pub tells_id : (r : Option ℕ) → r ≡ id_by_phone db sub_nbr → TellsId db sub_nbr r
   tells_id r is = by_row (find (has_phone sub_nbr) db.subscribers) r refl is
+
+  -- by what a look-up of the number found
+  pub unknown : {r : Option ℕ} → r ≡ None → FindsId s sub_nbr a r → find (has_phone sub_nbr) db.subscribers ≡ None
+  unknown is finds = tells_id None (sym is ∙ finds db stands)
+
+  pub known : {r : Option ℕ} {s_id : ℕ} → r ≡ Some s_id → FindsId s sub_nbr a r → HasPhone db sub_nbr s_id
+  known {s_id = s_id} is finds = tells_id (Some s_id) (sym is ∙ finds db stands)
 
   -- from the words of the number table
   pub no_id : FindsAll (number_table s) a sub_nbr None → None ≡ id_by_phone db sub_nbr

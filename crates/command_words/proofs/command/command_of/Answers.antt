@@ -1,7 +1,6 @@
-use Rattle.std.proofs.Common.{◌∙◌, codes, drop, map, refl, sym}
+use Rattle.std.proofs.Common.{◌∙◌, codes, refl, sym}
 use Rattle.std.specs.Rc.{rc_str_bytes}
 use Rattle.command_words.specs.Command.{RecoverImage, DumpTables, alone, audit_of, drive_of, format_of, fresh_of, run_of}
-use Rattle.command_words.proofs.Limits.{alone-lawful, audit-lawful, drive-lawful, format-lawful, fresh-lawful, limits-if-ok, limits-in, run-lawful}
 use Rattle.command_words.proofs.Names.{first-named, first-other}
 use Rattle.command_words.proofs.Readings.{means-if-ok}
 use Rattle.command_words.proofs.command.command_of.Goals as goal
@@ -51,41 +50,6 @@ returns-in-audit-clause-meaning c =
     let item = c.in-Some.ensures.item in
     c.audit_of.ensures
     ∙ first-named rc_str_bytes c.args.words.now c.in-Some.name.now (codes "audit") audit_of (λ words. refl) item.3.0 item.1 (sym c.as_str.ensures.value ∙ c.in-audit.is)
-
-pub returns-in-fresh-clause-limits : goal.returns-in-fresh-clause-limits
-returns-in-fresh-clause-limits c =
-    let words = drop 1 (map rc_str_bytes c.args.words.now) in
-    limits-if-ok c.fresh_of.result (fresh_of words) (fresh-lawful words) c.fresh_of.ensures
-
-pub returns-in-format-clause-limits : goal.returns-in-format-clause-limits
-returns-in-format-clause-limits c =
-    let words = drop 1 (map rc_str_bytes c.args.words.now) in
-    limits-if-ok c.format_of.result (format_of words) (format-lawful words) c.format_of.ensures
-
-pub returns-in-run-clause-limits : goal.returns-in-run-clause-limits
-returns-in-run-clause-limits c =
-    let words = drop 1 (map rc_str_bytes c.args.words.now) in
-    limits-if-ok c.run_of.result (run_of words) (run-lawful words) c.run_of.ensures
-
-pub returns-in-recover-clause-limits : goal.returns-in-recover-clause-limits
-returns-in-recover-clause-limits c =
-    let words = drop 1 (map rc_str_bytes c.args.words.now) in
-    limits-in c.alone.result (alone RecoverImage words) (alone-lawful RecoverImage words tt) c.alone.ensures
-
-pub returns-in-dump-clause-limits : goal.returns-in-dump-clause-limits
-returns-in-dump-clause-limits c =
-    let words = drop 1 (map rc_str_bytes c.args.words.now) in
-    limits-in c.alone-in-dump.result (alone DumpTables words) (alone-lawful DumpTables words tt) c.alone-in-dump.ensures
-
-pub returns-in-drive-clause-limits : goal.returns-in-drive-clause-limits
-returns-in-drive-clause-limits c =
-    let words = drop 1 (map rc_str_bytes c.args.words.now) in
-    limits-if-ok c.drive_of.result (drive_of words) (drive-lawful words) c.drive_of.ensures
-
-pub returns-in-audit-clause-limits : goal.returns-in-audit-clause-limits
-returns-in-audit-clause-limits c =
-    let words = drop 1 (map rc_str_bytes c.args.words.now) in
-    limits-in c.audit_of.result (audit_of words) (audit-lawful words) c.audit_of.ensures
 
 pub returns-in_default-as_str-clause-meaning : goal.returns-in_default-as_str-clause-meaning
 returns-in_default-as_str-clause-meaning c =

@@ -1,4 +1,4 @@
-use Rattle.std.proofs.Common.{None, Some, ap, arith, slice_set, ◌+◌, subst, sym, refl, ◌∙◌, lit≤, lit<}
+use Rattle.std.proofs.Common.{ap, arith, slice_set, ◌+◌, subst, refl, ◌∙◌, lit≤, lit<}
 use Rattle.hash_table.specs.Walk.{walk_reads}
 use Rattle.word_space.specs.Sights.{shown}
 use Rattle.word_space.proofs.Runs.{below_before, shown_same, used_then, used_until, wrote_none, wrote_then}
@@ -9,7 +9,7 @@ use Rattle.tatp_layout.specs.Records.{HoldsRow, subscriber_form}
 use Rattle.tatp_layout.proofs.Seen.{fits_still, record_at}
 use Rattle.tatp_core.proofs.Answered.{finds_at, fits_at}
 use Rattle.tatp_core.proofs.Locations.{serves_location, serves_no_number, subscriber_is_there}
-use Rattle.tatp_core.proofs.Phones.{tells_id}
+use Rattle.tatp_core.proofs.Phones.{known, unknown}
 use Rattle.tatp_core.proofs.Serving.{serves_changed, serves_stopped, serves_unchanged}
 use Rattle.tatp_core.proofs.location.write_location.Goals as goal
 
@@ -30,24 +30,16 @@ returns-in_err-s_id g c = serves_stopped c.args.lay.now c.in-UpdateLocation.is c
 
 pub returns-in_default-2 : goal.returns-in_default-2
 returns-in_default-2 g c = serves_unchanged c.args.lay.now c.in-UpdateLocation.is g.met.W.Words.well_formed Missing c.requires.can c.in_ok-s_id.ensures.uses (omega arith) (lit≤ tt) (wrote_none c.in_ok-s_id.ensures.uses) (λ same. cc)
-    (λ range array below db stands.
-    let q = c.in-UpdateLocation in
-    let id = c.in_ok-s_id.ensures in
-    (serves_no_number q.sub_nbr q.vlr range stands
-    (tells_id q.sub_nbr stands None (sym c.in_default-2.is ∙ id.id array below db stands)) (shown_same id.uses array)))
+    (λ range array below db stands. serves_no_number c.in-UpdateLocation.sub_nbr c.in-UpdateLocation.vlr range stands (unknown c.in-UpdateLocation.sub_nbr stands c.in_default-2.is (c.in_ok-s_id.ensures.id array below)) (shown_same c.in_ok-s_id.ensures.uses array))
 
 pub returns-in_err-at : goal.returns-in_err-at
 returns-in_err-at g c = serves_stopped c.args.lay.now c.in-UpdateLocation.is c.from_residual-in_err-at.result c.from_residual-in_err-at.ensures.1 c.requires.can (used_until c.in_ok-s_id.ensures.uses c.in_err-at.ensures.uses) (omega (arith, ap walk_reads c.subscribers.ensures.table)) (lit≤ tt)
 
 pub returns-in_default-3 : goal.returns-in_default-3
 returns-in_default-3 g c = serves_unchanged c.args.lay.now c.in-UpdateLocation.is g.met.W.Words.well_formed Missing c.requires.can (used_then c.in_ok-s_id.ensures.uses c.in_ok-at.ensures.uses) (omega (arith, ap walk_reads c.subscribers.ensures.table)) (lit≤ tt) (wrote_none (used_then c.in_ok-s_id.ensures.uses c.in_ok-at.ensures.uses)) (λ same. cc)
-    (λ range array below db stands.
-    let q = c.in-UpdateLocation in
-    let id = c.in_ok-s_id.ensures in
-    let find = c.in_ok-at.ensures in
-    absurd (subscriber_is_there q.sub_nbr q.vlr range stands c.in-Some.s_id
-    (tells_id q.sub_nbr stands (Some c.in-Some.s_id) (sym c.in-Some.is ∙ id.id array (below_before find.uses below) db stands))
-    (finds_at c.subscribers.ensures.table (shown_same id.uses array) refl c.in_default-3.is (find.found array below))))
+    (λ range array below db stands. absurd (subscriber_is_there c.in-UpdateLocation.sub_nbr c.in-UpdateLocation.vlr range stands c.in-Some.s_id
+    (known c.in-UpdateLocation.sub_nbr stands c.in-Some.is (c.in_ok-s_id.ensures.id array (below_before c.in_ok-at.ensures.uses below)))
+    (finds_at c.subscribers.ensures.table (shown_same c.in_ok-s_id.ensures.uses array) refl c.in_default-3.is (c.in_ok-at.ensures.found array below))))
 
 pub returns-in_err-put_vlr : goal.returns-in_err-put_vlr
 returns-in_err-put_vlr g c = serves_stopped c.args.lay.now c.in-UpdateLocation.is c.from_residual-in_err-put_vlr.result c.from_residual-in_err-put_vlr.ensures.1 c.requires.can (used_until (used_then c.in_ok-s_id.ensures.uses c.in_ok-at.ensures.uses) c.in_err-put_vlr.ensures.uses) (omega (arith, ap walk_reads c.subscribers.ensures.table)) (lit≤ tt)
@@ -63,7 +55,7 @@ returns g c = serves_changed c.args.lay.now c.in-UpdateLocation.is g.met.W.Words
     let same = shown_same (used_then id.uses find.uses) array in
     let new = shown (g.W.Words.sight c.put_vlr.new.w) array in
     (serves_location q.sub_nbr q.vlr range stands c.in-Some.s_id
-    (tells_id q.sub_nbr stands (Some c.in-Some.s_id) (sym c.in-Some.is ∙ id.id array (below_before find.uses below_find) db stands))
+    (known q.sub_nbr stands c.in-Some.is (id.id array (below_before find.uses below_find)))
     c.in-Some-2.at (fits_at c.subscribers.ensures.table c.subscribers.ensures.fits)
     (finds_at c.subscribers.ensures.table (shown_same id.uses array) refl c.in-Some-2.is (find.found array below_find))
     (put.shown array ∙ ap (λ l. slice_set l (c.in-Some-2.at + 6) q.vlr) same)

@@ -47,20 +47,17 @@ returns-clause-inserts g c = λ array below chains free lawful absent.
     let words = shown (g.W.Words.sight c.args.w.now) array in
     let middle = shown (g.W.Words.sight c.take.new.w) array in
     let records = records_in chains in
-    let head_step = c.in_ok-head.ensures in
-    let take_step = c.in_ok-at.ensures in
-    let put_step = c.in_ok-push_front.ensures in
-    let below_take = below_before put_step.uses below in
-    let below_head = below_before take_step.uses below_take in
-    let same = shown_same head_step.uses array in
-    inserts_stored middle c.requires.fits (length_shown (below_before head_step.uses below_head))
-    (subst (λ o. IfSome o (IsRecord table.pool)) c.in-Some.is take_step.record)
-    (head_step.value array below_head ∙ ap (λ i. slice_index words i) c.link_of.ensures)
-    (put_step.shown array)
+    let below_take = below_before c.in_ok-push_front.ensures.uses below in
+    let below_head = below_before c.in_ok-at.ensures.uses below_take in
+    let same = shown_same c.in_ok-head.ensures.uses array in
+    inserts_stored middle c.requires.fits (length_shown (below_before c.in_ok-head.ensures.uses below_head))
+    (subst (λ o. IfSome o (IsRecord table.pool)) c.in-Some.is c.in_ok-at.ensures.record)
+    (c.in_ok-head.ensures.value array below_head ∙ ap (λ i. slice_index words i) c.link_of.ensures)
+    (c.in_ok-push_front.ensures.shown array)
     chains free lawful absent
     (subst (λ o. Takes table.pool free records o words middle) c.in-Some.is
     (subst (λ old. Takes table.pool free records c.in_ok-at.field-0 old middle) same
-    (take_step.takes array below_take free records (subst (λ old. IsPool table.pool old free records) (sym same) lawful.pool))))
+    (c.in_ok-at.ensures.takes array below_take free records (subst (λ old. IsPool table.pool old free records) (sym same) lawful.pool))))
 
 pub take-requires : goal.take-requires
 take-requires g c = record { fits = subst (FitsPool c.args.self.now.pool) (sym c.in_ok-head.ensures.uses.count) c.requires.fits.pool }

@@ -34,18 +34,15 @@ returns-clause-drops g c = λ array below chains free key lawful amid.
     let position = c.args.position in
     let middle = shown (g.W.Words.sight c.give.new.w) array in
     let records = records_in chains in
-    let next_step = c.in_ok-next.ensures in
-    let give_step = c.in_ok-give.ensures in
-    let write_step = c.in_ok-write.ensures in
-    let below_give = below_before write_step.uses below in
-    let below_next = below_before give_step.uses below_give in
-    let same = shown_same next_step.uses array in
-    removes_found middle position chains free c.requires.fits (length_shown (below_before next_step.uses below_next))
+    let below_give = below_before c.in_ok-write.ensures.uses below in
+    let below_next = below_before c.in_ok-give.ensures.uses below_give in
+    let same = shown_same c.in_ok-next.ensures.uses array in
+    removes_found middle position chains free c.requires.fits (length_shown (below_before c.in_ok-next.ensures.uses below_next))
     c.requires.link lawful amid
     (subst (λ old. Gives table.pool position.record free records old middle) same
-    (give_step.gives array below_give free records (subst (λ old. IsPool table.pool old free records) (sym same) lawful.pool) (not_free chains free key position c.requires.fits lawful amid)))
-    (next_step.value array below_next)
-    (write_step.shown array)
+    (c.in_ok-give.ensures.gives array below_give free records (subst (λ old. IsPool table.pool old free records) (sym same) lawful.pool) (not_free chains free key position c.requires.fits lawful amid)))
+    (c.in_ok-next.ensures.value array below_next)
+    (c.in_ok-write.ensures.shown array)
 
 pub give-requires-clause-fits : goal.give-requires-clause-fits
 give-requires-clause-fits g c = subst (FitsPool c.args.self.now.pool) (sym c.in_ok-next.ensures.uses.count) c.requires.fits.pool
