@@ -3,3 +3,4 @@ pub mod Stops
 pub mod Counts
 pub mod Begins
 pub mod Txs
+pub mod Ends
