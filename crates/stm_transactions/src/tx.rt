@@ -3,13 +3,12 @@
 ghost use Rattle.std.specs.Prelude.{◌≡◌, ◌*◌, ◌<◌, [], None, All, length};
 ghost use Rattle.std.proofs.Props.{props};
 ghost use Rattle.dude_base.specs.declared.limits.TheConstants.{PAGE as PAGE_WORDS};
-ghost use Rattle.core_events.specs.Events.{begin, view_after};
 ghost use Rattle.core_table.specs.Steps.{BelongsTo};
 ghost use Rattle.tx_reading.specs.Pairs.{pairs_of};
 ghost use Rattle.tx_reading.specs.Pins.{pin_list};
 ghost use Rattle.tx_reading.specs.Running.{IsRunning};
-ghost use Rattle.stm_passes.specs.Passes.{Describes, pass_view};
-ghost use Rattle.stm_transactions.specs.Begins.{IsReady};
+ghost use Rattle.stm_passes.specs.Passes.{Describes};
+ghost use Rattle.stm_transactions.specs.Begins.{Begins, IsReady};
 ghost use Rattle.stm_transactions.specs.Stops.{CountsStop};
 
 use crate::counting::{count_commit, done_of, has_any};
@@ -47,8 +46,10 @@ pub struct TxOver<'a, S, X, K, P: TransactionRule<S, X, K>, R: ReadList> {
     ghost belongs: { BelongsTo stm.now.events seat } by { Prim.hlevel props },
     ghost slots: { length seat.me.1 ≡ 0 },
     ghost describes: { Describes stm.now.events.setup numbers seat.me.0.view } by { Prim.hlevel props },
-    ghost running: { IsRunning stm.now.events.setup numbers.thread snapshot (R.reads lists) writes (pairs_of held) (pin_list pinned) seat.me.0.view } by { Prim.hlevel props },
-    ghost reads_inside: { All (λ r. r.0 < stm.now.events.setup.pages * PAGE_WORDS) (R.reads lists) } by { Prim.hlevel props },
+    ghost running: { IsRunning stm.now.events.setup numbers.thread snapshot (R.reads lists) writes
+        (pairs_of held) (pin_list pinned) seat.me.0.view } by { Prim.hlevel props },
+    ghost reads_inside: { All (λ r. r.0 < stm.now.events.setup.pages * PAGE_WORDS)
+        (R.reads lists) } by { Prim.hlevel props },
     ghost stops: { CountsStop stm.now.events.setup stopped refused },
 }
 
@@ -63,9 +64,11 @@ pub(crate) fn begin_now<'a, S, X, K, P: TransactionRule<S, X, K>>(
 ) -> Tx<'a, S, X, K, P>
     requires ready { IsReady stm.now.events p.old }
     ensures same { result.pass.ghost_name ≡ p.entry.ghost_name }
-    ensures begun { (result.stm.now ≡ stm.now) × (result.seat.me.0.view ≡ view_after stm.now.events.setup begin (pass_view p.old) result.snapshot) }
-    ensures rest { (result.numbers ≡ p.old.numbers) × (result.refused ≡ 0) }
-    ensures none { (result.lists.items.items ≡ []) × (result.writes ≡ []) × (result.stopped ≡ None) }
+    ensures stm { result.stm.now ≡ stm.now }
+    ensures view { Begins stm.now.events p.old result.snapshot result.seat.me.0.view }
+    ensures numbers { (result.numbers ≡ p.old.numbers) × (result.refused ≡ 0) }
+    ensures none { (result.lists.items.items ≡ []) × (result.writes ≡ []) }
+    ensures no_stop { result.stopped ≡ None }
 {
     let_transact(stm);
     let numbers = p.numbers();
@@ -139,6 +142,15 @@ impl<'a, S, X, K, P: TransactionRule<S, X, K>> TxOver<'a, S, X, K, P, Reads> {
 
 impl<'a, S, X, K, P: TransactionRule<S, X, K>, R: ReadList> TxOver<'a, S, X, K, P, R> {
     ghost use Rattle.stm_transactions.specs.Ends.{HasAborted};
+    ghost use Rattle.stm_transactions.specs.Txs.{HasCountedStop, tx_sight};
+
+    /// Its last Stop.
+    pub fn stopped(&self) -> Option<Stop>
+        ensures stop { result ≡ (tx_sight self.now).stopped }
+        ensures counted { HasCountedStop self.now }
+    {
+        self.stopped
+    }
 
     /// Ends it without an entry; its locks get their old words.
     pub fn abort(self)

@@ -6,7 +6,7 @@ use Rattle.tx_commit.specs.declared.lost.Lost.{Lost}
 use Rattle.tx_commit.specs.Ends.{HasEntered, IsLost, has_writes}
 use Rattle.stm_passes.specs.declared.pass_numbers.PassNumbers.{PassNumbers}
 use Rattle.stm_passes.specs.Numbers.{with_refusals}
-use Rattle.stm_passes.specs.Passes.{PassSight, is_given}
+use Rattle.stm_passes.specs.Passes.{is_given}
 use Rattle.stm_transactions.specs.Counts.{after_commit}
 use Rattle.stm_transactions.specs.Ends.{HasCommitted, HasLostCommit, entry_of}
 use Rattle.stm_transactions.proofs.Ending.{counted_as, if_ok, if_err, rests_with, describes_entered, describes_lost, lost_leaves, greatest_upto, greatest_under}

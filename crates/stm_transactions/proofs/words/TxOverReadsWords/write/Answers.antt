@@ -1,4 +1,4 @@
-use Rattle.std.proofs.Common.{List, refl, sym, ap, subst, rules}
+use Rattle.std.proofs.Common.{List, sym, subst, rules}
 use Rattle.dude_base.specs.declared.write.Write.{Write}
 use Rattle.word_space.proofs.Meets.{shown_write}
 use Rattle.tx_reading.specs.Pairs.{pairs_of}
