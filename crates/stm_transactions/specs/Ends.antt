@@ -13,7 +13,7 @@ use Rattle.stm_passes.specs.Passes.{PassSight, IsResting, pass_view}
 use Rattle.stm_transactions.specs.declared.tx.TxOver.{TxOver}
 use Rattle.stm_transactions.specs.declared.reads.ReadList.{Ghosts}
 use Rattle.stm_transactions.specs.Counts.{after_commit}
-use Rattle.stm_transactions.specs.Txs.{tx_numbers, tx_reads, tx_refused, tx_table, tx_view, tx_writes}
+use Rattle.stm_transactions.specs.Transactions.{tx_numbers, tx_reads, tx_refused, tx_table, tx_view, tx_writes}
 
 -- what is done, with these reads and writes
 abbrev pub entry_of : Done → List (ℕ × ℕ) → List Write → Entry

@@ -142,7 +142,7 @@ impl<'a, S, X, K, P: TransactionRule<S, X, K>> TxOver<'a, S, X, K, P, Reads> {
 
 impl<'a, S, X, K, P: TransactionRule<S, X, K>, R: ReadList> TxOver<'a, S, X, K, P, R> {
     ghost use Rattle.stm_transactions.specs.Ends.{HasAborted};
-    ghost use Rattle.stm_transactions.specs.Txs.{HasCountedStop, tx_sight};
+    ghost use Rattle.stm_transactions.specs.Transactions.{HasCountedStop, tx_sight};
 
     /// Its last Stop.
     pub fn stopped(&self) -> Option<Stop>

@@ -46,7 +46,7 @@ impl<'a, S, X, K, P: TransactionRule<S, X, K>> Words for TxOver<'a, S, X, K, P, 
     ghost use Rattle.std.specs.Prelude.{◌≡◌, ◌<◌, IfErr};
     ghost use Rattle.word_space.specs.declared.stop.Stop.{Stop};
     ghost use Rattle.word_space.specs.Steps.{AnswersSeen, IsSeenAt, MakesRead, MakesWrite, Shows, UsesWords, with_word};
-    ghost use Rattle.stm_transactions.specs.Txs.{CountsRefusal, KeepsPages, StopsReading, StopsWriting, TurnsInto, turns_begin, turns_on, tx_sight, tx_well_formed};
+    ghost use Rattle.stm_transactions.specs.Transactions.{CountsRefusal, KeepsPages, StopsReading, StopsWriting, TurnsInto, turns_begin, turns_on, tx_sight, tx_well_formed};
 
     ghost sight = { tx_sight };
 

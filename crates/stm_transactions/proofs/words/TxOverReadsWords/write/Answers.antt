@@ -4,7 +4,7 @@ use Rattle.word_space.proofs.Meets.{shown_write}
 use Rattle.tx_reading.specs.Pairs.{pairs_of}
 use Rattle.tx_reading.specs.Pins.{pin_list}
 use Rattle.tx_reading.specs.Running.{IsRunning}
-use Rattle.stm_transactions.specs.Txs.{tx_sight}
+use Rattle.stm_transactions.specs.Transactions.{tx_sight}
 use Rattle.stm_transactions.proofs.Writing.{room, running_write}
 use Rattle.stm_transactions.proofs.words.TxOverReadsWords.write.Goals as goal
 
