@@ -2,4 +2,5 @@ pub mod Rule
 pub mod Stops
 pub mod Counts
 pub mod Begins
-pub mod Txs
+pub mod Transactions
+pub mod Ends

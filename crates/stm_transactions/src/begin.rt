@@ -4,7 +4,7 @@ ghost use Rattle.std.specs.Prelude.{◌≡◌, IfOk, IfErr};
 ghost use Rattle.std.specs.Borrow.{sem, RestsIfErr};
 ghost use Rattle.stm_passes.specs.Passes.{IsRefused, IsResting};
 ghost use Rattle.stm_passes.specs.contracts.pass.Pass.{the_row};
-ghost use Rattle.stm_transactions.specs.Txs.{HasBegun};
+ghost use Rattle.stm_transactions.specs.Transactions.{HasBegun};
 
 use crate::rule::{TransactionRule, let_transact};
 use crate::tx::{Tx, begin_now};

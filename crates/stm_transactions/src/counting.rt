@@ -1,10 +1,21 @@
-//! What the end of a transaction makes of its pass's numbers.
+//! What a commit answers, and what it makes of its pass's numbers.
 
-ghost use Rattle.std.specs.Prelude.{◌≡◌, ◌<◌};
-ghost use Rattle.stm_transactions.specs.Counts.{after_commit};
+ghost use Rattle.std.specs.Prelude.{◌≡◌, ◌<◌, MatchResult};
+ghost use Rattle.tx_commit.specs.Ends.{has_writes};
+ghost use Rattle.stm_transactions.specs.Counts.{IsDoneWith, IsErrWith, after_commit};
 
+use dude_base::write_list::WriteList;
 use stm_passes::pass_numbers::PassNumbers;
+use tatp_model::done::Done;
 use tx_commit::lost::Lost;
+use tx_commit::served::Served;
+
+/// Whether there are writes.
+pub fn has_any(writes: &WriteList) -> bool
+    ensures { result ≡ has_writes writes.now }
+{
+    writes.len() > 0
+}
 
 /// The numbers after a commit that was answered so; `wrote` says whether there were writes, and each thread has so many boxes.
 pub fn count_commit(
@@ -21,5 +32,22 @@ pub fn count_commit(
         Ok(number) => numbers.enter(*number),
         Err(Lost::Conflict { number, .. }) => numbers.draw(*number, boxes).refuse(1),
         Err(_) => numbers.refuse(1),
+    }
+}
+
+/// What is answered for this request, with the number that was drawn or read.
+pub fn done_of(served: &Served, wrote: bool, answer: &Result<u64, Lost>) -> Result<Done, Lost>
+    ensures { MatchResult result (IsDoneWith served.now wrote answer.now) (IsErrWith answer.now) }
+{
+    match answer {
+        Ok(number) => Ok(Done {
+            file: served.file,
+            index: served.index,
+            number: *number,
+            wrote,
+            request: *served.request,
+            reply: *served.reply,
+        }),
+        Err(lost) => Err(*lost),
     }
 }

@@ -1,18 +1,17 @@
 //! A transaction, which has the seat of its pass.
 
-ghost use Rattle.std.specs.Prelude.{◌≡◌, ◌*◌, ◌<◌, ◌≤◌, ℕ, [], None, All, length, IfOk, IfErr, MatchResult};
+ghost use Rattle.std.specs.Prelude.{◌≡◌, ◌*◌, ◌<◌, [], None, All, length};
 ghost use Rattle.std.proofs.Props.{props};
 ghost use Rattle.dude_base.specs.declared.limits.TheConstants.{PAGE as PAGE_WORDS};
-ghost use Rattle.core_events.specs.Events.{begin, view_after};
 ghost use Rattle.core_table.specs.Steps.{BelongsTo};
 ghost use Rattle.tx_reading.specs.Pairs.{pairs_of};
 ghost use Rattle.tx_reading.specs.Pins.{pin_list};
 ghost use Rattle.tx_reading.specs.Running.{IsRunning};
-ghost use Rattle.tx_commit.specs.Ends.{has_writes};
-ghost use Rattle.stm_passes.specs.Passes.{Describes, IsResting, pass_view};
-ghost use Rattle.stm_transactions.specs.Begins.{IsReady};
+ghost use Rattle.stm_passes.specs.Passes.{Describes};
+ghost use Rattle.stm_transactions.specs.Begins.{Begins, IsReady};
 ghost use Rattle.stm_transactions.specs.Stops.{CountsStop};
 
+use crate::counting::{count_commit, done_of, has_any};
 use crate::reads::{ReadList, Reads};
 use crate::rule::{TransactionRule, let_transact};
 use core_table::event_table::Seat;
@@ -21,6 +20,13 @@ use std::alloc::Global;
 use stm_passes::pass::Pass;
 use stm_passes::pass_numbers::PassNumbers;
 use stm_steps::stm::Stm;
+use tatp_model::done::Done;
+use tatp_model::reply::Reply;
+use tatp_model::request::Request;
+use tx_commit::commit::Commit;
+use tx_commit::ending::{commit_all, give_up};
+use tx_commit::lost::Lost;
+use tx_commit::served::Served;
 use tx_reading::pinned::Pinned;
 use word_space::stop::Stop;
 
@@ -40,8 +46,10 @@ pub struct TxOver<'a, S, X, K, P: TransactionRule<S, X, K>, R: ReadList> {
     ghost belongs: { BelongsTo stm.now.events seat } by { Prim.hlevel props },
     ghost slots: { length seat.me.1 ≡ 0 },
     ghost describes: { Describes stm.now.events.setup numbers seat.me.0.view } by { Prim.hlevel props },
-    ghost running: { IsRunning stm.now.events.setup numbers.thread snapshot (R.reads lists) writes (pairs_of held) (pin_list pinned) seat.me.0.view } by { Prim.hlevel props },
-    ghost reads_inside: { All (λ r. r.0 < stm.now.events.setup.pages * PAGE_WORDS) (R.reads lists) } by { Prim.hlevel props },
+    ghost running: { IsRunning stm.now.events.setup numbers.thread snapshot (R.reads lists) writes
+        (pairs_of held) (pin_list pinned) seat.me.0.view } by { Prim.hlevel props },
+    ghost reads_inside: { All (λ r. r.0 < stm.now.events.setup.pages * PAGE_WORDS)
+        (R.reads lists) } by { Prim.hlevel props },
     ghost stops: { CountsStop stm.now.events.setup stopped refused },
 }
 
@@ -56,9 +64,11 @@ pub(crate) fn begin_now<'a, S, X, K, P: TransactionRule<S, X, K>>(
 ) -> Tx<'a, S, X, K, P>
     requires ready { IsReady stm.now.events p.old }
     ensures same { result.pass.ghost_name ≡ p.entry.ghost_name }
-    ensures begun { (result.stm.now ≡ stm.now) × (result.seat.me.0.view ≡ view_after stm.now.events.setup begin (pass_view p.old) result.snapshot) }
-    ensures rest { (result.numbers ≡ p.old.numbers) × (result.refused ≡ 0) }
-    ensures none { (result.lists.items.items ≡ []) × (result.writes ≡ []) × (result.stopped ≡ None) }
+    ensures stm { result.stm.now ≡ stm.now }
+    ensures view { Begins stm.now.events p.old result.snapshot result.seat.me.0.view }
+    ensures numbers { (result.numbers ≡ p.old.numbers) × (result.refused ≡ 0) }
+    ensures none { (result.lists.items.items ≡ []) × (result.writes ≡ []) }
+    ensures no_stop { result.stopped ≡ None }
 {
     let_transact(stm);
     let numbers = p.numbers();
@@ -78,5 +88,99 @@ pub(crate) fn begin_now<'a, S, X, K, P: TransactionRule<S, X, K>>(
         lists: Reads {
             items: Vec::new(alloc),
         },
+    }
+}
+
+impl<'a, S, X, K, P: TransactionRule<S, X, K>> TxOver<'a, S, X, K, P, Reads> {
+    ghost use Rattle.std.specs.Prelude.{IfOk, IfErr};
+    ghost use Rattle.stm_transactions.specs.Ends.{HasCommitted, HasLostCommit, HasDrawLeft};
+
+    /// Ends it with an entry of this request and its reply. Where it answers what lost it, no entry is made. It takes no memory.
+    pub fn commit(self, file: u64, index: u64, q: &Request, reply: &Reply) -> Result<Done, Lost>
+        requires draws { HasDrawLeft self }
+        ensures ok { IfOk result
+            (HasCommitted file index q.now reply.now self.entry self.exit.0.now) }
+        ensures err { IfErr result (HasLostCommit self.entry self.exit.0.now) }
+    {
+        let TxOver {
+            pass,
+            stm,
+            mut seat,
+            numbers,
+            snapshot,
+            pinned,
+            writes,
+            held,
+            stopped: _,
+            refused,
+            lists,
+        } = self;
+        let_transact(stm);
+        let Reads { items } = lists;
+        let commit = Commit {
+            thread: numbers.thread,
+            place: numbers.next,
+            snapshot,
+            reads: items.as_slice(),
+            writes: &writes,
+            held: &held,
+        };
+        let served = Served {
+            file,
+            index,
+            request: q,
+            reply,
+        };
+        let answer = commit_all(stm, &mut seat, &commit, &pinned, &served);
+        let wrote = has_any(&writes);
+        let done = done_of(&served, wrote, &answer);
+        let numbers = count_commit(numbers, wrote, &answer, stm.events.boxes()).refuse(refused);
+        pass.put_seat(seat, numbers);
+        done
+    }
+}
+
+impl<'a, S, X, K, P: TransactionRule<S, X, K>, R: ReadList> TxOver<'a, S, X, K, P, R> {
+    ghost use Rattle.stm_transactions.specs.Ends.{HasAborted};
+    ghost use Rattle.stm_transactions.specs.Transactions.{HasCountedStop, tx_sight};
+
+    /// Its last Stop.
+    pub fn stopped(&self) -> Option<Stop>
+        ensures stop { result ≡ (tx_sight self.now).stopped }
+        ensures counted { HasCountedStop self.now }
+    {
+        self.stopped
+    }
+
+    /// Ends it without an entry; its locks get their old words.
+    pub fn abort(self)
+        ensures { HasAborted self.entry self.exit.0.now }
+    {
+        let TxOver {
+            pass,
+            stm,
+            mut seat,
+            numbers,
+            snapshot: _,
+            pinned,
+            writes: _,
+            held,
+            stopped: _,
+            refused,
+            lists: _,
+        } = self;
+        let_transact(stm);
+        give_up(stm, &mut seat, &pinned, &held);
+        pass.put_seat(seat, numbers.refuse(refused));
+    }
+}
+
+impl<S, X, K, P: TransactionRule<S, X, K>, R: ReadList> Drop for TxOver<'_, S, X, K, P, R> {
+    ghost use Rattle.stm_transactions.specs.Ends.{HasAborted};
+
+    fn drop(self)
+        ensures { HasAborted self.entry self.exit.0.now }
+    {
+        self.abort();
     }
 }

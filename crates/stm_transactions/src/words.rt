@@ -10,6 +10,7 @@ use crate::tx::TxOver;
 use dude_base::limits::{MAX_WRITES, PAGE};
 use dude_base::write::Write;
 use dude_base::write_list::WriteList;
+use tx_reading::bad_lock::BadLock;
 use tx_reading::owning::own_lock;
 use tx_reading::reading::read_word;
 use word_space::stop::Stop;
@@ -45,7 +46,7 @@ impl<'a, S, X, K, P: TransactionRule<S, X, K>> Words for TxOver<'a, S, X, K, P, 
     ghost use Rattle.std.specs.Prelude.{◌≡◌, ◌<◌, IfErr};
     ghost use Rattle.word_space.specs.declared.stop.Stop.{Stop};
     ghost use Rattle.word_space.specs.Steps.{AnswersSeen, IsSeenAt, MakesRead, MakesWrite, Shows, UsesWords, with_word};
-    ghost use Rattle.stm_transactions.specs.Txs.{CountsRefusal, KeepsPages, StopsReading, StopsWriting, TurnsInto, turns_begin, turns_on, tx_sight, tx_well_formed};
+    ghost use Rattle.stm_transactions.specs.Transactions.{CountsRefusal, KeepsPages, StopsReading, StopsWriting, TurnsInto, turns_begin, turns_on, tx_sight, tx_well_formed};
 
     ghost sight = { tx_sight };
 
@@ -114,7 +115,7 @@ impl<'a, S, X, K, P: TransactionRule<S, X, K>> Words for TxOver<'a, S, X, K, P, 
         }
         let_transact(self.stm);
         let locks = self.stm.events.locks();
-        if let Err((lock, seen)) = own_lock(
+        if let Err(BadLock { lock, seen }) = own_lock(
             self.stm,
             &mut self.seat,
             self.numbers.thread,

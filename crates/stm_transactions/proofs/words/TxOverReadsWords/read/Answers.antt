@@ -1,6 +1,6 @@
 use Rattle.std.proofs.Common.{rules}
 use Rattle.word_space.proofs.Meets.{value_read}
-use Rattle.stm_transactions.specs.Txs.{tx_sight}
+use Rattle.stm_transactions.specs.Transactions.{tx_sight}
 use Rattle.stm_transactions.proofs.words.TxOverReadsWords.read.Goals as goal
 
 pub returns-in-Some-clause-value : goal.returns-in-Some-clause-value

@@ -17,7 +17,7 @@ use Rattle.stm_passes.specs.declared.pass_numbers.PassNumbers.{PassNumbers}
 use Rattle.stm_passes.specs.Passes.{PassSight, pass_view}
 use Rattle.stm_transactions.specs.declared.tx.TxOver.{TxOver}
 use Rattle.stm_transactions.specs.declared.reads.ReadList.{Ghosts}
-use Rattle.stm_transactions.specs.Stops.{after_stop}
+use Rattle.stm_transactions.specs.Stops.{CountsStop, after_stop}
 
 -- why a write of the word `at` stopped for another transaction
 abbrev pub IsWriteStop : Setup → ℕ → ℕ → List (ℕ × ℕ) → ℕ → Stop → View → View → Type 0
@@ -55,6 +55,10 @@ module _ {S X K P R : Type 0} {g : Ghosts R} where
 
   pub tx_well_formed : (t : TxOver S X K P R g) → IsWellFormed (tx_sight t)
   tx_well_formed t = record { count = (let p = t.belongs.small.pages in omega arith); reads_inside = t.reads_inside; writes = t.running.list; inside = t.running.inside }
+
+  -- refusals were counted for its last Stop, and a page that was out exists
+  abbrev pub HasCountedStop : TxOver S X K P R g → Type 0
+  HasCountedStop t = CountsStop (tx_table t).setup (tx_sight t).stopped (tx_refused t)
 
   -- It is the pass's, begun behind a look at its empty box, with nothing read or written
   pub record HasBegun (e : TableSight K) (p : PassSight X) (t : TxOver S X K P R g) : Type 0 where
