@@ -15,7 +15,7 @@ CLAUSE = re.compile(r"(requires|ensures)\b")
 # Words of the language of contracts, in any text.
 LANGUAGE = set(
     "requires ensures self Self result record data pub abbrev unfoldable where if then else let in case of Type Prop λ refl match opaque "
-    "as Some None Ok Err Unit omega u8 u16 u32 u64 u128 usize bool str".split()
+    "as Some None Ok Err Unit tt omega u8 u16 u32 u64 u128 usize bool str".split()
 )
 
 

@@ -53,6 +53,7 @@ module _ {S X K P R : Type 0} {g : Ghosts R} where
   abbrev pub tx_sight : TxOver S X K P R g → WordsSight
   tx_sight t = record { count = (tx_table t).setup.pages * PAGE; reads = tx_reads t; writes = t.writes; stopped = t.stopped }
 
+  -- its reads and writes are of words of the home, and its writes are of different words
   pub tx_well_formed : (t : TxOver S X K P R g) → IsWellFormed (tx_sight t)
   tx_well_formed t = record { count = (let p = t.belongs.small.pages in omega arith); reads_inside = t.reads_inside; writes = t.running.list; inside = t.running.inside }
 
@@ -100,9 +101,11 @@ module _ {S X K P R : Type 0} {g : Ghosts R} where
     pub entries : (tx_view u).entries ≡ (tx_view t).entries
     pub refused : tx_refused t ≤ tx_refused u
 
+  -- it turns into itself
   pub turns_begin : (x : TxOver S X K P R g) → TurnsInto x x
   turns_begin x = record { same_pass = refl; pass = refl; stm = refl; numbers = refl; part = refl; draws = refl; drawn = refl; box = refl; turn = refl; entries = refl; refused = omega arith }
 
+  -- one call behind another turns it into what the second one leaves
   pub turns_on : (x y z : TxOver S X K P R g) → TurnsInto x y → TurnsInto y z → TurnsInto x z
   turns_on x y z a b = record {
     same_pass = b.same_pass ∙ a.same_pass;
