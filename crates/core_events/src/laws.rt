@@ -32,6 +32,7 @@ pub fn law_of_turn()
 {}
 
 /// What is said of pins, touches and frames stays.
+#[tactic(auto, using(crate::proofs::PagesKept::pages_keep))]
 pub fn law_of_pages()
     ensures event { EventKeeps OverTurn PagesKept }
     ensures split { SplitKeeps Alone PagesKept }
@@ -39,6 +40,7 @@ pub fn law_of_pages()
 {}
 
 /// Each drawn number stays in one view, in one box or persisted, and its record has its writes.
+#[tactic(auto, using(crate::proofs::NumbersKept::numbers_keep))]
 pub fn law_of_numbers()
     ensures event { EventKeeps OverTurn NumbersKept }
     ensures split { SplitKeeps Alone NumbersKept }

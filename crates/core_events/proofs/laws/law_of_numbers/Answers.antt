@@ -1,8 +1,5 @@
-use Rattle.core_events.proofs.NumbersKept.{numbers_keep, numbers_split_keep, numbers_join_keep}
+use Rattle.core_events.proofs.NumbersKept.{numbers_split_keep, numbers_join_keep}
 use Rattle.core_events.proofs.laws.law_of_numbers.Goals as goal
-
-pub returns-clause-event : goal.returns-clause-event
-returns-clause-event c = λ z e b who v g o k a. numbers_keep z e b who v g o.threads o.locks o.turn k a
 
 pub returns-clause-split : goal.returns-clause-split
 returns-clause-split c = λ z b who draws v g o k a. numbers_split_keep z b who draws v g k a
