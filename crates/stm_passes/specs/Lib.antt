@@ -1,3 +1,4 @@
 pub mod Numbers
 pub mod Passes
 pub mod Partings
+pub mod Opening

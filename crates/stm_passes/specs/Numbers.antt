@@ -1,5 +1,6 @@
 -- What calls make of the numbers of a pass.
 use Rattle.std.specs.Prelude.{ℕ, ◌+◌, ◌-◌, ◌%◌, ◌||◌, Bool, true, false, max}
+use Rattle.dude_base.specs.declared.limits.TheConstants.{MAX_NUMBER}
 use Rattle.pmem_trait.specs.Faults.{up_to_last}
 use Rattle.stm_passes.specs.declared.pass_numbers.PassNumbers.{PassNumbers}
 
@@ -27,6 +28,10 @@ left_numbers draws f = record f { left = f.left - draws; splits = f.splits - 1 }
 -- a pass of this thread that did nothing yet, with so many draws and no splits
 abbrev pub newcomer_numbers : ℕ → ℕ → ℕ → PassNumbers
 newcomer_numbers thread draws opening = record { thread = thread; next = 0; last = opening; drawn = 0; left = draws; splits = 0; durable = opening; met_fault = false; refused = 0; had_turn = false; opening = opening }
+
+-- those of the first pass: all numbers over the opening one may be drawn, and a pass split off for each further thread
+abbrev pub first_numbers : ℕ → ℕ → ℕ → PassNumbers
+first_numbers thread threads opening = record (newcomer_numbers thread (MAX_NUMBER - opening) opening) { splits = threads - 1 }
 
 -- another pass was taken in: the greater last and durable number, the draws and splits of both, and a fault where one met one
 abbrev pub both_numbers : PassNumbers → PassNumbers → PassNumbers

@@ -3,6 +3,7 @@
 #![tactic(auto)]
 
 pub mod box_full;
+mod opening;
 mod partings;
 pub mod pass;
 pub mod pass_numbers;

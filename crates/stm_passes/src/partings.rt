@@ -5,6 +5,7 @@ ghost use Rattle.stm_passes.specs.Partings.{AnswersAll, IsJoined, IsSplitOff};
 ghost use Rattle.stm_passes.specs.Passes.{IsResting, OutlastsPasses};
 
 use crate::pass::Pass;
+use crate::pass_numbers::PassNumbers;
 use crate::split_fault::SplitFault;
 use core_table::slot_rule::SlotRule;
 use stm_steps::stm::Stm;
@@ -33,7 +34,8 @@ impl<X> Pass<X> {
         let mut other = stm.split(&mut seat, draws);
         let thread = stm.number(&mut other);
         self.put_seat(seat, numbers.part(draws));
-        Ok(Pass::of_seat(other, numbers.newcomer(thread, draws)))
+        let newcomer = PassNumbers::newcomer(thread, draws, numbers.opening);
+        Ok(Pass::of_seat(other, newcomer))
     }
 
     /// Takes in another pass, with its entries, its draws and splits, its threads, and what its turns met.

@@ -1,7 +1,9 @@
 //! What a pass tells of itself in numbers.
 
 ghost use Rattle.std.specs.Prelude.{◌≡◌, ◌+◌, ◌^◌, ◌<◌, ◌≤◌};
-ghost use Rattle.stm_passes.specs.Numbers.{after_draw, bit, both_numbers, left_numbers, newcomer_numbers, with_entry, with_refusals};
+ghost use Rattle.stm_passes.specs.Numbers.{after_draw, bit, both_numbers, first_numbers, left_numbers, newcomer_numbers, with_entry, with_refusals};
+
+use dude_base::limits::MAX_NUMBER;
 
 /// What a pass tells of itself in numbers.
 #[derive(Clone, Copy)]
@@ -83,22 +85,32 @@ impl PassNumbers {
         }
     }
 
-    /// Those of the pass that is split off.
-    pub fn newcomer(self, thread: u64, draws: u64) -> PassNumbers
-        ensures { result ≡ newcomer_numbers thread draws self.opening }
+    /// Those of a pass that did nothing yet, with so many draws and no splits.
+    pub fn newcomer(thread: u64, draws: u64, opening: u64) -> PassNumbers
+        ensures { result ≡ newcomer_numbers thread draws opening }
     {
         PassNumbers {
             thread,
             next: 0,
-            last: self.opening,
+            last: opening,
             drawn: 0,
             left: draws,
             splits: 0,
-            durable: self.opening,
+            durable: opening,
             met_fault: false,
             refused: 0,
             had_turn: false,
-            opening: self.opening,
+            opening,
+        }
+    }
+
+    /// Those of the first pass, of a table for so many threads.
+    pub fn first(thread: u64, threads: u64, opening: u64) -> PassNumbers
+        ensures { result ≡ first_numbers thread threads opening }
+    {
+        PassNumbers {
+            splits: threads.saturating_sub(1),
+            ..PassNumbers::newcomer(thread, MAX_NUMBER.saturating_sub(opening), opening)
         }
     }
 
