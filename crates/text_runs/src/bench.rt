@@ -2,7 +2,7 @@
 
 use crate::audits::{changed, judge};
 use crate::faults::faults;
-use crate::files::{files, shared};
+use crate::files::{files, reads, shared};
 use crate::numbers::{dump, last, load};
 use crate::page::{page_of, push_count};
 use crate::replies::done_of;
@@ -89,6 +89,7 @@ impl Bench {
             "summary" => Ok(write_summary(&self.served, out)?),
             "file" => self.add_file(words, out),
             "files" => files(&self.files, &names_among(self.alloc, words)?, numbers, out),
+            "reads" => reads(&self.files, &names_among(self.alloc, words)?, numbers, out),
             "shared" => shared(&self.files, words, out),
             "sink" => self.open_sink(numbers, out),
             "print" => self.print(numbers, out),

@@ -26,6 +26,25 @@ pub fn files(
     Ok(push_lists(read_files(*out.allocator(), names, &mut world), out)?)
 }
 
+/// The reads that it takes to read the files of these names, of which the calls `fail` fail.
+pub fn reads(
+    files: &[MemFile],
+    names: &[&str],
+    fail: &[u64],
+    out: &mut Vec<u8>,
+) -> Result<(), Stop> {
+    let mut world = world_of(files, fail, out)?;
+    let _ = read_files(*out.allocator(), names, &mut world);
+    for read in world.reads() {
+        let name = read.name.as_str();
+        let at = read.at;
+        let end = if read.failed { " failed" } else { "" };
+        let line = format!(in *out.allocator(); "{name} from {at}{end}\n")?;
+        out.extend_from_slice(line.as_bytes())?;
+    }
+    Ok(())
+}
+
 /// The requests of the files of these names, which are shared texts.
 pub fn shared(files: &[MemFile], names: &[&str], out: &mut Vec<u8>) -> Result<(), Stop> {
     let names = shared_words(*out.allocator(), names)?;
