@@ -8,7 +8,7 @@ ghost use Rattle.tx_reading.specs.Owns.{OwnsHeld};
 ghost use Rattle.tx_reading.specs.Pairs.{pairs_of};
 ghost use Rattle.tx_commit.specs.Draws.{RunsPinned};
 ghost use Rattle.tx_commit.specs.Ends.{AsLost, Enters, HasEnded, IsLostBy, IsPinStop, OnlyUndoes};
-ghost use Rattle.tx_commit.specs.Rule.{OutlastsCommit};
+ghost use Rattle.tx_commit.specs.Rule.{OutlastsCommit, OutlastsEnding};
 
 use crate::commit::Commit;
 use crate::lost::Lost;
@@ -32,7 +32,7 @@ fn undo<S, X, K, P: SlotRule<S, X, K>>(
     frames: &WriteList,
 )
     requires seat { BelongsTo stm.now.events seat.old }
-    requires slots { OutlastsCommit P.fact stm.now.events }
+    requires slots { OutlastsEnding P.fact stm.now.events }
     requires pinning { IsPinning (pairs_of frames.now) seat.old.me.0.view }
     requires owned { OwnsHeld held.now seat.old.me.0.view }
     ensures stays { Stays stm.now.events seat.old seat.new }
@@ -50,7 +50,7 @@ pub fn give_up<S, X, K, P: SlotRule<S, X, K>>(
     held: &WriteList,
 )
     requires seat { BelongsTo stm.now.events seat.old }
-    requires slots { OutlastsCommit P.fact stm.now.events }
+    requires slots { OutlastsEnding P.fact stm.now.events }
     requires pinning { IsPinning (pin_list pinned.now) seat.old.me.0.view }
     requires owned { OwnsHeld held.now seat.old.me.0.view }
     ensures stays { Stays stm.now.events seat.old seat.new }

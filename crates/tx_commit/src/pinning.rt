@@ -8,7 +8,7 @@ ghost use Rattle.tx_reading.specs.Seats.{Stays};
 ghost use Rattle.tx_reading.specs.Pins.{IsPinning, StopsPin};
 ghost use Rattle.tx_reading.specs.Pairs.{pairs_of};
 ghost use Rattle.tx_commit.specs.Pages.{ArePagesOf, HasPages, PinsNoMore, PinsOnce, StopsPages};
-ghost use Rattle.tx_commit.specs.Rule.{OutlastsCommit};
+ghost use Rattle.tx_commit.specs.Rule.{OutlastsEnding};
 
 use core_table::event_table::Seat;
 use core_table::slot_rule::SlotRule;
@@ -28,7 +28,7 @@ pub fn pin_once<S, X, K, P: SlotRule<S, X, K>>(
     frames: &mut WriteList,
 ) -> Result<(), Stop>
     requires seat { BelongsTo stm.now.events seat.old }
-    requires slots { OutlastsCommit P.fact stm.now.events }
+    requires slots { OutlastsEnding P.fact stm.now.events }
     requires page { page < stm.now.events.setup.pages }
     requires pinning { IsPinning (pairs_of frames.old) seat.old.me.0.view }
     requires room { length frames.old < MOST }
@@ -59,7 +59,7 @@ pub fn pin_all<S, X, K, P: SlotRule<S, X, K>>(
     frames: &mut WriteList,
 ) -> Result<(), Stop>
     requires seat { BelongsTo stm.now.events seat.old }
-    requires slots { OutlastsCommit P.fact stm.now.events }
+    requires slots { OutlastsEnding P.fact stm.now.events }
     requires inside { All (λ w. w.at < stm.now.events.setup.pages * PAGE_WORDS) writes.now }
     requires pinning { IsPinning [] seat.old.me.0.view }
     requires none { frames.old ≡ [] }

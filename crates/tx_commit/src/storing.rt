@@ -4,7 +4,7 @@ ghost use Rattle.std.specs.Prelude.{◌≡◌, [], All, true};
 ghost use Rattle.core_events.specs.Keyed.{has};
 ghost use Rattle.core_table.specs.Steps.{BelongsTo};
 ghost use Rattle.tx_reading.specs.Seats.{Stays};
-ghost use Rattle.tx_commit.specs.Rule.{OutlastsCommit};
+ghost use Rattle.tx_commit.specs.Rule.{OutlastsEnding};
 ghost use Rattle.tx_commit.specs.Settles.{AreStored, AreTouched, IsLeaving, IsReleasing, IsStoring, IsTouching, IsUndone, OnlyGivesLocks, OnlyStores, OnlyTakesPins, OnlyTouches};
 
 use core_table::event_table::Seat;
@@ -21,7 +21,7 @@ pub fn store_all<S, X, K, P: SlotRule<S, X, K>>(
     frames: &WriteList,
 )
     requires seat { BelongsTo stm.now.events seat.old }
-    requires slots { OutlastsCommit P.fact stm.now.events }
+    requires slots { OutlastsEnding P.fact stm.now.events }
     requires storing { IsStoring stm.now.events.setup writes.now frames.now seat.old.me.0.view }
     ensures stays { Stays stm.now.events seat.old seat.new }
     ensures view { OnlyStores seat.old seat.new }
@@ -45,7 +45,7 @@ pub fn release_all<S, X, K, P: SlotRule<S, X, K>>(
     held: &WriteList,
 )
     requires seat { BelongsTo stm.now.events seat.old }
-    requires slots { OutlastsCommit P.fact stm.now.events }
+    requires slots { OutlastsEnding P.fact stm.now.events }
     requires releasing { IsReleasing number held.now seat.old.me.0.view }
     ensures stays { Stays stm.now.events seat.old seat.new }
     ensures view { OnlyGivesLocks seat.old seat.new }
@@ -64,7 +64,7 @@ pub fn touch_all<S, X, K, P: SlotRule<S, X, K>>(
     frames: &WriteList,
 )
     requires seat { BelongsTo stm.now.events seat.old }
-    requires slots { OutlastsCommit P.fact stm.now.events }
+    requires slots { OutlastsEnding P.fact stm.now.events }
     requires touching { IsTouching number frames.now seat.old.me.0.view }
     ensures stays { Stays stm.now.events seat.old seat.new }
     ensures view { OnlyTouches seat.old seat.new }
@@ -83,7 +83,7 @@ pub fn unpin_all<S, X, K, P: SlotRule<S, X, K>>(
     frames: &WriteList,
 )
     requires seat { BelongsTo stm.now.events seat.old }
-    requires slots { OutlastsCommit P.fact stm.now.events }
+    requires slots { OutlastsEnding P.fact stm.now.events }
     requires leaving { IsLeaving frames.now seat.old.me.0.view }
     ensures stays { Stays stm.now.events seat.old seat.new }
     ensures view { OnlyTakesPins seat.old seat.new }
@@ -101,7 +101,7 @@ pub fn restore_all<S, X, K, P: SlotRule<S, X, K>>(
     held: &WriteList,
 )
     requires seat { BelongsTo stm.now.events seat.old }
-    requires slots { OutlastsCommit P.fact stm.now.events }
+    requires slots { OutlastsEnding P.fact stm.now.events }
     requires undone { IsUndone held.now seat.old.me.0.view }
     ensures stays { Stays stm.now.events seat.old seat.new }
     ensures view { OnlyGivesLocks seat.old seat.new }

@@ -4,7 +4,7 @@ ghost use Rattle.std.specs.Prelude.{◌≡◌, OnOk, IfErr};
 ghost use Rattle.core_table.specs.Steps.{BelongsTo};
 ghost use Rattle.tx_reading.specs.Seats.{Stays};
 ghost use Rattle.tx_commit.specs.Draws.{HasChecked, HasVoided, IsChecking};
-ghost use Rattle.tx_commit.specs.Rule.{OutlastsCommit};
+ghost use Rattle.tx_commit.specs.Rule.{OutlastsEnding};
 
 use core_table::event_table::Seat;
 use core_table::slot_rule::SlotRule;
@@ -21,7 +21,7 @@ pub fn validate<S, X, K, P: SlotRule<S, X, K>>(
     reads: &[(u64, u64)],
 ) -> Result<(), BadLock>
     requires seat { BelongsTo stm.now.events seat.old }
-    requires slots { OutlastsCommit P.fact stm.now.events }
+    requires slots { OutlastsEnding P.fact stm.now.events }
     requires checking { IsChecking thread snapshot reads.now seat.old.me.0.view }
     ensures stays { Stays stm.now.events seat.old seat.new }
     ensures ok { OnOk result (HasChecked reads.now stm.now.events seat.old seat.new) }

@@ -1,0 +1,37 @@
+-- What a step on a box, or a draw for one, leaves of the seat that makes it.
+use Rattle.std.specs.Prelude.{◌≡◌, ℕ, List, ◌∷◌}
+use Rattle.pmem_trait.specs.declared.medium.Medium.{Ghosts}
+use Rattle.atomic_table.specs.Table.{rest}
+use Rattle.atomic_table.specs.declared.shared.Seat.{Seat}
+use Rattle.core_events.specs.Events.{Event, next_box, view_after}
+use Rattle.core_events.specs.Telling.{IsTold}
+use Rattle.core_table.specs.Known.{Known}
+use Rattle.core_table.specs.Layout.{TableSight}
+use Rattle.core_table.specs.Steps.{BelongsTo}
+use Rattle.stm_slots.specs.Beside.{Beside}
+use Rattle.stm_slots.specs.declared.slot.Slot.{Slot}
+use Rattle.stm_slots.specs.declared.slot.Slot.TheVariants.{Empty}
+use Rattle.stm_slots.specs.declared.opening.Opening.{Opening}
+
+module _ {M : Type 0} {ghosts : Ghosts M} (t : TableSight (Opening M ghosts)) where
+  -- The seat made the event, which found the number n; it keeps its own number and what it has beside its view, and has these slots
+  pub record HasMoved (e : Event) (slots : List (ℕ × Slot M ghosts)) (old new : Seat (Slot M ghosts) (Known Beside)) (n : ℕ) : Type 0 where
+    pub belongs : BelongsTo t new
+    pub id : new.id ≡ old.id
+    pub view : new.me.0.view ≡ view_after t.setup e old.me.0.view n
+    pub beside : new.me.0.beside ≡ old.me.0.beside
+    pub made : new.me.0.made ≡ e ∷ old.me.0.made
+    pub slots_are : new.me.1 ≡ slots
+    pub told : IsTold t.setup e old.me.0.view n
+
+  -- the slot that the seat took last is that of its thread's next box, and empty
+  abbrev pub HasNextBox : Seat (Slot M ghosts) (Known Beside) → Type 0
+  HasNextBox s = s.me.1 ≡ (next_box t.setup s.me.0.view, Empty) ∷ rest s.me.1
+
+  -- the seat made the event, found the number n, and took the slot of its thread's next box, which is empty
+  abbrev pub TookBox : Event → Seat (Slot M ghosts) (Known Beside) → Seat (Slot M ghosts) (Known Beside) → ℕ → Type 0
+  TookBox e old new n = HasMoved e ((next_box t.setup old.me.0.view, Empty) ∷ old.me.1) old new n
+
+  -- the seat made the event, and gave the slot that it took last
+  abbrev pub GaveBox : Event → Seat (Slot M ghosts) (Known Beside) → Seat (Slot M ghosts) (Known Beside) → Type 0
+  GaveBox e old new = HasMoved e (rest old.me.1) old new 0

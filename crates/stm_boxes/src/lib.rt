@@ -1,0 +1,7 @@
+//! The steps of running transactions that move the slots of boxes: a number is drawn, and its record
+//! is posted.
+#![tactic(auto)]
+
+mod boxes;
+
+pub use boxes::{draw, post};

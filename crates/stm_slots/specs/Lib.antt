@@ -1,0 +1,12 @@
+pub mod Beside
+pub mod Stage
+pub mod Opening
+pub mod Queues
+pub mod Lists
+pub mod Pages
+pub mod Rule
+pub mod QuietSteps
+pub mod Opened
+pub mod KeptBack
+pub mod Closed
+pub mod Turns
