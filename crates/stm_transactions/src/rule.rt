@@ -12,7 +12,7 @@ use tx_commit::lost::Lost;
 use tx_commit::served::Served;
 use tx_reading::pinned::Pinned;
 
-/// A rule of slots whose fact outlasts all steps of passes and transactions.
+/// A rule of slots whose fact outlasts the steps of passes and transactions, but for the draw and the post of a number.
 pub trait TransactionRule<S, X, K>: SlotRule<S, X, K> {
     ghost use Rattle.std.specs.Prelude.{◌≡◌};
     ghost use Rattle.core_table.specs.Layout.{TableSight};
@@ -71,7 +71,6 @@ impl<S> CommitRule<S, (), Terms> for AnySlots {
         pinned: &Option<Pinned>,
         served: &Served,
     ) -> Result<u64, Lost> {
-        let_transact(stm);
         commit_all(stm, seat, commit, pinned, served)
     }
 }

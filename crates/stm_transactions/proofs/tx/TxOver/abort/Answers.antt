@@ -13,7 +13,7 @@ returns g c =
     let v = t.seat.me.0.view in
     let s = c.give_up.new.seat in
     let e = c.give_up.ensures.ended in
-    let pass : c.put_seat.new.self ≡ is_given s (with_refusals t.refused t.numbers) = c.put_seat.ensures ∙ ap (λ (f : PassNumbers). is_given s f) c.refuse.ensures in
+    let pass : c.put_seat.new.self ≡ is_given s (with_refusals t.refused t.numbers) = c.put_seat.ensures ∙ ap (λ (f : PassNumbers). is_given s f) {y = with_refusals t.refused t.numbers} c.refuse.ensures in
     subst (λ p. HasAborted t p) (sym pass) (record {
       rests = rests_with t.stm.now.events s t.refused t.numbers v c.give_up.ensures.stays.belongs e.idle e.turn t.running.no_turn (describes_ended z t.numbers v t.describes s.me.0.view e);
       ended = e;

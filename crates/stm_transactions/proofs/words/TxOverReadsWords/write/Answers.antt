@@ -1,5 +1,6 @@
 use Rattle.std.proofs.Common.{List, sym, subst, rules}
 use Rattle.dude_base.specs.declared.write.Write.{Write}
+use Rattle.dude_base.specs.Writes.{put_write}
 use Rattle.word_space.proofs.Meets.{shown_write}
 use Rattle.tx_reading.specs.Pairs.{pairs_of}
 use Rattle.tx_reading.specs.Pins.{pin_list}
@@ -16,7 +17,7 @@ own_lock-requires-clause-room g c =
 pub invariant_of-self-2-clause-running : goal.invariant_of-self-2-clause-running
 invariant_of-self-2-clause-running g c =
     let t = c.args.self.now in
-    subst (λ (ws : List Write). IsRunning t.stm.now.events.setup t.numbers.thread c.own_lock.new.snapshot t.lists.items.items ws (pairs_of c.own_lock.new.held) (pin_list t.pinned) c.own_lock.new.seat.me.0.view) (sym c.note.ensures)
+    subst (λ (ws : List Write). IsRunning t.stm.now.events.setup t.numbers.thread c.own_lock.new.snapshot t.lists.items.items ws (pairs_of c.own_lock.new.held) (pin_list t.pinned) c.own_lock.new.seat.me.0.view) {x = put_write t.writes (record { at = c.args.at; value = c.args.value })} (sym c.note.ensures)
     (running_write t.stm.now.events.setup t.numbers.thread t.snapshot t.lists.items.items t.writes t.held (pin_list t.pinned) t.seat.me.0.view t.running c.args.at c.args.value c.own_lock.new.held c.own_lock.new.snapshot c.own_lock.new.seat.me.0.view c.requires.inside c.if-is_wide.ensures c.in_default.ensures.ok.0 (rw c.locks-locks.ensures at c.in_default.ensures.ok.1))
 
 pub returns-clause-shown : goal.returns-clause-shown
