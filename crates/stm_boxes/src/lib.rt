@@ -2,6 +2,7 @@
 //! is posted.
 #![tactic(auto)]
 
+pub mod box_rule;
 mod boxes;
 
 pub use boxes::{draw, post};
