@@ -1,6 +1,5 @@
 -- What a step on a box, or a draw for one, leaves of the seat that makes it.
 use Rattle.std.specs.Prelude.{◌≡◌, ℕ, List, [], ◌∷◌, ◌++◌, map}
-use Rattle.pmem_trait.specs.declared.medium.Medium.{Ghosts}
 use Rattle.atomic_table.specs.Table.{rest}
 use Rattle.atomic_table.specs.declared.shared.Seat.{Seat}
 use Rattle.core_events.specs.Setups.{Setup}
@@ -10,10 +9,6 @@ use Rattle.core_events.specs.Telling.{IsTold}
 use Rattle.core_table.specs.Known.{Known}
 use Rattle.core_table.specs.Layout.{TableSight}
 use Rattle.core_table.specs.Steps.{BelongsTo}
-use Rattle.stm_slots.specs.Beside.{Beside}
-use Rattle.stm_slots.specs.declared.slot.Slot.{Slot}
-use Rattle.stm_slots.specs.declared.slot.Slot.TheVariants.{Empty}
-use Rattle.stm_slots.specs.declared.opening.Opening.{Opening}
 
 -- these slots, and before them that of the thread's next box, where it is taken: it holds what is taken
 abbrev pub with_box : {S : Type 0} → List S → Setup → View → List (ℕ × S) → List (ℕ × S)
@@ -46,16 +41,3 @@ module _ {S X K : Type 0} where
   -- the seat made the event, and gave that slot
   abbrev pub GivesBox : List S → TableSight K → Event → Seat S (Known X) → Seat S (Known X) → Type 0
   GivesBox taken t e old new = HasMoved t e (without_box taken old.me.1) old new 0
-
-module _ {M : Type 0} {ghosts : Ghosts M} (t : TableSight (Opening M ghosts)) where
-  -- the slot that the seat took last is that of its thread's next box, and empty
-  abbrev pub HasNextBox : Seat (Slot M ghosts) (Known Beside) → Type 0
-  HasNextBox s = s.me.1 ≡ (next_box t.setup s.me.0.view, Empty) ∷ rest s.me.1
-
-  -- the seat made the event, found the number n, and took the slot of its thread's next box, which is empty
-  abbrev pub TookBox : Event → Seat (Slot M ghosts) (Known Beside) → Seat (Slot M ghosts) (Known Beside) → ℕ → Type 0
-  TookBox e old new n = HasMoved t e ((next_box t.setup old.me.0.view, Empty) ∷ old.me.1) old new n
-
-  -- the seat made the event, and gave the slot that it took last
-  abbrev pub GaveBox : Event → Seat (Slot M ghosts) (Known Beside) → Seat (Slot M ghosts) (Known Beside) → Type 0
-  GaveBox e old new = HasMoved t e (rest old.me.1) old new 0

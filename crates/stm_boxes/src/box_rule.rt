@@ -1,18 +1,10 @@
 //! What a draw and a post do with the slots of boxes, by the rule of the slots.
 
-ghost use Rattle.core_table.specs.Steps.{MayStep};
-ghost use Rattle.stm_steps.specs.Abouts.{drawing};
-
 use core_table::event_table::Seat;
 use core_table::slot_rule::{AnySlots, SlotRule};
 use core_table::terms::Terms;
 use dude_base::redo::Redo;
 use dude_base::write_list::WriteList;
-use pmem_trait::Medium;
-use stm_slots::beside::Beside;
-use stm_slots::opening::Opening;
-use stm_slots::slot::Slot;
-use stm_slots::slots_rule::KeptSlots;
 use stm_steps::stm::Stm;
 use tatp_model::reply::Reply;
 use tatp_model::request::Request;
@@ -82,34 +74,5 @@ impl<S> BoxRule<S, (), Terms> for AnySlots {
         redo: Redo,
     ) {
         stm.post(seat, thread, place, redo.number());
-    }
-}
-
-impl<M: Medium> BoxRule<Slot<M>, Beside, Opening<M>> for KeptSlots<M> {
-    ghost use Rattle.std.specs.Prelude.{[], ◌∷◌};
-    ghost use Rattle.stm_slots.specs.declared.slot.Slot.TheVariants.{Empty};
-
-    ghost taken = { Empty ∷ [] };
-
-    fn draw(
-        stm: &Stm<Slot<M>, Beside, Opening<M>, Self>,
-        seat: &mut Seat<Slot<M>, Beside>,
-        file: u64,
-        index: u64,
-        request: &Request,
-        reply: &Reply,
-        writes: &WriteList,
-    ) -> u64 {
-        crate::boxes::draw(&stm.events, seat, file, index, request, reply, writes)
-    }
-
-    fn post(
-        stm: &Stm<Slot<M>, Beside, Opening<M>, Self>,
-        seat: &mut Seat<Slot<M>, Beside>,
-        thread: u64,
-        place: u64,
-        redo: Redo,
-    ) {
-        crate::boxes::post(&stm.events, seat, thread, place, redo);
     }
 }

@@ -4,5 +4,3 @@
 
 pub mod box_rule;
 mod boxes;
-
-pub use boxes::{draw, post};

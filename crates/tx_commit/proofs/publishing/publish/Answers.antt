@@ -1,4 +1,4 @@
-use Rattle.std.proofs.Common.{◌≡◌, ap, ◌∙◌}
+use Rattle.std.proofs.Common.{ap, ◌∙◌}
 use Rattle.core_events.specs.Views.{View}
 use Rattle.core_events.specs.Events.{next_box}
 use Rattle.tx_commit.specs.Ends.{about_of}
