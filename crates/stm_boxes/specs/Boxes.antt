@@ -1,21 +1,27 @@
 -- What a step on a box, or a draw for one, leaves of the seat that makes it.
-use Rattle.std.specs.Prelude.{◌≡◌, ℕ, List, ◌∷◌}
-use Rattle.pmem_trait.specs.declared.medium.Medium.{Ghosts}
+use Rattle.std.specs.Prelude.{◌≡◌, ℕ, List, [], ◌∷◌, ◌++◌, map}
 use Rattle.atomic_table.specs.Table.{rest}
 use Rattle.atomic_table.specs.declared.shared.Seat.{Seat}
+use Rattle.core_events.specs.Setups.{Setup}
+use Rattle.core_events.specs.Views.{View}
 use Rattle.core_events.specs.Events.{Event, next_box, view_after}
 use Rattle.core_events.specs.Telling.{IsTold}
 use Rattle.core_table.specs.Known.{Known}
 use Rattle.core_table.specs.Layout.{TableSight}
 use Rattle.core_table.specs.Steps.{BelongsTo}
-use Rattle.stm_slots.specs.Beside.{Beside}
-use Rattle.stm_slots.specs.declared.slot.Slot.{Slot}
-use Rattle.stm_slots.specs.declared.slot.Slot.TheVariants.{Empty}
-use Rattle.stm_slots.specs.declared.opening.Opening.{Opening}
 
-module _ {M : Type 0} {ghosts : Ghosts M} (t : TableSight (Opening M ghosts)) where
+-- these slots, and before them that of the thread's next box, where it is taken: it holds what is taken
+abbrev pub with_box : {S : Type 0} → List S → Setup → View → List (ℕ × S) → List (ℕ × S)
+with_box taken z v slots = map (λ x. (next_box z v, x)) taken ++ slots
+
+-- the slots without that of the next box, where it was taken
+abbrev pub without_box : {S : Type 0} → List S → List (ℕ × S) → List (ℕ × S)
+without_box [] slots = slots
+without_box (x ∷ taken) slots = without_box taken (rest slots)
+
+module _ {S X K : Type 0} where
   -- The seat made the event, which found the number n; it keeps its own number and what it has beside its view, and has these slots
-  pub record HasMoved (e : Event) (slots : List (ℕ × Slot M ghosts)) (old new : Seat (Slot M ghosts) (Known Beside)) (n : ℕ) : Type 0 where
+  pub record HasMoved (t : TableSight K) (e : Event) (slots : List (ℕ × S)) (old new : Seat S (Known X)) (n : ℕ) : Type 0 where
     pub belongs : BelongsTo t new
     pub id : new.id ≡ old.id
     pub view : new.me.0.view ≡ view_after t.setup e old.me.0.view n
@@ -24,14 +30,14 @@ module _ {M : Type 0} {ghosts : Ghosts M} (t : TableSight (Opening M ghosts)) wh
     pub slots_are : new.me.1 ≡ slots
     pub told : IsTold t.setup e old.me.0.view n
 
-  -- the slot that the seat took last is that of its thread's next box, and empty
-  abbrev pub HasNextBox : Seat (Slot M ghosts) (Known Beside) → Type 0
-  HasNextBox s = s.me.1 ≡ (next_box t.setup s.me.0.view, Empty) ∷ rest s.me.1
+  -- the seat has the slot of its thread's next box, where a draw takes it
+  abbrev pub HasBox : List S → TableSight K → Seat S (Known X) → Type 0
+  HasBox taken t s = s.me.1 ≡ with_box taken t.setup s.me.0.view (without_box taken s.me.1)
 
-  -- the seat made the event, found the number n, and took the slot of its thread's next box, which is empty
-  abbrev pub TookBox : Event → Seat (Slot M ghosts) (Known Beside) → Seat (Slot M ghosts) (Known Beside) → ℕ → Type 0
-  TookBox e old new n = HasMoved e ((next_box t.setup old.me.0.view, Empty) ∷ old.me.1) old new n
+  -- the seat made the event, found the number n, and took the slot of its thread's next box, where a draw takes it
+  abbrev pub TakesBox : List S → TableSight K → Event → Seat S (Known X) → Seat S (Known X) → ℕ → Type 0
+  TakesBox taken t e old new n = HasMoved t e (with_box taken t.setup old.me.0.view old.me.1) old new n
 
-  -- the seat made the event, and gave the slot that it took last
-  abbrev pub GaveBox : Event → Seat (Slot M ghosts) (Known Beside) → Seat (Slot M ghosts) (Known Beside) → Type 0
-  GaveBox e old new = HasMoved e (rest old.me.1) old new 0
+  -- the seat made the event, and gave that slot
+  abbrev pub GivesBox : List S → TableSight K → Event → Seat S (Known X) → Seat S (Known X) → Type 0
+  GivesBox taken t e old new = HasMoved t e (without_box taken old.me.1) old new 0

@@ -2,6 +2,5 @@
 //! is posted.
 #![tactic(auto)]
 
+pub mod box_rule;
 mod boxes;
-
-pub use boxes::{draw, post};

@@ -13,10 +13,11 @@ ghost use Rattle.stm_transactions.specs.Stops.{CountsStop};
 
 use crate::counting::{count_commit, done_of, has_any};
 use crate::reads::{ReadList, Reads};
-use crate::rule::{CommitRule, TransactionRule, let_transact};
+use crate::rule::{TransactionRule, let_transact};
 use core_table::event_table::Seat;
 use dude_base::write_list::WriteList;
 use std::alloc::Global;
+use stm_boxes::box_rule::BoxRule;
 use stm_passes::pass::Pass;
 use stm_passes::pass_numbers::PassNumbers;
 use stm_steps::stm::Stm;
@@ -24,7 +25,7 @@ use tatp_model::done::Done;
 use tatp_model::reply::Reply;
 use tatp_model::request::Request;
 use tx_commit::commit::Commit;
-use tx_commit::ending::give_up;
+use tx_commit::ending::{commit_all, give_up};
 use tx_commit::lost::Lost;
 use tx_commit::served::Served;
 use tx_reading::pinned::Pinned;
@@ -91,7 +92,7 @@ pub(crate) fn begin_now<'a, S, X, K, P: TransactionRule<S, X, K>>(
     }
 }
 
-impl<'a, S, X, K, P: CommitRule<S, X, K>> TxOver<'a, S, X, K, P, Reads> {
+impl<'a, S, X, K, P: TransactionRule<S, X, K> + BoxRule<S, X, K>> TxOver<'a, S, X, K, P, Reads> {
     ghost use Rattle.std.specs.Prelude.{IfOk, IfErr};
     ghost use Rattle.stm_transactions.specs.Ends.{HasCommitted, HasLostCommit, HasDrawLeft};
 
@@ -115,6 +116,7 @@ impl<'a, S, X, K, P: CommitRule<S, X, K>> TxOver<'a, S, X, K, P, Reads> {
             refused,
             lists,
         } = self;
+        let_transact(stm);
         let Reads { items } = lists;
         let commit = Commit {
             thread: numbers.thread,
@@ -130,7 +132,7 @@ impl<'a, S, X, K, P: CommitRule<S, X, K>> TxOver<'a, S, X, K, P, Reads> {
             request: q,
             reply,
         };
-        let answer = P::commit(stm, &mut seat, &commit, &pinned, &served);
+        let answer = commit_all(stm, &mut seat, &commit, &pinned, &served);
         let wrote = has_any(&writes);
         let done = done_of(&served, wrote, &answer);
         let numbers = count_commit(numbers, wrote, &answer, stm.events.boxes()).refuse(refused);

@@ -8,7 +8,7 @@ ghost use Rattle.tx_reading.specs.Owns.{OwnsHeld};
 ghost use Rattle.tx_reading.specs.Pairs.{pairs_of};
 ghost use Rattle.tx_commit.specs.Draws.{RunsPinned};
 ghost use Rattle.tx_commit.specs.Ends.{AsLost, Enters, HasEnded, IsLostBy, IsPinStop, OnlyUndoes};
-ghost use Rattle.tx_commit.specs.Rule.{OutlastsCommit, OutlastsEnding};
+ghost use Rattle.tx_commit.specs.Rule.{OutlastsEnding};
 
 use crate::commit::Commit;
 use crate::lost::Lost;
@@ -19,6 +19,7 @@ use crate::storing::{restore_all, unpin_all};
 use core_table::event_table::Seat;
 use core_table::slot_rule::SlotRule;
 use dude_base::write_list::WriteList;
+use stm_boxes::box_rule::BoxRule;
 use stm_steps::stm::Stm;
 use tx_reading::pages::let_go;
 use tx_reading::pinned::Pinned;
@@ -75,7 +76,7 @@ fn lost_of(stop: Stop) -> Lost
 /// Ends a transaction with its entry: at the snapshot where it wrote nothing, else with a number that
 /// is drawn for its writes. Where it answers what lost it, its locks have their old words, and no entry
 /// is made.
-pub fn commit_all<S, X, K, P: SlotRule<S, X, K>>(
+pub fn commit_all<S, X, K, P: BoxRule<S, X, K>>(
     stm: &Stm<S, X, K, P>,
     seat: &mut Seat<S, X>,
     commit: &Commit,
@@ -83,7 +84,7 @@ pub fn commit_all<S, X, K, P: SlotRule<S, X, K>>(
     served: &Served,
 ) -> Result<u64, Lost>
     requires seat { BelongsTo stm.now.events seat.old }
-    requires slots { OutlastsCommit P.fact stm.now.events }
+    requires slots { OutlastsEnding P.fact stm.now.events }
     requires running { RunsPinned stm.now.events commit.now pinned.now seat.old }
     requires draws { 0 < length commit.now.writes.now → 0 < seat.old.me.0.view.draws }
     requires place { seat.old.me.0.view.box.next ≡ commit.now.place }

@@ -10,7 +10,7 @@ ghost use Rattle.tx_reading.specs.Seats.{Stays};
 ghost use Rattle.tx_commit.specs.Draws.{RunsPaged};
 ghost use Rattle.tx_commit.specs.Ends.{Enters, IsLostBy};
 ghost use Rattle.tx_commit.specs.Pages.{ArePagesOf};
-ghost use Rattle.tx_commit.specs.Rule.{OutlastsCommit};
+ghost use Rattle.tx_commit.specs.Rule.{OutlastsEnding};
 
 use crate::commit::Commit;
 use crate::lost::Lost;
@@ -19,14 +19,15 @@ use crate::settling::settle;
 use crate::storing::{restore_all, unpin_all};
 use crate::validating::validate;
 use core_table::event_table::Seat;
-use core_table::slot_rule::SlotRule;
+use dude_base::redo::Redo;
 use dude_base::write_list::WriteList;
+use stm_boxes::box_rule::BoxRule;
 use stm_steps::stm::Stm;
 use tx_reading::bad_lock::BadLock;
 
 /// Draws a number for the writes, whose pages are pinned, checks the reads, and makes the writes. Where the lock of a read
 /// isn't good all locks get their old words, and the number is posted as void: `Conflict`.
-pub fn publish<S, X, K, P: SlotRule<S, X, K>>(
+pub fn publish<S, X, K, P: BoxRule<S, X, K>>(
     stm: &Stm<S, X, K, P>,
     seat: &mut Seat<S, X>,
     commit: &Commit,
@@ -34,7 +35,7 @@ pub fn publish<S, X, K, P: SlotRule<S, X, K>>(
     frames: &WriteList,
 ) -> Result<u64, Lost>
     requires seat { BelongsTo stm.now.events seat.old }
-    requires slots { OutlastsCommit P.fact stm.now.events }
+    requires slots { OutlastsEnding P.fact stm.now.events }
     requires running { RunsPaged stm.now.events commit.now frames.now seat.old }
     requires some { 0 < length commit.now.writes.now }
     requires draws { 0 < seat.old.me.0.view.draws }
@@ -44,7 +45,8 @@ pub fn publish<S, X, K, P: SlotRule<S, X, K>>(
     ensures ok { IfOk result (Enters served.now commit.now stm.now.events seat.old seat.new) }
     ensures err { IfErr result (IsLostBy commit.now stm.now.events seat.old seat.new) }
 {
-    let number = stm.draw(
+    let number = P::draw(
+        stm,
         seat,
         served.file,
         served.index,
@@ -61,7 +63,7 @@ pub fn publish<S, X, K, P: SlotRule<S, X, K>>(
     ) {
         restore_all(stm, seat, commit.held);
         unpin_all(stm, seat, frames);
-        stm.post(seat, commit.thread, commit.place, number);
+        P::post(stm, seat, commit.thread, commit.place, Redo::new(number));
         return Err(Lost::Conflict { lock, seen, number });
     }
     settle(stm, seat, commit, number, frames);

@@ -2,19 +2,20 @@
 
 ghost use Rattle.std.specs.Prelude.{◌≡◌};
 ghost use Rattle.core_table.specs.Steps.{BelongsTo};
-ghost use Rattle.tx_reading.specs.Seats.{Stays};
-ghost use Rattle.tx_commit.specs.Rule.{OutlastsCommit};
+ghost use Rattle.stm_boxes.specs.Boxes.{HasBox};
+ghost use Rattle.tx_commit.specs.Rule.{GivesBack, OutlastsEnding};
 ghost use Rattle.tx_commit.specs.Settles.{Decides, IsPosted};
 
 use crate::commit::Commit;
 use crate::storing::{release_all, store_all, touch_all, unpin_all};
 use core_table::event_table::Seat;
-use core_table::slot_rule::SlotRule;
+use dude_base::redo::Redo;
 use dude_base::write_list::WriteList;
+use stm_boxes::box_rule::BoxRule;
 use stm_steps::stm::Stm;
 
 /// Decides the number, makes its writes, and posts it.
-pub fn settle<S, X, K, P: SlotRule<S, X, K>>(
+pub fn settle<S, X, K, P: BoxRule<S, X, K>>(
     stm: &Stm<S, X, K, P>,
     seat: &mut Seat<S, X>,
     commit: &Commit,
@@ -22,10 +23,11 @@ pub fn settle<S, X, K, P: SlotRule<S, X, K>>(
     frames: &WriteList,
 )
     requires seat { BelongsTo stm.now.events seat.old }
-    requires slots { OutlastsCommit P.fact stm.now.events }
+    requires slots { OutlastsEnding P.fact stm.now.events }
     requires may { Decides commit.now number frames.now stm.now.events seat.old }
     requires place { seat.old.me.0.view.box.next ≡ commit.now.place }
-    ensures stays { Stays stm.now.events seat.old seat.new }
+    requires slot { HasBox P.taken stm.now.events seat.old }
+    ensures gives { GivesBack P.taken stm.now.events seat.old seat.new }
     ensures posted { IsPosted stm.now.events.setup seat.old.me.0.view seat.new.me.0.view }
 {
     let newest = commit.held.get(commit.held.len() - 1);
@@ -34,5 +36,11 @@ pub fn settle<S, X, K, P: SlotRule<S, X, K>>(
     touch_all(stm, seat, number, frames);
     release_all(stm, seat, number, commit.held);
     unpin_all(stm, seat, frames);
-    stm.post(seat, commit.thread, commit.place, number);
+    P::post(
+        stm,
+        seat,
+        commit.thread,
+        commit.place,
+        Redo::of(number, commit.writes.copy()),
+    );
 }

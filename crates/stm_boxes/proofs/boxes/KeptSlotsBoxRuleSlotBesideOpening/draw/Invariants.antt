@@ -1,6 +1,6 @@
 use Rattle.std.proofs.Common.{◌∷◌}
 use Rattle.core_events.specs.Events.{next_box}
-use Rattle.stm_boxes.proofs.boxes.draw.Given as goal
+use Rattle.stm_boxes.proofs.boxes.KeptSlotsBoxRuleSlotBesideOpening.draw.Given as goal
 use Rattle.stm_slots.specs.Turns.{Moved}
 use Rattle.stm_slots.specs.declared.slot.Slot.TheVariants.{Empty}
 use Rattle.stm_steps.specs.Abouts.{drawing}

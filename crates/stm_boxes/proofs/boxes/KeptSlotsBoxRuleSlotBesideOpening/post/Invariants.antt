@@ -1,6 +1,6 @@
 use Rattle.atomic_table.specs.Table.{rest}
 use Rattle.core_events.specs.Events.{post}
-use Rattle.stm_boxes.proofs.boxes.post.Given as goal
+use Rattle.stm_boxes.proofs.boxes.KeptSlotsBoxRuleSlotBesideOpening.post.Given as goal
 use Rattle.stm_slots.specs.Turns.{Moved}
 
 abbrev pub ghosts-store_by : goal.ghosts-store_by
