@@ -148,3 +148,20 @@ module _ {M : Type 0} {ghosts : Ghosts M} (sight : M → Sight) (t : TableSight 
     pub alive : (state_of h.back).dead ≡ false
     pub durable : (state_of h.back).log.durable ≡ n
     pub reached : IsReached (setup_of sight t.key).first turn.holding.records n
+
+-- ---- what a call of the back leaves
+module _ {M : Type 0} {ghosts : Ghosts M} where
+  -- the number is announced, and the view knows it as durable
+  pub record TellsDurable (seat : Seat (Slot M ghosts) (Known Beside)) (h : TheHome M ghosts) (n : ℕ) : Type 0 where
+    pub is : IsAnnounced (state_of h.back) n
+    pub durable : seat.me.0.view.turn.durable ≡ n
+
+  -- all up to the number is announced and in the home
+  pub record EndsSettled (seat : Seat (Slot M ghosts) (Known Beside)) (h : TheHome M ghosts) (n : ℕ) : Type 0 where
+    pub is : IsAnnounced (state_of h.back) n
+    pub reproduced : (state_of h.back).log.reproduced ≡ n
+    pub durable : seat.me.0.view.turn.durable ≡ n
+
+-- where the view drew the number behind n, that one is no less than each below which all was handed over
+abbrev pub NextIsNoLess : {S : Type 0} → Seat S (Known Beside) → ℕ → Type 0
+NextIsNoLess seat n = (b : Option ℕ) → HandedBelow seat.me.0 b → has seat.me.0.view.drawn (n + 1) ≡ true → IsNoLess b (n + 1)

@@ -3,6 +3,7 @@
 #![tactic(auto)]
 
 pub mod boxes;
+pub mod calls;
 pub mod raises;
 pub mod slots;
 pub mod turn;
