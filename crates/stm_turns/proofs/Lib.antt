@@ -1,3 +1,4 @@
 pub mod Holdings
 pub mod Seats
 pub mod Calling
+pub mod Pumping

@@ -1,3 +1,4 @@
 pub mod Holding
 pub mod Told
 pub mod Turns
+pub mod Pump

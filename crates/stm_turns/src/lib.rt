@@ -4,6 +4,11 @@
 
 pub mod boxes;
 pub mod calls;
+pub mod front;
+pub mod pump;
+pub mod pump_fault;
+pub mod pumped;
 pub mod raises;
+pub mod settle;
 pub mod slots;
 pub mod turn;
