@@ -11,7 +11,7 @@ use Rattle.dude_base.specs.Records.{RedoBundle, RedoRecord, bundle_of, first_of}
 use Rattle.dude_base.specs.declared.limits.TheConstants.{PAGE}
 use Rattle.pmem_trait.specs.Sights.{Sight}
 use Rattle.pmem_trait.specs.declared.medium.Medium.{Ghosts}
-use Rattle.redo_record.specs.Waiting.{Waiting, IsEnd as IsAnyEnd}
+use Rattle.redo_record.specs.Waiting.{IsEnd as IsAnyEnd}
 use Rattle.log_waiting.specs.Backlog.{StopsAfter}
 use Rattle.log_waiting.proofs.ReleasedRecords.{released_waiting}
 use Rattle.back_store.specs.declared.back.Back.{Back}
@@ -34,7 +34,6 @@ use Rattle.known_back.proofs.Lawful.{end_of, may_persist}
 use Rattle.stm_slots.specs.Beside.{Hands, Beside}
 use Rattle.stm_slots.specs.Opening.{setup_of, since_of}
 use Rattle.stm_slots.specs.Lists.{IsSettled}
-use Rattle.stm_slots.specs.Queues.{place_at}
 use Rattle.stm_slots.specs.Turns.{IsHanded, IsTaken, MayBeHanded}
 use Rattle.stm_slots.specs.declared.home.Home.{Home as TheHome}
 use Rattle.stm_slots.specs.declared.slot.Slot.{Slot}
@@ -168,14 +167,17 @@ module _ {M : Type 0} {ghosts : Ghosts M} (sight : M → Sight) (t : TableSight 
 
   pub in_hand_on : (v w : BackState) (rs : List RedoRecord) (hand : Option (ℕ × RedoRecord)) → GoesOn z.threads v w → IsInHand z (lists v rs) hand → IsInHand z (lists w rs) hand
   in_hand_on v w rs None goes h = tt
-  in_hand_on v w rs (Some p) goes h = (h.0, record {
-    list = h.1.list;
-    home = h.1.home;
-    over = h.1.over;
-    small = h.1.small;
-    lacks = λ alive. h.1.lacks (goes.alive alive);
-    newest = λ alive. none_newer (waiting_of_ring w p.0) p.1.number (λ q among. All-contains (λ (b : RedoBundle). b.last < p.1.number) (waiting_of_ring v p.0) q (h.1.newest (goes.alive alive)) (goes.waits alive p.0 q h.0 among));
-  })
+  in_hand_on v w rs (Some p) goes h = (
+    h.0,
+    record {
+      list = h.1.list;
+      home = h.1.home;
+      over = h.1.over;
+      small = h.1.small;
+      lacks = λ alive. h.1.lacks (goes.alive alive);
+      newest = λ alive. none_newer (waiting_of_ring w p.0) p.1.number (λ q among. All-contains (λ (b : RedoBundle). b.last < p.1.number) (waiting_of_ring v p.0) q (h.1.newest (goes.alive alive)) (goes.waits alive p.0 q h.0 among));
+    },
+  )
 
   module _ (seat : TurnSeat) (h : TheHome M ghosts) (hand : Option (ℕ × RedoRecord)) (i : InTurn sight t seat h hand) where
     -- a call that hands over nothing

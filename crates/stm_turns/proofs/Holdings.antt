@@ -1,9 +1,9 @@
 -- What the holder of the turn has from one of its steps to the next.
 use Rattle.std.proofs.Common.{◌≡◌, ℕ, ◌<◌, ◌≤◌, ◌⊎◌, Bool, true, false, List, [], ◌∷◌, All, map, length, get_or, set, refl, sym, ap, ◌∙◌, subst, inl, inr, ⊎_elim, arith}
 use Rattle.std.specs.Prelude.{Option, Some, None}
-use mathlib.Core.Option.{Option as Maybe, some, some-injective}
+use mathlib.Core.Option.{Option as Maybe, some}
 use lib.ListN.{get_elem?}
-use Rattle.std.proofs.lemmas.Bool.{true≢false, false≢true}
+use Rattle.std.proofs.lemmas.Bool.{false≢true}
 use Rattle.dude_base.specs.Records.{RedoRecord}
 use Rattle.pmem_trait.specs.Sights.{Sight}
 use Rattle.pmem_trait.specs.declared.medium.Medium.{Ghosts}
@@ -90,8 +90,8 @@ module _ {M : Type 0} {ghosts : Ghosts M} (sight : M → Sight) (o : Opening M g
       let first : word_at z boxes t j 0 ≡ get_or boxes (box_of z t j) 0 = ap (λ p. get_or boxes (box_of z t p) 0) (place_here z j queue.start) in
       dite (dec_lt k count)
       (λ below. let full = queue.full 0 (omega arith) in dite (dec_lt 0 k)
-          (λ far. let up = queue.rising 0 k far below in ((omega arith), (omega arith)))
-          (λ here. let same : word_at z boxes t j k ≡ word_at z boxes t j 0 = ap (word_at z boxes t j) (let e : k ≡ 0 = omega arith in e) in ((omega arith), (omega arith))))
+      (λ far. let up = queue.rising 0 k far below in ((omega arith), (omega arith)))
+      (λ here. let same : word_at z boxes t j k ≡ word_at z boxes t j 0 = ap (word_at z boxes t j) (let e : k ≡ 0 = omega arith in e) in ((omega arith), (omega arith))))
       (λ over. absurd (let none = queue.free k (omega arith) way.1 in omega arith))
 
   -- a number that a view without an open number drew was handed over, or stands in a box of its thread

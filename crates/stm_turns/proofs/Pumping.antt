@@ -5,7 +5,6 @@ use Rattle.pmem_trait.specs.Sights.{Sight}
 use Rattle.pmem_trait.specs.declared.medium.Medium.{Ghosts}
 use Rattle.back_store.specs.BackView.{state_of}
 use Rattle.atomic_table.specs.declared.shared.Seat.{Seat}
-use Rattle.core_events.specs.Setups.{Setup}
 use Rattle.core_events.specs.Views.{View}
 use Rattle.core_events.specs.Events.{take_turn, give_turn, view_after}
 use Rattle.core_table.specs.Known.{Known}

@@ -147,9 +147,9 @@ module _ {M : Type 0} {ghosts : Ghosts M} (sight : M → Sight) (t : TableSight 
         let same : s.redo ≡ r = same_record mid.me.1 old.me.1 (rest mid.me.1) k slot s.redo r s.slots was in
         let out : new.me.1 ≡ (k, Empty) ∷ old.me.1 = laid_in mid.me new.me slot k Empty (Record s.redo) old.me.1 me s.slots is_slot in
         subst (λ (a : RedoRecord). Stepped sight t old new h (Some (thread, a))) same
-            (went_turn old new h h None (Some (thread, s.redo)) look new.me.1 n i.belongs i.setup i.holding
-            (looked new ((k, s.redo) ∷ []) (ap (λ (b : Beside). b.turn) s.beside) (ap (λ (a : Seated M ghosts). a.0) me)) refl refl refl refl i.holding.places i.holding.wide (table2 ∙ table) (id2 ∙ id)
-            (out ∙ ap (λ (l : List (ℕ × Slot M ghosts)). (k, Empty) ∷ l) i.slots) (inside, s.may))
+        (went_turn old new h h None (Some (thread, s.redo)) look new.me.1 n i.belongs i.setup i.holding
+        (looked new ((k, s.redo) ∷ []) (ap (λ (b : Beside). b.turn) s.beside) (ap (λ (a : Seated M ghosts). a.0) me)) refl refl refl refl i.holding.places i.holding.wide (table2 ∙ table) (id2 ∙ id)
+        (out ∙ ap (λ (l : List (ℕ × Slot M ghosts)). (k, Empty) ∷ l) i.slots) (inside, s.may))
 
     -- the own thread, which has no open number
     pub saw_drawn_none : n ≡ 0 → old.me.0.view.part.thread ≡ Some thread → old.me.0.view.tx.hand.number ≡ 0 → HandedBelow mid.me.0 None
@@ -205,8 +205,8 @@ module _ {M : Type 0} {ghosts : Ghosts M} (sight : M → Sight) (t : TableSight 
         let after : ℕ = place_at z (get_or h.next thread 0) 1 in
         let below : after < z.boxes = place_inside z (get_or h.next thread 0) 1 (q.holding.places thread q.inside) (let p = q.holding.places thread q.inside in omega arith) in
         let places : (u : ℕ) → u < z.threads → get_or (set h.next thread after) u 0 < z.boxes = (λ u lt. dite (ℕ_discrete u thread)
-            (λ e. let is : get_or (set h.next thread after) u 0 ≡ after = ap (λ (d : ℕ). get_or (set h.next thread after) d 0) e ∙ get_or-set_same h.next thread after 0 (let w = q.holding.wide in let l = q.inside in omega arith) in omega arith)
-            (λ o. let is : get_or (set h.next thread after) u 0 ≡ get_or h.next u 0 = get_or-set_other h.next thread u after 0 o in let p = q.holding.places u lt in omega arith)) in
+        (λ e. let is : get_or (set h.next thread after) u 0 ≡ after = ap (λ (d : ℕ). get_or (set h.next thread after) d 0) e ∙ get_or-set_same h.next thread after 0 (let w = q.holding.wide in let l = q.inside in omega arith) in omega arith)
+        (λ o. let is : get_or (set h.next thread after) u 0 ≡ get_or h.next u 0 = get_or-set_other h.next thread u after 0 o in let p = q.holding.places u lt in omega arith)) in
         went_turn old new h h2 (Some (thread, r)) None (empty_box thread (get_or h.next thread 0)) (rest old.me.1) 0 q.belongs q.setup q.holding went back refl refl refl
         (subst (λ (l : List ℕ). (u : ℕ) → u < z.threads → get_or l u 0 < z.boxes) (sym next) places)
         (subst (λ (l : List ℕ). z.threads ≤ length l) (sym next) (let w = q.holding.wide in let e = length-set h.next thread after in omega arith))

@@ -1,6 +1,5 @@
 -- What a turn that persists what boxes have leaves of the seat that has it.
-use Rattle.std.specs.Prelude.{◌≡◌, ◌≢◌, ℕ, Bool, true, false, Option, None}
-use Rattle.dude_base.specs.Records.{RedoRecord}
+use Rattle.std.specs.Prelude.{◌≡◌, ◌≢◌, Bool, true, false, None}
 use Rattle.pmem_trait.specs.Sights.{Sight}
 use Rattle.pmem_trait.specs.declared.medium.Medium.{Ghosts}
 use Rattle.back_store.specs.BackView.{state_of}

@@ -7,11 +7,10 @@ use Rattle.back_store.specs.BackView.{medium_of, state_of}
 use Rattle.core_events.specs.Keyed.{has}
 use Rattle.core_events.specs.Events.{Event, view_after}
 use Rattle.core_events.specs.Telling.{IsSeated}
-use Rattle.core_table.specs.Known.{Known}
 use Rattle.known_back.specs.Lists.{lists}
 use Rattle.known_back.specs.Known.{Known as KnownBy}
 use Rattle.known_back.specs.Records.{HasRecord}
-use Rattle.stm_slots.specs.Beside.{Hands, Beside}
+use Rattle.stm_slots.specs.Beside.{Hands}
 use Rattle.stm_slots.specs.Opening.{setup_of, since_of}
 use Rattle.stm_slots.specs.Turns.{Seated, SawFull}
 use Rattle.stm_slots.specs.declared.home.Home.{Home as TheHome}

@@ -1,10 +1,10 @@
-use Rattle.std.proofs.Common.{◌≡◌, sym, ap, ◌∙◌, subst, [], ◌∷◌}
+use Rattle.std.proofs.Common.{◌≡◌, sym, ap, ◌∙◌, subst}
 use Rattle.std.specs.Prelude.{Some, Ok, Err}
 use Rattle.dude_base.specs.Records.{RedoBundle, RedoRecord}
 use Rattle.back_store.specs.Answers.{after_persist, with_record}
 use Rattle.back_store.specs.Back.{MayPersist}
 use Rattle.back_store.specs.BackView.{state_of}
-use Rattle.stm_slots.specs.Opening.{setup_of, since_of}
+use Rattle.stm_slots.specs.Opening.{setup_of}
 use Rattle.stm_turns.specs.Turns.{MayPutBack}
 use Rattle.stm_turns.proofs.Calling.{may_persist_one, taken_one, persisted_turn, persisted_failed, persisted_full}
 use Rattle.stm_turns.proofs.Seats.{same_turn}
@@ -13,8 +13,10 @@ use Rattle.stm_turns.proofs.calls.persist.Goals as goal
 pub persist-requires : goal.persist-requires
 persist-requires g c =
     let t = c.args.events.now in let h = c.args.home.now in let z = setup_of g.M.Medium.sight t.key in let i = c.requires.turn in let r = c.args.redo.now in
-    record { may = subst (MayPersist (state_of h.back) c.args.thread) (sym c.one-bundle.ensures)
-    (may_persist_one z (state_of h.back) i.holding.records i.holding.known.lawful c.requires.alive i.holding.rings i.holding.pages c.args.thread r i.in_hand.0 i.in_hand.1) }
+    record {
+      may = subst (MayPersist (state_of h.back) c.args.thread) (sym c.one-bundle.ensures)
+          (may_persist_one z (state_of h.back) i.holding.records i.holding.known.lawful c.requires.alive i.holding.rings i.holding.pages c.args.thread r i.in_hand.0 i.in_hand.1);
+    }
 
 pub empty_box-requires : goal.empty_box-requires
 empty_box-requires g c =

@@ -1,4 +1,4 @@
-use Rattle.std.proofs.Common.{◌≡◌, ◌≤◌, length, subst, arith, ℕ}
+use Rattle.std.proofs.Common.{subst, arith, ℕ}
 use Rattle.log_waiting.specs.Backlog.{StopsAfter}
 use Rattle.back_store.specs.BackView.{state_of}
 use Rattle.stm_slots.specs.Opening.{setup_of, since_of}

@@ -2,9 +2,7 @@ use Rattle.std.proofs.Common.{◌*◌, ◌∙◌, sym, refl, ap, subst, []}
 use Rattle.std.specs.Prelude.{None}
 use Rattle.core_events.specs.Events.{give_turn}
 use Rattle.core_events.specs.Setups.{Setup}
-use Rattle.core_events.specs.Telling.{IsSeated}
 use Rattle.core_table.specs.Known.{Known}
-use Rattle.core_table.specs.Steps.{BelongsTo}
 use Rattle.stm_slots.specs.Beside.{Beside}
 use Rattle.stm_slots.specs.Queues.{back_slot}
 use Rattle.stm_slots.specs.Opening.{setup_of}
