@@ -2,3 +2,4 @@ pub mod Holdings
 pub mod Seats
 pub mod Calling
 pub mod Pumping
+pub mod Starting

@@ -2,3 +2,4 @@ pub mod Holding
 pub mod Told
 pub mod Turns
 pub mod Pump
+pub mod Starts

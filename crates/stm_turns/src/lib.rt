@@ -4,7 +4,9 @@
 
 pub mod boxes;
 pub mod calls;
+pub mod closing;
 pub mod front;
+pub mod opening;
 pub mod pump;
 pub mod pump_fault;
 pub mod pumped;
