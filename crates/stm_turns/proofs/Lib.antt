@@ -3,3 +3,4 @@ pub mod Seats
 pub mod Calling
 pub mod Pumping
 pub mod Starting
+pub mod Past

@@ -1,11 +1,11 @@
 -- What contracts say of a seat that has the turn.
 use Rattle.std.specs.Prelude.{◌≡◌, ◌≢◌, ◌⊎◌, ℕ, ◌+◌, ◌-◌, ◌<◌, ltb, if◌then◌else◌, ◌≤◌, true, false, List, [], ◌∷◌, Option, Some, None, Result, Ok, Err}
 use Rattle.std.specs.List.{Contains}
-use Rattle.dude_base.specs.Records.{RedoRecord, first_of}
+use Rattle.dude_base.specs.Records.{RedoBundle, RedoRecord, first_of}
 use Rattle.pmem_trait.specs.Sights.{Sight}
 use Rattle.pmem_trait.specs.declared.medium.Medium.{Ghosts}
 use Rattle.redo_record.specs.Waiting.{Waiting}
-use Rattle.back_store.specs.Back.{BackState, waiting_now}
+use Rattle.back_store.specs.Back.{BackState, waiting_now, waiting_of_ring}
 use Rattle.back_store.specs.BackView.{state_of}
 use Rattle.back_store.specs.declared.back_fault.BackFault.{BackFault}
 use Rattle.back_store.specs.declared.back_fault.BackFault.TheVariants.{RingFull, Device, Dead}
@@ -78,6 +78,10 @@ place_after boxes place = if ltb (place + 1) boxes then (place + 1) else (place 
 -- where it is the own thread that was looked at, which has no open number: what it drew below the number found was handed over
 abbrev pub LooksAtAll : {S : Type 0} → ℕ → Option RedoRecord → Seat S (Known Beside) → Seat S (Known Beside) → Type 0
 LooksAtAll thread result old new = old.me.0.view.part.thread ≡ Some thread → old.me.0.view.tx.hand.number ≡ 0 → HandedBelow new.me.0 (number_in result)
+
+-- the number is up to the durable one, or up to one that waits in the ring of the thread
+abbrev pub IsPast : BackState → ℕ → ℕ → Type 0
+IsPast v thread n = (n ≤ v.log.durable) ⊎ ((q : RedoBundle) × Contains (waiting_of_ring v thread) q × (n ≤ q.last))
 
 module _ {M : Type 0} {ghosts : Ghosts M} where
   -- the slot that a seat took last has what a back's slot has
@@ -165,3 +169,20 @@ module _ {M : Type 0} {ghosts : Ghosts M} where
 -- where the view drew the number behind n, that one is no less than each below which all was handed over
 abbrev pub NextIsNoLess : {S : Type 0} → Seat S (Known Beside) → ℕ → Type 0
 NextIsNoLess seat n = (b : Option ℕ) → HandedBelow seat.me.0 b → has seat.me.0.view.drawn (n + 1) ≡ true → IsNoLess b (n + 1)
+
+-- ---- the numbers of a thread's records rise
+-- each number that was past in the ring of the thread was less than this one, which is past now
+pub record RisesTo (m thread : ℕ) (v w : BackState) : Type 0 where
+  pub over : (low : ℕ) → IsPast v thread low → low < m
+  pub past : IsPast w thread m
+
+-- where the ring was full nothing changed, and the record isn't the next one to reproduce
+abbrev pub IsLate : Result (Unit {0}) BackFault → ℕ → BackState → BackState → Type 0
+IsLate (Err (RingFull used need)) m v w = (w ≡ v) × (v.log.reproduced + 1 < m)
+IsLate (Ok done) m v w = Unit {0}
+IsLate (Err Device) m v w = Unit {0}
+IsLate (Err Dead) m v w = Unit {0}
+
+-- what was past is so still
+abbrev pub KeepsPast : BackState → BackState → Type 0
+KeepsPast v w = (thread low : ℕ) → IsPast v thread low → IsPast w thread low

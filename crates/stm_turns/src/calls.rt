@@ -1,8 +1,8 @@
 //! The thread with the turn calls the back.
 
-ghost use Rattle.std.specs.Prelude.{◌≡◌, Some, IfOk, OnErr, true, false};
+ghost use Rattle.std.specs.Prelude.{◌≡◌, Some, IfOk, OnErr, OnOk, true, false};
 ghost use Rattle.back_store.specs.BackView.{state_of};
-ghost use Rattle.stm_turns.specs.Turns.{EndsSettled, HasHome, InTurn, IsAliveUnless, IsAnnounced, NextIsNoLess, Stepped, SteppedOn, TellsDurable, left_in};
+ghost use Rattle.stm_turns.specs.Turns.{EndsSettled, HasHome, InTurn, IsAliveUnless, IsAnnounced, IsLate, NextIsNoLess, RisesTo, Stepped, SteppedOn, TellsDurable, left_in};
 
 use crate::boxes::{empty_box, put_back};
 use crate::raises::{raise_durable, raise_reproduced};
@@ -65,6 +65,10 @@ pub fn persist<M: Medium>(
     ensures step { Stepped M.sight events.now seat.old seat.new home.new
         (left_in thread redo.now result) }
     ensures life { IsAliveUnless result (state_of home.new.back) }
+    ensures rises { OnOk result (RisesTo redo.now.number thread
+        (state_of home.old.back) (state_of home.new.back)) }
+    ensures late { IsLate result redo.now.number
+        (state_of home.old.back) (state_of home.new.back) }
 {
     let bundle = Bundle::one(redo);
     match known_back::persist(&mut home.back, thread, &bundle) {

@@ -7,6 +7,9 @@ use Rattle.back_store.specs.BackView.{state_of}
 use Rattle.stm_slots.specs.Opening.{setup_of}
 use Rattle.stm_turns.specs.Turns.{MayPutBack}
 use Rattle.stm_turns.proofs.Calling.{may_persist_one, taken_one, persisted_turn, persisted_failed, persisted_full}
+use Rattle.back_store.specs.declared.back.Back.{Back}
+use Rattle.stm_turns.specs.Turns.{RisesTo}
+use Rattle.stm_turns.proofs.Past.{rises_one, full_late}
 use Rattle.stm_turns.proofs.Seats.{same_turn}
 use Rattle.stm_turns.proofs.calls.persist.Goals as goal
 
@@ -36,3 +39,14 @@ returns-in-Err-RingFull-clause-step g c =
     same_turn sight t c.args.seat.now (record h { back = c.persist.new.back }) (Some (c.args.thread, r))
     (persisted_full sight t c.args.seat.now h c.args.thread r i c.requires.alive c.persist.new.back c.persist.result (taken_one sight t c.args.seat.now h c.args.thread r i c.requires.alive c.persist.new.back c.persist.result c.one-bundle.result c.one-bundle.ensures e.known) (subst (λ (q : RedoBundle). state_of c.persist.new.back ≡ after_persist c.persist.result c.args.thread q (state_of h.back)) c.one-bundle.ensures e.state)
     arm.used arm.need (arm.is ∙ ap (λ f. Err f) arm.field-0-is))
+
+pub returns-in-Ok-clause-rises : goal.returns-in-Ok-clause-rises
+returns-in-Ok-clause-rises g c =
+    let t = c.args.events.now in let h = c.args.home.now in let z = setup_of g.M.Medium.sight t.key in let i = c.requires.turn in let r = c.args.redo.now in
+    subst (λ (b : Back g.row.M.Denot g.M.Medium). RisesTo r.number c.args.thread (state_of h.back) (state_of b)) (sym c.empty_box.ensures.back)
+    (rises_one z (state_of h.back) i.holding.records i.holding.known.lawful c.requires.alive i.holding.rings c.args.thread r i.in_hand.0 i.in_hand.1 (state_of c.persist.new.back) (subst (λ (q : RedoBundle). state_of c.persist.new.back ≡ with_record c.args.thread q (state_of h.back)) c.one-bundle.ensures c.in-Ok.ensures.state))
+
+pub returns-in-Err-RingFull-clause-late : goal.returns-in-Err-RingFull-clause-late
+returns-in-Err-RingFull-clause-late g c =
+    let t = c.args.events.now in let h = c.args.home.now in let z = setup_of g.M.Medium.sight t.key in let i = c.requires.turn in let r = c.args.redo.now in let arm = c.in-Err-RingFull in
+    full_late z (state_of h.back) i.holding.records i.holding.known.lawful c.requires.alive i.holding.rings c.args.thread r i.in_hand.0 i.in_hand.1 c.one-bundle.result c.one-bundle.ensures c.persist.result arm.used arm.need (arm.is ∙ ap (λ f. Err f) arm.field-0-is) (state_of c.persist.new.back) c.persist.ensures.state c.persist.ensures.cause.only c.persist.ensures.cause.full
