@@ -3,7 +3,7 @@ use Rattle.std.proofs.Common.{◌≡◌, ℕ, ◌+◌, ◌<◌, ◌≤◌, List,
 use Rattle.std.specs.List.{Contains}
 use Rattle.std.proofs.lemmas.List.Elements.{All-contains}
 use mathlib.Core.Logic.{dite}
-use native.Mathlib.Decide.{ℕ_discrete, dec_le}
+use native.Mathlib.Decide.{ℕ_discrete, dec_le, dec_lt}
 use Rattle.dude_base.specs.declared.limits.TheConstants.{MAX_NUMBER, MAX_WRITES}
 use Rattle.dude_base.specs.Records.{HasNumbers, RedoBundle, first_of}
 use Rattle.redo_record.specs.Waiting.{Waiting}
@@ -31,7 +31,10 @@ use Rattle.dude_base.specs.Records.{bundle_of}
 use Rattle.back_store.specs.Answers.{with_record}
 use Rattle.known_back.proofs.JoinedRecords.{over_reached}
 use Rattle.stm_slots.specs.Turns.{MayBeHanded}
-use Rattle.stm_turns.specs.Turns.{IsPast, RisesTo}
+use Rattle.redo_record.proofs.WaitingRecords.{consecutive_up, waiting_law}
+use Rattle.back_store.specs.Back.{IsEnd}
+use Rattle.stm_slots.specs.Lists.{IsSettled}
+use Rattle.stm_turns.specs.Turns.{IsPast, KeepsPast, RisesTo}
 
 -- where cells are used something waits
 some_waits : (xs : List RedoBundle) → 0 < used_by xs → (q : RedoBundle) × Contains xs q
@@ -71,6 +74,22 @@ module _ (first : ℕ) (v : BackState) (rs : List RedoRecord) (lawful : LawfulLi
       let one = some_waits (waiting_of_ring v thread) (omega arith) in
       let over = waits_over v.log lawful.log (waiting_in thread one.0) (waits_of_ring v.log.lanes thread one.0 one.1) in
       let lt = All-contains (λ (q : RedoBundle). q.last < first_of b) (waiting_of_ring v thread) one.0 newest one.1 in omega arith
+
+module _ (first : ℕ) (v : BackState) (rs : List RedoRecord) (lawful : LawfulLists first (lists v rs)) where
+  -- an announcement keeps what is past
+  pub keeps_announced : (n : ℕ) (w : BackState) → w ≡ announced v n → v.log.durable ≤ w.log.durable → KeepsPast v w
+  keeps_announced n w is up thread low past =
+      let e = ap (λ (u : BackState). u.log.durable) is in
+      subst (λ (u : BackState). IsPast u thread low) (sym is) (past_announced first v rs lawful n thread low (omega arith) past)
+
+  -- where all was settled nothing more is announced
+  pub settled_end : (n : ℕ) → IsEnd v n → v.dead ≡ false → IsSettled v → n ≡ v.log.durable
+  settled_end n is alive settled =
+      let same = settled.numbers alive in let up = consecutive_up v.log.reproduced n is.records is.lead.consecutive in
+      dite (dec_lt v.log.reproduced n)
+      (λ lt. let w = waiting_law.covered (waiting_now v) v.log.reproduced n (v.log.reproduced + 1) is.records is.lead (omega arith) (omega arith) in
+          let over = waits_over v.log lawful.log w.0 w.1 in let low = w.2.low in absurd (settled.next alive w.0 w.1 (omega arith)))
+      (λ ge. omega arith)
 
 full_or_device : (used need : ℕ) → RingFull used need ≡ Device → ⊥
 full_or_device used need e = cc

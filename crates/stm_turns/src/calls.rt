@@ -2,7 +2,8 @@
 
 ghost use Rattle.std.specs.Prelude.{◌≡◌, Some, IfOk, OnErr, OnOk, true, false};
 ghost use Rattle.back_store.specs.BackView.{state_of};
-ghost use Rattle.stm_turns.specs.Turns.{EndsSettled, HasHome, InTurn, IsAliveUnless, IsAnnounced, IsLate, NextIsNoLess, RisesTo, Stepped, SteppedOn, TellsDurable, left_in};
+ghost use Rattle.stm_slots.specs.Lists.{IsSettled};
+ghost use Rattle.stm_turns.specs.Turns.{EndsSettled, HasHome, InTurn, IsAliveUnless, IsAnnounced, IsLate, KeepsPast, NextIsNoLess, RisesTo, Stepped, SteppedOn, TellsDurable, left_in};
 
 use crate::boxes::{empty_box, put_back};
 use crate::raises::{raise_durable, raise_reproduced};
@@ -25,6 +26,9 @@ pub fn announce<M: Medium>(
     ensures ok { IfOk result (λ n. TellsDurable seat.new home.new n) }
     // Of a number that the view drew: the next one isn't durable, since it wasn't handed over.
     ensures drawn { IfOk result (λ n. NextIsNoLess seat.old n) }
+    ensures past { OnOk result (KeepsPast (state_of home.old.back) (state_of home.new.back)) }
+    ensures same { IfOk result (λ n. IsSettled (state_of home.old.back)
+        → n ≡ (state_of home.old.back).log.durable) }
     ensures err { OnErr result ((state_of home.new.back).dead ≡ true) }
 {
     let number = known_back::announce(&mut home.back)?;
@@ -43,6 +47,7 @@ pub fn reproduce<M: Medium>(
     ensures step { SteppedOn M.sight events.now seat.old seat.new home.old home.new }
     ensures ok { IfOk result (λ n. EndsSettled seat.new home.new n) }
     ensures same { IfOk result (λ n. seat.old.me.0.view.turn.durable ≡ n) }
+    ensures past { OnOk result (KeepsPast (state_of home.old.back) (state_of home.new.back)) }
     ensures err { OnErr result ((state_of home.new.back).dead ≡ true) }
 {
     let durable = home.back.durable();

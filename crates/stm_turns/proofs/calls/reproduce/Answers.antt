@@ -3,6 +3,10 @@ use Rattle.log_waiting.specs.Backlog.{StopsAfter}
 use Rattle.back_store.specs.BackView.{state_of}
 use Rattle.stm_slots.specs.Opening.{setup_of, since_of}
 use Rattle.stm_turns.proofs.Calling.{reproduce_goes, reproduced_ok, stops_at_durable, lanes_of_threads, called_turn}
+use Rattle.back_store.specs.Back.{BackState}
+use Rattle.stm_turns.specs.Turns.{IsPast}
+use Rattle.stm_turns.proofs.Past.{past_reproduced}
+use Rattle.std.proofs.Common.{sym}
 use Rattle.stm_turns.proofs.Seats.{same_turn}
 use Rattle.stm_turns.proofs.calls.reproduce.Goals as goal
 
@@ -57,3 +61,11 @@ returns-clause-same g c =
     let i = c.requires.turn.1 in let ok = c.in_ok-number in
     let stop = subst (λ (d : ℕ). StopsAfter (state_of h.back).log d ok.number) c.durable-durable.ensures.number ok.ensures.answer in
     let n_is = stops_at_durable z.threads z.first (state_of h.back) i.holding.records i.holding.known.lawful ok.number stop in let told = c.requires.announced.durable in omega arith
+
+pub returns-clause-past : goal.returns-clause-past
+returns-clause-past g c =
+    let t = c.args.events.now in let h = c.args.home.now in let sight = g.M.Medium.sight in let a = c.reproduce in let b = a.new.back in let z = setup_of sight t.key in
+    let i = c.requires.turn.1 in let ok = c.in_ok-number in
+    let stop = subst (λ (d : ℕ). StopsAfter (state_of h.back).log d ok.number) c.durable-durable.ensures.number ok.ensures.answer in
+    let n_is = stops_at_durable z.threads z.first (state_of h.back) i.holding.records i.holding.known.lawful ok.number stop in
+    λ thread low past. subst (λ (u : BackState). IsPast u thread low) (sym ok.ensures.state) (past_reproduced z.first (state_of h.back) i.holding.records i.holding.known.lawful ok.number thread low (omega arith) past)
