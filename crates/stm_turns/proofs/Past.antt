@@ -21,7 +21,7 @@ use Rattle.log_waiting.specs.Lane.{LaneState, with_redo}
 use Rattle.std.proofs.Common.{get_or-set_same}
 use Rattle.std.proofs.lemmas.List.Elements.{Contains-push}
 use Rattle.std.specs.Prelude.{◌↔◌}
-use Rattle.std.specs.Prelude.{Result, Err, IfErr, IsErrOf}
+use Rattle.std.specs.Prelude.{Result, Ok, Err, IfErr, IsErrOf, OnOk}
 use Rattle.back_store.specs.declared.back_fault.BackFault.{BackFault}
 use Rattle.back_store.specs.declared.back_fault.BackFault.TheVariants.{RingFull, Device, Dead}
 use Rattle.back_store.specs.Back.{IsPersistFault, ring_full}
@@ -90,6 +90,11 @@ module _ (first : ℕ) (v : BackState) (rs : List RedoRecord) (lawful : LawfulLi
       (λ lt. let w = waiting_law.covered (waiting_now v) v.log.reproduced n (v.log.reproduced + 1) is.records is.lead (omega arith) (omega arith) in
           let over = waits_over v.log lawful.log w.0 w.1 in let low = w.2.low in absurd (settled.next alive w.0 w.1 (omega arith)))
       (λ ge. omega arith)
+
+-- what two calls keep, the second one where it succeeds
+pub then_past : (u v w : BackState) (result : Result ℕ BackFault) → KeepsPast u v → OnOk result (KeepsPast v w) → OnOk result (KeepsPast u w)
+then_past u v w (Ok n) a b = λ thread low past. b thread low (a thread low past)
+then_past u v w (Err fault) a b = tt
 
 full_or_device : (used need : ℕ) → RingFull used need ≡ Device → ⊥
 full_or_device used need e = cc

@@ -2,7 +2,8 @@
 
 ghost use Rattle.std.specs.Prelude.{◌≡◌, ◌≤◌, ◌<◌, None, Some, IfOk, OnOk, OnErr, true, false};
 ghost use Rattle.back_store.specs.BackView.{state_of};
-ghost use Rattle.stm_turns.specs.Turns.{EndsSettled, HasHome, InTurn, NextIsNoLess, Stepped, SteppedOn};
+ghost use Rattle.stm_slots.specs.Lists.{IsSettled};
+ghost use Rattle.stm_turns.specs.Turns.{EndsSettled, HasHome, InTurn, KeepsPast, NextIsNoLess, Stepped, SteppedOn};
 
 use crate::boxes::{put_back, see_front};
 use crate::calls::{announce, persist, reproduce};
@@ -24,6 +25,9 @@ pub fn catch_up<M: Medium>(
     ensures step { SteppedOn M.sight events.now seat.old seat.new home.old home.new }
     ensures ok { IfOk result (λ n. EndsSettled seat.new home.new n) }
     ensures drawn { IfOk result (λ n. NextIsNoLess seat.old n) }
+    ensures past { OnOk result (KeepsPast (state_of home.old.back) (state_of home.new.back)) }
+    ensures same { IfOk result (λ n. IsSettled (state_of home.old.back)
+        → n ≡ (state_of home.old.back).log.durable) }
     ensures err { OnErr result ((state_of home.new.back).dead ≡ true) }
 {
     announce(events, seat, home)?;
