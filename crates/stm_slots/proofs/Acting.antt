@@ -332,8 +332,8 @@ module _ {M : Type 0} {ghosts : Ghosts M} (sight : M → Sight) (o : Opening M g
           (λ told. record { told = told; view = refl; beside = refl; slots = refl }),
         )
 
-    pub reproduced_acts : (d : ℕ) → Acts fact z (raise_reproduced d) id me (WentOn sight o (raise_reproduced d) (record now { shown = d }) me.1 me)
-    reproduced_acts d c xs homes k allowed at f =
+    pub reproduced_acts : (d : ℕ) → d ≤ m.state.log.durable → Acts fact z (raise_reproduced d) id me (WentOn sight o (raise_reproduced d) (record now { shown = d }) me.1 me)
+    reproduced_acts d le c xs homes k allowed at f =
         let v : View = me.0.view in let x : Beside = me.0.beside in let there_v = allowed.is_there in
         let at_v = at_map owner_of c.views id v there_v in let y1 : Beside = record x { turn = Some now } in let y2 : Beside = record x { turn = Some (record now { shown = d }) } in
         let kept = now_kept c xs homes k f id v x there_v at has hands is m follows in
@@ -345,7 +345,7 @@ module _ {M : Type 0} {ghosts : Ghosts M} (sight : M → Sight) (o : Opening M g
             hands = record now { shown = d };
             kept = subst (λ st. SlotsKeptBy sight o st (set xs id y2) homes (record now { shown = d })) (sym same)
                 (subst (λ ys. SlotsKeptBy sight o (record (stage_of c) { reproduced = d }) ys homes (record now { shown = d })) (set-set xs id y1 y2)
-                (raised_reproduced sight o (stage_of c) (set xs id y1) homes now kept (boxes_sized z c k) id (owner_of v) y1 at_v (now_at c xs homes k f id v x there_v at has hands is m follows) d (some_turn z c k id v there_v has) (alone z c k id v there_v has)));
+                (raised_reproduced sight o (stage_of c) (set xs id y1) homes now kept (boxes_sized z c k) id (owner_of v) y1 at_v (now_at c xs homes k f id v x there_v at has hands is m follows) d le (some_turn z c k id v there_v has) (alone z c k id v there_v has)));
           },
           (λ told. record { told = told; view = refl; beside = refl; slots = refl }),
         )

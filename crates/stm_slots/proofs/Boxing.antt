@@ -119,6 +119,7 @@ module _ {M : Type 0} {ghosts : Ghosts M} (sight : M → Sight) (o : Opening M g
         rings = subst (λ (n : ℕ). z.threads ≤ n) (sym (ap (λ u. u.rings) f.sizes)) k.lists.rings;
         pages = ap (λ u. u.pages) f.sizes ∙ k.lists.pages;
         durable = (let a = k.lists.durable in let b = f.durable in omega arith);
+        reproduced = (let a = k.lists.reproduced in let b = f.durable in omega arith);
         fault = λ j p at met. f.dead (k.lists.fault j p at met);
         persisted = λ j d lt. let p = k.lists.persisted j d lt in let n = (get_or s.persisted j d).number in (had n p.0, old_writes n p.0 ∙ p.1);
         handed = λ n has. ⊎_elim
@@ -174,6 +175,7 @@ module _ {M : Type 0} {ghosts : Ghosts M} (sight : M → Sight) (o : Opening M g
               rings = k.lists.rings;
               pages = k.lists.pages;
               durable = k.lists.durable;
+              reproduced = k.lists.reproduced;
               fault = k.lists.fault;
               persisted = k.lists.persisted;
               handed = k.lists.handed;
@@ -221,6 +223,7 @@ module _ {M : Type 0} {ghosts : Ghosts M} (sight : M → Sight) (o : Opening M g
             rings = k.lists.rings;
             pages = k.lists.pages;
             durable = k.lists.durable;
+            reproduced = k.lists.reproduced;
             fault = k.lists.fault;
             persisted = k.lists.persisted;
             handed = k.lists.handed;
@@ -339,6 +342,7 @@ module _ {M : Type 0} {ghosts : Ghosts M} (sight : M → Sight) (o : Opening M g
         rings = k.lists.rings;
         pages = k.lists.pages;
         durable = k.lists.durable;
+        reproduced = k.lists.reproduced;
         fault = k.lists.fault;
         persisted = All-cons (λ (q : RedoRecord). HasRecord hands.lists.records q.number × (writes_in hands.lists.records q.number ≡ q.writes)) r s.persisted (handed, writes) k.lists.persisted;
         handed = λ n has. dite (ℕ_discrete n r.number)

@@ -116,6 +116,7 @@ module _ {M : Type 0} {ghosts : Ghosts M} (sight : M → Sight) (o : Opening M g
           rings = k.lists.rings;
           pages = k.lists.pages;
           durable = k.lists.durable;
+          reproduced = k.lists.reproduced;
           fault = λ j p at met. ⊎_elim (λ e. k.lists.fault id v at_v (ap (λ (a : Owner). a.met_fault) e.1 ∙ met)) (λ e. k.lists.fault j p e.1 met) (at_set s.owners id j w p at);
           persisted = k.lists.persisted;
           handed = k.lists.handed;
@@ -240,6 +241,7 @@ module _ {M : Type 0} {ghosts : Ghosts M} (sight : M → Sight) (o : Opening M g
         rings = k.lists.rings;
         pages = k.lists.pages;
         durable = k.lists.durable;
+        reproduced = k.lists.reproduced;
         fault = λ j p at met. ⊎_elim (λ e. k.lists.fault id v at_v (ap (λ (a : Owner). a.met_fault) e.1 ∙ met)) (λ e. k.lists.fault j p e.1 met) (at_set s.owners id j w2 p at);
         persisted = k.lists.persisted;
         handed = λ n has. ⊎_elim inl (λ b. inr (b.0, still_boxed b.0 (record { number = n; writes = writes_in hands.lists.records n }) (not_here b.0 n b.1.0 (some_numbers n has)) b.1)) (k.lists.handed n has);

@@ -120,6 +120,7 @@ module _ {M : Type 0} {ghosts : Ghosts M} (sight : M → Sight) (o : Opening M g
       rings = k.lists.rings;
       pages = k.lists.pages;
       durable = k.lists.durable;
+      reproduced = k.lists.reproduced;
       fault = k.lists.fault;
       persisted = k.lists.persisted;
       handed = k.lists.handed;

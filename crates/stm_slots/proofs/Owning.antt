@@ -72,6 +72,7 @@ module _ {M : Type 0} {ghosts : Ghosts M} (sight : M → Sight) (o : Opening M g
           rings = k.lists.rings;
           pages = k.lists.pages;
           durable = k.lists.durable;
+          reproduced = k.lists.reproduced;
           fault = λ j p at. new_owner (λ q. q.met_fault ≡ true → hands.lists.state.dead ≡ true) fault j p at (k.lists.fault j p);
           persisted = k.lists.persisted;
           handed = k.lists.handed;
@@ -142,6 +143,7 @@ module _ {M : Type 0} {ghosts : Ghosts M} (sight : M → Sight) (o : Opening M g
         rings = k.lists.rings;
         pages = k.lists.pages;
         durable = k.lists.durable;
+        reproduced = k.lists.reproduced;
         fault = λ j p at met. ⊎_elim (λ old. k.lists.fault j p old met) (λ e. absurd (true≢false (sym met ∙ sym (ap (λ (a : Owner). a.met_fault) e.0)))) (at_snoc s.owners idler p j at);
         persisted = k.lists.persisted;
         handed = k.lists.handed;

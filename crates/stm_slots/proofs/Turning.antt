@@ -76,7 +76,7 @@ module _ {M : Type 0} {ghosts : Ghosts M} (sight : M → Sight) (o : Opening M g
       seats = length-set xs id holding ∙ (k.seats ∙ sym (length-set s.owners id took));
       count = k.count;
       queues = queued_alike z s (set s.owners id took) hands.next k.count (alike_set s.owners id v took at_v same) k.queues turn s.durable s.reproduced s.entries;
-      lists = lists_alike z s (set s.owners id took) hands.lists hands.boxes (alike_set s.owners id v took at_v same) (λ j p e met. ⊎_elim (λ t. k.lists.fault id v at_v (ap (λ (a : Owner). a.met_fault) t.1 ∙ met)) (λ t. k.lists.fault j p t.1 met) (at_set s.owners id j took p e)) k.lists turn s.durable s.reproduced s.entries k.lists.durable;
+      lists = lists_alike z s (set s.owners id took) hands.lists hands.boxes (alike_set s.owners id v took at_v same) (λ j p e met. ⊎_elim (λ t. k.lists.fault id v at_v (ap (λ (a : Owner). a.met_fault) t.1 ∙ met)) (λ t. k.lists.fault j p t.1 met) (at_set s.owners id j took p e)) k.lists turn s.durable s.reproduced s.entries k.lists.durable k.lists.reproduced;
       pages = record { pages = k.pages.pages; frames = k.pages.frames; one_to_one = k.pages.one_to_one; shows = k.pages.shows; shown = k.pages.shown; all = k.pages.all };
       boxes = boxes_alike s hands.boxes homes none id v took long at_v same k.boxes turn s.durable s.reproduced s.entries;
       shown = k.shown;
@@ -98,7 +98,7 @@ module _ {M : Type 0} {ghosts : Ghosts M} (sight : M → Sight) (o : Opening M g
           seats = length-set xs id free ∙ (k.seats ∙ sym (length-set s.owners id gave));
           count = k.count;
           queues = rw next (queued_alike z s (set s.owners id gave) hands.next k.count (alike_set s.owners id v gave at_v same) k.queues 0 s.durable s.reproduced s.entries);
-          lists = lists_alike z s (set s.owners id gave) after.lists after.boxes (alike_set s.owners id v gave at_v same) (λ j p e m. ⊎_elim (λ t. fault (ap (λ (a : Owner). a.met_fault) t.1 ∙ m)) (λ t. lists.fault j p t.1 m) (at_set s.owners id j gave p e)) lists 0 s.durable s.reproduced s.entries lists.durable;
+          lists = lists_alike z s (set s.owners id gave) after.lists after.boxes (alike_set s.owners id v gave at_v same) (λ j p e m. ⊎_elim (λ t. fault (ap (λ (a : Owner). a.met_fault) t.1 ∙ m)) (λ t. lists.fault j p t.1 m) (at_set s.owners id j gave p e)) lists 0 s.durable s.reproduced s.entries lists.durable lists.reproduced;
           pages = rw map (record { pages = k.pages.pages; frames = k.pages.frames; one_to_one = k.pages.one_to_one; shows = k.pages.shows; shown = k.pages.shown; all = k.pages.all });
           boxes = rw boxes (boxes_alike s hands.boxes homes (some (Home h)) id v gave long at_v same k.boxes 0 s.durable s.reproduced s.entries);
           shown = k.shown ∙ sym shown;
@@ -121,6 +121,7 @@ module _ {M : Type 0} {ghosts : Ghosts M} (sight : M → Sight) (o : Opening M g
         rings = k.lists.rings;
         pages = k.lists.pages;
         durable = le;
+        reproduced = k.lists.reproduced;
         fault = k.lists.fault;
         persisted = k.lists.persisted;
         handed = k.lists.handed;
@@ -134,8 +135,8 @@ module _ {M : Type 0} {ghosts : Ghosts M} (sight : M → Sight) (o : Opening M g
       held = k.held;
     }
 
-    pub raised_reproduced : (d : ℕ) → 0 < s.turn → ((j : ℕ) (p : Owner) → get_elem? s.owners j ≡ some p → p.has_turn ≡ true → j ≡ id) → SlotsKeptBy sight o (record s { reproduced = d }) (set xs id (record x { turn = Some (record hands { shown = d }) })) homes (record hands { shown = d })
-    raised_reproduced d turn alone = let y : Beside = record x { turn = Some (record hands { shown = d }) } in record {
+    pub raised_reproduced : (d : ℕ) → d ≤ hands.lists.state.log.durable → 0 < s.turn → ((j : ℕ) (p : Owner) → get_elem? s.owners j ≡ some p → p.has_turn ≡ true → j ≡ id) → SlotsKeptBy sight o (record s { reproduced = d }) (set xs id (record x { turn = Some (record hands { shown = d }) })) homes (record hands { shown = d })
+    raised_reproduced d le turn alone = let y : Beside = record x { turn = Some (record hands { shown = d }) } in record {
       sized = k.sized;
       seats = length-set xs id y ∙ k.seats;
       count = k.count;
@@ -145,6 +146,7 @@ module _ {M : Type 0} {ghosts : Ghosts M} (sight : M → Sight) (o : Opening M g
         rings = k.lists.rings;
         pages = k.lists.pages;
         durable = k.lists.durable;
+        reproduced = le;
         fault = k.lists.fault;
         persisted = k.lists.persisted;
         handed = k.lists.handed;

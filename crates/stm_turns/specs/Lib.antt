@@ -1,0 +1,5 @@
+pub mod Holding
+pub mod Told
+pub mod Turns
+pub mod Pump
+pub mod Starts

@@ -1,0 +1,55 @@
+-- What each step of the thread with the turn tells it, where its lists are known to be there, but not which.
+use Rattle.std.specs.Prelude.{◌≡◌, ◌⊎◌, ℕ, ◌<◌, ◌≤◌, true, List, [], Option, Some, None, slice_index}
+use Rattle.dude_base.specs.Records.{RedoRecord}
+use Rattle.pmem_trait.specs.Sights.{Sight}
+use Rattle.pmem_trait.specs.declared.medium.Medium.{Ghosts}
+use Rattle.back_store.specs.BackView.{medium_of, state_of}
+use Rattle.core_events.specs.Keyed.{has}
+use Rattle.core_events.specs.Events.{Event, view_after}
+use Rattle.core_events.specs.Telling.{IsSeated}
+use Rattle.known_back.specs.Lists.{lists}
+use Rattle.known_back.specs.Known.{Known as KnownBy}
+use Rattle.known_back.specs.Records.{HasRecord}
+use Rattle.stm_slots.specs.Beside.{Hands}
+use Rattle.stm_slots.specs.Opening.{setup_of, since_of}
+use Rattle.stm_slots.specs.Turns.{Seated, SawFull}
+use Rattle.stm_slots.specs.declared.home.Home.{Home as TheHome}
+use Rattle.stm_slots.specs.declared.slot.Slot.{Slot}
+use Rattle.stm_slots.specs.declared.opening.Opening.{Opening}
+use Rattle.stm_turns.specs.Holding.{hands_of}
+
+-- each number that the hands' lists have, the records have too
+abbrev pub HasGrown : Option Hands → List RedoRecord → Type 0
+HasGrown turn records = (hs : Hands) → turn ≡ Some hs → (n : ℕ) → HasRecord hs.lists.records n → HasRecord records n
+
+-- the boxes whose slots are out
+abbrev pub boxes_in : Option Hands → List (ℕ × RedoRecord)
+boxes_in None = []
+boxes_in (Some hs) = hs.boxes
+
+module _ {M : Type 0} {ghosts : Ghosts M} (sight : M → Sight) where
+  -- the step e was made with this of the back's slot, and leaves these boxes and slots out, with some records
+  pub record Went (o : Opening M ghosts) (e : Event) (h : TheHome M ghosts) (boxes : List (ℕ × RedoRecord)) (left : List (ℕ × Slot M ghosts)) (m : Seated M ghosts) (n : ℕ) (w : Seated M ghosts) : Type 0 where
+    pub records : List RedoRecord
+    pub shown : ℕ
+    pub seated : IsSeated (setup_of sight o) w.0.view
+    pub view : w.0.view ≡ view_after (setup_of sight o) e m.0.view n
+    pub beside : w.0.beside.turn ≡ Some (hands_of sight h records shown boxes)
+    pub slots : w.1 ≡ left
+    pub known : KnownBy (since_of sight o) (lists (state_of h.back) records) (sight (medium_of h.back))
+    pub grown : HasGrown m.0.beside.turn records
+
+  -- a word was raised, and no record was handed over since the step before
+  pub record Raised (o : Opening M ghosts) (e : Event) (h : TheHome M ghosts) (m : Seated M ghosts) (n : ℕ) (w : Seated M ghosts) : Type 0 where
+    pub went : Went o e h (boxes_in m.0.beside.turn) m.1 m n w
+    pub same : (hs : Hands) → m.0.beside.turn ≡ Some hs → hs.lists.records ≡ went.records
+
+  -- A look at the front box of a thread, which found n. Where it is the own thread, which has no open number: a number that it drew was
+  -- handed over, unless it is in a box, where it is no less than the one found
+  pub record SawFront (o : Opening M ghosts) (thread : ℕ) (h : TheHome M ghosts) (m : Seated M ghosts) (n : ℕ) (w : Seated M ghosts) : Type 0 where
+    pub records : List RedoRecord
+    pub shown : ℕ
+    pub known : KnownBy (since_of sight o) (lists (state_of h.back) records) (sight (medium_of h.back))
+    pub grown : HasGrown m.0.beside.turn records
+    pub saw : SawFull sight o thread (slice_index h.next thread) (hands_of sight h records shown []) m n w
+    pub drawn : m.0.view.part.thread ≡ Some thread → m.0.view.tx.hand.number ≡ 0 → (k : ℕ) → has m.0.view.drawn k ≡ true → HasRecord records k ⊎ ((0 < n) × (n ≤ k))

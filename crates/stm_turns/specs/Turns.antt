@@ -1,0 +1,188 @@
+-- What contracts say of a seat that has the turn.
+use Rattle.std.specs.Prelude.{◌≡◌, ◌≢◌, ◌⊎◌, ℕ, ◌+◌, ◌-◌, ◌<◌, ltb, if◌then◌else◌, ◌≤◌, true, false, List, [], ◌∷◌, Option, Some, None, Result, Ok, Err}
+use Rattle.std.specs.List.{Contains}
+use Rattle.dude_base.specs.Records.{RedoBundle, RedoRecord, first_of}
+use Rattle.pmem_trait.specs.Sights.{Sight}
+use Rattle.pmem_trait.specs.declared.medium.Medium.{Ghosts}
+use Rattle.redo_record.specs.Waiting.{Waiting}
+use Rattle.back_store.specs.Back.{BackState, waiting_now, waiting_of_ring}
+use Rattle.back_store.specs.BackView.{state_of}
+use Rattle.back_store.specs.declared.back_fault.BackFault.{BackFault}
+use Rattle.back_store.specs.declared.back_fault.BackFault.TheVariants.{RingFull, Device, Dead}
+use Rattle.atomic_table.specs.Table.{rest}
+use Rattle.atomic_table.specs.declared.shared.Seat.{Seat}
+use Rattle.core_events.specs.Keyed.{has}
+use Rattle.core_events.specs.Views.{View}
+use Rattle.core_table.specs.Known.{Known}
+use Rattle.core_table.specs.Layout.{TableSight}
+use Rattle.core_table.specs.Steps.{BelongsTo, IsAfter}
+use Rattle.core_events.specs.Events.{take_turn}
+use Rattle.known_back.specs.Lists.{lists}
+use Rattle.known_back.specs.Records.{HasRecord, LacksRecord, IsReached, writes_in}
+use Rattle.stm_slots.specs.Beside.{Hands, Beside}
+use Rattle.stm_slots.specs.Opening.{setup_of}
+use Rattle.stm_slots.specs.declared.home.Home.{Home as TheHome}
+use Rattle.stm_slots.specs.declared.slot.Slot.{Slot}
+use Rattle.stm_slots.specs.declared.slot.Slot.TheVariants.{Record, Home}
+use Rattle.stm_slots.specs.declared.opening.Opening.{Opening}
+use Rattle.stm_turns.specs.Holding.{Holding, IsInHand, slots_out}
+
+-- ---- views, records and backs
+-- what steps of the turn leave of a view
+abbrev pub settled_view : View → View
+settled_view v = record v { turn = record v.turn { durable = 0; full = []; touches = []; filled = [] }; found = None; count = 0 }
+
+-- no less than the number, where there is one
+abbrev pub IsNoLess : Option ℕ → ℕ → Type 0
+IsNoLess None m = ⊥
+IsNoLess (Some n) m = n ≤ m
+
+-- each number that the view drew was handed over to the back, or is no less than this one, where there is one
+abbrev pub HandedBelow : Known Beside → Option ℕ → Type 0
+HandedBelow k n = (hs : Hands) → k.beside.turn ≡ Some hs → (m : ℕ) → has k.view.drawn m ≡ true → HasRecord hs.lists.records m ⊎ IsNoLess n m
+
+-- the number of the record, where there is one
+abbrev pub number_in : Option RedoRecord → Option ℕ
+number_in None = None
+number_in (Some r) = Some r.number
+
+-- the record that was found, in hand
+abbrev pub found_in : ℕ → Option RedoRecord → Option (ℕ × RedoRecord)
+found_in thread None = None
+found_in thread (Some r) = Some (thread, r)
+
+-- the record that was to be persisted is in hand still where its ring was full
+abbrev pub left_in : ℕ → RedoRecord → Result (Unit {0}) BackFault → Option (ℕ × RedoRecord)
+left_in thread r (Ok done) = None
+left_in thread r (Err Device) = None
+left_in thread r (Err Dead) = None
+left_in thread r (Err (RingFull used need)) = Some (thread, r)
+
+-- the back is alive unless the device failed
+abbrev pub IsAliveUnless : Result (Unit {0}) BackFault → BackState → Type 0
+IsAliveUnless (Ok done) v = v.dead ≡ false
+IsAliveUnless (Err Device) v = v.dead ≡ true
+IsAliveUnless (Err Dead) v = v.dead ≡ true
+IsAliveUnless (Err (RingFull used need)) v = v.dead ≡ false
+
+-- The number is announced, and nothing that waits leads on
+pub record IsAnnounced (v : BackState) (n : ℕ) : Type 0 where
+  pub alive : v.dead ≡ false
+  pub durable : v.log.durable ≡ n
+  pub next : (w : Waiting) → Contains (waiting_now v) w → first_of w.redo ≢ n + 1
+
+-- the place behind this one, round so many boxes
+abbrev pub place_after : ℕ → ℕ → ℕ
+place_after boxes place = if ltb (place + 1) boxes then (place + 1) else (place + 1 - boxes)
+
+-- where it is the own thread that was looked at, which has no open number: what it drew below the number found was handed over
+abbrev pub LooksAtAll : {S : Type 0} → ℕ → Option RedoRecord → Seat S (Known Beside) → Seat S (Known Beside) → Type 0
+LooksAtAll thread result old new = old.me.0.view.part.thread ≡ Some thread → old.me.0.view.tx.hand.number ≡ 0 → HandedBelow new.me.0 (number_in result)
+
+-- the number is up to the durable one, or up to one that waits in the ring of the thread
+abbrev pub IsPast : BackState → ℕ → ℕ → Type 0
+IsPast v thread n = (n ≤ v.log.durable) ⊎ ((q : RedoBundle) × Contains (waiting_of_ring v thread) q × (n ≤ q.last))
+
+module _ {M : Type 0} {ghosts : Ghosts M} where
+  -- the slot that a seat took last has what a back's slot has
+  abbrev pub FrontHome : List (ℕ × Slot M ghosts) → ℕ → Type 0
+  FrontHome slots k = (h : TheHome M ghosts) × (slots ≡ (k, Home h) ∷ rest slots)
+
+  -- it has a record
+  abbrev pub FrontRecord : List (ℕ × Slot M ghosts) → ℕ → Type 0
+  FrontRecord slots k = (r : RedoRecord) × (slots ≡ (k, Record r) ∷ rest slots)
+
+-- ---- the seat with the turn
+-- The turn word wasn't 0, so another seat has the turn: this one made the event alone
+pub record IsOthers {S X K : Type 0} (t : TableSight K) (seen : ℕ) (old new : Seat S (Known X)) : Type 0 where
+  pub held : seen ≢ 0
+  pub belongs : BelongsTo t new
+  pub view : IsAfter t take_turn old new seen
+  pub bare : new.me.1 ≡ []
+
+module _ {M : Type 0} {ghosts : Ghosts M} (sight : M → Sight) (t : TableSight (Opening M ghosts)) where
+  -- The seat has the turn, with this of the back's slot and perhaps a record in hand
+  pub record InTurn (seat : Seat (Slot M ghosts) (Known Beside)) (h : TheHome M ghosts) (hand : Option (ℕ × RedoRecord)) : Type 0 where
+    pub belongs : BelongsTo t seat
+    pub setup : t.setup ≡ setup_of sight t.key
+    pub holding : Holding sight t.key seat.me.0 h hand
+    pub slots : seat.me.1 ≡ slots_out sight (setup_of sight t.key) h.next hand
+    -- no record was handed over since the last step
+    pub same : holding.stale.records ≡ holding.records
+    pub in_hand : IsInHand (setup_of sight t.key) (lists (state_of h.back) holding.records) hand
+
+  -- The record in hand may be put back: it wasn't handed over, or the back is dead
+  pub record MayPutBack (seat : Seat (Slot M ghosts) (Known Beside)) (h : TheHome M ghosts) (thread : ℕ) (r : RedoRecord) : Type 0 where
+    pub belongs : BelongsTo t seat
+    pub setup : t.setup ≡ setup_of sight t.key
+    pub holding : Holding sight t.key seat.me.0 h (Some (thread, r))
+    pub slots : seat.me.1 ≡ slots_out sight (setup_of sight t.key) h.next (Some (thread, r))
+    pub inside : thread < (setup_of sight t.key).threads
+    pub lacks : (state_of h.back).dead ≡ false → LacksRecord holding.records r.number
+
+  -- The record in hand was handed over
+  pub record MayEmpty (seat : Seat (Slot M ghosts) (Known Beside)) (h : TheHome M ghosts) (thread : ℕ) (r : RedoRecord) : Type 0 where
+    pub belongs : BelongsTo t seat
+    pub setup : t.setup ≡ setup_of sight t.key
+    pub holding : Holding sight t.key seat.me.0 h (Some (thread, r))
+    pub slots : seat.me.1 ≡ slots_out sight (setup_of sight t.key) h.next (Some (thread, r))
+    pub inside : thread < (setup_of sight t.key).threads
+    pub handed : HasRecord holding.records r.number
+    pub writes : writes_in holding.records r.number ≡ r.writes
+
+  -- The seat made steps of the turn, and has this of the back's slot behind them, and perhaps a record in hand
+  pub record Stepped (old new : Seat (Slot M ghosts) (Known Beside)) (h : TheHome M ghosts) (hand : Option (ℕ × RedoRecord)) : Type 0 where
+    pub id : new.id ≡ old.id
+    pub turn : InTurn new h hand
+    pub view : settled_view new.me.0.view ≡ settled_view old.me.0.view
+    pub handed : (n : Option ℕ) → HandedBelow old.me.0 n → HandedBelow new.me.0 n
+
+  -- whatever record was in hand, the seat made steps of the turn, and has it in hand still
+  abbrev pub SteppedOn : Seat (Slot M ghosts) (Known Beside) → Seat (Slot M ghosts) (Known Beside) → TheHome M ghosts → TheHome M ghosts → Type 0
+  SteppedOn old new h h2 = (hand : Option (ℕ × RedoRecord)) → InTurn old h hand → Stepped old new h2 hand
+
+  -- the seat has the turn, with this of the back's slot
+  abbrev pub HasHome : Seat (Slot M ghosts) (Known Beside) → TheHome M ghosts → Type 0
+  HasHome seat h = (hand : Option (ℕ × RedoRecord)) × InTurn seat h hand
+
+  -- The number is that of the back, and all up to it was handed over
+  pub record MayRaise (seat : Seat (Slot M ghosts) (Known Beside)) (h : TheHome M ghosts) (n : ℕ) : Type 0 where
+    pub hand : Option (ℕ × RedoRecord)
+    pub turn : InTurn seat h hand
+    pub alive : (state_of h.back).dead ≡ false
+    pub durable : (state_of h.back).log.durable ≡ n
+    pub reached : IsReached (setup_of sight t.key).first turn.holding.records n
+
+-- ---- what a call of the back leaves
+module _ {M : Type 0} {ghosts : Ghosts M} where
+  -- the number is announced, and the view knows it as durable
+  pub record TellsDurable (seat : Seat (Slot M ghosts) (Known Beside)) (h : TheHome M ghosts) (n : ℕ) : Type 0 where
+    pub is : IsAnnounced (state_of h.back) n
+    pub durable : seat.me.0.view.turn.durable ≡ n
+
+  -- all up to the number is announced and in the home
+  pub record EndsSettled (seat : Seat (Slot M ghosts) (Known Beside)) (h : TheHome M ghosts) (n : ℕ) : Type 0 where
+    pub is : IsAnnounced (state_of h.back) n
+    pub reproduced : (state_of h.back).log.reproduced ≡ n
+    pub durable : seat.me.0.view.turn.durable ≡ n
+
+-- where the view drew the number behind n, that one is no less than each below which all was handed over
+abbrev pub NextIsNoLess : {S : Type 0} → Seat S (Known Beside) → ℕ → Type 0
+NextIsNoLess seat n = (b : Option ℕ) → HandedBelow seat.me.0 b → has seat.me.0.view.drawn (n + 1) ≡ true → IsNoLess b (n + 1)
+
+-- ---- the numbers of a thread's records rise
+-- each number that was past in the ring of the thread was less than this one, which is past now
+pub record RisesTo (m thread : ℕ) (v w : BackState) : Type 0 where
+  pub over : (low : ℕ) → IsPast v thread low → low < m
+  pub past : IsPast w thread m
+
+-- where the ring was full nothing changed, and the record isn't the next one to reproduce
+abbrev pub IsLate : Result (Unit {0}) BackFault → ℕ → BackState → BackState → Type 0
+IsLate (Err (RingFull used need)) m v w = (w ≡ v) × (v.log.reproduced + 1 < m)
+IsLate (Ok done) m v w = Unit {0}
+IsLate (Err Device) m v w = Unit {0}
+IsLate (Err Dead) m v w = Unit {0}
+
+-- what was past is so still
+abbrev pub KeepsPast : BackState → BackState → Type 0
+KeepsPast v w = (thread low : ℕ) → IsPast v thread low → IsPast w thread low

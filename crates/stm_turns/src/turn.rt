@@ -1,0 +1,56 @@
+//! The turn is taken and given.
+
+ghost use Rattle.std.specs.Prelude.{◌≡◌, true, [], None, Some, IfOk, IfErr, OnOk};
+ghost use Rattle.back_store.specs.BackView.{state_of};
+ghost use Rattle.core_events.specs.Conditions.{May};
+ghost use Rattle.core_events.specs.Events.{give_turn as turn_given, take_turn as turn_taken};
+ghost use Rattle.core_table.specs.Steps.{BelongsTo, IsAfter};
+ghost use Rattle.stm_slots.specs.Lists.{IsSettled};
+ghost use Rattle.stm_turns.specs.Turns.{InTurn, IsOthers};
+
+use crate::slots::{SlotSeat, lay, take_home};
+use core_table::places::TURN;
+use pmem_trait::Medium;
+use std::marker::Brand;
+use stm_slots::home::Home;
+use stm_slots::slot::Slot;
+use stm_slots::slots_rule::Events;
+
+/// Takes the turn, with what the back's slot has; or gives the turn word, where it isn't 0.
+pub fn take_turn<M: Medium>(
+    events: &Events<M>,
+    seat: &mut SlotSeat<M>,
+    thread: u64,
+) -> Result<Home<M>, u64>
+    requires seat { BelongsTo events.now seat.old }
+    requires thread { seat.old.me.0.view.part.thread ≡ Some thread }
+    requires may { May events.now.setup turn_taken seat.old.me.0.view }
+    requires bare { seat.old.me.1 ≡ [] }
+    ensures id { seat.new.id ≡ seat.old.id }
+    ensures ok { IfOk result (λ home. InTurn M.sight events.now seat.new home None) }
+    ensures settled { IfOk result (λ home. IsSettled (state_of home.back)) }
+    ensures view { OnOk result (IsAfter events.now turn_taken seat.old seat.new 0) }
+    ensures err { IfErr result (λ seen. IsOthers events.now seen seat.old seat.new) }
+{
+    let slot = events.box_count();
+    let seen = events.exchange_by::<Brand, ()>(seat, TURN, 0, thread + 1, &());
+    if seen != 0 {
+        return Err(seen);
+    }
+    Ok(take_home(events, seat, slot))
+}
+
+/// Puts the back into its slot and gives the turn; `failed` says whether it met a fault.
+pub fn give_turn<M: Medium>(events: &Events<M>, seat: &mut SlotSeat<M>, home: Home<M>, failed: bool)
+    requires turn { InTurn M.sight events.now seat.old home None }
+    requires fault { failed ≡ true → (state_of home.back).dead ≡ true }
+    requires settled { IsSettled (state_of home.back) }
+    ensures id { seat.new.id ≡ seat.old.id }
+    ensures seat { BelongsTo events.now seat.new }
+    ensures view { IsAfter events.now (turn_given failed) seat.old seat.new 0 }
+    ensures bare { seat.new.me.1 ≡ [] }
+{
+    let slot = events.box_count();
+    lay(events, seat, slot, Slot::Home(home));
+    events.store_by::<Brand, bool>(seat, TURN, 0, &failed);
+}
