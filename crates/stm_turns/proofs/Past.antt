@@ -88,7 +88,7 @@ module _ (first : ℕ) (v : BackState) (rs : List RedoRecord) (lawful : LawfulLi
       let same = settled.numbers alive in let up = consecutive_up v.log.reproduced n is.records is.lead.consecutive in
       dite (dec_lt v.log.reproduced n)
       (λ lt. let w = waiting_law.covered (waiting_now v) v.log.reproduced n (v.log.reproduced + 1) is.records is.lead (omega arith) (omega arith) in
-          let over = waits_over v.log lawful.log w.0 w.1 in let low = w.2.low in absurd (settled.next alive w.0 w.1 (omega arith)))
+      let over = waits_over v.log lawful.log w.0 w.1 in let low = w.2.low in absurd (settled.next alive w.0 w.1 (omega arith)))
       (λ ge. omega arith)
 
 -- what two calls keep, the second one where it succeeds
