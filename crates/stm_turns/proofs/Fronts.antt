@@ -11,7 +11,7 @@ use Rattle.core_table.specs.Known.{Known}
 use Rattle.stm_slots.specs.Beside.{Beside}
 use Rattle.stm_slots.specs.Lists.{IsSettled}
 use Rattle.stm_turns.specs.Front.{FrontDone, IsBehind, IsStuck, IsThrough, NextIsNotDrawn, TurnsOut}
-use Rattle.stm_turns.specs.Turns.{HandedBelow, IsAnnounced, IsLate, IsNoLess, IsOwn, IsPast, KeepsPast, NextIsNoLess, RisesTo, settled_view}
+use Rattle.stm_turns.specs.Turns.{HandedBelow, IsLate, IsNoLess, IsOwn, IsPast, KeepsPast, NextIsNoLess, RisesTo, settled_view}
 use Rattle.stm_turns.specs.declared.front.Front.{Front}
 use Rattle.stm_turns.specs.declared.front.Front.TheVariants.{Empty, Persisted, Full}
 use Rattle.dude_base.specs.declared.limits.TheConstants.{MAX_NUMBER}

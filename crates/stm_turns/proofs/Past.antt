@@ -6,9 +6,8 @@ use mathlib.Core.Logic.{dite}
 use native.Mathlib.Decide.{ℕ_discrete, dec_le, dec_lt}
 use Rattle.dude_base.specs.declared.limits.TheConstants.{MAX_NUMBER, MAX_WRITES}
 use Rattle.dude_base.specs.Records.{HasNumbers, RedoBundle, first_of}
-use Rattle.redo_record.specs.Waiting.{Waiting}
 use Rattle.log_waiting.specs.Lane.{released_lane, used_by}
-use Rattle.log_waiting.specs.Lanes.{lane_at, no_lane, waiting_in, waiting_of}
+use Rattle.log_waiting.specs.Lanes.{lane_at, no_lane, waiting_in}
 use Rattle.log_waiting.proofs.ReleasedRecords.{released_waiting}
 use Rattle.log_waiting.proofs.WaitingLanes.{waits_in, waits_of_ring}
 use Rattle.back_store.specs.Back.{BackState, IsRingFull, waiting_now, waiting_of_ring}
@@ -88,7 +87,7 @@ module _ (first : ℕ) (v : BackState) (rs : List RedoRecord) (lawful : LawfulLi
       let same = settled.numbers alive in let up = consecutive_up v.log.reproduced n is.records is.lead.consecutive in
       dite (dec_lt v.log.reproduced n)
       (λ lt. let w = waiting_law.covered (waiting_now v) v.log.reproduced n (v.log.reproduced + 1) is.records is.lead (omega arith) (omega arith) in
-          let over = waits_over v.log lawful.log w.0 w.1 in let low = w.2.low in absurd (settled.next alive w.0 w.1 (omega arith)))
+      let over = waits_over v.log lawful.log w.0 w.1 in let low = w.2.low in absurd (settled.next alive w.0 w.1 (omega arith)))
       (λ ge. omega arith)
 
 -- what two calls keep, the second one where it succeeds

@@ -1,4 +1,4 @@
-use Rattle.std.proofs.Common.{◌≤◌, arith, inl, subst}
+use Rattle.std.proofs.Common.{arith, inl, subst}
 use Rattle.std.specs.Prelude.{None}
 use Rattle.back_store.specs.BackView.{state_of}
 use Rattle.stm_turns.specs.Front.{FrontDone}
