@@ -4,3 +4,4 @@ pub mod Calling
 pub mod Pumping
 pub mod Starting
 pub mod Past
+pub mod Fronts

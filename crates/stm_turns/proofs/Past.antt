@@ -6,9 +6,8 @@ use mathlib.Core.Logic.{dite}
 use native.Mathlib.Decide.{ℕ_discrete, dec_le, dec_lt}
 use Rattle.dude_base.specs.declared.limits.TheConstants.{MAX_NUMBER, MAX_WRITES}
 use Rattle.dude_base.specs.Records.{HasNumbers, RedoBundle, first_of}
-use Rattle.redo_record.specs.Waiting.{Waiting}
 use Rattle.log_waiting.specs.Lane.{released_lane, used_by}
-use Rattle.log_waiting.specs.Lanes.{lane_at, no_lane, waiting_in, waiting_of}
+use Rattle.log_waiting.specs.Lanes.{lane_at, no_lane, waiting_in}
 use Rattle.log_waiting.proofs.ReleasedRecords.{released_waiting}
 use Rattle.log_waiting.proofs.WaitingLanes.{waits_in, waits_of_ring}
 use Rattle.back_store.specs.Back.{BackState, IsRingFull, waiting_now, waiting_of_ring}

@@ -23,11 +23,12 @@ use Rattle.known_back.specs.Lists.{lists}
 use Rattle.known_back.specs.Records.{HasRecord}
 use Rattle.stm_slots.specs.Beside.{Hands, Beside}
 use Rattle.stm_slots.specs.Queues.{back_slot, place_at}
+use Rattle.stm_slots.specs.Lists.{IsSettled}
 use Rattle.stm_slots.specs.Opening.{setup_of}
 use Rattle.stm_slots.specs.Turns.{Seated, Took, SawRecord}
 use Rattle.stm_turns.specs.Holding.{IsInHand, hand_boxes, hands_of, slots_out, Holding}
 use Rattle.stm_turns.specs.Told.{HasGrown, Went, SawFront, Raised, boxes_in}
-use Rattle.stm_turns.specs.Turns.{HandedBelow, settled_view, left_in, InTurn, FrontRecord, MayPutBack, MayEmpty, Stepped}
+use Rattle.stm_turns.specs.Turns.{HasTaken, HandedBelow, settled_view, left_in, InTurn, FrontRecord, MayPutBack, MayEmpty, Stepped}
 use Rattle.stm_slots.specs.declared.home.Home.{Home as TheHome}
 use Rattle.stm_slots.specs.declared.slot.Slot.{Slot}
 use Rattle.stm_slots.specs.declared.slot.Slot.TheVariants.{Empty, Record, Home}
@@ -80,6 +81,16 @@ module _ {M : Type 0} {ghosts : Ghosts M} (sight : M → Sight) (t : TableSight 
         same = refl;
         in_hand = tt;
       })
+
+  pub has_taken : (old mid new : TurnSeat) (n slot : ℕ) (h : TheHome M ghosts) → BelongsTo t old → t.setup ≡ z → old.me.0.view.part.is_spent ≡ false → HasThread old.me.0.view → old.me.1 ≡ []
+      → mid.table_id ≡ old.table_id → IsTold z take_turn old.me.0.view n → n ≡ 0 → (took : Took sight t.key old.me mid.me) → slot ≡ back_slot z
+      → new.table_id ≡ mid.table_id → new.me ≡ (mid.me.0, (slot, Empty) ∷ rest mid.me.1) → mid.me.1 ≡ (slot, Home h) ∷ rest mid.me.1 → HasTaken sight t old new h
+  has_taken old mid new n slot h b setup live thread bare table told zero took is_slot table2 me was =
+      let same : took.home ≡ h = same_home mid.me.1 old.me.1 (rest mid.me.1) (back_slot z) slot took.home h took.slots was in record {
+        is_after = ap (λ (a : Seated M ghosts). a.0.view) me ∙ took.view;
+        in_turn = took_turn old mid new n slot h b setup live thread bare table told zero took is_slot table2 me was;
+        settled = subst (λ (a : TheHome M ghosts). IsSettled (state_of a.back)) same (subst IsSettled (sym took.is.state) took.is.settled);
+      }
 
   some_hands : (a b : Hands) → Some a ≡ Some b → a ≡ b
   some_hands a b e = cc

@@ -1,20 +1,16 @@
 -- What the back's slot has at first.
-use Rattle.std.proofs.Common.{◌≡◌, ◌<◌, ◌≤◌, ℕ, zero, suc, [], length, get_or, replicate, refl, sym, ap, ◌∙◌, subst, arith}
+use Rattle.std.proofs.Common.{◌≡◌, ◌≤◌, ℕ, zero, suc, [], length, get_or, replicate, refl, sym, ap, subst, arith}
 use Rattle.dude_base.specs.declared.limits.TheConstants.{MAX_RINGS}
-use Rattle.pmem_trait.specs.Sights.{Sight}
 use Rattle.pmem_trait.specs.declared.medium.Medium.{Ghosts}
 use Rattle.log_waiting.proofs.EmptyLanes.{none_waiting}
 use Rattle.back_store.specs.declared.back.Back.{Back}
-use Rattle.back_store.specs.Back.{BackState, idle}
+use Rattle.back_store.specs.Back.{BackState}
 use Rattle.back_store.specs.BackView.{medium_of, state_of}
-use Rattle.core_events.specs.Setups.{Setup}
 use Rattle.known_back.specs.Calls.{StartsKnown}
 use Rattle.known_back.specs.Known.{Known}
 use Rattle.known_back.specs.Lists.{lists}
-use Rattle.shadow_pages.specs.PageMap.{PageMap}
 use Rattle.stm_slots.specs.Lists.{IsSettled}
 use Rattle.stm_slots.specs.Opened.{IsFirst}
-use Rattle.stm_slots.specs.Opening.{since_of}
 use Rattle.stm_slots.specs.declared.home.Home.{Home as TheHome}
 use Rattle.stm_slots.specs.declared.opening.Opening.{Opening}
 use Rattle.stm_turns.specs.Starts.{MayStart}

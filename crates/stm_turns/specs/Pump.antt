@@ -12,7 +12,8 @@ use Rattle.stm_slots.specs.Beside.{Beside}
 use Rattle.stm_slots.specs.declared.home.Home.{Home as TheHome}
 use Rattle.stm_slots.specs.declared.slot.Slot.{Slot}
 use Rattle.stm_slots.specs.declared.opening.Opening.{Opening}
-use Rattle.stm_turns.specs.Turns.{EndsSettled, InTurn, Stepped, settled_view}
+use Rattle.stm_turns.specs.Front.{NextIsNotDrawn}
+use Rattle.stm_turns.specs.Turns.{EndsSettled, HasTaken, Stepped, settled_view}
 use Rattle.stm_turns.specs.declared.pumped.Pumped.{Pumped}
 use Rattle.stm_turns.specs.declared.pump_fault.PumpFault.{PumpFault}
 use Rattle.stm_turns.specs.declared.pump_fault.PumpFault.TheVariants.{Held, Device, Dead}
@@ -23,21 +24,22 @@ module _ {M : Type 0} {ghosts : Ghosts M} (sight : M → Sight) (t : TableSight 
     -- the seat as the turn is taken, and what it has with it
     pub took : Seat (Slot M ghosts) (Known Beside)
     pub first : TheHome M ghosts
-    pub is_taken : IsAfter t take_turn old took 0
-    pub in_turn : InTurn sight t took first None
+    pub taken : HasTaken sight t old took first
     -- the seat as the turn is given, and what it has then
     pub gave : Seat (Slot M ghosts) (Known Beside)
     pub last : TheHome M ghosts
     pub steps : Stepped sight t took gave last None
     pub is_given : IsAfter t (give_turn failed) gave new 0
 
-  -- All up to a number is announced, and in the home
+  -- The back wasn't dead; all up to a number is announced, and in the home
   pub record HasPumped (pumped : Pumped) (old new : Seat (Slot M ghosts) (Known Beside)) : Type 0 where
     pub turn : HadTurn false old new
+    pub before : (state_of turn.first.back).dead ≡ false
     pub settled : EndsSettled turn.gave turn.last pumped.durable
     pub reproduced : pumped.reproduced ≡ pumped.durable
-    -- the view knows it
+    -- the view knows it, and didn't draw the next number
     pub durable : new.me.0.view.turn.durable ≡ pumped.durable
+    pub next : NextIsNotDrawn new pumped.durable
     -- all else of the view is that of a seat that took the turn and gave it
     pub view : settled_view new.me.0.view ≡ settled_view (view_after t.setup (give_turn false) (view_after t.setup take_turn old.me.0.view 0) 0)
 

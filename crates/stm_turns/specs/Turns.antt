@@ -20,6 +20,7 @@ use Rattle.core_events.specs.Events.{take_turn}
 use Rattle.known_back.specs.Lists.{lists}
 use Rattle.known_back.specs.Records.{HasRecord, LacksRecord, IsReached, writes_in}
 use Rattle.stm_slots.specs.Beside.{Hands, Beside}
+use Rattle.stm_slots.specs.Lists.{IsSettled}
 use Rattle.stm_slots.specs.Opening.{setup_of}
 use Rattle.stm_slots.specs.declared.home.Home.{Home as TheHome}
 use Rattle.stm_slots.specs.declared.slot.Slot.{Slot}
@@ -75,9 +76,13 @@ pub record IsAnnounced (v : BackState) (n : ℕ) : Type 0 where
 abbrev pub place_after : ℕ → ℕ → ℕ
 place_after boxes place = if ltb (place + 1) boxes then (place + 1) else (place + 1 - boxes)
 
--- where it is the own thread that was looked at, which has no open number: what it drew below the number found was handed over
+-- the seat is of this thread, and has no open number
+abbrev pub IsOwn : {S : Type 0} → ℕ → Seat S (Known Beside) → Type 0
+IsOwn thread seat = (seat.me.0.view.part.thread ≡ Some thread) × (seat.me.0.view.tx.hand.number ≡ 0)
+
+-- where it is the own thread that was looked at, what it drew below the number found was handed over
 abbrev pub LooksAtAll : {S : Type 0} → ℕ → Option RedoRecord → Seat S (Known Beside) → Seat S (Known Beside) → Type 0
-LooksAtAll thread result old new = old.me.0.view.part.thread ≡ Some thread → old.me.0.view.tx.hand.number ≡ 0 → HandedBelow new.me.0 (number_in result)
+LooksAtAll thread result old new = IsOwn thread old → HandedBelow new.me.0 (number_in result)
 
 -- the number is up to the durable one, or up to one that waits in the ring of the thread
 abbrev pub IsPast : BackState → ℕ → ℕ → Type 0
@@ -93,6 +98,12 @@ module _ {M : Type 0} {ghosts : Ghosts M} where
   FrontRecord slots k = (r : RedoRecord) × (slots ≡ (k, Record r) ∷ rest slots)
 
 -- ---- the seat with the turn
+-- The seat is of the table, has its number still, and no slot is out
+pub record IsBare {S X K : Type 0} (t : TableSight K) (old new : Seat S (Known X)) : Type 0 where
+  pub belongs : BelongsTo t new
+  pub id : new.id ≡ old.id
+  pub slots : new.me.1 ≡ []
+
 -- The turn word wasn't 0, so another seat has the turn: this one made the event alone
 pub record IsOthers {S X K : Type 0} (t : TableSight K) (seen : ℕ) (old new : Seat S (Known X)) : Type 0 where
   pub held : seen ≢ 0
@@ -129,6 +140,12 @@ module _ {M : Type 0} {ghosts : Ghosts M} (sight : M → Sight) (t : TableSight 
     pub inside : thread < (setup_of sight t.key).threads
     pub handed : HasRecord holding.records r.number
     pub writes : writes_in holding.records r.number ≡ r.writes
+
+  -- The seat took the turn, with this of the back's slot, where all is done that can be
+  pub record HasTaken (old new : Seat (Slot M ghosts) (Known Beside)) (h : TheHome M ghosts) : Type 0 where
+    pub is_after : IsAfter t take_turn old new 0
+    pub in_turn : InTurn new h None
+    pub settled : IsSettled (state_of h.back)
 
   -- The seat made steps of the turn, and has this of the back's slot behind them, and perhaps a record in hand
   pub record Stepped (old new : Seat (Slot M ghosts) (Known Beside)) (h : TheHome M ghosts) (hand : Option (ℕ × RedoRecord)) : Type 0 where

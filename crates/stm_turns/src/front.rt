@@ -6,7 +6,7 @@ pub enum Front {
     /// There was none.
     Empty,
     /// It was persisted, and its box is empty.
-    Went,
+    Persisted,
     /// Its ring is full of records that can't be reproduced yet.
-    Stays,
+    Full,
 }

@@ -1,10 +1,11 @@
 //! A turn that persists what the boxes of all threads have.
 
-ghost use Rattle.std.specs.Prelude.{◌≡◌, ◌≤◌, ◌<◌, Some, [], IfOk, IfErr};
+ghost use Rattle.std.specs.Prelude.{◌≡◌, Some, [], IfOk, IfErr};
 ghost use Rattle.core_events.specs.Conditions.{May};
 ghost use Rattle.core_events.specs.Events.{take_turn as turn_taken};
 ghost use Rattle.core_table.specs.Steps.{BelongsTo};
 ghost use Rattle.stm_turns.specs.Pump.{HasPumped, HasPumpFault};
+ghost use Rattle.stm_turns.specs.Turns.{IsBare};
 
 use crate::pump_fault::PumpFault;
 use crate::pumped::Pumped;
@@ -14,22 +15,19 @@ use crate::turn::{give_turn, take_turn};
 use pmem_trait::Medium;
 use stm_slots::slots_rule::Events;
 
-/// Takes the turn, persists the records of full boxes of so many threads, those of the own thread
-/// last, empties these boxes, announces, reproduces, and gives the turn back.
+/// Takes the turn, persists the records of full boxes, those of the own thread last, empties these
+/// boxes, announces, reproduces, and gives the turn back.
 pub fn pump<M: Medium>(
     events: &Events<M>,
     seat: &mut SlotSeat<M>,
     own: u64,
-    threads: u64,
 ) -> Result<Pumped, PumpFault>
     requires seat { BelongsTo events.now seat.old }
     requires own { seat.old.me.0.view.part.thread ≡ Some own }
-    requires threads { (own < threads) × (threads ≤ events.now.setup.threads) }
     requires may { May events.now.setup turn_taken seat.old.me.0.view }
+    requires idle { seat.old.me.0.view.tx.hand.number ≡ 0 }
     requires bare { seat.old.me.1 ≡ [] }
-    ensures seat { BelongsTo events.now seat.new }
-    ensures id { seat.new.id ≡ seat.old.id }
-    ensures bare { seat.new.me.1 ≡ [] }
+    ensures left { IsBare events.now seat.old seat.new }
     ensures ok { IfOk result (λ pumped. HasPumped M.sight events.now pumped seat.old seat.new) }
     ensures err { IfErr result (λ fault. HasPumpFault M.sight events.now fault seat.old seat.new) }
 {
@@ -41,7 +39,7 @@ pub fn pump<M: Medium>(
         give_turn(events, seat, home, true);
         return Err(PumpFault::Dead);
     }
-    match settle(events, seat, &mut home, own, threads) {
+    match settle(events, seat, &mut home, own) {
         Ok(number) => {
             give_turn(events, seat, home, false);
             Ok(Pumped {

@@ -1,12 +1,12 @@
 //! The turn is taken and given.
 
-ghost use Rattle.std.specs.Prelude.{◌≡◌, true, [], None, Some, IfOk, IfErr, OnOk};
+ghost use Rattle.std.specs.Prelude.{◌≡◌, true, [], None, Some, IfOk, IfErr};
 ghost use Rattle.back_store.specs.BackView.{state_of};
 ghost use Rattle.core_events.specs.Conditions.{May};
 ghost use Rattle.core_events.specs.Events.{give_turn as turn_given, take_turn as turn_taken};
 ghost use Rattle.core_table.specs.Steps.{BelongsTo, IsAfter};
 ghost use Rattle.stm_slots.specs.Lists.{IsSettled};
-ghost use Rattle.stm_turns.specs.Turns.{InTurn, IsOthers};
+ghost use Rattle.stm_turns.specs.Turns.{HasTaken, InTurn, IsBare, IsOthers};
 
 use crate::slots::{SlotSeat, lay, take_home};
 use core_table::places::TURN;
@@ -27,9 +27,7 @@ pub fn take_turn<M: Medium>(
     requires may { May events.now.setup turn_taken seat.old.me.0.view }
     requires bare { seat.old.me.1 ≡ [] }
     ensures id { seat.new.id ≡ seat.old.id }
-    ensures ok { IfOk result (λ home. InTurn M.sight events.now seat.new home None) }
-    ensures settled { IfOk result (λ home. IsSettled (state_of home.back)) }
-    ensures view { OnOk result (IsAfter events.now turn_taken seat.old seat.new 0) }
+    ensures ok { IfOk result (λ home. HasTaken M.sight events.now seat.old seat.new home) }
     ensures err { IfErr result (λ seen. IsOthers events.now seen seat.old seat.new) }
 {
     let slot = events.box_count();
@@ -45,10 +43,8 @@ pub fn give_turn<M: Medium>(events: &Events<M>, seat: &mut SlotSeat<M>, home: Ho
     requires turn { InTurn M.sight events.now seat.old home None }
     requires fault { failed ≡ true → (state_of home.back).dead ≡ true }
     requires settled { IsSettled (state_of home.back) }
-    ensures id { seat.new.id ≡ seat.old.id }
-    ensures seat { BelongsTo events.now seat.new }
     ensures view { IsAfter events.now (turn_given failed) seat.old seat.new 0 }
-    ensures bare { seat.new.me.1 ≡ [] }
+    ensures bare { IsBare events.now seat.old seat.new }
 {
     let slot = events.box_count();
     lay(events, seat, slot, Slot::Home(home));

@@ -23,7 +23,7 @@ returns-then-found-eq0-clause-step g c =
 pub returns-then-found-eq0-clause-drawn : goal.returns-then-found-eq0-clause-drawn
 returns-then-found-eq0-clause-drawn g c =
     let x = c.load_by-found in
-    saw_drawn_none g.M.Medium.sight c.args.events.now c.args.seat.now x.new.seat x.result c.args.thread c.args.home.now c.requires.turn x.ensures.seat.0 x.ensures.seat.1 x.ensures.then c.if-found-eq0.true
+    λ own. saw_drawn_none g.M.Medium.sight c.args.events.now c.args.seat.now x.new.seat x.result c.args.thread c.args.home.now c.requires.turn x.ensures.seat.0 x.ensures.seat.1 x.ensures.then c.if-found-eq0.true own.0 own.1
 
 pub take_record-requires-clause-front : goal.take_record-requires-clause-front
 take_record-requires-clause-front g c =
@@ -41,5 +41,5 @@ returns-clause-step g c =
 pub returns-clause-drawn : goal.returns-clause-drawn
 returns-clause-drawn g c =
     let x = c.load_by-found in let i = c.requires.turn in let r = c.take_record in
-    saw_drawn_some g.M.Medium.sight c.args.events.now c.args.seat.now x.new.seat x.result c.args.thread c.args.home.now i x.ensures.seat.0 x.ensures.seat.1 x.ensures.then c.if-found-eq0.false
-    c.box_number-slot.result r.new.seat r.result r.ensures.me r.ensures.was
+    λ own. saw_drawn_some g.M.Medium.sight c.args.events.now c.args.seat.now x.new.seat x.result c.args.thread c.args.home.now i x.ensures.seat.0 x.ensures.seat.1 x.ensures.then c.if-found-eq0.false
+    c.box_number-slot.result r.new.seat r.result r.ensures.me r.ensures.was own.0 own.1

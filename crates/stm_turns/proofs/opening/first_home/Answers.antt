@@ -1,4 +1,4 @@
-use Rattle.std.proofs.Common.{refl, sym, arith}
+use Rattle.std.proofs.Common.{arith}
 use Rattle.stm_turns.proofs.Starting.{all_zero, is_first}
 use Rattle.stm_turns.proofs.opening.first_home.Goals as goal
 

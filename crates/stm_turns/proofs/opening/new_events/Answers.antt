@@ -1,4 +1,4 @@
-use Rattle.std.proofs.Common.{◌≡◌, List, [], ◌∷◌, map, refl, sym, subst}
+use Rattle.std.proofs.Common.{List, [], ◌∷◌, map, refl, sym, subst}
 use mathlib.Core.Option.{some}
 use Rattle.core_events.specs.Partings.{start}
 use Rattle.stm_slots.specs.Beside.{nothing_beside}

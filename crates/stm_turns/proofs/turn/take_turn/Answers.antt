@@ -6,7 +6,7 @@ use Rattle.stm_slots.specs.Turns.{Took}
 use Rattle.stm_slots.specs.declared.slot.Slot.TheVariants.{Home}
 use Rattle.stm_slots.proofs.Acting.{take_acts}
 use Rattle.stm_turns.proofs.Holdings.{front_of}
-use Rattle.stm_turns.proofs.Seats.{took_turn}
+use Rattle.stm_turns.proofs.Seats.{has_taken}
 use Rattle.stm_turns.proofs.turn.take_turn.Goals as goal
 
 pub exchange_by-seen-requires-clause-may : goal.exchange_by-seen-requires-clause-may
@@ -26,5 +26,5 @@ returns-clause-ok g c =
     let e = c.box_count-slot.ensures in let x = c.exchange_by-seen in let mid = x.new.seat in let z = setup_of g.M.Medium.sight c.args.events.now.key in let r = c.requires in
     let took : Took g.M.Medium.sight c.args.events.now.key c.args.seat.now.me mid.me = rw (eq-eqb x.result 0 c.if-seen-ne0.false) at x.ensures.then.1 in
     let is_slot : c.box_count-slot.result ≡ back_slot z = e.count ∙ ap (λ (y : Setup). y.threads * y.boxes) e.setup in
-    took_turn g.M.Medium.sight c.args.events.now c.args.seat.now mid c.take_home.new.seat x.result c.box_count-slot.result c.take_home.result r.seat e.setup r.may.live r.may.threaded r.bare
+    has_taken g.M.Medium.sight c.args.events.now c.args.seat.now mid c.take_home.new.seat x.result c.box_count-slot.result c.take_home.result r.seat e.setup r.may.live r.may.threaded r.bare
     x.ensures.seat.0 x.ensures.then.0 c.if-seen-ne0.false took is_slot c.take_home.ensures.same.0 c.take_home.ensures.me c.take_home.ensures.was

@@ -1,0 +1,13 @@
+use Rattle.std.proofs.Common.{◌≡◌, ◌≤◌, ℕ, false}
+use Rattle.std.specs.Prelude.{None}
+use Rattle.back_store.specs.BackView.{state_of}
+use Rattle.stm_turns.specs.Turns.{IsPast, Stepped}
+use Rattle.stm_turns.proofs.settle.persist_own.Given as goal
+
+-- each look that found a record raised the greatest number that is past
+abbrev pub invariant-loop-look : goal.invariant-loop-look
+invariant-loop-look g l = record {
+  step : Stepped g.M.Medium.sight l.events l.fn.seat l.seat l.home None;
+  alive : (state_of l.home.back).dead ≡ false;
+  past : (low : ℕ) × IsPast (state_of l.home.back) l.own low × (l._look ≤ low);
+}
