@@ -1,7 +1,7 @@
 pub mod Holdings
 pub mod Seats
 pub mod Calling
-pub mod Pumping
+pub mod WholeTurns
 pub mod Starting
 pub mod Past
 pub mod Fronts

@@ -2,15 +2,24 @@
 //! them durable.
 #![tactic(auto)]
 
-pub mod boxes;
-pub mod calls;
-pub mod closing;
-pub mod front;
-pub mod opening;
-pub mod pump;
-pub mod pump_fault;
-pub mod pumped;
-pub mod raises;
-pub mod settle;
-pub mod slots;
-pub mod turn;
+mod boxes;
+mod calls;
+mod closing;
+mod front;
+mod opening;
+mod pump_fault;
+mod pumped;
+mod pumping;
+mod raises;
+mod settling;
+mod slots;
+mod turn;
+
+pub use closing::close_events;
+pub use opening::{first_home, new_events};
+pub use pump_fault::PumpFault;
+pub use pumped::Pumped;
+pub use pumping::pump;
+pub use settling::settle;
+pub use slots::SlotSeat;
+pub use turn::{give_turn, take_turn};

@@ -5,7 +5,7 @@ use Rattle.stm_turns.specs.Front.{FrontDone}
 use Rattle.stm_turns.specs.declared.front.Front.{Front}
 use Rattle.stm_turns.proofs.Fronts.{none_over, own_still, past_more, through_empty, through_stuck}
 use Rattle.stm_turns.proofs.Seats.{same_turn, then_turn}
-use Rattle.stm_turns.proofs.settle.persist_own.Goals as goal
+use Rattle.stm_turns.proofs.settling.persist_own.Goals as goal
 
 pub loop-look-init : goal.loop-look-init
 loop-look-init g c = record { step = same_turn g.M.Medium.sight c.args.events.now c.args.seat.now c.args.home.now None c.requires.turn; alive = c.requires.alive; past = (0, inl (omega arith), (omega arith)) }

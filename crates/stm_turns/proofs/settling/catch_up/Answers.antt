@@ -1,7 +1,7 @@
 use Rattle.back_store.specs.BackView.{state_of}
 use Rattle.stm_turns.proofs.Past.{then_past}
 use Rattle.stm_turns.proofs.Seats.{then_turn}
-use Rattle.stm_turns.proofs.settle.catch_up.Goals as goal
+use Rattle.stm_turns.proofs.settling.catch_up.Goals as goal
 
 pub reproduce-requires-clause-turn : goal.reproduce-requires-clause-turn
 reproduce-requires-clause-turn g c = (c.requires.turn.0, (c.announce.ensures.step c.requires.turn.0 c.requires.turn.1).turn)

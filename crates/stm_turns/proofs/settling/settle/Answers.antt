@@ -2,7 +2,7 @@ use Rattle.std.specs.Prelude.{None}
 use Rattle.back_store.specs.BackView.{state_of}
 use Rattle.stm_turns.proofs.Fronts.{not_next, own_still}
 use Rattle.stm_turns.proofs.Seats.{then_turn}
-use Rattle.stm_turns.proofs.settle.settle.Goals as goal
+use Rattle.stm_turns.proofs.settling.settle.Goals as goal
 
 pub returns-in_err-persist_threads-2-clause-step : goal.returns-in_err-persist_threads-2-clause-step
 returns-in_err-persist_threads-2-clause-step g c =

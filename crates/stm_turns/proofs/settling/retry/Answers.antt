@@ -3,7 +3,7 @@ use Rattle.back_store.specs.BackView.{state_of}
 use Rattle.stm_turns.proofs.Calling.{settled_at}
 use Rattle.stm_turns.proofs.Fronts.{tried_behind}
 use Rattle.stm_turns.proofs.Seats.{then_turn, may_put_back}
-use Rattle.stm_turns.proofs.settle.retry.Goals as goal
+use Rattle.stm_turns.proofs.settling.retry.Goals as goal
 
 pub try_again-requires-clause-turn : goal.try_again-requires-clause-turn
 try_again-requires-clause-turn g c = (c.catch_up.ensures.step (Some (c.args.thread, c.args.redo)) c.requires.turn).turn

@@ -9,7 +9,7 @@ ghost use Rattle.stm_turns.specs.Turns.{IsBare};
 
 use crate::pump_fault::PumpFault;
 use crate::pumped::Pumped;
-use crate::settle::settle;
+use crate::settling::settle;
 use crate::slots::SlotSeat;
 use crate::turn::{give_turn, take_turn};
 use pmem_trait::Medium;

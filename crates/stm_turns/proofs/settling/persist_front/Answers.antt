@@ -4,7 +4,7 @@ use Rattle.back_store.specs.declared.back_fault.BackFault.TheVariants.{RingFull,
 use Rattle.back_store.specs.BackView.{state_of}
 use Rattle.stm_turns.proofs.Fronts.{late_at, retry_done}
 use Rattle.stm_turns.proofs.Seats.{then_turn, left_turn}
-use Rattle.stm_turns.proofs.settle.persist_front.Goals as goal
+use Rattle.stm_turns.proofs.settling.persist_front.Goals as goal
 
 pub returns-in-Ok-clause-step : goal.returns-in-Ok-clause-step
 returns-in-Ok-clause-step g c =

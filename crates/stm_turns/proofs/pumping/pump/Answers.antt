@@ -2,9 +2,9 @@ use Rattle.std.proofs.Common.{refl, sym, ◌∙◌, true, false}
 use Rattle.std.specs.Prelude.{None}
 use Rattle.back_store.specs.BackView.{state_of}
 use Rattle.stm_turns.proofs.Calling.{settled_at, settled_dead}
-use Rattle.stm_turns.proofs.Pumping.{bare_from, has_pumped, has_failed, own_taken}
+use Rattle.stm_turns.proofs.WholeTurns.{bare_from, has_pumped, has_failed, own_taken}
 use Rattle.stm_turns.proofs.Seats.{same_turn}
-use Rattle.stm_turns.proofs.pump.pump.Goals as goal
+use Rattle.stm_turns.proofs.pumping.pump.Goals as goal
 
 pub returns-in-Err-clause-left : goal.returns-in-Err-clause-left
 returns-in-Err-clause-left g c = let e = c.in-Err.ensures.err in record { belongs = e.belongs; id = c.take_turn.ensures.id; slots = e.bare }

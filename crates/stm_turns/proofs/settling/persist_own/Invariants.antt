@@ -2,7 +2,7 @@ use Rattle.std.proofs.Common.{◌≡◌, ◌≤◌, ℕ, false}
 use Rattle.std.specs.Prelude.{None}
 use Rattle.back_store.specs.BackView.{state_of}
 use Rattle.stm_turns.specs.Turns.{IsPast, Stepped}
-use Rattle.stm_turns.proofs.settle.persist_own.Given as goal
+use Rattle.stm_turns.proofs.settling.persist_own.Given as goal
 
 -- each look that found a record raised the greatest number that is past
 abbrev pub invariant-loop-look : goal.invariant-loop-look

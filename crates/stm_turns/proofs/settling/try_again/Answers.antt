@@ -4,7 +4,7 @@ use Rattle.back_store.specs.declared.back_fault.BackFault.TheVariants.{RingFull,
 use Rattle.back_store.specs.BackView.{state_of}
 use Rattle.stm_turns.proofs.Fronts.{late_at, stays_full}
 use Rattle.stm_turns.proofs.Seats.{then_turn, may_put_back, left_turn}
-use Rattle.stm_turns.proofs.settle.try_again.Goals as goal
+use Rattle.stm_turns.proofs.settling.try_again.Goals as goal
 
 pub returns-in-Ok-clause-step : goal.returns-in-Ok-clause-step
 returns-in-Ok-clause-step g c = c.in-Ok.ensures.step
