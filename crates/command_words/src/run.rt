@@ -87,8 +87,10 @@ fn run_words(words: &[RcStr]) -> RunWords<'_>
 
 // The number word of an option that may stand in front, and the words behind it.
 fn in_front<'a>(option: &str, words: &'a [RcStr]) -> (Option<&'a RcStr>, &'a [RcStr])
-    ensures number { text_of rc_str_bytes result.0 ≡ (in_front option.now (map rc_str_bytes words.now)).0 }
-    ensures rest { map rc_str_bytes result.1.now ≡ (in_front option.now (map rc_str_bytes words.now)).1 }
+    ensures number { text_of rc_str_bytes result.0
+        ≡ (in_front option.now (map rc_str_bytes words.now)).0 }
+    ensures rest { map rc_str_bytes result.1.now
+        ≡ (in_front option.now (map rc_str_bytes words.now)).1 }
 {
     match words {
         [word, number, rest @ ..] if word.as_str() == option => (Some(number), rest),
