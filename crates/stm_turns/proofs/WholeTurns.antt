@@ -20,7 +20,7 @@ use Rattle.stm_turns.specs.Front.{NextIsNotDrawn}
 use Rattle.stm_turns.specs.Turns.{EndsSettled, HasTaken, IsBare, IsOwn, Stepped, settled_view}
 use Rattle.stm_turns.specs.declared.pumped.Pumped.{Pumped}
 
-or_true : (b : Bool) → (b || true) ≡ true
+pub or_true : (b : Bool) → (b || true) ≡ true
 or_true true = refl
 or_true false = refl
 

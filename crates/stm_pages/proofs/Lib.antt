@@ -1,0 +1,6 @@
+pub mod Turning
+pub mod PageActs
+pub mod Filled
+pub mod Maps
+pub mod Rounds
+pub mod Fetched
