@@ -86,7 +86,7 @@ module _ {M : Type 0} {ghosts : Ghosts M} (sight : M → Sight) (t : TableSight 
       has_fetched page (Ok done) c = let given = given_well c.1.settled.is.alive in record {
         number = c.0;
         settled = has_settled c.0 c.1 given before;
-        shown = (c.2.0, (ap (λ (v : View). find v.paging.entries page) given ∙ c.2.1, c.2.2));
+        shown = (c.2.0, ap (λ (v : View). find v.paging.entries page) given ∙ c.2.1, c.2.2);
       }
       has_fetched page (Err e) c = tt
 
@@ -101,7 +101,7 @@ module _ {M : Type 0} {ghosts : Ghosts M} (sight : M → Sight) (t : TableSight 
         number = c.0;
         settled = has_settled c.0 c.1 given before;
         pinned = record {
-          each = λ f lt. let p = c.2.each f lt in (p.0, p.1, (ap (λ (v : View). find v.paging.entries p.0) given ∙ p.2, p.3, p.4));
+          each = λ f lt. let p = c.2.each f lt in (p.0, p.1, ap (λ (v : View). find v.paging.entries p.0) given ∙ p.2, p.3, p.4);
           last = ap (λ (v : View). find v.paging.entries final) given ∙ c.2.last;
           pins = c.2.pins;
         };

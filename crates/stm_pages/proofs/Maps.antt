@@ -1,5 +1,5 @@
 -- Maps of pages: which frames are occupied, and where the hand goes.
-use Rattle.std.proofs.Common.{◌≡◌, ◌≢◌, ℕ, zero, suc, ◌+◌, ◌%◌, ◌<◌, ◌≤◌, List, length, refl, sym, ap, ◌∙◌, subst, ⊎_elim, inl, inr, arith, length-set, eq-eqb, ne_eqb}
+use Rattle.std.proofs.Common.{◌≡◌, ◌≢◌, ℕ, zero, suc, ◌+◌, ◌%◌, ◌<◌, ◌≤◌, List, [], ◌∷◌, length, refl, sym, ap, ◌∙◌, subst, ⊎_elim, inl, inr, arith, length-set, eq-eqb, ne_eqb}
 use Rattle.std.specs.Prelude.{Option, Some, None, slice_get, slice_set}
 use Rattle.std.proofs.Math.Nat.{mod-eq_of_lt}
 use Rattle.std.proofs.lemmas.Option.{slice_get_within, same_Some, none-some}
@@ -59,6 +59,36 @@ evicted_map p n v map e = rw (eq-eqb n (without_pins (kept_entry v p)) e) refl
 
 pub missed_map : (p n : ℕ) (v : View) (map : PageMap) → n ≢ without_pins (kept_entry v p) → map_evicted p v map n ≡ map
 missed_map p n v map e = rw (ne_eqb n (without_pins (kept_entry v p)) e) refl
+
+-- the entry kept is the one found last
+pub kept_is : (v : View) (p n : ℕ) → find v.paging.entries p ≡ Some n → kept_entry v p ≡ n
+kept_is v p n e = rw e refl
+
+-- the map where a page was dropped whose entry was the kept one
+pub dropped_map : (v : View) (p n kept : ℕ) (map new : PageMap) → find v.paging.entries p ≡ Some kept → kept ≡ without_pins kept → n ≡ kept → new ≡ map_with map (frame_in kept) None → map_evicted p v map n ≡ new
+dropped_map v p n kept map new e bare same is =
+    let found : n ≡ without_pins (kept_entry v p) = same ∙ (bare ∙ ap without_pins (sym (kept_is v p kept e))) in
+    evicted_map p n v map found ∙ (ap (λ (m : ℕ). map_with map (frame_in m) None) same ∙ sym is)
+
+-- another entry was found than the one kept
+pub found_other : (v : View) (p n kept : ℕ) → find v.paging.entries p ≡ Some kept → kept ≡ without_pins kept → n ≢ kept → n ≢ without_pins (kept_entry v p)
+found_other v p n kept e bare other f = other (f ∙ (ap without_pins (kept_is v p kept e) ∙ sym bare))
+
+pub other_map : (v : View) (p n kept : ℕ) (map : PageMap) → find v.paging.entries p ≡ Some kept → kept ≡ without_pins kept → n ≢ kept → map_evicted p v map n ≡ map
+other_map v p n kept map e bare other = missed_map p n v map (found_other v p n kept e bare other)
+
+-- the frame of a page that was evicted is free
+pub evicted_free : (v : View) (p n kept : ℕ) (map new : PageMap) → find v.paging.entries p ≡ Some kept → kept ≡ without_pins kept → n ≡ kept → Holds map (frame_in kept) p → new ≡ map_evicted p v map n → IsFree new (frame_in kept)
+evicted_free v p n kept map new e bare same holds is =
+    subst (λ (m : PageMap). IsFree m (frame_in kept)) (sym (is ∙ dropped_map v p n kept map (map_with map (frame_in kept) None) e bare same refl)) (now_free map (frame_in kept) p holds)
+
+-- the map without a page is one of the setup
+pub map_less : (z : Setup) (map new : PageMap) (f : ℕ) → IsMapOf z map → new ≡ map_with map f None → IsOneToOne new → IsMapOf z new
+map_less z map new f m is one = record {
+  pages = ap (λ (w : PageMap). w.pages) is ∙ m.pages;
+  frames = ap (λ (w : PageMap). length w.frames) is ∙ (length-set map.frames f None ∙ m.frames);
+  one_to_one = one;
+}
 
 -- ---- entries
 -- an entry without pins is the only one of its frame

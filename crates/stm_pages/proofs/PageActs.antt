@@ -53,7 +53,7 @@ module _ {M : Type 0} {ghosts : Ghosts M} (sight : M → Sight) (o : Opening M g
     abbrev made_of : Hands → PageMap → Hands
     made_of hs map = record hs { lists = lists (state_of h.back) hs.lists.records; map = map }
 
-    abbrev pub went_paged : (e : Event) (map : ℕ → PageMap) (n : ℕ) (w : Seated M ghosts) → MappedTo sight o e now map me n w → PagedTo sight o e (record h { pager = map n }) me n w
+    pub went_paged : (e : Event) (map : ℕ → PageMap) (n : ℕ) (w : Seated M ghosts) → MappedTo sight o e now map me n w → PagedTo sight o e (record h { pager = map n }) me n w
     went_paged e map n w s = record {
       told = s.told;
       view = s.view;

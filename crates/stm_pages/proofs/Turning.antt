@@ -79,10 +79,10 @@ module _ {M : Type 0} {ghosts : Ghosts M} (sight : M → Sight) (t : TableSight 
     abbrev after : List RedoRecord → Hands
     after rs = record (hands_of sight h rs i.holding.shown (hand_boxes z h.next None)) { map = map }
 
-    beside_is : new.me.0.beside.turn ≡ Some (after i.holding.records)
+    pub beside_is : new.me.0.beside.turn ≡ Some (after i.holding.records)
     beside_is = to.beside before i.holding.hands ∙ ap (λ (rs : List RedoRecord). Some (after rs)) i.same
 
-    page_is : page_view new.me.0.view ≡ page_view old.me.0.view
+    pub page_is : page_view new.me.0.view ≡ page_view old.me.0.view
     page_is = ap page_view to.view ∙ view
 
     abbrev pub acted_turn : HasTurn sight t new (record h { pager = map })
@@ -109,7 +109,7 @@ module _ {M : Type 0} {ghosts : Ghosts M} (sight : M → Sight) (t : TableSight 
       in_hand = i.in_hand;
     }
 
-    shown_on : (k : ℕ) → HasShown old k → HasShown new k
+    pub shown_on : (k : ℕ) → HasShown old k → HasShown new k
     shown_on k was hs is =
         let same : after i.holding.records ≡ hs = some_hands (after i.holding.records) hs (sym beside_is ∙ is) in
         sym (ap (λ (a : Hands). a.shown) same) ∙ was before i.holding.hands

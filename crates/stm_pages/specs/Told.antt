@@ -1,5 +1,5 @@
 -- What a step on a page's entry tells the thread with the turn.
-use Rattle.std.specs.Prelude.{◌≡◌, ◌×◌, ℕ, Some}
+use Rattle.std.specs.Prelude.{◌≡◌, ℕ, Some}
 use Rattle.pmem_trait.specs.Sights.{Sight}
 use Rattle.pmem_trait.specs.declared.medium.Medium.{Ghosts}
 use Rattle.back_store.specs.BackView.{state_of}

@@ -4,7 +4,7 @@ ghost use Rattle.std.specs.Prelude.{◌≡◌, ◌<◌};
 ghost use Rattle.core_events.specs.Events.{entry as entry_loaded, evict as page_evicted};
 ghost use Rattle.core_table.specs.Steps.{IsAfter};
 ghost use Rattle.stm_pages.specs.Frames.{IsUnpinned, MayMakeRoom};
-ghost use Rattle.stm_pages.specs.Paging.{FindsEntry, HasTurned, Paged};
+ghost use Rattle.stm_pages.specs.Paging.{FindsEntry, HasTurned, IsMapOf, Paged};
 ghost use Rattle.stm_slots.specs.Turns.{map_evicted};
 
 use core_table::places::ENTRY;
@@ -49,6 +49,7 @@ pub fn evict<M: Medium>(
     ensures pager { home.new.pager ≡ map_evicted page seat.old.me.0.view home.old.pager result }
     ensures view { IsAfter events.now (page_evicted page) seat.old seat.new result }
     ensures found { FindsEntry events.now.setup home.old.pager page result }
+    ensures map { IsMapOf events.now.setup home.new.pager }
 {
     let place = events.entry_place(page);
     let seen = events.exchange_by::<Brand, (u64, &Home<M>)>(
