@@ -1,0 +1,25 @@
+use Rattle.std.proofs.Common.{◌≡◌, ◌<◌, ◌∙◌, refl, sym, ap, arith}
+use Rattle.core_events.specs.Setups.{Setup}
+use Rattle.stm_slots.specs.Opening.{since_of}
+use Rattle.stm_pages.proofs.Placing.{may_fill_read, read_died, read_turn}
+use Rattle.stm_pages.proofs.Turning.{same_paged, then_paged}
+use Rattle.back_store.specs.BackView.{state_of}
+use Rattle.stm_pages.proofs.filling.place_page.Goals as goal
+
+pub read_page-requires : goal.read_page-requires
+read_page-requires g c =
+    let r = c.requires.place.room in let i = r.turn in let setup = ap (λ (y : Setup). y.pages) i.setup in let few = i.holding.pages in let m = r.map_is.pages in let low = r.absent.inside in omega arith
+
+pub returns-in_err-read_page-clause-step : goal.returns-in_err-read_page-clause-step
+returns-in_err-read_page-clause-step g c =
+    let t = c.args.stm.now.events in let i = c.requires.place.room.turn in let x = c.read_page in let h = c.args.home.now in let sight = g.M.Medium.sight in
+    same_paged sight t c.args.seat.now (record h { back = x.new.back }) (read_turn sight t c.args.seat.now h x.new.back i x.result x.ensures.state (x.ensures.known (since_of sight t.key) i.holding.records i.holding.known))
+
+pub returns-in_err-read_page-clause-err : goal.returns-in_err-read_page-clause-err
+returns-in_err-read_page-clause-err g c = ?
+
+pub fill_words-requires : goal.fill_words-requires
+fill_words-requires g c = ?
+
+pub returns-clause-step : goal.returns-clause-step
+returns-clause-step g c = ?
