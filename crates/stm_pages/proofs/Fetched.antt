@@ -21,6 +21,7 @@ use Rattle.stm_turns.proofs.Calling.{settled_at, settled_dead}
 use Rattle.stm_turns.proofs.WholeTurns.{or_true}
 use Rattle.stm_pages.specs.Fetch.{ComesTo, HadTurn, HasFailed, HasFetchFault, HasFetched, HasSettled, SettledTo, Turned}
 use Rattle.stm_pages.specs.Paging.{HasTurn, Paged, turn_view}
+use Rattle.stm_pages.proofs.Turning.{settled_on}
 use Rattle.stm_pages.specs.declared.fetch_fault.FetchFault.{FetchFault}
 use Rattle.stm_pages.specs.declared.fetch_fault.FetchFault.TheVariants.{Held, Device, Dead, Behind, AllPinned}
 
@@ -37,6 +38,9 @@ module _ {M : Type 0} {ghosts : Ghosts M} (sight : M → Sight) (t : TableSight 
 
   pub paged_turned : (old mid new : TurnSeat) (h h2 : TheHome M ghosts) → Turned sight t old mid h → Paged sight t mid new h2 → Turned sight t old new h2
   paged_turned old mid new h h2 a b = record { id = b.id ∙ a.id; turn = b.turn; view = ap turn_view b.view ∙ a.view }
+
+  pub settled_to_on : (n : ℕ) (old new : TurnSeat) (h h2 : TheHome M ghosts) → SettledTo sight t n old h → Paged sight t old new h2 → state_of h2.back ≡ state_of h.back → SettledTo sight t n new h2
+  settled_to_on n old new h h2 s step same = record { settled = settled_on sight t old new h h2 n s.settled step same; next = ap (λ (v : View). has v.drawn (n + 1)) step.view ∙ s.next }
 
   -- ---- at the end of the turn
   pub settled_comes : (page : ℕ) (result : Result (Unit {0}) FetchFault) (seat : TurnSeat) (h : TheHome M ghosts) → ComesTo sight t page result seat h → IsSettled (state_of h.back)
