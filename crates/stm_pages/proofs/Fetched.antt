@@ -1,13 +1,13 @@
 -- What a turn that brings a page into a frame leaves of the seat that had it.
-use Rattle.std.proofs.Common.{◌≡◌, ◌+◌, ℕ, ◌||◌, Bool, true, false, refl, sym, ap, ◌∙◌, subst}
-use Rattle.std.specs.Prelude.{Some, Result, Ok, Err, IfOk, IfErr}
+use Rattle.std.proofs.Common.{◌≡◌, ◌+◌, ◌<◌, ℕ, ◌||◌, Bool, true, false, refl, sym, ap, ◌∙◌, subst, arith}
+use Rattle.std.specs.Prelude.{None, Some, Result, Ok, Err, IfOk, IfErr}
 use Rattle.pmem_trait.specs.Sights.{Sight}
 use Rattle.pmem_trait.specs.declared.medium.Medium.{Ghosts}
 use Rattle.atomic_table.specs.declared.shared.Seat.{Seat}
 use Rattle.back_store.specs.BackView.{state_of}
 use Rattle.core_events.specs.Keyed.{find, has}
 use Rattle.core_events.specs.Views.{View}
-use Rattle.core_events.specs.Events.{take_turn, give_turn, view_after}
+use Rattle.core_events.specs.Events.{entry, take_turn, give_turn, view_after}
 use Rattle.core_table.specs.Known.{Known}
 use Rattle.core_table.specs.Layout.{TableSight}
 use Rattle.core_table.specs.Steps.{IsAfter}
@@ -20,7 +20,9 @@ use Rattle.stm_turns.specs.Turns.{HasTaken, Stepped}
 use Rattle.stm_turns.proofs.Calling.{settled_at, settled_dead}
 use Rattle.stm_turns.proofs.WholeTurns.{or_true}
 use Rattle.stm_pages.specs.Fetch.{ComesTo, HadTurn, HasFailed, HasFetchFault, HasFetched, HasSettled, SettledTo, Turned}
-use Rattle.stm_pages.specs.Paging.{HasTurn, Paged, turn_view}
+use Rattle.stm_pages.specs.Frames.{MayMakeRoom}
+use Rattle.stm_pages.specs.Paging.{FindsEntry, HasTurn, Paged, turn_view}
+use Rattle.stm_pages.proofs.Evicting.{entry_kept}
 use Rattle.stm_pages.proofs.Turning.{settled_on}
 use Rattle.stm_pages.specs.declared.fetch_fault.FetchFault.{FetchFault}
 use Rattle.stm_pages.specs.declared.fetch_fault.FetchFault.TheVariants.{Held, Device, Dead, Behind, AllPinned}
@@ -33,14 +35,27 @@ module _ {M : Type 0} {ghosts : Ghosts M} (sight : M → Sight) (t : TableSight 
   pub same_turned : (old : TurnSeat) (h : TheHome M ghosts) → HasTurn sight t old h → Turned sight t old old h
   same_turned old h i = record { id = refl; turn = i; view = refl }
 
-  pub stepped_turned : (old new : TurnSeat) (h : TheHome M ghosts) (id : new.id ≡ old.id) (turn : HasTurn sight t new h) → turn_view new.me.0.view ≡ turn_view old.me.0.view → Turned sight t old new h
-  stepped_turned old new h id turn view = record { id = id; turn = turn; view = view }
+  -- other steps of the turn
+  pub settle_turned : (old new : TurnSeat) (h : TheHome M ghosts) → Stepped sight t old new h None → Turned sight t old new h
+  settle_turned old new h s = record { id = s.id; turn = s.turn; view = ap turn_view s.view }
 
   pub paged_turned : (old mid new : TurnSeat) (h h2 : TheHome M ghosts) → Turned sight t old mid h → Paged sight t mid new h2 → Turned sight t old new h2
   paged_turned old mid new h h2 a b = record { id = b.id ∙ a.id; turn = b.turn; view = ap turn_view b.view ∙ a.view }
 
   pub settled_to_on : (n : ℕ) (old new : TurnSeat) (h h2 : TheHome M ghosts) → SettledTo sight t n old h → Paged sight t old new h2 → state_of h2.back ≡ state_of h.back → SettledTo sight t n new h2
   settled_to_on n old new h h2 s step same = record { settled = settled_on sight t old new h h2 n s.settled step same; next = ap (λ (v : View). has v.drawn (n + 1)) step.view ∙ s.next }
+
+  -- the page was seen to be absent
+  pub absent_room : (page n : ℕ) (old new : TurnSeat) (h : TheHome M ghosts) → Paged sight t old new h → IsAfter t (entry page) old new n → FindsEntry t.setup h.pager page n → n ≡ 0 → page < t.setup.pages → MayMakeRoom sight t page new h
+  absent_room page n old new h step view found zero inside = record {
+    turn = step.turn;
+    map_is = found.map_is;
+    absent = record {
+      inside = (let e = found.map_is.pages in omega arith);
+      seen = entry_kept t.setup old.me.0.view new.me.0.view page n view ∙ ap (λ (d : ℕ). Some d) zero;
+      out = λ is. let pos = (found.named is.frame is.holds).0 in absurd (omega arith);
+    };
+  }
 
   -- ---- at the end of the turn
   pub settled_comes : (page : ℕ) (result : Result (Unit {0}) FetchFault) (seat : TurnSeat) (h : TheHome M ghosts) → ComesTo sight t page result seat h → IsSettled (state_of h.back)
