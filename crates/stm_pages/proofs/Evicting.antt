@@ -1,6 +1,6 @@
 -- A round of the search for a frame: the entry of the page at the hand is looked at, and the page is evicted unless it is pinned.
-use Rattle.std.proofs.Common.{◌≡◌, ◌≢◌, ◌==◌, ℕ, ◌<◌, Bool, true, false, List, ◌∷◌, length, refl, sym, ap, ◌∙◌, subst, ne_eqb, arith}
-use Rattle.std.specs.Prelude.{Option, Some, None, slice_get, if◌then◌else◌}
+use Rattle.std.proofs.Common.{◌≡◌, ◌≢◌, ◌==◌, ℕ, ◌<◌, Bool, true, false, ◌∷◌, refl, sym, ap, ◌∙◌, subst, ne_eqb, arith}
+use Rattle.std.specs.Prelude.{Some, if◌then◌else◌}
 use mathlib.Core.Logic.{dite}
 use native.Mathlib.Decide.{ℕ_discrete}
 use Rattle.pmem_trait.specs.Sights.{Sight}
@@ -21,8 +21,7 @@ use Rattle.stm_slots.specs.declared.home.Home.{Home as TheHome}
 use Rattle.stm_slots.specs.declared.slot.Slot.{Slot}
 use Rattle.stm_slots.specs.declared.opening.Opening.{Opening}
 use Rattle.stm_pages.specs.Frames.{FoundPinned, MadeRoom, MayMakeRoom}
-use Rattle.stm_pages.specs.Paging.{FindsEntry, HasPins, IsAbsent, IsMapOf, Paged}
-use Rattle.stm_pages.specs.declared.pinned_page.PinnedPage.{PinnedPage}
+use Rattle.stm_pages.specs.Paging.{FindsEntry, HasPins, IsMapOf, Paged}
 use Rattle.stm_pages.proofs.Maps.{evicted_map, missed_map, still_out, victim_here}
 use Rattle.stm_pages.proofs.Turning.{same_paged, then_paged}
 

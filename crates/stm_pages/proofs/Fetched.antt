@@ -1,5 +1,5 @@
 -- What a turn that brings a page into a frame leaves of the seat that had it.
-use Rattle.std.proofs.Common.{◌≡◌, ◌+◌, ◌<◌, ℕ, ◌||◌, Bool, true, false, refl, sym, ap, ◌∙◌, subst, arith}
+use Rattle.std.proofs.Common.{◌≡◌, ◌+◌, ◌<◌, ℕ, Bool, true, false, refl, ap, ◌∙◌, subst, arith}
 use Rattle.std.specs.Prelude.{None, Some, Result, Ok, Err, IfOk, IfErr}
 use Rattle.pmem_trait.specs.Sights.{Sight}
 use Rattle.pmem_trait.specs.declared.medium.Medium.{Ghosts}
@@ -7,7 +7,7 @@ use Rattle.atomic_table.specs.declared.shared.Seat.{Seat}
 use Rattle.back_store.specs.BackView.{state_of}
 use Rattle.core_events.specs.Keyed.{find, has}
 use Rattle.core_events.specs.Views.{View}
-use Rattle.core_events.specs.Events.{entry, take_turn, give_turn, view_after}
+use Rattle.core_events.specs.Events.{entry, give_turn, view_after}
 use Rattle.core_table.specs.Known.{Known}
 use Rattle.core_table.specs.Layout.{TableSight}
 use Rattle.core_table.specs.Steps.{IsAfter}
@@ -19,7 +19,7 @@ use Rattle.stm_slots.specs.declared.opening.Opening.{Opening}
 use Rattle.stm_turns.specs.Turns.{HasTaken, Stepped}
 use Rattle.stm_turns.proofs.Calling.{settled_at, settled_dead}
 use Rattle.stm_turns.proofs.WholeTurns.{or_true}
-use Rattle.stm_pages.specs.Fetch.{ComesTo, HadTurn, HasFailed, HasFetchFault, HasFetched, HasSettled, SettledTo, Turned}
+use Rattle.stm_pages.specs.Fetch.{ComesTo, HadTurn, HasFailed, HasFetchFault, HasFetched, HasSettled, SettledTo, KeepsTurn}
 use Rattle.stm_pages.specs.Frames.{MayMakeRoom}
 use Rattle.stm_pages.specs.Paging.{FindsEntry, HasTurn, Paged, turn_view}
 use Rattle.stm_pages.proofs.Evicting.{entry_kept}
@@ -32,15 +32,15 @@ module _ {M : Type 0} {ghosts : Ghosts M} (sight : M → Sight) (t : TableSight 
   TurnSeat = Seat (Slot M ghosts) (Known Beside)
 
   -- ---- steps of the turn
-  pub same_turned : (old : TurnSeat) (h : TheHome M ghosts) → HasTurn sight t old h → Turned sight t old old h
-  same_turned old h i = record { id = refl; turn = i; view = refl }
+  pub turn_same : (old : TurnSeat) (h : TheHome M ghosts) → HasTurn sight t old h → KeepsTurn sight t old old h
+  turn_same old h i = record { id = refl; turn = i; view = refl }
 
   -- other steps of the turn
-  pub settle_turned : (old new : TurnSeat) (h : TheHome M ghosts) → Stepped sight t old new h None → Turned sight t old new h
-  settle_turned old new h s = record { id = s.id; turn = s.turn; view = ap turn_view s.view }
+  pub turn_settled : (old new : TurnSeat) (h : TheHome M ghosts) → Stepped sight t old new h None → KeepsTurn sight t old new h
+  turn_settled old new h s = record { id = s.id; turn = s.turn; view = ap turn_view s.view }
 
-  pub paged_turned : (old mid new : TurnSeat) (h h2 : TheHome M ghosts) → Turned sight t old mid h → Paged sight t mid new h2 → Turned sight t old new h2
-  paged_turned old mid new h h2 a b = record { id = b.id ∙ a.id; turn = b.turn; view = ap turn_view b.view ∙ a.view }
+  pub turn_paged : (old mid new : TurnSeat) (h h2 : TheHome M ghosts) → KeepsTurn sight t old mid h → Paged sight t mid new h2 → KeepsTurn sight t old new h2
+  turn_paged old mid new h h2 a b = record { id = b.id ∙ a.id; turn = b.turn; view = ap turn_view b.view ∙ a.view }
 
   pub settled_to_on : (n : ℕ) (old new : TurnSeat) (h h2 : TheHome M ghosts) → SettledTo sight t n old h → Paged sight t old new h2 → state_of h2.back ≡ state_of h.back → SettledTo sight t n new h2
   settled_to_on n old new h h2 s step same = record { settled = settled_on sight t old new h h2 n s.settled step same; next = ap (λ (v : View). has v.drawn (n + 1)) step.view ∙ s.next }
@@ -66,7 +66,7 @@ module _ {M : Type 0} {ghosts : Ghosts M} (sight : M → Sight) (t : TableSight 
   settled_comes page (Err (Held seen)) seat h c = absurd c
   settled_comes page (Err Dead) seat h c = absurd c
 
-  module _ (old took gave new : TurnSeat) (first last : TheHome M ghosts) (taken : HasTaken sight t old took first) (steps : Turned sight t took gave last) where
+  module _ (old took gave new : TurnSeat) (first last : TheHome M ghosts) (taken : HasTaken sight t old took first) (steps : KeepsTurn sight t took gave last) where
     abbrev pub had_turn : (failed : Bool) → IsAfter t (give_turn failed) gave new 0 → HadTurn sight t failed old new
     had_turn failed is_given = record {
       took = took;

@@ -1,30 +1,27 @@
 -- Words of a page are filled into a frame: what the rest of the state has then, and what the view keeps.
-use Rattle.std.proofs.Common.{◌≡◌, ◌≢◌, ◌==◌, ◌||◌, ◌⊎◌, ℕ, ◌+◌, ◌-◌, ◌*◌, ◌<◌, ◌≤◌, Bool, true, false, List, [], ◌∷◌, map, get_or, refl, sym, ap, ◌∙◌, subst, inl, inr, ⊎_elim, eq-eqb, ne_eqb, arith}
+use Rattle.std.proofs.Common.{◌≡◌, ◌==◌, ◌||◌, ◌⊎◌, ℕ, ◌+◌, ◌-◌, ◌*◌, ◌<◌, Bool, true, false, List, [], ◌∷◌, map, get_or, refl, sym, ap, ◌∙◌, subst, inl, inr, ⊎_elim, eq-eqb, ne_eqb, arith}
 use Rattle.std.specs.Prelude.{Option, Some, None}
 use mathlib.Core.Option.{some}
 use mathlib.Core.Logic.{dite}
 use native.Mathlib.Decide.{ℕ_discrete}
 use lib.ListN.{get_elem?}
-use Rattle.std.proofs.lemmas.Bool.{false≢true}
 use Rattle.dude_base.specs.declared.limits.TheConstants.{PAGE}
 use Rattle.pmem_trait.specs.Sights.{Sight}
 use Rattle.pmem_trait.specs.declared.medium.Medium.{Ghosts}
-use Rattle.atomic_table.specs.Table.{State as TableState}
 use Rattle.atomic_table.specs.declared.shared.Seat.{Seat}
 use Rattle.back_store.specs.BackView.{state_of}
-use Rattle.core_events.specs.Setups.{Setup, page_of, frame_in}
-use Rattle.core_events.specs.Keyed.{find, total}
+use Rattle.core_events.specs.Setups.{Setup, page_of}
+use Rattle.core_events.specs.Keyed.{total}
 use Rattle.core_events.specs.Views.{View}
-use Rattle.core_events.specs.Entries.{value, value_at, all_entries}
+use Rattle.core_events.specs.Entries.{value_at, all_entries}
 use Rattle.core_events.specs.Events.{fill, refilled}
 use Rattle.core_events.specs.Conditions.{IsFilled}
 use Rattle.core_events.specs.KeptPages.{entry_word, pins_at, pins_of}
 use Rattle.core_events.proofs.Lists.{at_map, eq_of}
 use Rattle.core_table.specs.Known.{Known, view_of, beside_of}
 use Rattle.core_table.specs.Layout.{TableSight}
-use Rattle.core_table.specs.Rules.{Holds, Foreseen}
+use Rattle.core_table.specs.Rules.{Foreseen}
 use Rattle.known_back.specs.Lists.{lists}
-use Rattle.known_back.specs.Records.{writes_in}
 use Rattle.shadow_pages.specs.PageMap.{Holds as HasPage}
 use Rattle.shadow_pages.proofs.Pagers.{not_empty}
 use Rattle.stm_slots.specs.Beside.{Hands, Beside}
@@ -99,8 +96,8 @@ module _ {M : Type 0} {ghosts : Ghosts M} (sight : M → Sight) (t : TableSight 
           (λ q lt pos named. not_empty h.pager.frames frame q m.free (subst (λ (f : ℕ). HasPage h.pager f q) named (kept.pages.shows q lt pos))),
           (λ y e. let y_is : m.touch ≡ y = same_some m.touch y (sym m.touched ∙ e) in let le = m.reproduced in omega arith),
           (λ told. ⊎_elim
-          (λ visible. m.values visible k small ∙ (same_values z c hs.kept (lists (state_of h.back) i.records) now m.number (page * PAGE + k) m.reached
-          ∙ ap (λ (n : ℕ). value_at z.opening (all_entries c.views) n (page * PAGE + k)) (sym number_is)))
-          (λ all. absurd (let pos = kept.pages.all (eq_of z.frames z.pages all) page inside in omega arith))
-          (by_either (start_sight sight t.key).is_visible (z.frames == z.pages) told)),
+              (λ visible. m.values visible k small ∙ (same_values z c hs.kept (lists (state_of h.back) i.records) now m.number (page * PAGE + k) m.reached
+              ∙ ap (λ (n : ℕ). value_at z.opening (all_entries c.views) n (page * PAGE + k)) (sym number_is)))
+              (λ all. absurd (let pos = kept.pages.all (eq_of z.frames z.pages all) page inside in omega arith))
+              (by_either (start_sight sight t.key).is_visible (z.frames == z.pages) told)),
         )

@@ -1,8 +1,8 @@
 -- Maps of pages: which frames are occupied, and where the hand goes.
-use Rattle.std.proofs.Common.{◌≡◌, ◌≢◌, ℕ, zero, suc, ◌+◌, ◌%◌, ◌<◌, ◌≤◌, List, [], ◌∷◌, length, refl, sym, ap, ◌∙◌, subst, ⊎_elim, inl, inr, arith, length-set, eq-eqb, ne_eqb}
-use Rattle.std.specs.Prelude.{Option, Some, None, slice_get, slice_set}
+use Rattle.std.proofs.Common.{◌≡◌, ◌≢◌, ℕ, zero, suc, ◌+◌, ◌%◌, ◌<◌, List, [], ◌∷◌, length, refl, sym, ap, ◌∙◌, subst, arith, length-set, eq-eqb, ne_eqb}
+use Rattle.std.specs.Prelude.{Option, Some, None, slice_get}
 use Rattle.std.proofs.Math.Nat.{mod-eq_of_lt}
-use Rattle.std.proofs.lemmas.Option.{slice_get_within, same_Some, none-some}
+use Rattle.std.proofs.lemmas.Option.{slice_get_within}
 use mathlib.Core.Logic.{dite}
 use native.Mathlib.Decide.{ℕ_discrete}
 use Rattle.core_events.specs.Setups.{Setup, frame_in, without_pins}
@@ -11,7 +11,7 @@ use Rattle.core_events.specs.Events.{kept_entry}
 use Rattle.core_events.specs.Views.{View}
 use Rattle.shadow_pages.specs.PageMap.{PageMap, Holds, HasFree, IsFree, IsIn, IsOccupied, IsOneToOne, IsVictim, frame_at, map_with}
 use Rattle.shadow_pages.proofs.Elements.{set_same}
-use Rattle.shadow_pages.proofs.Pagers.{not_empty, unset_has}
+use Rattle.shadow_pages.proofs.Pagers.{unset_has}
 use Rattle.stm_slots.specs.Turns.{map_evicted}
 use Rattle.stm_pages.specs.Paging.{HasPins, IsMapOf}
 

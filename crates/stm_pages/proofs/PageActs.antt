@@ -1,6 +1,6 @@
 -- Steps on page entries, as acts of the thread with the turn.
 use Rattle.std.proofs.Common.{◌≡◌, ℕ, ◌<◌, List, get_or, refl, sym, ap, ◌∙◌, subst}
-use Rattle.std.specs.Prelude.{Option, Some, None}
+use Rattle.std.specs.Prelude.{Some, None}
 use mathlib.Core.Option.{Option as Maybe, some}
 use lib.ListN.{get_elem?}
 use Rattle.dude_base.specs.Records.{RedoRecord}
@@ -11,10 +11,8 @@ use Rattle.core_events.specs.Setups.{Setup, without_pins}
 use Rattle.core_events.specs.Keyed.{find}
 use Rattle.core_events.specs.Words.{State}
 use Rattle.core_events.specs.Events.{Event, entry, evict, show, kept_entry}
-use Rattle.core_events.specs.Conditions.{IsAllowed}
 use Rattle.core_events.specs.Kept.{Kept}
 use Rattle.core_events.specs.Telling.{EntryTold}
-use Rattle.core_table.specs.Known.{Known}
 use Rattle.core_table.specs.Rules.{Acts}
 use Rattle.known_back.specs.Lists.{lists}
 use Rattle.shadow_pages.specs.PageMap.{PageMap, IsOneToOne, map_with}

@@ -1,5 +1,5 @@
 -- The steps on pages that leave what is beside the view: a touch is loaded, a word is filled.
-use Rattle.std.proofs.Common.{◌≡◌, ℕ, ◌+◌, ◌*◌, ◌<◌, List, refl, sym, ap, ◌∙◌, inr, arith}
+use Rattle.std.proofs.Common.{◌≡◌, ℕ, ◌+◌, ◌*◌, ◌<◌, List, ap, ◌∙◌, arith}
 use Rattle.std.specs.Prelude.{Some}
 use Rattle.dude_base.specs.declared.limits.TheConstants.{PAGE}
 use Rattle.pmem_trait.specs.Sights.{Sight}
@@ -8,7 +8,7 @@ use Rattle.atomic_table.specs.declared.shared.Seat.{Seat}
 use Rattle.core_events.specs.Setups.{Setup, page_of}
 use Rattle.core_events.specs.Keyed.{find}
 use Rattle.core_events.specs.Views.{View}
-use Rattle.core_events.specs.Events.{fill, load_touch, view_after}
+use Rattle.core_events.specs.Events.{fill, load_touch}
 use Rattle.core_events.proofs.Lists.{find_head}
 use Rattle.core_table.specs.Known.{Known}
 use Rattle.core_table.specs.Layout.{TableSight}

@@ -1,13 +1,13 @@
 -- The seat with the turn behind a step on pages.
 use Rattle.std.proofs.Common.{◌≡◌, ℕ, List, refl, sym, ap, ◌∙◌, subst}
-use Rattle.std.specs.Prelude.{Option, Some, None}
+use Rattle.std.specs.Prelude.{Some, None}
 use Rattle.dude_base.specs.Records.{RedoRecord}
 use Rattle.pmem_trait.specs.Sights.{Sight}
 use Rattle.pmem_trait.specs.declared.medium.Medium.{Ghosts}
 use Rattle.atomic_table.specs.declared.shared.Seat.{Seat}
 use Rattle.back_store.specs.BackView.{state_of}
 use Rattle.core_events.specs.Setups.{Setup}
-use Rattle.core_events.specs.Views.{Part, View}
+use Rattle.core_events.specs.Views.{View}
 use Rattle.core_events.specs.Events.{Event, view_after}
 use Rattle.core_events.specs.Telling.{IsSeated}
 use Rattle.core_table.specs.Known.{Known}
@@ -24,7 +24,7 @@ use Rattle.stm_slots.proofs.Following.{follows_same}
 use Rattle.stm_turns.specs.Holding.{hand_boxes, hands_of}
 use Rattle.stm_turns.specs.Turns.{EndsSettled, HasShown}
 use Rattle.stm_turns.proofs.Seats.{belongs_on}
-use Rattle.stm_pages.specs.Paging.{HasTurn, HasTurned, Paged, page_view}
+use Rattle.stm_pages.specs.Paging.{HasTurn, HandMoved, Paged, page_view}
 use Rattle.stm_pages.specs.Told.{PagedTo}
 
 module _ {M : Type 0} {ghosts : Ghosts M} (sight : M → Sight) (t : TableSight (Opening M ghosts)) where
@@ -125,8 +125,8 @@ module _ {M : Type 0} {ghosts : Ghosts M} (sight : M → Sight) (t : TableSight 
   same_paged old h i = record { id = refl; turn = i; view = refl; shown = λ n was. was }
 
   -- the hand of the pager is where it was
-  pub not_turned : (seat : TurnSeat) (h : TheHome M ghosts) → HasTurn sight t seat h → HasTurned sight t seat h
-  not_turned seat h i = record { was = h.pager; turn = i; pages = refl; frames = refl; lawful = λ (o : IsOneToOne h.pager). o }
+  pub not_moved : (seat : TurnSeat) (h : TheHome M ghosts) → HasTurn sight t seat h → HandMoved sight t seat h
+  not_moved seat h i = record { was = h.pager; turn = i; pages = refl; frames = refl; lawful = λ (o : IsOneToOne h.pager). o }
 
   -- what is settled stays so
   pub settled_on : (old new : TurnSeat) (h h2 : TheHome M ghosts) (n : ℕ) → EndsSettled old h n → Paged sight t old new h2 → state_of h2.back ≡ state_of h.back → EndsSettled new h2 n

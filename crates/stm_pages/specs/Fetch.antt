@@ -24,7 +24,7 @@ use Rattle.stm_pages.specs.declared.fetch_fault.FetchFault.TheVariants.{Held, De
 module _ {M : Type 0} {ghosts : Ghosts M} (sight : M → Sight) (t : TableSight (Opening M ghosts)) where
   -- ---- before the turn is given
   -- The seat has the turn, of which all else is as when it was taken
-  pub record Turned (took gave : Seat (Slot M ghosts) (Known Beside)) (last : TheHome M ghosts) : Type 0 where
+  pub record KeepsTurn (took gave : Seat (Slot M ghosts) (Known Beside)) (last : TheHome M ghosts) : Type 0 where
     pub id : gave.id ≡ took.id
     pub turn : HasTurn sight t gave last
     pub view : turn_view gave.me.0.view ≡ turn_view took.me.0.view
@@ -54,7 +54,7 @@ module _ {M : Type 0} {ghosts : Ghosts M} (sight : M → Sight) (t : TableSight 
     -- the seat as the turn is given, and what it has then
     pub gave : Seat (Slot M ghosts) (Known Beside)
     pub last : TheHome M ghosts
-    pub steps : Turned took gave last
+    pub steps : KeepsTurn took gave last
     pub is_given : IsAfter t (give_turn failed) gave new 0
     -- but for the page entries that it keeps, the view is that of a seat that took the turn and gave it
     pub view : turn_view new.me.0.view ≡ turn_view (view_after t.setup (give_turn failed) (view_after t.setup take_turn old.me.0.view 0) 0)

@@ -8,7 +8,7 @@ use Rattle.core_events.specs.Keyed.{find}
 use Rattle.core_events.specs.Views.{View}
 use Rattle.core_table.specs.Known.{Known}
 use Rattle.core_table.specs.Layout.{TableSight}
-use Rattle.shadow_pages.specs.PageMap.{PageMap, Holds, HasFree, frame_at}
+use Rattle.shadow_pages.specs.PageMap.{PageMap, Holds, frame_at}
 use Rattle.stm_slots.specs.Beside.{Beside}
 use Rattle.stm_slots.specs.declared.home.Home.{Home as TheHome}
 use Rattle.stm_slots.specs.declared.slot.Slot.{Slot}

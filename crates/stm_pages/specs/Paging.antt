@@ -1,5 +1,5 @@
 -- What the thread with the turn has between its steps on pages.
-use Rattle.std.specs.Prelude.{◌≡◌, ◌≢◌, ℕ, ◌<◌, List, [], Option, Some, None, length}
+use Rattle.std.specs.Prelude.{◌≡◌, ◌≢◌, ℕ, ◌<◌, [], Some, None, length}
 use Rattle.pmem_trait.specs.Sights.{Sight}
 use Rattle.pmem_trait.specs.declared.medium.Medium.{Ghosts}
 use Rattle.atomic_table.specs.declared.shared.Seat.{Seat}
@@ -55,7 +55,7 @@ module _ {M : Type 0} {ghosts : Ghosts M} (sight : M → Sight) (t : TableSight 
   HasTurn seat h = InTurn sight t seat h None
 
   -- The seat has the turn; since its last step the hand of the pager moved
-  pub record HasTurned (seat : Seat (Slot M ghosts) (Known Beside)) (h : TheHome M ghosts) : Type 0 where
+  pub record HandMoved (seat : Seat (Slot M ghosts) (Known Beside)) (h : TheHome M ghosts) : Type 0 where
     pub was : PageMap
     pub turn : HasTurn seat (record h { pager = was })
     pub pages : h.pager.pages ≡ was.pages

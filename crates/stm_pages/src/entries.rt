@@ -4,7 +4,7 @@ ghost use Rattle.std.specs.Prelude.{◌≡◌, ◌<◌};
 ghost use Rattle.core_events.specs.Events.{entry as entry_loaded, evict as page_evicted};
 ghost use Rattle.core_table.specs.Steps.{IsAfter};
 ghost use Rattle.stm_pages.specs.Frames.{IsUnpinned, MayMakeRoom};
-ghost use Rattle.stm_pages.specs.Paging.{FindsEntry, HasTurned, IsMapOf, Paged};
+ghost use Rattle.stm_pages.specs.Paging.{FindsEntry, HandMoved, IsMapOf, Paged};
 ghost use Rattle.stm_slots.specs.Turns.{map_evicted};
 
 use core_table::places::ENTRY;
@@ -21,7 +21,7 @@ pub fn see_entry<M: Medium>(
     home: &Home<M>,
     page: u64,
 ) -> u64
-    requires turn { HasTurned M.sight events.now seat.old home.now }
+    requires turn { HandMoved M.sight events.now seat.old home.now }
     requires page { page < events.now.setup.pages }
     ensures step { Paged M.sight events.now seat.old seat.new home.now }
     ensures view { IsAfter events.now (entry_loaded page) seat.old seat.new result }

@@ -5,7 +5,7 @@ ghost use Rattle.back_store.specs.BackView.{state_of};
 ghost use Rattle.core_events.specs.Conditions.{May};
 ghost use Rattle.core_events.specs.Events.{take_turn as turn_taken};
 ghost use Rattle.core_table.specs.Steps.{BelongsTo};
-ghost use Rattle.stm_pages.specs.Fetch.{ComesTo, HasFetchFault, HasFetched, SettledTo, Turned};
+ghost use Rattle.stm_pages.specs.Fetch.{ComesTo, HasFetchFault, HasFetched, SettledTo, KeepsTurn};
 ghost use Rattle.stm_pages.specs.Frames.{MayMakeRoom};
 ghost use Rattle.stm_pages.specs.Paging.{HasTurn, Paged};
 ghost use Rattle.stm_turns.specs.Turns.{IsBare, IsOwn};
@@ -60,7 +60,7 @@ fn bring_in<M: Medium>(
     requires thread { own < stm.now.events.setup.threads }
     requires alive { (state_of home.old.back).dead ≡ false }
     requires page { page < stm.now.events.setup.pages }
-    ensures steps { Turned M.sight stm.now.events seat.old seat.new home.new }
+    ensures steps { KeepsTurn M.sight stm.now.events seat.old seat.new home.new }
     ensures comes { ComesTo M.sight stm.now.events page result seat.new home.new }
 {
     match settle(&stm.events, seat, home, own) {

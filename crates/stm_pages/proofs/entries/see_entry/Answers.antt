@@ -1,4 +1,4 @@
-use Rattle.std.proofs.Common.{◌<◌, ◌∙◌, refl, inr, sym, subst}
+use Rattle.std.proofs.Common.{◌<◌, refl, inr, sym, subst}
 use Rattle.core_events.specs.Events.{entry}
 use Rattle.core_events.specs.Setups.{Setup}
 use Rattle.stm_slots.specs.Opening.{setup_of}

@@ -1,4 +1,4 @@
-use Rattle.std.proofs.Common.{◌≡◌, ◌≤◌, ◌∙◌, refl, ap, arith}
+use Rattle.std.proofs.Common.{◌∙◌, refl, ap, arith}
 use Rattle.back_store.specs.BackView.{state_of}
 use Rattle.stm_pages.proofs.Evicting.{may_on}
 use Rattle.stm_pages.proofs.Fetched.{settled_to_on}

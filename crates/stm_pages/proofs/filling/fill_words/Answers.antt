@@ -1,4 +1,4 @@
-use Rattle.std.proofs.Common.{◌<◌, ap, arith, get_or}
+use Rattle.std.proofs.Common.{ap, arith, get_or}
 use Rattle.core_events.specs.Views.{View}
 use Rattle.stm_pages.proofs.Filled.{fill_fits, filled_all, filled_more}
 use Rattle.stm_pages.proofs.QuietPages.{filled_on, filled_paged, may_fill, page_inside}

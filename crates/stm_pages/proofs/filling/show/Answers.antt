@@ -1,4 +1,4 @@
-use Rattle.std.proofs.Common.{◌≡◌, ◌<◌, ◌≤◌, ◌+◌, ◌*◌, ◌∙◌, refl, sym, ap, arith}
+use Rattle.std.proofs.Common.{◌<◌, ◌∙◌, refl, ap, arith}
 use Rattle.std.specs.Prelude.{None, Some}
 use Rattle.core_events.specs.Events.{show}
 use Rattle.core_events.specs.Keyed.{find}

@@ -1,8 +1,7 @@
-use Rattle.std.proofs.Common.{◌≡◌, ◌≢◌, ◌<◌, ◌∙◌, refl, sym, ap, subst, arith}
-use Rattle.core_events.specs.Events.{entry}
-use Rattle.core_events.specs.Setups.{frame_in, without_pins}
+use Rattle.std.proofs.Common.{◌∙◌, refl, arith}
+use Rattle.core_events.specs.Setups.{frame_in}
 use Rattle.stm_pages.proofs.Evicting.{entry_kept, entry_pinned, evict_pinned, looked, may_on, tried_room}
-use Rattle.stm_pages.proofs.Maps.{bare_by_rest, dropped_map, evicted_free, found_other, kept_is, pins_by_other, pins_by_rest, some_occupied, victim_here}
+use Rattle.stm_pages.proofs.Maps.{bare_by_rest, evicted_free, found_other, pins_by_other, pins_by_rest, some_occupied, victim_here}
 use Rattle.stm_pages.proofs.finding.evict_next.Goals as goal
 
 pub unreachable-requires : goal.unreachable-requires

@@ -1,4 +1,4 @@
-use Rattle.std.proofs.Common.{◌≡◌, ◌∙◌, ◌+◌, arith}
+use Rattle.std.proofs.Common.{◌∙◌, ◌+◌, arith}
 use Rattle.stm_pages.proofs.Evicting.{then_room}
 use Rattle.stm_pages.proofs.Rounds.{all_rounds, round_more}
 use Rattle.stm_pages.proofs.finding.find_frame.Goals as goal
