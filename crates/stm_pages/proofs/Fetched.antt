@@ -16,10 +16,11 @@ use Rattle.stm_slots.specs.Lists.{IsSettled}
 use Rattle.stm_slots.specs.declared.home.Home.{Home as TheHome}
 use Rattle.stm_slots.specs.declared.slot.Slot.{Slot}
 use Rattle.stm_slots.specs.declared.opening.Opening.{Opening}
+use Rattle.stm_turns.specs.Pump.{HadTurn}
 use Rattle.stm_turns.specs.Turns.{HasTaken, Stepped}
 use Rattle.stm_turns.proofs.Calling.{settled_at, settled_dead}
 use Rattle.stm_turns.proofs.WholeTurns.{or_true}
-use Rattle.stm_pages.specs.Fetch.{ComesTo, HadTurn, HasFailed, HasFetchFault, HasFetched, HasSettled, SettledTo, KeepsTurn}
+use Rattle.stm_pages.specs.Fetch.{ComesTo, HasFailed, HasFetchFault, HasFetched, HasSettled, IsTurnOf, KeepsTurn, SettledTo}
 use Rattle.stm_pages.specs.Frames.{MayMakeRoom}
 use Rattle.stm_pages.specs.Paging.{FindsEntry, HasTurn, Paged, turn_view}
 use Rattle.stm_pages.proofs.Evicting.{entry_kept}
@@ -67,7 +68,7 @@ module _ {M : Type 0} {ghosts : Ghosts M} (sight : M → Sight) (t : TableSight 
   settled_comes page (Err Dead) seat h c = absurd c
 
   module _ (old took gave new : TurnSeat) (first last : TheHome M ghosts) (taken : HasTaken sight t old took first) (steps : KeepsTurn sight t took gave last) where
-    abbrev pub had_turn : (failed : Bool) → IsAfter t (give_turn failed) gave new 0 → HadTurn sight t failed old new
+    abbrev pub had_turn : (failed : Bool) → IsAfter t (give_turn failed) gave new 0 → HadTurn sight t (KeepsTurn sight t) failed old new
     had_turn failed is_given = record {
       took = took;
       first = first;
@@ -76,12 +77,15 @@ module _ {M : Type 0} {ghosts : Ghosts M} (sight : M → Sight) (t : TableSight 
       last = last;
       steps = steps;
       is_given = is_given;
-      view = ap turn_view is_given ∙ (ap (λ (v : View). turn_view (view_after t.setup (give_turn failed) v 0)) steps.view ∙ ap (λ (v : View). turn_view (view_after t.setup (give_turn failed) v 0)) taken.is_after);
     }
+
+    turn_of : (failed : Bool) → IsAfter t (give_turn failed) gave new 0 → IsTurnOf sight t failed old new
+    turn_of failed is_given = ap turn_view is_given ∙ (ap (λ (v : View). turn_view (view_after t.setup (give_turn failed) v 0)) steps.view ∙ ap (λ (v : View). turn_view (view_after t.setup (give_turn failed) v 0)) taken.is_after)
 
     pub has_failed : (was_dead : Bool) → IsAfter t (give_turn true) gave new 0 → (state_of first.back).dead ≡ was_dead → (state_of last.back).dead ≡ true → HasFailed sight t was_dead old new
     has_failed was_dead is_given before after = record {
       turn = had_turn true is_given;
+      view = turn_of true is_given;
       before = before;
       after = after;
       met_fault = ap (λ (v : View). v.turn.met_fault) is_given ∙ or_true gave.me.0.view.turn.met_fault;
@@ -90,6 +94,7 @@ module _ {M : Type 0} {ghosts : Ghosts M} (sight : M → Sight) (t : TableSight 
     has_settled : (n : ℕ) → SettledTo sight t n gave last → IsAfter t (give_turn false) gave new 0 → (state_of first.back).dead ≡ false → HasSettled sight t n old new
     has_settled n s is_given before = record {
       turn = had_turn false is_given;
+      view = turn_of false is_given;
       before = before;
       settled = s.settled;
       durable = ap (λ (v : View). v.turn.durable) is_given ∙ s.settled.durable;

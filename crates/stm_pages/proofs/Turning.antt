@@ -13,15 +13,16 @@ use Rattle.core_events.specs.Telling.{IsSeated}
 use Rattle.core_table.specs.Known.{Known}
 use Rattle.core_table.specs.Layout.{TableSight}
 use Rattle.core_table.specs.Steps.{BelongsTo}
-use Rattle.known_back.specs.Lists.{lists}
+use Rattle.known_back.specs.Lists.{BackLists, lists}
 use Rattle.shadow_pages.specs.PageMap.{PageMap, IsOneToOne}
 use Rattle.stm_slots.specs.Beside.{Hands, Beside}
 use Rattle.stm_slots.specs.Opening.{setup_of}
+use Rattle.stm_slots.specs.Turns.{Follows}
 use Rattle.stm_slots.specs.declared.home.Home.{Home as TheHome}
 use Rattle.stm_slots.specs.declared.slot.Slot.{Slot}
 use Rattle.stm_slots.specs.declared.opening.Opening.{Opening}
 use Rattle.stm_slots.proofs.Following.{follows_same}
-use Rattle.stm_turns.specs.Holding.{hand_boxes, hands_of}
+use Rattle.stm_turns.specs.Holding.{Holding, hand_boxes, hands_of}
 use Rattle.stm_turns.specs.Turns.{EndsSettled, HasShown}
 use Rattle.stm_turns.proofs.Seats.{belongs_on}
 use Rattle.stm_pages.specs.Paging.{HasTurn, HandMoved, Paged, page_view}
@@ -34,26 +35,32 @@ module _ {M : Type 0} {ghosts : Ghosts M} (sight : M → Sight) (t : TableSight 
   abbrev TurnSeat : Type 0
   TurnSeat = Seat (Slot M ghosts) (Known Beside)
 
+  -- what the seat knows behind a step on pages, by what it has beside its view then
+  abbrev pub page_holding : (old new : TurnSeat) (h : TheHome M ghosts) (i : HasTurn sight t old h) (map : PageMap) (stale : BackLists) → page_view new.me.0.view ≡ page_view old.me.0.view
+      → new.me.0.beside.turn ≡ Some (record (hands_of sight h i.holding.records i.holding.shown (hand_boxes z h.next None)) { lists = stale; map = map }) → Follows z h.next (hand_boxes z h.next None) stale (lists (state_of h.back) i.holding.records)
+      → Holding sight t.key new.me.0 (record h { pager = map }) None
+  page_holding old new h i map stale view hands follows = record {
+    live = ap (λ (v : View). v.part.is_spent) view ∙ i.holding.live;
+    thread = (i.holding.thread.0, ap (λ (v : View). v.part.thread) view ∙ i.holding.thread.1);
+    turn = ap (λ (v : View). v.turn.has_it) view ∙ i.holding.turn;
+    places = i.holding.places;
+    wide = i.holding.wide;
+    records = i.holding.records;
+    shown = i.holding.shown;
+    stale = stale;
+    hands = hands;
+    follows = follows;
+    known = i.holding.known;
+    rings = i.holding.rings;
+    pages = i.holding.pages;
+  }
+
   -- ---- a step that leaves what is beside the view
   abbrev pub quiet_turn : (old new : TurnSeat) (h : TheHome M ghosts) → HasTurn sight t old h → BelongsTo t new → page_view new.me.0.view ≡ page_view old.me.0.view → new.me.0.beside ≡ old.me.0.beside → new.me.1 ≡ old.me.1 → HasTurn sight t new h
   quiet_turn old new h i belongs view beside slots = record {
     belongs = belongs;
     setup = i.setup;
-    holding = record {
-      live = ap (λ (v : View). v.part.is_spent) view ∙ i.holding.live;
-      thread = (i.holding.thread.0, ap (λ (v : View). v.part.thread) view ∙ i.holding.thread.1);
-      turn = ap (λ (v : View). v.turn.has_it) view ∙ i.holding.turn;
-      places = i.holding.places;
-      wide = i.holding.wide;
-      records = i.holding.records;
-      shown = i.holding.shown;
-      stale = i.holding.stale;
-      hands = ap (λ (b : Beside). b.turn) beside ∙ i.holding.hands;
-      follows = i.holding.follows;
-      known = i.holding.known;
-      rings = i.holding.rings;
-      pages = i.holding.pages;
-    };
+    holding = page_holding old new h i h.pager i.holding.stale view (ap (λ (b : Beside). b.turn) beside ∙ i.holding.hands) i.holding.follows;
     slots = slots ∙ i.slots;
     same = i.same;
     in_hand = i.in_hand;
@@ -89,21 +96,8 @@ module _ {M : Type 0} {ghosts : Ghosts M} (sight : M → Sight) (t : TableSight 
     acted_turn = record {
       belongs = belongs_on sight t old new i.belongs i.setup table (subst (IsSeated z) (sym to.view) to.told.after);
       setup = i.setup;
-      holding = record {
-        live = ap (λ (v : View). v.part.is_spent) page_is ∙ i.holding.live;
-        thread = (i.holding.thread.0, ap (λ (v : View). v.part.thread) page_is ∙ i.holding.thread.1);
-        turn = ap (λ (v : View). v.turn.has_it) page_is ∙ i.holding.turn;
-        places = i.holding.places;
-        wide = i.holding.wide;
-        records = i.holding.records;
-        shown = i.holding.shown;
-        stale = lists (state_of h.back) i.holding.records;
-        hands = beside_is;
-        follows = follows_same z h.next (hand_boxes z h.next None) (lists (state_of h.back) i.holding.records) i.holding.known.lawful;
-        known = i.holding.known;
-        rings = i.holding.rings;
-        pages = i.holding.pages;
-      };
+      holding = page_holding old new h i map (lists (state_of h.back) i.holding.records) page_is beside_is
+          (follows_same z h.next (hand_boxes z h.next None) (lists (state_of h.back) i.holding.records) i.holding.known.lawful);
       slots = to.slots ∙ i.slots;
       same = refl;
       in_hand = i.in_hand;

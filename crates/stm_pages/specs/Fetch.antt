@@ -15,7 +15,8 @@ use Rattle.stm_slots.specs.declared.home.Home.{Home as TheHome}
 use Rattle.stm_slots.specs.declared.slot.Slot.{Slot}
 use Rattle.stm_slots.specs.declared.opening.Opening.{Opening}
 use Rattle.stm_turns.specs.Front.{NextIsNotDrawn}
-use Rattle.stm_turns.specs.Turns.{EndsSettled, HasTaken}
+use Rattle.stm_turns.specs.Pump.{HadTurn}
+use Rattle.stm_turns.specs.Turns.{EndsSettled}
 use Rattle.stm_pages.specs.Frames.{KeepsAllPinned}
 use Rattle.stm_pages.specs.Paging.{HasTurn, turn_view}
 use Rattle.stm_pages.specs.declared.fetch_fault.FetchFault.{FetchFault}
@@ -45,23 +46,14 @@ module _ {M : Type 0} {ghosts : Ghosts M} (sight : M → Sight) (t : TableSight 
   ComesTo page (Err Dead) seat h = ⊥
 
   -- ---- a turn as a whole
-  -- The seat took the turn, and what the back's slot had is this; it made steps of the turn, and gave it back with this one
-  pub record HadTurn (failed : Bool) (old new : Seat (Slot M ghosts) (Known Beside)) : Type 0 where
-    -- the seat as the turn is taken, and what it has with it
-    pub took : Seat (Slot M ghosts) (Known Beside)
-    pub first : TheHome M ghosts
-    pub taken : HasTaken sight t old took first
-    -- the seat as the turn is given, and what it has then
-    pub gave : Seat (Slot M ghosts) (Known Beside)
-    pub last : TheHome M ghosts
-    pub steps : KeepsTurn took gave last
-    pub is_given : IsAfter t (give_turn failed) gave new 0
-    -- but for the page entries that it keeps, the view is that of a seat that took the turn and gave it
-    pub view : turn_view new.me.0.view ≡ turn_view (view_after t.setup (give_turn failed) (view_after t.setup take_turn old.me.0.view 0) 0)
+  -- but for the page entries that it keeps, the view is that of a seat that took the turn and gave it
+  abbrev pub IsTurnOf : Bool → Seat (Slot M ghosts) (Known Beside) → Seat (Slot M ghosts) (Known Beside) → Type 0
+  IsTurnOf failed old new = turn_view new.me.0.view ≡ turn_view (view_after t.setup (give_turn failed) (view_after t.setup take_turn old.me.0.view 0) 0)
 
   -- The back wasn't dead; all up to the number is announced, and in the home
   pub record HasSettled (number : ℕ) (old new : Seat (Slot M ghosts) (Known Beside)) : Type 0 where
-    pub turn : HadTurn false old new
+    pub turn : HadTurn sight t KeepsTurn false old new
+    pub view : IsTurnOf false old new
     pub before : (state_of turn.first.back).dead ≡ false
     pub settled : EndsSettled turn.gave turn.last number
     -- the view knows it, and didn't draw the next number
@@ -91,7 +83,8 @@ module _ {M : Type 0} {ghosts : Ghosts M} (sight : M → Sight) (t : TableSight 
 
   -- A turn in which the back was, or became, dead: the view has met a fault
   pub record HasFailed (was_dead : Bool) (old new : Seat (Slot M ghosts) (Known Beside)) : Type 0 where
-    pub turn : HadTurn true old new
+    pub turn : HadTurn sight t KeepsTurn true old new
+    pub view : IsTurnOf true old new
     pub before : (state_of turn.first.back).dead ≡ was_dead
     pub after : (state_of turn.last.back).dead ≡ true
     pub met_fault : new.me.0.view.turn.met_fault ≡ true
