@@ -1,6 +1,6 @@
 //! A turn that brings a page into a frame.
 
-ghost use Rattle.std.specs.Prelude.{◌≡◌, ◌<◌, Some, [], IfErr, IfOk, false};
+ghost use Rattle.std.specs.Prelude.{◌≡◌, ◌<◌, [], IfErr, IfOk, false};
 ghost use Rattle.back_store.specs.BackView.{state_of};
 ghost use Rattle.core_events.specs.Conditions.{May};
 ghost use Rattle.core_events.specs.Events.{take_turn as turn_taken};
@@ -18,7 +18,7 @@ use pmem_trait::Medium;
 use stm_slots::home::Home;
 use stm_turns::{SlotSeat, give_turn, settle, take_turn};
 
-/// Brings a page into a frame that was seen to be absent, where all up to `reproduced` is in the home.
+/// Brings a page into a frame that was seen to be absent. All up to `reproduced` is in the home.
 fn show_absent<M: Medium>(
     stm: &Steps<M>,
     seat: &mut SlotSeat<M>,
@@ -74,8 +74,8 @@ fn bring_in<M: Medium>(
     }
 }
 
-/// Takes the turn, does the work of a pump, brings a page into a frame unless it is in one, and gives
-/// the turn back.
+/// Takes the turn, does the work of a pump, brings a page into a frame unless it is in one, and
+/// gives the turn back.
 pub fn fetch<M: Medium>(
     stm: &Steps<M>,
     seat: &mut SlotSeat<M>,
@@ -83,9 +83,9 @@ pub fn fetch<M: Medium>(
     page: u64,
 ) -> Result<(), FetchFault>
     requires seat { BelongsTo stm.now.events seat.old }
-    requires own { seat.old.me.0.view.part.thread ≡ Some own }
+    // The own thread, which has no open number.
+    requires own { IsOwn own seat.old }
     requires may { May stm.now.events.setup turn_taken seat.old.me.0.view }
-    requires idle { seat.old.me.0.view.tx.hand.number ≡ 0 }
     requires bare { seat.old.me.1 ≡ [] }
     requires page { page < stm.now.events.setup.pages }
     ensures left { IsBare stm.now.events seat.old seat.new }

@@ -24,10 +24,10 @@ pub bring_in-result-requires-clause-turn : goal.bring_in-result-requires-clause-
 bring_in-result-requires-clause-turn g c = c.in-Ok.ensures.ok.in_turn
 
 pub bring_in-result-requires-clause-own : goal.bring_in-result-requires-clause-own
-bring_in-result-requires-clause-own g c = own_taken c.args.stm.now.events c.args.own c.args.seat.now c.take_turn.new.seat c.in-Ok.ensures.ok.is_after (c.requires.own, c.requires.idle)
+bring_in-result-requires-clause-own g c = own_taken c.args.stm.now.events c.args.own c.args.seat.now c.take_turn.new.seat c.in-Ok.ensures.ok.is_after c.requires.own
 
 pub bring_in-result-requires-clause-thread : goal.bring_in-result-requires-clause-thread
-bring_in-result-requires-clause-thread g c = c.requires.seat.seated.thread c.args.own c.requires.own
+bring_in-result-requires-clause-thread g c = c.requires.seat.seated.thread c.args.own c.requires.own.0
 
 pub give_turn-requires-2-clause-settled : goal.give_turn-requires-2-clause-settled
 give_turn-requires-2-clause-settled g c =
