@@ -105,7 +105,7 @@ module _ (z : Setup) (c : State) (k : Kept z c) (l : BackLists) (ls : ListsKept 
       (ls.handed n has)
 
   -- the values by records are those by entries
-  same_values : (n i : ℕ) → IsReached z.first l.records n → value z.opening (writes_in l.records) n i ≡ value_at z.opening (all_entries c.views) n i
+  pub same_values : (n i : ℕ) → IsReached z.first l.records n → value z.opening (writes_in l.records) n i ≡ value_at z.opening (all_entries c.views) n i
   same_values n i reached = sym (value_agree z.opening (writes_in l.records) (writes_of (all_entries c.views)) n i (λ m le. dite (dec_lt z.first m)
       (λ lt. sym (listed m (reached m lt le)).writes)
       (λ ge. writes_are z g c k.layers.entries m ∙ ((k.layers.locks.numbers.before m (omega arith)).0 ∙ sym (none_written l.records z.first m ls.lawful.over (omega arith))))))

@@ -1,6 +1,6 @@
 -- A page leaves its frame, and one comes into a frame: the map of pages, and the rule of the slots with it.
 use Rattle.std.proofs.Common.{◌≡◌, ◌≢◌, ℕ, ◌<◌, ◌⊎◌, true, List, length, get_or, set, sym, ap, ◌∙◌, subst, ⊎_elim, arith, length-set, get_or-set_same, get_or-set_other}
-use Rattle.std.specs.Prelude.{Some, None}
+use Rattle.std.specs.Prelude.{Option, Some, None, slice_get}
 use Rattle.std.proofs.lemmas.Option.{slice_get_within}
 use mathlib.Core.Option.{Option as Maybe, some, some-injective}
 use mathlib.Core.Logic.{dite}
@@ -11,7 +11,7 @@ use Rattle.pmem_trait.specs.declared.medium.Medium.{Ghosts}
 use Rattle.core_events.specs.Setups.{Setup, frame_in, entry_with}
 use Rattle.core_events.proofs.Filled.{entry_positive, frame_of_entry}
 use Rattle.core_events.proofs.Lists.{there, set_here}
-use Rattle.shadow_pages.specs.PageMap.{PageMap, Holds, map_with}
+use Rattle.shadow_pages.specs.PageMap.{PageMap, Holds, IsOneToOne, map_with}
 use Rattle.shadow_pages.proofs.Elements.{set_same, set_other}
 use Rattle.shadow_pages.proofs.Pagers.{same_value, set_has, unset_has}
 use Rattle.stm_slots.specs.Beside.{Hands, Beside}
@@ -21,6 +21,18 @@ use Rattle.stm_slots.specs.Pages.{IsMapped}
 use Rattle.stm_slots.specs.Rule.{SlotsKeptBy}
 use Rattle.stm_slots.specs.declared.slot.Slot.{Slot}
 use Rattle.stm_slots.specs.declared.opening.Opening.{Opening}
+
+-- only the hand moved
+pub map_turned : (z : Setup) (s : Stage) (m w : PageMap) → IsMapped z s m → w.pages ≡ m.pages → w.frames ≡ m.frames → (IsOneToOne m → IsOneToOne w) → IsMapped z s w
+map_turned z s m w k pages frames lawful =
+    let same : (f p : ℕ) → Holds w f p ≡ Holds m f p = λ f p. ap (λ (fs : List (Option ℕ)). slice_get fs f ≡ Some (Some p)) frames in record {
+      pages = pages ∙ k.pages;
+      frames = ap (λ (fs : List (Option ℕ)). length fs) frames ∙ k.frames;
+      one_to_one = lawful k.one_to_one;
+      shows = λ p lt pos. rw (same (frame_in (get_or s.entries p 0)) p) (k.shows p lt pos);
+      shown = λ p f h. k.shown p f (rw (same f p) at h);
+      all = k.all;
+    }
 
 module _ (z : Setup) (s : Stage) (m : PageMap) (k : IsMapped z s m) (p : ℕ) (inside : p < z.pages) (sized : p < length s.entries) where
   -- the word of another page

@@ -14,7 +14,7 @@ use Rattle.core_events.specs.Setups.{Setup, page_of, frame_in, entry_with, witho
 use Rattle.core_events.specs.Keyed.{find, total}
 use Rattle.core_events.specs.Views.{View}
 use Rattle.core_events.specs.Words.{State}
-use Rattle.core_events.specs.Events.{evict, show, kept_entry, view_after}
+use Rattle.core_events.specs.Events.{entry, evict, show, kept_entry, view_after}
 use Rattle.core_events.specs.Conditions.{IsAllowed, after}
 use Rattle.core_events.specs.Kept.{Kept}
 use Rattle.core_events.specs.KeptPages.{entry_word, pins_at, pins_of}
@@ -24,17 +24,18 @@ use Rattle.core_events.proofs.Lists.{unmoved}
 use Rattle.core_events.proofs.Pages.{few_pins}
 use Rattle.core_events.proofs.Telling.{kept_sized}
 use Rattle.core_table.specs.Rules.{Acts}
-use Rattle.shadow_pages.specs.PageMap.{map_with}
+use Rattle.shadow_pages.specs.PageMap.{PageMap, IsOneToOne, map_with}
 use Rattle.known_back.specs.Lists.{BackLists}
 use Rattle.stm_slots.specs.Beside.{Hands, Beside}
 use Rattle.stm_slots.specs.Stage.{owner_of, stage_of}
 use Rattle.stm_slots.specs.Opening.{setup_of}
+use Rattle.stm_slots.specs.Pages.{IsMapped}
 use Rattle.stm_slots.specs.Rule.{SlotsKept, SlotsKeptBy}
 use Rattle.stm_slots.specs.Turns.{Seated, MappedTo, Follows, map_evicted}
 use Rattle.stm_slots.specs.declared.slot.Slot.{Slot}
 use Rattle.stm_slots.specs.declared.opening.Opening.{Opening}
 use Rattle.stm_slots.proofs.Staged.{some_turn, alone}
-use Rattle.stm_slots.proofs.Mapping.{map_left, map_shown, remapped}
+use Rattle.stm_slots.proofs.Mapping.{map_left, map_shown, map_turned, remapped}
 use Rattle.stm_slots.proofs.Acting.{now_kept, now_at}
 
 -- an absent page has the entry 0
@@ -57,6 +58,28 @@ module _ {M : Type 0} {ghosts : Ghosts M} (sight : M → Sight) (o : Opening M g
 
     abbrev x : Beside
     x = me.0.beside
+
+    -- ---- the entry is looked at, where the hand of the map may have moved
+    pub entry_acts : (w : PageMap) → w.pages ≡ now.map.pages → w.frames ≡ now.map.frames → (IsOneToOne now.map → IsOneToOne w) → Acts fact z (entry p) id me (MappedTo sight o (entry p) now (λ n. w) me)
+    entry_acts w pages frames lawful c xs homes k allowed at f =
+        let there_v = allowed.is_there in let n : ℕ = get_or c.entries p 0 in
+        let kept = now_kept sight o c xs homes k f id v x there_v at has hands is m follows in
+        let mapped : IsMapped z (record (stage_of c) { entries = c.entries }) w = map_turned z (stage_of c) now.map w kept.pages pages frames lawful in
+        let y1 : Beside = record x { turn = Some now } in let y2 : Beside = record x { turn = Some (record now { map = w }) } in
+        let made = remapped sight o (stage_of c) (set xs id y1) homes now kept id y1 (now_at sight o c xs homes k f id v x there_v at has hands is m follows) (alone z c k id v there_v has) (some_turn z c k id v there_v has) c.entries w mapped in
+        let same : stage_of (after z c id v (entry p)) ≡ stage_of c =
+        ap (λ es. record (stage_of c) { entries = es; owners = map owner_of (set c.views id (view_after z (entry p) v n)) }) (set-get_or c.entries p 0)
+        ∙ ap (λ os. record (stage_of c) { owners = os }) (unmoved owner_of c.views id v (view_after z (entry p) v n) there_v refl) in (
+          keeps,
+          y2,
+          tt,
+          record {
+            hands = record now { map = w };
+            kept = subst (λ st. SlotsKeptBy sight o st (set xs id y2) homes (record now { map = w })) (sym same)
+                (subst (λ ys. SlotsKeptBy sight o (stage_of c) ys homes (record now { map = w })) (set-set xs id y1 y2) made);
+          },
+          (λ told. record { told = told; view = refl; beside = refl; slots = refl }),
+        )
 
     -- ---- a page leaves its frame, for one that is absent
     module _ (q : ℕ) (wanted : q < z.pages) (sees_absent : find v.paging.entries q ≡ Some 0) (some_frame : 0 < without_pins (kept_entry v p)) (c : State) (xs : List Beside) (homes : List (Maybe (Slot M ghosts))) (k : Kept z c) (allowed : IsAllowed z c id (evict p) v) (at : get_elem? xs id ≡ some x) (f : fact c xs homes) where

@@ -40,7 +40,7 @@ use Rattle.stm_slots.specs.Turns.{Follows, Leaves, Took, GaveTurn, SawFull, Went
 use Rattle.stm_slots.proofs.Taken.{contains_here, contains_either, contains_none, leaves_none}
 use Rattle.std.specs.List.{Contains}
 use Rattle.stm_turns.specs.Holding.{IsInHand, hand_boxes, hands_of, Holding}
-use Rattle.stm_turns.specs.Told.{HasGrown, Went, Raised, SawFront, boxes_in}
+use Rattle.stm_turns.specs.Told.{HasGrown, IsRaisedTo, Went, Raised, SawFront, boxes_in}
 use Rattle.stm_slots.specs.declared.home.Home.{Home as TheHome}
 use Rattle.stm_slots.specs.declared.slot.Slot.{Slot}
 use Rattle.stm_slots.specs.declared.slot.Slot.TheVariants.{Empty, Record, Home}
@@ -66,11 +66,11 @@ module _ {M : Type 0} {ghosts : Ghosts M} (sight : M → Sight) (o : Opening M g
   fact c xs homes = SlotsKept sight o (stage_of c) xs homes
 
   -- less may be told
-  told_less : (e : Event) (id : ℕ) (me : Seated) (then less : ℕ → Seated → Type 0) → Acts fact z e id me then → ((n : ℕ) (w : Seated) → then n w → less n w) → Acts fact z e id me less
+  pub told_less : (e : Event) (id : ℕ) (me : Seated) (then less : ℕ → Seated → Type 0) → Acts fact z e id me then → ((n : ℕ) (w : Seated) → then n w → less n w) → Acts fact z e id me less
   told_less e id me then less acts more c xs homes k allowed at f = let a = acts c xs homes k allowed at f in (a.0, a.1, a.2, a.3, (λ told. more (found c (name z e me.0.view)) (record { view = view_after z e me.0.view (found c (name z e me.0.view)); beside = a.1; made = e ∷ me.0.made }, carried_after me.1 a.0) (a.4 told)))
 
   -- more may be told, by the state
-  told_with : (e : Event) (id : ℕ) (me : Seated) (then more : ℕ → Seated → Type 0) → Acts fact z e id me then
+  pub told_with : (e : Event) (id : ℕ) (me : Seated) (then more : ℕ → Seated → Type 0) → Acts fact z e id me then
       → ((c : State) (xs : List Beside) (homes : List (Maybe (Slot M ghosts))) → Kept z c → IsAllowed z c id e me.0.view → get_elem? xs id ≡ some me.0.beside → fact c xs homes → (w : Seated) → then (found c (name z e me.0.view)) w → more (found c (name z e me.0.view)) w)
       → Acts fact z e id me more
   told_with e id me then more acts by c xs homes k allowed at f = let a = acts c xs homes k allowed at f in (a.0, a.1, a.2, a.3, (λ told. by c xs homes k allowed at f (record { view = view_after z e me.0.view (found c (name z e me.0.view)); beside = a.1; made = e ∷ me.0.made }, carried_after me.1 a.0) (a.4 told)))
@@ -220,23 +220,24 @@ module _ {M : Type 0} {ghosts : Ghosts M} (sight : M → Sight) (o : Opening M g
     box_kept : boxes_in me.0.beside.turn ≡ box
     box_kept = ap boxes_in i.hands
 
-    raised : (e : Event) (shown n : ℕ) (w : Seated) → view_after z e me.0.view n ≡ view_after z e me.0.view 0 → i.stale.records ≡ i.records → WentOn sight o e (record now { shown = shown }) me.1 me n w → Raised sight o e h me 0 w
-    raised e shown n w blind same s = record {
+    raised : (e : Event) (shown n : ℕ) (w : Seated) → view_after z e me.0.view n ≡ view_after z e me.0.view 0 → i.stale.records ≡ i.records → IsRaisedTo e shown → WentOn sight o e (record now { shown = shown }) me.1 me n w → Raised sight o e h me 0 w
+    raised e shown n w blind same is s = record {
       went = went_on e me.1 h h.next (boxes_in me.0.beside.turn) shown refl refl refl n 0 w blind (subst (λ b. WentOn sight o e (record now { shown = shown; boxes = b }) me.1 me n w) (sym box_kept) s);
       same = λ hs is. let hands_is : hs ≡ old = same_hands hs old (sym is ∙ i.hands) in ap (λ (a : Hands). a.lists.records) hands_is ∙ same;
+      raised = is;
     }
 
     pub durable_acts_on : (id d : ℕ) → i.stale.records ≡ i.records → d ≤ (state_of h.back).log.durable → Acts fact z (raise_durable d) id me (λ n. Raised sight o (raise_durable d) h me 0)
     durable_acts_on id d same le =
         told_less (raise_durable d) id me (WentOn sight o (raise_durable d) now me.1 me) (λ n. Raised sight o (raise_durable d) h me 0)
         (durable_acts sight o id me i.turn old i.hands (lists (state_of h.back) i.records) i.follows d le)
-        (λ n w s. raised (raise_durable d) i.shown n w refl same s)
+        (λ n w s. raised (raise_durable d) i.shown n w refl same tt s)
 
     pub reproduced_acts_on : (id d : ℕ) → i.stale.records ≡ i.records → d ≤ (state_of h.back).log.durable → Acts fact z (raise_reproduced d) id me (λ n. Raised sight o (raise_reproduced d) h me 0)
     reproduced_acts_on id d same le =
         told_less (raise_reproduced d) id me (WentOn sight o (raise_reproduced d) (record now { shown = d }) me.1 me) (λ n. Raised sight o (raise_reproduced d) h me 0)
         (reproduced_acts sight o id me i.turn old i.hands (lists (state_of h.back) i.records) i.follows d le)
-        (λ n w s. raised (raise_reproduced d) d n w refl same s)
+        (λ n w s. raised (raise_reproduced d) d n w refl same refl s)
 
     pub give_acts_on : (id : ℕ) (failed : Bool) → hand ≡ None → me.1 ≡ (back_slot z, Home h) ∷ [] → IsSettled (state_of h.back) → (failed ≡ true → (state_of h.back).dead ≡ true) → Acts fact z (give_turn failed) id me (λ n. GaveTurn sight o failed me 0)
     give_acts_on id failed none slots settled fault =

@@ -11,7 +11,7 @@ use Rattle.back_store.specs.BackView.{state_of}
 use Rattle.core_events.specs.Setups.{Setup, box_of}
 use Rattle.core_events.specs.Views.{View}
 use Rattle.core_events.specs.Keyed.{has}
-use Rattle.core_events.specs.Events.{Event, take_turn, see_full, empty_box, view_after}
+use Rattle.core_events.specs.Events.{Event, take_turn, see_full, empty_box, raise_reproduced, view_after}
 use Rattle.core_events.specs.Conditions.{HasThread, May}
 use Rattle.core_table.specs.Rules.{Acts}
 use Rattle.stm_slots.specs.QuietSteps.{fact_of}
@@ -28,7 +28,7 @@ use Rattle.stm_slots.specs.Opening.{setup_of}
 use Rattle.stm_slots.specs.Turns.{Seated, Took, SawRecord}
 use Rattle.stm_turns.specs.Holding.{IsInHand, hand_boxes, hands_of, slots_out, Holding}
 use Rattle.stm_turns.specs.Told.{HasGrown, Went, SawFront, Raised, boxes_in}
-use Rattle.stm_turns.specs.Turns.{HasTaken, HandedBelow, settled_view, left_in, InTurn, FrontRecord, MayPutBack, MayEmpty, Stepped}
+use Rattle.stm_turns.specs.Turns.{HasTaken, HasShown, HandedBelow, settled_view, left_in, InTurn, FrontRecord, MayPutBack, MayEmpty, Stepped}
 use Rattle.stm_slots.specs.declared.home.Home.{Home as TheHome}
 use Rattle.stm_slots.specs.declared.slot.Slot.{Slot}
 use Rattle.stm_slots.specs.declared.slot.Slot.TheVariants.{Empty, Record, Home}
@@ -234,6 +234,12 @@ module _ {M : Type 0} {ghosts : Ghosts M} (sight : M → Sight) (t : TableSight 
       let hands : Hands = record (hands_of sight h i.holding.records i.holding.shown (hand_boxes z h.next hand)) { lists = i.holding.stale } in
       let records : i.holding.records ≡ raised.went.records = sym i.same ∙ raised.same hands i.holding.hands in
       went_turn old new h h hand hand e old.me.1 0 i.belongs i.setup i.holding (with_box old new h e (boxes_in old.me.0.beside.turn) (hand_boxes z h.next hand) raised.went boxed) refl part has_it settled i.holding.places i.holding.wide table id i.slots (subst (λ rs. IsInHand z (lists (state_of h.back) rs) hand) records i.in_hand)
+
+  -- the reproduced word, where it was raised
+  pub raised_shown : (old new : TurnSeat) (h : TheHome M ghosts) (n : ℕ) → Raised sight t.key (raise_reproduced n) h old.me 0 new.me → HasShown new n
+  raised_shown old new h n raised hs e =
+      let same : hands_of sight h raised.went.records raised.went.shown (boxes_in old.me.0.beside.turn) ≡ hs = some_hands (hands_of sight h raised.went.records raised.went.shown (boxes_in old.me.0.beside.turn)) hs (sym raised.went.beside ∙ e) in
+      sym (ap (λ (a : Hands). a.shown) same) ∙ raised.raised
 
   pub may_put_back : (old : TurnSeat) (h : TheHome M ghosts) (thread : ℕ) (r : RedoRecord) → InTurn sight t old h (Some (thread, r)) → MayPutBack sight t old h thread r
   may_put_back old h thread r i = record { belongs = i.belongs; setup = i.setup; holding = i.holding; slots = i.slots; inside = i.in_hand.0; lacks = i.in_hand.1.lacks }

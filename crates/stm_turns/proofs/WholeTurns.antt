@@ -15,12 +15,12 @@ use Rattle.stm_slots.specs.Beside.{Beside}
 use Rattle.stm_slots.specs.declared.home.Home.{Home as TheHome}
 use Rattle.stm_slots.specs.declared.slot.Slot.{Slot}
 use Rattle.stm_slots.specs.declared.opening.Opening.{Opening}
-use Rattle.stm_turns.specs.Pump.{HadTurn, HasFailed, HasPumped}
+use Rattle.stm_turns.specs.Pump.{HadTurn, HasFailed, HasPumped, SteppedEmpty}
 use Rattle.stm_turns.specs.Front.{NextIsNotDrawn}
 use Rattle.stm_turns.specs.Turns.{EndsSettled, HasTaken, IsBare, IsOwn, Stepped, settled_view}
 use Rattle.stm_turns.specs.declared.pumped.Pumped.{Pumped}
 
-or_true : (b : Bool) → (b || true) ≡ true
+pub or_true : (b : Bool) → (b || true) ≡ true
 or_true true = refl
 or_true false = refl
 
@@ -29,7 +29,7 @@ module _ {M : Type 0} {ghosts : Ghosts M} (sight : M → Sight) (t : TableSight 
   TurnSeat = Seat (Slot M ghosts) (Known Beside)
 
   module _ (failed : Bool) (old took gave new : TurnSeat) (first last : TheHome M ghosts) (taken : HasTaken sight t old took first) (steps : Stepped sight t took gave last None) (is_given : IsAfter t (give_turn failed) gave new 0) where
-    abbrev pub had_turn : HadTurn sight t failed old new
+    abbrev pub had_turn : HadTurn sight t (SteppedEmpty sight t) failed old new
     had_turn = record { took = took; first = first; taken = taken; gave = gave; last = last; steps = steps; is_given = is_given }
 
     pub turn_view : settled_view new.me.0.view ≡ settled_view (view_after t.setup (give_turn failed) (view_after t.setup take_turn old.me.0.view 0) 0)

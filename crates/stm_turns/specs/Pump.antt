@@ -19,8 +19,8 @@ use Rattle.stm_turns.specs.declared.pump_fault.PumpFault.{PumpFault}
 use Rattle.stm_turns.specs.declared.pump_fault.PumpFault.TheVariants.{Held, Device, Dead}
 
 module _ {M : Type 0} {ghosts : Ghosts M} (sight : M → Sight) (t : TableSight (Opening M ghosts)) where
-  -- The seat took the turn, and what the back's slot had is this; it made steps of the turn, and gave it back with this one
-  pub record HadTurn (failed : Bool) (old new : Seat (Slot M ghosts) (Known Beside)) : Type 0 where
+  -- The seat took the turn, and what the back's slot had is this; it made steps like these, and gave it back with this one
+  pub record HadTurn (Made : Seat (Slot M ghosts) (Known Beside) → Seat (Slot M ghosts) (Known Beside) → TheHome M ghosts → Type 0) (failed : Bool) (old new : Seat (Slot M ghosts) (Known Beside)) : Type 0 where
     -- the seat as the turn is taken, and what it has with it
     pub took : Seat (Slot M ghosts) (Known Beside)
     pub first : TheHome M ghosts
@@ -28,12 +28,16 @@ module _ {M : Type 0} {ghosts : Ghosts M} (sight : M → Sight) (t : TableSight 
     -- the seat as the turn is given, and what it has then
     pub gave : Seat (Slot M ghosts) (Known Beside)
     pub last : TheHome M ghosts
-    pub steps : Stepped sight t took gave last None
+    pub steps : Made took gave last
     pub is_given : IsAfter t (give_turn failed) gave new 0
+
+  -- steps of the turn, with no record in hand behind them
+  abbrev pub SteppedEmpty : Seat (Slot M ghosts) (Known Beside) → Seat (Slot M ghosts) (Known Beside) → TheHome M ghosts → Type 0
+  SteppedEmpty took gave last = Stepped sight t took gave last None
 
   -- The back wasn't dead; all up to a number is announced, and in the home
   pub record HasPumped (pumped : Pumped) (old new : Seat (Slot M ghosts) (Known Beside)) : Type 0 where
-    pub turn : HadTurn false old new
+    pub turn : HadTurn SteppedEmpty false old new
     pub before : (state_of turn.first.back).dead ≡ false
     pub settled : EndsSettled turn.gave turn.last pumped.durable
     pub reproduced : pumped.reproduced ≡ pumped.durable
@@ -45,7 +49,7 @@ module _ {M : Type 0} {ghosts : Ghosts M} (sight : M → Sight) (t : TableSight 
 
   -- A turn in which the back was, or became, dead: the view has met a fault
   pub record HasFailed (was_dead : Bool) (old new : Seat (Slot M ghosts) (Known Beside)) : Type 0 where
-    pub turn : HadTurn true old new
+    pub turn : HadTurn SteppedEmpty true old new
     pub before : (state_of turn.first.back).dead ≡ was_dead
     pub after : (state_of turn.last.back).dead ≡ true
     pub met_fault : new.me.0.view.turn.met_fault ≡ true

@@ -5,7 +5,7 @@ use Rattle.pmem_trait.specs.Sights.{Sight}
 use Rattle.pmem_trait.specs.declared.medium.Medium.{Ghosts}
 use Rattle.back_store.specs.BackView.{medium_of, state_of}
 use Rattle.core_events.specs.Keyed.{has}
-use Rattle.core_events.specs.Events.{Event, view_after}
+use Rattle.core_events.specs.Events.{Event, raise_reproduced, view_after}
 use Rattle.core_events.specs.Telling.{IsSeated}
 use Rattle.known_back.specs.Lists.{lists}
 use Rattle.known_back.specs.Known.{Known as KnownBy}
@@ -21,6 +21,11 @@ use Rattle.stm_turns.specs.Holding.{hands_of}
 -- each number that the hands' lists have, the records have too
 abbrev pub HasGrown : Option Hands → List RedoRecord → Type 0
 HasGrown turn records = (hs : Hands) → turn ≡ Some hs → (n : ℕ) → HasRecord hs.lists.records n → HasRecord records n
+
+-- the reproduced word is what the step makes of it, where it raises it
+abbrev pub IsRaisedTo : Event → ℕ → Type 0
+IsRaisedTo (raise_reproduced n) shown = shown ≡ n
+IsRaisedTo e shown = Unit {0}
 
 -- the boxes whose slots are out
 abbrev pub boxes_in : Option Hands → List (ℕ × RedoRecord)
@@ -43,6 +48,7 @@ module _ {M : Type 0} {ghosts : Ghosts M} (sight : M → Sight) where
   pub record Raised (o : Opening M ghosts) (e : Event) (h : TheHome M ghosts) (m : Seated M ghosts) (n : ℕ) (w : Seated M ghosts) : Type 0 where
     pub went : Went o e h (boxes_in m.0.beside.turn) m.1 m n w
     pub same : (hs : Hands) → m.0.beside.turn ≡ Some hs → hs.lists.records ≡ went.records
+    pub raised : IsRaisedTo e went.shown
 
   -- A look at the front box of a thread, which found n. Where it is the own thread, which has no open number: a number that it drew was
   -- handed over, unless it is in a box, where it is no less than the one found

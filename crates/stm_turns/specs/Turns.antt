@@ -76,6 +76,10 @@ pub record IsAnnounced (v : BackState) (n : ℕ) : Type 0 where
 abbrev pub place_after : ℕ → ℕ → ℕ
 place_after boxes place = if ltb (place + 1) boxes then (place + 1) else (place + 1 - boxes)
 
+-- what the seat has with the turn has this reproduced word
+abbrev pub HasShown : {S : Type 0} → Seat S (Known Beside) → ℕ → Type 0
+HasShown seat n = (hs : Hands) → seat.me.0.beside.turn ≡ Some hs → hs.shown ≡ n
+
 -- the seat is of this thread, and has no open number
 abbrev pub IsOwn : {S : Type 0} → ℕ → Seat S (Known Beside) → Type 0
 IsOwn thread seat = (seat.me.0.view.part.thread ≡ Some thread) × (seat.me.0.view.tx.hand.number ≡ 0)
@@ -182,6 +186,7 @@ module _ {M : Type 0} {ghosts : Ghosts M} where
     pub is : IsAnnounced (state_of h.back) n
     pub reproduced : (state_of h.back).log.reproduced ≡ n
     pub durable : seat.me.0.view.turn.durable ≡ n
+    pub shown : HasShown seat n
 
 -- where the view drew the number behind n, that one is no less than each below which all was handed over
 abbrev pub NextIsNoLess : {S : Type 0} → Seat S (Known Beside) → ℕ → Type 0

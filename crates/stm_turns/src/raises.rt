@@ -2,7 +2,7 @@
 
 ghost use Rattle.std.specs.Prelude.{◌≡◌};
 ghost use Rattle.back_store.specs.BackView.{state_of};
-ghost use Rattle.stm_turns.specs.Turns.{HasHome, MayRaise, SteppedOn};
+ghost use Rattle.stm_turns.specs.Turns.{HasHome, HasShown, MayRaise, SteppedOn};
 
 use crate::slots::SlotSeat;
 use core_table::places::{DURABLE, REPRODUCED};
@@ -37,6 +37,7 @@ pub fn raise_reproduced<M: Medium>(
     requires number { (state_of home.now.back).log.durable ≡ number }
     ensures step { SteppedOn M.sight events.now seat.old seat.new home.now home.now }
     ensures raised { seat.new.me.0.view.turn.durable ≡ number }
+    ensures shown { HasShown seat.new number }
 {
     events.store_by::<Brand, (u64, &Home<M>)>(seat, REPRODUCED, number, &(number, home));
 }

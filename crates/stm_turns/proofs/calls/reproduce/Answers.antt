@@ -53,7 +53,7 @@ returns-clause-ok g c =
     let i = c.requires.turn.1 in let ok = c.in_ok-number in let d = c.args.seat.now.me.0.view.turn.durable in
     let stop = subst (λ (d : ℕ). StopsAfter (state_of h.back).log d ok.number) c.durable-durable.ensures.number ok.ensures.answer in
     let e = reproduced_ok z.threads z.first (state_of h.back) i.holding.records i.holding.known.lawful (state_of b) d ok.number c.requires.announced stop ok.ensures.state in
-    record { is = e.is; reproduced = e.reproduced; durable = c.raise_reproduced.ensures.raised }
+    record { is = e.is; reproduced = e.reproduced; durable = c.raise_reproduced.ensures.raised; shown = c.raise_reproduced.ensures.shown }
 
 pub returns-clause-same : goal.returns-clause-same
 returns-clause-same g c =

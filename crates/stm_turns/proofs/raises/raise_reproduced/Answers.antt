@@ -3,7 +3,7 @@ use Rattle.back_store.specs.BackView.{state_of}
 use Rattle.core_events.specs.Events.{raise_reproduced}
 use Rattle.stm_turns.specs.Told.{Raised}
 use Rattle.stm_turns.proofs.Holdings.{reproduced_fits, reproduced_acts_on}
-use Rattle.stm_turns.proofs.Seats.{may_in_turn, raised_turn}
+use Rattle.stm_turns.proofs.Seats.{may_in_turn, raised_turn, raised_shown}
 use Rattle.stm_turns.proofs.raises.raise_reproduced.Goals as goal
 
 pub store_by-requires-clause-fits : goal.store_by-requires-clause-fits
@@ -22,3 +22,6 @@ pub returns-clause-step : goal.returns-clause-step
 returns-clause-step g c =
     let x = c.store_by in
     raised_turn g.M.Medium.sight c.args.events.now c.args.seat.now x.new.seat c.args.home.now (raise_reproduced c.args.number) x.ensures.then refl refl refl x.ensures.seat.0 x.ensures.seat.1
+
+pub returns-clause-shown : goal.returns-clause-shown
+returns-clause-shown g c = raised_shown g.M.Medium.sight c.args.events.now c.args.seat.now c.store_by.new.seat c.args.home.now c.args.number c.store_by.ensures.then

@@ -1,0 +1,5 @@
+pub mod Paging
+pub mod Told
+pub mod Frames
+pub mod Filling
+pub mod Fetch
