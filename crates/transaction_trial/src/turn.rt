@@ -1,0 +1,38 @@
+//! A turn in which a thread empties its own boxes, whose records are dropped.
+
+use crate::small::Small;
+use core_table::event_table::Seat;
+use core_table::foreseen::law_of_foreseen;
+use core_table::slot_rule::AnySlots;
+use core_table::terms::Terms;
+use stm_passes::pass::Pass;
+use stm_passes::pass_numbers::PassNumbers;
+
+/// Takes the turn, where nobody has it, and empties the boxes of the pass.
+pub fn drop_records(stm: &Small, p: &mut Pass<()>) {
+    let numbers = p.numbers();
+    let mut seat = p.take_seat();
+    let mut had_turn = numbers.had_turn;
+    if stm.take_turn(&mut seat, numbers.thread) == 0 {
+        empty_boxes(stm, &mut seat, numbers.thread);
+        stm.give_turn(&mut seat, false);
+        had_turn = true;
+    }
+    p.put_seat(
+        seat,
+        PassNumbers {
+            had_turn,
+            ..numbers
+        },
+    );
+}
+
+// Empties the full boxes of the thread.
+fn empty_boxes(stm: &Small, seat: &mut Seat<(), ()>, thread: u64) {
+    law_of_foreseen::<(), (), Terms, AnySlots>();
+    for place in 0..stm.events.boxes() {
+        if stm.see_full(seat, thread, place) != 0 {
+            stm.empty_box(seat, thread, place);
+        }
+    }
+}
