@@ -1,20 +1,29 @@
 //! The tables of new subscribers, on words that threads share.
 
+ghost use Rattle.std.specs.Prelude.{◌≤◌, All, IfSome};
+ghost use Rattle.tatp_model.specs.Request.{IsInRange};
+ghost use Rattle.stm_passes.specs.Passes.{IsResting};
+ghost use Rattle.transaction_trial.specs.Fit.{IsFit, IsOpen};
+
 use crate::counts::Counts;
 use crate::job::Job;
 use crate::loads::requests_of;
 use crate::settings::Settings;
 use crate::small::Small;
 use core_table::terms::Terms;
-use dude_base::limits::MAX_BOXES;
+use dude_base::limits::{MAX_BOXES, MAX_LOCKS};
 use dude_base::sizes::Sizes;
 use std::alloc::Global;
 use stm_passes::pass::Pass;
 use stm_steps::stm::Stm;
+use stm_transactions::rule::let_transact;
 use tatp_layout::Layout;
 use tatp_population::populate;
 
-/// The tables of new subscribers, as words, and on a table that threads share.
+/// The draws of each pass that is split off.
+const DRAWS: u64 = 1 << 40;
+
+/// The tables of new subscribers: where they stand, their words at the start, and the words that threads share.
 #[derive(Drop)]
 pub struct Place {
     pub lay: Layout,
@@ -22,17 +31,17 @@ pub struct Place {
     pub stm: Small,
 }
 
-/// Makes the tables, and the first pass.
-pub fn open_place(alloc: Global, settings: &Settings) -> Option<(Place, Pass<()>)> {
-    let sizes = Sizes::of(
-        settings.subscribers,
-        settings.subscribers.checked_mul(12)?,
-        settings.threads,
-        256,
-    )
-    .ok()?;
+/// Makes the tables and the first pass, where there are such tables.
+pub fn open_place(alloc: Global, settings: &Settings) -> Option<(Place, Pass<()>)>
+    ensures { IfSome result (λ r. IsOpen r.0 r.1) }
+{
+    let calls = settings.subscribers.checked_mul(12)?;
+    let sizes = Sizes::of(settings.subscribers, calls, settings.threads, 16).ok()?;
     let lay = Layout::of(&sizes).ok()?;
     let words = populate(alloc, &lay).ok()?;
+    if settings.locks == 0 || settings.locks > MAX_LOCKS {
+        return None;
+    }
     let terms = Terms {
         threads: settings.threads,
         locks: settings.locks,
@@ -43,6 +52,7 @@ pub fn open_place(alloc: Global, settings: &Settings) -> Option<(Place, Pass<()>
         first: 0,
     };
     let (stm, seat) = Stm::new(alloc, &terms, &terms, Vec::new(alloc)).ok()?;
+    let_transact(&stm);
     let pass = Pass::first(&stm, seat, 0);
     Some((Place { lay, words, stm }, pass))
 }
@@ -53,19 +63,35 @@ pub fn split_jobs(
     place: &Place,
     pass: Pass<()>,
     settings: &Settings,
-) -> Option<Vec<Job>> {
+) -> Option<Vec<Job>>
+    requires { IsResting place.now.stm.events pass }
+    ensures { IfSome result (λ jobs. All (IsFit place.now.stm.events) jobs.items) }
+{
+    let_transact(&place.stm);
     let mut first = pass;
     let mut jobs = Vec::new(alloc);
     for file in 1..settings.threads {
-        let pass = first.split(&place.stm, 1 << 40).ok()?;
-        jobs.push(job_of(alloc, file, pass, settings)?).ok()?;
+        if first.left() < DRAWS {
+            return None;
+        }
+        let pass = first.split(&place.stm, DRAWS).ok()?;
+        jobs.push(job_of(alloc, place, file, pass, settings)?).ok()?;
     }
-    jobs.push(job_of(alloc, 0, first, settings)?).ok()?;
+    jobs.push(job_of(alloc, place, 0, first, settings)?).ok()?;
     Some(jobs)
 }
 
 // The job of this file.
-fn job_of(alloc: Global, file: u64, pass: Pass<()>, settings: &Settings) -> Option<Job> {
+fn job_of(
+    alloc: Global,
+    _place: &Place,
+    file: u64,
+    pass: Pass<()>,
+    settings: &Settings,
+) -> Option<Job>
+    requires { IsResting _place.now.stm.events pass }
+    ensures { IfSome result (IsFit _place.now.stm.events) }
+{
     let requests = requests_of(alloc, settings, file)?;
     let mut done = Vec::new(alloc);
     done.reserve(requests.len()).ok()?;
