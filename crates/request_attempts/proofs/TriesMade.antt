@@ -23,7 +23,7 @@ use Rattle.request_attempts.specs.declared.tried.Tried.TheVariants.{Done, Again,
 use Rattle.request_attempts.specs.Counting.{LAST_COUNT, RisesBy}
 use Rattle.request_attempts.specs.Served.{HasServed}
 use Rattle.request_attempts.specs.AfterOnce.{HasStopped, WasLost, CountsEntry}
-use Rattle.request_attempts.specs.Turns.{HasFailed}
+use Rattle.request_attempts.specs.Turns.{HasFailed, HasPumped, KeepsRest, WasRefused}
 use Rattle.request_attempts.specs.Tries.{IsServing, IsUnserved, IsAgain, HasGained, AnswersBy, AfterTurn, AfterStop, AfterLost, AfterTry}
 
 bit_few : (b : Bool) → bit b ≤ 1
@@ -221,3 +221,27 @@ done_try {X} {K} t s file index q d p r no_sync left h = by_wrote h.1.1 h.1.2
     by_wrote : (b : Bool) → r.numbers ≡ with_refusals h.1.0 (after_commit b (Ok d.number) t.setup.boxes p.numbers) → IsServing 1 t s file index q p r d
     by_wrote true is = record { answers = answers; draws = record { used = 1; draws = (let l = ap (λ (x : PassNumbers). x.left) is in omega arith); few = omega arith }; no_fault = ap (λ (x : PassNumbers). x.met_fault) is }
     by_wrote false is = record { answers = answers; draws = record { used = 0; draws = (let l = ap (λ (x : PassNumbers). x.left) is in omega arith); few = omega arith }; no_fault = ap (λ (x : PassNumbers). x.met_fault) is }
+
+-- ---- a `SYNC`
+module _ {X K : Type 0} (t : TableSight K) (p r : PassSight X) (small : up_to_last p.numbers.refused ≡ p.numbers.refused) where
+  -- a turn that counted a refusal
+  turn_again : KeepsRest t p r → r.numbers.met_fault ≡ p.numbers.met_fault → r.numbers.refused ≡ up_to_last (p.numbers.refused + 1) → IsAgain t p r
+  turn_again k no_fault is = record {
+    rests = k.rests;
+    entries = k.entries;
+    last = k.last;
+    no_fault = no_fault;
+    rises = k.rises;
+    draws = record { used = 0; draws = ap (λ (n : ℕ). n + 0) k.left ∙ none; few = omega arith };
+    counts = ⊎_elim (λ n. inr (omega arith, one_more p.numbers.refused r.numbers.refused p.numbers.had_turn r.numbers.had_turn (omega arith))) (λ l. inl l) (counts_of p r small 1 is);
+  }
+    where
+      none : p.numbers.left + 0 ≡ p.numbers.left
+      none = omega arith
+
+  -- its durable number is under one of the pass
+  pub pumped_again : (n : ℕ) → HasPumped t p r n → n < p.numbers.last → IsAgain t p r
+  pumped_again n h under = turn_again h.keeps h.no_fault (⊎_elim (λ is. is) (λ o. let le = o.0 in absurd (omega arith)) h.counts)
+
+  pub refused_again : WasRefused t p r → IsAgain t p r
+  refused_again h = turn_again h.keeps h.no_fault h.counts

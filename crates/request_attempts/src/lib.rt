@@ -5,7 +5,7 @@ pub mod gate;
 pub mod once;
 mod one_try;
 pub mod open_gate;
-pub mod serving;
+pub mod serve;
 pub mod tried;
 pub mod trying;
 pub mod turn_fault;

@@ -2,7 +2,7 @@
 use Rattle.std.specs.Prelude.{◌≡◌, ◌*◌, length, All}
 use Rattle.dude_base.specs.declared.limits.TheConstants.{PAGE}
 use Rattle.tatp_model.specs.Request.{IsInRange}
-use Rattle.core_events.specs.Setups.{Setup}
+use Rattle.core_table.specs.declared.terms.Terms.{Terms}
 use Rattle.core_table.specs.Layout.{TableSight}
 use Rattle.stm_passes.specs.Passes.{PassSight, IsResting}
 use Rattle.transaction_trial.specs.declared.job.Job.{Job}
@@ -14,7 +14,7 @@ pub record IsReady (place : Place) : Type 0 where
   pub words : length place.words.items ≡ place.lay.pages * PAGE
 
 -- The pass rests, and what is asked and what is done is in range
-pub record IsFit (t : TableSight Setup) (job : Job) : Type 0 where
+pub record IsFit (t : TableSight Terms) (job : Job) : Type 0 where
   pub rests : IsResting t job.pass
   pub in_range : All IsInRange job.requests.items
   pub done : All (λ d. IsInRange d.request) job.done.items

@@ -1,4 +1,5 @@
-use Rattle.std.proofs.Common.{◌≡◌, sym, ap, ◌∙◌, subst, arith}
+use Rattle.std.proofs.Common.{◌≡◌, ℕ, ◌*◌, sym, ap, ◌∙◌, subst, arith}
+use Rattle.dude_base.specs.declared.limits.TheConstants.{PAGE}
 use Rattle.stm_passes.specs.Passes.{PassSight}
 use Rattle.stm_passes.specs.declared.pass_numbers.PassNumbers.{PassNumbers}
 use Rattle.stm_transactions.specs.Transactions.{turns_begin}
@@ -7,7 +8,7 @@ use Rattle.request_attempts.proofs.Onces.{numbers, stopped_as, lost_as, served_a
 use Rattle.request_attempts.proofs.one_try.run_once.Goals as goal
 
 pub run_request-requires-clause-size : goal.run_request-requires-clause-size
-run_request-requires-clause-size g c = ?
+run_request-requires-clause-size g c = ap (λ t. t.setup.pages * PAGE) c.in-Ok.ensures.begun.table ∙ ap (λ (n : ℕ). n * PAGE) (sym c.requires.may.home)
 
 pub commit-requires : goal.commit-requires
 commit-requires g c =

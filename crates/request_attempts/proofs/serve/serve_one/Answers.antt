@@ -1,7 +1,7 @@
 use Rattle.std.proofs.Common.{ℕ, sym, subst, arith}
 use Rattle.request_attempts.specs.Counting.{RisesBy}
 use Rattle.request_attempts.proofs.Serving.{served_on, again_unserved, serving_rests}
-use Rattle.request_attempts.proofs.serving.serve_one.Goals as goal
+use Rattle.request_attempts.proofs.serve.serve_one.Goals as goal
 
 pub returns-in-Done-clause-rests : goal.returns-in-Done-clause-rests
 returns-in-Done-clause-rests g c = serving_rests 1 c.args.stm.now.events c.args.lay.now c.args.file c.args.index c.args.q.now c.in-Done.done c.loop.p c.try_once.new.p c.in-Done.ensures

@@ -1,6 +1,6 @@
 //! A request is served: it is tried until a try is good.
 
-ghost use Rattle.std.specs.Prelude.{◌≡◌, ◌↔◌, true, IfOk, IfErr, IsErrOf, MatchBool};
+ghost use Rattle.std.specs.Prelude.{◌≡◌, ◌≤◌, ◌↔◌, true, IfOk, IfErr, IsErrOf, MatchBool};
 ghost use Rattle.stm_passes.specs.Passes.{IsResting};
 ghost use Rattle.request_attempts.specs.MayTry.{MayServe};
 ghost use Rattle.request_attempts.specs.Counting.{IsUnder, RisesBy};
