@@ -1,9 +1,10 @@
 //! The tables of new subscribers, on words that threads share.
 
-ghost use Rattle.std.specs.Prelude.{◌≤◌, All, IfSome};
-ghost use Rattle.tatp_model.specs.Request.{IsInRange};
+ghost use Rattle.std.specs.Prelude.{◌≡◌, ◌≤◌, ◌*◌, ◌^◌, All, IfSome, length};
+ghost use Rattle.dude_base.specs.declared.limits.TheConstants.{PAGE as PAGE_WORDS};
+ghost use Rattle.core_events.specs.Setups.{IsSetup};
 ghost use Rattle.stm_passes.specs.Passes.{IsResting};
-ghost use Rattle.transaction_trial.specs.Fit.{IsFit, IsOpen};
+ghost use Rattle.transaction_trial.specs.Fit.{AreTermsOf, IsFit, IsOpen};
 
 use crate::counts::Counts;
 use crate::job::Job;
@@ -39,22 +40,43 @@ pub fn open_place(alloc: Global, settings: &Settings) -> Option<(Place, Pass<()>
     let sizes = Sizes::of(settings.subscribers, calls, settings.threads, 16).ok()?;
     let lay = Layout::of(&sizes).ok()?;
     let words = populate(alloc, &lay).ok()?;
-    if settings.locks == 0 || settings.locks > MAX_LOCKS {
+    let terms = terms_of(alloc, &lay, &words, settings.locks)?;
+    let (stm, pass) = share(alloc, &terms)?;
+    Some((Place { lay, words, stm }, pass))
+}
+
+// With which sizes these words are shared, where there may be so many locks.
+fn terms_of(alloc: Global, lay: &Layout, words: &[u64], locks: u64) -> Option<Terms>
+    requires { length words.now ≡ lay.now.pages * PAGE_WORDS }
+    ensures { IfSome result (AreTermsOf lay.now) }
+{
+    let sizes = lay.sizes();
+    if locks == 0 || locks > MAX_LOCKS || sizes.pages > 1 << 32 {
         return None;
     }
-    let terms = Terms {
-        threads: settings.threads,
-        locks: settings.locks,
+    Some(Terms {
+        threads: sizes.rings,
+        locks,
         pages: sizes.pages,
         frames: sizes.pages,
         boxes: MAX_BOXES,
-        opening: Vec::from_slice(alloc, &words).ok()?,
+        opening: Vec::from_slice(alloc, words).ok()?,
         first: 0,
-    };
-    let (stm, seat) = Stm::new(alloc, &terms, &terms, Vec::new(alloc)).ok()?;
+    })
+}
+
+// The words on a table that threads share, and the first pass.
+fn share(alloc: Global, terms: &Terms) -> Option<(Small, Pass<()>)>
+    requires setup { IsSetup terms.now }
+    requires pages { terms.now.pages ≤ 2 ^ 32 }
+    requires first { terms.now.first ≡ 0 }
+    ensures rests { IfSome result (λ r. IsResting r.0.events r.1) }
+    ensures pages { IfSome result (λ r. r.0.events.setup.pages ≡ terms.now.pages) }
+{
+    let (stm, seat) = Stm::new(alloc, terms, terms, Vec::new(alloc)).ok()?;
     let_transact(&stm);
     let pass = Pass::first(&stm, seat, 0);
-    Some((Place { lay, words, stm }, pass))
+    Some((stm, pass))
 }
 
 /// A job for each thread.
