@@ -28,7 +28,11 @@ pub fn is_one_thread(alloc: Global, place: &Place, jobs: &[Job]) -> bool
     let Ok(order) = printed_order(alloc, place, jobs) else {
         return false;
     };
-    are_whole(jobs) && replies_alike(alloc, &mut tables, place.lay.sizes().calls, &order)
+    let limit = place.lay.sizes().calls;
+    if tables.calls.len() as u64 > limit || !are_whole(jobs) {
+        return false;
+    }
+    replies_alike(alloc, &mut tables, limit, &order)
 }
 
 // Whether each job did all its requests but the `SYNC`.

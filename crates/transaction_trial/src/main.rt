@@ -86,7 +86,8 @@ fn run_jobs<R: Threads + Sync>(rt: &R, place: &Place, jobs: &mut [Job])
     requires fit { All (IsFit place.now.stm.events) jobs.old }
     ensures { All (IsFit place.now.stm.events) jobs.new }
 {
-    thread::for_each_mut(rt, jobs, jobs.len(), &|_, job: &mut Job| work(place, job));
+    let threads = jobs.len().max(1);
+    thread::for_each_mut(rt, jobs, threads, &|_, job: &mut Job| work(place, job));
 }
 
 /// Whether the replies are those of one thread, and as many numbers were drawn as the jobs count.

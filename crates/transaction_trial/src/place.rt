@@ -96,10 +96,18 @@ pub fn split_jobs(
         if first.left() < DRAWS {
             return None;
         }
-        let pass = first.split(&place.stm, DRAWS).ok()?;
-        jobs.push(job_of(alloc, place, file, pass, settings)?).ok()?;
+        let Ok(pass) = first.split(&place.stm, DRAWS) else {
+            return None;
+        };
+        let job = job_of(alloc, place, file, pass, settings)?;
+        let Ok(()) = jobs.push(job) else {
+            return None;
+        };
     }
-    jobs.push(job_of(alloc, place, 0, first, settings)?).ok()?;
+    let job = job_of(alloc, place, 0, first, settings)?;
+    let Ok(()) = jobs.push(job) else {
+        return None;
+    };
     Some(jobs)
 }
 

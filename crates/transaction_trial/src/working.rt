@@ -1,6 +1,6 @@
 //! A thread's work: its requests, each tried until it is done.
 
-ghost use Rattle.std.specs.Prelude.{◌≡◌, ◌<◌, false, IfSome};
+ghost use Rattle.std.specs.Prelude.{◌≡◌, false, All, IfSome};
 ghost use Rattle.tatp_model.specs.OneThread.{is_sync};
 ghost use Rattle.tatp_model.specs.Request.{IsInRange};
 ghost use Rattle.stm_passes.specs.Passes.{IsResting};
@@ -30,10 +30,9 @@ pub fn work(place: &Place, job: &mut Job)
     ensures { IsFit place.now.stm.events job.new }
 {
     for index in 0..job.requests.len() {
-        let request = job.requests[index];
-        if let Request::Sync = request {
+        let Some(request) = request_at(&job.requests, index) else {
             return;
-        }
+        };
         let asked = Asked {
             file: job.file,
             index: index as u64,
@@ -47,6 +46,19 @@ pub fn work(place: &Place, job: &mut Job)
         }
         job.counts.done = job.counts.done.wrapping_add(1);
         job.counts.wrote = job.counts.wrote.wrapping_add(u64::from(done.wrote));
+    }
+}
+
+// The request at this place, where it is there and no `SYNC`.
+fn request_at(requests: &[Request], index: usize) -> Option<Request>
+    requires { All IsInRange requests.now }
+    ensures in_range { IfSome result IsInRange }
+    ensures no_sync { IfSome result (λ q. is_sync q ≡ false) }
+{
+    match requests.get(index) {
+        Some(Request::Sync) => None,
+        Some(request) => Some(*request),
+        None => None,
     }
 }
 
