@@ -153,6 +153,13 @@ impl<'a, S, X, K, P: TransactionRule<S, X, K>, R: ReadList> TxOver<'a, S, X, K, 
         self.stopped
     }
 
+    /// The clock's value at its begin, or at its last extension.
+    pub fn snapshot(&self) -> u64
+        ensures { result ≡ self.now.snapshot }
+    {
+        self.snapshot
+    }
+
     /// Ends it without an entry; its locks get their old words.
     pub fn abort(self)
         ensures { HasAborted self.entry self.exit.0.now }

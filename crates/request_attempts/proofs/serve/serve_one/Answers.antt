@@ -1,0 +1,19 @@
+use Rattle.std.proofs.Common.{ℕ, sym, subst, arith}
+use Rattle.request_attempts.specs.Counting.{RisesBy}
+use Rattle.request_attempts.proofs.Serving.{served_on, again_unserved, serving_rests}
+use Rattle.request_attempts.proofs.serve.serve_one.Goals as goal
+
+pub returns-in-Done-clause-rests : goal.returns-in-Done-clause-rests
+returns-in-Done-clause-rests g c = serving_rests 1 c.args.stm.now.events c.args.lay.now c.args.file c.args.index c.args.q.now c.in-Done.done c.loop.p c.try_once.new.p c.in-Done.ensures
+
+pub returns-in-Done-clause-ok : goal.returns-in-Done-clause-ok
+returns-in-Done-clause-ok g c = served_on c.loop.counter c.args.stm.now.events c.args.p.now c.loop.p c.loop.invariant c.args.lay.now c.args.file c.args.index c.args.q.now c.in-Done.done c.try_once.new.p c.in-Done.ensures
+
+pub returns-then-is_given_up-clause-err : goal.returns-then-is_given_up-clause-err
+returns-then-is_given_up-clause-err g c = again_unserved c.loop.counter c.args.stm.now.events c.args.p.now c.loop.p c.loop.invariant 65 c.try_once.new.p c.in-Again.ensures (omega arith)
+
+pub returns-then-is_given_up-clause-refused : goal.returns-then-is_given_up-clause-refused
+returns-then-is_given_up-clause-refused g c is = record {
+  often = rw (sym c.refused-before.ensures, sym c.refused.ensures) c.if-is_given_up.ensures;
+  unserved = again_unserved c.loop.counter c.args.stm.now.events c.args.p.now c.loop.p c.loop.invariant 64 c.try_once.new.p c.in-Again.ensures (omega arith);
+}

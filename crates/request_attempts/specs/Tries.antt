@@ -1,0 +1,115 @@
+-- What tries of a request leave of a pass.
+use Rattle.std.specs.Prelude.{◌≡◌, ◌≢◌, ℕ, ◌+◌, ◌*◌, ◌<◌, ◌≤◌, ◌⊎◌, Bool, true, false}
+use Rattle.dude_base.specs.declared.sizes.Sizes.{Sizes}
+use Rattle.word_space.specs.declared.stop.Stop.{Stop}
+use Rattle.word_space.specs.declared.stop.Stop.TheVariants as stop
+use Rattle.tx_commit.specs.declared.lost.Lost.{Lost}
+use Rattle.tx_commit.specs.declared.lost.Lost.TheVariants as lost
+use Rattle.tatp_model.specs.declared.request.Request.{Request}
+use Rattle.tatp_model.specs.declared.reply.Reply.TheVariants.{Durable}
+use Rattle.tatp_model.specs.declared.done.Done.{Done as DoneOf}
+use Rattle.tatp_model.specs.OneThread.{is_sync}
+use Rattle.core_table.specs.Layout.{TableSight}
+use Rattle.stm_passes.specs.Numbers.{bit}
+use Rattle.stm_passes.specs.Passes.{PassSight, IsResting, pass_view}
+use Rattle.request_attempts.specs.declared.tried.Tried.{Tried}
+use Rattle.request_attempts.specs.declared.tried.Tried.TheVariants.{Done, Again, Device, NoMemory}
+use Rattle.request_attempts.specs.Counting.{LAST_COUNT, RisesBy}
+use Rattle.request_attempts.specs.Served.{HasServed}
+use Rattle.request_attempts.specs.Turns.{KeepsRest, HasFailed}
+
+-- A `SYNC` was answered with a durable number that is at least each one of the pass
+pub record HasSynced {X K : Type 0} (t : TableSight K) (file index : ℕ) (q : Request) (p r : PassSight X) (d : DoneOf) : Type 0 where
+  pub rests : IsResting t r
+  pub done : d ≡ record { file = file; index = index; number = r.numbers.durable; wrote = false; request = q; reply = Durable }
+  pub entries : (pass_view r).entries ≡ (pass_view p).entries
+  pub last : p.numbers.last ≤ d.number
+
+-- what an answer leaves, of a `SYNC` where it is one
+abbrev pub AnswersBy : {X K : Type 0} → Bool → TableSight K → Sizes → ℕ → ℕ → Request → PassSight X → PassSight X → DoneOf → Type 0
+AnswersBy true t s file index q p r d = HasSynced t file index q p r d
+AnswersBy false t s file index q p r d = HasServed t s file index q p r d
+
+-- so many of p's draws were used at most
+pub record DrawsUpTo {X : Type 0} (most : ℕ) (p r : PassSight X) : Type 0 where
+  pub used : ℕ
+  pub draws : r.numbers.left + used ≡ p.numbers.left
+  pub few : used ≤ most
+
+-- The request was answered, at most so many numbers were drawn, and no fault was met
+pub record IsServing {X K : Type 0} (most : ℕ) (t : TableSight K) (s : Sizes) (file index : ℕ) (q : Request) (p r : PassSight X) (d : DoneOf) : Type 0 where
+  pub answers : AnswersBy (is_sync q) t s file index q p r d
+  pub draws : DrawsUpTo most p r
+  pub no_fault : r.numbers.met_fault ≡ p.numbers.met_fault
+
+-- It wasn't: no entry is new
+pub record IsUnserved {X K : Type 0} (most : ℕ) (t : TableSight K) (p r : PassSight X) : Type 0 where
+  pub rests : IsResting t r
+  pub entries : (pass_view r).entries ≡ (pass_view p).entries
+  pub draws : DrawsUpTo most p r
+
+-- It was given up: the pass was refused 64 times, or the count stands at its last value
+pub record IsGivenUp {X K : Type 0} (t : TableSight K) (p r : PassSight X) : Type 0 where
+  pub often : RisesBy 64 p.numbers.refused r.numbers.refused
+  pub unserved : IsUnserved 64 t p r
+
+-- A try that made no entry and is to be made again
+pub record IsAgain {X K : Type 0} (t : TableSight K) (p r : PassSight X) : Type 0 where
+  pub rests : IsResting t r
+  pub entries : (pass_view r).entries ≡ (pass_view p).entries
+  pub last : r.numbers.last ≡ p.numbers.last
+  pub no_fault : r.numbers.met_fault ≡ p.numbers.met_fault
+  pub rises : p.numbers.refused ≤ r.numbers.refused
+  pub draws : DrawsUpTo 1 p r
+  -- it counts a refusal, or the pass has had a turn by it; each number that it drew counts one
+  pub counts : (LAST_COUNT ≤ r.numbers.refused) ⊎ ((p.numbers.refused + draws.used ≤ r.numbers.refused) × (2 * p.numbers.refused + bit p.numbers.had_turn < 2 * r.numbers.refused + bit r.numbers.had_turn))
+
+-- So many tries were made again, and the request isn't given up yet
+pub record HasTried {X K : Type 0} (k : ℕ) (t : TableSight K) (p q : PassSight X) : Type 0 where
+  pub rests : IsResting t q
+  pub entries : (pass_view q).entries ≡ (pass_view p).entries
+  pub last : q.numbers.last ≡ p.numbers.last
+  pub no_fault : q.numbers.met_fault ≡ p.numbers.met_fault
+  pub rises : p.numbers.refused ≤ q.numbers.refused
+  -- so many numbers were drawn, each for a refusal
+  pub used : ℕ
+  pub draws : q.numbers.left + used ≡ p.numbers.left
+  pub counted : p.numbers.refused + used ≤ q.numbers.refused
+  -- two tries count a refusal at least
+  pub tries : 2 * p.numbers.refused + k ≤ 2 * q.numbers.refused + bit q.numbers.had_turn
+  pub under : q.numbers.refused < p.numbers.refused + 64
+
+-- A turn for a try that can't get on counted a refusal, or was had
+pub record HasGained {X K : Type 0} (t : TableSight K) (p q : PassSight X) : Type 0 where
+  pub keeps : KeepsRest t p q
+  pub no_fault : q.numbers.met_fault ≡ p.numbers.met_fault
+  pub had : p.numbers.had_turn ≡ true → q.numbers.had_turn ≡ true
+  pub gains : (LAST_COUNT ≤ q.numbers.refused) ⊎ ((p.numbers.refused < q.numbers.refused) ⊎ (q.numbers.had_turn ≡ true))
+
+-- what a turn for a try that can't get on leaves
+abbrev pub AfterTurn : {X K : Type 0} → TableSight K → Tried → PassSight X → PassSight X → Type 0
+AfterTurn t (Done d) p q = ⊥
+AfterTurn t Again p q = HasGained t p q
+AfterTurn t Device p q = HasFailed t p q
+AfterTurn t NoMemory p q = ⊥
+
+-- what follows a Stop
+abbrev pub AfterStop : {X K : Type 0} → TableSight K → Stop → Tried → PassSight X → PassSight X → Type 0
+AfterStop t e (Done d) p q = ⊥
+AfterStop t e Again p q = (e ≢ stop.NoMemory) × ((q ≡ p) ⊎ HasGained t p q)
+AfterStop t e Device p q = HasFailed t p q
+AfterStop t e NoMemory p q = q ≡ p
+
+-- what follows a commit that was lost; one that drew a number is tried again at once
+abbrev pub AfterLost : {X K : Type 0} → TableSight K → Lost → Tried → PassSight X → PassSight X → Type 0
+AfterLost t l (Done d) p q = ⊥
+AfterLost t l Again p q = (q ≡ p) ⊎ HasGained t p q
+AfterLost t l Device p q = HasFailed t p q × ((lock seen n : ℕ) → l ≢ lost.Conflict lock seen n)
+AfterLost t l NoMemory p q = ⊥
+
+-- what a try leaves, by how it ended
+abbrev pub AfterTry : {X K : Type 0} → TableSight K → Sizes → ℕ → ℕ → Request → Tried → PassSight X → PassSight X → Type 0
+AfterTry t s file index q (Done d) p r = IsServing 1 t s file index q p r d
+AfterTry t s file index q Again p r = IsAgain t p r
+AfterTry t s file index q Device p r = IsUnserved 0 t p r × (r.numbers.met_fault ≡ true)
+AfterTry t s file index q NoMemory p r = IsUnserved 0 t p r × (r.numbers.met_fault ≡ p.numbers.met_fault)

@@ -1,0 +1,46 @@
+-- What a turn leaves of a pass.
+use Rattle.std.specs.Prelude.{◌≡◌, ℕ, ◌+◌, ◌≤◌, ◌⊎◌, true}
+use Rattle.pmem_trait.specs.Faults.{up_to_last}
+use Rattle.core_table.specs.Layout.{TableSight}
+use Rattle.stm_passes.specs.Passes.{PassSight, IsResting, pass_view}
+use Rattle.request_attempts.specs.declared.turn_fault.TurnFault.{TurnFault}
+use Rattle.request_attempts.specs.declared.turn_fault.TurnFault.TheVariants.{Refused, Fault}
+
+-- No entry and no draw is new, and refusals only grow
+pub record KeepsRest {X K : Type 0} (t : TableSight K) (p q : PassSight X) : Type 0 where
+  pub rests : IsResting t q
+  pub entries : (pass_view q).entries ≡ (pass_view p).entries
+  pub last : q.numbers.last ≡ p.numbers.last
+  pub left : q.numbers.left ≡ p.numbers.left
+  pub rises : p.numbers.refused ≤ q.numbers.refused
+
+-- A pump was good, with this durable number. One under a number of the pass counts as a refusal
+pub record HasPumped {X K : Type 0} (t : TableSight K) (p q : PassSight X) (n : ℕ) : Type 0 where
+  pub keeps : KeepsRest t p q
+  pub durable : q.numbers.durable ≡ n
+  pub had : q.numbers.had_turn ≡ true
+  pub no_fault : q.numbers.met_fault ≡ p.numbers.met_fault
+  pub counts : (q.numbers.refused ≡ up_to_last (p.numbers.refused + 1)) ⊎ ((p.numbers.last ≤ n) × (p.numbers.drawn ≤ n))
+
+-- A page is shown
+pub record HasFetched {X K : Type 0} (t : TableSight K) (p q : PassSight X) : Type 0 where
+  pub keeps : KeepsRest t p q
+  pub had : q.numbers.had_turn ≡ true
+  pub no_fault : q.numbers.met_fault ≡ p.numbers.met_fault
+
+-- Nothing was done, and a refusal counted
+pub record WasRefused {X K : Type 0} (t : TableSight K) (p q : PassSight X) : Type 0 where
+  pub keeps : KeepsRest t p q
+  pub had : p.numbers.had_turn ≡ true → q.numbers.had_turn ≡ true
+  pub no_fault : q.numbers.met_fault ≡ p.numbers.met_fault
+  pub counts : q.numbers.refused ≡ up_to_last (p.numbers.refused + 1)
+
+-- The pass has met a fault
+pub record HasFailed {X K : Type 0} (t : TableSight K) (p q : PassSight X) : Type 0 where
+  pub keeps : KeepsRest t p q
+  pub fault : q.numbers.met_fault ≡ true
+
+-- what a turn leaves that didn't do what was wanted
+abbrev pub LeavesFault : {X K : Type 0} → TableSight K → PassSight X → PassSight X → TurnFault → Type 0
+LeavesFault t p q Refused = WasRefused t p q
+LeavesFault t p q Fault = HasFailed t p q

@@ -1,0 +1,13 @@
+//! Requests are served by transactions, each tried until a try is good.
+#![tactic(auto)]
+
+pub mod gate;
+pub mod once;
+mod one_try;
+pub mod open_gate;
+pub mod serve;
+pub mod tried;
+pub mod trying;
+pub mod turn_fault;
+pub mod turns;
+pub mod unserved;

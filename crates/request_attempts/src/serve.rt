@@ -1,0 +1,73 @@
+//! A request is served: it is tried until a try is good.
+
+ghost use Rattle.std.specs.Prelude.{◌≡◌, ◌≤◌, ◌↔◌, true, IfOk, IfErr, IsErrOf, MatchBool};
+ghost use Rattle.stm_passes.specs.Passes.{IsResting};
+ghost use Rattle.request_attempts.specs.MayTry.{MayServe};
+ghost use Rattle.request_attempts.specs.Counting.{IsUnder, RisesBy};
+ghost use Rattle.request_attempts.specs.Tries.{IsGivenUp, IsServing, IsUnserved};
+ghost use Rattle.request_attempts.specs.declared.unserved.Unserved.TheVariants.{Refused as RefusedOf, Device as DeviceOf};
+
+use crate::gate::Gate;
+use crate::tried::Tried;
+use crate::trying::try_once;
+use crate::turns::Turns;
+use crate::unserved::Unserved;
+use std::alloc::Global;
+use stm_boxes::box_rule::BoxRule;
+use stm_passes::pass::Pass;
+use stm_steps::stm::Stm;
+use stm_transactions::rule::TransactionRule;
+use tatp_layout::Layout;
+use tatp_model::done::Done;
+use tatp_model::request::Request;
+
+// Whether a request is to be given up.
+fn is_given_up(before: u64, now: u64) -> bool
+    requires { before ≤ now }
+    ensures { MatchBool result (RisesBy 64 before now) (IsUnder 64 before now) }
+{
+    now - before >= 64 || now == u64::MAX
+}
+
+/// Serves a request: tries it until a try is good, or the pass was refused 64 times.
+#[tactic(auto, using(crate::proofs::Serving::tried_none, crate::proofs::Serving::tried_on, crate::proofs::Serving::may_try, crate::proofs::Serving::never))]
+pub fn serve_one<
+    S,
+    X,
+    K,
+    P: TransactionRule<S, X, K> + BoxRule<S, X, K>,
+    T: Turns<S, X, K, P>,
+    G: Gate,
+>(
+    stm: &Stm<S, X, K, P>,
+    turns: &T,
+    p: &mut Pass<X>,
+    alloc: Global,
+    lay: &Layout,
+    file: u64,
+    index: u64,
+    q: &Request,
+    gate: &G,
+) -> Result<Done, Unserved>
+    requires may { MayServe stm.now.events lay.now q.now p.old }
+    ensures rests { IsResting stm.now.events p.new }
+    ensures ok { IfOk result
+        (IsServing 65 stm.now.events lay.now file index q.now p.old p.new) }
+    ensures err { IfErr result (λ e. IsUnserved 65 stm.now.events p.old p.new) }
+    ensures refused { IsErrOf result RefusedOf → IsGivenUp stm.now.events p.old p.new }
+    ensures device { IsErrOf result DeviceOf ↔ (p.new.numbers.met_fault ≡ true) }
+{
+    let before = p.refused();
+    for _ in 0..129u64 {
+        match try_once(stm, turns, p, alloc, lay, file, index, q, gate) {
+            Tried::Done(done) => return Ok(done),
+            Tried::Device => return Err(Unserved::Device),
+            Tried::NoMemory => return Err(Unserved::NoMemory),
+            Tried::Again => {}
+        }
+        if is_given_up(before, p.refused()) {
+            return Err(Unserved::Refused);
+        }
+    }
+    Err(Unserved::Refused)
+}

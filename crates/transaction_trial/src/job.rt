@@ -1,0 +1,18 @@
+//! What one thread has to do, and what it did.
+
+use crate::counts::Counts;
+use std::alloc::Global;
+use stm_passes::pass::Pass;
+use tatp_model::done::Done;
+use tatp_model::request::Request;
+
+/// What one thread has to do, and what it did.
+#[derive(Drop)]
+pub struct Job {
+    pub alloc: Global,
+    pub file: u64,
+    pub pass: Pass<()>,
+    pub requests: Vec<Request>,
+    pub done: Vec<Done>,
+    pub counts: Counts,
+}
