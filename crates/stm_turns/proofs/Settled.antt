@@ -52,6 +52,10 @@ not_true false none = refl
 pub own_still : {S : Type 0} (thread : ℕ) (old new : Seat S (Known Beside)) → settled_view new.me.0.view ≡ settled_view old.me.0.view → IsOwn thread old → IsOwn thread new
 own_still thread old new same own = (ap (λ (v : View). v.part.thread) same ∙ own.0, ap (λ (v : View). v.tx.hand.number) same ∙ own.1)
 
+-- nor behind steps of the turn
+pub not_drawn_on : {S : Type 0} (old new : Seat S (Known Beside)) (n : ℕ) → settled_view new.me.0.view ≡ settled_view old.me.0.view → NextIsNotDrawn old n → NextIsNotDrawn new n
+not_drawn_on old new n same is = ap (λ (v : View). has v.drawn (n + 1)) same ∙ is
+
 -- a bundle more: the greatest number that is past rises
 pub past_more : (own n : ℕ) (v w : BackState) → (low : ℕ) × IsPast v own low × (n ≤ low) → (m : ℕ) × RisesTo m own v w → (low : ℕ) × IsPast w own low × (n + 1 ≤ low)
 past_more own n v w past risen = let lt = risen.1.over past.0 past.1 in let le = past.2 in (risen.0, risen.1.past, (omega arith))

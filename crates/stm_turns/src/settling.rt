@@ -1,6 +1,7 @@
 //! The records of full boxes are persisted in bundles, and made durable and reproduced.
 
-ghost use Rattle.std.specs.Prelude.{◌≡◌, ◌≤◌, ◌<◌, ℕ, [], IfOk, IfSome, IfNone, OnOk, OnErr, false, length, true};
+ghost use Rattle.std.specs.Prelude.{◌≡◌, ◌≤◌, ◌<◌, ℕ, [], IfOk, IfSome, IfNone, OnOk, OnErr, false, true};
+ghost use Rattle.dude_base.specs.declared.limits.TheConstants.{MAX_RINGS};
 ghost use Rattle.back_store.specs.BackView.{state_of};
 ghost use Rattle.stm_turns.specs.Bundles.{NextIsNotDrawn};
 ghost use Rattle.stm_turns.specs.Turns.{EndsSettled, InTurn, IsOwn, RisesTo, Stepped};
@@ -20,7 +21,7 @@ use stm_slots::slots_rule::Events;
 
 /// The thread with the least number in front, of so many.
 fn least(fronts: &Fronts, threads: u64) -> Option<u64>
-    requires { threads ≤ length fronts.now }
+    requires { threads ≤ MAX_RINGS }
     ensures { IfSome result (λ thread. thread < threads) }
 {
     let mut least = None;

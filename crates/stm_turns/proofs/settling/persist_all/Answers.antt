@@ -13,3 +13,7 @@ pub loop-preserved : goal.loop-preserved
 loop-preserved g c =
     let l = c.loop in let x = c.persist_from in
     record { step = then_turn g.M.Medium.sight c.args.events.now c.args.seat.now l.seat x.new.seat l.home x.new.home [] [] l.invariant.step x.ensures.step; alive = c.in_ok-persist_from.ensures.ok }
+
+pub least-requires : goal.least-requires
+least-requires g c =
+    let wide = c.requires.turn.holding.wide in let e = c.threads.ensures ∙ ap (λ (y : Setup). y.threads) c.requires.turn.setup in omega arith

@@ -1,4 +1,6 @@
-use Rattle.std.proofs.Common.{[], arith, inl}
+use Rattle.std.proofs.Common.{ℕ, [], arith, inl, subst}
+use Rattle.std.specs.Prelude.{Option, IfSome}
+use Rattle.stm_turns.specs.Turns.{EndsSettled, RisesTo}
 use Rattle.back_store.specs.BackView.{state_of}
 use Rattle.stm_turns.proofs.Settled.{none_over, own_still, past_more}
 use Rattle.stm_turns.proofs.Seats.{same_turn, then_turn}
@@ -10,8 +12,8 @@ loop-look-init g c = record { step = same_turn g.M.Medium.sight c.args.events.no
 pub persist_next-requires-clause-own : goal.persist_next-requires-clause-own
 persist_next-requires-clause-own g c = let l = c.loop-look in own_still c.args.own c.args.seat.now l.seat l.invariant.step.view c.requires.own
 
-pub returns-in_err-persist_next-clause-step : goal.returns-in_err-persist_next-clause-step
-returns-in_err-persist_next-clause-step g c = let l = c.loop-look in let x = c.persist_next in then_turn g.M.Medium.sight c.args.events.now c.args.seat.now l.seat x.new.seat l.home x.new.home [] [] l.invariant.step x.ensures.step
+pub returns-in_err-next-clause-step : goal.returns-in_err-next-clause-step
+returns-in_err-next-clause-step g c = let l = c.loop-look in let x = c.persist_next in then_turn g.M.Medium.sight c.args.events.now c.args.seat.now l.seat x.new.seat l.home x.new.home [] [] l.invariant.step x.ensures.step
 
 pub returns-in-None-clause-step : goal.returns-in-None-clause-step
 returns-in-None-clause-step g c = let l = c.loop-look in let x = c.persist_next in then_turn g.M.Medium.sight c.args.events.now c.args.seat.now l.seat x.new.seat l.home x.new.home [] [] l.invariant.step x.ensures.step
@@ -20,3 +22,13 @@ pub unreachable-requires : goal.unreachable-requires
 unreachable-requires g c =
     let l = c.loop-look in
     none_over g.M.Medium.sight c.args.events.now l.seat l.home l.invariant.step.turn c.args.own l._look c.requires.thread (omega arith) l.invariant.past
+
+pub loop-look-preserved : goal.loop-look-preserved
+loop-look-preserved g c =
+    let l = c.loop-look in let x = c.persist_next in
+    let some = subst (λ (o : Option ℕ). IfSome o (λ n. EndsSettled x.new.seat x.new.home n × ((m : ℕ) × RisesTo m c.args.own (state_of l.home.back) (state_of x.new.home.back)))) c.in-Some.is c.in_ok-next.ensures.some in
+    record {
+      step = then_turn g.M.Medium.sight c.args.events.now c.args.seat.now l.seat x.new.seat l.home x.new.home [] [] l.invariant.step x.ensures.step;
+      settled = some.0;
+      past = past_more c.args.own l._look (state_of l.home.back) (state_of x.new.home.back) l.invariant.past some.1;
+    }

@@ -3,8 +3,8 @@ use Rattle.stm_turns.proofs.Settled.{own_still}
 use Rattle.stm_turns.proofs.Seats.{then_turn}
 use Rattle.stm_turns.proofs.settling.settle.Goals as goal
 
-pub catch_up-number-requires : goal.catch_up-number-requires
-catch_up-number-requires g c = record { turn = ([], c.persist_all.ensures.step.turn) }
+pub catch_up-requires : goal.catch_up-requires
+catch_up-requires g c = record { turn = ([], c.persist_all.ensures.step.turn) }
 
 pub returns-in_err-number-clause-step : goal.returns-in_err-number-clause-step
 returns-in_err-number-clause-step g c =
