@@ -484,9 +484,9 @@ module _ {M : Type 0} {ghosts : Ghosts M} (sight : M → Sight) (t : TableSight 
           may_in_turn mid h those (laid_belongs old mid q.may.letting.belongs table k_is) q.may.letting.setup i (empty_box thread front) (record { live = i.live; threaded = i.thread; named = (thread_inside, front_near); can = i.turn })
           (λ n. WentHanded sight t.key (empty_box thread front) h2 bs (rest mid.me.1) mid.me 0)
           (subst (λ (u : ℕ). set h.next u (place_at z (get_or h.next u 0) 1) ≡ h2.next → mid.me.1 ≡ (box_of z u (get_or h.next u 0), Empty) ∷ rest mid.me.1
-              → Acts (fact_of sight t.key) z (empty_box u (get_or h.next u 0)) mid.id mid.me (λ n. WentHanded sight t.key (empty_box u (get_or h.next u 0)) h2 bs (rest mid.me.1) mid.me 0)) q.thread_is
+          → Acts (fact_of sight t.key) z (empty_box u (get_or h.next u 0)) mid.id mid.me (λ n. WentHanded sight t.key (empty_box u (get_or h.next u 0)) h2 bs (rest mid.me.1) mid.me 0)) q.thread_is
           (λ nexts2 slots2. empty_acts_on sight t.key mid.me h those i p bs (box_in z those p (contains_here p q.left)) (subst (λ l. Leaves (boxes_held z those) (box_held z p) l) (sym left_is) (leaves_first z p q.left q.may.letting.apart)) mid.id (rest mid.me.1) h2 q.may.fronts.0 place back pager nexts2 slots2
-              (λ k r among. let a = held_of z those k r among in subst (λ (b : RedoRecord). HasRecord i.records b.number × (writes_in i.records b.number ≡ b.writes)) a.3 (q.may.handed a.0 a.1)))
+          (λ k r among. let a = held_of z those k r among in subst (λ (b : RedoRecord). HasRecord i.records b.number × (writes_in i.records b.number ≡ b.writes)) a.3 (q.may.handed a.0 a.1)))
           nexts slots)
 
       pub fits_first : Foreseen (fact_of sight t.key) z (empty_box thread front) mid.id mid.me.0

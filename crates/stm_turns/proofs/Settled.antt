@@ -113,7 +113,7 @@ module _ {M : Type 0} {ghosts : Ghosts M} (sight : M → Sight) (t : TableSight 
   begun seat h thread boxes r g i same b = record { hand = found_in thread h.next (Some r); turn = i; gathered = begun_gathered seat h thread boxes r g i same b }
 
   pub begun_steps : (old seat : TurnSeat) (h : TheHome M ghosts) (thread boxes : ℕ) (r : RedoRecord) (g : Gathering) → Stepped sight t old seat h (found_in thread h.next (Some r)) → boxes ≡ z.boxes → BeginsWith thread r h.next boxes g → SteppedWith sight t old seat h g
-  begun_steps old seat h thread boxes r g s same b = 
+  begun_steps old seat h thread boxes r g s same b =
       record { hand = found_in thread h.next (Some r); step = s; gathered = begun_gathered seat h thread boxes r g s.turn same b }
 
   -- a bundle was gathered and persisted, or its records are in their boxes again

@@ -60,7 +60,7 @@ fn persist_or_put_back<M: Medium>(
     ensures ok { OnOk result ((state_of home.new.back).dead ≡ false) }
     ensures rises { IfOk result (λ done. done ≡ true
         → RisesTo (first_of gathering.now.bundle) gathering.now.ring
-            (state_of home.old.back) (state_of home.new.back)) }
+        (state_of home.old.back) (state_of home.new.back)) }
     ensures err { OnErr result ((state_of home.new.back).dead ≡ true) }
 {
     match persist(events, seat, home, gathering) {
@@ -86,7 +86,7 @@ fn retry<M: Medium>(
     ensures ok { OnOk result ((state_of home.new.back).dead ≡ false) }
     ensures rises { IfOk result (λ done. done ≡ true
         → RisesTo (first_of gathering.now.bundle) gathering.now.ring
-            (state_of home.old.back) (state_of home.new.back)) }
+        (state_of home.old.back) (state_of home.new.back)) }
     ensures err { OnErr result ((state_of home.new.back).dead ≡ true) }
 {
     match catch_up(events, seat, home) {
@@ -113,7 +113,7 @@ pub fn persist_bundle<M: Medium>(
     ensures ok { OnOk result ((state_of home.new.back).dead ≡ false) }
     ensures rises { IfOk result (λ done. done ≡ true
         → RisesTo (first_of gathering.now.bundle) gathering.now.ring
-            (state_of home.old.back) (state_of home.new.back)) }
+        (state_of home.old.back) (state_of home.new.back)) }
     // It stays only where its first number isn't the next one to reproduce.
     ensures late { IfOk result (λ done. done ≡ false
         → (state_of home.old.back).log.reproduced + 1 < first_of gathering.now.bundle) }

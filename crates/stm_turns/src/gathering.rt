@@ -27,7 +27,12 @@ pub struct Gathering {
 
 impl Gathering {
     /// One record, from the front of a thread's boxes.
-    pub fn begin(thread: u64, redo: &Redo, next: &[u64; MAX_RINGS as usize], boxes: u64) -> Gathering
+    pub fn begin(
+        thread: u64,
+        redo: &Redo,
+        next: &[u64; MAX_RINGS as usize],
+        boxes: u64,
+    ) -> Gathering
         requires thread { thread < length next.now }
         requires place { slice_index next.now thread < boxes }
         ensures { BeginsWith thread redo.now next.now boxes result }

@@ -54,8 +54,7 @@ returns-then-number-clause-step g c =
 pub returns-then-number-clause-none : goal.returns-then-number-clause-none
 returns-then-number-clause-none g c =
     let t = c.args.events.now in let sight = g.M.Medium.sight in let a = c.see_front in let s = c.in-Some.ensures in let h = c.args.home.now in let y = c.put_all_back in let e = c.requires.settled in let r = c.in-Some.redo in
-    let p : Held = record { thread = c.args.own; place = get_or h.next c.args.own 0; redo = r } in
-    (
+    let p : Held = record { thread = c.args.own; place = get_or h.next c.args.own 0; redo = r } in (
       still_settled sight t c.args.seat.now y.new.seat h c.args.number e (y.ensures.durable ∙ a.ensures.durable),
       not_drawn_on a.new.seat y.new.seat c.args.number y.ensures.step.view
           (not_drawn_some sight t a.new.seat h (p ∷ []) s.step.turn c.args.number e.is e.reproduced r p refl refl (s.drawn c.requires.own) (λ same. c.if-number.true (c.number.ensures ∙ same))),
@@ -89,8 +88,7 @@ returns-clause-step g c =
 
 pub returns-clause-some : goal.returns-clause-some
 returns-clause-some g c =
-    let y = c.persist_bundle in let d = c.catch_up in let q = c.gather.new.gathering in let u = state_of c.args.home.now.back in let v = state_of y.new.home.back in let w = state_of d.new.home.back in
-    (
+    let y = c.persist_bundle in let d = c.catch_up in let q = c.gather.new.gathering in let u = state_of c.args.home.now.back in let v = state_of y.new.home.back in let w = state_of d.new.home.back in (
       c.in_ok-catch_up.ensures.ok,
       (
         first_of q.bundle,
