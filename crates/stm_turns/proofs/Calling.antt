@@ -1,13 +1,13 @@
 -- What the thread with the turn has behind a call of the back.
-use Rattle.std.proofs.Common.{◌≡◌, ◌≢◌, ◌↔◌, ℕ, ◌+◌, ◌*◌, ◌<◌, ◌≤◌, ◌⊎◌, Bool, true, false, List, [], ◌∷◌, ◌++◌, All, length, get_or, refl, sym, ap, ◌∙◌, subst, inl, inr, ⊎_elim, eq-eqb, ne_eqb, arith}
-use Rattle.std.specs.Prelude.{Option, Some, None, Result, Ok, Err, IfOk, IsErrOf}
+use Rattle.std.proofs.Common.{◌≡◌, ◌≢◌, ◌↔◌, ℕ, ◌+◌, ◌*◌, ◌<◌, ◌≤◌, ◌⊎◌, Bool, true, false, List, ◌++◌, All, length, get_or, refl, sym, ap, ◌∙◌, subst, inl, inr, ⊎_elim, eq-eqb, ne_eqb, arith}
+use Rattle.std.specs.Prelude.{Result, Ok, Err, IfOk, IsErrOf}
 use Rattle.std.specs.List.{Contains}
 use Rattle.std.proofs.lemmas.Bool.{true≢false}
 use Rattle.std.proofs.lemmas.List.{get_or_default}
 use Rattle.std.proofs.lemmas.List.Elements.{All-contains}
 use mathlib.Core.Logic.{dite}
 use native.Mathlib.Decide.{ℕ_discrete}
-use Rattle.dude_base.specs.Records.{RedoBundle, RedoRecord, bundle_of, first_of}
+use Rattle.dude_base.specs.Records.{RedoBundle, RedoRecord, first_of}
 use Rattle.dude_base.specs.declared.limits.TheConstants.{PAGE}
 use Rattle.pmem_trait.specs.Sights.{Sight}
 use Rattle.pmem_trait.specs.declared.medium.Medium.{Ghosts}
@@ -22,16 +22,15 @@ use Rattle.back_store.specs.BackView.{medium_of, state_of}
 use Rattle.back_store.specs.Answers.{after_announce, after_persist, after_reproduce, announced, reproduced, with_record}
 use Rattle.atomic_table.specs.declared.shared.Seat.{Seat}
 use Rattle.core_events.specs.Setups.{Setup, box_of}
-use Rattle.core_events.specs.Keyed.{has}
 use Rattle.core_table.specs.Known.{Known}
 use Rattle.core_table.specs.Layout.{TableSight}
 use Rattle.known_back.specs.Lists.{LawfulLists, lists}
-use Rattle.known_back.specs.Records.{AreNew, HasRecord, JoinsJust, LacksRecord, IsReached, writes_in}
+use Rattle.known_back.specs.Records.{AreNew, JoinsJust, LacksRecord, IsReached}
 use Rattle.known_back.specs.Known.{Known as KnownBy, Since}
 use Rattle.known_back.specs.Calls.{handed}
 use Rattle.known_back.proofs.JoinedRecords.{has_front, over_reached, writes_front}
 use Rattle.known_back.proofs.Lawful.{end_of, may_persist}
-use Rattle.stm_slots.specs.Beside.{Hands, Beside}
+use Rattle.stm_slots.specs.Beside.{Beside}
 use Rattle.stm_slots.specs.Opening.{setup_of, since_of}
 use Rattle.stm_slots.specs.Lists.{IsSettled}
 use Rattle.stm_slots.specs.Turns.{BeginsHanded, IsTaken}

@@ -1,22 +1,21 @@
 -- Records in hand and the bundle that joins them: one more, and what may be done with them.
-use Rattle.std.proofs.Common.{◌≡◌, ◌≢◌, ℕ, ◌+◌, ◌-◌, ◌*◌, ◌<◌, ◌≤◌, ◌⊎◌, Bool, true, false, List, [], ◌∷◌, ◌++◌, All, if◌then◌else◌, ◌==◌, length, map, get_or, set, refl, sym, ap, ◌∙◌, subst, inl, inr, ⊎_elim, arith, length-set}
-use Rattle.std.specs.Prelude.{Option, Some, None, is_some}
+use Rattle.std.proofs.Common.{◌≡◌, ◌≢◌, ℕ, ◌+◌, ◌*◌, ◌<◌, ◌≤◌, Bool, true, false, List, [], ◌∷◌, ◌++◌, All, if◌then◌else◌, ◌==◌, length, map, get_or, set, refl, sym, ap, ◌∙◌, subst, ⊎_elim, arith}
+use Rattle.std.specs.Prelude.{is_some}
 use Rattle.std.specs.List.{Contains}
 use Rattle.std.proofs.lemmas.Bool.{true≢false}
 use Rattle.std.proofs.lemmas.List.Elements.{All-nil, All-cons, All-head, All-tail, All-push, Contains-append_left, Contains-push, Contains-push_cases}
-use Rattle.dude_base.specs.declared.limits.TheConstants.{MAX_NUMBER, MAX_SPAN, PAGE}
+use Rattle.dude_base.specs.declared.limits.TheConstants.{MAX_SPAN, PAGE}
 use Rattle.dude_base.specs.declared.write.Write.{Write}
-use Rattle.dude_base.specs.Records.{Covers, RedoBundle, RedoRecord, bundle_of, first_of, with_next}
+use Rattle.dude_base.specs.Records.{RedoBundle, RedoRecord, bundle_of, first_of, with_next}
 use Rattle.dude_base.specs.Writes.{put_all, put_write, written}
 use Rattle.redo_record.specs.Record.{cells_for}
 use Rattle.core_events.specs.Setups.{Setup}
-use Rattle.known_back.specs.Lists.{BackLists, lists}
-use Rattle.known_back.specs.Records.{AreNew, HasRecord, JoinsJust, LacksRecord, writes_in}
-use Rattle.known_back.proofs.JoinedRecords.{has_either, has_here, has_more, joined_records_law, not_both, writes_here, writes_more}
+use Rattle.known_back.specs.Lists.{BackLists}
+use Rattle.known_back.specs.Records.{AreNew, HasRecord, LacksRecord, writes_in}
+use Rattle.known_back.proofs.JoinedRecords.{has_either, has_here, has_more, joined_records_law, writes_here, writes_more}
 use Rattle.stm_slots.specs.Queues.{place_at}
-use Rattle.stm_slots.specs.Turns.{MayBeHanded}
 use Rattle.stm_slots.proofs.Taken.{contains_here, contains_either, contains_none}
-use Rattle.stm_turns.specs.Gathered.{AreApart, AreFronts, AreThreads, BeginsAlike, BeginsWith, IsGathered, IsJoined, TakesNext}
+use Rattle.stm_turns.specs.Gathered.{AreFronts, BeginsAlike, BeginsWith, IsGathered, IsJoined, TakesNext}
 use Rattle.stm_turns.specs.Holding.{Held, IsHeld, IsInHand, box_held, boxes_held}
 use Rattle.stm_turns.specs.Turns.{place_after}
 use Rattle.stm_turns.specs.declared.gathering.Gathering.{Gathering}

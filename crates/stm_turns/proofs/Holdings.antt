@@ -37,7 +37,7 @@ use Rattle.stm_slots.specs.Opening.{setup_of, since_of}
 use Rattle.stm_slots.specs.Rule.{IsHome, BoxSlots, SlotsKept}
 use Rattle.stm_slots.specs.Lists.{ListsKept, IsSettled}
 use Rattle.stm_slots.specs.Turns.{Follows, Leaves, Took, GaveTurn, SawFull, SawNumber, WentOn}
-use Rattle.stm_slots.proofs.Taken.{contains_here, contains_either, contains_none, leaves_none}
+use Rattle.stm_slots.proofs.Taken.{contains_none}
 use Rattle.std.specs.List.{Contains}
 use Rattle.stm_turns.specs.Holding.{Held, box_held, boxes_held, hands_of, Holding}
 use Rattle.stm_turns.proofs.HeldRecords.{box_in}

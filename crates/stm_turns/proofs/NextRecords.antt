@@ -1,7 +1,5 @@
 -- The record of the next number is taken, or left in its box.
-use Rattle.std.proofs.Common.{◌≡◌, ◌≢◌, ℕ, ◌+◌, ◌<◌, ◌≤◌, Bool, true, false, List, [], ◌∷◌, ◌++◌, length, get_or, refl, sym, ap, ◌∙◌, subst, arith}
-use Rattle.std.specs.Prelude.{Option}
-use Rattle.std.specs.List.{Contains}
+use Rattle.std.proofs.Common.{◌≡◌, ℕ, ◌+◌, ◌<◌, [], ◌∷◌, ◌++◌, length, get_or, refl, sym, ap, ◌∙◌, subst, arith}
 use Rattle.std.proofs.lemmas.List.Elements.{Contains-push}
 use Rattle.dude_base.specs.declared.limits.TheConstants.{MAX_SPAN}
 use Rattle.dude_base.specs.Records.{RedoRecord}
@@ -24,7 +22,7 @@ use Rattle.stm_slots.specs.declared.slot.Slot.TheVariants.{Empty, Record}
 use Rattle.stm_slots.specs.declared.opening.Opening.{Opening}
 use Rattle.stm_turns.specs.Bundles.{HasFound, HasLast, InTurnWith, MayLook, SteppedWith}
 use Rattle.stm_turns.specs.Gathered.{BeginsAlike, IsGathered, TakesNext}
-use Rattle.stm_turns.specs.Holding.{Held, IsHeld, box_held, slots_out}
+use Rattle.stm_turns.specs.Holding.{Held, box_held, slots_out}
 use Rattle.stm_turns.specs.Turns.{FrontRecord, HandedBelow, Stepped, SteppedOn, settled_view}
 use Rattle.stm_turns.specs.declared.gathering.Gathering.{Gathering}
 use Rattle.stm_turns.proofs.Gatherings.{gathered_next, others_than_next}

@@ -3,14 +3,14 @@ use Rattle.std.proofs.Common.{◌≡◌, ℕ, ◌+◌, ◌<◌, ◌≤◌, List,
 use Rattle.std.specs.List.{Contains}
 use Rattle.std.proofs.lemmas.List.Elements.{All-contains}
 use mathlib.Core.Logic.{dite}
-use native.Mathlib.Decide.{ℕ_discrete, dec_le, dec_lt}
+use native.Mathlib.Decide.{ℕ_discrete, dec_le}
 use Rattle.dude_base.specs.declared.limits.TheConstants.{MAX_NUMBER}
 use Rattle.dude_base.specs.Records.{HasNumbers, RedoBundle, first_of}
 use Rattle.log_waiting.specs.Lane.{released_lane, used_by}
 use Rattle.log_waiting.specs.Lanes.{lane_at, no_lane, waiting_in}
 use Rattle.log_waiting.proofs.ReleasedRecords.{released_waiting}
 use Rattle.log_waiting.proofs.WaitingLanes.{waits_in, waits_of_ring}
-use Rattle.back_store.specs.Back.{BackState, IsRingFull, waiting_now, waiting_of_ring}
+use Rattle.back_store.specs.Back.{BackState, IsRingFull, waiting_of_ring}
 use Rattle.back_store.specs.Answers.{announced, reproduced}
 use Rattle.known_back.specs.Lists.{LawfulLists, lists}
 use Rattle.known_back.proofs.Lawful.{waits_over}

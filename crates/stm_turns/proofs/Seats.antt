@@ -1,5 +1,5 @@
 -- What the seat with the turn has after each of its steps.
-use Rattle.std.proofs.Common.{◌≡◌, ◌≢◌, ℕ, ◌<◌, ◌≤◌, false, List, [], ◌∷◌, length, get_or, set, refl, sym, ap, ◌∙◌, subst, inl, inr, ⊎_elim, eq-eqb, ne_eqb, arith, length-set, get_or-set_same, get_or-set_other}
+use Rattle.std.proofs.Common.{◌≡◌, ◌≢◌, ℕ, ◌<◌, ◌≤◌, false, List, [], ◌∷◌, length, get_or, set, refl, sym, ap, ◌∙◌, subst, inl, inr, ⊎_elim, eq-eqb, ne_eqb, arith, length-set}
 use Rattle.std.specs.Prelude.{Option, Some, None, MatchBool}
 use Rattle.std.proofs.lemmas.Bool.{true≢false}
 use Rattle.dude_base.specs.Records.{RedoRecord}
@@ -33,18 +33,16 @@ use Rattle.known_back.specs.Lists.{BackLists}
 use Rattle.known_back.specs.Records.{LacksRecord}
 use Rattle.stm_slots.proofs.Taken.{contains_here, contains_more, contains_either, contains_none, leaves_last}
 use Rattle.stm_slots.specs.Turns.{Leaves}
-use Rattle.stm_turns.specs.Holding.{Held, IsHeld, IsInHand, box_held, boxes_held, hands_of, slots_held, slots_out, Holding}
+use Rattle.stm_turns.specs.Holding.{Held, IsHeld, IsInHand, box_held, boxes_held, hands_of, slots_out, Holding}
 use Rattle.stm_turns.proofs.HeldRecords.{box_in, boxes_push, but_last_push, held_of, leaves_first, places_after}
 use Rattle.stm_turns.specs.Told.{HasGrown, Went, WentHanded, WentLacking, SawFront, SawNext, Raised, boxes_in, but_last}
-use Rattle.stm_turns.specs.Turns.{HasTaken, HandedBelow, found_in, settled_view, InTurn, FrontRecord, Stepped}
-use Rattle.stm_turns.specs.Bundles.{HasEmptied, HasFound, KeepsDurable, HasPutBack, IsLetting, MayEmpty, MayEmptyFirst, MayPutBack, MayPutFirst, WentOver, slots_let}
-use Rattle.stm_turns.specs.Gathered.{AreApart, AreFronts}
+use Rattle.stm_turns.specs.Turns.{HasTaken, HandedBelow, settled_view, InTurn, FrontRecord, Stepped}
+use Rattle.stm_turns.specs.Bundles.{HasEmptied, HasFound, KeepsDurable, HasPutBack, IsLetting, MayEmpty, MayEmptyFirst, MayPutBack, MayPutFirst, slots_let}
+use Rattle.stm_turns.specs.Gathered.{AreFronts}
 use Rattle.stm_slots.specs.declared.home.Home.{Home as TheHome}
 use Rattle.stm_slots.specs.declared.slot.Slot.{Slot}
 use Rattle.stm_slots.specs.declared.slot.Slot.TheVariants.{Empty, Record, Home}
 use Rattle.stm_slots.specs.declared.opening.Opening.{Opening}
-use mathlib.Core.Logic.{dite}
-use native.Mathlib.Decide.{ℕ_discrete}
 use Rattle.stm_slots.proofs.Queueing.{place_inside}
 use Rattle.stm_turns.proofs.Holdings.{took_holding, went_holding, holding_on, put_acts, empty_acts_on, empty_fits, laid_in, front_of}
 

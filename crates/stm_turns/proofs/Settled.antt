@@ -1,16 +1,14 @@
 -- What a whole pass over the boxes leaves, and that it ends.
-use Rattle.std.proofs.Common.{◌≡◌, ℕ, ◌+◌, ◌<◌, ◌≤◌, ◌⊎◌, Bool, true, false, List, [], ◌∷◌, get_or, refl, sym, ap, ◌∙◌, subst, ⊎_elim, arith}
-use Rattle.std.specs.Prelude.{Option, Some, None, Result, Ok, Err, OnOk}
+use Rattle.std.proofs.Common.{◌≡◌, ℕ, ◌+◌, ◌<◌, ◌≤◌, Bool, true, false, List, [], ◌∷◌, get_or, refl, sym, ap, ◌∙◌, subst, ⊎_elim, arith}
+use Rattle.std.specs.Prelude.{Option, Some, None}
 use Rattle.std.specs.List.{Contains}
 use Rattle.std.proofs.lemmas.Bool.{true≢false}
 use Rattle.dude_base.specs.declared.limits.TheConstants.{MAX_NUMBER}
-use Rattle.dude_base.specs.Records.{RedoRecord, bundle_of, first_of}
+use Rattle.dude_base.specs.Records.{RedoRecord}
 use Rattle.pmem_trait.specs.Sights.{Sight}
 use Rattle.pmem_trait.specs.declared.medium.Medium.{Ghosts}
-use Rattle.redo_record.specs.Record.{cells_for}
 use Rattle.back_store.specs.Back.{BackState}
 use Rattle.back_store.specs.BackView.{state_of}
-use Rattle.back_store.specs.declared.back_fault.BackFault.{BackFault}
 use Rattle.atomic_table.specs.declared.shared.Seat.{Seat}
 use Rattle.core_events.specs.Keyed.{has}
 use Rattle.core_events.specs.Setups.{Setup}
@@ -28,7 +26,7 @@ use Rattle.stm_slots.specs.declared.slot.Slot.{Slot}
 use Rattle.stm_slots.specs.declared.opening.Opening.{Opening}
 use Rattle.stm_slots.proofs.Taken.{contains_here}
 use Rattle.stm_turns.specs.Bundles.{InTurnWith, KeepsDurable, NextIsNotDrawn, SteppedWith}
-use Rattle.stm_turns.specs.Gathered.{BeginsAlike, BeginsWith, IsGathered}
+use Rattle.stm_turns.specs.Gathered.{BeginsWith, IsGathered}
 use Rattle.stm_turns.specs.Holding.{Held, boxes_held, hands_of}
 use Rattle.stm_turns.specs.Turns.{EndsSettled, HandedBelow, InTurn, IsAnnounced, IsNoLess, IsOwn, IsPast, KeepsPast, RisesTo, Stepped, SteppedOn, found_in, settled_view}
 use Rattle.stm_turns.specs.declared.gathering.Gathering.{Gathering}

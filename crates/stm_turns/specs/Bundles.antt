@@ -1,5 +1,5 @@
 -- The seat with the turn and a gathering: what persists, and what of it stays.
-use Rattle.std.specs.Prelude.{◌*◌, ◌≡◌, ◌≢◌, ℕ, ◌+◌, ◌<◌, true, false, List, [], ◌∷◌, ◌++◌, Option, Result, Ok, Err, slice_set}
+use Rattle.std.specs.Prelude.{◌≡◌, ◌≢◌, ℕ, ◌+◌, ◌<◌, true, false, List, [], ◌∷◌, ◌++◌, Option, Result, Ok, Err, slice_set}
 use Rattle.std.specs.List.{Contains}
 use Rattle.dude_base.specs.Records.{RedoRecord}
 use Rattle.pmem_trait.specs.Sights.{Sight}

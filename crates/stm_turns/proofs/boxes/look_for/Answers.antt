@@ -1,4 +1,3 @@
-use Rattle.std.proofs.Common.{◌<◌, ◌∙◌, refl, sym, ap}
 use Rattle.core_events.specs.Events.{see_full}
 use Rattle.stm_slots.specs.Opening.{setup_of}
 use Rattle.stm_turns.specs.Told.{SawNext}

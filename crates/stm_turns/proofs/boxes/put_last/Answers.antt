@@ -1,7 +1,3 @@
-use Rattle.std.proofs.Common.{◌<◌, ◌∙◌, ◌∷◌, refl, sym, ap, subst}
-use Rattle.std.proofs.lemmas.List.Elements.{Contains-push}
-use Rattle.core_events.specs.Setups.{Setup}
-use Rattle.stm_slots.specs.Opening.{setup_of}
 use Rattle.stm_turns.proofs.Seats.{found_inside, found_near, may_put_last, put_last_turn}
 use Rattle.stm_turns.proofs.boxes.put_last.Goals as goal
 

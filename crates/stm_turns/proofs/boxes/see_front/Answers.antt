@@ -1,4 +1,4 @@
-use Rattle.std.proofs.Common.{◌<◌, ◌∙◌, [], refl, sym, ap, get_or}
+use Rattle.std.proofs.Common.{◌<◌, ◌∙◌, [], refl, ap, get_or}
 use Rattle.core_events.specs.Events.{see_full}
 use Rattle.core_events.specs.Setups.{Setup, box_of}
 use Rattle.stm_slots.specs.Opening.{setup_of}

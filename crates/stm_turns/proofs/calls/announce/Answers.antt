@@ -2,7 +2,7 @@ use Rattle.std.proofs.Common.{refl}
 use Rattle.back_store.specs.BackView.{state_of}
 use Rattle.stm_slots.specs.Opening.{setup_of, since_of}
 use Rattle.stm_turns.proofs.Past.{keeps_announced}
-use Rattle.stm_turns.proofs.Calling.{alive_unless, announce_goes, announced_ok, called_turn}
+use Rattle.stm_turns.proofs.Calling.{announce_goes, announced_ok, called_turn}
 use Rattle.stm_turns.proofs.Seats.{same_turn}
 use Rattle.stm_turns.proofs.calls.announce.Goals as goal
 

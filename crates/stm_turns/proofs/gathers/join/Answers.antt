@@ -1,4 +1,4 @@
-use Rattle.std.proofs.Common.{◌≡◌, ◌<◌, ◌+◌, ◌∙◌, ℕ, refl, sym, ap, subst, arith, get_or}
+use Rattle.std.proofs.Common.{◌<◌, ◌+◌, ◌∙◌, ℕ, refl, sym, ap, subst, arith, get_or}
 use Rattle.core_events.specs.Setups.{Setup, box_of}
 use Rattle.stm_slots.specs.Opening.{setup_of}
 use Rattle.stm_turns.specs.Bundles.{MayLook, SteppedWith}

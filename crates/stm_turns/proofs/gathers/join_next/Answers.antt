@@ -1,8 +1,5 @@
-use Rattle.std.proofs.Common.{◌≤◌, ◌∙◌, ap, arith}
-use Rattle.core_events.specs.Setups.{Setup}
 use Rattle.stm_turns.proofs.Bundling.{then_with, with_of}
-use Rattle.stm_turns.proofs.NextRecords.{looked_with, put_with}
-use Rattle.stm_turns.proofs.Seats.{same_turn}
+use Rattle.stm_turns.proofs.NextRecords.{looked_with}
 use Rattle.stm_turns.proofs.gathers.join_next.Goals as goal
 
 pub returns-clause-step : goal.returns-clause-step

@@ -1,4 +1,4 @@
-use Rattle.std.proofs.Common.{◌≡◌, ◌∙◌, refl, arith}
+use Rattle.std.proofs.Common.{◌∙◌, refl, arith}
 use Rattle.stm_turns.proofs.LettingGo.{begins_emptying, may_empty_next, emptied_next, emptied_all}
 use Rattle.stm_turns.proofs.letting.empty_all.Goals as goal
 

@@ -1,4 +1,4 @@
-use Rattle.std.proofs.Common.{◌≡◌, ◌<◌, ◌∙◌, ℕ, refl, sym, ap, get_or, set}
+use Rattle.std.proofs.Common.{◌≡◌, ◌∙◌, refl, sym, ap, get_or, set}
 use Rattle.core_events.specs.Setups.{Setup, box_of}
 use Rattle.stm_slots.specs.Queues.{place_at}
 use Rattle.stm_slots.specs.Opening.{setup_of}

@@ -1,10 +1,8 @@
-use Rattle.std.proofs.Common.{◌≡◌, ◌<◌, ◌∙◌, ◌+◌, ◌*◌, Fits, w64, refl, sym, ap, subst, arith, get_or, set, ℕ, List}
+use Rattle.std.proofs.Common.{◌≡◌, ◌∙◌, ◌+◌, sym, ap, subst, arith, get_or, set, ℕ}
 use Rattle.core_events.specs.Setups.{Setup}
 use Rattle.stm_slots.specs.Opening.{setup_of}
 use Rattle.stm_slots.specs.Queues.{place_at}
 use Rattle.stm_turns.specs.Bundles.{HasPutBack}
-use Rattle.stm_turns.specs.Gathered.{AreThreads}
-use Rattle.stm_turns.specs.Holding.{Held}
 use Rattle.stm_turns.specs.Turns.{place_after}
 use Rattle.stm_turns.proofs.LettingGo.{begins_putting, may_put_next, next_inside, put_next, put_all}
 use Rattle.stm_turns.proofs.letting.put_all_back.Goals as goal

@@ -1,7 +1,6 @@
-use Rattle.std.proofs.Common.{◌≡◌, ◌<◌, ℕ, List, ◌∷◌, ap, subst, sym, set}
+use Rattle.std.proofs.Common.{◌<◌, ℕ, subst}
 use Rattle.stm_slots.proofs.Taken.{contains_here}
 use Rattle.stm_slots.specs.Opening.{setup_of}
-use Rattle.stm_slots.specs.Queues.{place_at}
 use Rattle.stm_turns.proofs.Seats.{may_put_first, puts_first}
 use Rattle.stm_turns.proofs.letting.put_first.Goals as goal
 

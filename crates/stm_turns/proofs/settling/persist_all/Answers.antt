@@ -1,6 +1,6 @@
-use Rattle.std.proofs.Common.{◌≤◌, ◌∙◌, [], ap, arith}
+use Rattle.std.proofs.Common.{◌∙◌, [], ap, arith}
 use Rattle.core_events.specs.Setups.{Setup}
-use Rattle.stm_turns.proofs.Seats.{same_turn, then_turn}
+use Rattle.stm_turns.proofs.Seats.{then_turn}
 use Rattle.stm_turns.proofs.settling.persist_all.Goals as goal
 
 pub loop-init : goal.loop-init

@@ -1,7 +1,7 @@
-use Rattle.std.proofs.Common.{◌≡◌, ◌∙◌, [], ap, arith}
+use Rattle.std.proofs.Common.{◌∙◌, ap}
 use Rattle.core_events.specs.Setups.{Setup}
-use Rattle.stm_turns.proofs.Bundling.{then_bare, then_with, with_of}
-use Rattle.stm_turns.proofs.NextRecords.{looked_with, put_with}
+use Rattle.stm_turns.proofs.Bundling.{with_of}
+use Rattle.stm_turns.proofs.NextRecords.{looked_with}
 use Rattle.stm_turns.proofs.Settled.{begun, begun_steps, bundle_steps}
 use Rattle.stm_turns.proofs.settling.persist_from.Goals as goal
 

@@ -1,7 +1,7 @@
-use Rattle.std.proofs.Common.{◌≡◌, ◌≢◌, ◌+◌, ℕ, ◌∙◌, [], refl, sym, ap, subst, arith}
+use Rattle.std.proofs.Common.{◌≡◌, ℕ, ◌∙◌, [], refl, ap, subst, arith}
 use Rattle.core_events.specs.Setups.{Setup}
 use Rattle.back_store.specs.BackView.{state_of}
-use Rattle.stm_turns.proofs.Bundling.{then_bare, then_with, with_of}
+use Rattle.stm_turns.proofs.Bundling.{then_bare, with_of}
 use Rattle.stm_turns.proofs.Calling.{may_put_all}
 use Rattle.stm_turns.proofs.NextRecords.{ahead_inside, looked_with}
 use Rattle.stm_turns.proofs.Seats.{then_turn}

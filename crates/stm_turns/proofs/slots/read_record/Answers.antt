@@ -1,6 +1,6 @@
-use Rattle.std.proofs.Common.{◌≡◌, ℕ, List, ◌∷◌, sym, ap, ◌∙◌}
+use Rattle.std.proofs.Common.{◌∷◌, sym, ap, ◌∙◌}
 use Rattle.atomic_table.specs.Table.{rest}
-use Rattle.stm_slots.specs.declared.slot.Slot.TheVariants.{Record, Empty}
+use Rattle.stm_slots.specs.declared.slot.Slot.TheVariants.{Record}
 use Rattle.stm_turns.proofs.Seats.{same_again}
 use Rattle.stm_turns.proofs.slots.read_record.Goals as goal
 
