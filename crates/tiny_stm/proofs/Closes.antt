@@ -1,6 +1,6 @@
 -- What is known behind a close, by what the ended table has.
-use Rattle.std.proofs.Common.{◌≡◌, ◌≢◌, ◌⊎◌, ◌==◌, ◌||◌, ℕ, zero, suc, ◌+◌, ◌-◌, ◌*◌, ◌/◌, ◌%◌, ◌<◌, ◌≤◌, Bool, true, false, IsTrue, List, [], ◌∷◌, ◌++◌, All, length, get_or, map, take, refl, sym, ap, ◌∙◌, subst, inl, inr, ⊎_elim, eq-eqb, set, get_or-set_same, get_or-set_other, arith}
-use Rattle.std.specs.Prelude.{Some, sum_by, if◌then◌else◌}
+use Rattle.std.proofs.Common.{◌≡◌, ◌≢◌, ◌⊎◌, ◌||◌, ℕ, zero, suc, ◌+◌, ◌-◌, ◌*◌, ◌<◌, ◌≤◌, Bool, true, false, List, [], ◌∷◌, All, length, get_or, map, refl, sym, ap, ◌∙◌, subst, inl, inr, ⊎_elim, eq-eqb, set, get_or-set_same, get_or-set_other, arith}
+use Rattle.std.specs.Prelude.{Some, sum_by}
 use Rattle.std.specs.List.{Contains}
 use Rattle.std.specs.List.Sorted.{IsNonDecreasingBy, IsPermutation, IsStrictlyIncreasing}
 use Rattle.std.proofs.lemmas.Bool.{cases_eq}
@@ -12,31 +12,30 @@ use Rattle.std.proofs.Math.Nat.{mul-le-mul_left}
 use Rattle.std.proofs.lemmas.Option.{slice_get_within}
 use mathlib.Core.Option.{some, some-injective}
 use mathlib.Core.Logic.{dite}
-use native.Mathlib.Decide.{dec_lt, ℕ_discrete}
+use native.Mathlib.Decide.{dec_lt}
 use lib.ListN.{get_elem?}
 use Rattle.dude_base.specs.declared.limits.TheConstants.{PAGE}
-use Rattle.dude_base.specs.Records.{RedoBundle, RedoRecord, first_of}
+use Rattle.dude_base.specs.Records.{RedoRecord, first_of}
 use Rattle.dude_base.specs.Writes.{written}
 use Rattle.pmem_trait.specs.Sights.{Sight}
 use Rattle.pmem_trait.specs.declared.medium.Medium.{Ghosts}
 use Rattle.pmem_trait.proofs.Laws.{every_moment_weaker}
-use Rattle.redo_record.specs.Waiting.{IsArrayAt}
-use Rattle.back_store.specs.Back.{home_now, waiting_now, waiting_of_ring}
+use Rattle.back_store.specs.Back.{home_now}
 use Rattle.back_store.specs.BackView.{medium_of, state_of}
-use Rattle.core_events.specs.Setups.{Setup, box_of, cell_of, frame_in, page_of}
+use Rattle.core_events.specs.Setups.{Setup, cell_of, frame_in, page_of}
 use Rattle.core_events.specs.Views.{Entry, View, the_cell, the_entry}
 use Rattle.core_events.specs.Words.{State}
 use Rattle.core_events.specs.Entries.{value_at, writes_of}
 use Rattle.core_events.proofs.Lists.{there}
-use Rattle.core_table.specs.Places.{count, flat, index}
+use Rattle.core_table.specs.Places.{count, index}
 use Rattle.core_table.proofs.Flat.{flat_found, placed}
-use Rattle.known_back.specs.Known.{Known, told_before}
+use Rattle.known_back.specs.Known.{told_before}
 use Rattle.known_back.specs.Lists.{lists}
-use Rattle.known_back.specs.Records.{IsReached, last_written}
+use Rattle.known_back.specs.Records.{last_written}
 use Rattle.known_back.proofs.Images.{array_values}
 use Rattle.known_back.proofs.Lawful.{reached_by}
 use Rattle.stm_slots.specs.Closed.{IsClosed}
-use Rattle.stm_slots.specs.KeptBack.{InBox, IsArrayOf, IsWaiting, LiveBack, RecoversTo}
+use Rattle.stm_slots.specs.KeptBack.{InBox, IsArrayOf, RecoversTo}
 use Rattle.stm_slots.specs.Opening.{setup_of, since_of, start_sight}
 use Rattle.stm_slots.specs.declared.home.Home.{Home as TheHome}
 use Rattle.stm_slots.specs.declared.opening.Opening.{Opening}

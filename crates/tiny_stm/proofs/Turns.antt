@@ -1,12 +1,12 @@
 -- A pass rests behind a turn, or an attempt at one.
-use Rattle.std.proofs.Common.{◌≡◌, ◌≢◌, ℕ, Bool, true, false, ◌||◌, [], ◌∷◌, refl, sym, ap, ◌∙◌, subst, ne_eqb, arith}
+use Rattle.std.proofs.Common.{◌≡◌, ◌≢◌, ℕ, Bool, true, false, ◌||◌, refl, sym, ap, ◌∙◌, subst, ne_eqb}
 use Rattle.std.specs.Prelude.{Result, Ok, Err, IfOk, IfErr}
 use Rattle.std.proofs.lemmas.Bool.{true≢false}
 use Rattle.atomic_table.specs.declared.shared.Seat.{Seat}
 use Rattle.pmem_trait.specs.Sights.{Sight}
 use Rattle.pmem_trait.specs.declared.medium.Medium.{Ghosts}
 use Rattle.core_events.specs.Setups.{Setup}
-use Rattle.core_events.specs.Views.{View, Word, the_turn}
+use Rattle.core_events.specs.Views.{View, the_turn}
 use Rattle.core_events.specs.Events.{take_turn, give_turn, noticed, one_more, view_after}
 use Rattle.core_events.specs.Conditions.{IsIdle}
 use Rattle.core_table.specs.Known.{Known}
@@ -19,8 +19,8 @@ use Rattle.stm_passes.proofs.Rests.{given_rests, refused_describes}
 use Rattle.stm_slots.specs.Beside.{Beside}
 use Rattle.stm_slots.specs.declared.opening.Opening.{Opening}
 use Rattle.stm_slots.specs.declared.slot.Slot.{Slot}
-use Rattle.stm_turns.specs.Pump.{HasFailed, HasPumped, HasPumpFault}
-use Rattle.stm_turns.specs.Turns.{IsBare, settled_view}
+use Rattle.stm_turns.specs.Pump.{HasPumped, HasPumpFault}
+use Rattle.stm_turns.specs.Turns.{settled_view}
 use Rattle.stm_turns.specs.declared.pumped.Pumped.{Pumped}
 use Rattle.stm_turns.specs.declared.pump_fault.PumpFault.{PumpFault}
 use Rattle.stm_turns.specs.declared.pump_fault.PumpFault.TheVariants.{Held, Device, Dead}

@@ -4,7 +4,6 @@ use Rattle.dude_base.specs.declared.run.Run.{Run}
 use Rattle.dude_base.specs.Run.{IsRunWithin}
 use Rattle.dude_base.specs.Sizes.{IsFrom}
 use Rattle.tiny_stm.specs.declared.stm_fault.StmFault.{StmFault}
-use Rattle.tiny_stm.specs.declared.stm_fault.StmFault.TheVariants.{Size}
 
 -- there is a thread and at most one for each ring, and the run is within its limits
 pub record FitsStore (rings pages : ℕ) (run : Run) (threads : ℕ) : Type 0 where

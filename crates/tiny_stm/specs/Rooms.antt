@@ -1,9 +1,8 @@
 -- What memory is taken for before a table is made.
-use Rattle.std.specs.Prelude.{◌≡◌, ℕ, ◌+◌, ◌*◌, ◌<◌, ◌≤◌, List, length, replicate}
+use Rattle.std.specs.Prelude.{◌≡◌, ℕ, ◌+◌, ◌<◌, ◌≤◌, length, replicate}
 use Rattle.std.specs.Vec.{vec_capacity, vec_len}
 use Rattle.pmem_trait.specs.declared.medium.Medium.{Ghosts}
 use Rattle.shadow_pages.specs.PageMap.{PageMap, Holds, IsFree, IsOneToOne}
-use Rattle.stm_slots.specs.declared.slot.Slot.{Slot}
 use Rattle.stm_slots.specs.declared.slot.Slot.TheVariants.{Empty}
 use Rattle.tiny_stm.specs.declared.room.Room.{Room}
 

@@ -1,5 +1,5 @@
 -- What a turn, or an attempt at one, leaves of a pass.
-use Rattle.std.specs.Prelude.{◌≡◌, ℕ, List, [], ◌∷◌, Result, Ok, Err}
+use Rattle.std.specs.Prelude.{◌≡◌, ℕ, [], ◌∷◌, Result, Ok, Err}
 use Rattle.atomic_table.specs.declared.shared.Seat.{Seat}
 use Rattle.core_events.specs.Events.{one_more}
 use Rattle.core_table.specs.Known.{Known}

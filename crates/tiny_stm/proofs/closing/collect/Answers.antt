@@ -1,9 +1,9 @@
-use Rattle.std.proofs.Common.{◌≡◌, ◌*◌, ◌+◌, ◌<◌, ◌≤◌, ℕ, [], IsTrue, length, get_or, refl, sym, ap, ◌∙◌, subst, arith}
-use Rattle.std.specs.Mem.Slots.{slots_counts, slots_filled, slots_items, slots_len}
+use Rattle.std.proofs.Common.{◌≡◌, ◌*◌, ◌+◌, ◌<◌, ℕ, length, refl, sym, ap, ◌∙◌, subst, arith}
+use Rattle.std.specs.Mem.Slots.{slots_counts, slots_filled, slots_items}
 use mathlib.Core.Option.{some}
 use lib.ListN.{get_elem?}
 use Rattle.tiny_stm.specs.Collected.{AreCollected}
-use Rattle.tiny_stm.proofs.Collects.{box_inside, collected_more, may_take, no_home_here, none_yet}
+use Rattle.tiny_stm.proofs.Collects.{collected_more, no_home_here, none_yet}
 use Rattle.tiny_stm.proofs.closing.collect.Goals as goal
 
 pub loop-ring-init : goal.loop-ring-init

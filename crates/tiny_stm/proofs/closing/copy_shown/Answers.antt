@@ -1,6 +1,5 @@
-use Rattle.std.proofs.Common.{ℕ, length, subst, arith}
+use Rattle.std.proofs.Common.{arith}
 use Rattle.std.specs.Mem.Slots.{slots_items}
-use Rattle.tiny_stm.specs.Collected.{AreCopied}
 use Rattle.tiny_stm.proofs.Copies.{none_copied, one_copied}
 use Rattle.tiny_stm.proofs.closing.copy_shown.Goals as goal
 

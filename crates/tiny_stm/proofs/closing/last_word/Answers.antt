@@ -1,4 +1,4 @@
-use Rattle.std.proofs.Common.{◌≡◌, ◌<◌, ◌+◌, ◌*◌, ◌%◌, length, sym, ap, ◌∙◌, arith}
+use Rattle.std.proofs.Common.{arith}
 use Rattle.std.specs.Mem.Slots.{slots_counts, slots_items, slots_small}
 use Rattle.tiny_stm.proofs.Copies.{entry_is, place_of, stays_absent, was_shown}
 use Rattle.tiny_stm.proofs.closing.last_word.Goals as goal

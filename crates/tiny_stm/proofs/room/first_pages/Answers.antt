@@ -1,5 +1,4 @@
-use Rattle.std.proofs.Common.{subst, arith}
-use Rattle.tiny_stm.specs.Rooms.{HasFirst}
+use Rattle.std.proofs.Common.{arith}
 use Rattle.tiny_stm.proofs.FirstPages.{none_placed, not_in, one_placed}
 use Rattle.tiny_stm.proofs.room.first_pages.Goals as goal
 

@@ -1,5 +1,5 @@
 use Rattle.tiny_stm.specs.Ended.{AreLastWords}
-use Rattle.std.proofs.Common.{◌≡◌, ℕ, List, ◌+◌, ◌*◌, ◌<◌, length, refl, sym, ap, ◌∙◌, subst, arith}
+use Rattle.std.proofs.Common.{◌≡◌, ℕ, List, ◌+◌, ◌*◌, length, sym, ap, ◌∙◌, subst, arith}
 use Rattle.std.specs.Mem.Slots.{IsFull, slots_counts, slots_filled, slots_items, slots_len}
 use Rattle.dude_base.specs.declared.limits.TheConstants.{PAGE}
 use Rattle.core_events.specs.Setups.{Setup}
@@ -8,8 +8,6 @@ use Rattle.core_table.specs.Places.{count}
 use mathlib.Core.Option.{some}
 use lib.ListN.{get_elem?}
 use Rattle.stm_passes.specs.Passes.{first_view, pass_view}
-use Rattle.stm_slots.specs.declared.slot.Slot.{Slot}
-use Rattle.stm_slots.specs.declared.slot.Slot.TheVariants.{Home as HomeSlot}
 use Rattle.tiny_stm.specs.Collected.{AreCopied, HasPlaces}
 use Rattle.std.specs.Vec.{with_items}
 use Rattle.std.proofs.lemmas.List.{with_items_is}

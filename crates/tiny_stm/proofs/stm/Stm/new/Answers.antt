@@ -1,7 +1,5 @@
-use Rattle.std.proofs.Common.{◌≡◌, ◌*◌, ◌/◌, ◌<◌, ◌≤◌, ℕ, length, refl, sym, ap, ◌∙◌, subst, arith}
+use Rattle.std.proofs.Common.{◌≡◌, ◌/◌, ℕ, refl, subst, arith}
 use Rattle.std.specs.Prelude.{IfOk}
-use Rattle.std.specs.Vec.{vec_len}
-use Rattle.dude_base.specs.declared.limits.TheConstants.{MAX_NUMBER}
 use Rattle.stm_slots.proofs.FirstPages.{mapped_first}
 use Rattle.tiny_stm.specs.Fitting.{FitsStore}
 use Rattle.tiny_stm.specs.Started.{RunsOver, terms_of}
