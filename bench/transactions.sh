@@ -20,9 +20,10 @@ top=$(cd "$(dirname "$0")/.." && pwd)
 minute=
 [ "${1-}" != --minute ] || { minute=yes; shift; }
 read_options "$@"
-program=$(readlink -f "${words[0]:-$top/crates/transaction_trial/out/transaction_trial}")
-dude=$(readlink -f "${words[1]:-$top/crates/dude/out/dude}")
+program=${words[0]:-$top/crates/transaction_trial/out/transaction_trial}
+dude=${words[1]:-$top/crates/dude/out/dude}
 count=80000 locks=65536
+[ -x "$program" ] || { echo "build it first: rt run in crates/transaction_trial" >&2; exit 1; }
 room=$(mktemp -d -p /dev/shm)
 trap 'rm -rf "$room"' EXIT
 : > "$room/told"

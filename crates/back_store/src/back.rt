@@ -274,6 +274,13 @@ impl<M: Medium> Back<M> {
         self.medium
     }
 
+    /// How many rings there are.
+    pub fn rings(&self) -> u64
+        ensures { result ≡ (state_of self.now).log.sizes.rings }
+    {
+        self.log.place().sizes().rings
+    }
+
     /// How many cells each ring has.
     pub fn cells(&self) -> u64
         ensures { result ≡ (state_of self.now).log.sizes.cells }

@@ -1,13 +1,14 @@
 -- What a call of a back makes of the lists by which it is known.
-use Rattle.std.specs.Prelude.{◌≡◌, ◌≤◌, IsTrue, List, [], ◌++◌, Result, Ok, Err}
-use Rattle.dude_base.specs.declared.sizes.Sizes.{Sizes}
+use Rattle.std.specs.Prelude.{◌≡◌, ◌≤◌, false, IsTrue, List, [], ◌++◌, Result, Ok, Err}
+use Rattle.std.specs.List.{Contains}
 use Rattle.dude_base.specs.Image.{image_words}
 use Rattle.dude_base.specs.Records.{RedoBundle, RedoRecord}
 use Rattle.pmem_trait.specs.declared.medium.Medium.{Ghosts}
+use Rattle.redo_record.specs.Waiting.{Waiting}
 use Rattle.back_store.specs.declared.back.Back.{Back}
 use Rattle.back_store.specs.declared.back_fault.BackFault.{BackFault}
 use Rattle.back_store.specs.declared.back_fault.BackFault.TheVariants.{Device, Dead, RingFull}
-use Rattle.back_store.specs.Back.{home_now, idle}
+use Rattle.back_store.specs.Back.{home_now, waiting_now}
 use Rattle.back_store.specs.BackView.{sight_of, state_of}
 use Rattle.back_store.specs.Images.{HoldsStore}
 use Rattle.known_back.specs.Known.{Known, Since, told_before}
@@ -34,14 +35,17 @@ abbrev pub TakesRecords : {M : Type 0} {ghosts : Ghosts M} → RedoBundle → Re
 TakesRecords bundle result old new = (b : Since) (rs more : List RedoRecord) → JoinsJust more bundle → AreNew b.first rs more
     → IsKnownBy b rs old → IsKnownBy b (handed result more rs) new
 
--- Nothing waits in the back, and its medium is as such a back left it; it has room for the image, and the home is the opening one.
-pub record IsIdle {M : Type 0} {ghosts : Ghosts M} (b : Since) (sizes : Sizes) (back : Back M ghosts) : Type 0 where
-  pub state : state_of back ≡ idle sizes b.first
+-- The back isn't dead, and nothing waits in it; its medium is as such a back left it, with room for the image, and the home is the opening one.
+pub record IsIdle {M : Type 0} {ghosts : Ghosts M} (b : Since) (back : Back M ghosts) : Type 0 where
+  pub alive : (state_of back).dead ≡ false
+  pub none : (w : Waiting) → Contains (waiting_now (state_of back)) w → ⊥
+  pub durable : (state_of back).log.durable ≡ b.first
+  pub reproduced : (state_of back).log.reproduced ≡ b.first
   pub start : sight_of back ≡ b.start
-  pub room : image_words sizes ≤ (sight_of back).len
+  pub room : image_words (state_of back).log.sizes ≤ (sight_of back).len
   pub keeps : HoldsStore (told_before b) (state_of back) (sight_of back)
-  pub home : IsTrue (sight_of back).is_visible → home_now sizes (sight_of back) ≡ b.opening
+  pub home : IsTrue (sight_of back).is_visible → home_now (state_of back).log.sizes (sight_of back) ≡ b.opening
 
 -- a back on which nothing waits is known without records
 abbrev pub StartsKnown : {M : Type 0} {ghosts : Ghosts M} → Back M ghosts → Type 0
-StartsKnown back = (b : Since) (sizes : Sizes) → IsIdle b sizes back → IsKnownBy b [] back
+StartsKnown back = (b : Since) → IsIdle b back → IsKnownBy b [] back

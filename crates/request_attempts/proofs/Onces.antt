@@ -27,7 +27,7 @@ use Rattle.stm_transactions.specs.declared.tx.TxOver.{TxOver}
 use Rattle.stm_transactions.specs.declared.reads.ReadList.{Ghosts}
 use Rattle.stm_transactions.specs.Counts.{after_commit}
 use Rattle.stm_transactions.specs.Stops.{counts}
-use Rattle.stm_transactions.specs.Transactions.{tx_sight, tx_table, tx_view, tx_numbers, tx_reads, tx_writes, TurnsInto, HasBegun}
+use Rattle.stm_transactions.specs.Transactions.{tx_sight, tx_table, tx_view, tx_numbers, tx_reads, TurnsInto, HasBegun}
 use Rattle.stm_transactions.specs.Ends.{HasAborted, HasCommitted, HasLostCommit, entry_of}
 use Rattle.legal_entries.proofs.Serving.{served_entry}
 use Rattle.request_attempts.specs.Served.{HasServed}

@@ -1,5 +1,5 @@
 -- Tries, one after another.
-use Rattle.std.proofs.Common.{◌≡◌, ℕ, ◌+◌, ◌*◌, ◌<◌, ◌≤◌, Bool, true, false, List, [], ◌∷◌, ◌++◌, refl, ap, ◌∙◌, ⊎_elim, arith}
+use Rattle.std.proofs.Common.{ℕ, ◌+◌, ◌*◌, ◌≤◌, Bool, true, false, List, [], ◌∷◌, ◌++◌, refl, ap, ◌∙◌, ⊎_elim, arith}
 use Rattle.dude_base.specs.declared.sizes.Sizes.{Sizes}
 use Rattle.tatp_model.specs.declared.request.Request.{Request}
 use Rattle.tatp_model.specs.declared.done.Done.{Done}
@@ -8,7 +8,7 @@ use Rattle.core_events.specs.Views.{Entry}
 use Rattle.core_table.specs.Layout.{TableSight}
 use Rattle.stm_passes.specs.Numbers.{bit}
 use Rattle.stm_passes.specs.Passes.{PassSight, IsResting}
-use Rattle.request_attempts.specs.Counting.{IsUnder, LAST_COUNT}
+use Rattle.request_attempts.specs.Counting.{IsUnder}
 use Rattle.request_attempts.specs.MayTry.{MayServe, MayTry}
 use Rattle.request_attempts.specs.Tries.{IsServing, IsUnserved, IsAgain, HasTried, AnswersBy}
 

@@ -1,6 +1,6 @@
 -- What a turn that brings a page into a frame leaves of the seat that had it.
-use Rattle.std.proofs.Common.{◌≡◌, ◌+◌, ◌<◌, ℕ, Bool, true, false, refl, ap, ◌∙◌, subst, arith}
-use Rattle.std.specs.Prelude.{None, Some, Result, Ok, Err, IfOk, IfErr}
+use Rattle.std.proofs.Common.{◌≡◌, ◌+◌, ◌<◌, ℕ, Bool, true, false, refl, ap, ◌∙◌, subst, arith, []}
+use Rattle.std.specs.Prelude.{Some, Result, Ok, Err, IfOk, IfErr}
 use Rattle.pmem_trait.specs.Sights.{Sight}
 use Rattle.pmem_trait.specs.declared.medium.Medium.{Ghosts}
 use Rattle.atomic_table.specs.declared.shared.Seat.{Seat}
@@ -16,8 +16,9 @@ use Rattle.stm_slots.specs.Lists.{IsSettled}
 use Rattle.stm_slots.specs.declared.home.Home.{Home as TheHome}
 use Rattle.stm_slots.specs.declared.slot.Slot.{Slot}
 use Rattle.stm_slots.specs.declared.opening.Opening.{Opening}
+use Rattle.stm_turns.specs.Bundles.{NextIsNotDrawn}
 use Rattle.stm_turns.specs.Pump.{HadTurn}
-use Rattle.stm_turns.specs.Turns.{HasTaken, Stepped}
+use Rattle.stm_turns.specs.Turns.{EndsSettled, HasShown, HasTaken, Stepped}
 use Rattle.stm_turns.proofs.Calling.{settled_at, settled_dead}
 use Rattle.stm_turns.proofs.WholeTurns.{or_true}
 use Rattle.stm_pages.specs.Fetch.{ComesTo, HasFailed, HasFetchFault, HasFetched, HasSettled, IsTurnOf, KeepsTurn, SettledTo}
@@ -37,14 +38,22 @@ module _ {M : Type 0} {ghosts : Ghosts M} (sight : M → Sight) (t : TableSight 
   turn_same old h i = record { id = refl; turn = i; view = refl }
 
   -- other steps of the turn
-  pub turn_settled : (old new : TurnSeat) (h : TheHome M ghosts) → Stepped sight t old new h None → KeepsTurn sight t old new h
+  pub turn_settled : (old new : TurnSeat) (h : TheHome M ghosts) → Stepped sight t old new h [] → KeepsTurn sight t old new h
   turn_settled old new h s = record { id = s.id; turn = s.turn; view = ap turn_view s.view }
 
   pub turn_paged : (old mid new : TurnSeat) (h h2 : TheHome M ghosts) → KeepsTurn sight t old mid h → Paged sight t mid new h2 → KeepsTurn sight t old new h2
   turn_paged old mid new h h2 a b = record { id = b.id ∙ a.id; turn = b.turn; view = ap turn_view b.view ∙ a.view }
 
+  -- behind a settled turn the reproduced word was raised to its number
+  pub settled_raised : (n : ℕ) (old new : TurnSeat) (h : TheHome M ghosts) → EndsSettled old h n → NextIsNotDrawn old n → Stepped sight t old new h [] → new.me.0.view.turn.durable ≡ n → HasShown new n → SettledTo sight t n new h
+  settled_raised n old new h ends next step durable shown = record {
+    settled = record { is = ends.is; reproduced = ends.reproduced; durable = durable };
+    shown = shown;
+    next = ap (λ (v : View). has v.drawn (n + 1)) step.view ∙ next;
+  }
+
   pub settled_to_on : (n : ℕ) (old new : TurnSeat) (h h2 : TheHome M ghosts) → SettledTo sight t n old h → Paged sight t old new h2 → state_of h2.back ≡ state_of h.back → SettledTo sight t n new h2
-  settled_to_on n old new h h2 s step same = record { settled = settled_on sight t old new h h2 n s.settled step same; next = ap (λ (v : View). has v.drawn (n + 1)) step.view ∙ s.next }
+  settled_to_on n old new h h2 s step same = record { settled = settled_on sight t old new h h2 n s.settled step same; shown = step.shown n s.shown; next = ap (λ (v : View). has v.drawn (n + 1)) step.view ∙ s.next }
 
   -- the page was seen to be absent
   pub absent_room : (page n : ℕ) (old new : TurnSeat) (h : TheHome M ghosts) → Paged sight t old new h → IsAfter t (entry page) old new n → FindsEntry t.setup h.pager page n → n ≡ 0 → page < t.setup.pages → MayMakeRoom sight t page new h

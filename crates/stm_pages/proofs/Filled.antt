@@ -34,7 +34,7 @@ use Rattle.stm_slots.specs.declared.slot.Slot.{Slot}
 use Rattle.stm_slots.specs.declared.opening.Opening.{Opening}
 use Rattle.stm_slots.proofs.Acting.{kept_by, now_lists}
 use Rattle.stm_slots.proofs.KeptBacks.{same_values}
-use Rattle.stm_turns.specs.Holding.{hand_boxes, hands_of}
+use Rattle.stm_turns.specs.Holding.{boxes_held, hands_of}
 use Rattle.stm_pages.specs.Filling.{IsFilledIn, MayFill}
 
 -- ---- what the view keeps
@@ -81,7 +81,7 @@ module _ {M : Type 0} {ghosts : Ghosts M} (sight : M → Sight) (t : TableSight 
 
   module _ (page frame : ℕ) (words : List ℕ) (seat : Seat (Slot M ghosts) (Known Beside)) (h : TheHome M ghosts) (m : MayFill sight t page frame words seat h) (inside : page < z.pages) (k : ℕ) (small : k < PAGE) where
     abbrev old : Hands
-    old = record (hands_of sight h m.room.turn.holding.records m.room.turn.holding.shown (hand_boxes z h.next None)) { lists = m.room.turn.holding.stale }
+    old = record (hands_of sight h m.room.turn.holding.records m.room.turn.holding.shown (boxes_held z [])) { lists = m.room.turn.holding.stale }
 
     pub fill_fits : Foreseen (fact_of sight t.key) z (fill page frame (page * PAGE + k) (get_or words k 0)) seat.id seat.me.0
     fill_fits s hs at =

@@ -1,6 +1,6 @@
 -- Steps on page entries, as acts of the thread with the turn.
-use Rattle.std.proofs.Common.{◌≡◌, ℕ, ◌<◌, List, get_or, refl, sym, ap, ◌∙◌, subst}
-use Rattle.std.specs.Prelude.{Some, None}
+use Rattle.std.proofs.Common.{◌≡◌, ℕ, ◌<◌, List, get_or, refl, sym, ap, ◌∙◌, subst, []}
+use Rattle.std.specs.Prelude.{Some}
 use mathlib.Core.Option.{Option as Maybe, some}
 use lib.ListN.{get_elem?}
 use Rattle.dude_base.specs.Records.{RedoRecord}
@@ -28,7 +28,7 @@ use Rattle.stm_slots.specs.declared.opening.Opening.{Opening}
 use Rattle.stm_slots.proofs.Acting.{kept_by}
 use Rattle.stm_slots.proofs.Mapping.{map_turned}
 use Rattle.stm_slots.proofs.PageActs.{entry_acts, evict_acts, show_acts}
-use Rattle.stm_turns.specs.Holding.{Holding, hand_boxes, hands_of}
+use Rattle.stm_turns.specs.Holding.{Holding, boxes_held, hands_of}
 use Rattle.stm_turns.proofs.Holdings.{told_less, told_with}
 use Rattle.stm_pages.specs.Paging.{FindsEntry}
 use Rattle.stm_pages.specs.Told.{PagedTo, SawEntry, TriedEvict}
@@ -40,9 +40,9 @@ module _ {M : Type 0} {ghosts : Ghosts M} (sight : M → Sight) (o : Opening M g
   some_hands : (a b : Hands) → Some a ≡ Some b → a ≡ b
   some_hands a b e = cc
 
-  module _ (me : Seated M ghosts) (h : TheHome M ghosts) (i : Holding sight o me.0 h None) (same : i.stale.records ≡ i.records) where
+  module _ (me : Seated M ghosts) (h : TheHome M ghosts) (i : Holding sight o me.0 h []) (same : i.stale.records ≡ i.records) where
     abbrev now : Hands
-    now = hands_of sight h i.records i.shown (hand_boxes z h.next None)
+    now = hands_of sight h i.records i.shown (boxes_held z [])
 
     abbrev old : Hands
     old = record now { lists = i.stale }
@@ -57,7 +57,7 @@ module _ {M : Type 0} {ghosts : Ghosts M} (sight : M → Sight) (o : Opening M g
       view = s.view;
       beside = λ hs is.
           ap (λ (b : Beside). b.turn) s.beside
-          ∙ (ap (λ (rs : List RedoRecord). Some (record (hands_of sight h rs i.shown (hand_boxes z h.next None)) { map = map n })) (sym same)
+          ∙ (ap (λ (rs : List RedoRecord). Some (record (hands_of sight h rs i.shown (boxes_held z [])) { map = map n })) (sym same)
           ∙ ap (λ (a : Hands). Some (made_of a (map n))) (sym (some_hands hs old (sym is ∙ i.hands))));
       slots = s.slots;
     }

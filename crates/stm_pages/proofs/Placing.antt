@@ -1,6 +1,6 @@
 -- A page is read from the home: what the thread with the turn has behind the call, and what the words are.
-use Rattle.std.proofs.Common.{◌≡◌, ◌↔◌, ◌⊎◌, ℕ, ◌+◌, ◌*◌, ◌<◌, true, List, length, get_or, refl, sym, ap, ◌∙◌, subst, ⊎_elim, arith}
-use Rattle.std.specs.Prelude.{None, Result, Ok, Err, IfErr, IsErrOf, OnErr, IsTrue}
+use Rattle.std.proofs.Common.{◌≡◌, ◌↔◌, ◌⊎◌, ℕ, ◌+◌, ◌*◌, ◌<◌, true, List, length, get_or, refl, sym, ap, ◌∙◌, subst, ⊎_elim, arith, []}
+use Rattle.std.specs.Prelude.{Result, Ok, Err, IfErr, IsErrOf, OnErr, IsTrue}
 use Rattle.std.proofs.lemmas.Bool.{false≢true}
 use Rattle.std.proofs.lemmas.List.FromFn.{length-map-range_with_len}
 use Rattle.dude_base.specs.declared.limits.TheConstants.{PAGE}
@@ -27,7 +27,7 @@ use Rattle.stm_slots.specs.Opening.{setup_of, since_of, start_sight}
 use Rattle.stm_slots.specs.declared.home.Home.{Home as TheHome}
 use Rattle.stm_slots.specs.declared.slot.Slot.{Slot}
 use Rattle.stm_slots.specs.declared.opening.Opening.{Opening}
-use Rattle.stm_turns.specs.Holding.{hand_boxes, hands_of}
+use Rattle.stm_turns.specs.Holding.{boxes_held, hands_of}
 use Rattle.stm_turns.proofs.Calling.{GoesOn, called_turn}
 use Rattle.stm_pages.specs.Filling.{MayFill, MayPlace}
 use Rattle.stm_pages.specs.Paging.{HasTurn}
@@ -70,7 +70,7 @@ module _ {M : Type 0} {ghosts : Ghosts M} (sight : M → Sight) (t : TableSight 
   module _ (seat : TurnSeat) (h : TheHome M ghosts) (b : Back M ghosts) (i : HasTurn sight t seat h) (result : Result (Unit {0}) BackFault) (is : state_of b ≡ after_read result (state_of h.back))
       (known : KnownBy (since_of sight t.key) (lists (state_of b) i.holding.records) (sight (medium_of b))) where
     abbrev pub read_turn : HasTurn sight t seat (record h { back = b })
-    read_turn = called_turn sight t seat h None i b known (read_goes z.threads (state_of h.back) (state_of b) result is)
+    read_turn = called_turn sight t seat h [] i b known (read_goes z.threads (state_of h.back) (state_of b) result is)
 
   -- the words of the page that was read, at the number up to which all is in the home
   module _ (page frame : ℕ) (words : List ℕ) (seat : TurnSeat) (h : TheHome M ghosts) (b : Back M ghosts) (p : MayPlace sight t page frame seat h) (is : state_of b ≡ state_of h.back)
@@ -80,7 +80,7 @@ module _ {M : Type 0} {ghosts : Ghosts M} (sight : M → Sight) (t : TableSight 
     i = p.room.turn
 
     abbrev before : Hands
-    before = record (hands_of sight h i.holding.records i.holding.shown (hand_boxes z h.next None)) { lists = i.holding.stale }
+    before = record (hands_of sight h i.holding.records i.holding.shown (boxes_held z [])) { lists = i.holding.stale }
 
     page_values : (start_sight sight t.key).is_visible ≡ true → (k : ℕ) → k < PAGE → get_or words k 0 ≡ value z.opening (writes_in i.holding.records) p.number (page * PAGE + k)
     page_values visible k small =
@@ -95,13 +95,13 @@ module _ {M : Type 0} {ghosts : Ghosts M} (sight : M → Sight) (t : TableSight 
     pub may_fill_read : MayFill sight t page frame words seat (record h { back = b })
     may_fill_read = record {
       room = record {
-        turn = called_turn sight t seat h None i b known (subst (GoesOn z.threads (state_of h.back)) (sym is) (read_same z.threads (state_of h.back)));
+        turn = called_turn sight t seat h [] i b known (subst (GoesOn z.threads (state_of h.back)) (sym is) (read_same z.threads (state_of h.back)));
         map_is = p.room.map_is;
         absent = p.room.absent;
       };
       free = p.free;
       number = p.number;
-      shown = p.settled.shown before i.holding.hands;
+      shown = p.shown before i.holding.hands;
       touch = p.touch;
       touched = p.touched;
       reproduced = p.reproduced;

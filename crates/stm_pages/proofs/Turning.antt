@@ -1,6 +1,6 @@
 -- The seat with the turn behind a step on pages.
-use Rattle.std.proofs.Common.{◌≡◌, ℕ, List, refl, sym, ap, ◌∙◌, subst}
-use Rattle.std.specs.Prelude.{Some, None}
+use Rattle.std.proofs.Common.{◌≡◌, ℕ, List, refl, sym, ap, ◌∙◌, subst, []}
+use Rattle.std.specs.Prelude.{Some}
 use Rattle.dude_base.specs.Records.{RedoRecord}
 use Rattle.pmem_trait.specs.Sights.{Sight}
 use Rattle.pmem_trait.specs.declared.medium.Medium.{Ghosts}
@@ -22,7 +22,7 @@ use Rattle.stm_slots.specs.declared.home.Home.{Home as TheHome}
 use Rattle.stm_slots.specs.declared.slot.Slot.{Slot}
 use Rattle.stm_slots.specs.declared.opening.Opening.{Opening}
 use Rattle.stm_slots.proofs.Following.{follows_same}
-use Rattle.stm_turns.specs.Holding.{Holding, hand_boxes, hands_of}
+use Rattle.stm_turns.specs.Holding.{Holding, boxes_held, hands_of}
 use Rattle.stm_turns.specs.Turns.{EndsSettled, HasShown}
 use Rattle.stm_turns.proofs.Seats.{belongs_on}
 use Rattle.stm_pages.specs.Paging.{HasTurn, HandMoved, Paged, page_view}
@@ -37,8 +37,8 @@ module _ {M : Type 0} {ghosts : Ghosts M} (sight : M → Sight) (t : TableSight 
 
   -- what the seat knows behind a step on pages, by what it has beside its view then
   abbrev pub page_holding : (old new : TurnSeat) (h : TheHome M ghosts) (i : HasTurn sight t old h) (map : PageMap) (stale : BackLists) → page_view new.me.0.view ≡ page_view old.me.0.view
-      → new.me.0.beside.turn ≡ Some (record (hands_of sight h i.holding.records i.holding.shown (hand_boxes z h.next None)) { lists = stale; map = map }) → Follows z h.next (hand_boxes z h.next None) stale (lists (state_of h.back) i.holding.records)
-      → Holding sight t.key new.me.0 (record h { pager = map }) None
+      → new.me.0.beside.turn ≡ Some (record (hands_of sight h i.holding.records i.holding.shown (boxes_held z [])) { lists = stale; map = map }) → Follows z h.next (boxes_held z []) stale (lists (state_of h.back) i.holding.records)
+      → Holding sight t.key new.me.0 (record h { pager = map }) []
   page_holding old new h i map stale view hands follows = record {
     live = ap (λ (v : View). v.part.is_spent) view ∙ i.holding.live;
     thread = (i.holding.thread.0, ap (λ (v : View). v.part.thread) view ∙ i.holding.thread.1);
@@ -81,10 +81,10 @@ module _ {M : Type 0} {ghosts : Ghosts M} (sight : M → Sight) (t : TableSight 
   module _ (old new : TurnSeat) (h : TheHome M ghosts) (i : HasTurn sight t old h) (map : PageMap) (e : Event) (n : ℕ) (to : PagedTo sight t.key e (record h { pager = map }) old.me n new.me)
       (view : page_view (view_after z e old.me.0.view n) ≡ page_view old.me.0.view) (table : new.table_id ≡ old.table_id) (id : new.id ≡ old.id) where
     abbrev before : Hands
-    before = record (hands_of sight h i.holding.records i.holding.shown (hand_boxes z h.next None)) { lists = i.holding.stale }
+    before = record (hands_of sight h i.holding.records i.holding.shown (boxes_held z [])) { lists = i.holding.stale }
 
     abbrev after : List RedoRecord → Hands
-    after rs = record (hands_of sight h rs i.holding.shown (hand_boxes z h.next None)) { map = map }
+    after rs = record (hands_of sight h rs i.holding.shown (boxes_held z [])) { map = map }
 
     pub beside_is : new.me.0.beside.turn ≡ Some (after i.holding.records)
     beside_is = to.beside before i.holding.hands ∙ ap (λ (rs : List RedoRecord). Some (after rs)) i.same
@@ -97,7 +97,7 @@ module _ {M : Type 0} {ghosts : Ghosts M} (sight : M → Sight) (t : TableSight 
       belongs = belongs_on sight t old new i.belongs i.setup table (subst (IsSeated z) (sym to.view) to.told.after);
       setup = i.setup;
       holding = page_holding old new h i map (lists (state_of h.back) i.holding.records) page_is beside_is
-          (follows_same z h.next (hand_boxes z h.next None) (lists (state_of h.back) i.holding.records) i.holding.known.lawful);
+          (follows_same z h.next (boxes_held z []) (lists (state_of h.back) i.holding.records) i.holding.known.lawful);
       slots = to.slots ∙ i.slots;
       same = refl;
       in_hand = i.in_hand;
@@ -128,5 +128,4 @@ module _ {M : Type 0} {ghosts : Ghosts M} (sight : M → Sight) (t : TableSight 
     is = rw same ends.is;
     reproduced = ap (λ s. s.log.reproduced) same ∙ ends.reproduced;
     durable = ap (λ (v : View). v.turn.durable) step.view ∙ ends.durable;
-    shown = step.shown n ends.shown;
   }

@@ -14,9 +14,9 @@ use Rattle.stm_slots.specs.Beside.{Beside}
 use Rattle.stm_slots.specs.declared.home.Home.{Home as TheHome}
 use Rattle.stm_slots.specs.declared.slot.Slot.{Slot}
 use Rattle.stm_slots.specs.declared.opening.Opening.{Opening}
-use Rattle.stm_turns.specs.Front.{NextIsNotDrawn}
+use Rattle.stm_turns.specs.Bundles.{NextIsNotDrawn}
 use Rattle.stm_turns.specs.Pump.{HadTurn}
-use Rattle.stm_turns.specs.Turns.{EndsSettled}
+use Rattle.stm_turns.specs.Turns.{EndsSettled, HasShown}
 use Rattle.stm_pages.specs.Frames.{KeepsAllPinned}
 use Rattle.stm_pages.specs.Paging.{HasTurn, turn_view}
 use Rattle.stm_pages.specs.declared.fetch_fault.FetchFault.{FetchFault}
@@ -33,6 +33,8 @@ module _ {M : Type 0} {ghosts : Ghosts M} (sight : M → Sight) (t : TableSight 
   -- All up to the number is announced and in the home, and the next one isn't one that the view drew
   pub record SettledTo (number : ℕ) (seat : Seat (Slot M ghosts) (Known Beside)) (h : TheHome M ghosts) : Type 0 where
     pub settled : EndsSettled seat h number
+    -- the reproduced word is the number
+    pub shown : HasShown seat number
     pub next : NextIsNotDrawn seat number
 
   -- what the work of a turn comes to, by its answer

@@ -18,7 +18,7 @@ use Rattle.stm_slots.specs.Opening.{setup_of, start_sight}
 use Rattle.stm_slots.specs.declared.home.Home.{Home as TheHome}
 use Rattle.stm_slots.specs.declared.slot.Slot.{Slot}
 use Rattle.stm_slots.specs.declared.opening.Opening.{Opening}
-use Rattle.stm_turns.specs.Turns.{EndsSettled}
+use Rattle.stm_turns.specs.Turns.{EndsSettled, HasShown}
 use Rattle.stm_pages.specs.Frames.{MayMakeRoom}
 
 -- all words of the page are filled into the frame
@@ -32,6 +32,8 @@ module _ {M : Type 0} {ghosts : Ghosts M} (sight : M → Sight) (t : TableSight 
     pub free : IsFree h.pager frame
     pub number : ℕ
     pub settled : EndsSettled seat h number
+    -- the reproduced word is the number
+    pub shown : HasShown seat number
     pub touch : ℕ
     pub touched : find seat.me.0.view.turn.touches page ≡ Some touch
     pub reproduced : touch ≤ number

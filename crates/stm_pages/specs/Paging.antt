@@ -52,7 +52,7 @@ pub record FindsEntry (z : Setup) (map : PageMap) (page n : ℕ) : Type 0 where
 module _ {M : Type 0} {ghosts : Ghosts M} (sight : M → Sight) (t : TableSight (Opening M ghosts)) where
   -- The seat has the turn and no record in hand, with this of the back's slot
   abbrev pub HasTurn : Seat (Slot M ghosts) (Known Beside) → TheHome M ghosts → Type 0
-  HasTurn seat h = InTurn sight t seat h None
+  HasTurn seat h = InTurn sight t seat h []
 
   -- The seat has the turn; since its last step the hand of the pager moved
   pub record HandMoved (seat : Seat (Slot M ghosts) (Known Beside)) (h : TheHome M ghosts) : Type 0 where

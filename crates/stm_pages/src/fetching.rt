@@ -16,7 +16,7 @@ use crate::filling::{Steps, place_page};
 use crate::finding::find_frame;
 use pmem_trait::Medium;
 use stm_slots::home::Home;
-use stm_turns::{SlotSeat, give_turn, settle, take_turn};
+use stm_turns::{SlotSeat, give_turn, raise_reproduced, settle, take_turn};
 
 /// Brings a page into a frame that was seen to be absent. All up to `reproduced` is in the home.
 fn show_absent<M: Medium>(
@@ -65,6 +65,8 @@ fn bring_in<M: Medium>(
 {
     match settle(&stm.events, seat, home, own) {
         Ok(reproduced) => {
+            // The word is that already: so the seat is told.
+            raise_reproduced(&stm.events, seat, home, reproduced);
             if see_entry(&stm.events, seat, home, page) != 0 {
                 return Ok(());
             }

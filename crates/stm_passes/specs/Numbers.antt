@@ -1,5 +1,5 @@
 -- What calls make of the numbers of a pass.
-use Rattle.std.specs.Prelude.{ℕ, ◌+◌, ◌-◌, ◌%◌, ◌||◌, Bool, true, false, max}
+use Rattle.std.specs.Prelude.{ℕ, ◌+◌, ◌-◌, ◌%◌, ◌||◌, Bool, true, false, ltb, max}
 use Rattle.dude_base.specs.declared.limits.TheConstants.{MAX_NUMBER}
 use Rattle.pmem_trait.specs.Faults.{up_to_last}
 use Rattle.stm_passes.specs.declared.pass_numbers.PassNumbers.{PassNumbers}
@@ -20,6 +20,14 @@ after_draw number boxes f = record f { next = (f.next + 1) % boxes; drawn = numb
 -- an entry was made with this number, which is none under the last one
 abbrev pub with_entry : ℕ → PassNumbers → PassNumbers
 with_entry number f = record f { last = number }
+
+-- A turn made all up to this number durable. It counts as a refusal where that is under the last number, or under one that was drawn
+abbrev pub after_turn : ℕ → PassNumbers → PassNumbers
+after_turn n f = with_refusals (bit (ltb n f.last || ltb n f.drawn)) (record f { durable = n; had_turn = true })
+
+-- a turn met a fault
+abbrev pub after_fault : PassNumbers → PassNumbers
+after_fault f = record f { met_fault = true; had_turn = true }
 
 -- so many draws and one split went to another pass
 abbrev pub left_numbers : ℕ → PassNumbers → PassNumbers

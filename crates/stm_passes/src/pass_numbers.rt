@@ -1,7 +1,7 @@
 //! What a pass tells of itself in numbers.
 
 ghost use Rattle.std.specs.Prelude.{◌≡◌, ◌+◌, ◌^◌, ◌<◌, ◌≤◌};
-ghost use Rattle.stm_passes.specs.Numbers.{after_draw, bit, both_numbers, first_numbers, left_numbers, newcomer_numbers, with_entry, with_refusals};
+ghost use Rattle.stm_passes.specs.Numbers.{after_draw, after_fault, after_turn, bit, both_numbers, first_numbers, left_numbers, newcomer_numbers, with_entry, with_refusals};
 
 use dude_base::limits::MAX_NUMBER;
 
@@ -68,6 +68,31 @@ impl PassNumbers {
     {
         PassNumbers {
             last: number,
+            ..self
+        }
+    }
+
+    /// After a turn that made all up to this number durable. It counts where that is under the last number, or under
+    /// one that the pass drew.
+    pub fn take_turn(self, durable: u64) -> PassNumbers
+        ensures { result ≡ after_turn durable self }
+    {
+        let is_behind = durable < self.last || durable < self.drawn;
+        let numbers = self.refuse(if is_behind { 1 } else { 0 });
+        PassNumbers {
+            durable,
+            had_turn: true,
+            ..numbers
+        }
+    }
+
+    /// After a turn that met a fault.
+    pub fn meet_fault(self) -> PassNumbers
+        ensures { result ≡ after_fault self }
+    {
+        PassNumbers {
+            met_fault: true,
+            had_turn: true,
             ..self
         }
     }

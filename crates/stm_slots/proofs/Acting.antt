@@ -4,6 +4,7 @@ use Rattle.std.specs.Prelude.{Option, Some, None, MatchBool}
 use Rattle.std.specs.List.{Contains}
 use Rattle.std.proofs.lemmas.List.{map-set, set-set, set-get_or, get_or_default}
 use Rattle.dude_base.proofs.WriteLists.{written_at}
+use Rattle.std.proofs.lemmas.Bool.{true≢false}
 use mathlib.Core.Option.{Option as Maybe, none, some, some-injective, some-ne-none}
 use mathlib.Core.Logic.{dite}
 use native.Mathlib.Decide.{ℕ_discrete}
@@ -23,7 +24,7 @@ use Rattle.core_events.specs.Telling.{IsTold}
 use Rattle.core_events.proofs.Lists.{at_map, set_again, set_here, there, unmoved}
 use Rattle.core_table.specs.Known.{Known, known_after}
 use Rattle.core_table.specs.Rules.{Acts}
-use Rattle.core_events.proofs.Boxes.{box_inside, there_read}
+use Rattle.core_events.proofs.Boxes.{box_inside, read_there, there_read}
 use Rattle.back_store.specs.Back.{waiting_of_ring}
 use Rattle.known_back.specs.Lists.{BackLists}
 use Rattle.known_back.specs.Records.{HasRecord, LacksRecord, writes_in}
@@ -35,12 +36,12 @@ use Rattle.stm_slots.specs.Queues.{back_slot, place_at}
 use Rattle.stm_slots.specs.Lists.{ListsKept}
 use Rattle.stm_slots.specs.Opening.{setup_of}
 use Rattle.stm_slots.specs.Rule.{IsHome, SlotsKept, SlotsKeptBy}
-use Rattle.stm_slots.specs.Turns.{TookTurn, Took, GaveTurn, SawFull, WentOn, Follows, Leaves}
+use Rattle.stm_slots.specs.Turns.{TookTurn, Took, GaveTurn, SawFull, SawNumber, SawRecord, WentOn, Follows, Leaves}
 use Rattle.stm_slots.specs.declared.home.Home.{Home as TheHome}
 use Rattle.stm_slots.specs.declared.slot.Slot.{Slot}
 use Rattle.stm_slots.specs.declared.slot.Slot.TheVariants.{Empty, Record, Home}
 use Rattle.stm_slots.specs.declared.opening.Opening.{Opening}
-use Rattle.stm_slots.proofs.Staged.{boxes_sized, nobody, some_turn, alone, of_thread, once, box_told}
+use Rattle.stm_slots.proofs.Staged.{boxes_sized, nobody, some_turn, alone, of_thread, once, open_apart, box_told}
 use Rattle.stm_slots.proofs.Turning.{taken, given, raised_durable, raised_reproduced}
 use Rattle.stm_slots.proofs.Boxing.{followed, followed_lists, seen, put_back, emptied}
 
@@ -141,13 +142,13 @@ module _ {M : Type 0} {ghosts : Ghosts M} (sight : M → Sight) (o : Opening M g
     kept_by = subst (SlotsKeptBy sight o (stage_of c) xs homes) (hands_are f.hands hands (sym (f.kept.held id (owner_of v) x at_owner at has) ∙ is)) f.kept
 
     pub now_lists : ListsKept z (stage_of c) m hands.boxes
-    now_lists = followed_lists sight o (stage_of c) xs homes hands kept_by (boxes_sized z c k) id (owner_of v) x at_owner at (alone z c k id v is_there has) (some_turn z c k id v is_there has) (of_thread z c k) (once z c k) m follows
+    now_lists = followed_lists sight o (stage_of c) xs homes hands kept_by (boxes_sized z c k) id (owner_of v) x at_owner at (alone z c k id v is_there has) (some_turn z c k id v is_there has) (of_thread z c k) (once z c k) (open_apart z c k) m follows
 
     abbrev now_beside : Beside
     now_beside = record x { turn = Some (record hands { lists = m }) }
 
     pub now_kept : SlotsKeptBy sight o (stage_of c) (set xs id now_beside) homes (record hands { lists = m })
-    now_kept = followed sight o (stage_of c) xs homes hands kept_by (boxes_sized z c k) id (owner_of v) x at_owner at (alone z c k id v is_there has) (some_turn z c k id v is_there has) (of_thread z c k) (once z c k) m follows
+    now_kept = followed sight o (stage_of c) xs homes hands kept_by (boxes_sized z c k) id (owner_of v) x at_owner at (alone z c k id v is_there has) (some_turn z c k id v is_there has) (of_thread z c k) (once z c k) (open_apart z c k) m follows
 
     pub now_at : get_elem? (set xs id now_beside) id ≡ some now_beside
     now_at = set_here xs id now_beside (there xs id x at)
@@ -264,6 +265,62 @@ module _ {M : Type 0} {ghosts : Ghosts M} (sight : M → Sight) (o : Opening M g
 
     pub see_acts : (t j : ℕ) → t < z.threads → j < z.boxes → ((q : RedoRecord) → Contains hands.boxes (box_of z t j, q) → ⊥) → Acts fact z (see_full t j) id me (SawFull sight o t j now me)
     see_acts t j lt lj no_box c xs homes k allowed at f = dite (ℕ_discrete (get_or c.boxes (box_of z t j) 0) 0) (see_none t j lt lj no_box c xs homes k allowed at f) (see_some t j lt lj no_box c xs homes k allowed at f)
+
+    -- a look that takes nothing
+    pub peek_acts : (t j : ℕ) → Acts fact z (see_full t j) id me (WentOn sight o (see_full t j) now me.1 me)
+    peek_acts t j c xs homes k allowed at f =
+        let y1 : Beside = record me.0.beside { turn = Some now } in (
+          keeps,
+          y1,
+          tt,
+          record { hands = now; kept = subst (λ st. SlotsKeptBy sight o st (set xs id y1) homes now) (sym (look_stage c t j allowed.is_there)) (now_kept c xs homes k f id me.0.view me.0.beside allowed.is_there at has hands is m follows) },
+          (λ told. record { told = told; view = refl; beside = refl; slots = refl }),
+        )
+
+    otherwise : (A B : Type 0) (b : Bool) → b ≡ false → MatchBool b A B → B
+    otherwise A B true e what = absurd (true≢false e)
+    otherwise A B false e what = what
+
+    -- a look that takes the record only of this number, which none of those has that were taken
+    module _ (t j number : ℕ) (lt : t < z.threads) (lj : j < z.boxes) (some_number : 0 < number) (others : (b : ℕ) (q : RedoRecord) → Contains hands.boxes (b, q) → q.number ≢ number) (c : State) (xs : List Beside) (homes : List (Maybe (Slot M ghosts))) (k : Kept z c) (allowed : IsAllowed z c id (see_full t j) me.0.view) (at : get_elem? xs id ≡ some me.0.beside) (f : fact c xs homes) where
+      abbrev word : ℕ
+      word = get_or c.boxes (box_of z t j) 0
+
+      abbrev Looking : Type 0
+      Looking = (a : Act (Slot M ghosts)) × (y : Beside) × Valid homes me.1 a × fact (after z c id me.0.view (see_full t j)) (set xs id y) (homes_after homes me.1 a)
+          × (IsTold z (see_full t j) me.0.view word → SawNumber sight o t j number now me word (record { view = view_after z (see_full t j) me.0.view word; beside = y; made = see_full t j ∷ me.0.made }, carried_after me.1 a))
+
+      -- the box isn't one of those, where it has the number
+      not_taken : word ≡ number → (q : RedoRecord) → Contains hands.boxes (box_of z t j, q) → ⊥
+      not_taken e q among = others (box_of z t j) q among (sym (read_there c.boxes (box_of z t j) q.number ((kept_by c xs homes k f id me.0.view me.0.beside allowed.is_there at has hands is m follows).boxes.hand (box_of z t j) q among).0.0) ∙ e)
+
+      look_hit : word ≡ number → Looking
+      look_hit e =
+          let some_word : word ≢ 0 = (λ zero_is. let pos = some_number in absurd (omega arith)) in
+          let a = see_some t j lt lj (not_taken e) c xs homes k allowed at f some_word in (
+            a.0,
+            a.1,
+            a.2,
+            a.3,
+            (λ told. let s = a.4 told in record {
+              told = s.told;
+              view = s.view;
+              what = rw (eq-eqb word number e) (otherwise _ _ (word == 0) (ne_eqb word 0 some_word) s.what, not_taken e);
+            }),
+          )
+
+      look_miss : word ≢ number → Looking
+      look_miss e =
+          let a = peek_acts t j c xs homes k allowed at f in (
+            a.0,
+            a.1,
+            a.2,
+            a.3,
+            (λ told. let s = a.4 told in record { told = s.told; view = s.view; what = rw (ne_eqb word number e) (s.beside, s.slots) }),
+          )
+
+    pub look_acts : (t j number : ℕ) → t < z.threads → j < z.boxes → 0 < number → ((b : ℕ) (q : RedoRecord) → Contains hands.boxes (b, q) → q.number ≢ number) → Acts fact z (see_full t j) id me (SawNumber sight o t j number now me)
+    look_acts t j number lt lj some_number others c xs homes k allowed at f = dite (ℕ_discrete (get_or c.boxes (box_of z t j) 0) number) (look_hit t j number lt lj some_number others c xs homes k allowed at f) (look_miss t j number lt lj some_number others c xs homes k allowed at f)
 
     -- ---- the record is put back, or its box emptied
     pub put_back_acts : (t j : ℕ) (r : RedoRecord) (left : List (ℕ × RedoRecord)) (rest_slots : List (ℕ × Slot M ghosts)) → Contains hands.boxes (box_of z t j, r) → Leaves hands.boxes (box_of z t j) left → me.1 ≡ (box_of z t j, Record r) ∷ rest_slots

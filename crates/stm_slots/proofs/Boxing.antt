@@ -8,7 +8,7 @@ use mathlib.Core.Option.{Option as Maybe, none, some, some-injective}
 use mathlib.Core.Logic.{dite}
 use native.Mathlib.Decide.{ℕ_discrete, dec_lt}
 use lib.ListN.{get_elem?}
-use Rattle.dude_base.specs.Records.{RedoRecord}
+use Rattle.dude_base.specs.Records.{Covers, RedoBundle, RedoRecord, first_of}
 use Rattle.pmem_trait.specs.Sights.{Sight}
 use Rattle.pmem_trait.specs.declared.medium.Medium.{Ghosts}
 use Rattle.core_events.specs.Setups.{Setup, box_of}
@@ -44,6 +44,10 @@ module _ {M : Type 0} {ghosts : Ghosts M} (sight : M → Sight) (o : Opening M g
   abbrev Once : Stage → Type 0
   Once s = (i k n : ℕ) → get_elem? s.boxes i ≡ some n → get_elem? s.boxes k ≡ some n → 0 < n → i ≡ k
 
+  -- the open number of a view is in no box, and wasn't persisted
+  abbrev OpenApart : Stage → Type 0
+  OpenApart s = (j : ℕ) (p : Owner) → get_elem? s.owners j ≡ some p → 0 < p.number → ((i : ℕ) → get_elem? s.boxes i ≡ some p.number → ⊥) × (HasRecord s.persisted p.number → ⊥)
+
   module _ (s : Stage) (xs : List Beside) (homes : Slots) (hands : Hands) (k : SlotsKeptBy sight o s xs homes hands) (long : length s.boxes ≡ back_slot z) (id : ℕ) (v : Owner) (x : Beside) (at_v : get_elem? s.owners id ≡ some v) (at_x : get_elem? xs id ≡ some x)
       (alone : (j : ℕ) (p : Owner) → get_elem? s.owners j ≡ some p → p.has_turn ≡ true → j ≡ id) (turn : 0 < s.turn) where
     -- the one view with the turn keeps other hands
@@ -55,14 +59,14 @@ module _ {M : Type 0} {ghosts : Ghosts M} (sight : M → Sight) (o : Opening M g
         ap (λ (a : Beside). a.turn) (sym (some-injective y u (sym here ∙ at_u)))
 
     -- ---- the lists follow the calls of the back
-    module _ (of_thread : (j u : ℕ) (p : Owner) → get_elem? s.owners j ≡ some p → p.thread ≡ Some u → u < z.threads) (once : Once s) (m : BackLists) (f : Follows z hands.next hands.boxes hands.lists m) where
+    module _ (of_thread : (j u : ℕ) (p : Owner) → get_elem? s.owners j ≡ some p → p.thread ≡ Some u → u < z.threads) (once : Once s) (apart : OpenApart s) (m : BackLists) (f : Follows z hands.next hands.boxes hands.lists m) where
       abbrev l : BackLists
       l = hands.lists
 
       was_live : m.state.dead ≡ false → l.state.dead ≡ false
       was_live alive = not_true l.state.dead (λ e. true≢false (sym (f.dead e) ∙ alive))
 
-      -- what waits in a ring ends with a record of its thread, which stands in the thread's queue
+      -- what waits in a ring begins with a record of its thread, which stands in the thread's queue
       module _ (t n : ℕ) (h : IsHanded z hands.next hands.boxes m.records t n) where
         abbrev place : ℕ
         place = get_or hands.next t 0
@@ -113,6 +117,18 @@ module _ {M : Type 0} {ghosts : Ghosts M} (sight : M → Sight) (o : Opening M g
       new_writes : (n : ℕ) → HasRecord f.more n → writes_in m.records n ≡ writes_in f.more n
       new_writes n h = ap (λ rs. writes_in rs n) f.records ∙ writes_front f.more l.records n h
 
+      -- the open number of a view wasn't handed over
+      not_open : (j : ℕ) (p : Owner) → get_elem? s.owners j ≡ some p → 0 < p.number → HasRecord m.records p.number → ⊥
+      not_open j p at pos has =
+          let n : ℕ = p.number in let a = apart j p at pos in ⊎_elim
+          (λ new. let b = f.among n new in a.0 b.0 (k.boxes.hand b.0 (record { number = n; writes = writes_in f.more n }) b.1).0.0)
+          (λ old. ⊎_elim a.1 (λ b. a.0 b.0 b.1.0) (k.lists.handed n old))
+          (either n has)
+
+      -- a number that is over the first one of what was handed over, and wasn't handed over itself, is over the last one
+      over_last : (b : RedoBundle) (n : ℕ) → ((i : ℕ) → Covers b i → HasRecord m.records i) → first_of b < n → (HasRecord m.records n → ⊥) → b.last < n
+      over_last b n covered lt lacks = dite (dec_lt b.last n) (λ up. up) (λ low. absurd (lacks (covered n (record { low = omega arith; high = omega arith }))))
+
       pub followed_lists : ListsKept z s m hands.boxes
       followed_lists = record {
         lawful = f.lawful;
@@ -134,9 +150,9 @@ module _ {M : Type 0} {ghosts : Ghosts M} (sight : M → Sight) (o : Opening M g
         ordered = λ alive. let w = k.lists.ordered (was_live alive) in record {
           boxed = λ u j n q lt lj at pos lacks among. ⊎_elim
               (λ old. w.boxed u j n q lt lj at pos (lacked n lacks) old)
-              (λ new. boxed_behind u q.last new j n lj at pos lacks)
+              (λ new. over_last q n new.covered (boxed_behind u (first_of q) new.begins j n lj at pos lacks) (λ has. not_both m.records n has lacks))
               (f.waiting alive u q lt among);
-          opened = λ j u p q at of_u pos among. ⊎_elim (λ old. w.opened j u p q at of_u pos old) (λ new. open_behind u q.last new j p at of_u pos) (f.waiting alive u q (of_thread j u p at of_u) among);
+          opened = λ j u p q at of_u pos among. ⊎_elim (λ old. w.opened j u p q at of_u pos old) (λ new. over_last q p.number new.covered (open_behind u (first_of q) new.begins j p at of_u pos) (not_open j p at pos)) (f.waiting alive u q (of_thread j u p at of_u) among);
         };
       }
 

@@ -7,7 +7,7 @@ use Rattle.std.proofs.lemmas.List.{append_assoc}
 use Rattle.std.proofs.lemmas.List.Elements.{Contains-push_cases, All-contains, All-contains_itself, All-filter}
 use mathlib.Core.Logic.{dite}
 use native.Mathlib.Decide.{ℕ_discrete}
-use Rattle.dude_base.specs.Records.{RedoBundle, RedoRecord}
+use Rattle.dude_base.specs.Records.{RedoBundle, RedoRecord, first_of}
 use Rattle.log_waiting.specs.Lane.{with_redo}
 use Rattle.log_waiting.specs.Lanes.{lane_at, no_lane}
 use Rattle.log_waiting.proofs.ReleasedRecords.{lane_released}
@@ -17,7 +17,7 @@ use Rattle.core_events.specs.Setups.{Setup}
 use Rattle.known_back.specs.Lists.{BackLists, LawfulLists, lists}
 use Rattle.known_back.specs.Records.{AreNew, HasRecord, LacksRecord, writes_in}
 use Rattle.known_back.proofs.JoinedRecords.{has_front, has_behind, has_either_list, writes_front, writes_behind, not_both, lacks_from}
-use Rattle.stm_slots.specs.Turns.{IsHanded, Follows}
+use Rattle.stm_slots.specs.Turns.{BeginsHanded, IsHanded, Follows}
 
 module _ (z : Setup) (next : List ℕ) (taken : List (ℕ × RedoRecord)) where
   -- with more records handed over, a record that was handed over is so still
@@ -29,6 +29,9 @@ module _ (z : Setup) (next : List ℕ) (taken : List (ℕ × RedoRecord)) where
     taken_is = h.taken_is;
     upto = λ i le. let u = h.upto i le in (u.0, u.1, has_behind more rs u.0.number u.2);
   }
+
+  begins_more : (rs more : List RedoRecord) (t : ℕ) (q : RedoBundle) → BeginsHanded z next taken rs t q → BeginsHanded z next taken (more ++ rs) t q
+  begins_more rs more t q h = record { begins = handed_more rs more t (first_of q) h.begins; covered = λ n c. has_behind more rs n (h.covered n c) }
 
   -- lists follow themselves
   pub follows_same : (l : BackLists) → LawfulLists z.first l → Follows z next taken l l
@@ -62,7 +65,7 @@ module _ (z : Setup) (next : List ℕ) (taken : List (ℕ × RedoRecord)) where
 
     -- records that were taken are handed over, or perhaps are
     pub follows_handed : (more : List RedoRecord) → LawfulLists z.first (lists w (more ++ rs)) → AreNew z.first rs more → ((n : ℕ) → HasRecord more n → (k : ℕ) × Contains taken (k, record { number = n; writes = writes_in more n }))
-        → (w.dead ≡ false → (t : ℕ) (q : RedoBundle) → t < z.threads → Contains (waiting_of_ring w t) q → Contains (waiting_of_ring v t) q ⊎ IsHanded z next taken (more ++ rs) t q.last) → Follows z next taken l (lists w (more ++ rs))
+        → (w.dead ≡ false → (t : ℕ) (q : RedoBundle) → t < z.threads → Contains (waiting_of_ring w t) q → Contains (waiting_of_ring v t) q ⊎ BeginsHanded z next taken (more ++ rs) t q) → Follows z next taken l (lists w (more ++ rs))
     follows_handed more lawful new among waits = record {
       lawful = lawful;
       sizes = sizes ∙ f.sizes;
@@ -79,7 +82,7 @@ module _ (z : Setup) (next : List ℕ) (taken : List (ℕ × RedoRecord)) where
           (λ h. let a = f.among n h in (a.0, subst (λ ws. Contains taken (a.0, record { number = n; writes = ws })) (sym (writes_behind more f.more n (not_again n h))) a.1))
           (has_either_list more f.more n has);
       waiting = λ live t q lt in_ring. ⊎_elim
-          (λ old. ⊎_elim inl (λ h. inr (handed_more rs more t q.last h)) (f.waiting (alive live) t q lt old))
+          (λ old. ⊎_elim inl (λ h. inr (begins_more rs more t q h)) (f.waiting (alive live) t q lt old))
           inr
           (waits live t q lt in_ring);
     }

@@ -76,16 +76,16 @@ module _ (z : Setup) (c : State) (k : Kept z c) (l : BackLists) (ls : ListsKept 
   g = k.ghost_is
 
   -- a record that was handed over: its number is in a box or behind all boxes, and it has the writes of the entry
-  record Listed (n : ℕ) : Type 0 where
-    over : z.first < n
-    upto : n ≤ c.clock
-    in_no_view : InView c n → ⊥
-    writes : writes_in l.records n ≡ writes_of (all_entries c.views) n
+  pub record Listed (n : ℕ) : Type 0 where
+    pub over : z.first < n
+    pub upto : n ≤ c.clock
+    pub in_no_view : InView c n → ⊥
+    pub writes : writes_in l.records n ≡ writes_of (all_entries c.views) n
 
   not_viewed : (n : ℕ) (p : Place) → g.place n ≡ p → ((j : ℕ) → p ≡ in_view j → ⊥) → 0 < n → InView c n → ⊥
   not_viewed n p is other pos v = other v.0 (sym is ∙ (k.layers.numbers.placed.of_views n v.0 (at_map number_of c.views v.0 v.1 v.2 ∙ ap some v.3) pos).0)
 
-  listed : (n : ℕ) → HasRecord l.records n → Listed n
+  pub listed : (n : ℕ) → HasRecord l.records n → Listed n
   listed n has =
       let over = all_over z.first l.records n ls.lawful.over has in
       let entry : g.claims.hist n ≡ writes_of (all_entries c.views) n = sym (writes_are z g c k.layers.entries n) in
@@ -168,13 +168,19 @@ module _ (z : Setup) (c : State) (k : Kept z c) (l : BackLists) (ls : ListsKept 
 
 -- the back is at home in its slot
 module _ {M : Type 0} {ghosts : Ghosts M} (sight : M → Sight) (o : Opening M ghosts) (c : State) (k : Kept (setup_of sight o) c) where
+  -- the lists are those of the back
+  pub home_lists : (h : TheHome M ghosts) (hands : Hands) → IsHome sight o h hands → ListsKept (setup_of sight o) (stage_of c) hands.lists hands.boxes → ListsKept (setup_of sight o) (stage_of c) (lists (state_of h.back) hands.lists.records) []
+  home_lists h hands is kept = subst (λ s. ListsKept (setup_of sight o) (stage_of c) (lists s hands.lists.records) []) (sym is.state) (subst (ListsKept (setup_of sight o) (stage_of c) hands.lists) is.boxes kept)
+
+  pub home_known : (h : TheHome M ghosts) (hands : Hands) → IsHome sight o h hands → IsKnown (since_of sight o) (lists (state_of h.back) hands.lists.records) (sight (medium_of h.back))
+  home_known h hands is = subst (λ s. IsKnown (since_of sight o) (lists s hands.lists.records) (sight (medium_of h.back))) (sym is.state) is.known
+
   pub kept_by : (h : TheHome M ghosts) (hands : Hands) → IsHome sight o h hands → ListsKept (setup_of sight o) (stage_of c) hands.lists hands.boxes → KeptBack sight o c h.back
   kept_by h hands is kept =
       let z : Setup = setup_of sight o in
       let l : BackLists = lists (state_of h.back) hands.lists.records in
-      let same : l ≡ hands.lists = ap (λ s. lists s hands.lists.records) is.state in
-      let ls : ListsKept z (stage_of c) l [] = subst (λ m. ListsKept z (stage_of c) m []) (sym same) (subst (ListsKept z (stage_of c) hands.lists) is.boxes kept) in
-      let known : IsKnown (since_of sight o) l (sight (medium_of h.back)) = subst (λ m. IsKnown (since_of sight o) m (sight (medium_of h.back))) (sym same) is.known in
+      let ls : ListsKept z (stage_of c) l [] = home_lists h hands is kept in
+      let known : IsKnown (since_of sight o) l (sight (medium_of h.back)) = home_known h hands is in
       let settled : IsSettled l.state = subst IsSettled (sym is.state) is.settled in record {
         images = every_moment_weaker (λ told image len r. recovers_to z c k l ls (since_of sight o) refl refl told image r) known.moments;
         durable = ls.durable;

@@ -2,7 +2,7 @@
 use Rattle.std.specs.Prelude.{◌≡◌, ◌==◌, ◌⊎◌, ◌*◌, ℕ, ◌<◌, ◌≤◌, Bool, true, false, List, [], ◌∷◌, ◌++◌, Some, None, MatchBool, slice_index, All, length, if◌then◌else◌}
 use Rattle.std.specs.List.{Contains}
 use Rattle.dude_base.specs.declared.limits.TheConstants.{PAGE, MAX_NUMBER}
-use Rattle.dude_base.specs.Records.{RedoBundle, RedoRecord}
+use Rattle.dude_base.specs.Records.{Covers, RedoBundle, RedoRecord, first_of}
 use Rattle.dude_base.specs.Writes.{IsWriteList}
 use Rattle.pmem_trait.specs.Sights.{Sight}
 use Rattle.pmem_trait.specs.declared.medium.Medium.{Ghosts}
@@ -40,6 +40,11 @@ pub record IsHanded (z : Setup) (next : List ℕ) (taken : List (ℕ × RedoReco
   pub taken_is : IsTaken z next taken thread i r
   pub upto : (h : ℕ) → h ≤ i → (p : RedoRecord) × IsTaken z next taken thread h p × HasRecord records p.number
 
+-- The bundle begins with such a record, and all that it covers was handed over
+pub record BeginsHanded (z : Setup) (next : List ℕ) (taken : List (ℕ × RedoRecord)) (records : List RedoRecord) (thread : ℕ) (b : RedoBundle) : Type 0 where
+  pub begins : IsHanded z next taken records thread (first_of b)
+  pub covered : (n : ℕ) → Covers b n → HasRecord records n
+
 -- The second lists are those of a back that made calls since the first: it may have been handed records that were taken
 pub record Follows (z : Setup) (next : List ℕ) (taken : List (ℕ × RedoRecord)) (l m : BackLists) : Type 0 where
   pub lawful : LawfulLists z.first m
@@ -51,9 +56,9 @@ pub record Follows (z : Setup) (next : List ℕ) (taken : List (ℕ × RedoRecor
   pub records : m.records ≡ more ++ l.records
   pub new : AreNew z.first l.records more
   pub among : (n : ℕ) → HasRecord more n → (k : ℕ) × Contains taken (k, record { number = n; writes = writes_in more n })
-  -- what waits in a ring waited before, or ends with a record of the thread that was taken and handed over
+  -- what waits in a ring waited before, or begins with a record of the thread that was taken, and covers what was handed over
   pub waiting : m.state.dead ≡ false → (t : ℕ) (q : RedoBundle) → t < z.threads → Contains (waiting_of_ring m.state t) q
-      → Contains (waiting_of_ring l.state t) q ⊎ IsHanded z next taken m.records t q.last
+      → Contains (waiting_of_ring l.state t) q ⊎ BeginsHanded z next taken m.records t q
 
 -- these are the boxes that were taken, without this one
 pub record Leaves (taken : List (ℕ × RedoRecord)) (k : ℕ) (left : List (ℕ × RedoRecord)) : Type 0 where
@@ -120,6 +125,14 @@ module _ {M : Type 0} {ghosts : Ghosts M} (sight : M → Sight) where
     pub told : IsTold (setup_of sight o) (see_full thread place) m.0.view n
     pub view : w.0.view ≡ view_after (setup_of sight o) (see_full thread place) m.0.view n
     pub what : MatchBool (n == 0) ((w.0.beside ≡ record m.0.beside { turn = Some hands }) × (w.1 ≡ m.1)) (SawRecord o thread place hands m n w)
+
+  -- What a look at a box tells that takes its record only where the box has this number. The box wasn't among those that were taken
+  pub record SawNumber (o : Opening M ghosts) (thread place number : ℕ) (hands : Hands) (m : Seated M ghosts) (n : ℕ) (w : Seated M ghosts) : Type 0 where
+    pub told : IsTold (setup_of sight o) (see_full thread place) m.0.view n
+    pub view : w.0.view ≡ view_after (setup_of sight o) (see_full thread place) m.0.view n
+    pub what : MatchBool (n == number)
+        (SawRecord o thread place hands m n w × ((q : RedoRecord) → Contains hands.boxes (box_of (setup_of sight o) thread place, q) → ⊥))
+        ((w.0.beside ≡ record m.0.beside { turn = Some hands }) × (w.1 ≡ m.1))
 
   -- what a step tells that leaves the holder of the turn with these hands and these slots
   pub record WentOn (o : Opening M ghosts) (e : Event) (hands : Hands) (left : List (ℕ × Slot M ghosts)) (m : Seated M ghosts) (n : ℕ) (w : Seated M ghosts) : Type 0 where

@@ -1,13 +1,13 @@
 -- What the thread with the turn has behind a call of the back.
-use Rattle.std.proofs.Common.{◌≡◌, ◌≢◌, ◌↔◌, ℕ, ◌+◌, ◌*◌, ◌<◌, ◌≤◌, ◌⊎◌, Bool, true, false, List, [], ◌∷◌, All, length, get_or, refl, sym, ap, ◌∙◌, subst, inl, inr, ⊎_elim, eq-eqb, ne_eqb, arith}
-use Rattle.std.specs.Prelude.{Option, Some, None, Result, Ok, Err, IfOk, IsErrOf}
+use Rattle.std.proofs.Common.{◌≡◌, ◌≢◌, ◌↔◌, ℕ, ◌+◌, ◌*◌, ◌<◌, ◌≤◌, ◌⊎◌, Bool, true, false, List, ◌++◌, All, length, get_or, refl, sym, ap, ◌∙◌, subst, inl, inr, ⊎_elim, eq-eqb, ne_eqb, arith}
+use Rattle.std.specs.Prelude.{Result, Ok, Err, IfOk, IsErrOf}
 use Rattle.std.specs.List.{Contains}
 use Rattle.std.proofs.lemmas.Bool.{true≢false}
 use Rattle.std.proofs.lemmas.List.{get_or_default}
 use Rattle.std.proofs.lemmas.List.Elements.{All-contains}
 use mathlib.Core.Logic.{dite}
 use native.Mathlib.Decide.{ℕ_discrete}
-use Rattle.dude_base.specs.Records.{RedoBundle, RedoRecord, bundle_of, first_of}
+use Rattle.dude_base.specs.Records.{RedoBundle, RedoRecord, first_of}
 use Rattle.dude_base.specs.declared.limits.TheConstants.{PAGE}
 use Rattle.pmem_trait.specs.Sights.{Sight}
 use Rattle.pmem_trait.specs.declared.medium.Medium.{Ghosts}
@@ -22,28 +22,34 @@ use Rattle.back_store.specs.BackView.{medium_of, state_of}
 use Rattle.back_store.specs.Answers.{after_announce, after_persist, after_reproduce, announced, reproduced, with_record}
 use Rattle.atomic_table.specs.declared.shared.Seat.{Seat}
 use Rattle.core_events.specs.Setups.{Setup, box_of}
-use Rattle.core_events.specs.Keyed.{has}
 use Rattle.core_table.specs.Known.{Known}
 use Rattle.core_table.specs.Layout.{TableSight}
 use Rattle.known_back.specs.Lists.{LawfulLists, lists}
-use Rattle.known_back.specs.Records.{AreNew, HasRecord, JoinsJust, LacksRecord, IsReached, writes_in}
+use Rattle.known_back.specs.Records.{AreNew, JoinsJust, LacksRecord, IsReached}
 use Rattle.known_back.specs.Known.{Known as KnownBy, Since}
 use Rattle.known_back.specs.Calls.{handed}
-use Rattle.known_back.proofs.JoinedRecords.{has_either, has_here, joined_records_law, writes_here}
+use Rattle.known_back.proofs.JoinedRecords.{has_front, over_reached, writes_front}
 use Rattle.known_back.proofs.Lawful.{end_of, may_persist}
-use Rattle.stm_slots.specs.Beside.{Hands, Beside}
+use Rattle.stm_slots.specs.Beside.{Beside}
 use Rattle.stm_slots.specs.Opening.{setup_of, since_of}
 use Rattle.stm_slots.specs.Lists.{IsSettled}
-use Rattle.stm_slots.specs.Turns.{IsHanded, IsTaken, MayBeHanded}
+use Rattle.stm_slots.specs.Turns.{BeginsHanded, IsTaken}
 use Rattle.stm_slots.specs.declared.home.Home.{Home as TheHome}
 use Rattle.stm_slots.specs.declared.slot.Slot.{Slot}
 use Rattle.stm_slots.specs.declared.opening.Opening.{Opening}
 use Rattle.stm_slots.proofs.Following.{follows_on, follows_handed, waits_reproduced, waits_with_record}
 use Rattle.stm_slots.proofs.Queueing.{place_here}
 use Rattle.stm_slots.proofs.Taken.{contains_here}
-use Rattle.stm_turns.specs.Holding.{IsInHand, Holding, hand_boxes, hands_of}
-use Rattle.stm_turns.specs.Turns.{HandedBelow, IsNoLess, IsAnnounced, InTurn, MayPutBack, MayEmpty}
-use Rattle.stm_turns.proofs.Holdings.{called_holding, grown}
+use Rattle.stm_turns.specs.Holding.{Held, IsHeld, IsInHand, Holding, box_held, boxes_held}
+use Rattle.stm_turns.specs.Turns.{IsAnnounced, InTurn, KeepsPlaces, SteppedOn}
+use Rattle.stm_turns.specs.Bundles.{InTurnWith, MayEmptyAll, MayPutAllBack, SteppedWith}
+use Rattle.stm_turns.specs.Gathered.{AreFronts, IsGathered}
+use Rattle.stm_turns.specs.declared.gathering.Gathering.{Gathering}
+use Rattle.stm_slots.specs.Queues.{place_at}
+use Rattle.stm_turns.proofs.HeldRecords.{box_in}
+use Rattle.stm_turns.proofs.Gatherings.{gathered_new}
+use Rattle.stm_turns.proofs.Seats.{same_turn}
+use Rattle.stm_turns.proofs.Holdings.{called_holding}
 
 -- what a call that hands over nothing leaves of a back
 pub record GoesOn (threads : ℕ) (v w : BackState) : Type 0 where
@@ -138,26 +144,6 @@ module _ (threads first : ℕ) (v : BackState) (rs : List RedoRecord) (lawful : 
 none_newer : (xs : List RedoBundle) (n : ℕ) → ((q : RedoBundle) → Contains xs q → q.last < n) → All (λ q. q.last < n) xs
 none_newer xs n each q d lt = each (get_or xs q d) (q, lt, get_or_default xs q (get_or xs q d) d lt)
 
--- the only record is that of its number
-the_record : (r : RedoRecord) (n : ℕ) → HasRecord (r ∷ []) n → r ≡ record { number = n; writes = writes_in (r ∷ []) n }
-the_record r n has = ⊎_elim
-    (λ e. subst (λ (m : ℕ). r ≡ record { number = m; writes = writes_in (r ∷ []) m }) e (ap (λ ws. record { number = r.number; writes = ws }) (sym (writes_here r []))))
-    (λ none. absurd (true≢false (sym none)))
-    (has_either r [] n has)
-
--- a record that wasn't handed over is new
-pub are_new : (first : ℕ) (r : RedoRecord) (rs : List RedoRecord) → first < r.number → LacksRecord rs r.number → AreNew first rs (r ∷ [])
-are_new first r rs over lacks = record {
-  over = λ n has. ⊎_elim (λ e. let a = over in omega arith) (λ none. absurd (true≢false (sym none))) (has_either r [] n has);
-  lacks = λ n has. ⊎_elim (λ e. subst (LacksRecord rs) e lacks) (λ none. absurd (true≢false (sym none))) (has_either r [] n has);
-}
-
--- its bundle may be persisted in the ring of its thread
-pub may_persist_one : (z : Setup) (v : BackState) (rs : List RedoRecord) → LawfulLists z.first (lists v rs) → v.dead ≡ false → z.threads ≤ v.log.sizes.rings → v.log.sizes.pages ≡ z.pages → (thread : ℕ) (r : RedoRecord) → thread < z.threads → MayBeHanded z (lists v rs) thread r → MayPersist v thread (bundle_of r)
-may_persist_one z v rs lawful alive rings pages thread r inside may =
-    may_persist z.first (lists v rs) lawful alive (bundle_of r) (r ∷ []) (joined_records_law.one r) (are_new z.first r rs may.over (may.lacks alive)) thread (omega arith)
-    (record { low = (let o = may.over in omega arith); high = may.small }) (subst (λ (m : ℕ). All (λ q. q.last < m) (waiting_of_ring v thread)) (let e : r.number ≡ first_of (bundle_of r) = omega arith in e) (may.newest alive)) (subst (λ (p : ℕ). All (λ w. w.at < p * PAGE) r.writes) (sym pages) may.home)
-
 module _ {M : Type 0} {ghosts : Ghosts M} (sight : M → Sight) (t : TableSight (Opening M ghosts)) where
   abbrev z : Setup
   z = setup_of sight t.key
@@ -165,122 +151,188 @@ module _ {M : Type 0} {ghosts : Ghosts M} (sight : M → Sight) (t : TableSight 
   abbrev TurnSeat : Type 0
   TurnSeat = Seat (Slot M ghosts) (Known Beside)
 
-  pub in_hand_on : (v w : BackState) (rs : List RedoRecord) (hand : Option (ℕ × RedoRecord)) → GoesOn z.threads v w → IsInHand z (lists v rs) hand → IsInHand z (lists w rs) hand
-  in_hand_on v w rs None goes h = tt
-  in_hand_on v w rs (Some p) goes h = (
-    h.0,
-    record {
-      list = h.1.list;
-      home = h.1.home;
-      over = h.1.over;
-      small = h.1.small;
-      lacks = λ alive. h.1.lacks (goes.alive alive);
-      newest = λ alive. none_newer (waiting_of_ring w p.0) p.1.number (λ q among. All-contains (λ (b : RedoBundle). b.last < p.1.number) (waiting_of_ring v p.0) q (h.1.newest (goes.alive alive)) (goes.waits alive p.0 q h.0 among));
-    },
-  )
+  pub in_hand_on : (v w : BackState) (rs : List RedoRecord) (hand : List Held) → GoesOn z.threads v w → IsInHand z (lists v rs) hand → IsInHand z (lists w rs) hand
+  in_hand_on v w rs hand goes held p among = let h = held p among in let may = h.may in record {
+    inside = h.inside;
+    near = h.near;
+    may = record {
+      list = may.list;
+      home = may.home;
+      over = may.over;
+      small = may.small;
+      lacks = λ alive. may.lacks (goes.alive alive);
+      newest = λ alive. none_newer (waiting_of_ring w p.thread) p.redo.number (λ q in_ring. All-contains (λ (b : RedoBundle). b.last < p.redo.number) (waiting_of_ring v p.thread) q (may.newest (goes.alive alive)) (goes.waits alive p.thread q h.inside in_ring));
+    };
+  }
 
-  module _ (seat : TurnSeat) (h : TheHome M ghosts) (hand : Option (ℕ × RedoRecord)) (i : InTurn sight t seat h hand) where
+  module _ (seat : TurnSeat) (h : TheHome M ghosts) (hand : List Held) (i : InTurn sight t seat h hand) where
     -- a call that hands over nothing
     abbrev pub called_turn : (b : Back M ghosts) → KnownBy (since_of sight t.key) (lists (state_of b) i.holding.records) (sight (medium_of b)) → GoesOn z.threads (state_of h.back) (state_of b) → InTurn sight t seat (record h { back = b }) hand
     called_turn b known goes = record {
       belongs = i.belongs;
       setup = i.setup;
       holding = called_holding sight t.key seat.me h hand i.holding (record h { back = b }) i.holding.records refl refl
-          (follows_on z h.next (hand_boxes z h.next hand) i.holding.stale (state_of h.back) i.holding.records i.holding.follows (state_of b) goes.sizes goes.durable goes.dead goes.alive known.lawful goes.waits) known;
+          (follows_on z h.next (boxes_held z hand) i.holding.stale (state_of h.back) i.holding.records i.holding.follows (state_of b) goes.sizes goes.durable goes.dead goes.alive known.lawful goes.waits) known;
       slots = i.slots;
       same = i.same;
       in_hand = in_hand_on (state_of h.back) (state_of b) i.holding.records hand goes i.in_hand;
     }
 
-    -- a number that was drawn and wasn't handed over
-    pub drawn_from : (n : ℕ) → LacksRecord i.holding.records n → (b : Option ℕ) → HandedBelow seat.me.0 b → has seat.me.0.view.drawn n ≡ true → IsNoLess b n
-    drawn_from n lacks b handed has_it =
-        let hands : Hands = record (hands_of sight h i.holding.records i.holding.shown (hand_boxes z h.next hand)) { lists = i.holding.stale } in
-        ⊎_elim (λ a. absurd (true≢false (sym (grown sight t.key seat.me h hand i.holding hands i.holding.hands n a) ∙ lacks))) (λ f. f) (handed hands i.holding.hands n has_it)
-
-    -- the box of the record in hand
-    boxed : (thread : ℕ) (r : RedoRecord) → hand ≡ Some (thread, r) → Contains (hand_boxes z h.next hand) (box_of z thread (get_or h.next thread 0), r)
-    boxed thread r hand_is = subst (λ bs. Contains bs (box_of z thread (get_or h.next thread 0), r)) (sym (ap (hand_boxes z h.next) hand_is)) (contains_here (box_of z thread (get_or h.next thread 0), r) [])
-
-    pub among_hand : (thread : ℕ) (r : RedoRecord) → hand ≡ Some (thread, r) → (n : ℕ) → HasRecord (r ∷ []) n → (k : ℕ) × Contains (hand_boxes z h.next hand) (k, record { number = n; writes = writes_in (r ∷ []) n })
-    among_hand thread r hand_is n has = (box_of z thread (get_or h.next thread 0), subst (λ (q : RedoRecord). Contains (hand_boxes z h.next hand) (box_of z thread (get_or h.next thread 0), q)) (the_record r n has) (boxed thread r hand_is))
-
-    pub handed_in_turn : (thread : ℕ) (r : RedoRecord) → hand ≡ Some (thread, r) → thread < z.threads → IsHanded z h.next (hand_boxes z h.next hand) (r ∷ i.holding.records) thread r.number
-    handed_in_turn thread r hand_is inside =
-        let some_box : 0 < z.boxes = let p = i.holding.places thread inside in omega arith in
-        let taken : IsTaken z h.next (hand_boxes z h.next hand) thread 0 r = record {
-          inside = inside;
-          near = some_box;
-          among = subst (λ (p : ℕ). Contains (hand_boxes z h.next hand) (box_of z thread p, r)) (sym (place_here z (get_or h.next thread 0) (i.holding.places thread inside))) (boxed thread r hand_is);
-        } in record {
-          i = 0;
-          r = r;
-          number = refl;
-          taken_is = taken;
-          upto = λ j le. (r, subst (λ (d : ℕ). IsTaken z h.next (hand_boxes z h.next hand) thread d r) (let e : 0 ≡ j = omega arith in e) taken, has_here r i.holding.records);
-        }
-
-    pub first_over : (thread : ℕ) (r : RedoRecord) → hand ≡ Some (thread, r) → z.first < r.number
-    first_over thread r hand_is = (subst (IsInHand z (lists (state_of h.back) i.holding.records)) hand_is i.in_hand).1.over
-
-    -- the record in hand was handed over, or perhaps was
-    abbrev pub handed_holding : (b : Back M ghosts) (thread : ℕ) (r : RedoRecord) → hand ≡ Some (thread, r) → LacksRecord i.holding.records r.number → KnownBy (since_of sight t.key) (lists (state_of b) (r ∷ i.holding.records)) (sight (medium_of b))
-        → (state_of b).log.sizes ≡ (state_of h.back).log.sizes → (state_of h.back).log.durable ≤ (state_of b).log.durable → ((state_of h.back).dead ≡ true → (state_of b).dead ≡ true) → ((state_of b).dead ≡ false → (state_of h.back).dead ≡ false)
-        → ((state_of b).dead ≡ false → (u : ℕ) (q : RedoBundle) → u < z.threads → Contains (waiting_of_ring (state_of b) u) q → Contains (waiting_of_ring (state_of h.back) u) q ⊎ ((u ≡ thread) × (q ≡ bundle_of r)))
-        → thread < z.threads → Holding sight t.key seat.me.0 (record h { back = b }) hand
-    handed_holding b thread r hand_is lacks known sizes durable dead alive waits inside = called_holding sight t.key seat.me h hand i.holding (record h { back = b }) (r ∷ i.holding.records) refl refl
-        (follows_handed z h.next (hand_boxes z h.next hand) i.holding.stale (state_of h.back) i.holding.records i.holding.follows (state_of b) sizes durable dead alive (r ∷ []) known.lawful
-        (are_new z.first r i.holding.records (first_over thread r hand_is) lacks) (among_hand thread r hand_is)
-        (λ e u q lt in_ring. ⊎_elim inl (λ new. inr (rw (new.0, new.1) (handed_in_turn thread r hand_is inside))) (waits e u q lt in_ring))) known
-
-  module _ (seat : TurnSeat) (h : TheHome M ghosts) (thread : ℕ) (r : RedoRecord) (i : InTurn sight t seat h (Some (thread, r))) (alive : (state_of h.back).dead ≡ false) (b : Back M ghosts)
-      (known : KnownBy (since_of sight t.key) (lists (state_of b) (r ∷ i.holding.records)) (sight (medium_of b))) where
-    -- the record is on the medium
-    pub persisted_turn : state_of b ≡ with_record thread (bundle_of r) (state_of h.back) → MayEmpty sight t seat (record h { back = b }) thread r
-    persisted_turn is = record {
-      belongs = i.belongs;
-      setup = i.setup;
-      holding = handed_holding seat h (Some (thread, r)) i b thread r refl (i.in_hand.1.lacks alive) known (ap (λ (s : BackState). s.log.sizes) is) (let e = ap (λ (s : BackState). s.log.durable) is in omega arith)
-          (λ e. ap (λ (s : BackState). s.dead) is ∙ e) (λ e. alive)
-          (λ e u q lt among. waits_with_record (state_of h.back) thread (bundle_of r) (let w = i.in_hand.0 in let rings = i.holding.rings in let count = i.holding.known.lawful.log.lanes.count in omega arith) u q (subst (λ (s : BackState). Contains (waiting_of_ring s u) q) is among)) i.in_hand.0;
-      slots = i.slots;
-      inside = i.in_hand.0;
-      handed = has_here r i.holding.records;
-      writes = writes_here r i.holding.records;
-    }
-
-    -- the device failed: the record may be there or not
-    pub died_turn : state_of b ≡ record (state_of h.back) { dead = true } → MayPutBack sight t seat (record h { back = b }) thread r
-    died_turn is = let dead : (state_of b).dead ≡ true = ap (λ (s : BackState). s.dead) is in record {
-      belongs = i.belongs;
-      setup = i.setup;
-      holding = handed_holding seat h (Some (thread, r)) i b thread r refl (i.in_hand.1.lacks alive) known (ap (λ (s : BackState). s.log.sizes) is) (let e = ap (λ (s : BackState). s.log.durable) is in omega arith)
-          (λ e. dead) (λ e. absurd (true≢false (sym dead ∙ e))) (λ e u q lt among. absurd (true≢false (sym dead ∙ e))) i.in_hand.0;
-      slots = i.slots;
-      inside = i.in_hand.0;
-      lacks = λ e. absurd (true≢false (sym dead ∙ e));
-    }
-
-  -- what is known behind a persist of the bundle of the record in hand
-  pub taken_one : (seat : TurnSeat) (h : TheHome M ghosts) (thread : ℕ) (r : RedoRecord) (i : InTurn sight t seat h (Some (thread, r))) → (state_of h.back).dead ≡ false → (b : Back M ghosts) (result : Result (Unit {0}) BackFault) (bundle : RedoBundle) → bundle ≡ bundle_of r
-      → ((since : Since) (rs more : List RedoRecord) → JoinsJust more bundle → AreNew since.first rs more → KnownBy since (lists (state_of h.back) rs) (sight (medium_of h.back)) → KnownBy since (lists (state_of b) (handed result more rs)) (sight (medium_of b)))
-      → KnownBy (since_of sight t.key) (lists (state_of b) (handed result (r ∷ []) i.holding.records)) (sight (medium_of b))
-  taken_one seat h thread r i alive b result bundle is takes = takes (since_of sight t.key) i.holding.records (r ∷ []) (subst (JoinsJust (r ∷ [])) (sym is) (joined_records_law.one r)) (are_new z.first r i.holding.records i.in_hand.1.over (i.in_hand.1.lacks alive)) i.holding.known
-
   -- each thread has a lane
-  pub lanes_of_threads : (seat : TurnSeat) (h : TheHome M ghosts) (hand : Option (ℕ × RedoRecord)) → InTurn sight t seat h hand → z.threads ≤ length (state_of h.back).log.lanes
+  pub lanes_of_threads : (seat : TurnSeat) (h : TheHome M ghosts) (hand : List Held) → InTurn sight t seat h hand → z.threads ≤ length (state_of h.back).log.lanes
   lanes_of_threads seat h hand i = let rings = i.holding.rings in let count = i.holding.known.lawful.log.lanes.count in omega arith
 
-  -- ---- a record was persisted, or wasn't
-  module _ (seat : TurnSeat) (h : TheHome M ghosts) (thread : ℕ) (r : RedoRecord) (i : InTurn sight t seat h (Some (thread, r))) (alive : (state_of h.back).dead ≡ false) (b : Back M ghosts) (result : Result (Unit {0}) BackFault)
-      (known : KnownBy (since_of sight t.key) (lists (state_of b) (handed result (r ∷ []) i.holding.records)) (sight (medium_of b))) (state : state_of b ≡ after_persist result thread (bundle_of r) (state_of h.back)) where
-    pub persisted_failed : result ≡ Err Device → MayPutBack sight t seat (record h { back = b }) thread r
-    persisted_failed e = died_turn seat h thread r i alive b (subst (λ (q : Result (Unit {0}) BackFault). KnownBy (since_of sight t.key) (lists (state_of b) (handed q (r ∷ []) i.holding.records)) (sight (medium_of b))) e known)
-        (subst (λ (q : Result (Unit {0}) BackFault). state_of b ≡ after_persist q thread (bundle_of r) (state_of h.back)) e state)
+  -- ---- a bundle is persisted
+  module _ (seat : TurnSeat) (h : TheHome M ghosts) (g : Gathering) (w : InTurnWith sight t seat h g) where
+    abbrev v : BackState
+    v = state_of h.back
 
-    pub persisted_full : (used need : ℕ) → result ≡ Err (RingFull used need) → InTurn sight t seat (record h { back = b }) (Some (thread, r))
-    persisted_full used need e = called_turn seat h (Some (thread, r)) i b (subst (λ (q : Result (Unit {0}) BackFault). KnownBy (since_of sight t.key) (lists (state_of b) (handed q (r ∷ []) i.holding.records)) (sight (medium_of b))) e known)
-        (persist_goes z.threads z.first (state_of h.back) i.holding.records i.holding.known.lawful (state_of b) result thread (bundle_of r) (λ d ok. ok_or_err result d (RingFull used need) ok e) state)
+    abbrev rs : List RedoRecord
+    rs = w.turn.holding.records
+
+    abbrev bundle : RedoBundle
+    bundle = g.bundle
+
+    abbrev boxes : List (ℕ × RedoRecord)
+    boxes = boxes_held z w.hand
+
+    abbrev first : Held
+    first = w.gathered.joined.first
+
+    abbrev more : List RedoRecord
+    more = w.gathered.joined.records
+
+    first_in : Contains w.hand first
+    first_in = subst (λ (l : List Held). Contains l first) (sym w.gathered.joined.hand_is) (contains_here first w.gathered.joined.others)
+
+    first_held : IsHeld z (lists v rs) first
+    first_held = w.turn.in_hand first first_in
+
+    pub ring_inside : g.ring < z.threads
+    ring_inside = subst (λ (u : ℕ). u < z.threads) w.gathered.joined.ring_is first_held.inside
+
+    pub ring_lane : g.ring < length v.log.lanes
+    ring_lane = let a = ring_inside in let b = lanes_of_threads seat h w.hand w.turn in omega arith
+
+    pub newest_with : v.dead ≡ false → All (λ q. q.last < first_of bundle) (waiting_of_ring v g.ring)
+    newest_with alive = subst (λ (u : ℕ). All (λ q. q.last < first_of bundle) (waiting_of_ring v u)) w.gathered.joined.ring_is
+        (subst (λ (m : ℕ). All (λ q. q.last < m) (waiting_of_ring v first.thread)) w.gathered.joined.first_is (first_held.may.newest alive))
+
+    pub new_with : v.dead ≡ false → AreNew z.first rs more
+    new_with alive = gathered_new z (lists v rs) w.hand g.ring bundle w.gathered.joined w.turn.in_hand alive
+
+    pub first_over : v.dead ≡ false → v.log.durable < first_of bundle
+    first_over alive = let j = w.gathered.joined in let f = j.first_is in
+        let over = over_reached z.first v.log.durable first.redo.number rs first_held.may.over (first_held.may.lacks alive) (w.turn.holding.known.lawful.live alive).reached in omega arith
+
+    pub may_persist_with : v.dead ≡ false → MayPersist v g.ring bundle
+    may_persist_with alive = let j = w.gathered.joined in
+        may_persist z.first (lists v rs) w.turn.holding.known.lawful alive bundle more j.joins (new_with alive) g.ring (let a = ring_inside in let b = w.turn.holding.rings in omega arith)
+        (record { low = (let o = first_held.may.over in let f = j.first_is in omega arith); high = j.small }) (newest_with alive) (subst (λ (p : ℕ). All (λ w. w.at < p * PAGE) bundle.writes) (sym w.turn.holding.pages) j.home)
+
+    -- its first record was taken from the front of its thread's boxes
+    pub begins_with : BeginsHanded z h.next boxes (more ++ rs) g.ring bundle
+    begins_with = let j = w.gathered.joined in
+        let front = subst (λ (l : List Held). AreFronts z h.next l g.ahead) j.hand_is w.gathered.fronts in
+        let start : get_or h.next g.ring 0 < z.boxes = w.turn.holding.places g.ring ring_inside in
+        let there : place_at z (get_or h.next g.ring 0) 0 ≡ first.place = place_here z (get_or h.next g.ring 0) start ∙ (ap (λ (u : ℕ). get_or h.next u 0) (sym j.ring_is) ∙ sym front.1) in
+        let box_is : box_held z first ≡ box_of z g.ring (place_at z (get_or h.next g.ring 0) 0) = ap (λ (u : ℕ). box_of z u first.place) j.ring_is ∙ ap (box_of z g.ring) (sym there) in
+        let taken : IsTaken z h.next boxes g.ring 0 first.redo = record { inside = ring_inside; near = (omega arith); among = subst (λ (k : ℕ). Contains boxes (k, first.redo)) box_is (box_in z w.hand first first_in) } in
+        record {
+          begins = record {
+            i = 0;
+            r = first.redo;
+            number = j.first_is;
+            taken_is = taken;
+            upto = λ i le. (first.redo, subst (λ (d : ℕ). IsTaken z h.next boxes g.ring d first.redo) (let e : 0 ≡ i = omega arith in e) taken, has_front more rs first.redo.number (j.has first first_in).0);
+          };
+          covered = λ n c. has_front more rs n (j.joins.joins.has n c);
+        }
+
+    -- what the seat knows where the records were handed over, or perhaps were
+    abbrev pub handed_holding : v.dead ≡ false → (b : Back M ghosts) → KnownBy (since_of sight t.key) (lists (state_of b) (more ++ rs)) (sight (medium_of b)) → (state_of b).log.sizes ≡ v.log.sizes → v.log.durable ≤ (state_of b).log.durable
+        → ((state_of b).dead ≡ false → (u : ℕ) (q : RedoBundle) → u < z.threads → Contains (waiting_of_ring (state_of b) u) q → Contains (waiting_of_ring v u) q ⊎ ((u ≡ g.ring) × (q ≡ bundle))) → Holding sight t.key seat.me.0 (record h { back = b }) w.hand
+    handed_holding alive b known sizes durable waits = called_holding sight t.key seat.me h w.hand w.turn.holding (record h { back = b }) (more ++ rs) refl refl
+        (follows_handed z h.next boxes w.turn.holding.stale v rs w.turn.holding.follows (state_of b) sizes durable (λ e. absurd (true≢false (sym e ∙ alive))) (λ e. alive) more known.lawful (new_with alive)
+        (λ n has. let o = w.gathered.joined.only n has in (box_held z o.0, subst (λ (r : RedoRecord). Contains boxes (box_held z o.0, r)) o.2 (box_in z w.hand o.0 o.1)))
+        (λ e u q lt in_ring. ⊎_elim inl (λ new. inr (rw (new.0, new.1) begins_with)) (waits e u q lt in_ring))) known
+
+    pub persisted_with : v.dead ≡ false → (b : Back M ghosts) → KnownBy (since_of sight t.key) (lists (state_of b) (more ++ rs)) (sight (medium_of b)) → state_of b ≡ with_record g.ring bundle v → MayEmptyAll sight t seat (record h { back = b }) g
+    persisted_with alive b known is = record {
+      hand = w.hand;
+      may = record {
+        letting = record {
+          belongs = w.turn.belongs;
+          setup = w.turn.setup;
+          holding = handed_holding alive b known (ap (λ (s : BackState). s.log.sizes) is) (let e = ap (λ (s : BackState). s.log.durable) is in omega arith)
+              (λ e u q lt among. waits_with_record v g.ring bundle ring_lane u q (subst (λ (s : BackState). Contains (waiting_of_ring s u) q) is among));
+          slots_are = w.turn.slots;
+          near = λ p among. (w.turn.in_hand p among).near;
+          apart = w.gathered.apart;
+        };
+        ahead = g.ahead;
+        fronts = w.gathered.fronts;
+        handed = λ p among. let q = w.gathered.joined.has p among in (has_front more rs p.redo.number q.0, writes_front more rs p.redo.number q.0 ∙ q.1);
+      };
+      threads = w.gathered.threads;
+      some = w.gathered.some;
+    }
+
+    pub died_with : v.dead ≡ false → (b : Back M ghosts) → KnownBy (since_of sight t.key) (lists (state_of b) (more ++ rs)) (sight (medium_of b)) → state_of b ≡ record v { dead = true } → MayPutAllBack sight t seat (record h { back = b }) g
+    died_with alive b known is = let dead : (state_of b).dead ≡ true = ap (λ (s : BackState). s.dead) is in record {
+      hand = w.hand;
+      may = record {
+        letting = record {
+          belongs = w.turn.belongs;
+          setup = w.turn.setup;
+          holding = handed_holding alive b known (ap (λ (s : BackState). s.log.sizes) is) (let e = ap (λ (s : BackState). s.log.durable) is in omega arith) (λ e u q lt among. absurd (true≢false (sym dead ∙ e)));
+          slots_are = w.turn.slots;
+          near = λ p among. (w.turn.in_hand p among).near;
+          apart = w.gathered.apart;
+        };
+        ahead = g.ahead;
+        fronts = w.gathered.fronts;
+        lacks = λ e. absurd (true≢false (sym dead ∙ e));
+      };
+      threads = w.gathered.threads;
+      some = w.gathered.some;
+    }
+
+    -- what is known behind a persist of the bundle
+    pub known_with : v.dead ≡ false → (b : Back M ghosts) (result : Result (Unit {0}) BackFault)
+        → ((since : Since) (before others : List RedoRecord) → JoinsJust others bundle → AreNew since.first before others → KnownBy since (lists v before) (sight (medium_of h.back)) → KnownBy since (lists (state_of b) (handed result others before)) (sight (medium_of b)))
+        → KnownBy (since_of sight t.key) (lists (state_of b) (handed result more rs)) (sight (medium_of b))
+    known_with alive b result takes = takes (since_of sight t.key) rs more w.gathered.joined.joins (new_with alive) w.turn.holding.known
+
+    -- where its ring was full
+    pub full_with : (b : Back M ghosts) → KnownBy (since_of sight t.key) (lists (state_of b) rs) (sight (medium_of b)) → state_of b ≡ v → SteppedWith sight t seat seat (record h { back = b }) g
+    full_with b known is = record {
+      hand = w.hand;
+      step = same_turn sight t seat (record h { back = b }) w.hand (called_turn seat h w.hand w.turn b known (subst (GoesOn z.threads v) (sym is) (goes_same z.threads z.first v rs w.turn.holding.known.lawful)));
+      gathered = subst (λ (s : BackState). IsGathered z h.next s.log.sizes.cells w.hand g) (sym is) w.gathered;
+    }
+
+    -- they may be put back, as they weren't handed over
+    pub may_put_all : MayPutAllBack sight t seat h g
+    may_put_all = record {
+      hand = w.hand;
+      may = record {
+        letting = record { belongs = w.turn.belongs; setup = w.turn.setup; holding = w.turn.holding; slots_are = w.turn.slots; near = λ p among. (w.turn.in_hand p among).near; apart = w.gathered.apart };
+        ahead = g.ahead;
+        fronts = w.gathered.fronts;
+        lacks = λ alive p among. (w.turn.in_hand p among).may.lacks alive;
+      };
+      threads = w.gathered.threads;
+      some = w.gathered.some;
+    }
+
+    -- steps that leave the records in hand
+    pub with_on : (new : TurnSeat) (h2 : TheHome M ghosts) → SteppedOn sight t seat new h h2 → KeepsPlaces h h2 → SteppedWith sight t seat new h2 g
+    with_on new h2 step keeps = record {
+      hand = w.hand;
+      step = step w.hand w.turn;
+      gathered = rw (keeps.next, keeps.sizes) w.gathered;
+    }
 
 -- ---- at the end of a turn
 pub settled_at : (v : BackState) (n : ℕ) → IsAnnounced v n → v.log.reproduced ≡ n → IsSettled v

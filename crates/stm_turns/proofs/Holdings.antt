@@ -1,5 +1,5 @@
 -- What the holder of the turn has from one of its steps to the next.
-use Rattle.std.proofs.Common.{◌≡◌, ℕ, ◌<◌, ◌≤◌, ◌⊎◌, Bool, true, false, List, [], ◌∷◌, All, map, length, get_or, set, refl, sym, ap, ◌∙◌, subst, inl, inr, ⊎_elim, arith}
+use Rattle.std.proofs.Common.{◌≡◌, ◌≢◌, ℕ, ◌<◌, ◌≤◌, ◌⊎◌, Bool, true, false, List, [], ◌∷◌, All, map, length, get_or, set, refl, sym, ap, ◌∙◌, subst, inl, inr, ⊎_elim, arith}
 use Rattle.std.specs.Prelude.{Option, Some, None}
 use mathlib.Core.Option.{Option as Maybe, some}
 use lib.ListN.{get_elem?}
@@ -36,17 +36,18 @@ use Rattle.core_events.proofs.Boxes.{read_there}
 use Rattle.stm_slots.specs.Opening.{setup_of, since_of}
 use Rattle.stm_slots.specs.Rule.{IsHome, BoxSlots, SlotsKept}
 use Rattle.stm_slots.specs.Lists.{ListsKept, IsSettled}
-use Rattle.stm_slots.specs.Turns.{Follows, Leaves, Took, GaveTurn, SawFull, WentOn}
-use Rattle.stm_slots.proofs.Taken.{contains_here, contains_either, contains_none, leaves_none}
+use Rattle.stm_slots.specs.Turns.{Follows, Leaves, Took, GaveTurn, SawFull, SawNumber, WentOn}
+use Rattle.stm_slots.proofs.Taken.{contains_none}
 use Rattle.std.specs.List.{Contains}
-use Rattle.stm_turns.specs.Holding.{IsInHand, hand_boxes, hands_of, Holding}
-use Rattle.stm_turns.specs.Told.{HasGrown, IsRaisedTo, Went, Raised, SawFront, boxes_in}
+use Rattle.stm_turns.specs.Holding.{Held, box_held, boxes_held, hands_of, Holding}
+use Rattle.stm_turns.proofs.HeldRecords.{box_in}
+use Rattle.stm_turns.specs.Told.{HasGrown, IsRaisedTo, Went, WentHanded, WentLacking, Raised, SawFront, SawNext, boxes_in}
 use Rattle.stm_slots.specs.declared.home.Home.{Home as TheHome}
 use Rattle.stm_slots.specs.declared.slot.Slot.{Slot}
 use Rattle.stm_slots.specs.declared.slot.Slot.TheVariants.{Empty, Record, Home}
 use Rattle.stm_slots.specs.declared.opening.Opening.{Opening}
 use Rattle.stm_slots.proofs.Following.{follows_same}
-use Rattle.stm_slots.proofs.Acting.{give_acts, see_acts, put_back_acts, empty_acts, durable_acts, reproduced_acts, kept_by, now_lists}
+use Rattle.stm_slots.proofs.Acting.{give_acts, look_acts, peek_acts, see_acts, put_back_acts, empty_acts, durable_acts, reproduced_acts, kept_by, now_lists}
 
 pub front_of : {S : Type 0} (c l : List (ℕ × S)) (k : ℕ) (x : S) → c ≡ (k, x) ∷ l → c ≡ (k, x) ∷ rest c
 front_of c l k x e = e ∙ ap (λ ys. (k, x) ∷ ys) (sym (ap rest e))
@@ -105,14 +106,6 @@ module _ {M : Type 0} {ghosts : Ghosts M} (sight : M → Sight) (o : Opening M g
       (λ p. inl (all_have l.records s.persisted n ls.persisted p)))
       d.1
 
-  -- the record in hand wasn't handed over
-  pub in_hand_lacks : (l : BackLists) (next : List ℕ) (hand : Option (ℕ × RedoRecord)) → IsInHand z l hand → l.state.dead ≡ false → (k : ℕ) (r : RedoRecord) → Contains (hand_boxes z next hand) (k, r) → LacksRecord l.records r.number
-  in_hand_lacks l next None h alive k r e = absurd (contains_none (k, r) e)
-  in_hand_lacks l next (Some p) h alive k r e = ⊎_elim
-      (λ same. subst (λ (q : RedoRecord). LacksRecord l.records q.number) (ap (λ (x : ℕ × RedoRecord). x.1) same) (h.1.lacks alive))
-      (λ more. absurd (contains_none (k, r) more))
-      (contains_either (box_of z p.0 (get_or next p.0 0), p.1) [] (k, r) e)
-
   same_hands : (a b : Hands) → Some a ≡ Some b → a ≡ b
   same_hands a b e = ap get e
     where
@@ -121,7 +114,7 @@ module _ {M : Type 0} {ghosts : Ghosts M} (sight : M → Sight) (o : Opening M g
       get (Some h) = h
 
   -- the same is known of an equal seat
-  abbrev pub holding_on : (k k2 : Known Beside) (h : TheHome M ghosts) (hand : Option (ℕ × RedoRecord)) → k2 ≡ k → Holding sight o k h hand → Holding sight o k2 h hand
+  abbrev pub holding_on : (k k2 : Known Beside) (h : TheHome M ghosts) (hand : List Held) → k2 ≡ k → Holding sight o k h hand → Holding sight o k2 h hand
   holding_on k k2 h hand e i = record {
     live = ap (λ (a : Known Beside). a.view.part.is_spent) e ∙ i.live;
     thread = (i.thread.0, ap (λ (a : Known Beside). a.view.part.thread) e ∙ i.thread.1);
@@ -138,9 +131,9 @@ module _ {M : Type 0} {ghosts : Ghosts M} (sight : M → Sight) (o : Opening M g
     pages = i.pages;
   }
 
-  module _ (me : Seated) (h : TheHome M ghosts) (hand : Option (ℕ × RedoRecord)) (i : Holding sight o me.0 h hand) where
+  module _ (me : Seated) (h : TheHome M ghosts) (hand : List Held) (i : Holding sight o me.0 h hand) where
     abbrev box : List (ℕ × RedoRecord)
-    box = hand_boxes z h.next hand
+    box = boxes_held z hand
 
     abbrev old : Hands
     old = record (hands_of sight h i.records i.shown box) { lists = i.stale }
@@ -173,77 +166,90 @@ module _ {M : Type 0} {ghosts : Ghosts M} (sight : M → Sight) (o : Opening M g
         same = rw (back, pager, nexts) refl
 
     -- ---- the steps
-    pub saw_acts : (id t : ℕ) → hand ≡ None → t < z.threads → Acts fact z (see_full t (get_or h.next t 0)) id me (SawFront sight o t h me)
+    pub saw_acts : (id t : ℕ) → hand ≡ [] → t < z.threads → Acts fact z (see_full t (get_or h.next t 0)) id me (SawFront sight o t h me)
     saw_acts id t none lt =
         let j : ℕ = get_or h.next t 0 in
         told_with (see_full t j) id me (SawFull sight o t j now me) (SawFront sight o t h me)
-        (see_acts sight o id me i.turn old i.hands (lists (state_of h.back) i.records) i.follows t j lt (i.places t lt) (λ q among. contains_none (box_of z t j, q) (subst (λ bs. Contains bs (box_of z t j, q)) (ap (hand_boxes z h.next) none) among)))
+        (see_acts sight o id me i.turn old i.hands (lists (state_of h.back) i.records) i.follows t j lt (i.places t lt) (λ q among. contains_none (box_of z t j, q) (subst (λ bs. Contains bs (box_of z t j, q)) (ap (boxes_held z) none) among)))
         (λ c xs homes k allowed at f w s. record {
           records = i.records;
           shown = i.shown;
           known = i.known;
           grown = grown;
-          saw = subst (λ b. SawFull sight o t j (hands_of sight h i.records i.shown b) me (get_or c.boxes (box_of z t j) 0) w) (ap (hand_boxes z h.next) none) s;
+          saw = subst (λ b. SawFull sight o t j (hands_of sight h i.records i.shown b) me (get_or c.boxes (box_of z t j) 0) w) (ap (boxes_held z) none) s;
           drawn = λ mine idle n has. drawn_or_found (stage_of c) (lists (state_of h.back) i.records) box (now_lists sight o c xs homes k f id me.0.view me.0.beside allowed.is_there at i.turn old i.hands (lists (state_of h.back) i.records) i.follows)
               t j ((kept_by sight o c xs homes k f id me.0.view me.0.beside allowed.is_there at i.turn old i.hands (lists (state_of h.back) i.records) i.follows).count t)
               ((kept_by sight o c xs homes k f id me.0.view me.0.beside allowed.is_there at i.turn old i.hands (lists (state_of h.back) i.records) i.follows).queues.each t lt) me.0.view mine idle n ((k.layers.numbers.drawn id me.0.view allowed.is_there).each n has);
         })
 
-    module _ (t : ℕ) (r : RedoRecord) (hand_is : hand ≡ Some (t, r)) (lt : t < z.threads) where
-      abbrev place : ℕ
-      place = get_or h.next t 0
-
-      box_is : box ≡ (box_of z t place, r) ∷ []
-      box_is = ap (hand_boxes z h.next) hand_is
-
-      among : Contains box (box_of z t place, r)
-      among = subst (λ bs. Contains bs (box_of z t place, r)) (sym box_is) (contains_here (box_of z t place, r) [])
-
-      leaves : Leaves box (box_of z t place) []
-      leaves = subst (λ bs. Leaves bs (box_of z t place) []) (sym box_is) (leaves_none (box_of z t place) r)
-
-      pub put_acts : (id : ℕ) (left : List (ℕ × Slot M ghosts)) → me.1 ≡ (box_of z t place, Record r) ∷ left → ((state_of h.back).dead ≡ false → LacksRecord i.records r.number)
-          → Acts fact z (see_full t place) id me (Went sight o (see_full t place) h [] left me)
-      put_acts id left slots lacks =
-          told_less (see_full t place) id me (WentOn sight o (see_full t place) (record now { boxes = [] }) left me) (Went sight o (see_full t place) h [] left me)
-          (put_back_acts sight o id me i.turn old i.hands (lists (state_of h.back) i.records) i.follows t place r [] left among leaves slots lacks)
-          (λ n w s. went_on (see_full t place) left h h.next [] i.shown refl refl refl n n w refl s)
-
-      pub empty_acts_on : (id : ℕ) (left : List (ℕ × Slot M ghosts)) (h2 : TheHome M ghosts) → h.back ≡ h2.back → h.pager ≡ h2.pager → set h.next t (place_at z place 1) ≡ h2.next → me.1 ≡ (box_of z t place, Empty) ∷ left
-          → HasRecord i.records r.number → writes_in i.records r.number ≡ r.writes → Acts fact z (empty_box t place) id me (λ n. Went sight o (empty_box t place) h2 [] left me 0)
-      empty_acts_on id left h2 back pager nexts slots has writes =
-          told_less (empty_box t place) id me (WentOn sight o (empty_box t place) (record now { next = set h.next t (place_at z place 1); boxes = [] }) left me) (λ n. Went sight o (empty_box t place) h2 [] left me 0)
-          (empty_acts sight o id me i.turn old i.hands (lists (state_of h.back) i.records) i.follows t r [] left lt among leaves slots has writes)
-          (λ n w s. went_on (empty_box t place) left h2 (set h.next t (place_at z place 1)) [] i.shown back pager nexts n 0 w refl s)
-
-    -- the box in hand is that of the hands that are kept
-    box_kept : boxes_in me.0.beside.turn ≡ box
+    -- the boxes in hand are those of the hands that are kept
+    pub box_kept : boxes_in me.0.beside.turn ≡ box
     box_kept = ap boxes_in i.hands
 
-    raised : (e : Event) (shown n : ℕ) (w : Seated) → view_after z e me.0.view n ≡ view_after z e me.0.view 0 → i.stale.records ≡ i.records → IsRaisedTo e shown → WentOn sight o e (record now { shown = shown }) me.1 me n w → Raised sight o e h me 0 w
-    raised e shown n w blind same is s = record {
-      went = went_on e me.1 h h.next (boxes_in me.0.beside.turn) shown refl refl refl n 0 w blind (subst (λ b. WentOn sight o e (record now { shown = shown; boxes = b }) me.1 me n w) (sym box_kept) s);
+    -- a look that takes nothing
+    raised : (e : Event) (shown n n2 : ℕ) (w : Seated) → view_after z e me.0.view n ≡ view_after z e me.0.view n2 → i.stale.records ≡ i.records → IsRaisedTo e shown → WentOn sight o e (record now { shown = shown }) me.1 me n w → Raised sight o e h me n2 w
+    raised e shown n n2 w blind same is s = record {
+      went = went_on e me.1 h h.next (boxes_in me.0.beside.turn) shown refl refl refl n n2 w blind (subst (λ b. WentOn sight o e (record now { shown = shown; boxes = b }) me.1 me n w) (sym box_kept) s);
       same = λ hs is. let hands_is : hs ≡ old = same_hands hs old (sym is ∙ i.hands) in ap (λ (a : Hands). a.lists.records) hands_is ∙ same;
       raised = is;
     }
+
+    pub peek_acts_on : (id t j : ℕ) → i.stale.records ≡ i.records → Acts fact z (see_full t j) id me (Raised sight o (see_full t j) h me)
+    peek_acts_on id t j same =
+        told_less (see_full t j) id me (WentOn sight o (see_full t j) now me.1 me) (Raised sight o (see_full t j) h me)
+        (peek_acts sight o id me i.turn old i.hands (lists (state_of h.back) i.records) i.follows t j)
+        (λ n w s. raised (see_full t j) i.shown n n w refl same tt s)
+
+    -- a look that takes the record of one number alone
+    pub look_acts_on : (id t j number : ℕ) → i.stale.records ≡ i.records → t < z.threads → j < z.boxes → 0 < number → ((b : ℕ) (q : RedoRecord) → Contains box (b, q) → q.number ≢ number)
+        → Acts fact z (see_full t j) id me (SawNext sight o t j number h me)
+    look_acts_on id t j number same lt lj some_number others =
+        told_less (see_full t j) id me (SawNumber sight o t j number now me) (SawNext sight o t j number h me)
+        (look_acts sight o id me i.turn old i.hands (lists (state_of h.back) i.records) i.follows t j number lt lj some_number others)
+        (λ n w s. record {
+          records = i.records;
+          shown = i.shown;
+          known = i.known;
+          grown = grown;
+          same = λ hs is. let hands_is : hs ≡ old = same_hands hs old (sym is ∙ i.hands) in ap (λ (a : Hands). a.lists.records) hands_is ∙ same;
+          saw = subst (λ b. SawNumber sight o t j number (hands_of sight h i.records i.shown b) me n w) (sym box_kept) s;
+        })
+
+    -- ---- the record of a box goes back into it, or the box is emptied
+    module _ (p : Held) (left : List (ℕ × RedoRecord)) (among : Contains box (box_held z p, p.redo)) (leaves : Leaves box (box_held z p) left) where
+      pub put_acts : (id : ℕ) (rest_slots : List (ℕ × Slot M ghosts)) → me.1 ≡ (box_held z p, Record p.redo) ∷ rest_slots → ((state_of h.back).dead ≡ false → (k : ℕ) (r : RedoRecord) → Contains box (k, r) → LacksRecord i.records r.number)
+          → Acts fact z (see_full p.thread p.place) id me (WentLacking sight o (see_full p.thread p.place) h left rest_slots me)
+      put_acts id rest_slots slots lacks =
+          told_less (see_full p.thread p.place) id me (WentOn sight o (see_full p.thread p.place) (record now { boxes = left }) rest_slots me) (WentLacking sight o (see_full p.thread p.place) h left rest_slots me)
+          (put_back_acts sight o id me i.turn old i.hands (lists (state_of h.back) i.records) i.follows p.thread p.place p.redo left rest_slots among leaves slots (λ alive. lacks alive (box_held z p) p.redo among))
+          (λ n w s. record { went = went_on (see_full p.thread p.place) rest_slots h h.next left i.shown refl refl refl n n w refl s; lacks = λ alive k r more. lacks alive k r (leaves.was k r more).0 })
+
+      pub empty_acts_on : (id : ℕ) (rest_slots : List (ℕ × Slot M ghosts)) (h2 : TheHome M ghosts) → p.thread < z.threads → p.place ≡ get_or h.next p.thread 0 → h.back ≡ h2.back → h.pager ≡ h2.pager → set h.next p.thread (place_at z (get_or h.next p.thread 0) 1) ≡ h2.next
+          → me.1 ≡ (box_of z p.thread (get_or h.next p.thread 0), Empty) ∷ rest_slots → ((k : ℕ) (r : RedoRecord) → Contains box (k, r) → HasRecord i.records r.number × (writes_in i.records r.number ≡ r.writes))
+          → Acts fact z (empty_box p.thread (get_or h.next p.thread 0)) id me (λ n. WentHanded sight o (empty_box p.thread (get_or h.next p.thread 0)) h2 left rest_slots me 0)
+      empty_acts_on id rest_slots h2 lt front back pager nexts slots handed =
+          let place : ℕ = get_or h.next p.thread 0 in let mine = handed (box_held z p) p.redo among in
+          told_less (empty_box p.thread place) id me (WentOn sight o (empty_box p.thread place) (record now { next = set h.next p.thread (place_at z place 1); boxes = left }) rest_slots me) (λ n. WentHanded sight o (empty_box p.thread place) h2 left rest_slots me 0)
+          (empty_acts sight o id me i.turn old i.hands (lists (state_of h.back) i.records) i.follows p.thread p.redo left rest_slots lt (subst (λ (d : ℕ). Contains box (box_of z p.thread d, p.redo)) front among) (subst (λ (d : ℕ). Leaves box (box_of z p.thread d) left) front leaves) slots mine.0 mine.1)
+          (λ n w s. record { went = went_on (empty_box p.thread place) rest_slots h2 (set h.next p.thread (place_at z place 1)) left i.shown back pager nexts n 0 w refl s; handed = λ k r more. handed k r (leaves.was k r more).0 })
 
     pub durable_acts_on : (id d : ℕ) → i.stale.records ≡ i.records → d ≤ (state_of h.back).log.durable → Acts fact z (raise_durable d) id me (λ n. Raised sight o (raise_durable d) h me 0)
     durable_acts_on id d same le =
         told_less (raise_durable d) id me (WentOn sight o (raise_durable d) now me.1 me) (λ n. Raised sight o (raise_durable d) h me 0)
         (durable_acts sight o id me i.turn old i.hands (lists (state_of h.back) i.records) i.follows d le)
-        (λ n w s. raised (raise_durable d) i.shown n w refl same tt s)
+        (λ n w s. raised (raise_durable d) i.shown n 0 w refl same tt s)
 
     pub reproduced_acts_on : (id d : ℕ) → i.stale.records ≡ i.records → d ≤ (state_of h.back).log.durable → Acts fact z (raise_reproduced d) id me (λ n. Raised sight o (raise_reproduced d) h me 0)
     reproduced_acts_on id d same le =
         told_less (raise_reproduced d) id me (WentOn sight o (raise_reproduced d) (record now { shown = d }) me.1 me) (λ n. Raised sight o (raise_reproduced d) h me 0)
         (reproduced_acts sight o id me i.turn old i.hands (lists (state_of h.back) i.records) i.follows d le)
-        (λ n w s. raised (raise_reproduced d) d n w refl same refl s)
+        (λ n w s. raised (raise_reproduced d) d n 0 w refl same refl s)
 
-    pub give_acts_on : (id : ℕ) (failed : Bool) → hand ≡ None → me.1 ≡ (back_slot z, Home h) ∷ [] → IsSettled (state_of h.back) → (failed ≡ true → (state_of h.back).dead ≡ true) → Acts fact z (give_turn failed) id me (λ n. GaveTurn sight o failed me 0)
+    pub give_acts_on : (id : ℕ) (failed : Bool) → hand ≡ [] → me.1 ≡ (back_slot z, Home h) ∷ [] → IsSettled (state_of h.back) → (failed ≡ true → (state_of h.back).dead ≡ true) → Acts fact z (give_turn failed) id me (λ n. GaveTurn sight o failed me 0)
     give_acts_on id failed none slots settled fault =
         told_less (give_turn failed) id me (GaveTurn sight o failed me) (λ n. GaveTurn sight o failed me 0)
         (give_acts sight o id me i.turn old i.hands (lists (state_of h.back) i.records) i.follows failed h slots
-        (record { state = refl; next = refl; map = refl; known = i.known.is; settled = settled; boxes = ap (hand_boxes z h.next) none }) fault)
+        (record { state = refl; next = refl; map = refl; known = i.known.is; settled = settled; boxes = ap (boxes_held z) none }) fault)
         (λ n w g. record { seated = g.seated; view = g.view; beside = g.beside; slots = g.slots })
 
     -- ---- what the steps ask of the rest
@@ -269,10 +275,10 @@ module _ {M : Type 0} {ghosts : Ghosts M} (sight : M → Sight) (o : Opening M g
           (lists_now.handed d (reached d lt (omega arith))))
           (λ ge. let low = hs.kept.layers.locks.numbers.from in omega arith)
 
-    pub empty_fits : (id t : ℕ) (r : RedoRecord) → hand ≡ Some (t, r) → Foreseen fact z (empty_box t (get_or h.next t 0)) id me.0
-    empty_fits id t r e s hs at =
-        let k : ℕ = box_of z t (get_or h.next t 0) in let b : Contains box (k, r) = subst (λ bs. Contains bs (k, r)) (sym (ap (hand_boxes z h.next) e)) (contains_here (k, r) []) in
-        let n = hand_number id s hs at k r b in let pos = (boxes_now id s hs at).hand k r b in let some_number = pos.1 in omega arith
+    pub empty_fits : (id : ℕ) (p : Held) → Contains hand p → p.place ≡ get_or h.next p.thread 0 → Foreseen fact z (empty_box p.thread (get_or h.next p.thread 0)) id me.0
+    empty_fits id p among front s hs at =
+        let k : ℕ = box_of z p.thread (get_or h.next p.thread 0) in let b : Contains box (k, p.redo) = subst (λ (d : ℕ). Contains box (box_of z p.thread d, p.redo)) front (box_in z hand p among) in
+        let n = hand_number id s hs at k p.redo b in let pos = (boxes_now id s hs at).hand k p.redo b in let some_number = pos.1 in omega arith
 
     pub durable_fits : (id d : ℕ) → IsReached z.first i.records d → (state_of h.back).log.durable ≤ d → Foreseen fact z (raise_durable d) id me.0
     durable_fits id d reached le s hs at = let a = (lists_now id s hs at).durable in ((omega arith), upto_clock id s hs at d reached)
@@ -283,7 +289,7 @@ module _ {M : Type 0} {ghosts : Ghosts M} (sight : M → Sight) (o : Opening M g
         ((omega arith), (omega arith))
 
     -- ---- what it has after a step, and after a call of the back
-    abbrev pub went_holding : (h2 : TheHome M ghosts) (hand2 : Option (ℕ × RedoRecord)) (e : Event) (left : List (ℕ × Slot M ghosts)) (n : ℕ) (w : Seated) → Went sight o e h2 (hand_boxes z h2.next hand2) left me n w → h2.back ≡ h.back
+    abbrev pub went_holding : (h2 : TheHome M ghosts) (hand2 : List Held) (e : Event) (left : List (ℕ × Slot M ghosts)) (n : ℕ) (w : Seated) → Went sight o e h2 (boxes_held z hand2) left me n w → h2.back ≡ h.back
         → (view_after z e me.0.view n).part ≡ me.0.view.part → (view_after z e me.0.view n).turn.has_it ≡ me.0.view.turn.has_it → ((u : ℕ) → u < z.threads → get_or h2.next u 0 < z.boxes) → z.threads ≤ length h2.next → Holding sight o w.0 h2 hand2
     went_holding h2 hand2 e left n w t back part has places wide =
         let part2 : w.0.view.part ≡ me.0.view.part = ap (λ (v : View). v.part) t.view ∙ part in record {
@@ -296,7 +302,7 @@ module _ {M : Type 0} {ghosts : Ghosts M} (sight : M → Sight) (o : Opening M g
           shown = t.shown;
           stale = lists (state_of h2.back) t.records;
           hands = t.beside;
-          follows = follows_same z h2.next (hand_boxes z h2.next hand2) (lists (state_of h2.back) t.records) t.known.lawful;
+          follows = follows_same z h2.next (boxes_held z hand2) (lists (state_of h2.back) t.records) t.known.lawful;
           known = t.known;
           rings = subst (λ b. z.threads ≤ (state_of b).log.sizes.rings) (sym back) i.rings;
           pages = subst (λ b. (state_of b).log.sizes.pages ≡ z.pages) (sym back) i.pages;
@@ -323,7 +329,7 @@ module _ {M : Type 0} {ghosts : Ghosts M} (sight : M → Sight) (o : Opening M g
   pub took_hands : (hands : Hands) (home : TheHome M ghosts) → IsHome sight o home hands → hands ≡ hands_of sight home hands.lists.records hands.shown []
   took_hands hands home is = rw (is.state, is.next, is.map, is.boxes) refl
 
-  abbrev pub took_holding : (m w : Seated) (t : Took sight o m w) → m.0.view.part.is_spent ≡ false → HasThread m.0.view → Holding sight o w.0 t.home None
+  abbrev pub took_holding : (m w : Seated) (t : Took sight o m w) → m.0.view.part.is_spent ≡ false → HasThread m.0.view → Holding sight o w.0 t.home []
   took_holding m w t live thread =
       let part : w.0.view.part ≡ m.0.view.part = ap (λ (v : View). v.part) t.view in let is = t.is in
       let same : lists (state_of t.home.back) t.hands.lists.records ≡ t.hands.lists = ap (λ s. lists s t.hands.lists.records) is.state in

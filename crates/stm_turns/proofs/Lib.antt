@@ -1,7 +1,12 @@
+pub mod HeldRecords
 pub mod Holdings
 pub mod Seats
+pub mod LettingGo
+pub mod Gatherings
 pub mod Calling
 pub mod WholeTurns
 pub mod Starting
 pub mod Past
-pub mod Fronts
+pub mod Bundling
+pub mod NextRecords
+pub mod Settled

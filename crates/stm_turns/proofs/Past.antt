@@ -3,14 +3,14 @@ use Rattle.std.proofs.Common.{◌≡◌, ℕ, ◌+◌, ◌<◌, ◌≤◌, List,
 use Rattle.std.specs.List.{Contains}
 use Rattle.std.proofs.lemmas.List.Elements.{All-contains}
 use mathlib.Core.Logic.{dite}
-use native.Mathlib.Decide.{ℕ_discrete, dec_le, dec_lt}
-use Rattle.dude_base.specs.declared.limits.TheConstants.{MAX_NUMBER, MAX_WRITES}
+use native.Mathlib.Decide.{ℕ_discrete, dec_le}
+use Rattle.dude_base.specs.declared.limits.TheConstants.{MAX_NUMBER}
 use Rattle.dude_base.specs.Records.{HasNumbers, RedoBundle, first_of}
 use Rattle.log_waiting.specs.Lane.{released_lane, used_by}
 use Rattle.log_waiting.specs.Lanes.{lane_at, no_lane, waiting_in}
 use Rattle.log_waiting.proofs.ReleasedRecords.{released_waiting}
 use Rattle.log_waiting.proofs.WaitingLanes.{waits_in, waits_of_ring}
-use Rattle.back_store.specs.Back.{BackState, IsRingFull, waiting_now, waiting_of_ring}
+use Rattle.back_store.specs.Back.{BackState, IsRingFull, waiting_of_ring}
 use Rattle.back_store.specs.Answers.{announced, reproduced}
 use Rattle.known_back.specs.Lists.{LawfulLists, lists}
 use Rattle.known_back.proofs.Lawful.{waits_over}
@@ -25,14 +25,8 @@ use Rattle.back_store.specs.declared.back_fault.BackFault.{BackFault}
 use Rattle.back_store.specs.declared.back_fault.BackFault.TheVariants.{RingFull, Device, Dead}
 use Rattle.back_store.specs.Back.{IsPersistFault, ring_full}
 use Rattle.back_store.specs.Answers.{after_persist}
-use Rattle.core_events.specs.Setups.{Setup}
-use Rattle.dude_base.specs.Records.{bundle_of}
+use Rattle.redo_record.specs.Record.{cells_for}
 use Rattle.back_store.specs.Answers.{with_record}
-use Rattle.known_back.proofs.JoinedRecords.{over_reached}
-use Rattle.stm_slots.specs.Turns.{MayBeHanded}
-use Rattle.redo_record.proofs.WaitingRecords.{consecutive_up, waiting_law}
-use Rattle.back_store.specs.Back.{IsEnd}
-use Rattle.stm_slots.specs.Lists.{IsSettled}
 use Rattle.stm_turns.specs.Turns.{IsPast, KeepsPast, RisesTo}
 
 -- where cells are used something waits
@@ -66,9 +60,9 @@ module _ (first : ℕ) (v : BackState) (rs : List RedoRecord) (lawful : LawfulLi
       past))
 
   -- where the ring has no room for a record that is the newest, the next number to reproduce is before it
-  pub late : (thread : ℕ) (b : RedoBundle) → thread < length v.log.lanes → IsRingFull v thread b → length b.writes ≤ MAX_WRITES → All (λ q. q.last < first_of b) (waiting_of_ring v thread) → v.log.reproduced + 1 < first_of b
+  pub late : (thread : ℕ) (b : RedoBundle) → thread < length v.log.lanes → IsRingFull v thread b → cells_for (length b.writes) ≤ v.log.sizes.cells → All (λ q. q.last < first_of b) (waiting_of_ring v thread) → v.log.reproduced + 1 < first_of b
   late thread b inside full few newest =
-      let lane = lawful.log.lanes.each thread no_lane inside in let cells = lawful.log.accepted.cells.low in
+      let lane = lawful.log.lanes.each thread no_lane inside in
       let same = ap (λ s. s.cells) lane.sizes in
       let one = some_waits (waiting_of_ring v thread) (omega arith) in
       let over = waits_over v.log lawful.log (waiting_in thread one.0) (waits_of_ring v.log.lanes thread one.0 one.1) in
@@ -81,15 +75,6 @@ module _ (first : ℕ) (v : BackState) (rs : List RedoRecord) (lawful : LawfulLi
       let e = ap (λ (u : BackState). u.log.durable) is in
       subst (λ (u : BackState). IsPast u thread low) (sym is) (past_announced first v rs lawful n thread low (omega arith) past)
 
-  -- where all was settled nothing more is announced
-  pub settled_end : (n : ℕ) → IsEnd v n → v.dead ≡ false → IsSettled v → n ≡ v.log.durable
-  settled_end n is alive settled =
-      let same = settled.numbers alive in let up = consecutive_up v.log.reproduced n is.records is.lead.consecutive in
-      dite (dec_lt v.log.reproduced n)
-      (λ lt. let w = waiting_law.covered (waiting_now v) v.log.reproduced n (v.log.reproduced + 1) is.records is.lead (omega arith) (omega arith) in
-      let over = waits_over v.log lawful.log w.0 w.1 in let low = w.2.low in absurd (settled.next alive w.0 w.1 (omega arith)))
-      (λ ge. omega arith)
-
 -- what two calls keep, the second one where it succeeds
 pub then_past : (u v w : BackState) (result : Result ℕ BackFault) → KeepsPast u v → OnOk result (KeepsPast v w) → OnOk result (KeepsPast u w)
 then_past u v w (Ok n) a b = λ thread low past. b thread low (a thread low past)
@@ -101,31 +86,29 @@ full_or_device used need e = cc
 full_or_dead : (used need : ℕ) → RingFull used need ≡ Dead → ⊥
 full_or_dead used need e = cc
 
--- ---- the record in hand
-module _ (z : Setup) (v : BackState) (rs : List RedoRecord) (lawful : LawfulLists z.first (lists v rs)) (alive : v.dead ≡ false) (rings : z.threads ≤ v.log.sizes.rings) (thread : ℕ) (r : RedoRecord) (inside : thread < z.threads) (may : MayBeHanded z (lists v rs) thread r) where
-  in_lanes : thread < length v.log.lanes
-  in_lanes = let count = lawful.log.lanes.count in omega arith
+-- it rises over what was past before calls that keep that
+pub rises_behind : (m thread : ℕ) (u v w : BackState) → KeepsPast u v → RisesTo m thread v w → RisesTo m thread u w
+rises_behind m thread u v w keeps r = record { over = λ low past. r.over low (keeps thread low past); past = r.past }
 
+-- ---- a bundle that may be persisted
+module _ (first : ℕ) (v : BackState) (rs : List RedoRecord) (lawful : LawfulLists first (lists v rs)) (thread : ℕ) (b : RedoBundle) (inside : thread < length v.log.lanes) (over : v.log.durable < first_of b) (newest : All (λ q. q.last < first_of b) (waiting_of_ring v thread)) where
   -- it is over all that is past
-  past_less : (low : ℕ) → IsPast v thread low → low < r.number
+  past_less : (low : ℕ) → IsPast v thread low → low < first_of b
   past_less low past = ⊎_elim
-      (λ le. let over = over_reached z.first v.log.durable r.number rs may.over (may.lacks alive) (lawful.live alive).reached in omega arith)
-      (λ w. let lt = All-contains (λ (q : RedoBundle). q.last < r.number) (waiting_of_ring v thread) w.0 (may.newest alive) w.1 in let le = w.2 in omega arith)
+      (λ le. let o = over in omega arith)
+      (λ w. let lt = All-contains (λ (q : RedoBundle). q.last < first_of b) (waiting_of_ring v thread) w.0 newest w.1 in let le = w.2 in omega arith)
       past
 
-  pub rises_one : (w : BackState) → w ≡ with_record thread (bundle_of r) v → RisesTo r.number thread v w
-  rises_one w is = record {
+  pub rises_with : (w : BackState) → w ≡ with_record thread b v → RisesTo (first_of b) thread v w
+  rises_with w is = record {
     over = past_less;
-    past = subst (λ (u : BackState). IsPast u thread r.number) (sym is)
-        (inr (bundle_of r, subst (λ (u : LaneState). Contains u.waiting (bundle_of r)) (sym (get_or-set_same v.log.lanes thread (with_redo (bundle_of r) (lane_at v.log.lanes thread)) no_lane in_lanes)) (Contains-push (lane_at v.log.lanes thread).waiting (bundle_of r)), (omega arith)));
+    past = subst (λ (u : BackState). IsPast u thread (first_of b)) (sym is)
+        (inr (b, subst (λ (u : LaneState). Contains u.waiting b) (sym (get_or-set_same v.log.lanes thread (with_redo b (lane_at v.log.lanes thread)) no_lane inside)) (Contains-push (lane_at v.log.lanes thread).waiting b), (omega arith)));
   }
 
-  pub late_one : IsRingFull v thread (bundle_of r) → v.log.reproduced + 1 < r.number
-  late_one full = let lt = late z.first v rs lawful thread (bundle_of r) in_lanes full may.list.few (subst (λ (m : ℕ). All (λ q. q.last < m) (waiting_of_ring v thread)) (let e : r.number ≡ first_of (bundle_of r) = omega arith in e) (may.newest alive)) in omega arith
-
   -- a persist that found its ring full changed nothing, and came too late
-  pub full_late : (b : RedoBundle) → b ≡ bundle_of r → (result : Result (Unit {0}) BackFault) (used need : ℕ) → result ≡ Err (RingFull used need) → (w : BackState) → w ≡ after_persist result thread b v → IfErr result (IsPersistFault v thread b) → (IsErrOf result (ring_full v thread b) ↔ ((v.dead ≡ false) × IsRingFull v thread b)) → (w ≡ v) × (v.log.reproduced + 1 < r.number)
-  full_late b is result used need full w state only cause = (
+  pub full_late : cells_for (length b.writes) ≤ v.log.sizes.cells → (result : Result (Unit {0}) BackFault) (used need : ℕ) → result ≡ Err (RingFull used need) → (w : BackState) → w ≡ after_persist result thread b v → IfErr result (IsPersistFault v thread b) → (IsErrOf result (ring_full v thread b) ↔ ((v.dead ≡ false) × IsRingFull v thread b)) → (w ≡ v) × (v.log.reproduced + 1 < first_of b)
+  full_late fits result used need full w state only cause = (
     subst (λ (q : Result (Unit {0}) BackFault). w ≡ after_persist q thread b v) full state,
-    late_one (subst (IsRingFull v thread) is (cause.0 (full ∙ ap (λ f. Err f) (⊎_elim (λ e. e) (λ o. ⊎_elim (λ e. absurd (full_or_device used need e)) (λ e. absurd (full_or_dead used need e)) o) (subst (λ (q : Result (Unit {0}) BackFault). IfErr q (IsPersistFault v thread b)) full only)))).1),
+    late first v rs lawful thread b inside (cause.0 (full ∙ ap (λ f. Err f) (⊎_elim (λ e. e) (λ o. ⊎_elim (λ e. absurd (full_or_device used need e)) (λ e. absurd (full_or_dead used need e)) o) (subst (λ (q : Result (Unit {0}) BackFault). IfErr q (IsPersistFault v thread b)) full only)))).1 fits newest,
   )

@@ -1,10 +1,8 @@
 -- What the back's slot has at first.
-use Rattle.std.proofs.Common.{◌≡◌, ◌≤◌, ℕ, zero, suc, [], length, get_or, replicate, refl, sym, ap, subst, arith}
+use Rattle.std.proofs.Common.{◌≡◌, ◌≤◌, ℕ, zero, suc, [], length, get_or, replicate, refl, sym, ◌∙◌, subst, arith}
 use Rattle.dude_base.specs.declared.limits.TheConstants.{MAX_RINGS}
 use Rattle.pmem_trait.specs.declared.medium.Medium.{Ghosts}
-use Rattle.log_waiting.proofs.EmptyLanes.{none_waiting}
 use Rattle.back_store.specs.declared.back.Back.{Back}
-use Rattle.back_store.specs.Back.{BackState}
 use Rattle.back_store.specs.BackView.{medium_of, state_of}
 use Rattle.known_back.specs.Calls.{StartsKnown}
 use Rattle.known_back.specs.Known.{Known}
@@ -17,15 +15,15 @@ use Rattle.stm_turns.specs.Starts.{MayStart}
 
 module _ {M : Type 0} {ghosts : Ghosts M} (o : Opening M ghosts) (h : TheHome M ghosts) (may : MayStart o.terms h.back h.pager) (start : StartsKnown h.back) (snapshot : o.back.value ≡ h.back) where
   settled : IsSettled (state_of h.back)
-  settled = subst IsSettled (sym may.idle.state) (record { numbers = λ alive. refl; next = λ alive w among. absurd (none_waiting (state_of h.back).log.sizes w among) })
+  settled = record { numbers = λ alive. may.idle.reproduced ∙ sym may.idle.durable; next = λ alive w among. absurd (may.idle.none w among) }
 
   -- it is what the table may start with
   pub is_first : (wide : MAX_RINGS ≤ length h.next) → (next : (t : ℕ) → get_or h.next t 0 ≡ 0) → IsFirst ghosts.sight o h
   is_first wide next = record {
     known = subst (λ (b : Back M ghosts). Known (record { start = ghosts.sight (medium_of b); opening = o.terms.opening; first = o.terms.first }) (lists (state_of h.back) []) (ghosts.sight (medium_of h.back))) (sym snapshot)
-        (start (record { start = ghosts.sight (medium_of h.back); opening = o.terms.opening; first = o.terms.first }) (state_of h.back).log.sizes may.idle);
+        (start (record { start = ghosts.sight (medium_of h.back); opening = o.terms.opening; first = o.terms.first }) may.idle);
     settled = settled;
-    durable = (let e = ap (λ (v : BackState). v.log.durable) may.idle.state in omega arith);
+    durable = (let e = may.idle.durable in omega arith);
     pages = may.pages;
     rings = may.rings;
     some_box = may.some_box;

@@ -1,6 +1,6 @@
 -- What a whole turn leaves of the seat that had it.
 use Rattle.std.proofs.Common.{◌≡◌, ◌+◌, ℕ, ◌||◌, Bool, true, false, refl, ap, ◌∙◌}
-use Rattle.std.specs.Prelude.{None}
+use Rattle.std.specs.Prelude.{[]}
 use Rattle.pmem_trait.specs.Sights.{Sight}
 use Rattle.pmem_trait.specs.declared.medium.Medium.{Ghosts}
 use Rattle.back_store.specs.BackView.{state_of}
@@ -16,7 +16,7 @@ use Rattle.stm_slots.specs.declared.home.Home.{Home as TheHome}
 use Rattle.stm_slots.specs.declared.slot.Slot.{Slot}
 use Rattle.stm_slots.specs.declared.opening.Opening.{Opening}
 use Rattle.stm_turns.specs.Pump.{HadTurn, HasFailed, HasPumped, SteppedEmpty}
-use Rattle.stm_turns.specs.Front.{NextIsNotDrawn}
+use Rattle.stm_turns.specs.Bundles.{NextIsNotDrawn}
 use Rattle.stm_turns.specs.Turns.{EndsSettled, HasTaken, IsBare, IsOwn, Stepped, settled_view}
 use Rattle.stm_turns.specs.declared.pumped.Pumped.{Pumped}
 
@@ -28,14 +28,14 @@ module _ {M : Type 0} {ghosts : Ghosts M} (sight : M → Sight) (t : TableSight 
   abbrev TurnSeat : Type 0
   TurnSeat = Seat (Slot M ghosts) (Known Beside)
 
-  module _ (failed : Bool) (old took gave new : TurnSeat) (first last : TheHome M ghosts) (taken : HasTaken sight t old took first) (steps : Stepped sight t took gave last None) (is_given : IsAfter t (give_turn failed) gave new 0) where
+  module _ (failed : Bool) (old took gave new : TurnSeat) (first last : TheHome M ghosts) (taken : HasTaken sight t old took first) (steps : Stepped sight t took gave last []) (is_given : IsAfter t (give_turn failed) gave new 0) where
     abbrev pub had_turn : HadTurn sight t (SteppedEmpty sight t) failed old new
     had_turn = record { took = took; first = first; taken = taken; gave = gave; last = last; steps = steps; is_given = is_given }
 
     pub turn_view : settled_view new.me.0.view ≡ settled_view (view_after t.setup (give_turn failed) (view_after t.setup take_turn old.me.0.view 0) 0)
     turn_view = ap settled_view is_given ∙ (ap (λ (v : View). settled_view (view_after t.setup (give_turn failed) v 0)) steps.view ∙ ap (λ (v : View). settled_view (view_after t.setup (give_turn failed) v 0)) taken.is_after)
 
-  module _ (old took gave new : TurnSeat) (first last : TheHome M ghosts) (taken : HasTaken sight t old took first) (steps : Stepped sight t took gave last None) where
+  module _ (old took gave new : TurnSeat) (first last : TheHome M ghosts) (taken : HasTaken sight t old took first) (steps : Stepped sight t took gave last []) where
     pub has_pumped : (pumped : Pumped) → IsAfter t (give_turn false) gave new 0 → (state_of first.back).dead ≡ false → EndsSettled gave last pumped.durable → NextIsNotDrawn gave pumped.durable → pumped.reproduced ≡ pumped.durable → HasPumped sight t pumped old new
     has_pumped pumped is_given before settled next reproduced = record {
       turn = had_turn false old took gave new first last taken steps is_given;

@@ -1,6 +1,7 @@
 pub mod Holding
 pub mod Told
 pub mod Turns
-pub mod Front
+pub mod Gathered
+pub mod Bundles
 pub mod Pump
 pub mod Starts

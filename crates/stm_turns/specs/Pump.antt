@@ -1,5 +1,5 @@
 -- What a turn that persists what boxes have leaves of the seat that has it.
-use Rattle.std.specs.Prelude.{◌≡◌, ◌≢◌, Bool, true, false, None}
+use Rattle.std.specs.Prelude.{◌≡◌, ◌≢◌, Bool, true, false, []}
 use Rattle.pmem_trait.specs.Sights.{Sight}
 use Rattle.pmem_trait.specs.declared.medium.Medium.{Ghosts}
 use Rattle.back_store.specs.BackView.{state_of}
@@ -12,7 +12,7 @@ use Rattle.stm_slots.specs.Beside.{Beside}
 use Rattle.stm_slots.specs.declared.home.Home.{Home as TheHome}
 use Rattle.stm_slots.specs.declared.slot.Slot.{Slot}
 use Rattle.stm_slots.specs.declared.opening.Opening.{Opening}
-use Rattle.stm_turns.specs.Front.{NextIsNotDrawn}
+use Rattle.stm_turns.specs.Bundles.{NextIsNotDrawn}
 use Rattle.stm_turns.specs.Turns.{EndsSettled, HasTaken, Stepped, settled_view}
 use Rattle.stm_turns.specs.declared.pumped.Pumped.{Pumped}
 use Rattle.stm_turns.specs.declared.pump_fault.PumpFault.{PumpFault}
@@ -33,7 +33,7 @@ module _ {M : Type 0} {ghosts : Ghosts M} (sight : M → Sight) (t : TableSight 
 
   -- steps of the turn, with no record in hand behind them
   abbrev pub SteppedEmpty : Seat (Slot M ghosts) (Known Beside) → Seat (Slot M ghosts) (Known Beside) → TheHome M ghosts → Type 0
-  SteppedEmpty took gave last = Stepped sight t took gave last None
+  SteppedEmpty took gave last = Stepped sight t took gave last []
 
   -- The back wasn't dead; all up to a number is announced, and in the home
   pub record HasPumped (pumped : Pumped) (old new : Seat (Slot M ghosts) (Known Beside)) : Type 0 where

@@ -1,5 +1,5 @@
 -- What contracts say of a seat that has the turn.
-use Rattle.std.specs.Prelude.{◌≡◌, ◌≢◌, ◌⊎◌, ℕ, ◌+◌, ◌-◌, ◌<◌, ltb, if◌then◌else◌, ◌≤◌, true, false, List, [], ◌∷◌, Option, Some, None, Result, Ok, Err}
+use Rattle.std.specs.Prelude.{◌≡◌, ◌≢◌, ◌⊎◌, ℕ, ◌+◌, ◌-◌, ◌<◌, ltb, if◌then◌else◌, ◌≤◌, true, false, List, [], ◌∷◌, Option, Some, None, slice_index}
 use Rattle.std.specs.List.{Contains}
 use Rattle.dude_base.specs.Records.{RedoBundle, RedoRecord, first_of}
 use Rattle.pmem_trait.specs.Sights.{Sight}
@@ -7,8 +7,6 @@ use Rattle.pmem_trait.specs.declared.medium.Medium.{Ghosts}
 use Rattle.redo_record.specs.Waiting.{Waiting}
 use Rattle.back_store.specs.Back.{BackState, waiting_now, waiting_of_ring}
 use Rattle.back_store.specs.BackView.{state_of}
-use Rattle.back_store.specs.declared.back_fault.BackFault.{BackFault}
-use Rattle.back_store.specs.declared.back_fault.BackFault.TheVariants.{RingFull, Device, Dead}
 use Rattle.atomic_table.specs.Table.{rest}
 use Rattle.atomic_table.specs.declared.shared.Seat.{Seat}
 use Rattle.core_events.specs.Keyed.{has}
@@ -18,7 +16,7 @@ use Rattle.core_table.specs.Layout.{TableSight}
 use Rattle.core_table.specs.Steps.{BelongsTo, IsAfter}
 use Rattle.core_events.specs.Events.{take_turn}
 use Rattle.known_back.specs.Lists.{lists}
-use Rattle.known_back.specs.Records.{HasRecord, LacksRecord, IsReached, writes_in}
+use Rattle.known_back.specs.Records.{HasRecord, IsReached}
 use Rattle.stm_slots.specs.Beside.{Hands, Beside}
 use Rattle.stm_slots.specs.Lists.{IsSettled}
 use Rattle.stm_slots.specs.Opening.{setup_of}
@@ -26,7 +24,7 @@ use Rattle.stm_slots.specs.declared.home.Home.{Home as TheHome}
 use Rattle.stm_slots.specs.declared.slot.Slot.{Slot}
 use Rattle.stm_slots.specs.declared.slot.Slot.TheVariants.{Record, Home}
 use Rattle.stm_slots.specs.declared.opening.Opening.{Opening}
-use Rattle.stm_turns.specs.Holding.{Holding, IsInHand, slots_out}
+use Rattle.stm_turns.specs.Holding.{Held, Holding, IsInHand, slots_out}
 
 -- ---- views, records and backs
 -- what steps of the turn leave of a view
@@ -47,24 +45,10 @@ abbrev pub number_in : Option RedoRecord → Option ℕ
 number_in None = None
 number_in (Some r) = Some r.number
 
--- the record that was found, in hand
-abbrev pub found_in : ℕ → Option RedoRecord → Option (ℕ × RedoRecord)
-found_in thread None = None
-found_in thread (Some r) = Some (thread, r)
-
--- the record that was to be persisted is in hand still where its ring was full
-abbrev pub left_in : ℕ → RedoRecord → Result (Unit {0}) BackFault → Option (ℕ × RedoRecord)
-left_in thread r (Ok done) = None
-left_in thread r (Err Device) = None
-left_in thread r (Err Dead) = None
-left_in thread r (Err (RingFull used need)) = Some (thread, r)
-
--- the back is alive unless the device failed
-abbrev pub IsAliveUnless : Result (Unit {0}) BackFault → BackState → Type 0
-IsAliveUnless (Ok done) v = v.dead ≡ false
-IsAliveUnless (Err Device) v = v.dead ≡ true
-IsAliveUnless (Err Dead) v = v.dead ≡ true
-IsAliveUnless (Err (RingFull used need)) v = v.dead ≡ false
+-- the record that was found in front of a thread's boxes, in hand
+abbrev pub found_in : ℕ → List ℕ → Option RedoRecord → List Held
+found_in thread next None = []
+found_in thread next (Some r) = record { thread = thread; place = slice_index next thread; redo = r } ∷ []
 
 -- The number is announced, and nothing that waits leads on
 pub record IsAnnounced (v : BackState) (n : ℕ) : Type 0 where
@@ -116,59 +100,40 @@ pub record IsOthers {S X K : Type 0} (t : TableSight K) (seen : ℕ) (old new : 
   pub bare : new.me.1 ≡ []
 
 module _ {M : Type 0} {ghosts : Ghosts M} (sight : M → Sight) (t : TableSight (Opening M ghosts)) where
-  -- The seat has the turn, with this of the back's slot and perhaps a record in hand
-  pub record InTurn (seat : Seat (Slot M ghosts) (Known Beside)) (h : TheHome M ghosts) (hand : Option (ℕ × RedoRecord)) : Type 0 where
+  -- The seat has the turn, with this of the back's slot and perhaps records in hand
+  pub record InTurn (seat : Seat (Slot M ghosts) (Known Beside)) (h : TheHome M ghosts) (hand : List Held) : Type 0 where
     pub belongs : BelongsTo t seat
     pub setup : t.setup ≡ setup_of sight t.key
     pub holding : Holding sight t.key seat.me.0 h hand
-    pub slots : seat.me.1 ≡ slots_out sight (setup_of sight t.key) h.next hand
+    pub slots : seat.me.1 ≡ slots_out sight (setup_of sight t.key) hand
     -- no record was handed over since the last step
     pub same : holding.stale.records ≡ holding.records
     pub in_hand : IsInHand (setup_of sight t.key) (lists (state_of h.back) holding.records) hand
 
-  -- The record in hand may be put back: it wasn't handed over, or the back is dead
-  pub record MayPutBack (seat : Seat (Slot M ghosts) (Known Beside)) (h : TheHome M ghosts) (thread : ℕ) (r : RedoRecord) : Type 0 where
-    pub belongs : BelongsTo t seat
-    pub setup : t.setup ≡ setup_of sight t.key
-    pub holding : Holding sight t.key seat.me.0 h (Some (thread, r))
-    pub slots : seat.me.1 ≡ slots_out sight (setup_of sight t.key) h.next (Some (thread, r))
-    pub inside : thread < (setup_of sight t.key).threads
-    pub lacks : (state_of h.back).dead ≡ false → LacksRecord holding.records r.number
-
-  -- The record in hand was handed over
-  pub record MayEmpty (seat : Seat (Slot M ghosts) (Known Beside)) (h : TheHome M ghosts) (thread : ℕ) (r : RedoRecord) : Type 0 where
-    pub belongs : BelongsTo t seat
-    pub setup : t.setup ≡ setup_of sight t.key
-    pub holding : Holding sight t.key seat.me.0 h (Some (thread, r))
-    pub slots : seat.me.1 ≡ slots_out sight (setup_of sight t.key) h.next (Some (thread, r))
-    pub inside : thread < (setup_of sight t.key).threads
-    pub handed : HasRecord holding.records r.number
-    pub writes : writes_in holding.records r.number ≡ r.writes
-
   -- The seat took the turn, with this of the back's slot, where all is done that can be
   pub record HasTaken (old new : Seat (Slot M ghosts) (Known Beside)) (h : TheHome M ghosts) : Type 0 where
     pub is_after : IsAfter t take_turn old new 0
-    pub in_turn : InTurn new h None
+    pub in_turn : InTurn new h []
     pub settled : IsSettled (state_of h.back)
 
-  -- The seat made steps of the turn, and has this of the back's slot behind them, and perhaps a record in hand
-  pub record Stepped (old new : Seat (Slot M ghosts) (Known Beside)) (h : TheHome M ghosts) (hand : Option (ℕ × RedoRecord)) : Type 0 where
+  -- The seat made steps of the turn, and has this of the back's slot behind them, and perhaps records in hand
+  pub record Stepped (old new : Seat (Slot M ghosts) (Known Beside)) (h : TheHome M ghosts) (hand : List Held) : Type 0 where
     pub id : new.id ≡ old.id
     pub turn : InTurn new h hand
     pub view : settled_view new.me.0.view ≡ settled_view old.me.0.view
     pub handed : (n : Option ℕ) → HandedBelow old.me.0 n → HandedBelow new.me.0 n
 
-  -- whatever record was in hand, the seat made steps of the turn, and has it in hand still
+  -- whatever records were in hand, the seat made steps of the turn, and has them in hand still
   abbrev pub SteppedOn : Seat (Slot M ghosts) (Known Beside) → Seat (Slot M ghosts) (Known Beside) → TheHome M ghosts → TheHome M ghosts → Type 0
-  SteppedOn old new h h2 = (hand : Option (ℕ × RedoRecord)) → InTurn old h hand → Stepped old new h2 hand
+  SteppedOn old new h h2 = (hand : List Held) → InTurn old h hand → Stepped old new h2 hand
 
   -- the seat has the turn, with this of the back's slot
   abbrev pub HasHome : Seat (Slot M ghosts) (Known Beside) → TheHome M ghosts → Type 0
-  HasHome seat h = (hand : Option (ℕ × RedoRecord)) × InTurn seat h hand
+  HasHome seat h = (hand : List Held) × InTurn seat h hand
 
   -- The number is that of the back, and all up to it was handed over
   pub record MayRaise (seat : Seat (Slot M ghosts) (Known Beside)) (h : TheHome M ghosts) (n : ℕ) : Type 0 where
-    pub hand : Option (ℕ × RedoRecord)
+    pub hand : List Held
     pub turn : InTurn seat h hand
     pub alive : (state_of h.back).dead ≡ false
     pub durable : (state_of h.back).log.durable ≡ n
@@ -186,24 +151,17 @@ module _ {M : Type 0} {ghosts : Ghosts M} where
     pub is : IsAnnounced (state_of h.back) n
     pub reproduced : (state_of h.back).log.reproduced ≡ n
     pub durable : seat.me.0.view.turn.durable ≡ n
-    pub shown : HasShown seat n
 
--- where the view drew the number behind n, that one is no less than each below which all was handed over
-abbrev pub NextIsNoLess : {S : Type 0} → Seat S (Known Beside) → ℕ → Type 0
-NextIsNoLess seat n = (b : Option ℕ) → HandedBelow seat.me.0 b → has seat.me.0.view.drawn (n + 1) ≡ true → IsNoLess b (n + 1)
+-- Of the back's slot: the places that are emptied next, and the sizes of the store, are as before
+pub record KeepsPlaces {M : Type 0} {ghosts : Ghosts M} (h h2 : TheHome M ghosts) : Type 0 where
+  pub next : h2.next ≡ h.next
+  pub sizes : (state_of h2.back).log.sizes ≡ (state_of h.back).log.sizes
 
 -- ---- the numbers of a thread's records rise
 -- each number that was past in the ring of the thread was less than this one, which is past now
 pub record RisesTo (m thread : ℕ) (v w : BackState) : Type 0 where
   pub over : (low : ℕ) → IsPast v thread low → low < m
   pub past : IsPast w thread m
-
--- where the ring was full nothing changed, and the record isn't the next one to reproduce
-abbrev pub IsLate : Result (Unit {0}) BackFault → ℕ → BackState → BackState → Type 0
-IsLate (Err (RingFull used need)) m v w = (w ≡ v) × (v.log.reproduced + 1 < m)
-IsLate (Ok done) m v w = Unit {0}
-IsLate (Err Device) m v w = Unit {0}
-IsLate (Err Dead) m v w = Unit {0}
 
 -- what was past is so still
 abbrev pub KeepsPast : BackState → BackState → Type 0

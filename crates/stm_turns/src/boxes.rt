@@ -1,29 +1,30 @@
-//! The thread with the turn takes a record out of the front box of a thread, puts it back, or
-//! empties the box.
+//! The thread with the turn looks at boxes, takes records out of them, and puts one back.
 
-ghost use Rattle.std.specs.Prelude.{◌≡◌, ◌<◌, None, Some};
-ghost use Rattle.stm_turns.specs.Turns.{InTurn, LooksAtAll, MayEmpty, MayPutBack, Stepped, found_in, place_after};
+ghost use Rattle.std.specs.Prelude.{◌≡◌, ◌<◌, [], true, false};
+ghost use Rattle.stm_turns.specs.Bundles.{FindsNumber, HasLast, KeepsDurable, MayLook, PutsLast};
+ghost use Rattle.stm_turns.specs.Turns.{HasHome, InTurn, LooksAtAll, Stepped, SteppedOn, found_in};
 
-use crate::slots::{SlotSeat, lay, take_record};
+use crate::slots::{SlotSeat, read_record};
 use dude_base::redo::Redo;
 use pmem_trait::Medium;
 use std::marker::Brand;
 use stm_slots::home::Home;
-use stm_slots::slot::Slot;
 use stm_slots::slots_rule::Events;
 
-/// Looks at the front box of a thread, and takes its record out.
+/// Looks at the front box of a thread, and takes its record.
 pub fn see_front<M: Medium>(
     events: &Events<M>,
     seat: &mut SlotSeat<M>,
     home: &Home<M>,
     thread: u64,
 ) -> Option<Redo>
-    requires turn { InTurn M.sight events.now seat.old home.now None }
+    requires turn { InTurn M.sight events.now seat.old home.now [] }
     requires thread { thread < events.now.setup.threads }
-    ensures step { Stepped M.sight events.now seat.old seat.new home.now (found_in thread result) }
+    ensures step { Stepped M.sight events.now seat.old seat.new home.now
+        (found_in thread home.now.next result) }
     // Where it is the own thread, which has no open number.
     ensures drawn { LooksAtAll thread result seat.old seat.new }
+    ensures durable { KeepsDurable seat.old seat.new }
 {
     let place = home.next[thread as usize];
     let slot = events.box_number(thread, place);
@@ -35,56 +36,59 @@ pub fn see_front<M: Medium>(
     if found == 0 {
         return None;
     }
-    Some(take_record(events, seat, slot))
+    let redo = read_record(events, seat, slot);
+    seat.turn();
+    Some(redo)
 }
 
-/// Puts the record in hand back into its box.
-pub fn put_back<M: Medium>(
+/// What stands in a thread's box. It is left there.
+pub fn look<M: Medium>(
     events: &Events<M>,
     seat: &mut SlotSeat<M>,
     home: &Home<M>,
     thread: u64,
-    redo: Redo,
-)
-    requires put { MayPutBack M.sight events.now seat.old home.now thread redo }
-    ensures step { Stepped M.sight events.now seat.old seat.new home.now None }
+    place: u64,
+) -> u64
+    requires turn { HasHome M.sight events.now seat.old home.now }
+    requires thread { thread < events.now.setup.threads }
+    requires place { place < events.now.setup.boxes }
+    ensures step { SteppedOn M.sight events.now seat.old seat.new home.now home.now }
 {
-    let place = home.next[thread as usize];
-    let slot = events.box_number(thread, place);
-    lay(events, seat, slot, Slot::Record(redo));
-    events.load_by::<Brand, (u64, &Home<M>)>(
-        seat,
-        events.box_place(thread, place),
-        &(thread, home),
-    );
+    let at = events.box_place(thread, place);
+    events.load_by::<Brand, (u64, u64, &Home<M>)>(seat, at, &(thread, place, home))
 }
 
-/// Empties the box of the record in hand, which was handed over.
-pub fn empty_box<M: Medium>(
+/// Looks for a number in a thread's box, and takes its slot where it is there.
+pub fn look_for<M: Medium>(
     events: &Events<M>,
     seat: &mut SlotSeat<M>,
-    home: &mut Home<M>,
+    home: &Home<M>,
     thread: u64,
-    redo: &Redo,
-)
-    requires handed { MayEmpty M.sight events.now seat.old home.old thread redo.now }
-    ensures step { Stepped M.sight events.now seat.old seat.new home.new None }
-    ensures back { home.new.back ≡ home.old.back }
+    place: u64,
+    number: u64,
+) -> bool
+    requires look { MayLook M.sight events.now seat.old home.now thread place number }
+    ensures found { result ≡ true
+        → FindsNumber M.sight events.now seat.old seat.new home.now thread place number }
+    ensures missed { result ≡ false
+        → SteppedOn M.sight events.now seat.old seat.new home.now home.now }
 {
-    let place = home.next[thread as usize];
-    home.next[thread as usize] = next_place(place, events.boxes());
     let at = events.box_place(thread, place);
-    events.store_by::<Brand, (u64, u64, &Home<M>)>(seat, at, 0, &(thread, place, &*home));
+    let about = (thread, place, number, home);
+    events.load_by::<Brand, (u64, u64, u64, &Home<M>)>(seat, at, &about) == number
 }
 
-/// The place behind this one, round the boxes.
-fn next_place(place: u64, boxes: u64) -> u64
-    requires { place < boxes }
-    ensures { result ≡ place_after boxes place }
+/// Puts the record that was taken last back into its box.
+pub fn put_last<M: Medium>(
+    events: &Events<M>,
+    seat: &mut SlotSeat<M>,
+    home: &Home<M>,
+    thread: u64,
+    place: u64,
+)
+    requires found { HasLast M.sight events.now seat.old home.now thread place }
+    ensures step { PutsLast M.sight events.now seat.old seat.new home.now thread place }
 {
-    if place + 1 < boxes {
-        place + 1
-    } else {
-        place + 1 - boxes
-    }
+    let at = events.box_place(thread, place);
+    events.load_by::<Brand, (u64, u64, &Home<M>)>(seat, at, &(thread, place, home));
 }

@@ -45,6 +45,7 @@ pub fn new_events<M: Medium>(
 pub fn first_home<M: Medium>(terms: Terms, back: Back<M>, pager: Pager) -> (Opening<M>, Home<M>)
     requires may { MayStart terms back pager }
     ensures first { IsFirst M.sight result.0 result.1 }
+    ensures key { result.0.back.value ≡ back }
     ensures terms { result.0.terms ≡ terms }
     ensures back { result.1.back ≡ back }
     ensures pager { result.1.pager ≡ pager }

@@ -15,8 +15,8 @@ use crate::turn::{give_turn, take_turn};
 use pmem_trait::Medium;
 use stm_slots::slots_rule::Events;
 
-/// Takes the turn, persists the records of full boxes, those of the own thread last, empties these
-/// boxes, announces, reproduces, and gives the turn back.
+/// Takes the turn, persists the records of full boxes in bundles of consecutive numbers, empties
+/// these boxes, announces, reproduces, and gives the turn back.
 pub fn pump<M: Medium>(
     events: &Events<M>,
     seat: &mut SlotSeat<M>,

@@ -1,214 +1,182 @@
-//! The records of full boxes are persisted, and made durable and reproduced.
+//! The records of full boxes are persisted in bundles, and made durable and reproduced.
 
-ghost use Rattle.std.specs.Prelude.{◌≡◌, ◌≤◌, ◌<◌, None, Some, IfOk, OnOk, OnErr, true, false};
+ghost use Rattle.std.specs.Prelude.{◌≡◌, ◌≤◌, ◌<◌, ℕ, [], IfOk, IfSome, IfNone, OnOk, OnErr, false, true};
+ghost use Rattle.dude_base.specs.declared.limits.TheConstants.{MAX_RINGS};
 ghost use Rattle.back_store.specs.BackView.{state_of};
-ghost use Rattle.stm_slots.specs.Lists.{IsSettled};
-ghost use Rattle.stm_turns.specs.Front.{FrontDone, IsThrough, NextIsNotDrawn, TurnsOut};
-ghost use Rattle.stm_turns.specs.Turns.{EndsSettled, HasHome, InTurn, IsOwn, KeepsPast, NextIsNoLess, Stepped, SteppedOn};
+ghost use Rattle.stm_turns.specs.Bundles.{NextIsNotDrawn};
+ghost use Rattle.stm_turns.specs.Turns.{EndsSettled, InTurn, IsOwn, RisesTo, Stepped};
 
-use crate::boxes::{put_back, see_front};
-use crate::calls::{announce, persist, reproduce};
-use crate::front::Front;
+use crate::boxes::see_front;
+use crate::bundles::persist_bundle;
+use crate::calls::catch_up;
+use crate::gathering::Gathering;
+use crate::gathers::{Fronts, gather, look_at_all, look_behind};
+use crate::letting::put_all_back;
 use crate::slots::SlotSeat;
 use back_store::BackFault;
-use dude_base::limits::MAX_NUMBER;
-use dude_base::redo::Redo;
+use dude_base::limits::{MAX_NUMBER, MAX_RINGS};
 use pmem_trait::Medium;
 use stm_slots::home::Home;
 use stm_slots::slots_rule::Events;
 
-/// Announces all that leads on, and reproduces it.
-pub fn catch_up<M: Medium>(
-    events: &Events<M>,
-    seat: &mut SlotSeat<M>,
-    home: &mut Home<M>,
-) -> Result<u64, BackFault>
-    requires turn { HasHome M.sight events.now seat.old home.old }
-    ensures step { SteppedOn M.sight events.now seat.old seat.new home.old home.new }
-    ensures ok { IfOk result (λ n. EndsSettled seat.new home.new n) }
-    ensures drawn { IfOk result (λ n. NextIsNoLess seat.old n) }
-    ensures past { OnOk result (KeepsPast (state_of home.old.back) (state_of home.new.back)) }
-    ensures same { IfOk result (λ n. IsSettled (state_of home.old.back)
-        → n ≡ (state_of home.old.back).log.durable) }
-    ensures err { OnErr result ((state_of home.new.back).dead ≡ true) }
+/// The thread with the least number in front, of so many.
+fn least(fronts: &Fronts, threads: u64) -> Option<u64>
+    requires { threads ≤ MAX_RINGS }
+    ensures { IfSome result (λ thread. thread < threads) }
 {
-    announce(events, seat, home)?;
-    reproduce(events, seat, home)
-}
-
-/// Tries once more to persist the record in hand, where all that can be reproduced was.
-fn try_again<M: Medium>(
-    events: &Events<M>,
-    seat: &mut SlotSeat<M>,
-    home: &mut Home<M>,
-    thread: u64,
-    redo: Redo,
-) -> Result<Front, BackFault>
-    requires turn { InTurn M.sight events.now seat.old home.old (Some (thread, redo)) }
-    requires settled { IsSettled (state_of home.old.back) }
-    requires alive { (state_of home.old.back).dead ≡ false }
-    ensures step { Stepped M.sight events.now seat.old seat.new home.new None }
-    ensures ok { OnOk result ((state_of home.new.back).dead ≡ false) }
-    ensures front { IfOk result (λ front. TurnsOut front redo.number thread
-        (state_of home.old.back) (state_of home.new.back)) }
-    ensures err { OnErr result ((state_of home.new.back).dead ≡ true) }
-{
-    match persist(events, seat, home, thread, &redo) {
-        Ok(()) => Ok(Front::Persisted),
-        Err(BackFault::RingFull { used: _, need: _ }) => {
-            put_back(events, seat, home, thread, redo);
-            Ok(Front::Full)
+    let mut least = None;
+    let mut number = u64::MAX;
+    for thread in 0..threads {
+        let front = fronts[thread as usize];
+        if front != 0 && front < number {
+            least = Some(thread);
+            number = front;
         }
-        Err(BackFault::Device) => Err(BackFault::Device),
-        Err(BackFault::Dead) => Err(BackFault::Dead),
     }
+    least
 }
 
-/// Reproduces all that can be, and tries once more to persist the record in hand.
-fn retry<M: Medium>(
-    events: &Events<M>,
-    seat: &mut SlotSeat<M>,
-    home: &mut Home<M>,
-    thread: u64,
-    redo: Redo,
-) -> Result<Front, BackFault>
-    requires turn { InTurn M.sight events.now seat.old home.old (Some (thread, redo)) }
-    ensures step { Stepped M.sight events.now seat.old seat.new home.new None }
-    ensures ok { OnOk result ((state_of home.new.back).dead ≡ false) }
-    ensures front { IfOk result (λ front. TurnsOut front redo.number thread
-        (state_of home.old.back) (state_of home.new.back)) }
-    ensures err { OnErr result ((state_of home.new.back).dead ≡ true) }
-{
-    match catch_up(events, seat, home) {
-        Ok(_) => try_again(events, seat, home, thread, redo),
-        Err(fault) => {
-            put_back(events, seat, home, thread, redo);
-            Err(fault)
+/// Nothing is taken any more from threads whose records stay in their boxes.
+fn leave(fronts: &mut Fronts, gathering: &Gathering, next: &Fronts) {
+    for thread in 0..MAX_RINGS as usize {
+        if gathering.ahead[thread] != next[thread] {
+            fronts[thread] = 0;
         }
     }
 }
 
-/// Persists the record of the front box of a thread, where it has one and its ring has room.
-pub fn persist_front<M: Medium>(
+/// Persists a bundle that begins with the front record of a thread.
+fn persist_from<M: Medium>(
     events: &Events<M>,
     seat: &mut SlotSeat<M>,
     home: &mut Home<M>,
+    fronts: &mut Fronts,
     thread: u64,
-) -> Result<Front, BackFault>
-    requires turn { InTurn M.sight events.now seat.old home.old None }
+) -> Result<(), BackFault>
+    requires turn { InTurn M.sight events.now seat.old home.old [] }
     requires thread { thread < events.now.setup.threads }
     requires alive { (state_of home.old.back).dead ≡ false }
-    ensures step { Stepped M.sight events.now seat.old seat.new home.new None }
+    ensures step { Stepped M.sight events.now seat.old seat.new home.new [] }
     ensures ok { OnOk result ((state_of home.new.back).dead ≡ false) }
-    ensures front { IfOk result (λ front. FrontDone front thread seat.old seat.new
-        (state_of home.old.back) (state_of home.new.back)) }
     ensures err { OnErr result ((state_of home.new.back).dead ≡ true) }
 {
     let Some(redo) = see_front(events, seat, home, thread) else {
-        return Ok(Front::Empty);
+        fronts[thread as usize] = 0;
+        return Ok(());
     };
-    match persist(events, seat, home, thread, &redo) {
-        Ok(()) => Ok(Front::Persisted),
-        Err(BackFault::RingFull { used: _, need: _ }) => retry(events, seat, home, thread, redo),
-        Err(BackFault::Device) => Err(BackFault::Device),
-        Err(BackFault::Dead) => Err(BackFault::Dead),
-    }
-}
-
-/// Persists the records of a thread's boxes in their order, until one is empty or its ring stays
-/// full.
-fn persist_boxes<M: Medium>(
-    events: &Events<M>,
-    seat: &mut SlotSeat<M>,
-    home: &mut Home<M>,
-    thread: u64,
-) -> Result<(), BackFault>
-    requires turn { InTurn M.sight events.now seat.old home.old None }
-    requires thread { thread < events.now.setup.threads }
-    requires alive { (state_of home.old.back).dead ≡ false }
-    ensures step { Stepped M.sight events.now seat.old seat.new home.new None }
-    ensures ok { OnOk result ((state_of home.new.back).dead ≡ false) }
-    ensures err { OnErr result ((state_of home.new.back).dead ≡ true) }
-{
-    for _ in 0..events.boxes() {
-        match persist_front(events, seat, home, thread)? {
-            Front::Persisted => {}
-            Front::Empty => return Ok(()),
-            Front::Full => return Ok(()),
-        }
+    let mut gathering = Gathering::begin(thread, &redo, &home.next, events.boxes());
+    look_behind(events, seat, home, &gathering, fronts, thread);
+    gather(events, seat, home, &mut gathering, fronts);
+    if !persist_bundle(events, seat, home, &gathering)? {
+        leave(fronts, &gathering, &home.next);
     }
     Ok(())
 }
 
-/// Persists the records of the boxes of the threads from one to another.
-fn persist_threads<M: Medium>(
+/// Persists what boxes have in bundles, of which each begins with the least number that is left.
+fn persist_all<M: Medium>(
     events: &Events<M>,
     seat: &mut SlotSeat<M>,
     home: &mut Home<M>,
-    from: u64,
-    to: u64,
 ) -> Result<(), BackFault>
-    requires turn { InTurn M.sight events.now seat.old home.old None }
-    requires threads { to ≤ events.now.setup.threads }
+    requires turn { InTurn M.sight events.now seat.old home.old [] }
     requires alive { (state_of home.old.back).dead ≡ false }
-    ensures step { Stepped M.sight events.now seat.old seat.new home.new None }
+    ensures step { Stepped M.sight events.now seat.old seat.new home.new [] }
     ensures ok { OnOk result ((state_of home.new.back).dead ≡ false) }
     ensures err { OnErr result ((state_of home.new.back).dead ≡ true) }
 {
-    for thread in from..to {
-        persist_boxes(events, seat, home, thread)?;
+    let mut fronts = look_at_all(events, seat, home, &home.next);
+    for _ in 0..events.box_count() {
+        let Some(thread) = least(&fronts, events.threads()) else {
+            return Ok(());
+        };
+        persist_from(events, seat, home, &mut fronts, thread)?;
     }
     Ok(())
 }
 
-/// Persists the records of the own thread's boxes in their order, until none is left or its ring
-/// stays full.
+/// Where the number behind the announced one stands in front of the own boxes, persists a bundle
+/// that begins with it, and announces and reproduces; answers the number then.
+fn persist_next<M: Medium>(
+    events: &Events<M>,
+    seat: &mut SlotSeat<M>,
+    home: &mut Home<M>,
+    own: u64,
+    number: u64,
+) -> Result<Option<u64>, BackFault>
+    requires turn { InTurn M.sight events.now seat.old home.old [] }
+    requires own { IsOwn own seat.old }
+    requires thread { own < events.now.setup.threads }
+    requires settled { EndsSettled seat.old home.old number }
+    ensures step { Stepped M.sight events.now seat.old seat.new home.new [] }
+    ensures none { IfOk result (λ next. IfNone next
+        (EndsSettled seat.new home.new number × NextIsNotDrawn seat.new number)) }
+    ensures some { IfOk result (λ next. IfSome next (λ n. EndsSettled seat.new home.new n
+        × ((m : ℕ) × RisesTo m own (state_of home.old.back) (state_of home.new.back)))) }
+    ensures err { OnErr result ((state_of home.new.back).dead ≡ true) }
+{
+    let Some(redo) = see_front(events, seat, home, own) else {
+        return Ok(None);
+    };
+    let mut gathering = Gathering::begin(own, &redo, &home.next, events.boxes());
+    if redo.number() != number + 1 {
+        put_all_back(events, seat, home, &gathering);
+        return Ok(None);
+    }
+    let mut fronts = look_at_all(events, seat, home, &gathering.ahead);
+    gather(events, seat, home, &mut gathering, &mut fronts);
+    if !persist_bundle(events, seat, home, &gathering)? {
+        unreachable!();
+    }
+    Ok(Some(catch_up(events, seat, home)?))
+}
+
+/// Goes on as long as the number behind the announced one stands in front of the own boxes.
 fn persist_own<M: Medium>(
     events: &Events<M>,
     seat: &mut SlotSeat<M>,
     home: &mut Home<M>,
     own: u64,
-) -> Result<(), BackFault>
-    requires turn { InTurn M.sight events.now seat.old home.old None }
+    settled: u64,
+) -> Result<u64, BackFault>
+    requires turn { InTurn M.sight events.now seat.old home.old [] }
     requires own { IsOwn own seat.old }
     requires thread { own < events.now.setup.threads }
-    requires alive { (state_of home.old.back).dead ≡ false }
-    ensures step { Stepped M.sight events.now seat.old seat.new home.new None }
-    ensures ok { OnOk result ((state_of home.new.back).dead ≡ false) }
-    ensures through { OnOk result (IsThrough seat.new (state_of home.new.back)) }
+    requires settled { EndsSettled seat.old home.old settled }
+    ensures step { Stepped M.sight events.now seat.old seat.new home.new [] }
+    ensures ok { IfOk result (λ n. EndsSettled seat.new home.new n) }
+    ensures next { IfOk result (λ n. NextIsNotDrawn seat.new n) }
     ensures err { OnErr result ((state_of home.new.back).dead ≡ true) }
 {
-    // Each record has a greater number than the one before.
+    let mut number = settled;
+    // Each bundle begins with a greater number than the one before.
     for _look in 0..MAX_NUMBER + 1 {
-        match persist_front(events, seat, home, own)? {
-            Front::Persisted => {}
-            Front::Empty => return Ok(()),
-            Front::Full => return Ok(()),
+        match persist_next(events, seat, home, own, number)? {
+            Some(next) => number = next,
+            None => return Ok(number),
         }
     }
     unreachable!()
 }
 
-/// Persists the records of the boxes of all threads, those of the own one last, and makes all that
-/// leads on durable and reproduced.
+/// Persists what the boxes of all threads have, in bundles of consecutive numbers, and makes all
+/// that leads on durable and reproduced.
 pub fn settle<M: Medium>(
     events: &Events<M>,
     seat: &mut SlotSeat<M>,
     home: &mut Home<M>,
     own: u64,
 ) -> Result<u64, BackFault>
-    requires turn { InTurn M.sight events.now seat.old home.old None }
+    requires turn { InTurn M.sight events.now seat.old home.old [] }
     requires own { IsOwn own seat.old }
     requires thread { own < events.now.setup.threads }
     requires alive { (state_of home.old.back).dead ≡ false }
-    ensures step { Stepped M.sight events.now seat.old seat.new home.new None }
+    ensures step { Stepped M.sight events.now seat.old seat.new home.new [] }
     ensures ok { IfOk result (λ n. EndsSettled seat.new home.new n) }
     ensures next { IfOk result (λ n. NextIsNotDrawn seat.new n) }
     ensures err { OnErr result ((state_of home.new.back).dead ≡ true) }
 {
-    let threads = events.threads();
-    persist_threads(events, seat, home, 0, own)?;
-    persist_threads(events, seat, home, own + 1, threads)?;
-    persist_own(events, seat, home, own)?;
-    catch_up(events, seat, home)
+    persist_all(events, seat, home)?;
+    let number = catch_up(events, seat, home)?;
+    persist_own(events, seat, home, own, number)
 }

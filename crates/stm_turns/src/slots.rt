@@ -60,3 +60,17 @@ pub fn lay<M: Medium>(events: &Events<M>, seat: &mut SlotSeat<M>, slot: usize, v
         Slot::Home(_home) => unreachable!(),
     }
 }
+
+/// The record of a box whose slot was taken last. It stays in the slot.
+pub fn read_record<M: Medium>(events: &Events<M>, seat: &mut SlotSeat<M>, slot: usize) -> Redo
+    requires table { seat.old.table_id ≡ events.now.id }
+    requires front { FrontRecord seat.old.me.1 slot }
+    ensures same { IsSameSeat seat.old seat.new }
+    ensures me { seat.new.me ≡ seat.old.me }
+    ensures was { seat.old.me.1 ≡ (slot, Record result) ∷ rest seat.old.me.1 }
+{
+    let redo = take_record(events, seat, slot);
+    let copy = redo.copy();
+    lay(events, seat, slot, Slot::Record(redo));
+    copy
+}

@@ -1,6 +1,6 @@
 //! The turn is taken and given.
 
-ghost use Rattle.std.specs.Prelude.{◌≡◌, true, [], None, Some, IfOk, IfErr};
+ghost use Rattle.std.specs.Prelude.{◌≡◌, true, [], IfOk, IfErr};
 ghost use Rattle.back_store.specs.BackView.{state_of};
 ghost use Rattle.core_events.specs.Conditions.{May};
 ghost use Rattle.core_events.specs.Events.{give_turn as turn_given, take_turn as turn_taken};
@@ -40,7 +40,7 @@ pub fn take_turn<M: Medium>(
 
 /// Puts the back into its slot and gives the turn; `failed` says whether it met a fault.
 pub fn give_turn<M: Medium>(events: &Events<M>, seat: &mut SlotSeat<M>, home: Home<M>, failed: bool)
-    requires turn { InTurn M.sight events.now seat.old home None }
+    requires turn { InTurn M.sight events.now seat.old home [] }
     requires fault { failed ≡ true → (state_of home.back).dead ≡ true }
     requires settled { IsSettled (state_of home.back) }
     ensures view { IsAfter events.now (turn_given failed) seat.old seat.new 0 }

@@ -22,7 +22,11 @@ pub fn requests_of(alloc: Global, settings: &Settings, file: u64) -> Option<Vec<
         (settings.seed, file, settings.threads)
     };
     let subscribers = settings.subscribers;
-    if file >= files || files > subscribers || subscribers > MAX_SUBSCRIBERS || settings.requests > MOST {
+    if file >= files
+        || files > subscribers
+        || subscribers > MAX_SUBSCRIBERS
+        || settings.requests > MOST
+    {
         return None;
     }
     mix(alloc, seed, file, files, subscribers, settings.requests).ok()

@@ -35,7 +35,9 @@ use std::{env, thread};
 
 fn main(rt: HostRuntime) -> ExitCode {
     let Some(settings) = settings_of(&rt) else {
-        let _ = eprint!(rt; "transaction_trial SUBSCRIBERS THREADS REQUESTS SEED LOCKS apart|shared\n");
+        let _ = eprint!(rt;
+            "transaction_trial SUBSCRIBERS THREADS REQUESTS SEED LOCKS apart|shared\n"
+        );
         return ExitCode::from(2);
     };
     let Some((place, mut jobs)) = prepare(rt.alloc(), &settings) else {
@@ -56,8 +58,19 @@ fn main(rt: HostRuntime) -> ExitCode {
     } else {
         "not as one thread"
     };
-    let _ = print!(rt; "{} threads, {} requests: {said}\n", settings.threads, counts.done);
-    let _ = eprint!(rt; "{}\t{}\t{}\t{}\t{}\t{}\n", time.as_micros(), counts.done, counts.void, counts.refused, counts.extended, counts.full);
+    let _ = print!(rt;
+        "{} threads, {} requests: {said}\n",
+        settings.threads, counts.done
+    );
+    let _ = eprint!(rt;
+        "{}\t{}\t{}\t{}\t{}\t{}\n",
+        time.as_micros(),
+        counts.done,
+        counts.void,
+        counts.refused,
+        counts.extended,
+        counts.full
+    );
     ExitCode::from(if one { 0 } else { 1 })
 }
 

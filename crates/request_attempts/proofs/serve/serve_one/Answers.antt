@@ -1,5 +1,4 @@
-use Rattle.std.proofs.Common.{ℕ, sym, subst, arith}
-use Rattle.request_attempts.specs.Counting.{RisesBy}
+use Rattle.std.proofs.Common.{sym, arith}
 use Rattle.request_attempts.proofs.Serving.{served_on, again_unserved, serving_rests}
 use Rattle.request_attempts.proofs.serve.serve_one.Goals as goal
 

@@ -1,5 +1,4 @@
-use Rattle.std.proofs.Common.{◌≡◌, ◌<◌, refl, sym, ap, subst, arith}
-use Rattle.std.specs.Prelude.{None}
+use Rattle.std.proofs.Common.{◌≡◌, ◌<◌, refl, sym, ap, subst, arith, []}
 use Rattle.core_events.specs.Events.{evict, kept_entry}
 use Rattle.core_events.specs.Setups.{Setup, frame_in, without_pins}
 use Rattle.shadow_pages.specs.PageMap.{PageMap}
@@ -20,7 +19,7 @@ exchange_by-seen-requires-clause-may g c =
     let wanted : q < (setup_of sight t.key).pages = let e = ap (λ (y : Setup). y.pages) i.setup in let m = r.room.map_is.pages in let a = r.room.absent.inside in omega arith in
     let is : kept_entry seat.me.0.view p ≡ c.args.kept = kept_is seat.me.0.view p c.args.kept r.kept.kept in
     let pos : 0 < without_pins (kept_entry seat.me.0.view p) = let a = r.kept.some_frame in let b = r.kept.no_pin in omega arith in
-    may_in_turn sight t seat h None i.belongs i.setup i.holding (evict p) (record { live = i.holding.live; threaded = i.holding.thread; named = inside; can = (i.holding.turn, (c.args.kept, r.kept.kept, r.kept.some_frame)) }) (TriedEvict sight t.key p h seat.me)
+    may_in_turn sight t seat h [] i.belongs i.setup i.holding (evict p) (record { live = i.holding.live; threaded = i.holding.thread; named = inside; can = (i.holding.turn, (c.args.kept, r.kept.kept, r.kept.some_frame)) }) (TriedEvict sight t.key p h seat.me)
     (evict_acts_on sight t.key seat.me h i.holding i.same seat.id p q inside wanted r.room.absent.seen pos)
 
 pub exchange_by-seen-requires-clause-word : goal.exchange_by-seen-requires-clause-word

@@ -1,9 +1,8 @@
-use Rattle.std.proofs.Common.{◌<◌, refl, inr, sym, subst}
+use Rattle.std.proofs.Common.{◌<◌, refl, inr, sym, subst, []}
 use Rattle.core_events.specs.Events.{entry}
 use Rattle.core_events.specs.Setups.{Setup}
 use Rattle.stm_slots.specs.Opening.{setup_of}
 use Rattle.stm_turns.proofs.Seats.{may_in_turn}
-use Rattle.std.specs.Prelude.{None}
 use Rattle.stm_pages.specs.Paging.{FindsEntry}
 use Rattle.stm_pages.specs.Told.{SawEntry}
 use Rattle.stm_pages.proofs.PageActs.{entry_acts_on}
@@ -14,7 +13,7 @@ pub load_by-requires-clause-may : goal.load_by-requires-clause-may
 load_by-requires-clause-may g c =
     let t = c.args.events.now in let r = c.requires.turn in let i = r.turn in let seat = c.args.seat.now in let h = c.args.home.now in let sight = g.M.Medium.sight in let p = c.args.page in
     let inside : p < (setup_of sight t.key).pages = rw i.setup at c.requires.page in
-    may_in_turn sight t seat (record h { pager = r.was }) None i.belongs i.setup i.holding (entry p) (record { live = i.holding.live; threaded = i.holding.thread; named = inside; can = inr i.holding.turn }) (SawEntry sight t.key p h seat.me)
+    may_in_turn sight t seat (record h { pager = r.was }) [] i.belongs i.setup i.holding (entry p) (record { live = i.holding.live; threaded = i.holding.thread; named = inside; can = inr i.holding.turn }) (SawEntry sight t.key p h seat.me)
     (entry_acts_on sight t.key seat.me (record h { pager = r.was }) i.holding i.same seat.id p inside h.pager r.pages r.frames r.lawful)
 
 pub returns-clause-step : goal.returns-clause-step

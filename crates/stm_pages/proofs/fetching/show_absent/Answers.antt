@@ -33,6 +33,7 @@ place_page-requires g c =
         free = c.in-Ok.ensures.ok;
         number = c.args.reproduced;
         settled = (settled_to_on sight t c.args.reproduced seat f.new.seat h f.new.home c.requires.settled both (ap (λ b. state_of b) f.ensures.room.back)).settled;
+        shown = (settled_to_on sight t c.args.reproduced seat f.new.seat h f.new.home c.requires.settled both (ap (λ b. state_of b) f.ensures.room.back)).shown;
         touch = x.result;
         touched = f.ensures.room.touches ∙ touch_kept sight t p x.result seat x.new.seat x.ensures.view;
         reproduced = (let le = c.if-touch-reproduced.false in omega arith);

@@ -1,5 +1,5 @@
-use Rattle.std.proofs.Common.{◌<◌, ◌∙◌, refl, ap, arith}
-use Rattle.std.specs.Prelude.{None, Some}
+use Rattle.std.proofs.Common.{◌<◌, ◌∙◌, refl, ap, arith, []}
+use Rattle.std.specs.Prelude.{Some}
 use Rattle.core_events.specs.Events.{show}
 use Rattle.core_events.specs.Keyed.{find}
 use Rattle.core_events.specs.Setups.{Setup, entry_with}
@@ -21,7 +21,7 @@ store_by-requires-clause-may g c =
     let z = setup_of sight t.key in
     let inside : p < z.pages = let e = ap (λ (y : Setup). y.pages) i.setup in let m = c.requires.room.map_is.pages in let a = c.requires.room.absent.inside in omega arith in
     let below : f < z.frames = let e = ap (λ (y : Setup). y.frames) i.setup in let b = free_inside t.setup h.pager f c.requires.room.map_is c.requires.free in omega arith in
-    rw c.place.ensures.placed (may_in_turn sight t seat h None i.belongs i.setup i.holding (show p f) (record { live = i.holding.live; threaded = i.holding.thread; named = (inside, below); can = (i.holding.turn, c.requires.filled) })
+    rw c.place.ensures.placed (may_in_turn sight t seat h [] i.belongs i.setup i.holding (show p f) (record { live = i.holding.live; threaded = i.holding.thread; named = (inside, below); can = (i.holding.turn, c.requires.filled) })
     (λ n. PagedTo sight t.key (show p f) (record h { pager = map_with h.pager f (Some p) }) seat.me 0)
     (show_acts_on sight t.key seat.me h i.holding i.same seat.id p f inside below))
 

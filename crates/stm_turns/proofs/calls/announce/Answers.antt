@@ -1,8 +1,8 @@
-use Rattle.std.proofs.Common.{◌+◌}
+use Rattle.std.proofs.Common.{refl}
 use Rattle.back_store.specs.BackView.{state_of}
 use Rattle.stm_slots.specs.Opening.{setup_of, since_of}
-use Rattle.stm_turns.proofs.Past.{keeps_announced, settled_end}
-use Rattle.stm_turns.proofs.Calling.{alive_unless, announce_goes, announced_ok, called_turn, drawn_from}
+use Rattle.stm_turns.proofs.Past.{keeps_announced}
+use Rattle.stm_turns.proofs.Calling.{announce_goes, announced_ok, called_turn}
 use Rattle.stm_turns.proofs.Seats.{same_turn}
 use Rattle.stm_turns.proofs.calls.announce.Goals as goal
 
@@ -42,12 +42,6 @@ returns-clause-ok g c =
     let i = c.requires.turn.1 in let ok = c.in_ok-number in
     record { is = (announced_ok z.threads z.first (state_of h.back) i.holding.records i.holding.known.lawful (state_of b) ok.number a.result ok.was ok.ensures.answer ok.ensures.state a.ensures.cause.dead).is; durable = c.raise_durable.ensures.raised }
 
-pub returns-clause-drawn : goal.returns-clause-drawn
-returns-clause-drawn g c =
-    let t = c.args.events.now in let seat = c.args.seat.now in let h = c.args.home.now in let sight = g.M.Medium.sight in let a = c.announce in let b = a.new.back in let z = setup_of sight t.key in
-    let hand = c.requires.turn.0 in let i = c.requires.turn.1 in let ok = c.in_ok-number in
-    drawn_from sight t seat h hand i (ok.number + 1) (announced_ok z.threads z.first (state_of h.back) i.holding.records i.holding.known.lawful (state_of b) ok.number a.result ok.was ok.ensures.answer ok.ensures.state a.ensures.cause.dead).lacks
-
 pub returns-clause-past : goal.returns-clause-past
 returns-clause-past g c =
     let t = c.args.events.now in let h = c.args.home.now in let sight = g.M.Medium.sight in let a = c.announce in let b = a.new.back in let z = setup_of sight t.key in
@@ -55,7 +49,12 @@ returns-clause-past g c =
     keeps_announced z.first (state_of h.back) i.holding.records i.holding.known.lawful ok.number (state_of b) ok.ensures.state
     (announce_goes z.threads z.first (state_of h.back) i.holding.records i.holding.known.lawful (state_of b) a.result a.ensures.answer a.ensures.state a.ensures.cause.dead).durable
 
-pub returns-clause-same : goal.returns-clause-same
-returns-clause-same g c =
-    let t = c.args.events.now in let h = c.args.home.now in let z = setup_of g.M.Medium.sight t.key in let i = c.requires.turn.1 in let ok = c.in_ok-number in
-    settled_end z.first (state_of h.back) i.holding.records i.holding.known.lawful ok.number ok.ensures.answer (alive_unless (state_of h.back) c.announce.result ok.number ok.was c.announce.ensures.cause.dead)
+pub returns-clause-places : goal.returns-clause-places
+returns-clause-places g c =
+    let t = c.args.events.now in let h = c.args.home.now in let a = c.announce in let b = a.new.back in let z = setup_of g.M.Medium.sight t.key in let i = c.requires.turn.1 in
+    record { next = refl; sizes = (announce_goes z.threads z.first (state_of h.back) i.holding.records i.holding.known.lawful (state_of b) a.result a.ensures.answer a.ensures.state a.ensures.cause.dead).sizes }
+
+pub returns-in_err-number-clause-places : goal.returns-in_err-number-clause-places
+returns-in_err-number-clause-places g c =
+    let t = c.args.events.now in let h = c.args.home.now in let a = c.announce in let b = a.new.back in let z = setup_of g.M.Medium.sight t.key in let i = c.requires.turn.1 in
+    record { next = refl; sizes = (announce_goes z.threads z.first (state_of h.back) i.holding.records i.holding.known.lawful (state_of b) a.result a.ensures.answer a.ensures.state a.ensures.cause.dead).sizes }

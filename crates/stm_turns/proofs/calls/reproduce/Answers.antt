@@ -1,4 +1,4 @@
-use Rattle.std.proofs.Common.{subst, arith, ℕ}
+use Rattle.std.proofs.Common.{subst, arith, refl, ℕ}
 use Rattle.log_waiting.specs.Backlog.{StopsAfter}
 use Rattle.back_store.specs.BackView.{state_of}
 use Rattle.stm_slots.specs.Opening.{setup_of, since_of}
@@ -53,14 +53,7 @@ returns-clause-ok g c =
     let i = c.requires.turn.1 in let ok = c.in_ok-number in let d = c.args.seat.now.me.0.view.turn.durable in
     let stop = subst (λ (d : ℕ). StopsAfter (state_of h.back).log d ok.number) c.durable-durable.ensures.number ok.ensures.answer in
     let e = reproduced_ok z.threads z.first (state_of h.back) i.holding.records i.holding.known.lawful (state_of b) d ok.number c.requires.announced stop ok.ensures.state in
-    record { is = e.is; reproduced = e.reproduced; durable = c.raise_reproduced.ensures.raised; shown = c.raise_reproduced.ensures.shown }
-
-pub returns-clause-same : goal.returns-clause-same
-returns-clause-same g c =
-    let t = c.args.events.now in let h = c.args.home.now in let sight = g.M.Medium.sight in let z = setup_of sight t.key in
-    let i = c.requires.turn.1 in let ok = c.in_ok-number in
-    let stop = subst (λ (d : ℕ). StopsAfter (state_of h.back).log d ok.number) c.durable-durable.ensures.number ok.ensures.answer in
-    let n_is = stops_at_durable z.threads z.first (state_of h.back) i.holding.records i.holding.known.lawful ok.number stop in let told = c.requires.announced.durable in omega arith
+    record { is = e.is; reproduced = e.reproduced; durable = c.raise_reproduced.ensures.raised }
 
 pub returns-clause-past : goal.returns-clause-past
 returns-clause-past g c =
@@ -69,3 +62,13 @@ returns-clause-past g c =
     let stop = subst (λ (d : ℕ). StopsAfter (state_of h.back).log d ok.number) c.durable-durable.ensures.number ok.ensures.answer in
     let n_is = stops_at_durable z.threads z.first (state_of h.back) i.holding.records i.holding.known.lawful ok.number stop in
     λ thread low past. subst (λ (u : BackState). IsPast u thread low) (sym ok.ensures.state) (past_reproduced z.first (state_of h.back) i.holding.records i.holding.known.lawful ok.number thread low (omega arith) past)
+
+pub returns-clause-places : goal.returns-clause-places
+returns-clause-places g c =
+    let t = c.args.events.now in let h = c.args.home.now in let seat = c.args.seat.now in let sight = g.M.Medium.sight in let a = c.reproduce in let b = a.new.back in let z = setup_of sight t.key in let hand = c.requires.turn.0 in let i = c.requires.turn.1 in
+    record { next = refl; sizes = (reproduce_goes z.threads z.first (state_of h.back) i.holding.records i.holding.known.lawful (state_of b) 0 a.result a.ensures.state (lanes_of_threads sight t seat h hand i)).sizes }
+
+pub returns-in_err-number-clause-places : goal.returns-in_err-number-clause-places
+returns-in_err-number-clause-places g c =
+    let t = c.args.events.now in let h = c.args.home.now in let seat = c.args.seat.now in let sight = g.M.Medium.sight in let a = c.reproduce in let b = a.new.back in let z = setup_of sight t.key in let hand = c.requires.turn.0 in let i = c.requires.turn.1 in
+    record { next = refl; sizes = (reproduce_goes z.threads z.first (state_of h.back) i.holding.records i.holding.known.lawful (state_of b) 0 a.result a.ensures.state (lanes_of_threads sight t seat h hand i)).sizes }

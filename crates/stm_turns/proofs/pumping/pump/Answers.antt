@@ -1,5 +1,5 @@
 use Rattle.std.proofs.Common.{refl, sym, ◌∙◌, true, false}
-use Rattle.std.specs.Prelude.{None}
+use Rattle.std.specs.Prelude.{[]}
 use Rattle.back_store.specs.BackView.{state_of}
 use Rattle.stm_turns.proofs.Calling.{settled_at, settled_dead}
 use Rattle.stm_turns.proofs.WholeTurns.{bare_from, has_pumped, has_failed, own_taken}
@@ -21,7 +21,7 @@ returns-then-is_dead-clause-left g c = bare_from c.args.events.now c.args.seat.n
 pub returns-then-is_dead-clause-err : goal.returns-then-is_dead-clause-err
 returns-then-is_dead-clause-err g c =
     let t = c.args.events.now in let sight = g.M.Medium.sight in let a = c.take_turn.new.seat in let arm = c.in-Ok in let i = arm.ensures.ok in
-    has_failed sight t c.args.seat.now a a c.give_turn.new.seat arm.home arm.home i (same_turn sight t a arm.home None i.in_turn) true c.give_turn.ensures.view (sym c.is_dead.ensures ∙ c.if-is_dead.true) (sym c.is_dead.ensures ∙ c.if-is_dead.true)
+    has_failed sight t c.args.seat.now a a c.give_turn.new.seat arm.home arm.home i (same_turn sight t a arm.home [] i.in_turn) true c.give_turn.ensures.view (sym c.is_dead.ensures ∙ c.if-is_dead.true) (sym c.is_dead.ensures ∙ c.if-is_dead.true)
 
 pub settle-requires-clause-turn : goal.settle-requires-clause-turn
 settle-requires-clause-turn g c = c.in-Ok.ensures.ok.in_turn

@@ -22,4 +22,4 @@ store_by-requires-clause-may g c =
 pub returns-clause-step : goal.returns-clause-step
 returns-clause-step g c =
     let x = c.store_by in
-    raised_turn g.M.Medium.sight c.args.events.now c.args.seat.now x.new.seat c.args.home.now (raise_durable c.args.number) x.ensures.then refl refl refl x.ensures.seat.0 x.ensures.seat.1
+    raised_turn g.M.Medium.sight c.args.events.now c.args.seat.now x.new.seat c.args.home.now (raise_durable c.args.number) 0 x.ensures.then refl refl refl x.ensures.seat.0 x.ensures.seat.1

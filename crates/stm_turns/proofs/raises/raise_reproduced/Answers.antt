@@ -21,7 +21,7 @@ store_by-requires-clause-may g c =
 pub returns-clause-step : goal.returns-clause-step
 returns-clause-step g c =
     let x = c.store_by in
-    raised_turn g.M.Medium.sight c.args.events.now c.args.seat.now x.new.seat c.args.home.now (raise_reproduced c.args.number) x.ensures.then refl refl refl x.ensures.seat.0 x.ensures.seat.1
+    raised_turn g.M.Medium.sight c.args.events.now c.args.seat.now x.new.seat c.args.home.now (raise_reproduced c.args.number) 0 x.ensures.then refl refl refl x.ensures.seat.0 x.ensures.seat.1
 
 pub returns-clause-shown : goal.returns-clause-shown
 returns-clause-shown g c = raised_shown g.M.Medium.sight c.args.events.now c.args.seat.now c.store_by.new.seat c.args.home.now c.args.number c.store_by.ensures.then

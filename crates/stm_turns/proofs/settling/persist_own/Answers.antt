@@ -1,43 +1,34 @@
-use Rattle.std.proofs.Common.{arith, inl, subst}
-use Rattle.std.specs.Prelude.{None}
+use Rattle.std.proofs.Common.{ℕ, [], arith, inl, subst}
+use Rattle.std.specs.Prelude.{Option, IfSome}
+use Rattle.stm_turns.specs.Turns.{EndsSettled, RisesTo}
 use Rattle.back_store.specs.BackView.{state_of}
-use Rattle.stm_turns.specs.Front.{FrontDone}
-use Rattle.stm_turns.specs.declared.front.Front.{Front}
-use Rattle.stm_turns.proofs.Fronts.{none_over, own_still, past_more, through_empty, through_stuck}
+use Rattle.stm_turns.proofs.Settled.{none_over, own_still, past_more}
 use Rattle.stm_turns.proofs.Seats.{same_turn, then_turn}
 use Rattle.stm_turns.proofs.settling.persist_own.Goals as goal
 
 pub loop-look-init : goal.loop-look-init
-loop-look-init g c = record { step = same_turn g.M.Medium.sight c.args.events.now c.args.seat.now c.args.home.now None c.requires.turn; alive = c.requires.alive; past = (0, inl (omega arith), (omega arith)) }
+loop-look-init g c = record { step = same_turn g.M.Medium.sight c.args.events.now c.args.seat.now c.args.home.now [] c.requires.turn; settled = c.requires.settled; past = (0, inl (omega arith), (omega arith)) }
 
-pub returns-in_err-persist_front-clause-step : goal.returns-in_err-persist_front-clause-step
-returns-in_err-persist_front-clause-step g c = then_turn g.M.Medium.sight c.args.events.now c.args.seat.now c.loop-look.seat c.persist_front.new.seat c.loop-look.home c.persist_front.new.home None None c.loop-look.invariant.step c.persist_front.ensures.step
+pub persist_next-requires-clause-own : goal.persist_next-requires-clause-own
+persist_next-requires-clause-own g c = let l = c.loop-look in own_still c.args.own c.args.seat.now l.seat l.invariant.step.view c.requires.own
 
-pub returns-in-Empty-clause-step : goal.returns-in-Empty-clause-step
-returns-in-Empty-clause-step g c = then_turn g.M.Medium.sight c.args.events.now c.args.seat.now c.loop-look.seat c.persist_front.new.seat c.loop-look.home c.persist_front.new.home None None c.loop-look.invariant.step c.persist_front.ensures.step
+pub returns-in_err-next-clause-step : goal.returns-in_err-next-clause-step
+returns-in_err-next-clause-step g c = let l = c.loop-look in let x = c.persist_next in then_turn g.M.Medium.sight c.args.events.now c.args.seat.now l.seat x.new.seat l.home x.new.home [] [] l.invariant.step x.ensures.step
 
-pub returns-in-Empty-clause-through : goal.returns-in-Empty-clause-through
-returns-in-Empty-clause-through g c =
-    through_empty c.args.own c.loop-look.seat c.persist_front.new.seat (own_still c.args.own c.args.seat.now c.loop-look.seat c.loop-look.invariant.step.view c.requires.own) (state_of c.persist_front.new.home.back)
-    (subst (λ (front : Front). FrontDone front c.args.own c.loop-look.seat c.persist_front.new.seat (state_of c.loop-look.home.back) (state_of c.persist_front.new.home.back)) c.in-Empty.is c.in_ok-persist_front.ensures.front)
-
-pub returns-in-Full-clause-step : goal.returns-in-Full-clause-step
-returns-in-Full-clause-step g c = then_turn g.M.Medium.sight c.args.events.now c.args.seat.now c.loop-look.seat c.persist_front.new.seat c.loop-look.home c.persist_front.new.home None None c.loop-look.invariant.step c.persist_front.ensures.step
-
-pub returns-in-Full-clause-through : goal.returns-in-Full-clause-through
-returns-in-Full-clause-through g c =
-    through_stuck c.args.own c.loop-look.seat c.persist_front.new.seat (own_still c.args.own c.args.seat.now c.loop-look.seat c.loop-look.invariant.step.view c.requires.own) (state_of c.persist_front.new.home.back)
-    (subst (λ (front : Front). FrontDone front c.args.own c.loop-look.seat c.persist_front.new.seat (state_of c.loop-look.home.back) (state_of c.persist_front.new.home.back)) c.in-Full.is c.in_ok-persist_front.ensures.front)
-
-pub loop-look-preserved : goal.loop-look-preserved
-loop-look-preserved g c = record {
-  step = then_turn g.M.Medium.sight c.args.events.now c.args.seat.now c.loop-look.seat c.persist_front.new.seat c.loop-look.home c.persist_front.new.home None None c.loop-look.invariant.step c.persist_front.ensures.step;
-  alive = c.in_ok-persist_front.ensures.ok;
-  past = past_more c.args.own c.loop-look._look (state_of c.loop-look.home.back) (state_of c.persist_front.new.home.back) c.loop-look.invariant.past
-      (subst (λ (front : Front). FrontDone front c.args.own c.loop-look.seat c.persist_front.new.seat (state_of c.loop-look.home.back) (state_of c.persist_front.new.home.back)) c.in-Persisted.is c.in_ok-persist_front.ensures.front);
-}
+pub returns-in-None-clause-step : goal.returns-in-None-clause-step
+returns-in-None-clause-step g c = let l = c.loop-look in let x = c.persist_next in then_turn g.M.Medium.sight c.args.events.now c.args.seat.now l.seat x.new.seat l.home x.new.home [] [] l.invariant.step x.ensures.step
 
 pub unreachable-requires : goal.unreachable-requires
 unreachable-requires g c =
     let l = c.loop-look in
     none_over g.M.Medium.sight c.args.events.now l.seat l.home l.invariant.step.turn c.args.own l._look c.requires.thread (omega arith) l.invariant.past
+
+pub loop-look-preserved : goal.loop-look-preserved
+loop-look-preserved g c =
+    let l = c.loop-look in let x = c.persist_next in
+    let some = subst (λ (o : Option ℕ). IfSome o (λ n. EndsSettled x.new.seat x.new.home n × ((m : ℕ) × RisesTo m c.args.own (state_of l.home.back) (state_of x.new.home.back)))) c.in-Some.is c.in_ok-next.ensures.some in
+    record {
+      step = then_turn g.M.Medium.sight c.args.events.now c.args.seat.now l.seat x.new.seat l.home x.new.home [] [] l.invariant.step x.ensures.step;
+      settled = some.0;
+      past = past_more c.args.own l._look (state_of l.home.back) (state_of x.new.home.back) l.invariant.past some.1;
+    }

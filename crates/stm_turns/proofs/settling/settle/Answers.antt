@@ -1,34 +1,27 @@
-use Rattle.std.specs.Prelude.{None}
-use Rattle.back_store.specs.BackView.{state_of}
-use Rattle.stm_turns.proofs.Fronts.{not_next, own_still}
+use Rattle.std.proofs.Common.{[]}
+use Rattle.stm_turns.proofs.Settled.{own_still}
 use Rattle.stm_turns.proofs.Seats.{then_turn}
 use Rattle.stm_turns.proofs.settling.settle.Goals as goal
 
-pub returns-in_err-persist_threads-2-clause-step : goal.returns-in_err-persist_threads-2-clause-step
-returns-in_err-persist_threads-2-clause-step g c =
-    let a = c.persist_threads in let b = c.persist_threads-2 in
-    then_turn g.M.Medium.sight c.args.events.now c.args.seat.now a.new.seat b.new.seat a.new.home b.new.home None None a.ensures.step b.ensures.step
+pub catch_up-requires : goal.catch_up-requires
+catch_up-requires g c = record { turn = ([], c.persist_all.ensures.step.turn) }
+
+pub returns-in_err-number-clause-step : goal.returns-in_err-number-clause-step
+returns-in_err-number-clause-step g c =
+    let a = c.persist_all in let b = c.catch_up in
+    then_turn g.M.Medium.sight c.args.events.now c.args.seat.now a.new.seat b.new.seat a.new.home b.new.home [] [] a.ensures.step (b.ensures.step [] a.ensures.step.turn)
+
+pub persist_own-requires-clause-turn : goal.persist_own-requires-clause-turn
+persist_own-requires-clause-turn g c = let a = c.persist_all in (c.catch_up.ensures.step [] a.ensures.step.turn).turn
 
 pub persist_own-requires-clause-own : goal.persist_own-requires-clause-own
 persist_own-requires-clause-own g c =
-    let a = c.persist_threads in let b = c.persist_threads-2 in
-    let two = then_turn g.M.Medium.sight c.args.events.now c.args.seat.now a.new.seat b.new.seat a.new.home b.new.home None None a.ensures.step b.ensures.step in
-    own_still c.args.own c.args.seat.now b.new.seat two.view c.requires.own
-
-pub returns-in_err-persist_own-clause-step : goal.returns-in_err-persist_own-clause-step
-returns-in_err-persist_own-clause-step g c =
-    let t = c.args.events.now in let a = c.persist_threads in let b = c.persist_threads-2 in let d = c.persist_own in let sight = g.M.Medium.sight in
-    let two = then_turn sight t c.args.seat.now a.new.seat b.new.seat a.new.home b.new.home None None a.ensures.step b.ensures.step in
-    then_turn sight t c.args.seat.now b.new.seat d.new.seat b.new.home d.new.home None None two d.ensures.step
+    let a = c.persist_all in let b = c.catch_up in
+    let s = then_turn g.M.Medium.sight c.args.events.now c.args.seat.now a.new.seat b.new.seat a.new.home b.new.home [] [] a.ensures.step (b.ensures.step [] a.ensures.step.turn) in
+    own_still c.args.own c.args.seat.now b.new.seat s.view c.requires.own
 
 pub returns-clause-step : goal.returns-clause-step
 returns-clause-step g c =
-    let t = c.args.events.now in let a = c.persist_threads in let b = c.persist_threads-2 in let d = c.persist_own in let x = c.catch_up in let sight = g.M.Medium.sight in
-    let two = then_turn sight t c.args.seat.now a.new.seat b.new.seat a.new.home b.new.home None None a.ensures.step b.ensures.step in
-    let three = then_turn sight t c.args.seat.now b.new.seat d.new.seat b.new.home d.new.home None None two d.ensures.step in
-    then_turn sight t c.args.seat.now d.new.seat x.new.seat d.new.home x.new.home None None three (x.ensures.step None three.turn)
-
-pub returns-clause-next : goal.returns-clause-next
-returns-clause-next g c =
-    let d = c.persist_own in let x = c.catch_up in
-    not_next x.result d.new.seat x.new.seat (state_of d.new.home.back) c.in_ok-persist_own.ensures.through (x.ensures.step None d.ensures.step.turn).view x.ensures.drawn x.ensures.same
+    let a = c.persist_all in let b = c.catch_up in let d = c.persist_own in
+    let s = then_turn g.M.Medium.sight c.args.events.now c.args.seat.now a.new.seat b.new.seat a.new.home b.new.home [] [] a.ensures.step (b.ensures.step [] a.ensures.step.turn) in
+    then_turn g.M.Medium.sight c.args.events.now c.args.seat.now b.new.seat d.new.seat b.new.home d.new.home [] [] s d.ensures.step

@@ -1,5 +1,4 @@
 use Rattle.std.proofs.Common.{◌*◌, ◌∙◌, sym, refl, ap, subst, []}
-use Rattle.std.specs.Prelude.{None}
 use Rattle.core_events.specs.Events.{give_turn}
 use Rattle.core_events.specs.Setups.{Setup}
 use Rattle.core_table.specs.Known.{Known}
@@ -17,10 +16,10 @@ pub store_by-requires-clause-may : goal.store_by-requires-clause-may
 store_by-requires-clause-may g c =
     let t = c.args.events.now in let o = t.key in let i = c.requires.turn in let seat = c.lay.new.seat in let sight = g.M.Medium.sight in let home = c.args.home in
     let same = ap (λ m. m.0) c.lay.ensures.me in
-    let holding = subst (λ (k : Known Beside). Holding sight o k home None) (sym same) i.holding in
+    let holding = subst (λ (k : Known Beside). Holding sight o k home []) (sym same) i.holding in
     let slots = laid_in c.args.seat.now.me seat.me c.box_count-slot.result (back_slot (setup_of sight o)) (Home home) Empty [] c.lay.ensures.me i.slots (c.box_count-slot.ensures.count ∙ ap (λ (y : Setup). y.threads * y.boxes) i.setup) in
-    may_in_turn sight t seat home None (laid_belongs sight t c.args.seat.now seat i.belongs c.lay.ensures.same.0 same) i.setup holding (give_turn c.args.failed) (record { live = holding.live; threaded = holding.thread; named = tt; can = (holding.turn, λ e. refl) }) (λ n. GaveTurn sight o c.args.failed seat.me 0)
-    (give_acts_on sight o seat.me home None holding seat.id c.args.failed refl slots c.requires.settled c.requires.fault)
+    may_in_turn sight t seat home [] (laid_belongs sight t c.args.seat.now seat i.belongs c.lay.ensures.same.0 same) i.setup holding (give_turn c.args.failed) (record { live = holding.live; threaded = holding.thread; named = tt; can = (holding.turn, λ e. refl) }) (λ n. GaveTurn sight o c.args.failed seat.me 0)
+    (give_acts_on sight o seat.me home [] holding seat.id c.args.failed refl slots c.requires.settled c.requires.fault)
 
 pub returns-clause-bare : goal.returns-clause-bare
 returns-clause-bare g c =

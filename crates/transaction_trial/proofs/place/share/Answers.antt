@@ -1,4 +1,4 @@
-use Rattle.std.proofs.Common.{refl, ap, ◌∙◌}
+use Rattle.std.proofs.Common.{refl}
 use Rattle.transaction_trial.proofs.place.share.Goals as goal
 
 pub new-requires-2 : goal.new-requires-2

@@ -1,0 +1,36 @@
+use Rattle.back_store.specs.BackView.{state_of}
+use Rattle.dude_base.specs.Records.{first_of}
+use Rattle.stm_turns.proofs.Bundling.{rises_after, then_bare, with_of}
+use Rattle.stm_turns.proofs.Calling.{may_put_all, with_on}
+use Rattle.stm_turns.proofs.bundles.retry.Goals as goal
+
+pub catch_up-requires : goal.catch_up-requires
+catch_up-requires g c = record { turn = (c.requires.with.hand, c.requires.with.turn) }
+
+pub persist_or_put_back-requires-clause-with : goal.persist_or_put_back-requires-clause-with
+persist_or_put_back-requires-clause-with g c =
+    let t = c.args.events.now in let sight = g.M.Medium.sight in let seat = c.args.seat.now in let x = c.catch_up in let q = c.args.gathering.now in
+    with_of sight t seat x.new.seat x.new.home q (with_on sight t seat c.args.home.now q c.requires.with x.new.seat x.new.home x.ensures.step x.ensures.places)
+
+pub returns-in-Ok-clause-step : goal.returns-in-Ok-clause-step
+returns-in-Ok-clause-step g c =
+    let t = c.args.events.now in let sight = g.M.Medium.sight in let seat = c.args.seat.now in let x = c.catch_up in let q = c.args.gathering.now in let y = c.persist_or_put_back in
+    then_bare sight t seat x.new.seat y.new.seat x.new.home y.new.home q (with_on sight t seat c.args.home.now q c.requires.with x.new.seat x.new.home x.ensures.step x.ensures.places) y.ensures.step
+
+pub returns-in-Ok-clause-rises : goal.returns-in-Ok-clause-rises
+returns-in-Ok-clause-rises g c =
+    let x = c.catch_up in let q = c.args.gathering.now in let y = c.persist_or_put_back in
+    rises_after (first_of q.bundle) q.ring y.result (state_of c.args.home.now.back) (state_of x.new.home.back) (state_of y.new.home.back) c.in-Ok.ensures.past y.ensures.rises
+
+pub put_all_back-requires-clause-may : goal.put_all_back-requires-clause-may
+put_all_back-requires-clause-may g c =
+    let t = c.args.events.now in let sight = g.M.Medium.sight in let seat = c.args.seat.now in let x = c.catch_up in let q = c.args.gathering.now in
+    may_put_all sight t x.new.seat x.new.home q (with_of sight t seat x.new.seat x.new.home q (with_on sight t seat c.args.home.now q c.requires.with x.new.seat x.new.home x.ensures.step x.ensures.places))
+
+pub put_all_back-requires-clause-few : goal.put_all_back-requires-clause-few
+put_all_back-requires-clause-few g c = c.requires.with.gathered.few
+
+pub returns-in-Err-clause-step : goal.returns-in-Err-clause-step
+returns-in-Err-clause-step g c =
+    let t = c.args.events.now in let sight = g.M.Medium.sight in let seat = c.args.seat.now in let x = c.catch_up in let q = c.args.gathering.now in let y = c.put_all_back in
+    then_bare sight t seat x.new.seat y.new.seat x.new.home x.new.home q (with_on sight t seat c.args.home.now q c.requires.with x.new.seat x.new.home x.ensures.step x.ensures.places) y.ensures.step

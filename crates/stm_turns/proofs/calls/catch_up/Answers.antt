@@ -1,0 +1,21 @@
+use Rattle.std.proofs.Common.{◌∙◌}
+use Rattle.back_store.specs.BackView.{state_of}
+use Rattle.stm_turns.proofs.Past.{then_past}
+use Rattle.stm_turns.proofs.Seats.{then_turn}
+use Rattle.stm_turns.proofs.calls.catch_up.Goals as goal
+
+pub reproduce-requires-clause-turn : goal.reproduce-requires-clause-turn
+reproduce-requires-clause-turn g c = (c.requires.turn.0, (c.announce.ensures.step c.requires.turn.0 c.requires.turn.1).turn)
+
+pub returns-clause-step : goal.returns-clause-step
+returns-clause-step g c =
+    let a = c.announce in let r = c.reproduce in
+    λ hand i. let one = a.ensures.step hand i in then_turn g.M.Medium.sight c.args.events.now c.args.seat.now a.new.seat r.new.seat a.new.home r.new.home hand hand one (r.ensures.step hand one.turn)
+
+pub returns-clause-past : goal.returns-clause-past
+returns-clause-past g c =
+    let a = c.announce in let r = c.reproduce in
+    then_past (state_of c.args.home.now.back) (state_of a.new.home.back) (state_of r.new.home.back) r.result c.in_ok-announce.ensures.past r.ensures.past
+
+pub returns-clause-places : goal.returns-clause-places
+returns-clause-places g c = let a = c.announce.ensures.places in let r = c.reproduce.ensures.places in record { next = r.next ∙ a.next; sizes = r.sizes ∙ a.sizes }

@@ -1,0 +1,19 @@
+use Rattle.std.proofs.Common.{◌∙◌, [], ap, arith}
+use Rattle.core_events.specs.Setups.{Setup}
+use Rattle.stm_turns.proofs.Seats.{then_turn}
+use Rattle.stm_turns.proofs.settling.persist_all.Goals as goal
+
+pub loop-init : goal.loop-init
+loop-init g c = record { step = c.look_at_all-fronts.ensures.step [] c.requires.turn; alive = c.requires.alive }
+
+pub returns-in_err-persist_from-clause-step : goal.returns-in_err-persist_from-clause-step
+returns-in_err-persist_from-clause-step g c = let l = c.loop in let x = c.persist_from in then_turn g.M.Medium.sight c.args.events.now c.args.seat.now l.seat x.new.seat l.home x.new.home [] [] l.invariant.step x.ensures.step
+
+pub loop-preserved : goal.loop-preserved
+loop-preserved g c =
+    let l = c.loop in let x = c.persist_from in
+    record { step = then_turn g.M.Medium.sight c.args.events.now c.args.seat.now l.seat x.new.seat l.home x.new.home [] [] l.invariant.step x.ensures.step; alive = c.in_ok-persist_from.ensures.ok }
+
+pub least-requires : goal.least-requires
+least-requires g c =
+    let wide = c.requires.turn.holding.wide in let e = c.threads.ensures ∙ ap (λ (y : Setup). y.threads) c.requires.turn.setup in omega arith

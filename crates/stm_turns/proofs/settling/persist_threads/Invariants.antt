@@ -1,8 +1,0 @@
-use Rattle.std.proofs.Common.{◌≡◌, false}
-use Rattle.std.specs.Prelude.{None}
-use Rattle.back_store.specs.BackView.{state_of}
-use Rattle.stm_turns.specs.Turns.{Stepped}
-use Rattle.stm_turns.proofs.settling.persist_threads.Given as goal
-
-abbrev pub invariant-loop-thread : goal.invariant-loop-thread
-invariant-loop-thread g l = record { step : Stepped g.M.Medium.sight l.events l.fn.seat l.seat l.home None; alive : (state_of l.home.back).dead ≡ false }

@@ -1,0 +1,128 @@
+//! The bundle of the records in hand is persisted, or they stay in their boxes.
+
+ghost use Rattle.std.specs.Prelude.{◌≡◌, ◌+◌, ◌<◌, [], IfOk, OnOk, OnErr, true, false};
+ghost use Rattle.back_store.specs.BackView.{state_of};
+ghost use Rattle.dude_base.specs.Records.{first_of};
+ghost use Rattle.stm_turns.specs.Bundles.{InTurnWith, IsAliveUnless, IsLate, SteppedBy};
+ghost use Rattle.stm_turns.specs.Turns.{RisesTo, Stepped};
+
+use crate::calls::catch_up;
+use crate::gathering::Gathering;
+use crate::letting::{empty_all, put_all_back};
+use crate::slots::SlotSeat;
+use back_store::BackFault;
+use pmem_trait::Medium;
+use stm_slots::home::Home;
+use stm_slots::slots_rule::Events;
+
+/// Persists the bundle of the records in hand, and empties their boxes. Where its ring is full they
+/// stay in hand; where the device fails they are put back into their boxes.
+fn persist<M: Medium>(
+    events: &Events<M>,
+    seat: &mut SlotSeat<M>,
+    home: &mut Home<M>,
+    gathering: &Gathering,
+) -> Result<(), BackFault>
+    requires with { InTurnWith M.sight events.now seat.old home.old gathering.now }
+    requires alive { (state_of home.old.back).dead ≡ false }
+    ensures step { SteppedBy M.sight events.now result seat.old seat.new home.new gathering.now }
+    ensures life { IsAliveUnless result (state_of home.new.back) }
+    ensures rises { OnOk result (RisesTo (first_of gathering.now.bundle) gathering.now.ring
+        (state_of home.old.back) (state_of home.new.back)) }
+    ensures late { IsLate result (first_of gathering.now.bundle)
+        (state_of home.old.back) (state_of home.new.back) }
+{
+    match known_back::persist(&mut home.back, gathering.ring, &gathering.bundle) {
+        Ok(()) => {
+            empty_all(events, seat, home, gathering);
+            Ok(())
+        }
+        Err(BackFault::RingFull { used, need }) => Err(BackFault::RingFull { used, need }),
+        Err(BackFault::Device) => {
+            put_all_back(events, seat, home, gathering);
+            Err(BackFault::Device)
+        }
+        Err(BackFault::Dead) => unreachable!(),
+    }
+}
+
+/// Tries once more to persist the bundle of the records in hand, and puts them back where its ring
+/// is full. Answers whether it was persisted.
+fn persist_or_put_back<M: Medium>(
+    events: &Events<M>,
+    seat: &mut SlotSeat<M>,
+    home: &mut Home<M>,
+    gathering: &Gathering,
+) -> Result<bool, BackFault>
+    requires with { InTurnWith M.sight events.now seat.old home.old gathering.now }
+    requires alive { (state_of home.old.back).dead ≡ false }
+    ensures step { Stepped M.sight events.now seat.old seat.new home.new [] }
+    ensures ok { OnOk result ((state_of home.new.back).dead ≡ false) }
+    ensures rises { IfOk result (λ done. done ≡ true
+        → RisesTo (first_of gathering.now.bundle) gathering.now.ring
+        (state_of home.old.back) (state_of home.new.back)) }
+    ensures err { OnErr result ((state_of home.new.back).dead ≡ true) }
+{
+    match persist(events, seat, home, gathering) {
+        Ok(()) => Ok(true),
+        Err(BackFault::RingFull { used: _, need: _ }) => {
+            put_all_back(events, seat, home, gathering);
+            Ok(false)
+        }
+        Err(BackFault::Device) => Err(BackFault::Device),
+        Err(BackFault::Dead) => Err(BackFault::Dead),
+    }
+}
+
+/// Announces and reproduces all, and tries once more to persist the bundle of the records in hand.
+fn retry<M: Medium>(
+    events: &Events<M>,
+    seat: &mut SlotSeat<M>,
+    home: &mut Home<M>,
+    gathering: &Gathering,
+) -> Result<bool, BackFault>
+    requires with { InTurnWith M.sight events.now seat.old home.old gathering.now }
+    ensures step { Stepped M.sight events.now seat.old seat.new home.new [] }
+    ensures ok { OnOk result ((state_of home.new.back).dead ≡ false) }
+    ensures rises { IfOk result (λ done. done ≡ true
+        → RisesTo (first_of gathering.now.bundle) gathering.now.ring
+        (state_of home.old.back) (state_of home.new.back)) }
+    ensures err { OnErr result ((state_of home.new.back).dead ≡ true) }
+{
+    match catch_up(events, seat, home) {
+        Ok(_) => persist_or_put_back(events, seat, home, gathering),
+        Err(fault) => {
+            put_all_back(events, seat, home, gathering);
+            Err(fault)
+        }
+    }
+}
+
+/// Persists the bundle of the records in hand, and empties their boxes; where its ring is full, once
+/// more when all was reproduced. Answers whether it was persisted: else the records are in their
+/// boxes again.
+pub fn persist_bundle<M: Medium>(
+    events: &Events<M>,
+    seat: &mut SlotSeat<M>,
+    home: &mut Home<M>,
+    gathering: &Gathering,
+) -> Result<bool, BackFault>
+    requires with { InTurnWith M.sight events.now seat.old home.old gathering.now }
+    requires alive { (state_of home.old.back).dead ≡ false }
+    ensures step { Stepped M.sight events.now seat.old seat.new home.new [] }
+    ensures ok { OnOk result ((state_of home.new.back).dead ≡ false) }
+    ensures rises { IfOk result (λ done. done ≡ true
+        → RisesTo (first_of gathering.now.bundle) gathering.now.ring
+        (state_of home.old.back) (state_of home.new.back)) }
+    // It stays only where its first number isn't the next one to reproduce.
+    ensures late { IfOk result (λ done. done ≡ false
+        → (state_of home.old.back).log.reproduced + 1 < first_of gathering.now.bundle) }
+    ensures err { OnErr result ((state_of home.new.back).dead ≡ true) }
+{
+    match persist(events, seat, home, gathering) {
+        Ok(()) => Ok(true),
+        Err(BackFault::RingFull { used: _, need: _ }) => retry(events, seat, home, gathering),
+        Err(BackFault::Device) => Err(BackFault::Device),
+        Err(BackFault::Dead) => Err(BackFault::Dead),
+    }
+}

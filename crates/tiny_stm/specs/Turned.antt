@@ -1,0 +1,42 @@
+-- What a turn, or an attempt at one, leaves of a pass.
+use Rattle.std.specs.Prelude.{◌≡◌, ℕ, [], ◌∷◌, Result, Ok, Err}
+use Rattle.atomic_table.specs.declared.shared.Seat.{Seat}
+use Rattle.core_events.specs.Events.{one_more}
+use Rattle.core_table.specs.Known.{Known}
+use Rattle.stm_passes.specs.declared.pass_numbers.PassNumbers.{PassNumbers}
+use Rattle.stm_passes.specs.Numbers.{after_fault, after_turn, with_refusals}
+use Rattle.stm_passes.specs.Passes.{PassSight, pass_view}
+use Rattle.stm_turns.specs.declared.pumped.Pumped.{Pumped}
+use Rattle.stm_turns.specs.declared.pump_fault.PumpFault.{PumpFault}
+use Rattle.stm_turns.specs.declared.pump_fault.PumpFault.TheVariants.{Held, Device, Dead}
+
+-- The pass is whose it was, and has its entries, its draws and what it drew, its transaction and its next box
+pub record KeepsWork {X : Type 0} (p q : PassSight X) : Type 0 where
+  pub part : (pass_view q).part ≡ (pass_view p).part
+  pub entries : (pass_view q).entries ≡ (pass_view p).entries
+  pub draws : (pass_view q).draws ≡ (pass_view p).draws
+  pub drawn : (pass_view q).drawn ≡ (pass_view p).drawn
+  pub tx : (pass_view q).tx ≡ (pass_view p).tx
+  pub box : (pass_view q).box ≡ (pass_view p).box
+
+-- its numbers after a turn: one that is held counts as a refusal, and one that is behind what the pass knows
+abbrev pub numbers_after : Result Pumped PumpFault → PassNumbers → PassNumbers
+numbers_after (Ok pumped) f = after_turn pumped.durable f
+numbers_after (Err (Held seen)) f = with_refusals 1 f
+numbers_after (Err Device) f = after_fault f
+numbers_after (Err Dead) f = after_fault f
+
+-- how many turns it took; one that is held is none
+abbrev pub turns_after : Result Pumped PumpFault → ℕ → ℕ
+turns_after (Ok pumped) n = one_more n
+turns_after (Err (Held seen)) n = n
+turns_after (Err Device) n = one_more n
+turns_after (Err Dead) n = one_more n
+
+-- the seat of the pass p did this, and is that of q now
+pub record BySeat {S X : Type 0} (does : Seat S (Known X) → Seat S (Known X) → Type 0) (p q : PassSight X) : Type 0 where
+  pub old : Seat S (Known X)
+  pub new : Seat S (Known X)
+  pub was : p.known ≡ old.me.0 ∷ []
+  pub is : q.known ≡ new.me.0 ∷ []
+  pub did : does old new
