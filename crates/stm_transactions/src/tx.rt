@@ -57,6 +57,19 @@ pub struct TxOver<'a, S, X, K, P: TransactionRule<S, X, K>, R: ReadList> {
 /// A transaction.
 pub type Tx<'a, S, X, K, P> = TxOver<'a, S, X, K, P, Reads>;
 
+/// How many reads have room from the begin on, where there is memory: more than a request makes.
+const FIRST_READS: usize = 32;
+
+// No reads, with room for the first ones. Where memory is wanting there is none, and a read tells it.
+fn first_room(alloc: Global) -> Vec<(u64, u64)>
+    ensures { result.items ≡ [] }
+{
+    match Vec::with_capacity(alloc, FIRST_READS) {
+        Ok(items) => items,
+        Err(_) => Vec::new(alloc),
+    }
+}
+
 /// Begins a transaction of the pass, whose next box was seen empty.
 pub(crate) fn begin_now<'a, S, X, K, P: TransactionRule<S, X, K>>(
     alloc: Global,
@@ -87,7 +100,7 @@ pub(crate) fn begin_now<'a, S, X, K, P: TransactionRule<S, X, K>>(
         stopped: None,
         refused: 0,
         lists: Reads {
-            items: Vec::new(alloc),
+            items: first_room(alloc),
         },
     }
 }
