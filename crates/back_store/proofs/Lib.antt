@@ -4,6 +4,7 @@ pub mod Causes
 pub mod Ends
 pub mod KeptLogs
 pub mod NoTells
+pub mod Operations
 pub mod PageReads
 pub mod Persisted
 pub mod ReadPages

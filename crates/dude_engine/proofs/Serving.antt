@@ -21,7 +21,8 @@ use Rattle.word_space.specs.Flats.{flat_below, flat_sight, words_of}
 use Rattle.run_order.specs.Runs.{PrecedesInRounds}
 use Rattle.back_store.specs.Back.{BackState}
 use Rattle.log_numbered.specs.declared.run_log.RunLog.{RunLog}
-use Rattle.log_numbered.specs.LogCalls.{AnnouncedBy, AppendedBy, CheckpointedBy, LogParts, Makes}
+use Rattle.back_store.specs.Operations.{Makes}
+use Rattle.log_numbered.specs.LogCalls.{AnnouncedBy, AppendedBy, CheckpointedBy, LogParts}
 use Rattle.log_numbered.specs.RunLog.{log_parts}
 use Rattle.log_numbered.proofs.LoggedCalls.{parts}
 use Rattle.dude_engine.specs.declared.run.Run.{Run}

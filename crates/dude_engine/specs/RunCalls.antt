@@ -19,7 +19,8 @@ use Rattle.tatp_core.specs.Serves.{Answers}
 use Rattle.word_space.specs.Sights.{Agrees}
 use Rattle.run_order.specs.Runs.{PrecedesInRounds}
 use Rattle.back_store.specs.Back.{BackState}
-use Rattle.log_numbered.specs.LogCalls.{AnnouncedBy, AppendedBy, CheckpointedBy, LogParts, Makes}
+use Rattle.back_store.specs.Operations.{Makes}
+use Rattle.log_numbered.specs.LogCalls.{AnnouncedBy, AppendedBy, CheckpointedBy, LogParts}
 
 -- The writes that the body of a request makes over these words of a home, where it answers so: by reads that agree with the
 -- words, the request is answered with these writes.

@@ -17,7 +17,7 @@ use Rattle.run_order.specs.Runs.{AreFirstInRounds, Collects, IsNumberedFrom, Pre
 use Rattle.image_opening.specs.Opened.{HoldsOpened}
 use Rattle.log_numbered.specs.declared.run_log.RunLog.{RunLog}
 use Rattle.log_numbered.specs.Arrays.{RunArrays, array_at, last_number}
-use Rattle.log_numbered.specs.LogCalls.{Makes}
+use Rattle.back_store.specs.Operations.{Makes}
 use Rattle.back_store.specs.Told.{WereTold}
 use Rattle.log_numbered.specs.RunLog.{Follows, IsAlive, log_durable, log_last, log_medium, log_parts, log_sizes}
 use Rattle.dude_engine.specs.declared.ran.RanEnd.{RanEnd}

@@ -25,7 +25,7 @@ use Rattle.command_openings.proofs.OneOpening.{one_opening}
 use Rattle.dude_program.specs.Opening.{IsReachable, RequestsAre, ends_opened, makes_image, only_reads, runs_requests}
 use Rattle.dude_program.specs.Headline.{Replies}
 use Rattle.dude_program.specs.Causes.{EndedWell, MustRefuse, OpensOnce, RanUnlessDevice}
-use Rattle.dude_program.specs.LogOperations.{MakesOperations, OperatesLog.rests}
+use Rattle.back_store.specs.Operations.{MakesOperations, OperatesLog.rests}
 use Rattle.dude_program.specs.Work.{EndsWhole, RanOver}
 use Rattle.dude_program.proofs.FilesRead.{FilesRead}
 use Rattle.dude_program.proofs.Contents.{fits_not_refused, makes_none}

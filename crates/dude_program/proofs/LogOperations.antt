@@ -1,36 +1,21 @@
 -- The calls of a run on one thread are operations of its log.
-use Rattle.std.proofs.Common.{◌≡◌, ℕ, List, ◌++◌, Option, Some, None, inl, inr, sym, subst, append-nil, append_assoc}
+use Rattle.std.proofs.Common.{◌≡◌, ℕ, List, Option, Some, None, inl, inr, sym, subst}
 use Rattle.dude_base.specs.declared.sizes.Sizes.{Sizes}
 use Rattle.dude_base.specs.Records.{RedoBundle, RedoRecord}
 use Rattle.pmem_trait.specs.declared.call.Call.{Call}
 use Rattle.pmem_trait.specs.Sights.{Sight}
 use Rattle.tatp_model.specs.declared.done.Done.{Done}
-use Rattle.redo_record.specs.BackCalls.{read_page_calls}
 use Rattle.back_store.specs.Back.{BackState, idle}
 use Rattle.back_store.specs.Answers.{announced}
-use Rattle.log_numbered.specs.LogCalls.{AnnouncedBy, AppendedBy, BundlePersistedBy, CheckpointedBy, ClosedBy, LogParts, PersistedBy, SettledBy, settled}
+use Rattle.back_store.specs.Operations.{MakesOperations, OperatesLog, OperatesLog.announces, OperatesLog.rests}
+use Rattle.back_store.proofs.Operations.{one_announces, one_persists, one_reproduces, operates_then}
+use Rattle.log_numbered.specs.LogCalls.{AnnouncedBy, AppendedBy, BundlePersistedBy, CheckpointedBy, ClosedBy, LogParts, SettledBy, settled}
 use Rattle.log_numbered.specs.declared.open_bundle.OpenBundle.{OpenBundle}
 use Rattle.dude_engine.specs.RunCalls.{MakesItsCalls, RunBy, RunParts, ServedBy, ServedBy.logged, ServedBy.told, ServedBy.silent, ServedInTurn, ServedInTurn.none, ServedInTurn.next}
-use Rattle.dude_program.specs.LogOperations.{MakesOperations, OperatesLog, OperatesLog.announces, OperatesLog.persists, OperatesLog.reads, OperatesLog.reproduces, OperatesLog.rests}
-
--- some operations, and then others
-operates_then : {v w u : BackState} {a b : List Call} → OperatesLog v w a → OperatesLog w u b → OperatesLog v u (a ++ b)
-operates_then rests on = on
-operates_then {u = u} {b = b} (persists {v = v} {calls = calls} {more = more} ring bundle by rest) on =
-    subst (λ (l : List Call). OperatesLog v u l) (sym (append_assoc calls more b)) (persists ring bundle by (operates_then rest on))
-operates_then {u = u} {b = b} (announces {v = v} {more = more} number rest) on = announces number (operates_then rest on)
-operates_then {u = u} {b = b} (reproduces {v = v} {calls = calls} {more = more} number by rest) on =
-    subst (λ (l : List Call). OperatesLog v u l) (sym (append_assoc calls more b)) (reproduces number by (operates_then rest on))
-operates_then {u = u} {b = b} (reads {v = v} {more = more} page inside rest) on =
-    subst (λ (l : List Call). OperatesLog v u l) (sym (append_assoc (read_page_calls v.log.sizes page) more b)) (reads page inside (operates_then rest on))
-
-one_persists : {ring : ℕ} {b : RedoBundle} {v w : BackState} {calls : List Call} → PersistedBy ring b v w calls → OperatesLog v w calls
-one_persists {ring} {b} {v} {w} {calls} by = subst (λ (l : List Call). OperatesLog v w l) (append-nil calls) (persists ring b by rests)
 
 settles : {v : BackState} {number : ℕ} {calls : List Call} → SettledBy v number calls → OperatesLog v (settled v number) calls
 settles {v} {number} {calls} by =
-    let home = subst (λ (l : List Call). OperatesLog (announced v number) (settled v number) l) (append-nil by.reproducing) (reproduces number by.home rests) in
-    subst (λ (l : List Call). OperatesLog v (settled v number) l) (sym by.calls_are) (announces number home)
+    subst (λ (l : List Call). OperatesLog v (settled v number) l) (sym by.calls_are) (announces number (one_reproduces (announced v number) number by.home))
 
 bundle_persists : {ring : ℕ} {b : RedoBundle} {v w : BackState} {calls : List Call} → BundlePersistedBy ring b v w calls → OperatesLog v w calls
 bundle_persists (inl by) = one_persists by
@@ -49,7 +34,7 @@ appends {k = k} (inr begun) = closes k.current begun.closed_by
 tells : {k l : LogParts} {number : ℕ} {calls : List Call} → AnnouncedBy k number l calls → OperatesLog k.back l.back calls
 tells {k} {l} {number} {calls} by =
     subst (λ (p : LogParts). OperatesLog k.back p.back calls) (sym by.now)
-    (subst (λ (c : List Call). OperatesLog k.back (announced by.back number) c) (sym by.calls_are) (operates_then (closes k.current by.closed_by) (announces number rests)))
+    (subst (λ (c : List Call). OperatesLog k.back (announced by.back number) c) (sym by.calls_are) (operates_then (closes k.current by.closed_by) (one_announces by.back number)))
 
 checkpoints : {k l : LogParts} {number : ℕ} {calls : List Call} → CheckpointedBy k number l calls → OperatesLog k.back l.back calls
 checkpoints {k} {l} {number} {calls} by =

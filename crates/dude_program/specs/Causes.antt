@@ -26,7 +26,7 @@ use Rattle.command_edges.specs.declared.fault.Fault.{Fault}
 use Rattle.command_edges.specs.declared.fault.Fault.TheVariants.{Usage, File, Text, Small, TooFew, Unformatted, Damaged, NotDb, ManyFiles, Frames, FewSubscribers, Numbers, Device, Output, Memory, Audit}
 use Rattle.command_edges.specs.CommandFile.{IsInLimit}
 use Rattle.dude_program.specs.Audit.{IsRefusedRun}
-use Rattle.dude_program.specs.LogOperations.{MakesOperations}
+use Rattle.back_store.specs.Operations.{MakesOperations}
 use Rattle.dude_program.specs.Opening.{RequestsAre, Starts, command_files, ends_opened, fresh_sizes, judges_files, makes_image, only_reads}
 use Rattle.dude_program.specs.World.{World, IsSameWorld, SinkStays}
 

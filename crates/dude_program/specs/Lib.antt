@@ -3,7 +3,6 @@ pub mod Causes
 pub mod Ending
 pub mod Headline
 pub mod Judging
-pub mod LogOperations
 pub mod Opening
 pub mod Work
 pub mod World

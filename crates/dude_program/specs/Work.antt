@@ -31,7 +31,7 @@ use Rattle.command_words.specs.Command.{Meaning, Meaning.RunFiles}
 use Rattle.dude_program.specs.declared.load.Load.{Load}
 use Rattle.dude_program.specs.declared.worked.Worked.{Worked}
 use Rattle.dude_program.specs.Causes.{RanUnlessDevice, WantsFrames}
-use Rattle.dude_program.specs.LogOperations.{MakesOperations}
+use Rattle.back_store.specs.Operations.{MakesOperations}
 use Rattle.dude_program.specs.Opening.{load_of}
 
 -- the fault that a run ended with, if any

@@ -12,6 +12,7 @@ use Rattle.redo_record.proofs.WaitingRecords.{waiting_law}
 use Rattle.log_waiting.specs.Backlog.{IsLawful}
 use Rattle.back_store.specs.Back.{BackState, IsEnd, home_now, waiting_now}
 use Rattle.back_store.specs.Images.{HoldsStore}
+use Rattle.back_store.specs.Operations.{Operates, OperatesLog.rests}
 use Rattle.back_store.specs.Told.{WereTold}
 use Rattle.back_store.proofs.KeptLogs.{images_here}
 use Rattle.back_store.proofs.ToldNumbers.{tells_none}
@@ -26,7 +27,7 @@ opening_value : (opening : List ℕ) (n i : ℕ) → value opening (writes_in []
 opening_value opening zero i = refl
 opening_value opening (suc n) i = opening_value opening n i
 
-module _ (b : Since) (v : BackState) (law : IsLawful v.log) (alive : v.dead ≡ false) (idle : (w : Waiting) → Contains (waiting_now v) w → ⊥) (durable : v.log.durable ≡ b.first) (reproduced : v.log.reproduced ≡ b.first) where
+module _ (b : Since) (v : BackState) (law : IsLawful v.log) (alive : v.dead ≡ false) (idle : (w : Waiting) → Contains (waiting_now v) w → ⊥) (durable : v.log.durable ≡ b.first) (reproduced : v.log.reproduced ≡ b.first) (state : v ≡ b.state) where
   lawful_start : LawfulLists b.first (lists v [])
   lawful_start = record {
     log = law;
@@ -60,6 +61,7 @@ module _ (b : Since) (v : BackState) (law : IsLawful v.log) (alive : v.dead ≡ 
               ((images_here (told_before b) end.0 v b.start law room alive keeps end.1 seen).each image i);
         });
         ran = subst (λ (d : Bool). SomeCalls (not d) b.start b.start) (sym alive) ([], none);
+        operates = λ lives. subst (λ (u : BackState). Operates u v b.start b.start) state ([], rests, none);
         keeps = keeps;
         home = λ lives seen. values seen;
         tells = λ seen. subst (λ (d : Bool). WereTold (not d) b.first v.log.durable (state_now b.start).told (state_now b.start).told) (sym alive) (tells b.first v.log.durable (state_now b.start).told durable);

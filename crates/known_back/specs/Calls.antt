@@ -42,6 +42,7 @@ pub record IsIdle {M : Type 0} {ghosts : Ghosts M} (b : Since) (back : Back M gh
   pub durable : (state_of back).log.durable ≡ b.first
   pub reproduced : (state_of back).log.reproduced ≡ b.first
   pub start : sight_of back ≡ b.start
+  pub state : state_of back ≡ b.state
   pub room : image_words (state_of back).log.sizes ≤ (sight_of back).len
   pub keeps : HoldsStore (told_before b) (state_of back) (sight_of back)
   pub home : IsTrue (sight_of back).is_visible → home_now (state_of back).log.sizes (sight_of back) ≡ b.opening

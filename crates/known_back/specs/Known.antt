@@ -7,15 +7,17 @@ use Rattle.pmem_trait.specs.Words.{AtLeast}
 use Rattle.pmem_trait.specs.Sights.{Sight, state_now, SomeCalls, AtEveryMoment}
 use Rattle.redo_record.specs.Images.{sizes_of}
 use Rattle.redo_record.specs.Recovery.{Recovers}
-use Rattle.back_store.specs.Back.{home_now}
+use Rattle.back_store.specs.Back.{BackState, home_now}
 use Rattle.back_store.specs.Images.{HoldsStore}
+use Rattle.back_store.specs.Operations.{Operates}
 use Rattle.back_store.specs.Told.{WereTold}
 use Rattle.known_back.specs.Lists.{BackLists, LawfulLists}
 use Rattle.known_back.specs.Records.{HasValues, IsReached, writes_in}
 
--- What a back was when its records began to be listed: its medium, the home, and the number.
+-- What a back was when its records began to be listed: its medium, what it was beside that, the home, and the number.
 pub record Since : Type 0 where
   pub start : Sight
+  pub state : BackState
   pub opening : List ℕ
   pub first : ℕ
 
@@ -41,6 +43,8 @@ pub record IsKnown (b : Since) (l : BackLists) (s : Sight) : Type 0 where
   pub moments : AtEveryMoment (RecoversIn b l.records l.state.log.sizes) b.start s
   -- calls were made since, of which none failed but the last one of a dead back
   pub ran : SomeCalls (not l.state.dead) b.start s
+  -- those of a back that isn't dead are operations of its log
+  pub operates : l.state.dead ≡ false → Operates b.state l.state b.start s
   -- it is as a back that isn't dead left it
   pub keeps : HoldsStore (told_before b) l.state s
   -- the home has the values at the reproduced number

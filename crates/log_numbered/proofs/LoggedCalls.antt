@@ -11,7 +11,8 @@ use Rattle.log_waiting.specs.Backlog.{IsLawful}
 use Rattle.back_store.specs.Back.{BackState, IsEnd, IsRingFull, waiting_now}
 use Rattle.back_store.specs.Answers.{Announces, Reproduces, announced, reproduced}
 use Rattle.log_numbered.specs.declared.open_bundle.OpenBundle.{OpenBundle}
-use Rattle.log_numbered.specs.LogCalls.{AnnouncedBy, AppendedBy, BroughtHomeBy, BundlePersistedBy, CheckpointedBy, ClosedBy, Joins, LogParts, Makes, PersistedBy, SettledBy, settled}
+use Rattle.back_store.specs.Operations.{BroughtHomeBy, Makes, PersistedBy}
+use Rattle.log_numbered.specs.LogCalls.{AnnouncedBy, AppendedBy, BundlePersistedBy, CheckpointedBy, ClosedBy, Joins, LogParts, SettledBy, settled}
 use Rattle.back_store.proofs.NoTells.{append_tells_nothing, told_same}
 
 -- the number announced is the one to which the records lead

@@ -11,7 +11,8 @@ use Rattle.back_store.specs.BackView.{medium_of, state_of}
 use Rattle.log_numbered.specs.declared.bundle_log.BundleLog.{BundleLog}
 use Rattle.log_numbered.specs.Arrays.{LeadsToLast}
 use Rattle.log_numbered.specs.Backs.{Any, CarriesOn, HomeIsAt, LogGoesOn, RecoversAlong, WasFull}
-use Rattle.log_numbered.specs.LogCalls.{BroughtHomeBy, BundlePersistedBy, Makes, PersistedBy, SettledBy, settled}
+use Rattle.back_store.specs.Operations.{BroughtHomeBy, Makes, PersistedBy}
+use Rattle.log_numbered.specs.LogCalls.{BundlePersistedBy, SettledBy, settled}
 
 -- the medium of the persisted part of a log
 abbrev pub kept_medium : {M : Type 0} {ghosts : Ghosts M} → BundleLog M ghosts → M

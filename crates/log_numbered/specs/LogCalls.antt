@@ -1,18 +1,14 @@
 -- By which calls on its medium a log takes records, announces and settles, and what its back and its open bundle are then.
-use Rattle.std.specs.Prelude.{◌≡◌, ◌⊎◌, ℕ, ◌+◌, ◌≤◌, true, List, [], ◌++◌, Option, Some, None}
+use Rattle.std.specs.Prelude.{◌≡◌, ◌⊎◌, ℕ, ◌+◌, ◌≤◌, List, [], ◌++◌, Option, Some, None}
 use Rattle.dude_base.specs.Joins.{CanJoin, places_of}
 use Rattle.dude_base.specs.Records.{RedoBundle, RedoRecord, bundle_of, first_of, with_next}
 use Rattle.pmem_trait.specs.declared.call.Call.{Call}
-use Rattle.pmem_trait.specs.Sights.{Sight, CallsMade}
 use Rattle.redo_record.specs.Record.{cells_for}
 use Rattle.redo_record.specs.BackCalls.{announce_calls}
 use Rattle.back_store.specs.Back.{BackState, IsEnd, IsRingFull}
-use Rattle.back_store.specs.Answers.{ReproducedBy, announced, persist_calls, reproduced, with_record}
+use Rattle.back_store.specs.Answers.{announced, reproduced}
+use Rattle.back_store.specs.Operations.{BroughtHomeBy, PersistedBy}
 use Rattle.log_numbered.specs.declared.open_bundle.OpenBundle.{OpenBundle}
-
--- from entry to exit exactly the calls of a list were made that is as P says
-abbrev pub Makes : (List Call → Type 0) → Sight → Sight → Type 0
-Makes P s t = (calls : List Call) × P calls × CallsMade calls true s t
 
 -- ---- the back
 
@@ -20,22 +16,12 @@ Makes P s t = (calls : List Call) × P calls × CallsMade calls true s t
 abbrev pub settled : BackState → ℕ → BackState
 settled v number = reproduced (announced v number) number
 
--- these calls reproduce the bundles up to this number; where the home has them there is no call
-abbrev pub BroughtHomeBy : BackState → ℕ → List Call → Type 0
-BroughtHomeBy v number calls = ((number ≡ v.log.reproduced) × (calls ≡ [])) ⊎ ReproducedBy v number calls
-
 -- These calls announce the number to which waiting bundles lead, and then reproduce the bundles up to it.
 pub record SettledBy (v : BackState) (number : ℕ) (calls : List Call) : Type 0 where
   pub is_end : IsEnd v number
   pub reproducing : List Call
   pub home : BroughtHomeBy (announced v number) number reproducing
   pub calls_are : calls ≡ announce_calls number ++ reproducing
-
--- The ring had room, and these calls put the bundle in it, behind the others there.
-pub record PersistedBy (ring : ℕ) (b : RedoBundle) (v w : BackState) (calls : List Call) : Type 0 where
-  pub room : IsRingFull v ring b → ⊥
-  pub back : w ≡ with_record ring b v
-  pub calls_are : calls ≡ persist_calls v ring b
 
 -- The ring had no room, so the back was settled at the number before the bundle's first, and the bundle then put in the ring.
 pub record PersistedBehindSettling (ring : ℕ) (b : RedoBundle) (v w : BackState) (calls : List Call) : Type 0 where

@@ -16,7 +16,8 @@ use Rattle.log_numbered.specs.declared.run_log.RunLog.{RunLog}
 use Rattle.log_numbered.specs.Arrays.{LeadsToLast, RecoversIn, RunArrays, array_at, last_number, with_writes}
 use Rattle.log_numbered.specs.Backs.{Carries, LeadsUpTo, LogGoesOn}
 use Rattle.log_numbered.specs.BundleLog.{TellsNone, kept_back, kept_medium, kept_sight}
-use Rattle.log_numbered.specs.LogCalls.{AnnouncedBy, AppendedBy, CheckpointedBy, ClosedBy, Joins, LogParts, Makes, with_joined}
+use Rattle.back_store.specs.Operations.{Makes}
+use Rattle.log_numbered.specs.LogCalls.{AnnouncedBy, AppendedBy, CheckpointedBy, ClosedBy, Joins, LogParts, with_joined}
 
 -- the medium of the log of a run
 abbrev pub log_medium : {M : Type 0} {ghosts : Ghosts M} → RunLog M ghosts → M

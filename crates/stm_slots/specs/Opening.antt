@@ -2,7 +2,7 @@
 use Rattle.std.specs.Prelude.{true, ◌||◌, ◌==◌}
 use Rattle.pmem_trait.specs.Sights.{Sight}
 use Rattle.pmem_trait.specs.declared.medium.Medium.{Ghosts}
-use Rattle.back_store.specs.BackView.{medium_of}
+use Rattle.back_store.specs.BackView.{medium_of, state_of}
 use Rattle.core_events.specs.Setups.{Setup}
 use Rattle.known_back.specs.Known.{Since}
 use Rattle.stm_slots.specs.declared.opening.Opening.{Opening}
@@ -18,4 +18,4 @@ module _ {M : Type 0} {ghosts : Ghosts M} (sight : M → Sight) where
 
   -- what the back was at the start
   abbrev pub since_of : Opening M ghosts → Since
-  since_of o = record { start = start_sight o; opening = o.terms.opening; first = o.terms.first }
+  since_of o = record { start = start_sight o; state = state_of o.back.value; opening = o.terms.opening; first = o.terms.first }

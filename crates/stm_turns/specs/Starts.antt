@@ -18,7 +18,7 @@ use Rattle.stm_slots.specs.declared.slot.Slot.{Slot}
 
 -- Nothing waits in the back, which has the opening words at home; it fits the terms, and the first pages are in the frames
 pub record MayStart {M : Type 0} {ghosts : Ghosts M} (terms : Setup) (back : Back M ghosts) (pager : PageMap) : Type 0 where
-  pub idle : IsIdle (record { start = sight_of back; opening = terms.opening; first = terms.first }) back
+  pub idle : IsIdle (record { start = sight_of back; state = state_of back; opening = terms.opening; first = terms.first }) back
   pub pages : (state_of back).log.sizes.pages ≡ terms.pages
   pub rings : terms.threads ≤ (state_of back).log.sizes.rings
   pub threads : terms.threads ≤ MAX_RINGS

@@ -7,7 +7,7 @@ use Rattle.run_order.specs.Runs.{Collects}
 use Rattle.run_order.proofs.Apart.{rounds_apart}
 use Rattle.back_store.specs.BackView.{medium_of, state_of}
 use Rattle.word_space.specs.Flats.{words_of}
-use Rattle.log_numbered.specs.LogCalls.{Makes}
+use Rattle.back_store.specs.Operations.{Makes}
 use Rattle.back_store.specs.Told.{WereTold}
 use Rattle.log_numbered.specs.RunLog.{log_back, log_durable, log_medium, log_open, log_parts}
 use Rattle.log_numbered.proofs.GoingOn.{on_ok}

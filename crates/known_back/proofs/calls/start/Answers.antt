@@ -17,4 +17,4 @@ returns-clause-known g c =
     let P : Sight → Type 0 = λ s. (image_words (state_of back).log.sizes ≤ s.len) × HoldsStore (told_before b) (state_of back) s × (IsTrue s.is_visible → home_now (state_of back).log.sizes s ≡ b.opening) in
     let at = subst P here (is.room, is.keeps, is.home) in
     subst (Known b (lists (state_of back) [])) (sym here)
-    (known_start b (state_of back) c.durable-durable.ensures.lawful is.alive is.none is.durable is.reproduced at.0 at.1 at.2)
+    (known_start b (state_of back) c.durable-durable.ensures.lawful is.alive is.none is.durable is.reproduced is.state at.0 at.1 at.2)

@@ -4,7 +4,8 @@ use Rattle.redo_record.specs.Record.{cells_for}
 use Rattle.log_numbered.specs.Arrays.{LeadsToLast}
 use Rattle.log_numbered.specs.Backs.{Any, CarriesOn, LogGoesOn, RecoversAlong}
 use Rattle.log_numbered.specs.BundleLog.{AppendsNext, PersistsNext, kept_back, kept_medium}
-use Rattle.log_numbered.specs.LogCalls.{Makes, SettledBy, settled}
+use Rattle.back_store.specs.Operations.{Makes}
+use Rattle.log_numbered.specs.LogCalls.{SettledBy, settled}
 use Rattle.log_numbered.proofs.GoingOn.{carries_then, goes_then, on_ok, recovers_any, recovers_then}
 use Rattle.log_numbered.proofs.LoggedCalls.{appended_behind, persisted_untold, settled_same}
 use Rattle.log_numbered.proofs.Persisting.{carries_full}

@@ -5,7 +5,8 @@ use Rattle.pmem_trait.specs.Sights.{state_now}
 use Rattle.log_numbered.specs.declared.open_bundle.OpenBundle.{OpenBundle}
 use Rattle.log_numbered.specs.BundleLog.{kept_back, kept_medium}
 use Rattle.log_numbered.specs.Backs.{LogGoesOn}
-use Rattle.log_numbered.specs.LogCalls.{ClosedBy, Makes}
+use Rattle.back_store.specs.Operations.{Makes}
+use Rattle.log_numbered.specs.LogCalls.{ClosedBy}
 use Rattle.log_numbered.specs.RunLog.{FollowsOn, HasRoom, IsAlive, RecoversOn, log_back, log_medium, log_open, log_parts, log_sizes}
 use Rattle.log_numbered.proofs.Appending.{begun_alive, begun_follows, calls_here, goes_here, joined_alive, joined_follows, recovers_more_on, recovers_still}
 use Rattle.log_numbered.proofs.LoggedCalls.{begun_calls}

@@ -5,7 +5,8 @@ use Rattle.log_numbered.specs.declared.open_bundle.OpenBundle.{OpenBundle}
 use Rattle.log_numbered.specs.Arrays.{LeadsToLast}
 use Rattle.log_numbered.specs.Backs.{Any}
 use Rattle.log_numbered.specs.BundleLog.{AppendsNext, kept_back, kept_medium}
-use Rattle.log_numbered.specs.LogCalls.{ClosedBy, Makes}
+use Rattle.back_store.specs.Operations.{Makes}
+use Rattle.log_numbered.specs.LogCalls.{ClosedBy}
 use Rattle.log_numbered.specs.RunLog.{Closes, log_back, log_end, log_last, log_medium, log_open}
 use Rattle.log_numbered.proofs.Appending.{goes_here}
 use Rattle.log_numbered.proofs.Closing.{closed_alive, closed_follows, leads_to, none_end, opened, recovers_closing}

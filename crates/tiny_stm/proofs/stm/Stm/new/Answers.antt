@@ -22,7 +22,7 @@ over-requires-clause-may g c =
     let f : FitsStore c.rings.result (c.len.result / 64) c.args.run.now c.args.threads = c.fits.ensures.0 c.if-not-fits.false in
     let lawful = c.durable-durable.ensures.lawful in
     let map = c.in-Ok.ensures.map in record {
-      idle = record { alive = c.requires.alive; none = c.requires.none; durable = c.requires.durable; reproduced = c.requires.reproduced; start = refl; room = c.args.back.room; keeps = c.requires.keeps; home = c.requires.home };
+      idle = record { alive = c.requires.alive; none = c.requires.none; durable = c.requires.durable; reproduced = c.requires.reproduced; start = refl; state = refl; room = c.args.back.room; keeps = c.requires.keeps; home = c.requires.home };
       pages = (let s = c.requires.size in let n = c.len.ensures in let ok = c.args.words.ok in omega arith);
       rings = (let e = c.rings.ensures in let h = f.some.high in omega arith);
       threads = (let r = lawful.accepted.rings.high in let e = c.rings.ensures in let h = f.some.high in omega arith);
