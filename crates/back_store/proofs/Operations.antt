@@ -7,7 +7,7 @@ use Rattle.pmem_trait.proofs.Runs.{made_then}
 use Rattle.redo_record.specs.BackCalls.{announce_calls, read_page_calls}
 use Rattle.back_store.specs.Back.{BackState}
 use Rattle.back_store.specs.Answers.{announced, reproduced}
-use Rattle.back_store.specs.Operations.{BroughtHomeBy, Operates, OperatesLog, OperatesLog.announces, OperatesLog.persists, OperatesLog.reads, OperatesLog.reproduces, OperatesLog.rests, PersistedBy}
+use Rattle.back_store.specs.Operations.{BroughtHomeBy, Operates, OperatesLog, OperatesLog.announces, OperatesLog.persists, OperatesLog.reads, OperatesLog.renews, OperatesLog.reproduces, OperatesLog.rests, PersistedBy}
 
 -- some operations, and then others
 pub operates_then : {v w u : BackState} {a b : List Call} → OperatesLog v w a → OperatesLog w u b → OperatesLog v u (a ++ b)
@@ -19,6 +19,7 @@ operates_then {u = u} {b = b} (reproduces {v = v} {calls = calls} {more = more} 
     subst (λ (l : List Call). OperatesLog v u l) (sym (append_assoc calls more b)) (reproduces number by (operates_then rest on))
 operates_then {u = u} {b = b} (reads {v = v} {more = more} page inside rest) on =
     subst (λ (l : List Call). OperatesLog v u l) (sym (append_assoc (read_page_calls v.log.sizes page) more b)) (reads page inside (operates_then rest on))
+operates_then (renews none rest) on = renews none (operates_then rest on)
 
 -- one operation
 pub one_persists : {ring : ℕ} {b : RedoBundle} {v w : BackState} {calls : List Call} → PersistedBy ring b v w calls → OperatesLog v w calls
