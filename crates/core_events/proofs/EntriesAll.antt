@@ -12,7 +12,7 @@ use Rattle.core_events.specs.Setups.{Setup}
 use Rattle.core_events.specs.Keyed.{has, Distinct}
 use Rattle.core_events.specs.Views.{Entry, View}
 use Rattle.core_events.specs.Words.{State}
-use Rattle.core_events.specs.Entries.{History, value, value_at, writes_of, numbers_written, all_entries, read_at, IsLegal}
+use Rattle.core_events.specs.Entries.{History, value, value_at, writes_of, numbers_written, all_entries, read_at, HaveNumbers, IsLegal}
 use Rattle.core_events.specs.Ghosts.{Ghost}
 use Rattle.core_events.specs.KeptEntries.{entries_of, EntriesKept}
 use Rattle.core_events.specs.KeptValues.{ValuesKept}
@@ -84,12 +84,17 @@ module _ (z : Setup) (g : Ghost) (c : State) (o : EntriesKept z g c) where
   pub value_is : (n i : ℕ) → value_at z.opening (all_entries c.views) n i ≡ value z.opening g.claims.hist n i
   value_is n i = value_same z.opening g.claims.hist (writes_of (all_entries c.views)) n i (λ m le. ap (λ (ws : List Write). written ws i) (writes_are m))
 
-  pub all_legal : ValuesKept z g c → IsLegal z.first z.opening (all_entries c.views)
-  all_legal y = record {
+  pub all_numbered : HaveNumbers z.first (all_entries c.views)
+  all_numbered = record {
     over = all_each (λ e. e.wrote ≡ true → z.first < e.number) c.views (λ j u at k d lt b. ((o.legal j u.entries (at_map entries_of c.views j u at) k d lt).wrote b).0);
     once = distinct_all c.views (λ j u at. o.once.once j u.entries (at_map entries_of c.views j u at))
         (λ i j n u w a b h k. sym (o.once.wrote i n u.entries (at_map entries_of c.views i u a) h).0 ∙ (o.once.wrote j n w.entries (at_map entries_of c.views j w b) k).0);
     from = all_each (λ e. z.first ≤ read_at e) c.views (λ j u at k d lt. (o.legal j u.entries (at_map entries_of c.views j u at) k d lt).from);
+  }
+
+  pub all_legal : ValuesKept z g c → IsLegal z.first z.opening (all_entries c.views)
+  all_legal y = record {
+    numbers = all_numbered;
     read = all_each (λ e. All (λ r. r.1 ≡ value_at z.opening (all_entries c.views) (read_at e) r.0) e.reads) c.views
         (λ j u at k d lt i p h. let e : Entry = get_or u.entries k d in (y.entries j u at k d lt).read i p h ∙ sym (value_is (read_at e) (get_or e.reads i p).0));
   }

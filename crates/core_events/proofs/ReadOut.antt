@@ -24,7 +24,7 @@ use Rattle.core_events.proofs.Lists.{at_map, of_map}
 use Rattle.core_events.proofs.Threads.{not_true}
 use Rattle.core_events.proofs.Filled.{counts_one, one_at}
 use Rattle.core_events.proofs.NumbersKept.{has_at}
-use Rattle.core_events.proofs.EntriesAll.{writes_are, all_legal}
+use Rattle.core_events.proofs.EntriesAll.{writes_are, all_legal, all_numbered}
 
 -- what a part counts
 abbrev count_of : Part → ℕ
@@ -101,6 +101,7 @@ module _ (z : Setup) (c : State) (k : Kept z c) (id : ℕ) (v : View) (at : get_
   pub read_out : IsReadOut z c v
   read_out = record {
     all = all_are;
+    numbers = rw (← all_are) (all_numbered z g c l.entries);
     legal = λ told. rw (← all_are) (all_legal z g c l.entries (k.values told));
     upto = λ j d lt. (l.entries.legal id v.entries (at_map entries_of c.views id v at) j d lt).upto;
     room = let one = counts_one draws_of c.views id v at in let bound = l.locks.bounded in omega arith;

@@ -32,12 +32,15 @@ numbers_written (e ∷ es) = if e.wrote then (e.number ∷ numbers_written es) e
 abbrev pub read_at : Entry → ℕ
 read_at e = if e.wrote then (e.number - 1) else e.number
 
--- the entries are legal: those that wrote have numbers over the opening one, no two the same; each read is the value at the number where
--- its entry read, which is at least the opening one
-pub record IsLegal (first : ℕ) (opening : List ℕ) (es : List Entry) : Type 0 where
+-- the entries are numbered: those that wrote have numbers over the opening one, no two the same, and none read under it
+pub record HaveNumbers (first : ℕ) (es : List Entry) : Type 0 where
   pub over : All (λ e. e.wrote ≡ true → first < e.number) es
   pub once : Distinct (numbers_written es)
   pub from : All (λ e. first ≤ read_at e) es
+
+-- the entries are legal: they are numbered, and each read is the value at the number where its entry read
+pub record IsLegal (first : ℕ) (opening : List ℕ) (es : List Entry) : Type 0 where
+  pub numbers : HaveNumbers first es
   pub read : All (λ e. All (λ r. r.1 ≡ value_at opening es (read_at e) r.0) e.reads) es
 
 -- the entries of all views; those of a spent one are in the view that took it in

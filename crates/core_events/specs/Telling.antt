@@ -10,7 +10,7 @@ use Rattle.core_events.specs.Keyed.{find, has, Distinct}
 use Rattle.core_events.specs.Views.{Word, the_lock, the_entry, the_touch, the_cell, the_box, View}
 use Rattle.core_events.specs.Words.{State}
 use Rattle.core_events.specs.Events.{Event, number, begin, extend, look, check, take, draw, post, take_turn, give_turn, see_full, empty_box, raise_durable, raise_reproduced, entry, pin, unpin, evict, show, own_word, thread_of, view_after}
-use Rattle.core_events.specs.Entries.{writes_of, all_entries, IsLegal}
+use Rattle.core_events.specs.Entries.{writes_of, all_entries, HaveNumbers, IsLegal}
 use Rattle.core_events.specs.Conditions.{Owns}
 use Rattle.core_events.specs.KeptThreads.{held_of}
 use Rattle.core_events.specs.KeptNumbers.{numbers_of}
@@ -100,10 +100,11 @@ pub record IsTold (z : Setup) (e : Event) (v : View) (n : ℕ) : Type 0 where
 abbrev pub HasAll : Setup → View → Type 0
 HasAll z v = held_of v.part + v.part.splits ≡ z.threads
 
--- All entries are those of the view, and they are legal, where it is known what the medium gives. Each number over the opening one and up to
+-- All entries are those of the view, and they are numbered; they are legal, where it is known what the medium gives. Each number over the opening one and up to
 -- the clock is in one box or persisted, and its record has the writes of its entry, or none
 pub record IsReadOut (z : Setup) (c : State) (v : View) : Type 0 where
   pub all : all_entries c.views ≡ v.entries
+  pub numbers : HaveNumbers z.first v.entries
   pub legal : z.is_told ≡ true → IsLegal z.first z.opening v.entries
   pub upto : All (λ e. e.number ≤ c.clock) v.entries
   pub room : c.clock + v.draws ≤ MAX_NUMBER

@@ -1,6 +1,6 @@
 -- From the entries of transactions to the requests done, which have those of `Sync` too and stand in another order.
 use Rattle.std.proofs.Common.{◌≡◌, ℕ, true, false, List, map, sym, subst, arith, ⊎_elim}
-use Rattle.std.specs.List.{Contains}
+use Rattle.std.specs.List.{All, AllPairs, Contains}
 use Rattle.std.proofs.lemmas.Bool.{cases_Bool, both_ways}
 use Rattle.std.proofs.lemmas.List.Elements.{All-weaker, All-contains, All-contains_itself}
 use Rattle.dude_base.specs.declared.sizes.Sizes.{Sizes}
@@ -14,17 +14,19 @@ use Rattle.run_order.proofs.FileOrder.{in_files_from_holding}
 use Rattle.core_events.specs.Views.{Entry}
 use Rattle.legal_order.specs.Numbers.{HaveSameWriters, AreDatabases, IsAnswered, AreAnswered, Differ, IsNumbered, AreNumbered}
 use Rattle.legal_order.proofs.Databases.{with_writers}
-use Rattle.legal_entries.specs.Served.{done_of, LeadsThrough, AreDoneBy, LawOfDone}
+use Rattle.legal_entries.specs.Served.{done_of, LeadsThrough, AreDoneBy, LawOfDone, LawOfNumbering}
+use Rattle.legal_entries.proofs.Law.{each_numbered}
+use Rattle.legal_entries.proofs.Writers.{differ_all}
 
 not_before_itself : (d : Done) → PrecedesInFiles d d → ⊥
 not_before_itself d before = ⊎_elim (λ less. absurd (omega (arith, less))) (λ same. absurd (omega (arith, same.1))) before
 
-module _ (first : ℕ) (s : Sizes) (opening : List ℕ) (db : Database) (files : List (List Request)) (es : List Entry) (done : List Done) (through : LeadsThrough first s opening db es) (by : AreDoneBy files es done) where
+module _ (first : ℕ) (files : List (List Request)) (es : List Entry) (done : List Done) (each : All (IsNumbered first) (map done_of es)) (differ : AllPairs Differ (map done_of es)) (by : AreDoneBy files es done) where
   is_durable : (d : Done) → Contains done d → is_sync d.request ≡ true → (d.reply ≡ Durable) × (d.wrote ≡ false)
   is_durable d c sync = All-contains (λ x. is_sync x.request ≡ true → (x.reply ≡ Durable) × (x.wrote ≡ false)) done d by.syncs c sync
 
   number_in : (d : Done) → Contains (map done_of es) d → IsNumbered first d
-  number_in d c = All-contains (IsNumbered first) (map done_of es) d through.each c
+  number_in d c = All-contains (IsNumbered first) (map done_of es) d each c
 
   -- what wrote is not a `Sync`
   no_sync_done : (d : Done) → Contains done d → d.wrote ≡ true → is_sync d.request ≡ false
@@ -48,9 +50,9 @@ module _ (first : ℕ) (s : Sizes) (opening : List ℕ) (db : Database) (files :
       ⊎_elim
       (λ one. not_before_itself d (subst (λ (x : Done). PrecedesInFiles d x) (sym one) before))
       (λ other. ⊎_elim (λ r. r w w' same) (λ r. r w' w (sym same)) other)
-      (one_or_other Differ (map done_of es) d e through.differ ((same_writers d w).1 c) ((same_writers e w').1 c'))
+      (one_or_other Differ (map done_of es) d e differ ((same_writers d w).1 c) ((same_writers e w').1 c'))
 
-  numbered : AreNumbered first files done
+  pub numbered : AreNumbered first files done
   numbered = record {
     held = by.held;
     each = All-weaker (Contains done) (IsNumbered first) number_of done (All-contains_itself done);
@@ -58,15 +60,22 @@ module _ (first : ℕ) (s : Sizes) (opening : List ℕ) (db : Database) (files :
     follow = by.follow;
   }
 
-  leads : AreDatabases first s.calls db done through.databases
-  leads = with_writers first s.calls db (map done_of es) done through.databases same_writers through.leads
+  module _ (s : Sizes) (opening : List ℕ) (db : Database) (through : LeadsThrough first s opening db es) where
+    leads : AreDatabases first s.calls db done through.databases
+    leads = with_writers first s.calls db (map done_of es) done through.databases same_writers through.leads
 
-  answer : (d : Done) → Contains done d → is_sync d.request ≡ false → IsAnswered s.calls through.databases d
-  answer d c isnt = All-contains (IsAnswered s.calls through.databases) (map done_of es) d through.answers ((by.same d isnt).0 c)
+    answer : (d : Done) → Contains done d → is_sync d.request ≡ false → IsAnswered s.calls through.databases d
+    answer d c isnt = All-contains (IsAnswered s.calls through.databases) (map done_of es) d through.answers ((by.same d isnt).0 c)
 
-  answers : AreAnswered s.calls through.databases done
-  answers = All-weaker (Contains done) (λ d. is_sync d.request ≡ false → IsAnswered s.calls through.databases d) answer done (All-contains_itself done)
+    answers : AreAnswered s.calls through.databases done
+    answers = All-weaker (Contains done) (λ d. is_sync d.request ≡ false → IsAnswered s.calls through.databases d) answer done (All-contains_itself done)
 
 pub law_done : LawOfDone
-law_done first s opening db files es done through by =
-    (numbered first s opening db files es done through by, leads first s opening db files es done through by, answers first s opening db files es done through by)
+law_done first s opening db files es done through by = (
+  numbered first files es done through.each through.differ by,
+  leads first files es done through.each through.differ by s opening db through,
+  answers first files es done through.each through.differ by s opening db through,
+)
+
+pub law_numbered : LawOfNumbering
+law_numbered first s files es done numbers served by = numbered first files es done (each_numbered first s es numbers served) (differ_all es numbers.once) by

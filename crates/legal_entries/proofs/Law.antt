@@ -17,7 +17,7 @@ use Rattle.tatp_model.specs.OneThread.{is_sync}
 use Rattle.tatp_layout.specs.StandsFor.{StandsFor}
 use Rattle.tatp_core.specs.Serves.{Serves}
 use Rattle.core_events.specs.Views.{Entry}
-use Rattle.core_events.specs.Entries.{value_at, read_at, IsLegal}
+use Rattle.core_events.specs.Entries.{value_at, read_at, HaveNumbers, IsLegal}
 use Rattle.legal_order.specs.Numbers.{WroteAt, AreDatabases, answered_at, IsAnswered, IsNumbered}
 use Rattle.legal_order.proofs.Members.{contains_map, map_contains}
 use Rattle.legal_entries.specs.Served.{done_of, IsServed, array_at, LeadsThrough, LawOfEntries}
@@ -40,6 +40,24 @@ abbrev database_at : ℕ → Database → List Entry → ℕ → Database
 database_at limit db es zero = db
 database_at limit db es (suc n) = grown limit (writer es (suc n)) (database_at limit db es n)
 
+-- the numbers: over the first one where an entry wrote, from it on where it read
+module _ (first : ℕ) (s : Sizes) (es : List Entry) (numbers : HaveNumbers first es) (served : All (IsServed s) es) where
+  over : (e : Entry) → Contains es e → e.wrote ≡ true → first < e.number
+  over e c = All-contains (λ e. e.wrote ≡ true → first < e.number) es e numbers.over c
+
+  number_of : (e : Entry) → Contains es e → IsNumbered first (done_of e)
+  number_of e c =
+      let v = All-contains (IsServed s) es e served c in
+      let from : first ≤ read_at e = All-contains (λ x. first ≤ read_at x) es e numbers.from c in
+      record {
+        over = over e c;
+        from = λ n. ⊎_elim (λ w. let o = over e c w in omega arith) (λ h. let at : read_at e ≡ e.number = rw h refl in omega arith) (cases_Bool e.wrote);
+        durable = λ sync. absurd (both_ways (is_sync e.about.request) v.no_sync sync);
+      }
+
+  pub each_numbered : All (IsNumbered first) (map done_of es)
+  each_numbered = All-map (IsNumbered first) done_of es (All-weaker (Contains es) (λ e. IsNumbered first (done_of e)) number_of es (All-contains_itself es))
+
 module _ (first : ℕ) (s : Sizes) (opening : List ℕ) (db : Database) (es : List Entry) (stands : StandsFor s opening db) (legal : IsLegal first opening es) (served : All (IsServed s) es) where
   abbrev databases : ℕ → Database
   databases n = database_at s.calls db es n
@@ -50,12 +68,9 @@ module _ (first : ℕ) (s : Sizes) (opening : List ℕ) (db : Database) (es : Li
   inside : IsInside (length opening) es
   inside = written_inside (length opening) es (All-weaker (IsServed s) (λ e. All (λ w. w.at < length opening) e.writes) (λ e v. subst (λ (n : ℕ). All (λ (w : Write). w.at < n) e.writes) (sym size) v.answers.writes_inside) es served)
 
-  over : (e : Entry) → Contains es e → e.wrote ≡ true → first < e.number
-  over e c = All-contains (λ e. e.wrote ≡ true → first < e.number) es e legal.over c
-
   -- up to the first number nothing was written
   none_upto : (n : ℕ) → n ≤ first → writer es n ≡ None
-  none_upto n le = ⊎_elim (λ no. no) (λ w. let is = writer_is es n w.0 w.1 in let o = over w.0 is.among is.wrote in let m = is.number in absurd (omega arith)) (none_or_writer (writer es n))
+  none_upto n le = ⊎_elim (λ no. no) (λ w. let is = writer_is es n w.0 w.1 in let o = over first s es legal.numbers served w.0 is.among is.wrote in let m = is.number in absurd (omega arith)) (none_or_writer (writer es n))
 
   database_upto : (n : ℕ) → n ≤ first → databases n ≡ db
   database_upto zero le = refl
@@ -93,7 +108,7 @@ module _ (first : ℕ) (s : Sizes) (opening : List ℕ) (db : Database) (es : Li
   next_database : (n : ℕ) (e : Entry) → Writes es (n + 1) e → databases (n + 1) ≡ after_request s.calls (databases n) e.about.request
   next_database n e w =
       let up : n + 1 ≡ suc n = omega arith in
-      let only : writer es (suc n) ≡ Some e = writer_only es (suc n) e legal.once (record { among = w.among; wrote = w.wrote; number = w.number ∙ up }) in
+      let only : writer es (suc n) ≡ Some e = writer_only es (suc n) e legal.numbers.once (record { among = w.among; wrote = w.wrote; number = w.number ∙ up }) in
       rw up (rw only refl)
 
   same_database : (n : ℕ) → ((d : Done) → Contains (map done_of es) d → WroteAt (n + 1) d → ⊥) → databases (n + 1) ≡ databases n
@@ -124,22 +139,8 @@ module _ (first : ℕ) (s : Sizes) (opening : List ℕ) (db : Database) (es : Li
       same_number_lists array (array_at opening es n) (long ∙ sym (length_at opening es inside n ∙ size))
       (λ i lt. same i (subst (λ (m : ℕ). i < m) long lt) ∙ sym (word_at opening es inside n i))
 
-  -- the numbers: over the first one where an entry wrote, from it on where it read, and no two that wrote alike
-  number_of : (e : Entry) → Contains es e → IsNumbered first (done_of e)
-  number_of e c =
-      let v = All-contains (IsServed s) es e served c in
-      let from : first ≤ read_at e = All-contains (λ x. first ≤ read_at x) es e legal.from c in
-      record {
-        over = over e c;
-        from = λ n. ⊎_elim (λ w. let o = over e c w in omega arith) (λ h. let at : read_at e ≡ e.number = rw h refl in omega arith) (cases_Bool e.wrote);
-        durable = λ sync. absurd (both_ways (is_sync e.about.request) v.no_sync sync);
-      }
-
-  each : All (IsNumbered first) (map done_of es)
-  each = All-map (IsNumbered first) done_of es (All-weaker (Contains es) (λ e. IsNumbered first (done_of e)) number_of es (All-contains_itself es))
-
   through : LeadsThrough first s opening db es
-  through = record { databases = databases; leads = leads; stands = stand; each = each; differ = differ_all es legal.once; answers = answers; words = words }
+  through = record { databases = databases; leads = leads; stands = stand; each = each_numbered first s es legal.numbers served; differ = differ_all es legal.numbers.once; answers = answers; words = words }
 
 pub law : LawOfEntries
 law first s opening db es stands legal served = through first s opening db es stands legal served

@@ -12,7 +12,7 @@ use Rattle.tatp_model.specs.OneThread.{is_sync, HoldsPrefixes}
 use Rattle.tatp_layout.specs.StandsFor.{StandsFor}
 use Rattle.tatp_core.specs.Serves.{Answers}
 use Rattle.core_events.specs.Views.{Entry}
-use Rattle.core_events.specs.Entries.{writes_of, value_at, IsLegal}
+use Rattle.core_events.specs.Entries.{writes_of, value_at, HaveNumbers, IsLegal}
 use Rattle.legal_order.specs.Numbers.{AreDatabases, IsAnswered, AreAnswered, Differ, FilesFollow, IsNumbered, AreNumbered}
 
 -- what is done by the transaction of an entry
@@ -76,3 +76,8 @@ abbrev pub LawOfDone : Type 0
 LawOfDone = (first : ℕ) (s : Sizes) (opening : List ℕ) (db : Database) (files : List (List Request)) (es : List Entry) (done : List Done)
     → (through : LeadsThrough first s opening db es) → AreDoneBy files es done
     → AreNumbered first files done × AreDatabases first s.calls db done through.databases × AreAnswered s.calls through.databases done
+
+-- what was done by numbered entries of served requests has numbers, also where it isn't known what they read
+abbrev pub LawOfNumbering : Type 0
+LawOfNumbering = (first : ℕ) (s : Sizes) (files : List (List Request)) (es : List Entry) (done : List Done)
+    → HaveNumbers first es → All (IsServed s) es → AreDoneBy files es done → AreNumbered first files done

@@ -281,6 +281,7 @@ module _ {M : Type 0} {ghosts : Ghosts M} (sight : M → Sight) (o : Opening M g
   has_closed w same e back number rest live words_are = subst (λ (x : View). HasClosed sight o x e) (sym same) (record {
     upto = subst (λ (n : ℕ). All (λ (x : Entry). x.number ≤ n) v.entries) (sym number) k.read_out.upto;
     room = (let r = k.read_out.room in omega arith);
+    numbers = k.read_out.numbers;
     legal = k.read_out.legal;
     rest = subst (λ (b : Back M ghosts). IsRest z (state_of b).log.sizes.rings v.entries e.number e.rest.items) (sym back) (subst (λ (n : ℕ). IsRest z (state_of k.home.back).log.sizes.rings v.entries n e.rest.items) (sym number) rest);
     back = subst (IsKeptEnd sight o v e.number) (sym back) (subst (λ (n : ℕ). IsKeptEnd sight o v n k.home.back) (sym number) kept_end);

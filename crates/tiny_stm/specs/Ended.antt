@@ -18,7 +18,7 @@ use Rattle.back_store.specs.BackView.{medium_of, state_of}
 use Rattle.back_store.specs.Told.{WereTold}
 use Rattle.core_events.specs.Setups.{Setup}
 use Rattle.core_events.specs.Views.{Entry, View}
-use Rattle.core_events.specs.Entries.{IsLegal, value_at, writes_of}
+use Rattle.core_events.specs.Entries.{HaveNumbers, IsLegal, value_at, writes_of}
 use Rattle.known_back.specs.Known.{Known, told_before}
 use Rattle.known_back.specs.Lists.{lists}
 use Rattle.known_back.specs.Records.{HasRecord, last_written, writes_in}
@@ -117,6 +117,8 @@ module _ {M : Type 0} {ghosts : Ghosts M} (sight : M → Sight) (o : Opening M g
     -- no entry is over the last number, and no draw leads over the greatest number
     pub upto : All (λ e. e.number ≤ c.number) v.entries
     pub room : c.number + v.draws ≤ MAX_NUMBER
+    -- the entries are numbered, those that wrote differently
+    pub numbers : HaveNumbers o.terms.first v.entries
     -- where it is known what the medium gives, each entry read what it says
     pub legal : (setup_of sight o).is_told ≡ true → IsLegal o.terms.first o.terms.opening v.entries
     pub rest : IsRest (setup_of sight o) (state_of c.back).log.sizes.rings v.entries c.number c.rest.items

@@ -1,4 +1,4 @@
-use Rattle.legal_entries.proofs.Carrying.{law_done}
+use Rattle.legal_entries.proofs.Carrying.{law_done, law_numbered}
 use Rattle.legal_entries.proofs.Law.{law}
 use Rattle.legal_entries.proofs.Serving.{served_entry}
 use Rattle.legal_entries.proofs.laws.law_of_served_entries.Goals as goal
@@ -11,3 +11,6 @@ returns-clause-leads c = law
 
 pub returns-clause-done : goal.returns-clause-done
 returns-clause-done c = law_done
+
+pub returns-clause-numbered : goal.returns-clause-numbered
+returns-clause-numbered c = law_numbered
