@@ -53,11 +53,12 @@ record IsBare {X : Type 0} (used k : ℕ) (p m : PassSight X) : Type 0 where
   pub draws : m.numbers.left + used ≡ p.numbers.left
   pub few : used ≤ 1
   pub rises : p.numbers.refused ≤ m.numbers.refused
+  pub durable : m.numbers.durable ≡ p.numbers.durable
   pub counts : RisesBy k p.numbers.refused m.numbers.refused
 
 module _ {X K : Type 0} (t : TableSight K) (p m r : PassSight X) where
   fewer : (used k l : ℕ) → l ≤ k → IsBare used k p m → IsBare used l p m
-  fewer used k l le b = record { entries = b.entries; last = b.last; no_fault = b.no_fault; draws = b.draws; few = b.few; rises = b.rises; counts = rises_less p.numbers.refused m.numbers.refused k l le b.counts }
+  fewer used k l le b = record { entries = b.entries; last = b.last; no_fault = b.no_fault; draws = b.draws; few = b.few; rises = b.rises; durable = b.durable; counts = rises_less p.numbers.refused m.numbers.refused k l le b.counts }
 
   -- one that counts a refusal for itself, and nothing behind it
   again_same : (used : ℕ) → IsBare used 1 p m → IsResting t m → IsAgain t p m
@@ -67,9 +68,14 @@ module _ {X K : Type 0} (t : TableSight K) (p m r : PassSight X) where
     last = b.last;
     no_fault = b.no_fault;
     rises = b.rises;
+    durable = (let d = b.durable in omega arith);
     draws = record { used = used; draws = b.draws; few = b.few };
     counts = ⊎_elim (λ n. inr ((let f = b.few in omega arith), one_more p.numbers.refused m.numbers.refused p.numbers.had_turn m.numbers.had_turn (omega arith))) (λ l. inl l) b.counts;
   }
+
+  -- a turn behind it keeps the durable number
+  kept_bare : (used k : ℕ) → IsBare used k p m → KeepsRest t m r → p.numbers.durable ≤ r.numbers.durable
+  kept_bare used k b c = let d = b.durable in let e = c.durable in omega arith
 
   -- and a turn behind it
   again_turned : (used : ℕ) → IsBare used 1 p m → HasGained t m r → IsAgain t p r
@@ -79,6 +85,7 @@ module _ {X K : Type 0} (t : TableSight K) (p m r : PassSight X) where
     last = g.keeps.last ∙ b.last;
     no_fault = g.no_fault ∙ b.no_fault;
     rises = (let a = b.rises in omega arith);
+    durable = kept_bare used 1 b g.keeps;
     draws = record { used = used; draws = ap (λ (n : ℕ). n + used) g.keeps.left ∙ b.draws; few = b.few };
     counts = ⊎_elim (λ n. inr ((let f = b.few in omega arith), one_more p.numbers.refused r.numbers.refused p.numbers.had_turn r.numbers.had_turn (omega arith))) (λ l. inl (omega arith)) b.counts;
   }
@@ -92,6 +99,7 @@ module _ {X K : Type 0} (t : TableSight K) (p m r : PassSight X) where
       rests = f.keeps.rests;
       entries = f.keeps.entries ∙ b.entries;
       draws = record { used = 0; draws = ap (λ (n : ℕ). n + 0) f.keeps.left ∙ b.draws; few = omega arith };
+      durable = kept_bare 0 k b f.keeps;
     },
     f.fault,
   )
@@ -113,6 +121,7 @@ module _ {X : Type 0} (p m : PassSight X) (small : up_to_last p.numbers.refused 
     draws = (let l = ap (λ (x : PassNumbers). x.left) is in omega arith);
     few = omega arith;
     rises = rises_of k n;
+    durable = ap (λ (x : PassNumbers). x.durable) is;
     counts = counts_of k n;
   }
 
@@ -134,6 +143,7 @@ module _ {X K : Type 0} (t : TableSight K) (seen : ℕ) (p m : PassSight X) (sma
         last = g.keeps.last ∙ b.last;
         no_fault = g.no_fault ∙ b.no_fault;
         rises = omega arith;
+        durable = kept_bare t p m r 0 0 b g.keeps;
         draws = record { used = 0; draws = ap (λ (n : ℕ). n + 0) g.keeps.left ∙ b.draws; few = omega arith };
         counts = ⊎_elim (λ l. inl l) (λ gain. ⊎_elim
             (λ lt. inr (omega arith, omega arith))
@@ -168,7 +178,7 @@ module _ {X K : Type 0} (t : TableSight K) (e : Stop) (p m : PassSight X) (small
   stop_try s file index q Again r a = again_counted t p m r 0 (stop_one a.0) h.rests a.1
   stop_try s file index q Device r a = unserved t p m r h.refusals stop_bare a
   stop_try s file index q NoMemory r a = subst (λ (y : PassSight X). IsUnserved 0 t p y × (y.numbers.met_fault ≡ p.numbers.met_fault)) (sym a)
-      (record { rests = h.rests; entries = h.entries; draws = record { used = 0; draws = stop_bare.draws; few = omega arith } }, stop_bare.no_fault)
+      (record { rests = h.rests; entries = h.entries; draws = record { used = 0; draws = stop_bare.draws; few = omega arith }; durable = (let d = stop_bare.durable in omega arith) }, stop_bare.no_fault)
 
 -- ---- a commit that was lost
 module _ {X K : Type 0} (t : TableSight K) (p m : PassSight X) (small : up_to_last p.numbers.refused ≡ p.numbers.refused) (left : 0 < p.numbers.left) where
@@ -187,6 +197,7 @@ module _ {X K : Type 0} (t : TableSight K) (p m : PassSight X) (small : up_to_la
     draws = (let l = ap (λ (x : PassNumbers). x.left) is in omega arith);
     few = omega arith;
     rises = rises_of p m small (1 + k) n;
+    durable = ap (λ (x : PassNumbers). x.durable) is;
     counts = counts_of p m small (1 + k) n;
   })
 
@@ -198,6 +209,7 @@ module _ {X K : Type 0} (t : TableSight K) (p m : PassSight X) (small : up_to_la
     draws = (let l = ap (λ (x : PassNumbers). x.left) is in omega arith);
     few = omega arith;
     rises = rises_of p m small (1 + k) n;
+    durable = ap (λ (x : PassNumbers). x.durable) is;
     counts = counts_of p m small (1 + k) n;
   })
 
@@ -219,8 +231,8 @@ done_try {X} {K} t s file index q d p r no_sync left h = by_wrote h.1.1 h.1.2
     answers = subst (λ (b : Bool). AnswersBy b t s file index q p r d) (sym no_sync) h.0
 
     by_wrote : (b : Bool) → r.numbers ≡ with_refusals h.1.0 (after_commit b (Ok d.number) t.setup.boxes p.numbers) → IsServing 1 t s file index q p r d
-    by_wrote true is = record { answers = answers; draws = record { used = 1; draws = (let l = ap (λ (x : PassNumbers). x.left) is in omega arith); few = omega arith }; no_fault = ap (λ (x : PassNumbers). x.met_fault) is }
-    by_wrote false is = record { answers = answers; draws = record { used = 0; draws = (let l = ap (λ (x : PassNumbers). x.left) is in omega arith); few = omega arith }; no_fault = ap (λ (x : PassNumbers). x.met_fault) is }
+    by_wrote true is = record { answers = answers; draws = record { used = 1; draws = (let l = ap (λ (x : PassNumbers). x.left) is in omega arith); few = omega arith }; no_fault = ap (λ (x : PassNumbers). x.met_fault) is; durable = (let d = ap (λ (x : PassNumbers). x.durable) is in omega arith) }
+    by_wrote false is = record { answers = answers; draws = record { used = 0; draws = (let l = ap (λ (x : PassNumbers). x.left) is in omega arith); few = omega arith }; no_fault = ap (λ (x : PassNumbers). x.met_fault) is; durable = (let d = ap (λ (x : PassNumbers). x.durable) is in omega arith) }
 
 -- ---- a `SYNC`
 module _ {X K : Type 0} (t : TableSight K) (p r : PassSight X) (small : up_to_last p.numbers.refused ≡ p.numbers.refused) where
@@ -232,6 +244,7 @@ module _ {X K : Type 0} (t : TableSight K) (p r : PassSight X) (small : up_to_la
     last = k.last;
     no_fault = no_fault;
     rises = k.rises;
+    durable = k.durable;
     draws = record { used = 0; draws = ap (λ (n : ℕ). n + 0) k.left ∙ none; few = omega arith };
     counts = ⊎_elim (λ n. inr (omega arith, one_more p.numbers.refused r.numbers.refused p.numbers.had_turn r.numbers.had_turn (omega arith))) (λ l. inl l) (counts_of p r small 1 is);
   }
