@@ -18,8 +18,9 @@ use Rattle.stm_slots.specs.declared.slot.Slot.{Slot}
 use Rattle.stm_slots.specs.declared.opening.Opening.{Opening}
 use Rattle.stm_turns.specs.Bundles.{NextIsNotDrawn}
 use Rattle.stm_turns.specs.Pump.{HadTurn}
-use Rattle.stm_turns.specs.Turns.{EndsSettled, HasShown, HasTaken, Stepped}
+use Rattle.stm_turns.specs.Turns.{Advanced, DurableRises, EndsSettled, HasShown, HasTaken, Stepped, SteppedOn}
 use Rattle.stm_turns.proofs.Calling.{settled_at, settled_dead}
+use Rattle.stm_turns.proofs.Seats.{advanced, then_advanced}
 use Rattle.stm_turns.proofs.WholeTurns.{or_true}
 use Rattle.stm_pages.specs.Fetch.{ComesTo, HasFailed, HasFetchFault, HasFetched, HasSettled, IsTurnOf, KeepsTurn, SettledTo}
 use Rattle.stm_pages.specs.Frames.{MayMakeRoom}
@@ -38,8 +39,18 @@ module _ {M : Type 0} {ghosts : Ghosts M} (sight : M → Sight) (t : TableSight 
   turn_same old h i = record { id = refl; turn = i; view = refl }
 
   -- other steps of the turn
-  pub turn_settled : (old new : TurnSeat) (h : TheHome M ghosts) → Stepped sight t old new h [] → KeepsTurn sight t old new h
-  turn_settled old new h s = record { id = s.id; turn = s.turn; view = ap turn_view s.view }
+  pub turn_settled : (before after : ℕ) (old new : TurnSeat) (h : TheHome M ghosts) → Advanced sight t before after old new h [] → KeepsTurn sight t old new h
+  turn_settled before after old new h s = record { id = s.id; turn = s.turn; view = ap turn_view s.view }
+
+  -- behind them some that leave the durable number
+  pub settled_then : (before after : ℕ) (old mid new : TurnSeat) (h : TheHome M ghosts) → Advanced sight t before after old mid h [] → SteppedOn sight t mid new h h → Advanced sight t before after old new h []
+  settled_then before after old mid new h a b = then_advanced sight t before after after old mid new h h [] [] a (advanced sight t after mid new h [] (b [] a.turn))
+
+  -- steps on pages leave it
+  pub paged_durable : (before after : ℕ) (old mid new : TurnSeat) (h : TheHome M ghosts) → DurableRises before after old mid → Paged sight t mid new h → DurableRises before after old new
+  paged_durable before after old mid new h d s =
+      let same = ap (λ (v : View). v.turn.durable) s.view in
+      record { rises = (let l = d.rises in omega arith); tells = λ is. same ∙ d.tells is }
 
   pub turn_paged : (old mid new : TurnSeat) (h h2 : TheHome M ghosts) → KeepsTurn sight t old mid h → Paged sight t mid new h2 → KeepsTurn sight t old new h2
   turn_paged old mid new h h2 a b = record { id = b.id ∙ a.id; turn = b.turn; view = ap turn_view b.view ∙ a.view }

@@ -8,7 +8,7 @@ ghost use Rattle.core_table.specs.Steps.{BelongsTo};
 ghost use Rattle.stm_pages.specs.Fetch.{ComesTo, HasFetchFault, HasFetched, SettledTo, KeepsTurn};
 ghost use Rattle.stm_pages.specs.Frames.{MayMakeRoom};
 ghost use Rattle.stm_pages.specs.Paging.{HasTurn, Paged};
-ghost use Rattle.stm_turns.specs.Turns.{IsBare, IsOwn};
+ghost use Rattle.stm_turns.specs.Turns.{DurableRises, IsBare, IsOwn};
 
 use crate::entries::see_entry;
 use crate::fetch_fault::FetchFault;
@@ -47,13 +47,15 @@ fn show_absent<M: Medium>(
     }
 }
 
-/// Persists what boxes have, and brings a page into a frame unless it is in one.
+/// Persists what boxes have, and brings a page into a frame unless it is in one. `durable` is the
+/// durable number that the seat knows.
 fn bring_in<M: Medium>(
     stm: &Steps<M>,
     seat: &mut SlotSeat<M>,
     home: &mut Home<M>,
     own: u64,
     page: u64,
+    durable: &mut u64,
 ) -> Result<(), FetchFault>
     requires turn { HasTurn M.sight stm.now.events seat.old home.old }
     requires own { IsOwn own seat.old }
@@ -61,9 +63,10 @@ fn bring_in<M: Medium>(
     requires alive { (state_of home.old.back).dead ≡ false }
     requires page { page < stm.now.events.setup.pages }
     ensures steps { KeepsTurn M.sight stm.now.events seat.old seat.new home.new }
+    ensures durable { DurableRises durable.old durable.new seat.old seat.new }
     ensures comes { ComesTo M.sight stm.now.events page result seat.new home.new }
 {
-    match settle(&stm.events, seat, home, own) {
+    match settle(&stm.events, seat, home, own, durable) {
         Ok(reproduced) => {
             // The word is that already: so the seat is told.
             raise_reproduced(&stm.events, seat, home, reproduced);
@@ -77,12 +80,14 @@ fn bring_in<M: Medium>(
 }
 
 /// Takes the turn, does the work of a pump, brings a page into a frame unless it is in one, and
-/// gives the turn back.
+/// gives the turn back. `durable` is the durable number that the seat knows, whatever the turn
+/// meets. The page may be out again as soon as the turn is given.
 pub fn fetch<M: Medium>(
     stm: &Steps<M>,
     seat: &mut SlotSeat<M>,
     own: u64,
     page: u64,
+    durable: &mut u64,
 ) -> Result<(), FetchFault>
     requires seat { BelongsTo stm.now.events seat.old }
     // The own thread, which has no open number.
@@ -91,6 +96,7 @@ pub fn fetch<M: Medium>(
     requires bare { seat.old.me.1 ≡ [] }
     requires page { page < stm.now.events.setup.pages }
     ensures left { IsBare stm.now.events seat.old seat.new }
+    ensures durable { DurableRises durable.old durable.new seat.old seat.new }
     ensures ok { IfOk result (λ done. HasFetched M.sight stm.now.events page seat.old seat.new) }
     ensures err { IfErr result (λ fault. HasFetchFault M.sight stm.now.events page fault
         seat.old seat.new) }
@@ -103,7 +109,7 @@ pub fn fetch<M: Medium>(
         give_turn(&stm.events, seat, home, true);
         return Err(FetchFault::Dead);
     }
-    let result = bring_in(stm, seat, &mut home, own, page);
+    let result = bring_in(stm, seat, &mut home, own, page, durable);
     let failed = home.back.is_dead();
     give_turn(&stm.events, seat, home, failed);
     result

@@ -1,7 +1,6 @@
 -- A pass rests again after another was taken in.
-use Rattle.std.proofs.Common.{◌≡◌, ℕ, ◌≤◌, Bool, true, false, ◌||◌, List, [], ◌∷◌, ◌++◌, refl, sym, ap, ◌∙◌, arith}
+use Rattle.std.proofs.Common.{◌≡◌, ℕ, ◌≤◌, Bool, ◌||◌, List, [], ◌∷◌, ◌++◌, refl, sym, ap, ◌∙◌, arith}
 use Rattle.std.specs.Prelude.{Option, max}
-use Rattle.std.proofs.lemmas.Bool.{true≢false}
 use Rattle.atomic_table.specs.declared.shared.Seat.{Seat}
 use Rattle.core_events.specs.Setups.{Setup}
 use Rattle.core_events.specs.Keyed.{one_if}
@@ -27,11 +26,6 @@ greatest_both : (d : ℕ) (xs ys : List Entry) → greatest d (entry_numbers (xs
 greatest_both d [] ys = let from = greatest_from d (entry_numbers ys) in omega arith
 greatest_both d (x ∷ xs) ys = let rest = greatest_both d xs ys in omega arith
 
--- where one of two or both are so, neither is where that is false
-neither : (a b : Bool) → (a || b) ≡ false → (a ≡ false) × (b ≡ false)
-neither false b e = (refl, e)
-neither true b e = absurd (true≢false e)
-
 module _ (z : Setup) (f g : PassNumbers) (v w : View) (d : Describes z f v) (e : Describes z g w) where
   both_describes : Describes z (both_numbers f g) (both_of v w)
   both_describes = record {
@@ -41,7 +35,7 @@ module _ (z : Setup) (f g : PassNumbers) (v w : View) (d : Describes z f v) (e :
     drawn = d.drawn;
     left = (let l = d.left in let m = e.left in omega arith);
     splits = (let l = d.splits in let m = e.splits in let t = ap (λ (o : Option ℕ). one_if o) e.of.its in omega arith);
-    durable = λ none. let calm = neither v.turn.met_fault w.turn.met_fault none in let l = d.durable calm.0 in let m = e.durable calm.1 in omega arith;
+    durable = (let l = d.durable in let m = e.durable in omega arith);
     met_fault = ap (λ (b : Bool). b || w.turn.met_fault) d.met_fault ∙ ap (λ (b : Bool). f.met_fault || b) e.met_fault;
     few = d.few;
     opening = d.opening;

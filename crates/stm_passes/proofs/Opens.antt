@@ -14,7 +14,7 @@ use Rattle.stm_passes.specs.Passes.{Describes, PassSight, is_given}
 use Rattle.stm_passes.proofs.Rests.{given_rests}
 
 first_describes : (z : Setup) (thread : ℕ) → Describes z (first_numbers thread z.threads z.first) (view_after z number (opener z) thread)
-first_describes z thread = record { of = record { live = refl; its = refl }; next = refl; last = refl; drawn = refl; left = refl; splits = refl; durable = λ none. refl; met_fault = refl; few = omega arith; opening = refl }
+first_describes z thread = record { of = record { live = refl; its = refl }; next = refl; last = refl; drawn = refl; left = refl; splits = refl; durable = refl; met_fault = refl; few = omega arith; opening = refl }
 
 pub opens : {S X K : Type 0} (t : TableSight K) (u : Seat S (Known X)) (thread : ℕ) (f : PassNumbers) (p : PassSight X) → u.me.0.view ≡ view_after t.setup number (opener t.setup) thread → BelongsTo t u → f ≡ first_numbers thread t.setup.threads t.setup.first → p ≡ is_given u f → IsFirstPass t p
 opens t u thread f p is b ef ep = rw (ep, ef) (record {

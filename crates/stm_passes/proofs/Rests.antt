@@ -27,7 +27,7 @@ module _ (z : Setup) (f : PassNumbers) (v : View) (d : Describes z f v) where
   left_describes draws = record { of = record { live = d.of.live; its = d.of.its }; next = d.next; last = d.last; drawn = d.drawn; left = ap (λ (n : ℕ). n - draws) d.left; splits = ap (λ (n : ℕ). n - 1) d.splits; durable = d.durable; met_fault = d.met_fault; few = d.few; opening = d.opening }
 
   newcomer_describes : (draws thread : ℕ) → Describes z (newcomer_numbers thread draws f.opening) (view_after z number (newcomer z 0 draws) thread)
-  newcomer_describes draws thread = record { of = record { live = refl; its = refl }; next = refl; last = d.opening; drawn = refl; left = refl; splits = refl; durable = λ none. sym d.opening; met_fault = refl; few = omega arith; opening = d.opening }
+  newcomer_describes draws thread = record { of = record { live = refl; its = refl }; next = refl; last = d.opening; drawn = refl; left = refl; splits = refl; durable = sym d.opening; met_fault = refl; few = omega arith; opening = d.opening }
 
 -- a seat whose view is this goes into a pass, with numbers that describe it
 pub given_rests : {S X K : Type 0} (t : TableSight K) (u : Seat S (Known X)) (f : PassNumbers) (v : View) → u.me.0.view ≡ v → BelongsTo t u → IsIdle v → v.turn.has_it ≡ false → Describes t.setup f v → IsResting t (is_given u f)

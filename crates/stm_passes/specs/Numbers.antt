@@ -21,13 +21,17 @@ after_draw number boxes f = record f { next = (f.next + 1) % boxes; drawn = numb
 abbrev pub with_entry : ℕ → PassNumbers → PassNumbers
 with_entry number f = record f { last = number }
 
+-- a turn was had, behind which this is the durable number
+abbrev pub with_turn : ℕ → PassNumbers → PassNumbers
+with_turn n f = record f { durable = n; had_turn = true }
+
 -- A turn made all up to this number durable. It counts as a refusal where that is under the last number, or under one that was drawn
 abbrev pub after_turn : ℕ → PassNumbers → PassNumbers
-after_turn n f = with_refusals (bit (ltb n f.last || ltb n f.drawn)) (record f { durable = n; had_turn = true })
+after_turn n f = with_refusals (bit (ltb n f.last || ltb n f.drawn)) (with_turn n f)
 
--- a turn met a fault
-abbrev pub after_fault : PassNumbers → PassNumbers
-after_fault f = record f { met_fault = true; had_turn = true }
+-- a turn met a fault, behind which this is the durable number
+abbrev pub after_fault : ℕ → PassNumbers → PassNumbers
+after_fault n f = record f { durable = n; met_fault = true; had_turn = true }
 
 -- so many draws and one split went to another pass
 abbrev pub left_numbers : ℕ → PassNumbers → PassNumbers

@@ -66,8 +66,7 @@ pub record Describes (z : Setup) (f : PassNumbers) (v : View) : Type 0 where
   pub drawn : f.drawn ≡ greatest 0 v.drawn
   pub left : v.draws ≡ f.left
   pub splits : v.part.splits ≡ f.splits
-  -- where no turn of the pass met a fault
-  pub durable : v.turn.met_fault ≡ false → v.turn.durable ≡ f.durable
+  pub durable : v.turn.durable ≡ f.durable
   pub met_fault : v.turn.met_fault ≡ f.met_fault
   pub few : up_to_last f.refused ≡ f.refused
   pub opening : f.opening ≡ z.first

@@ -1,7 +1,7 @@
 //! What a pass tells of itself in numbers.
 
 ghost use Rattle.std.specs.Prelude.{◌≡◌, ◌+◌, ◌^◌, ◌<◌, ◌≤◌};
-ghost use Rattle.stm_passes.specs.Numbers.{after_draw, after_fault, after_turn, bit, both_numbers, first_numbers, left_numbers, newcomer_numbers, with_entry, with_refusals};
+ghost use Rattle.stm_passes.specs.Numbers.{after_draw, after_fault, after_turn, with_turn, bit, both_numbers, first_numbers, left_numbers, newcomer_numbers, with_entry, with_refusals};
 
 use dude_base::limits::MAX_NUMBER;
 
@@ -78,19 +78,27 @@ impl PassNumbers {
         ensures { result ≡ after_turn durable self }
     {
         let is_behind = durable < self.last || durable < self.drawn;
-        let numbers = self.refuse(if is_behind { 1 } else { 0 });
+        self.have_turn(durable)
+            .refuse(if is_behind { 1 } else { 0 })
+    }
+
+    /// After a turn that left this durable number.
+    pub fn have_turn(self, durable: u64) -> PassNumbers
+        ensures { result ≡ with_turn durable self }
+    {
         PassNumbers {
             durable,
             had_turn: true,
-            ..numbers
+            ..self
         }
     }
 
-    /// After a turn that met a fault.
-    pub fn meet_fault(self) -> PassNumbers
-        ensures { result ≡ after_fault self }
+    /// After a turn that met a fault, and left this durable number.
+    pub fn meet_fault(self, durable: u64) -> PassNumbers
+        ensures { result ≡ after_fault durable self }
     {
         PassNumbers {
+            durable,
             met_fault: true,
             had_turn: true,
             ..self

@@ -62,7 +62,7 @@ module _ (z : Setup) (f : PassNumbers) (v : View) (t : Describes z f v) where
     drawn = t.drawn ∙ ap (λ (l : List ℕ). greatest 0 l) (sym e.drawn);
     left = e.draws ∙ t.left;
     splits = ap (λ (p : Part). p.splits) e.part ∙ t.splits;
-    durable = λ none. ap (λ (u : Turn). u.durable) e.turn ∙ t.durable (sym (ap (λ (u : Turn). u.met_fault) e.turn) ∙ none);
+    durable = ap (λ (u : Turn). u.durable) e.turn ∙ t.durable;
     met_fault = ap (λ (u : Turn). u.met_fault) e.turn ∙ t.met_fault;
     few = t.few;
     opening = t.opening;
@@ -76,7 +76,7 @@ module _ (z : Setup) (f : PassNumbers) (v : View) (t : Describes z f v) where
     drawn = t.drawn ∙ ap (λ (l : List ℕ). greatest 0 l) (sym (e.drawn ∙ append-nil v.drawn));
     left = (let d = e.draws in let l = t.left in omega arith);
     splits = ap (λ (p : Part). p.splits) e.part ∙ t.splits;
-    durable = λ none. ap (λ (u : Turn). u.durable) e.turn ∙ t.durable (sym (ap (λ (u : Turn). u.met_fault) e.turn) ∙ none);
+    durable = ap (λ (u : Turn). u.durable) e.turn ∙ t.durable;
     met_fault = ap (λ (u : Turn). u.met_fault) e.turn ∙ t.met_fault;
     few = t.few;
     opening = t.opening;
@@ -88,7 +88,7 @@ module _ (z : Setup) (f : PassNumbers) (v : View) (t : Describes z f v) where
     drawn = sym (ap (λ (l : List ℕ). greatest 0 l) e.drawn ∙ greatest_push 0 v.drawn n (omega arith) (e.newest (omega arith)));
     left = (let d = e.draws in let l = t.left in omega arith);
     splits = ap (λ (p : Part). p.splits) e.part ∙ t.splits;
-    durable = λ none. ap (λ (u : Turn). u.durable) e.turn ∙ t.durable (sym (ap (λ (u : Turn). u.met_fault) e.turn) ∙ none);
+    durable = ap (λ (u : Turn). u.durable) e.turn ∙ t.durable;
     met_fault = ap (λ (u : Turn). u.met_fault) e.turn ∙ t.met_fault;
     few = t.few;
     opening = t.opening;
@@ -102,7 +102,7 @@ module _ (z : Setup) (f : PassNumbers) (v : View) (t : Describes z f v) where
     drawn = sym (ap (λ (l : List ℕ). greatest 0 l) e.drawn ∙ greatest_push 0 v.drawn n (omega arith) e.newest);
     left = (let d = e.draws in let l = t.left in omega arith);
     splits = ap (λ (p : Part). p.splits) e.part ∙ t.splits;
-    durable = λ none. ap (λ (u : Turn). u.durable) e.turn ∙ t.durable (sym (ap (λ (u : Turn). u.met_fault) e.turn) ∙ none);
+    durable = ap (λ (u : Turn). u.durable) e.turn ∙ t.durable;
     met_fault = ap (λ (u : Turn). u.met_fault) e.turn ∙ t.met_fault;
     few = t.few;
     opening = t.opening;

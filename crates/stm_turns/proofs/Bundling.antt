@@ -14,10 +14,10 @@ use Rattle.stm_slots.specs.declared.home.Home.{Home as TheHome}
 use Rattle.stm_slots.specs.declared.slot.Slot.{Slot}
 use Rattle.stm_slots.specs.declared.opening.Opening.{Opening}
 use Rattle.stm_turns.specs.Bundles.{InTurnWith, IsLate, SteppedBy, SteppedWith}
-use Rattle.stm_turns.specs.Turns.{KeepsPast, RisesTo, Stepped}
+use Rattle.stm_turns.specs.Turns.{Advanced, KeepsPast, RisesTo, Stepped}
 use Rattle.stm_turns.specs.declared.gathering.Gathering.{Gathering}
 use Rattle.stm_turns.proofs.Past.{rises_behind}
-use Rattle.stm_turns.proofs.Seats.{then_turn}
+use Rattle.stm_turns.proofs.Seats.{advanced, then_advanced, then_turn}
 
 -- what is known of a persist that found its ring full
 pub late_at : (m : ℕ) (v w : BackState) (result : Result (Unit {0}) BackFault) (used need : ℕ) → result ≡ Err (RingFull used need) → IsLate result m v w → (w ≡ v) × (v.log.reproduced + 1 < m)
@@ -50,6 +50,9 @@ module _ {M : Type 0} {ghosts : Ghosts M} (sight : M → Sight) (t : TableSight 
   -- steps behind steps with the records in hand
   pub then_bare : (old mid new : TurnSeat) (h h2 : TheHome M ghosts) (g : Gathering) → SteppedWith sight t old mid h g → Stepped sight t mid new h2 [] → Stepped sight t old new h2 []
   then_bare old mid new h h2 g a b = then_turn sight t old mid new h h2 a.hand [] a.step b
+
+  pub then_advanced_bare : (before after : ℕ) (old mid new : TurnSeat) (h h2 : TheHome M ghosts) (g : Gathering) → SteppedWith sight t old mid h g → Advanced sight t before after mid new h2 [] → Advanced sight t before after old new h2 []
+  then_advanced_bare before after old mid new h h2 g a b = then_advanced sight t before before after old mid new h h2 a.hand [] (advanced sight t before old mid h a.hand a.step) b
 
   pub then_with : (old mid new : TurnSeat) (h h2 : TheHome M ghosts) (g g2 : Gathering) → SteppedWith sight t old mid h g → SteppedWith sight t mid new h2 g2 → SteppedWith sight t old new h2 g2
   then_with old mid new h h2 g g2 a b = record { hand = b.hand; step = then_turn sight t old mid new h h2 a.hand b.hand a.step b.step; gathered = b.gathered }

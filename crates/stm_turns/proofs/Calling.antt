@@ -41,7 +41,7 @@ use Rattle.stm_slots.proofs.Following.{follows_on, follows_handed, waits_reprodu
 use Rattle.stm_slots.proofs.Queueing.{place_here}
 use Rattle.stm_slots.proofs.Taken.{contains_here}
 use Rattle.stm_turns.specs.Holding.{Held, IsHeld, IsInHand, Holding, box_held, boxes_held}
-use Rattle.stm_turns.specs.Turns.{IsAnnounced, InTurn, KeepsPlaces, SteppedOn}
+use Rattle.stm_turns.specs.Turns.{AdvancedOn, IsAnnounced, InTurn, KeepsPlaces}
 use Rattle.stm_turns.specs.Bundles.{InTurnWith, MayEmptyAll, MayPutAllBack, SteppedWith}
 use Rattle.stm_turns.specs.Gathered.{AreFronts, IsGathered}
 use Rattle.stm_turns.specs.declared.gathering.Gathering.{Gathering}
@@ -327,10 +327,10 @@ module _ {M : Type 0} {ghosts : Ghosts M} (sight : M → Sight) (t : TableSight 
     }
 
     -- steps that leave the records in hand
-    pub with_on : (new : TurnSeat) (h2 : TheHome M ghosts) → SteppedOn sight t seat new h h2 → KeepsPlaces h h2 → SteppedWith sight t seat new h2 g
-    with_on new h2 step keeps = record {
+    pub with_on : (before after : ℕ) (new : TurnSeat) (h2 : TheHome M ghosts) → AdvancedOn sight t before after seat new h h2 → KeepsPlaces h h2 → InTurnWith sight t new h2 g
+    with_on before after new h2 step keeps = record {
       hand = w.hand;
-      step = step w.hand w.turn;
+      turn = (step w.hand w.turn).turn;
       gathered = rw (keeps.next, keeps.sizes) w.gathered;
     }
 

@@ -41,7 +41,7 @@ use Rattle.stm_slots.proofs.Taken.{contains_none}
 use Rattle.std.specs.List.{Contains}
 use Rattle.stm_turns.specs.Holding.{Held, box_held, boxes_held, hands_of, Holding}
 use Rattle.stm_turns.proofs.HeldRecords.{box_in}
-use Rattle.stm_turns.specs.Told.{HasGrown, IsRaisedTo, Went, WentHanded, WentLacking, Raised, SawFront, SawNext, boxes_in}
+use Rattle.stm_turns.specs.Told.{HasGrown, IsRaisedTo, RisesFrom, Went, WentHanded, WentLacking, Raised, SawFront, SawNext, boxes_in}
 use Rattle.stm_slots.specs.declared.home.Home.{Home as TheHome}
 use Rattle.stm_slots.specs.declared.slot.Slot.{Slot}
 use Rattle.stm_slots.specs.declared.slot.Slot.TheVariants.{Empty, Record, Home}
@@ -187,18 +187,19 @@ module _ {M : Type 0} {ghosts : Ghosts M} (sight : M → Sight) (o : Opening M g
     box_kept = ap boxes_in i.hands
 
     -- a look that takes nothing
-    raised : (e : Event) (shown n n2 : ℕ) (w : Seated) → view_after z e me.0.view n ≡ view_after z e me.0.view n2 → i.stale.records ≡ i.records → IsRaisedTo e shown → WentOn sight o e (record now { shown = shown }) me.1 me n w → Raised sight o e h me n2 w
-    raised e shown n n2 w blind same is s = record {
+    raised : (e : Event) (shown n n2 : ℕ) (w : Seated) → view_after z e me.0.view n ≡ view_after z e me.0.view n2 → i.stale.records ≡ i.records → IsRaisedTo e shown → RisesFrom e me.0.view → WentOn sight o e (record now { shown = shown }) me.1 me n w → Raised sight o e h me n2 w
+    raised e shown n n2 w blind same is rises s = record {
       went = went_on e me.1 h h.next (boxes_in me.0.beside.turn) shown refl refl refl n n2 w blind (subst (λ b. WentOn sight o e (record now { shown = shown; boxes = b }) me.1 me n w) (sym box_kept) s);
       same = λ hs is. let hands_is : hs ≡ old = same_hands hs old (sym is ∙ i.hands) in ap (λ (a : Hands). a.lists.records) hands_is ∙ same;
       raised = is;
+      rises = rises;
     }
 
     pub peek_acts_on : (id t j : ℕ) → i.stale.records ≡ i.records → Acts fact z (see_full t j) id me (Raised sight o (see_full t j) h me)
     peek_acts_on id t j same =
         told_less (see_full t j) id me (WentOn sight o (see_full t j) now me.1 me) (Raised sight o (see_full t j) h me)
         (peek_acts sight o id me i.turn old i.hands (lists (state_of h.back) i.records) i.follows t j)
-        (λ n w s. raised (see_full t j) i.shown n n w refl same tt s)
+        (λ n w s. raised (see_full t j) i.shown n n w refl same tt tt s)
 
     -- a look that takes the record of one number alone
     pub look_acts_on : (id t j number : ℕ) → i.stale.records ≡ i.records → t < z.threads → j < z.boxes → 0 < number → ((b : ℕ) (q : RedoRecord) → Contains box (b, q) → q.number ≢ number)
@@ -237,13 +238,13 @@ module _ {M : Type 0} {ghosts : Ghosts M} (sight : M → Sight) (o : Opening M g
     durable_acts_on id d same le =
         told_less (raise_durable d) id me (WentOn sight o (raise_durable d) now me.1 me) (λ n. Raised sight o (raise_durable d) h me 0)
         (durable_acts sight o id me i.turn old i.hands (lists (state_of h.back) i.records) i.follows d le)
-        (λ n w s. raised (raise_durable d) i.shown n 0 w refl same tt s)
+        (λ n w s. raised (raise_durable d) i.shown n 0 w refl same tt (let a = s.told.word.0 in let b = s.told.word.1 in omega arith) s)
 
     pub reproduced_acts_on : (id d : ℕ) → i.stale.records ≡ i.records → d ≤ (state_of h.back).log.durable → Acts fact z (raise_reproduced d) id me (λ n. Raised sight o (raise_reproduced d) h me 0)
     reproduced_acts_on id d same le =
         told_less (raise_reproduced d) id me (WentOn sight o (raise_reproduced d) (record now { shown = d }) me.1 me) (λ n. Raised sight o (raise_reproduced d) h me 0)
         (reproduced_acts sight o id me i.turn old i.hands (lists (state_of h.back) i.records) i.follows d le)
-        (λ n w s. raised (raise_reproduced d) d n 0 w refl same refl s)
+        (λ n w s. raised (raise_reproduced d) d n 0 w refl same refl tt s)
 
     pub give_acts_on : (id : ℕ) (failed : Bool) → hand ≡ [] → me.1 ≡ (back_slot z, Home h) ∷ [] → IsSettled (state_of h.back) → (failed ≡ true → (state_of h.back).dead ≡ true) → Acts fact z (give_turn failed) id me (λ n. GaveTurn sight o failed me 0)
     give_acts_on id failed none slots settled fault =

@@ -31,7 +31,7 @@ module _ {M : Type 0} {ghosts : Ghosts M} (sight : M → Sight) (t : TableSight 
   TurnSeat = Seat (Slot M ghosts) (Known Beside)
 
   pub went_then : (old mid new : TurnSeat) → WentOver sight t old mid → WentOver sight t mid new → WentOver sight t old new
-  went_then old mid new a b = record { id = b.id ∙ a.id; durable = b.durable ∙ a.durable; view = b.view ∙ a.view; handed = λ n below. b.handed n (a.handed n below) }
+  went_then old mid new a b = record { id = b.id ∙ a.id; view = b.view ∙ a.view; handed = λ n below. b.handed n (a.handed n below) }
 
   -- the same seat, whose slots were turned
   module _ (old new : TurnSeat) (h : TheHome M ghosts) (hand : List Held) (table : new.table_id ≡ old.table_id) (id : new.id ≡ old.id) (me : new.me ≡ (old.me.0, turned old.me.1)) where
@@ -39,7 +39,7 @@ module _ {M : Type 0} {ghosts : Ghosts M} (sight : M → Sight) (t : TableSight 
     same_known = ap (λ (a : Seated M ghosts). a.0) me
 
     went_turned : WentOver sight t old new
-    went_turned = record { id = id; durable = ap (λ (k : Known Beside). k.view.turn.durable) same_known; view = ap (λ (k : Known Beside). settled_view k.view) same_known; handed = λ n below. subst (λ (k : Known Beside). HandedBelow k n) (sym same_known) below }
+    went_turned = record { id = id; view = ap (λ (k : Known Beside). settled_view k.view) same_known; handed = λ n below. subst (λ (k : Known Beside). HandedBelow k n) (sym same_known) below }
 
     abbrev letting_turned : IsLetting sight t old h hand (slots_out sight z hand) → IsLetting sight t new h hand (slots_let sight t hand)
     letting_turned i = record {

@@ -11,7 +11,7 @@ use Rattle.back_store.specs.BackView.{state_of}
 use Rattle.core_events.specs.Setups.{Setup, box_of}
 use Rattle.core_events.specs.Views.{View}
 use Rattle.core_events.specs.Keyed.{has}
-use Rattle.core_events.specs.Events.{Event, take_turn, see_full, empty_box, raise_reproduced, view_after}
+use Rattle.core_events.specs.Events.{Event, take_turn, see_full, empty_box, raise_durable, raise_reproduced, view_after}
 use Rattle.core_events.specs.Conditions.{HasThread, May}
 use Rattle.core_table.specs.Rules.{Acts, Foreseen}
 use Rattle.stm_slots.specs.QuietSteps.{fact_of}
@@ -36,8 +36,8 @@ use Rattle.stm_slots.specs.Turns.{Leaves}
 use Rattle.stm_turns.specs.Holding.{Held, IsHeld, IsInHand, box_held, boxes_held, hands_of, slots_out, Holding}
 use Rattle.stm_turns.proofs.HeldRecords.{box_in, boxes_push, but_last_push, held_of, leaves_first, places_after}
 use Rattle.stm_turns.specs.Told.{HasGrown, Went, WentHanded, WentLacking, SawFront, SawNext, Raised, boxes_in, but_last}
-use Rattle.stm_turns.specs.Turns.{HasTaken, HasShown, HandedBelow, settled_view, InTurn, FrontRecord, Stepped}
-use Rattle.stm_turns.specs.Bundles.{HasEmptied, HasFound, KeepsDurable, HasPutBack, IsLetting, MayEmpty, MayEmptyFirst, MayPutBack, MayPutFirst, slots_let}
+use Rattle.stm_turns.specs.Turns.{Advanced, HasTaken, HasShown, HandedBelow, raised_view, settled_view, InTurn, FrontRecord, Stepped}
+use Rattle.stm_turns.specs.Bundles.{HasEmptied, HasFound, HasPutBack, IsLetting, MayEmpty, MayEmptyFirst, MayPutBack, MayPutFirst, slots_let}
 use Rattle.stm_turns.specs.Gathered.{AreFronts}
 use Rattle.stm_slots.specs.declared.home.Home.{Home as TheHome}
 use Rattle.stm_slots.specs.declared.slot.Slot.{Slot}
@@ -119,25 +119,30 @@ module _ {M : Type 0} {ghosts : Ghosts M} (sight : M → Sight) (t : TableSight 
       ⊎_elim (λ h. inl (subst (λ (a : Hands). HasRecord a.lists.records m) same (grown before was m h))) inr (handed before was m (ap (λ (ds : List ℕ). has ds m) (sym drawn) ∙ has_it))
 
   -- a step of the holder
-  pub went_turn : (old new : TurnSeat) (h h2 : TheHome M ghosts) (hand hand2 : List Held) (e : Event) (left : List (ℕ × Slot M ghosts)) (n : ℕ)
-      → BelongsTo t old → t.setup ≡ z → (i : Holding sight t.key old.me.0 h hand) → (went : Went sight t.key e h2 (boxes_held z hand2) left old.me n new.me) → h2.back ≡ h.back
-      → (view_after z e old.me.0.view n).part ≡ old.me.0.view.part → (view_after z e old.me.0.view n).turn.has_it ≡ old.me.0.view.turn.has_it → settled_view (view_after z e old.me.0.view n) ≡ settled_view old.me.0.view
-      → ((u : ℕ) → u < z.threads → get_or h2.next u 0 < z.boxes) → z.threads ≤ length h2.next → new.table_id ≡ old.table_id → new.id ≡ old.id
-      → left ≡ slots_out sight z hand2 → IsInHand z (lists (state_of h2.back) went.records) hand2 → Stepped sight t old new h2 hand2
-  went_turn old new h h2 hand hand2 e left n belongs setup i went back part has_it settled places wide table id slots in_hand = record {
-    id = id;
-    turn = record {
+  module _ (old new : TurnSeat) (h h2 : TheHome M ghosts) (hand hand2 : List Held) (e : Event) (left : List (ℕ × Slot M ghosts)) (n : ℕ) (belongs : BelongsTo t old) (setup : t.setup ≡ z) (i : Holding sight t.key old.me.0 h hand)
+      (went : Went sight t.key e h2 (boxes_held z hand2) left old.me n new.me) (back : h2.back ≡ h.back) (part : (view_after z e old.me.0.view n).part ≡ old.me.0.view.part) (has_it : (view_after z e old.me.0.view n).turn.has_it ≡ old.me.0.view.turn.has_it) where
+    went_inside : ((u : ℕ) → u < z.threads → get_or h2.next u 0 < z.boxes) → z.threads ≤ length h2.next → new.table_id ≡ old.table_id → left ≡ slots_out sight z hand2 → IsInHand z (lists (state_of h2.back) went.records) hand2 → InTurn sight t new h2 hand2
+    went_inside places wide table slots in_hand = record {
       belongs = belongs_on old new belongs setup table went.seated;
       setup = setup;
       holding = went_holding sight t.key old.me h hand i h2 hand2 e left n new.me went back part has_it places wide;
       slots = went.slots ∙ slots;
       same = refl;
       in_hand = in_hand;
-    };
-    view = ap settled_view went.view ∙ settled;
-    handed = handed_on old new (record (hands_of sight h i.records i.shown (boxes_held z hand)) { lists = i.stale }) (hands_of sight h2 went.records went.shown (boxes_held z hand2)) i.hands went.beside went.grown
-        (ap (λ (v : View). v.drawn) (ap settled_view went.view ∙ settled));
-  }
+    }
+
+    went_handed : (view_after z e old.me.0.view n).drawn ≡ old.me.0.view.drawn → (m : Option ℕ) → HandedBelow old.me.0 m → HandedBelow new.me.0 m
+    went_handed drawn = handed_on old new (record (hands_of sight h i.records i.shown (boxes_held z hand)) { lists = i.stale }) (hands_of sight h2 went.records went.shown (boxes_held z hand2)) i.hands went.beside went.grown
+        (ap (λ (v : View). v.drawn) went.view ∙ drawn)
+
+    pub went_turn : settled_view (view_after z e old.me.0.view n) ≡ settled_view old.me.0.view → ((u : ℕ) → u < z.threads → get_or h2.next u 0 < z.boxes) → z.threads ≤ length h2.next → new.table_id ≡ old.table_id → new.id ≡ old.id
+        → left ≡ slots_out sight z hand2 → IsInHand z (lists (state_of h2.back) went.records) hand2 → Stepped sight t old new h2 hand2
+    went_turn settled places wide table id slots in_hand = record {
+      id = id;
+      turn = went_inside places wide table slots in_hand;
+      view = ap settled_view went.view ∙ settled;
+      handed = went_handed (ap (λ (v : View). v.drawn) settled);
+    }
 
   -- what is known of no record
   none_in_hand : (l : BackLists) → IsInHand z l []
@@ -186,9 +191,6 @@ module _ {M : Type 0} {ghosts : Ghosts M} (sight : M → Sight) (t : TableSight 
         (out ∙ ap (λ (l : List (ℕ × Slot M ghosts)). turned ((k, Record s.redo) ∷ l)) i.slots)
         (λ p among. ⊎_elim (λ e. subst (IsHeld z (lists (state_of h.back) saw.records)) e (record { inside = inside; near = i.holding.places thread inside; may = s.may })) (λ none_left. absurd (contains_none p none_left)) (contains_either (found s.redo) [] p among)))
 
-    pub saw_durable : (new : TurnSeat) → new.me.0 ≡ mid.me.0 → KeepsDurable old new
-    saw_durable new same = ap (λ (k : Known Beside). k.view.turn.durable) same ∙ ap (λ (v : View). v.turn.durable) saw.saw.view
-
     -- the own thread, which has no open number
     pub saw_drawn_none : n ≡ 0 → old.me.0.view.part.thread ≡ Some thread → old.me.0.view.tx.hand.number ≡ 0 → HandedBelow mid.me.0 None
     saw_drawn_none zero mine idle hs e m has_it =
@@ -220,6 +222,21 @@ module _ {M : Type 0} {ghosts : Ghosts M} (sight : M → Sight) (t : TableSight 
   pub same_turn : (old : TurnSeat) (h : TheHome M ghosts) (hand : List Held) → InTurn sight t old h hand → Stepped sight t old old h hand
   same_turn old h hand i = record { id = refl; turn = i; view = refl; handed = λ n before. before }
 
+  -- steps that leave the durable number
+  pub advanced : (n : ℕ) (old new : TurnSeat) (h : TheHome M ghosts) (hand : List Held) → Stepped sight t old new h hand → Advanced sight t n n old new h hand
+  advanced n old new h hand s =
+      let durable = ap (λ (v : View). v.turn.durable) s.view in
+      record { id = s.id; turn = s.turn; view = ap raised_view s.view; durable = record { rises = omega arith; tells = λ is. durable ∙ is }; handed = s.handed }
+
+  pub then_advanced : (a b c : ℕ) (old mid new : TurnSeat) (h h2 : TheHome M ghosts) (hand hand2 : List Held) → Advanced sight t a b old mid h hand → Advanced sight t b c mid new h2 hand2 → Advanced sight t a c old new h2 hand2
+  then_advanced a b c old mid new h h2 hand hand2 x y = record {
+    id = y.id ∙ x.id;
+    turn = y.turn;
+    view = y.view ∙ x.view;
+    durable = record { rises = (let l = x.durable.rises in let m = y.durable.rises in omega arith); tells = λ is. y.durable.tells (x.durable.tells is) };
+    handed = λ n before. y.handed n (x.handed n before);
+  }
+
   -- ---- a word is raised, or a box looked at
   abbrev with_box : (old new : TurnSeat) (h : TheHome M ghosts) (e : Event) (n : ℕ) (box box2 : List (ℕ × RedoRecord)) → (w : Went sight t.key e h box old.me.1 old.me n new.me) → box ≡ box2 → Went sight t.key e h box2 old.me.1 old.me n new.me
   with_box old new h e n box box2 w b = record { records = w.records; shown = w.shown; seated = w.seated; view = w.view; beside = w.beside ∙ ap (λ c. Some (hands_of sight h w.records w.shown c)) b; slots = w.slots; known = w.known; grown = w.grown }
@@ -234,6 +251,22 @@ module _ {M : Type 0} {ghosts : Ghosts M} (sight : M → Sight) (t : TableSight 
       let boxed : boxes_in old.me.0.beside.turn ≡ boxes_held z hand = ap boxes_in i.holding.hands in
       let records : i.holding.records ≡ raised.went.records = sym i.same ∙ raised.same (kept_hands old h hand i) i.holding.hands in
       went_turn old new h h hand hand e old.me.1 n i.belongs i.setup i.holding (with_box old new h e n (boxes_in old.me.0.beside.turn) (boxes_held z hand) raised.went boxed) refl part has_it settled i.holding.places i.holding.wide table id i.slots (subst (λ rs. IsInHand z (lists (state_of h.back) rs) hand) records i.in_hand)
+
+  -- the durable word was raised
+  pub advanced_turn : (old new : TurnSeat) (h : TheHome M ghosts) (n : ℕ) (raised : Raised sight t.key (raise_durable n) h old.me 0 new.me) → new.table_id ≡ old.table_id → new.id ≡ old.id → (before : ℕ) (hand : List Held) → InTurn sight t old h hand → Advanced sight t before n old new h hand
+  advanced_turn old new h n raised table id before hand i =
+      let e : Event = raise_durable n in
+      let boxed : boxes_in old.me.0.beside.turn ≡ boxes_held z hand = ap boxes_in i.holding.hands in
+      let records : i.holding.records ≡ raised.went.records = sym i.same ∙ raised.same (kept_hands old h hand i) i.holding.hands in
+      let went : Went sight t.key e h (boxes_held z hand) old.me.1 old.me 0 new.me = with_box old new h e 0 (boxes_in old.me.0.beside.turn) (boxes_held z hand) raised.went boxed in
+      let is : new.me.0.view.turn.durable ≡ n = ap (λ (v : View). v.turn.durable) raised.went.view in
+      record {
+        id = id;
+        turn = went_inside old new h h hand hand e old.me.1 0 i.belongs i.setup i.holding went refl refl refl i.holding.places i.holding.wide table i.slots (subst (λ rs. IsInHand z (lists (state_of h.back) rs) hand) records i.in_hand);
+        view = ap raised_view raised.went.view;
+        durable = record { rises = (let l = raised.rises in omega arith); tells = λ same. is };
+        handed = went_handed old new h h hand hand e old.me.1 0 i.belongs i.setup i.holding went refl refl refl refl;
+      }
 
   -- the reproduced word, where it was raised
   pub raised_shown : (old new : TurnSeat) (h : TheHome M ghosts) (n : ℕ) → Raised sight t.key (raise_reproduced n) h old.me 0 new.me → HasShown new n
@@ -388,7 +421,6 @@ module _ {M : Type 0} {ghosts : Ghosts M} (sight : M → Sight) (t : TableSight 
         record {
           went = record {
             id = id2 ∙ id;
-            durable = ap (λ (v : View). v.turn.durable) went.went.view ∙ ap (λ (a : Known Beside). a.view.turn.durable) same;
             view = view;
             handed = λ m before. handed_on mid new (record (hands_of sight h k.records k.shown (boxes_held z all)) { lists = k.stale }) (hands_of sight h2 went.went.records went.went.shown (boxes_held z left)) k.hands went.went.beside went.went.grown
                 (ap (λ (v : View). v.drawn) (ap settled_view went.went.view)) m (subst (λ (a : Known Beside). HandedBelow a m) (sym same) before);
@@ -412,7 +444,6 @@ module _ {M : Type 0} {ghosts : Ghosts M} (sight : M → Sight) (t : TableSight 
         record {
           went = record {
             id = id;
-            durable = ap (λ (v : View). v.turn.durable) went.went.view;
             view = ap settled_view went.went.view;
             handed = handed_on old new (record (hands_of sight h i.records i.shown (boxes_held z all)) { lists = i.stale }) (hands_of sight h went.went.records went.went.shown (boxes_held z left)) i.hands went.went.beside went.went.grown (ap (λ (v : View). v.drawn) (ap settled_view went.went.view));
           };

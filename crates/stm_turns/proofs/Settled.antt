@@ -25,15 +25,15 @@ use Rattle.stm_slots.specs.declared.home.Home.{Home as TheHome}
 use Rattle.stm_slots.specs.declared.slot.Slot.{Slot}
 use Rattle.stm_slots.specs.declared.opening.Opening.{Opening}
 use Rattle.stm_slots.proofs.Taken.{contains_here}
-use Rattle.stm_turns.specs.Bundles.{InTurnWith, KeepsDurable, NextIsNotDrawn, SteppedWith}
+use Rattle.stm_turns.specs.Bundles.{InTurnWith, NextIsNotDrawn, SteppedWith}
 use Rattle.stm_turns.specs.Gathered.{BeginsWith, IsGathered}
 use Rattle.stm_turns.specs.Holding.{Held, boxes_held, hands_of}
-use Rattle.stm_turns.specs.Turns.{EndsSettled, HandedBelow, InTurn, IsAnnounced, IsNoLess, IsOwn, IsPast, KeepsPast, RisesTo, Stepped, SteppedOn, found_in, settled_view}
+use Rattle.stm_turns.specs.Turns.{Advanced, EndsSettled, HandedBelow, InTurn, IsAnnounced, IsNoLess, IsOwn, IsPast, KeepsPast, RisesTo, Stepped, SteppedOn, found_in, raised_view, settled_view}
 use Rattle.stm_turns.specs.declared.gathering.Gathering.{Gathering}
 use Rattle.stm_turns.proofs.Calling.{lanes_of_threads}
 use Rattle.stm_turns.proofs.Gatherings.{gathered_one}
 use Rattle.stm_turns.proofs.Past.{past_small}
-use Rattle.stm_turns.proofs.Bundling.{then_bare, then_with, with_of}
+use Rattle.stm_turns.proofs.Bundling.{then_advanced_bare, then_with, with_of}
 use Rattle.stm_turns.proofs.NextRecords.{looked_with}
 
 -- where all is announced and in the home, the next number wasn't handed over
@@ -47,7 +47,7 @@ not_true true none = absurd (none refl)
 not_true false none = refl
 
 -- the seat is of its thread still, where what steps of the turn leave of its view is the same
-pub own_still : {S : Type 0} (thread : ℕ) (old new : Seat S (Known Beside)) → settled_view new.me.0.view ≡ settled_view old.me.0.view → IsOwn thread old → IsOwn thread new
+pub own_still : {S : Type 0} (thread : ℕ) (old new : Seat S (Known Beside)) → raised_view new.me.0.view ≡ raised_view old.me.0.view → IsOwn thread old → IsOwn thread new
 own_still thread old new same own = (ap (λ (v : View). v.part.thread) same ∙ own.0, ap (λ (v : View). v.tx.hand.number) same ∙ own.1)
 
 -- nor behind steps of the turn
@@ -115,10 +115,10 @@ module _ {M : Type 0} {ghosts : Ghosts M} (sight : M → Sight) (t : TableSight 
       record { hand = found_in thread h.next (Some r); step = s; gathered = begun_gathered seat h thread boxes r g s.turn same b }
 
   -- a bundle was gathered and persisted, or its records are in their boxes again
-  pub bundle_steps : (old seat looked gathered new : TurnSeat) (h h2 : TheHome M ghosts) (g g2 : Gathering) → SteppedWith sight t old seat h g → SteppedOn sight t seat looked h h → SteppedWith sight t looked gathered h g2 → Stepped sight t gathered new h2 [] → Stepped sight t old new h2 []
-  bundle_steps old seat looked gathered new h h2 g g2 a b c d =
-      then_bare sight t old gathered new h h2 g2 (then_with sight t old looked gathered h h g g2 (then_with sight t old seat looked h h g g a (looked_with sight t seat h g (with_of sight t old seat h g a) looked b)) c) d
+  pub bundle_steps : (before after : ℕ) (old seat looked gathered new : TurnSeat) (h h2 : TheHome M ghosts) (g g2 : Gathering) → SteppedWith sight t old seat h g → SteppedOn sight t seat looked h h → SteppedWith sight t looked gathered h g2 → Advanced sight t before after gathered new h2 [] → Advanced sight t before after old new h2 []
+  bundle_steps before after old seat looked gathered new h h2 g g2 a b c d =
+      then_advanced_bare sight t before after old gathered new h h2 g2 (then_with sight t old looked gathered h h g g2 (then_with sight t old seat looked h h g g a (looked_with sight t seat h g (with_of sight t old seat h g a) looked b)) c) d
 
   -- the durable number that a seat knows is that of the back still
-  pub still_settled : (old new : TurnSeat) (h : TheHome M ghosts) (n : ℕ) → EndsSettled old h n → KeepsDurable old new → EndsSettled new h n
-  still_settled old new h n e keeps = record { is = e.is; reproduced = e.reproduced; durable = keeps ∙ e.durable }
+  pub still_settled : (old new : TurnSeat) (h : TheHome M ghosts) (n : ℕ) → EndsSettled old h n → settled_view new.me.0.view ≡ settled_view old.me.0.view → EndsSettled new h n
+  still_settled old new h n e same = record { is = e.is; reproduced = e.reproduced; durable = ap (λ (v : View). v.turn.durable) same ∙ e.durable }

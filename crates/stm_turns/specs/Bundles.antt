@@ -45,10 +45,6 @@ IsLate (Ok done) m v w = Unit {0}
 IsLate (Err Device) m v w = Unit {0}
 IsLate (Err Dead) m v w = Unit {0}
 
--- the durable number that the view knows is as before
-abbrev pub KeepsDurable : {S : Type 0} → Seat S (Known Beside) → Seat S (Known Beside) → Type 0
-KeepsDurable old new = new.me.0.view.turn.durable ≡ old.me.0.view.turn.durable
-
 module _ {M : Type 0} {ghosts : Ghosts M} (sight : M → Sight) (t : TableSight (Opening M ghosts)) where
   -- ---- with a gathering in hand
   -- The seat has the turn, with this of the back's slot and the records of a gathering in hand
@@ -141,8 +137,6 @@ module _ {M : Type 0} {ghosts : Ghosts M} (sight : M → Sight) (t : TableSight 
   -- the seat made steps of the turn, as far as its view tells
   pub record WentOver (old new : Seat (Slot M ghosts) (Known Beside)) : Type 0 where
     pub id : new.id ≡ old.id
-    -- the durable number that it knows is as before
-    pub durable : KeepsDurable old new
     pub view : settled_view new.me.0.view ≡ settled_view old.me.0.view
     pub handed : (n : Option ℕ) → HandedBelow old.me.0 n → HandedBelow new.me.0 n
 

@@ -13,7 +13,7 @@ use Rattle.stm_slots.specs.declared.home.Home.{Home as TheHome}
 use Rattle.stm_slots.specs.declared.slot.Slot.{Slot}
 use Rattle.stm_slots.specs.declared.opening.Opening.{Opening}
 use Rattle.stm_turns.specs.Bundles.{NextIsNotDrawn}
-use Rattle.stm_turns.specs.Turns.{EndsSettled, HasTaken, Stepped, settled_view}
+use Rattle.stm_turns.specs.Turns.{Advanced, EndsSettled, HasTaken, raised_view}
 use Rattle.stm_turns.specs.declared.pumped.Pumped.{Pumped}
 use Rattle.stm_turns.specs.declared.pump_fault.PumpFault.{PumpFault}
 use Rattle.stm_turns.specs.declared.pump_fault.PumpFault.TheVariants.{Held, Device, Dead}
@@ -33,7 +33,7 @@ module _ {M : Type 0} {ghosts : Ghosts M} (sight : M → Sight) (t : TableSight 
 
   -- steps of the turn, with no record in hand behind them
   abbrev pub SteppedEmpty : Seat (Slot M ghosts) (Known Beside) → Seat (Slot M ghosts) (Known Beside) → TheHome M ghosts → Type 0
-  SteppedEmpty took gave last = Stepped sight t took gave last []
+  SteppedEmpty took gave last = Advanced sight t took.me.0.view.turn.durable gave.me.0.view.turn.durable took gave last []
 
   -- The back wasn't dead; all up to a number is announced, and in the home
   pub record HasPumped (pumped : Pumped) (old new : Seat (Slot M ghosts) (Known Beside)) : Type 0 where
@@ -45,7 +45,7 @@ module _ {M : Type 0} {ghosts : Ghosts M} (sight : M → Sight) (t : TableSight 
     pub durable : new.me.0.view.turn.durable ≡ pumped.durable
     pub next : NextIsNotDrawn new pumped.durable
     -- all else of the view is that of a seat that took the turn and gave it
-    pub view : settled_view new.me.0.view ≡ settled_view (view_after t.setup (give_turn false) (view_after t.setup take_turn old.me.0.view 0) 0)
+    pub view : raised_view new.me.0.view ≡ raised_view (view_after t.setup (give_turn false) (view_after t.setup take_turn old.me.0.view 0) 0)
 
   -- A turn in which the back was, or became, dead: the view has met a fault
   pub record HasFailed (was_dead : Bool) (old new : Seat (Slot M ghosts) (Known Beside)) : Type 0 where
@@ -54,7 +54,7 @@ module _ {M : Type 0} {ghosts : Ghosts M} (sight : M → Sight) (t : TableSight 
     pub after : (state_of turn.last.back).dead ≡ true
     pub met_fault : new.me.0.view.turn.met_fault ≡ true
     -- all else of the view is that of a seat that took the turn and gave it
-    pub view : settled_view new.me.0.view ≡ settled_view (view_after t.setup (give_turn true) (view_after t.setup take_turn old.me.0.view 0) 0)
+    pub view : raised_view new.me.0.view ≡ raised_view (view_after t.setup (give_turn true) (view_after t.setup take_turn old.me.0.view 0) 0)
 
   -- The turn word wasn't 0; or a call of the back in this turn failed; or the back was dead before
   abbrev pub HasPumpFault : PumpFault → Seat (Slot M ghosts) (Known Beside) → Seat (Slot M ghosts) (Known Beside) → Type 0

@@ -5,7 +5,8 @@ use Rattle.pmem_trait.specs.Sights.{Sight}
 use Rattle.pmem_trait.specs.declared.medium.Medium.{Ghosts}
 use Rattle.back_store.specs.BackView.{medium_of, state_of}
 use Rattle.core_events.specs.Keyed.{has}
-use Rattle.core_events.specs.Events.{Event, raise_reproduced, view_after}
+use Rattle.core_events.specs.Events.{Event, raise_durable, raise_reproduced, view_after}
+use Rattle.core_events.specs.Views.{View}
 use Rattle.core_events.specs.Telling.{IsSeated}
 use Rattle.known_back.specs.Lists.{lists}
 use Rattle.known_back.specs.Known.{Known as KnownBy}
@@ -27,6 +28,11 @@ HasGrown turn records = (hs : Hands) → turn ≡ Some hs → (n : ℕ) → HasR
 abbrev pub IsRaisedTo : Event → ℕ → Type 0
 IsRaisedTo (raise_reproduced n) shown = shown ≡ n
 IsRaisedTo e shown = Unit {0}
+
+-- the durable number that the view knows is no greater than the one that the step raises it to
+abbrev pub RisesFrom : Event → View → Type 0
+RisesFrom (raise_durable n) v = v.turn.durable ≤ n
+RisesFrom e v = Unit {0}
 
 -- all but the last one
 abbrev pub but_last : {A : Type 0} → List A → List A
@@ -66,6 +72,7 @@ module _ {M : Type 0} {ghosts : Ghosts M} (sight : M → Sight) where
     pub went : Went o e h (boxes_in m.0.beside.turn) m.1 m n w
     pub same : (hs : Hands) → m.0.beside.turn ≡ Some hs → hs.lists.records ≡ went.records
     pub raised : IsRaisedTo e went.shown
+    pub rises : RisesFrom e m.0.view
 
   -- A look at the front box of a thread, which found n. Where it is the own thread, which has no open number: a number that it drew was
   -- handed over, unless it is in a box, where it is no less than the one found

@@ -29,7 +29,16 @@ use Rattle.stm_turns.specs.Holding.{Held, Holding, IsInHand, slots_out}
 -- ---- views, records and backs
 -- what steps of the turn leave of a view
 abbrev pub settled_view : View → View
-settled_view v = record v { turn = record v.turn { durable = 0; full = []; touches = []; filled = [] }; found = None; count = 0 }
+settled_view v = record v { turn = record v.turn { full = []; touches = []; filled = [] }; found = None; count = 0 }
+
+-- what steps of the turn leave of a view, also those that raise the durable number
+abbrev pub raised_view : View → View
+raised_view v = record v { turn = record v.turn { durable = 0; full = []; touches = []; filled = [] }; found = None; count = 0 }
+
+-- The durable number that the view knows doesn't fall. Where it was the one before, it is the one after now
+pub record DurableRises {S : Type 0} (before after : ℕ) (old new : Seat S (Known Beside)) : Type 0 where
+  pub rises : old.me.0.view.turn.durable ≤ new.me.0.view.turn.durable
+  pub tells : old.me.0.view.turn.durable ≡ before → new.me.0.view.turn.durable ≡ after
 
 -- no less than the number, where there is one
 abbrev pub IsNoLess : Option ℕ → ℕ → Type 0
@@ -123,9 +132,21 @@ module _ {M : Type 0} {ghosts : Ghosts M} (sight : M → Sight) (t : TableSight 
     pub view : settled_view new.me.0.view ≡ settled_view old.me.0.view
     pub handed : (n : Option ℕ) → HandedBelow old.me.0 n → HandedBelow new.me.0 n
 
+  -- The seat made such steps, of which some may have raised the durable number that it knows
+  pub record Advanced (before after : ℕ) (old new : Seat (Slot M ghosts) (Known Beside)) (h : TheHome M ghosts) (hand : List Held) : Type 0 where
+    pub id : new.id ≡ old.id
+    pub turn : InTurn new h hand
+    pub view : raised_view new.me.0.view ≡ raised_view old.me.0.view
+    pub durable : DurableRises before after old new
+    pub handed : (n : Option ℕ) → HandedBelow old.me.0 n → HandedBelow new.me.0 n
+
   -- whatever records were in hand, the seat made steps of the turn, and has them in hand still
   abbrev pub SteppedOn : Seat (Slot M ghosts) (Known Beside) → Seat (Slot M ghosts) (Known Beside) → TheHome M ghosts → TheHome M ghosts → Type 0
   SteppedOn old new h h2 = (hand : List Held) → InTurn old h hand → Stepped old new h2 hand
+
+  -- and perhaps raised the durable number that it knows
+  abbrev pub AdvancedOn : ℕ → ℕ → Seat (Slot M ghosts) (Known Beside) → Seat (Slot M ghosts) (Known Beside) → TheHome M ghosts → TheHome M ghosts → Type 0
+  AdvancedOn before after old new h h2 = (hand : List Held) → InTurn old h hand → Advanced before after old new h2 hand
 
   -- the seat has the turn, with this of the back's slot
   abbrev pub HasHome : Seat (Slot M ghosts) (Known Beside) → TheHome M ghosts → Type 0

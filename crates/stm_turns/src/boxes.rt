@@ -1,7 +1,7 @@
 //! The thread with the turn looks at boxes, takes records out of them, and puts one back.
 
 ghost use Rattle.std.specs.Prelude.{◌≡◌, ◌<◌, [], true, false};
-ghost use Rattle.stm_turns.specs.Bundles.{FindsNumber, HasLast, KeepsDurable, MayLook, PutsLast};
+ghost use Rattle.stm_turns.specs.Bundles.{FindsNumber, HasLast, MayLook, PutsLast};
 ghost use Rattle.stm_turns.specs.Turns.{HasHome, InTurn, LooksAtAll, Stepped, SteppedOn, found_in};
 
 use crate::slots::{SlotSeat, read_record};
@@ -24,7 +24,6 @@ pub fn see_front<M: Medium>(
         (found_in thread home.now.next result) }
     // Where it is the own thread, which has no open number.
     ensures drawn { LooksAtAll thread result seat.old seat.new }
-    ensures durable { KeepsDurable seat.old seat.new }
 {
     let place = home.next[thread as usize];
     let slot = events.box_number(thread, place);

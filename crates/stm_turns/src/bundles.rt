@@ -4,7 +4,7 @@ ghost use Rattle.std.specs.Prelude.{◌≡◌, ◌+◌, ◌<◌, [], IfOk, OnOk,
 ghost use Rattle.back_store.specs.BackView.{state_of};
 ghost use Rattle.dude_base.specs.Records.{first_of};
 ghost use Rattle.stm_turns.specs.Bundles.{InTurnWith, IsAliveUnless, IsLate, SteppedBy};
-ghost use Rattle.stm_turns.specs.Turns.{RisesTo, Stepped};
+ghost use Rattle.stm_turns.specs.Turns.{Advanced, RisesTo, Stepped};
 
 use crate::calls::catch_up;
 use crate::gathering::Gathering;
@@ -75,21 +75,24 @@ fn persist_or_put_back<M: Medium>(
 }
 
 /// Announces and reproduces all, and tries once more to persist the bundle of the records in hand.
+/// `durable` is the durable number that the seat knows.
 fn retry<M: Medium>(
     events: &Events<M>,
     seat: &mut SlotSeat<M>,
     home: &mut Home<M>,
     gathering: &Gathering,
+    durable: &mut u64,
 ) -> Result<bool, BackFault>
     requires with { InTurnWith M.sight events.now seat.old home.old gathering.now }
-    ensures step { Stepped M.sight events.now seat.old seat.new home.new [] }
+    ensures step { Advanced M.sight events.now durable.old durable.new
+        seat.old seat.new home.new [] }
     ensures ok { OnOk result ((state_of home.new.back).dead ≡ false) }
     ensures rises { IfOk result (λ done. done ≡ true
         → RisesTo (first_of gathering.now.bundle) gathering.now.ring
         (state_of home.old.back) (state_of home.new.back)) }
     ensures err { OnErr result ((state_of home.new.back).dead ≡ true) }
 {
-    match catch_up(events, seat, home) {
+    match catch_up(events, seat, home, durable) {
         Ok(_) => persist_or_put_back(events, seat, home, gathering),
         Err(fault) => {
             put_all_back(events, seat, home, gathering);
@@ -100,16 +103,18 @@ fn retry<M: Medium>(
 
 /// Persists the bundle of the records in hand, and empties their boxes; where its ring is full, once
 /// more when all was reproduced. Answers whether it was persisted: else the records are in their
-/// boxes again.
+/// boxes again. `durable` is the durable number that the seat knows.
 pub fn persist_bundle<M: Medium>(
     events: &Events<M>,
     seat: &mut SlotSeat<M>,
     home: &mut Home<M>,
     gathering: &Gathering,
+    durable: &mut u64,
 ) -> Result<bool, BackFault>
     requires with { InTurnWith M.sight events.now seat.old home.old gathering.now }
     requires alive { (state_of home.old.back).dead ≡ false }
-    ensures step { Stepped M.sight events.now seat.old seat.new home.new [] }
+    ensures step { Advanced M.sight events.now durable.old durable.new
+        seat.old seat.new home.new [] }
     ensures ok { OnOk result ((state_of home.new.back).dead ≡ false) }
     ensures rises { IfOk result (λ done. done ≡ true
         → RisesTo (first_of gathering.now.bundle) gathering.now.ring
@@ -121,7 +126,9 @@ pub fn persist_bundle<M: Medium>(
 {
     match persist(events, seat, home, gathering) {
         Ok(()) => Ok(true),
-        Err(BackFault::RingFull { used: _, need: _ }) => retry(events, seat, home, gathering),
+        Err(BackFault::RingFull { used: _, need: _ }) => {
+            retry(events, seat, home, gathering, durable)
+        }
         Err(BackFault::Device) => Err(BackFault::Device),
         Err(BackFault::Dead) => Err(BackFault::Dead),
     }

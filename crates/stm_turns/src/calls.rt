@@ -2,7 +2,7 @@
 
 ghost use Rattle.std.specs.Prelude.{◌≡◌, IfOk, OnErr, OnOk, true};
 ghost use Rattle.back_store.specs.BackView.{state_of};
-ghost use Rattle.stm_turns.specs.Turns.{EndsSettled, HasHome, IsAnnounced, KeepsPast, KeepsPlaces, SteppedOn, TellsDurable};
+ghost use Rattle.stm_turns.specs.Turns.{AdvancedOn, EndsSettled, HasHome, IsAnnounced, KeepsPast, KeepsPlaces, SteppedOn, TellsDurable};
 
 use crate::raises::{raise_durable, raise_reproduced};
 use crate::slots::SlotSeat;
@@ -11,14 +11,17 @@ use pmem_trait::Medium;
 use stm_slots::home::Home;
 use stm_slots::slots_rule::Events;
 
-/// Announces the number to which waiting records lead, and raises the durable word to it.
+/// Announces the number to which waiting records lead, and raises the durable word to it. `durable`
+/// is the durable number that the seat knows.
 pub fn announce<M: Medium>(
     events: &Events<M>,
     seat: &mut SlotSeat<M>,
     home: &mut Home<M>,
+    durable: &mut u64,
 ) -> Result<u64, BackFault>
     requires turn { HasHome M.sight events.now seat.old home.old }
-    ensures step { SteppedOn M.sight events.now seat.old seat.new home.old home.new }
+    ensures step { AdvancedOn M.sight events.now durable.old durable.new
+        seat.old seat.new home.old home.new }
     ensures ok { IfOk result (λ n. TellsDurable seat.new home.new n) }
     ensures past { OnOk result (KeepsPast (state_of home.old.back) (state_of home.new.back)) }
     ensures places { KeepsPlaces home.old home.new }
@@ -26,6 +29,7 @@ pub fn announce<M: Medium>(
 {
     let number = known_back::announce(&mut home.back)?;
     raise_durable(events, seat, home, number);
+    *durable = number;
     Ok(number)
 }
 
@@ -49,19 +53,22 @@ pub fn reproduce<M: Medium>(
     Ok(number)
 }
 
-/// Announces all that leads on, and reproduces it.
+/// Announces all that leads on, and reproduces it. `durable` is the durable number that the seat
+/// knows.
 pub fn catch_up<M: Medium>(
     events: &Events<M>,
     seat: &mut SlotSeat<M>,
     home: &mut Home<M>,
+    durable: &mut u64,
 ) -> Result<u64, BackFault>
     requires turn { HasHome M.sight events.now seat.old home.old }
-    ensures step { SteppedOn M.sight events.now seat.old seat.new home.old home.new }
+    ensures step { AdvancedOn M.sight events.now durable.old durable.new
+        seat.old seat.new home.old home.new }
     ensures ok { IfOk result (λ n. EndsSettled seat.new home.new n) }
     ensures past { OnOk result (KeepsPast (state_of home.old.back) (state_of home.new.back)) }
     ensures places { KeepsPlaces home.old home.new }
     ensures err { OnErr result ((state_of home.new.back).dead ≡ true) }
 {
-    announce(events, seat, home)?;
+    announce(events, seat, home, durable)?;
     reproduce(events, seat, home)
 }

@@ -2,7 +2,7 @@
 
 ghost use Rattle.std.specs.Prelude.{◌≡◌, ◌+◌, ◌≤◌, []};
 ghost use Rattle.dude_base.specs.declared.limits.TheConstants.{MAX_SPAN};
-ghost use Rattle.stm_turns.specs.Bundles.{EmptiesFirst, KeepsDurable, MayEmptyAll, MayEmptyFirst, MayPutAllBack, MayPutFirst, PutsFirst};
+ghost use Rattle.stm_turns.specs.Bundles.{EmptiesFirst, MayEmptyAll, MayEmptyFirst, MayPutAllBack, MayPutFirst, PutsFirst};
 ghost use Rattle.stm_turns.specs.Turns.{Stepped};
 
 use crate::gathering::Gathering;
@@ -75,7 +75,6 @@ pub fn put_all_back<M: Medium>(
     requires may { MayPutAllBack M.sight events.now seat.old home.now gathering.now }
     requires few { gathering.now.count ≤ MAX_SPAN + 1 }
     ensures step { Stepped M.sight events.now seat.old seat.new home.now [] }
-    ensures durable { KeepsDurable seat.old seat.new }
 {
     seat.turn();
     let mut places = home.next;

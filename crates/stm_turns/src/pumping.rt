@@ -5,7 +5,7 @@ ghost use Rattle.core_events.specs.Conditions.{May};
 ghost use Rattle.core_events.specs.Events.{take_turn as turn_taken};
 ghost use Rattle.core_table.specs.Steps.{BelongsTo};
 ghost use Rattle.stm_turns.specs.Pump.{HasPumped, HasPumpFault};
-ghost use Rattle.stm_turns.specs.Turns.{IsBare};
+ghost use Rattle.stm_turns.specs.Turns.{DurableRises, IsBare};
 
 use crate::pump_fault::PumpFault;
 use crate::pumped::Pumped;
@@ -16,11 +16,13 @@ use pmem_trait::Medium;
 use stm_slots::slots_rule::Events;
 
 /// Takes the turn, persists the records of full boxes in bundles of consecutive numbers, empties
-/// these boxes, announces, reproduces, and gives the turn back.
+/// these boxes, announces, reproduces, and gives the turn back. `durable` is the durable number that
+/// the seat knows, whatever the turn meets.
 pub fn pump<M: Medium>(
     events: &Events<M>,
     seat: &mut SlotSeat<M>,
     own: u64,
+    durable: &mut u64,
 ) -> Result<Pumped, PumpFault>
     requires seat { BelongsTo events.now seat.old }
     requires own { seat.old.me.0.view.part.thread ≡ Some own }
@@ -28,6 +30,7 @@ pub fn pump<M: Medium>(
     requires idle { seat.old.me.0.view.tx.hand.number ≡ 0 }
     requires bare { seat.old.me.1 ≡ [] }
     ensures left { IsBare events.now seat.old seat.new }
+    ensures durable { DurableRises durable.old durable.new seat.old seat.new }
     ensures ok { IfOk result (λ pumped. HasPumped M.sight events.now pumped seat.old seat.new) }
     ensures err { IfErr result (λ fault. HasPumpFault M.sight events.now fault seat.old seat.new) }
 {
@@ -39,7 +42,7 @@ pub fn pump<M: Medium>(
         give_turn(events, seat, home, true);
         return Err(PumpFault::Dead);
     }
-    match settle(events, seat, &mut home, own) {
+    match settle(events, seat, &mut home, own, durable) {
         Ok(number) => {
             give_turn(events, seat, home, false);
             Ok(Pumped {

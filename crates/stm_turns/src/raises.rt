@@ -1,8 +1,8 @@
 //! The words of the numbers are raised.
 
-ghost use Rattle.std.specs.Prelude.{◌≡◌};
+ghost use Rattle.std.specs.Prelude.{◌≡◌, ℕ};
 ghost use Rattle.back_store.specs.BackView.{state_of};
-ghost use Rattle.stm_turns.specs.Turns.{HasHome, HasShown, MayRaise, SteppedOn};
+ghost use Rattle.stm_turns.specs.Turns.{AdvancedOn, HasHome, HasShown, MayRaise, SteppedOn};
 
 use crate::slots::SlotSeat;
 use core_table::places::{DURABLE, REPRODUCED};
@@ -19,7 +19,8 @@ pub fn raise_durable<M: Medium>(
     number: u64,
 )
     requires raise { MayRaise M.sight events.now seat.old home.now number }
-    ensures step { SteppedOn M.sight events.now seat.old seat.new home.now home.now }
+    ensures step { (before : ℕ)
+        → AdvancedOn M.sight events.now before number seat.old seat.new home.now home.now }
     ensures raised { seat.new.me.0.view.turn.durable ≡ number }
 {
     events.store_by::<Brand, (u64, &Home<M>)>(seat, DURABLE, number, &(number, home));

@@ -4,7 +4,7 @@ ghost use Rattle.std.specs.Prelude.{◌≡◌, ◌≤◌, ◌<◌, ℕ, [], IfOk
 ghost use Rattle.dude_base.specs.declared.limits.TheConstants.{MAX_RINGS};
 ghost use Rattle.back_store.specs.BackView.{state_of};
 ghost use Rattle.stm_turns.specs.Bundles.{NextIsNotDrawn};
-ghost use Rattle.stm_turns.specs.Turns.{EndsSettled, InTurn, IsOwn, RisesTo, Stepped};
+ghost use Rattle.stm_turns.specs.Turns.{Advanced, EndsSettled, InTurn, IsOwn, RisesTo};
 
 use crate::boxes::see_front;
 use crate::bundles::persist_bundle;
@@ -45,18 +45,21 @@ fn leave(fronts: &mut Fronts, gathering: &Gathering, next: &Fronts) {
     }
 }
 
-/// Persists a bundle that begins with the front record of a thread.
+/// Persists a bundle that begins with the front record of a thread. `durable` is the durable number
+/// that the seat knows, here and below.
 fn persist_from<M: Medium>(
     events: &Events<M>,
     seat: &mut SlotSeat<M>,
     home: &mut Home<M>,
     fronts: &mut Fronts,
     thread: u64,
+    durable: &mut u64,
 ) -> Result<(), BackFault>
     requires turn { InTurn M.sight events.now seat.old home.old [] }
     requires thread { thread < events.now.setup.threads }
     requires alive { (state_of home.old.back).dead ≡ false }
-    ensures step { Stepped M.sight events.now seat.old seat.new home.new [] }
+    ensures step { Advanced M.sight events.now durable.old durable.new
+        seat.old seat.new home.new [] }
     ensures ok { OnOk result ((state_of home.new.back).dead ≡ false) }
     ensures err { OnErr result ((state_of home.new.back).dead ≡ true) }
 {
@@ -67,7 +70,7 @@ fn persist_from<M: Medium>(
     let mut gathering = Gathering::begin(thread, &redo, &home.next, events.boxes());
     look_behind(events, seat, home, &gathering, fronts, thread);
     gather(events, seat, home, &mut gathering, fronts);
-    if !persist_bundle(events, seat, home, &gathering)? {
+    if !persist_bundle(events, seat, home, &gathering, durable)? {
         leave(fronts, &gathering, &home.next);
     }
     Ok(())
@@ -78,10 +81,12 @@ fn persist_all<M: Medium>(
     events: &Events<M>,
     seat: &mut SlotSeat<M>,
     home: &mut Home<M>,
+    durable: &mut u64,
 ) -> Result<(), BackFault>
     requires turn { InTurn M.sight events.now seat.old home.old [] }
     requires alive { (state_of home.old.back).dead ≡ false }
-    ensures step { Stepped M.sight events.now seat.old seat.new home.new [] }
+    ensures step { Advanced M.sight events.now durable.old durable.new
+        seat.old seat.new home.new [] }
     ensures ok { OnOk result ((state_of home.new.back).dead ≡ false) }
     ensures err { OnErr result ((state_of home.new.back).dead ≡ true) }
 {
@@ -90,7 +95,7 @@ fn persist_all<M: Medium>(
         let Some(thread) = least(&fronts, events.threads()) else {
             return Ok(());
         };
-        persist_from(events, seat, home, &mut fronts, thread)?;
+        persist_from(events, seat, home, &mut fronts, thread, durable)?;
     }
     Ok(())
 }
@@ -103,12 +108,14 @@ fn persist_next<M: Medium>(
     home: &mut Home<M>,
     own: u64,
     number: u64,
+    durable: &mut u64,
 ) -> Result<Option<u64>, BackFault>
     requires turn { InTurn M.sight events.now seat.old home.old [] }
     requires own { IsOwn own seat.old }
     requires thread { own < events.now.setup.threads }
     requires settled { EndsSettled seat.old home.old number }
-    ensures step { Stepped M.sight events.now seat.old seat.new home.new [] }
+    ensures step { Advanced M.sight events.now durable.old durable.new
+        seat.old seat.new home.new [] }
     ensures none { IfOk result (λ next. IfNone next
         (EndsSettled seat.new home.new number × NextIsNotDrawn seat.new number)) }
     ensures some { IfOk result (λ next. IfSome next (λ n. EndsSettled seat.new home.new n
@@ -125,10 +132,10 @@ fn persist_next<M: Medium>(
     }
     let mut fronts = look_at_all(events, seat, home, &gathering.ahead);
     gather(events, seat, home, &mut gathering, &mut fronts);
-    if !persist_bundle(events, seat, home, &gathering)? {
+    if !persist_bundle(events, seat, home, &gathering, durable)? {
         unreachable!();
     }
-    Ok(Some(catch_up(events, seat, home)?))
+    Ok(Some(catch_up(events, seat, home, durable)?))
 }
 
 /// Goes on as long as the number behind the announced one stands in front of the own boxes.
@@ -138,12 +145,14 @@ fn persist_own<M: Medium>(
     home: &mut Home<M>,
     own: u64,
     settled: u64,
+    durable: &mut u64,
 ) -> Result<u64, BackFault>
     requires turn { InTurn M.sight events.now seat.old home.old [] }
     requires own { IsOwn own seat.old }
     requires thread { own < events.now.setup.threads }
     requires settled { EndsSettled seat.old home.old settled }
-    ensures step { Stepped M.sight events.now seat.old seat.new home.new [] }
+    ensures step { Advanced M.sight events.now durable.old durable.new
+        seat.old seat.new home.new [] }
     ensures ok { IfOk result (λ n. EndsSettled seat.new home.new n) }
     ensures next { IfOk result (λ n. NextIsNotDrawn seat.new n) }
     ensures err { OnErr result ((state_of home.new.back).dead ≡ true) }
@@ -151,7 +160,7 @@ fn persist_own<M: Medium>(
     let mut number = settled;
     // Each bundle begins with a greater number than the one before.
     for _look in 0..MAX_NUMBER + 1 {
-        match persist_next(events, seat, home, own, number)? {
+        match persist_next(events, seat, home, own, number, durable)? {
             Some(next) => number = next,
             None => return Ok(number),
         }
@@ -166,17 +175,19 @@ pub fn settle<M: Medium>(
     seat: &mut SlotSeat<M>,
     home: &mut Home<M>,
     own: u64,
+    durable: &mut u64,
 ) -> Result<u64, BackFault>
     requires turn { InTurn M.sight events.now seat.old home.old [] }
     requires own { IsOwn own seat.old }
     requires thread { own < events.now.setup.threads }
     requires alive { (state_of home.old.back).dead ≡ false }
-    ensures step { Stepped M.sight events.now seat.old seat.new home.new [] }
+    ensures step { Advanced M.sight events.now durable.old durable.new
+        seat.old seat.new home.new [] }
     ensures ok { IfOk result (λ n. EndsSettled seat.new home.new n) }
     ensures next { IfOk result (λ n. NextIsNotDrawn seat.new n) }
     ensures err { OnErr result ((state_of home.new.back).dead ≡ true) }
 {
-    persist_all(events, seat, home)?;
-    let number = catch_up(events, seat, home)?;
-    persist_own(events, seat, home, own, number)
+    persist_all(events, seat, home, durable)?;
+    let number = catch_up(events, seat, home, durable)?;
+    persist_own(events, seat, home, own, number, durable)
 }

@@ -5,3 +5,5 @@ pub mod Turns
 pub mod Collects
 pub mod Copies
 pub mod Closes
+pub mod Pumps
+pub mod Fetches

@@ -1,16 +1,19 @@
 -- What a turn, or an attempt at one, leaves of a pass.
-use Rattle.std.specs.Prelude.{◌≡◌, ℕ, [], ◌∷◌, Result, Ok, Err}
+use Rattle.std.specs.Prelude.{◌≡◌, ℕ, ◌≤◌, [], ◌∷◌, Result, Ok, Err}
 use Rattle.atomic_table.specs.declared.shared.Seat.{Seat}
 use Rattle.core_events.specs.Events.{one_more}
 use Rattle.core_table.specs.Known.{Known}
 use Rattle.stm_passes.specs.declared.pass_numbers.PassNumbers.{PassNumbers}
-use Rattle.stm_passes.specs.Numbers.{after_fault, after_turn, with_refusals}
+use Rattle.stm_passes.specs.Numbers.{after_fault, after_turn, with_refusals, with_turn}
 use Rattle.stm_passes.specs.Passes.{PassSight, pass_view}
 use Rattle.stm_turns.specs.declared.pumped.Pumped.{Pumped}
 use Rattle.stm_turns.specs.declared.pump_fault.PumpFault.{PumpFault}
 use Rattle.stm_turns.specs.declared.pump_fault.PumpFault.TheVariants.{Held, Device, Dead}
+use Rattle.stm_pages.specs.declared.fetch_fault.FetchFault.{FetchFault}
+use Rattle.stm_pages.specs.declared.fetch_fault.FetchFault.TheVariants as fetch
 
--- The pass is whose it was, and has its entries, its draws and what it drew, its transaction and its next box
+-- The pass is whose it was, and has its entries, its draws and what it drew, its transaction and its next box. The durable number that it
+-- knows doesn't fall
 pub record KeepsWork {X : Type 0} (p q : PassSight X) : Type 0 where
   pub part : (pass_view q).part ≡ (pass_view p).part
   pub entries : (pass_view q).entries ≡ (pass_view p).entries
@@ -18,13 +21,15 @@ pub record KeepsWork {X : Type 0} (p q : PassSight X) : Type 0 where
   pub drawn : (pass_view q).drawn ≡ (pass_view p).drawn
   pub tx : (pass_view q).tx ≡ (pass_view p).tx
   pub box : (pass_view q).box ≡ (pass_view p).box
+  pub durable : (pass_view p).turn.durable ≤ (pass_view q).turn.durable
 
--- its numbers after a turn: one that is held counts as a refusal, and one that is behind what the pass knows
-abbrev pub numbers_after : Result Pumped PumpFault → PassNumbers → PassNumbers
-numbers_after (Ok pumped) f = after_turn pumped.durable f
-numbers_after (Err (Held seen)) f = with_refusals 1 f
-numbers_after (Err Device) f = after_fault f
-numbers_after (Err Dead) f = after_fault f
+-- Its numbers after a pump, behind which n is the durable number that it knows: one that is held counts as a refusal, and one that is behind
+-- what the pass knows
+abbrev pub numbers_after : Result Pumped PumpFault → ℕ → PassNumbers → PassNumbers
+numbers_after (Ok pumped) n f = after_turn pumped.durable f
+numbers_after (Err (Held seen)) n f = with_refusals 1 f
+numbers_after (Err Device) n f = after_fault n f
+numbers_after (Err Dead) n f = after_fault n f
 
 -- how many turns it took; one that is held is none
 abbrev pub turns_after : Result Pumped PumpFault → ℕ → ℕ
@@ -32,6 +37,25 @@ turns_after (Ok pumped) n = one_more n
 turns_after (Err (Held seen)) n = n
 turns_after (Err Device) n = one_more n
 turns_after (Err Dead) n = one_more n
+
+-- Its numbers after a fetch, behind which n is the durable number that it knows: one that is held, behind or finds all frames pinned counts
+-- as a refusal
+abbrev pub numbers_fetched : Result (Unit {0}) FetchFault → ℕ → PassNumbers → PassNumbers
+numbers_fetched (Ok done) n f = with_turn n f
+numbers_fetched (Err (fetch.Held seen)) n f = with_refusals 1 f
+numbers_fetched (Err (fetch.Behind touch reproduced)) n f = with_refusals 1 (with_turn n f)
+numbers_fetched (Err (fetch.AllPinned page seen)) n f = with_refusals 1 (with_turn n f)
+numbers_fetched (Err fetch.Device) n f = after_fault n f
+numbers_fetched (Err fetch.Dead) n f = after_fault n f
+
+-- how many turns it took; one that is held is none
+abbrev pub turns_fetched : Result (Unit {0}) FetchFault → ℕ → ℕ
+turns_fetched (Ok done) n = one_more n
+turns_fetched (Err (fetch.Held seen)) n = n
+turns_fetched (Err (fetch.Behind touch reproduced)) n = one_more n
+turns_fetched (Err (fetch.AllPinned page seen)) n = one_more n
+turns_fetched (Err fetch.Device) n = one_more n
+turns_fetched (Err fetch.Dead) n = one_more n
 
 -- the seat of the pass p did this, and is that of q now
 pub record BySeat {S X : Type 0} (does : Seat S (Known X) → Seat S (Known X) → Type 0) (p q : PassSight X) : Type 0 where

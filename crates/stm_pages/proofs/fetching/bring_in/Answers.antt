@@ -1,8 +1,7 @@
 use Rattle.std.proofs.Common.{[], refl, arith}
 use Rattle.stm_pages.proofs.Evicting.{entry_kept}
-use Rattle.stm_pages.proofs.Fetched.{absent_room, settled_raised, turn_paged, turn_settled, settled_to_on}
+use Rattle.stm_pages.proofs.Fetched.{absent_room, paged_durable, settled_raised, settled_then, turn_paged, turn_settled, settled_to_on}
 use Rattle.stm_pages.proofs.Turning.{not_moved}
-use Rattle.stm_turns.proofs.Seats.{then_turn}
 use Rattle.stm_pages.proofs.fetching.bring_in.Goals as goal
 
 pub raise_reproduced-requires : goal.raise_reproduced-requires
@@ -17,7 +16,7 @@ see_entry-requires-clause-turn g c =
 pub returns-then-see_entry-ne0-clause-steps : goal.returns-then-see_entry-ne0-clause-steps
 returns-then-see_entry-ne0-clause-steps g c =
     let t = c.args.stm.now.events in let s = c.settle in let r = c.raise_reproduced in let e = c.see_entry in let sight = g.M.Medium.sight in let seat = c.args.seat.now in let h = s.new.home in
-    turn_paged sight t seat r.new.seat e.new.seat h h (turn_settled sight t seat r.new.seat h (then_turn sight t seat s.new.seat r.new.seat h h [] [] s.ensures.step (r.ensures.step [] s.ensures.step.turn))) e.ensures.step
+    turn_paged sight t seat r.new.seat e.new.seat h h (turn_settled sight t c.args.durable.now s.new.durable seat r.new.seat h (settled_then sight t c.args.durable.now s.new.durable seat s.new.seat r.new.seat h s.ensures.step r.ensures.step)) e.ensures.step
 
 pub returns-then-see_entry-ne0-clause-comes : goal.returns-then-see_entry-ne0-clause-comes
 returns-then-see_entry-ne0-clause-comes g c =
@@ -40,7 +39,21 @@ show_absent-requires-clause-settled g c =
 pub returns-else-see_entry-ne0-clause-steps : goal.returns-else-see_entry-ne0-clause-steps
 returns-else-see_entry-ne0-clause-steps g c =
     let t = c.args.stm.now.events in let s = c.settle in let r = c.raise_reproduced in let e = c.see_entry in let x = c.show_absent in let sight = g.M.Medium.sight in let seat = c.args.seat.now in let h = s.new.home in
-    turn_paged sight t seat e.new.seat x.new.seat h x.new.home (turn_paged sight t seat r.new.seat e.new.seat h h (turn_settled sight t seat r.new.seat h (then_turn sight t seat s.new.seat r.new.seat h h [] [] s.ensures.step (r.ensures.step [] s.ensures.step.turn))) e.ensures.step) x.ensures.step
+    turn_paged sight t seat e.new.seat x.new.seat h x.new.home (turn_paged sight t seat r.new.seat e.new.seat h h (turn_settled sight t c.args.durable.now s.new.durable seat r.new.seat h (settled_then sight t c.args.durable.now s.new.durable seat s.new.seat r.new.seat h s.ensures.step r.ensures.step)) e.ensures.step) x.ensures.step
 
 pub returns-in-Err-clause-steps : goal.returns-in-Err-clause-steps
-returns-in-Err-clause-steps g c = let s = c.settle in turn_settled g.M.Medium.sight c.args.stm.now.events c.args.seat.now s.new.seat s.new.home s.ensures.step
+returns-in-Err-clause-steps g c = let s = c.settle in turn_settled g.M.Medium.sight c.args.stm.now.events c.args.durable.now s.new.durable c.args.seat.now s.new.seat s.new.home s.ensures.step
+
+pub returns-then-see_entry-ne0-clause-durable : goal.returns-then-see_entry-ne0-clause-durable
+returns-then-see_entry-ne0-clause-durable g c =
+    let t = c.args.stm.now.events in let s = c.settle in let r = c.raise_reproduced in let e = c.see_entry in let sight = g.M.Medium.sight in let seat = c.args.seat.now in let h = s.new.home in let d = c.args.durable.now in
+    paged_durable sight t d s.new.durable seat r.new.seat e.new.seat h (settled_then sight t d s.new.durable seat s.new.seat r.new.seat h s.ensures.step r.ensures.step).durable e.ensures.step
+
+pub returns-else-see_entry-ne0-clause-durable : goal.returns-else-see_entry-ne0-clause-durable
+returns-else-see_entry-ne0-clause-durable g c =
+    let t = c.args.stm.now.events in let s = c.settle in let r = c.raise_reproduced in let e = c.see_entry in let x = c.show_absent in let sight = g.M.Medium.sight in let seat = c.args.seat.now in let h = s.new.home in let d = c.args.durable.now in
+    paged_durable sight t d s.new.durable seat e.new.seat x.new.seat x.new.home
+    (paged_durable sight t d s.new.durable seat r.new.seat e.new.seat h (settled_then sight t d s.new.durable seat s.new.seat r.new.seat h s.ensures.step r.ensures.step).durable e.ensures.step) x.ensures.step
+
+pub returns-in-Err-clause-durable : goal.returns-in-Err-clause-durable
+returns-in-Err-clause-durable g c = c.settle.ensures.step.durable

@@ -1,5 +1,5 @@
 use Rattle.std.proofs.Common.{◌∙◌, sym, true}
-use Rattle.stm_turns.proofs.WholeTurns.{bare_from, own_taken}
+use Rattle.stm_turns.proofs.WholeTurns.{bare_from, none_durable, others_durable, own_taken, turn_durable}
 use Rattle.stm_pages.proofs.Fetched.{has_failed, has_fetch_fault, has_fetched, turn_same, settled_comes}
 use Rattle.stm_pages.proofs.fetching.fetch.Goals as goal
 
@@ -44,3 +44,16 @@ returns-clause-err g c =
     let t = c.args.stm.now.events in let b = c.bring_in-result in let arm = c.in-Ok in
     has_fetch_fault g.M.Medium.sight t c.args.seat.now c.take_turn.new.seat b.new.seat c.give_turn-2.new.seat arm.home b.new.home arm.ensures.ok b.ensures.steps (sym c.is_dead.ensures ∙ c.if-is_dead.false)
     c.is_dead-failed.result c.is_dead-failed.ensures c.give_turn-2.ensures.view c.args.page b.result b.ensures.comes
+
+pub returns-in-Err-clause-durable : goal.returns-in-Err-clause-durable
+returns-in-Err-clause-durable g c = others_durable c.args.stm.now.events c.args.durable.now c.in-Err.seen c.args.seat.now c.take_turn.new.seat c.in-Err.ensures.err
+
+pub returns-then-is_dead-clause-durable : goal.returns-then-is_dead-clause-durable
+returns-then-is_dead-clause-durable g c =
+    let a = c.take_turn.new.seat in let n = c.args.durable.now in
+    turn_durable c.args.stm.now.events true n n c.args.seat.now a a c.give_turn.new.seat c.in-Ok.ensures.ok.is_after (none_durable n a) c.give_turn.ensures.view
+
+pub returns-clause-durable : goal.returns-clause-durable
+returns-clause-durable g c =
+    let b = c.bring_in-result in
+    turn_durable c.args.stm.now.events c.is_dead-failed.result c.args.durable.now b.new.durable c.args.seat.now c.take_turn.new.seat b.new.seat c.give_turn-2.new.seat c.in-Ok.ensures.ok.is_after b.ensures.durable c.give_turn-2.ensures.view

@@ -3,7 +3,7 @@ use Rattle.core_events.specs.Events.{see_full}
 use Rattle.core_events.specs.Setups.{Setup, box_of}
 use Rattle.stm_slots.specs.Opening.{setup_of}
 use Rattle.stm_turns.proofs.Holdings.{saw_acts}
-use Rattle.stm_turns.proofs.Seats.{may_in_turn, saw_none, saw_some, saw_front, saw_drawn_none, saw_drawn_some, saw_durable, turned_me}
+use Rattle.stm_turns.proofs.Seats.{may_in_turn, saw_none, saw_some, saw_front, saw_drawn_none, saw_drawn_some, turned_me}
 use Rattle.stm_turns.specs.Told.{SawFront}
 use Rattle.stm_turns.proofs.boxes.see_front.Goals as goal
 
@@ -41,13 +41,3 @@ returns-clause-drawn g c =
     let x = c.load_by-found in let i = c.requires.turn in let r = c.read_record-redo in let e = c.turn.ensures in
     λ own. saw_drawn_some g.M.Medium.sight c.args.events.now c.args.seat.now x.new.seat x.result c.args.thread c.args.home.now i x.ensures.seat.0 x.ensures.seat.1 x.ensures.then c.if-found-eq0.false
     c.box_number-slot.result c.turn.new.self r.result (ap (λ m. m.0) (turned_me x.new.seat.me r.new.seat.me c.turn.new.self.me r.ensures.me e.2)) r.ensures.was own.0 own.1
-
-pub returns-then-found-eq0-clause-durable : goal.returns-then-found-eq0-clause-durable
-returns-then-found-eq0-clause-durable g c =
-    let x = c.load_by-found in
-    saw_durable g.M.Medium.sight c.args.events.now c.args.seat.now x.new.seat x.result c.args.thread c.args.home.now c.requires.turn x.ensures.seat.0 x.ensures.seat.1 x.ensures.then x.new.seat refl
-
-pub returns-clause-durable : goal.returns-clause-durable
-returns-clause-durable g c =
-    let x = c.load_by-found in let r = c.read_record-redo in let e = c.turn.ensures in
-    saw_durable g.M.Medium.sight c.args.events.now c.args.seat.now x.new.seat x.result c.args.thread c.args.home.now c.requires.turn x.ensures.seat.0 x.ensures.seat.1 x.ensures.then c.turn.new.self (ap (λ m. m.0) (turned_me x.new.seat.me r.new.seat.me c.turn.new.self.me r.ensures.me e.2))

@@ -1,13 +1,15 @@
-use Rattle.std.proofs.Common.{◌∙◌, ap}
+use Rattle.std.proofs.Common.{◌∙◌, [], ap}
 use Rattle.std.specs.Prelude.{Err}
 use Rattle.back_store.specs.BackView.{state_of}
 use Rattle.back_store.specs.declared.back_fault.BackFault.TheVariants.{RingFull, Device, Dead}
 use Rattle.dude_base.specs.Records.{first_of}
-use Rattle.stm_turns.proofs.Bundling.{late_at, late_from, rises_from, stepped_by, then_bare, with_of}
+use Rattle.stm_turns.proofs.Bundling.{late_at, late_from, rises_from, stepped_by, then_advanced_bare, with_of}
+use Rattle.stm_turns.proofs.Seats.{advanced}
 use Rattle.stm_turns.proofs.bundles.persist_bundle.Goals as goal
 
 pub returns-in-Ok-clause-step : goal.returns-in-Ok-clause-step
-returns-in-Ok-clause-step g c = c.in-Ok.ensures.step
+returns-in-Ok-clause-step g c =
+    let x = c.persist in advanced g.M.Medium.sight c.args.events.now c.args.durable.now c.args.seat.now x.new.seat x.new.home [] c.in-Ok.ensures.step
 
 pub retry-requires : goal.retry-requires
 retry-requires g c =
@@ -19,7 +21,7 @@ pub returns-in-Err-RingFull-clause-step : goal.returns-in-Err-RingFull-clause-st
 returns-in-Err-RingFull-clause-step g c =
     let t = c.args.events.now in let sight = g.M.Medium.sight in let seat = c.args.seat.now in let x = c.persist in let q = c.args.gathering.now in let arm = c.in-Err-RingFull in let y = c.retry in
     let s = stepped_by sight t seat x.new.seat x.new.home q x.result (Err (RingFull arm.field-0-0 arm.field-0-1)) (arm.is ∙ ap (λ f. Err f) arm.field-0-is) x.ensures.step in
-    then_bare sight t seat x.new.seat y.new.seat x.new.home y.new.home q s y.ensures.step
+    then_advanced_bare sight t c.args.durable.now y.new.durable seat x.new.seat y.new.seat x.new.home y.new.home q s y.ensures.step
 
 pub returns-in-Err-RingFull-clause-rises : goal.returns-in-Err-RingFull-clause-rises
 returns-in-Err-RingFull-clause-rises g c =
@@ -33,10 +35,10 @@ returns-in-Err-RingFull-clause-late g c =
 
 pub returns-in-Err-Device-clause-step : goal.returns-in-Err-Device-clause-step
 returns-in-Err-Device-clause-step g c =
-    let x = c.persist in let arm = c.in-Err-Device in
-    stepped_by g.M.Medium.sight c.args.events.now c.args.seat.now x.new.seat x.new.home c.args.gathering.now x.result (Err Device) (arm.is ∙ ap (λ f. Err f) arm.field-0-is) x.ensures.step
+    let t = c.args.events.now in let sight = g.M.Medium.sight in let seat = c.args.seat.now in let x = c.persist in let arm = c.in-Err-Device in
+    advanced sight t c.args.durable.now seat x.new.seat x.new.home [] (stepped_by sight t seat x.new.seat x.new.home c.args.gathering.now x.result (Err Device) (arm.is ∙ ap (λ f. Err f) arm.field-0-is) x.ensures.step)
 
 pub returns-in-Err-Dead-clause-step : goal.returns-in-Err-Dead-clause-step
 returns-in-Err-Dead-clause-step g c =
-    let x = c.persist in let arm = c.in-Err-Dead in
-    stepped_by g.M.Medium.sight c.args.events.now c.args.seat.now x.new.seat x.new.home c.args.gathering.now x.result (Err Dead) (arm.is ∙ ap (λ f. Err f) arm.field-0-is) x.ensures.step
+    let t = c.args.events.now in let sight = g.M.Medium.sight in let seat = c.args.seat.now in let x = c.persist in let arm = c.in-Err-Dead in
+    advanced sight t c.args.durable.now seat x.new.seat x.new.home [] (stepped_by sight t seat x.new.seat x.new.home c.args.gathering.now x.result (Err Dead) (arm.is ∙ ap (λ f. Err f) arm.field-0-is) x.ensures.step)

@@ -3,15 +3,15 @@ use Rattle.back_store.specs.BackView.{state_of}
 use Rattle.stm_slots.specs.Opening.{setup_of, since_of}
 use Rattle.stm_turns.proofs.Past.{keeps_announced}
 use Rattle.stm_turns.proofs.Calling.{announce_goes, announced_ok, called_turn}
-use Rattle.stm_turns.proofs.Seats.{same_turn}
+use Rattle.stm_turns.proofs.Seats.{advanced, same_turn}
 use Rattle.stm_turns.proofs.calls.announce.Goals as goal
 
 pub returns-in_err-number-clause-step : goal.returns-in_err-number-clause-step
 returns-in_err-number-clause-step g c =
     let t = c.args.events.now in let seat = c.args.seat.now in let h = c.args.home.now in let sight = g.M.Medium.sight in let a = c.announce in let b = a.new.back in let z = setup_of sight t.key in
     λ hand i.
-    same_turn sight t seat (record h { back = b }) hand (called_turn sight t seat h hand i b (a.ensures.known (since_of sight t.key) i.holding.records i.holding.known)
-    (announce_goes z.threads z.first (state_of h.back) i.holding.records i.holding.known.lawful (state_of b) a.result a.ensures.answer a.ensures.state a.ensures.cause.dead))
+    advanced sight t c.args.durable.now seat seat (record h { back = b }) hand (same_turn sight t seat (record h { back = b }) hand (called_turn sight t seat h hand i b (a.ensures.known (since_of sight t.key) i.holding.records i.holding.known)
+    (announce_goes z.threads z.first (state_of h.back) i.holding.records i.holding.known.lawful (state_of b) a.result a.ensures.answer a.ensures.state a.ensures.cause.dead)))
 
 pub raise_durable-requires : goal.raise_durable-requires
 raise_durable-requires g c =
@@ -33,7 +33,7 @@ pub returns-clause-step : goal.returns-clause-step
 returns-clause-step g c =
     let t = c.args.events.now in let seat = c.args.seat.now in let h = c.args.home.now in let sight = g.M.Medium.sight in let a = c.announce in let b = a.new.back in let z = setup_of sight t.key in
     λ hand i.
-    c.raise_durable.ensures.step hand (called_turn sight t seat h hand i b (a.ensures.known (since_of sight t.key) i.holding.records i.holding.known)
+    c.raise_durable.ensures.step c.args.durable.now hand (called_turn sight t seat h hand i b (a.ensures.known (since_of sight t.key) i.holding.records i.holding.known)
     (announce_goes z.threads z.first (state_of h.back) i.holding.records i.holding.known.lawful (state_of b) a.result a.ensures.answer a.ensures.state a.ensures.cause.dead))
 
 pub returns-clause-ok : goal.returns-clause-ok

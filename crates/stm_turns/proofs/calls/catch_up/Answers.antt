@@ -1,7 +1,7 @@
 use Rattle.std.proofs.Common.{◌∙◌}
 use Rattle.back_store.specs.BackView.{state_of}
 use Rattle.stm_turns.proofs.Past.{then_past}
-use Rattle.stm_turns.proofs.Seats.{then_turn}
+use Rattle.stm_turns.proofs.Seats.{advanced, then_advanced}
 use Rattle.stm_turns.proofs.calls.catch_up.Goals as goal
 
 pub reproduce-requires-clause-turn : goal.reproduce-requires-clause-turn
@@ -10,7 +10,8 @@ reproduce-requires-clause-turn g c = (c.requires.turn.0, (c.announce.ensures.ste
 pub returns-clause-step : goal.returns-clause-step
 returns-clause-step g c =
     let a = c.announce in let r = c.reproduce in
-    λ hand i. let one = a.ensures.step hand i in then_turn g.M.Medium.sight c.args.events.now c.args.seat.now a.new.seat r.new.seat a.new.home r.new.home hand hand one (r.ensures.step hand one.turn)
+    let sight = g.M.Medium.sight in let t = c.args.events.now in let d = a.new.durable in
+    λ hand i. let one = a.ensures.step hand i in then_advanced sight t c.args.durable.now d d c.args.seat.now a.new.seat r.new.seat a.new.home r.new.home hand hand one (advanced sight t d a.new.seat r.new.seat r.new.home hand (r.ensures.step hand one.turn))
 
 pub returns-clause-past : goal.returns-clause-past
 returns-clause-past g c =

@@ -58,4 +58,4 @@ loop-number-preserved g c =
 pub returns : goal.returns
 returns g c =
     let l = c.loop-number in let v = l.invariant.left in let q = c.args.gathering.now in
-    record { step = put_all g.M.Medium.sight c.args.events.now c.args.seat.now l.seat c.args.home.now q.threads q.count l.number l.places v.0 v.1 (omega arith) c.requires.may.some v.2; durable = v.2.went.durable }
+    record { step = put_all g.M.Medium.sight c.args.events.now c.args.seat.now l.seat c.args.home.now q.threads q.count l.number l.places v.0 v.1 (omega arith) c.requires.may.some v.2 }

@@ -1,9 +1,9 @@
-use Rattle.std.proofs.Common.{◌≤◌, refl, arith}
+use Rattle.std.proofs.Common.{◌≤◌, arith}
 use Rattle.back_store.specs.BackView.{state_of}
 use Rattle.core_events.specs.Events.{raise_durable}
 use Rattle.stm_turns.specs.Told.{Raised}
 use Rattle.stm_turns.proofs.Holdings.{durable_fits, durable_acts_on}
-use Rattle.stm_turns.proofs.Seats.{may_in_turn, raised_turn}
+use Rattle.stm_turns.proofs.Seats.{advanced_turn, may_in_turn}
 use Rattle.stm_turns.proofs.raises.raise_durable.Goals as goal
 
 pub store_by-requires-clause-fits : goal.store_by-requires-clause-fits
@@ -22,4 +22,4 @@ store_by-requires-clause-may g c =
 pub returns-clause-step : goal.returns-clause-step
 returns-clause-step g c =
     let x = c.store_by in
-    raised_turn g.M.Medium.sight c.args.events.now c.args.seat.now x.new.seat c.args.home.now (raise_durable c.args.number) 0 x.ensures.then refl refl refl x.ensures.seat.0 x.ensures.seat.1
+    advanced_turn g.M.Medium.sight c.args.events.now c.args.seat.now x.new.seat c.args.home.now c.args.number x.ensures.then x.ensures.seat.0 x.ensures.seat.1

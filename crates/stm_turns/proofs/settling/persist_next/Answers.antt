@@ -4,7 +4,7 @@ use Rattle.back_store.specs.BackView.{state_of}
 use Rattle.stm_turns.proofs.Bundling.{then_bare, with_of}
 use Rattle.stm_turns.proofs.Calling.{may_put_all}
 use Rattle.stm_turns.proofs.NextRecords.{ahead_inside, looked_with}
-use Rattle.stm_turns.proofs.Seats.{then_turn}
+use Rattle.stm_turns.proofs.Seats.{advanced, then_advanced}
 use Rattle.stm_turns.proofs.Settled.{begun, begun_steps, bundle_steps, not_drawn_none, not_drawn_on, not_drawn_some, rises_on, still_settled}
 use Rattle.std.proofs.Common.{◌∷◌, get_or}
 use Rattle.dude_base.specs.Records.{bundle_of, first_of}
@@ -40,22 +40,26 @@ pub persist_bundle-requires-clause-with : goal.persist_bundle-requires-clause-wi
 persist_bundle-requires-clause-with g c =
     let x = c.gather in with_of g.M.Medium.sight c.args.events.now c.look_at_all-fronts.new.seat x.new.seat c.args.home.now x.new.gathering x.ensures.step
 
+pub returns-in_default-clause-step : goal.returns-in_default-clause-step
+returns-in_default-clause-step g c =
+    advanced g.M.Medium.sight c.args.events.now c.args.durable.now c.args.seat.now c.see_front.new.seat c.args.home.now [] c.in_default.ensures.step
+
 pub returns-in_default-clause-none : goal.returns-in_default-clause-none
 returns-in_default-clause-none g c =
     let t = c.args.events.now in let sight = g.M.Medium.sight in let a = c.see_front in let h = c.args.home.now in let s = c.in_default.ensures in let e = c.requires.settled in
-    (still_settled sight t c.args.seat.now a.new.seat h c.args.number e a.ensures.durable, not_drawn_none sight t a.new.seat h [] s.step.turn c.args.number e.is e.reproduced (s.drawn c.requires.own))
+    (still_settled sight t c.args.seat.now a.new.seat h c.args.number e s.step.view, not_drawn_none sight t a.new.seat h [] s.step.turn c.args.number e.is e.reproduced (s.drawn c.requires.own))
 
 pub returns-then-number-clause-step : goal.returns-then-number-clause-step
 returns-then-number-clause-step g c =
     let t = c.args.events.now in let sight = g.M.Medium.sight in let a = c.see_front in let s = c.in-Some.ensures.step in let h = c.args.home.now in let q = c.begin-gathering.result in let y = c.put_all_back in
-    then_bare sight t c.args.seat.now a.new.seat y.new.seat h h q
-    (begun_steps sight t c.args.seat.now a.new.seat h c.args.own c.boxes.result c.in-Some.redo q s (c.boxes.ensures ∙ ap (λ (v : Setup). v.boxes) s.turn.setup) c.begin-gathering.ensures) y.ensures.step
+    advanced sight t c.args.durable.now c.args.seat.now y.new.seat h [] (then_bare sight t c.args.seat.now a.new.seat y.new.seat h h q
+    (begun_steps sight t c.args.seat.now a.new.seat h c.args.own c.boxes.result c.in-Some.redo q s (c.boxes.ensures ∙ ap (λ (v : Setup). v.boxes) s.turn.setup) c.begin-gathering.ensures) y.ensures.step)
 
 pub returns-then-number-clause-none : goal.returns-then-number-clause-none
 returns-then-number-clause-none g c =
     let t = c.args.events.now in let sight = g.M.Medium.sight in let a = c.see_front in let s = c.in-Some.ensures in let h = c.args.home.now in let y = c.put_all_back in let e = c.requires.settled in let r = c.in-Some.redo in
     let p : Held = record { thread = c.args.own; place = get_or h.next c.args.own 0; redo = r } in (
-      still_settled sight t c.args.seat.now y.new.seat h c.args.number e (y.ensures.durable ∙ a.ensures.durable),
+      still_settled sight t c.args.seat.now y.new.seat h c.args.number e (y.ensures.step.view ∙ s.step.view),
       not_drawn_on a.new.seat y.new.seat c.args.number y.ensures.step.view
           (not_drawn_some sight t a.new.seat h (p ∷ []) s.step.turn c.args.number e.is e.reproduced r p refl refl (s.drawn c.requires.own) (λ same. c.if-number.true (c.number.ensures ∙ same))),
     )
@@ -63,7 +67,7 @@ returns-then-number-clause-none g c =
 pub returns-in_err-persist_bundle-clause-step : goal.returns-in_err-persist_bundle-clause-step
 returns-in_err-persist_bundle-clause-step g c =
     let t = c.args.events.now in let sight = g.M.Medium.sight in let a = c.see_front in let s = c.in-Some.ensures.step in let h = c.args.home.now in let q = c.begin-gathering.result in let b = c.look_at_all-fronts in let x = c.gather in let y = c.persist_bundle in
-    bundle_steps sight t c.args.seat.now a.new.seat b.new.seat x.new.seat y.new.seat h y.new.home q x.new.gathering
+    bundle_steps sight t c.args.durable.now y.new.durable c.args.seat.now a.new.seat b.new.seat x.new.seat y.new.seat h y.new.home q x.new.gathering
     (begun_steps sight t c.args.seat.now a.new.seat h c.args.own c.boxes.result c.in-Some.redo q s (c.boxes.ensures ∙ ap (λ (v : Setup). v.boxes) s.turn.setup) c.begin-gathering.ensures) b.ensures.step x.ensures.step y.ensures.step
 
 pub unreachable-requires : goal.unreachable-requires
@@ -75,16 +79,16 @@ unreachable-requires g c =
 pub returns-in_err-catch_up-clause-step : goal.returns-in_err-catch_up-clause-step
 returns-in_err-catch_up-clause-step g c =
     let t = c.args.events.now in let sight = g.M.Medium.sight in let a = c.see_front in let s = c.in-Some.ensures.step in let h = c.args.home.now in let q = c.begin-gathering.result in let b = c.look_at_all-fronts in let x = c.gather in let y = c.persist_bundle in let d = c.catch_up in
-    let whole = bundle_steps sight t c.args.seat.now a.new.seat b.new.seat x.new.seat y.new.seat h y.new.home q x.new.gathering
+    let whole = bundle_steps sight t c.args.durable.now y.new.durable c.args.seat.now a.new.seat b.new.seat x.new.seat y.new.seat h y.new.home q x.new.gathering
     (begun_steps sight t c.args.seat.now a.new.seat h c.args.own c.boxes.result c.in-Some.redo q s (c.boxes.ensures ∙ ap (λ (v : Setup). v.boxes) s.turn.setup) c.begin-gathering.ensures) b.ensures.step x.ensures.step y.ensures.step in
-    then_turn sight t c.args.seat.now y.new.seat d.new.seat y.new.home d.new.home [] [] whole (d.ensures.step [] whole.turn)
+    then_advanced sight t c.args.durable.now y.new.durable d.new.durable c.args.seat.now y.new.seat d.new.seat y.new.home d.new.home [] [] whole (d.ensures.step [] whole.turn)
 
 pub returns-clause-step : goal.returns-clause-step
 returns-clause-step g c =
     let t = c.args.events.now in let sight = g.M.Medium.sight in let a = c.see_front in let s = c.in-Some.ensures.step in let h = c.args.home.now in let q = c.begin-gathering.result in let b = c.look_at_all-fronts in let x = c.gather in let y = c.persist_bundle in let d = c.catch_up in
-    let whole = bundle_steps sight t c.args.seat.now a.new.seat b.new.seat x.new.seat y.new.seat h y.new.home q x.new.gathering
+    let whole = bundle_steps sight t c.args.durable.now y.new.durable c.args.seat.now a.new.seat b.new.seat x.new.seat y.new.seat h y.new.home q x.new.gathering
     (begun_steps sight t c.args.seat.now a.new.seat h c.args.own c.boxes.result c.in-Some.redo q s (c.boxes.ensures ∙ ap (λ (v : Setup). v.boxes) s.turn.setup) c.begin-gathering.ensures) b.ensures.step x.ensures.step y.ensures.step in
-    then_turn sight t c.args.seat.now y.new.seat d.new.seat y.new.home d.new.home [] [] whole (d.ensures.step [] whole.turn)
+    then_advanced sight t c.args.durable.now y.new.durable d.new.durable c.args.seat.now y.new.seat d.new.seat y.new.home d.new.home [] [] whole (d.ensures.step [] whole.turn)
 
 pub returns-clause-some : goal.returns-clause-some
 returns-clause-some g c =

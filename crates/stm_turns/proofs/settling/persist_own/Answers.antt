@@ -3,20 +3,22 @@ use Rattle.std.specs.Prelude.{Option, IfSome}
 use Rattle.stm_turns.specs.Turns.{EndsSettled, RisesTo}
 use Rattle.back_store.specs.BackView.{state_of}
 use Rattle.stm_turns.proofs.Settled.{none_over, own_still, past_more}
-use Rattle.stm_turns.proofs.Seats.{same_turn, then_turn}
+use Rattle.stm_turns.proofs.Seats.{advanced, same_turn, then_advanced}
 use Rattle.stm_turns.proofs.settling.persist_own.Goals as goal
 
 pub loop-look-init : goal.loop-look-init
-loop-look-init g c = record { step = same_turn g.M.Medium.sight c.args.events.now c.args.seat.now c.args.home.now [] c.requires.turn; settled = c.requires.settled; past = (0, inl (omega arith), (omega arith)) }
+loop-look-init g c =
+    let sight = g.M.Medium.sight in let t = c.args.events.now in let seat = c.args.seat.now in let h = c.args.home.now in
+    record { step = advanced sight t c.args.durable.now seat seat h [] (same_turn sight t seat h [] c.requires.turn); settled = c.requires.settled; past = (0, inl (omega arith), (omega arith)) }
 
 pub persist_next-requires-clause-own : goal.persist_next-requires-clause-own
 persist_next-requires-clause-own g c = let l = c.loop-look in own_still c.args.own c.args.seat.now l.seat l.invariant.step.view c.requires.own
 
 pub returns-in_err-next-clause-step : goal.returns-in_err-next-clause-step
-returns-in_err-next-clause-step g c = let l = c.loop-look in let x = c.persist_next in then_turn g.M.Medium.sight c.args.events.now c.args.seat.now l.seat x.new.seat l.home x.new.home [] [] l.invariant.step x.ensures.step
+returns-in_err-next-clause-step g c = let l = c.loop-look in let x = c.persist_next in then_advanced g.M.Medium.sight c.args.events.now c.args.durable.now l.durable x.new.durable c.args.seat.now l.seat x.new.seat l.home x.new.home [] [] l.invariant.step x.ensures.step
 
 pub returns-in-None-clause-step : goal.returns-in-None-clause-step
-returns-in-None-clause-step g c = let l = c.loop-look in let x = c.persist_next in then_turn g.M.Medium.sight c.args.events.now c.args.seat.now l.seat x.new.seat l.home x.new.home [] [] l.invariant.step x.ensures.step
+returns-in-None-clause-step g c = let l = c.loop-look in let x = c.persist_next in then_advanced g.M.Medium.sight c.args.events.now c.args.durable.now l.durable x.new.durable c.args.seat.now l.seat x.new.seat l.home x.new.home [] [] l.invariant.step x.ensures.step
 
 pub unreachable-requires : goal.unreachable-requires
 unreachable-requires g c =
@@ -28,7 +30,7 @@ loop-look-preserved g c =
     let l = c.loop-look in let x = c.persist_next in
     let some = subst (λ (o : Option ℕ). IfSome o (λ n. EndsSettled x.new.seat x.new.home n × ((m : ℕ) × RisesTo m c.args.own (state_of l.home.back) (state_of x.new.home.back)))) c.in-Some.is c.in_ok-next.ensures.some in
     record {
-      step = then_turn g.M.Medium.sight c.args.events.now c.args.seat.now l.seat x.new.seat l.home x.new.home [] [] l.invariant.step x.ensures.step;
+      step = then_advanced g.M.Medium.sight c.args.events.now c.args.durable.now l.durable x.new.durable c.args.seat.now l.seat x.new.seat l.home x.new.home [] [] l.invariant.step x.ensures.step;
       settled = some.0;
       past = past_more c.args.own l._look (state_of l.home.back) (state_of x.new.home.back) l.invariant.past some.1;
     }

@@ -1,6 +1,6 @@
 use Rattle.std.proofs.Common.{[]}
 use Rattle.stm_turns.proofs.Settled.{own_still}
-use Rattle.stm_turns.proofs.Seats.{then_turn}
+use Rattle.stm_turns.proofs.Seats.{then_advanced}
 use Rattle.stm_turns.proofs.settling.settle.Goals as goal
 
 pub catch_up-requires : goal.catch_up-requires
@@ -9,7 +9,7 @@ catch_up-requires g c = record { turn = ([], c.persist_all.ensures.step.turn) }
 pub returns-in_err-number-clause-step : goal.returns-in_err-number-clause-step
 returns-in_err-number-clause-step g c =
     let a = c.persist_all in let b = c.catch_up in
-    then_turn g.M.Medium.sight c.args.events.now c.args.seat.now a.new.seat b.new.seat a.new.home b.new.home [] [] a.ensures.step (b.ensures.step [] a.ensures.step.turn)
+    then_advanced g.M.Medium.sight c.args.events.now c.args.durable.now a.new.durable b.new.durable c.args.seat.now a.new.seat b.new.seat a.new.home b.new.home [] [] a.ensures.step (b.ensures.step [] a.ensures.step.turn)
 
 pub persist_own-requires-clause-turn : goal.persist_own-requires-clause-turn
 persist_own-requires-clause-turn g c = let a = c.persist_all in (c.catch_up.ensures.step [] a.ensures.step.turn).turn
@@ -17,11 +17,11 @@ persist_own-requires-clause-turn g c = let a = c.persist_all in (c.catch_up.ensu
 pub persist_own-requires-clause-own : goal.persist_own-requires-clause-own
 persist_own-requires-clause-own g c =
     let a = c.persist_all in let b = c.catch_up in
-    let s = then_turn g.M.Medium.sight c.args.events.now c.args.seat.now a.new.seat b.new.seat a.new.home b.new.home [] [] a.ensures.step (b.ensures.step [] a.ensures.step.turn) in
+    let s = then_advanced g.M.Medium.sight c.args.events.now c.args.durable.now a.new.durable b.new.durable c.args.seat.now a.new.seat b.new.seat a.new.home b.new.home [] [] a.ensures.step (b.ensures.step [] a.ensures.step.turn) in
     own_still c.args.own c.args.seat.now b.new.seat s.view c.requires.own
 
 pub returns-clause-step : goal.returns-clause-step
 returns-clause-step g c =
     let a = c.persist_all in let b = c.catch_up in let d = c.persist_own in
-    let s = then_turn g.M.Medium.sight c.args.events.now c.args.seat.now a.new.seat b.new.seat a.new.home b.new.home [] [] a.ensures.step (b.ensures.step [] a.ensures.step.turn) in
-    then_turn g.M.Medium.sight c.args.events.now c.args.seat.now b.new.seat d.new.seat b.new.home d.new.home [] [] s d.ensures.step
+    let s = then_advanced g.M.Medium.sight c.args.events.now c.args.durable.now a.new.durable b.new.durable c.args.seat.now a.new.seat b.new.seat a.new.home b.new.home [] [] a.ensures.step (b.ensures.step [] a.ensures.step.turn) in
+    then_advanced g.M.Medium.sight c.args.events.now c.args.durable.now b.new.durable d.new.durable c.args.seat.now b.new.seat d.new.seat b.new.home d.new.home [] [] s d.ensures.step

@@ -1,0 +1,72 @@
+//! A pass takes the turn, and brings a page into a frame.
+
+ghost use Rattle.std.specs.Prelude.{◌≡◌, ◌<◌, IfOk, IfErr};
+ghost use Rattle.stm_passes.specs.Passes.{IsResting, pass_view};
+ghost use Rattle.stm_pages.specs.Fetch.{HasFetched, HasFetchFault};
+ghost use Rattle.tiny_stm.specs.Turned.{BySeat, KeepsWork, numbers_fetched, turns_fetched};
+
+use crate::stm::{Pass, Steps, Stm};
+use pmem_trait::Medium;
+use stm_pages::FetchFault;
+use stm_passes::pass_numbers::PassNumbers;
+
+impl<M: Medium> Stm<M> {
+    ghost use Rattle.tiny_stm.specs.Tables.{table_of};
+
+    /// Takes the turn, does the work of a pump, brings a page into a frame unless it is in one, and
+    /// gives the turn back. After an `Ok` the page was in a frame in this turn; another turn may
+    /// make it absent before a transaction reads it. After `Device` and `Dead` the pass has met a
+    /// fault. Nothing says that `AllPinned` doesn't come again and again.
+    pub fn fetch(&self, p: &mut Pass, page: u64) -> Result<(), FetchFault>
+        requires rests { IsResting (table_of self.now) p.old }
+        requires page { page < (table_of self.now).setup.pages }
+        ensures rests { IsResting (table_of self.now) p.new }
+        ensures stays { KeepsWork p.old p.new }
+        ensures numbers { p.new.numbers
+            ≡ numbers_fetched result (pass_view p.new).turn.durable p.old.numbers }
+        ensures turns { (pass_view p.new).turn.count
+            ≡ turns_fetched result (pass_view p.old).turn.count }
+        ensures ok { IfOk result (λ done.
+            BySeat (HasFetched M.sight (table_of self.now) page) p.old p.new) }
+        ensures err { IfErr result (λ fault.
+            BySeat (HasFetchFault M.sight (table_of self.now) page fault) p.old p.new) }
+    {
+        fetch_on(&self.steps, p, page)
+    }
+}
+
+/// What `Stm::fetch` does, over what transactions make their steps on.
+pub fn fetch_on<M: Medium>(steps: &Steps<M>, p: &mut Pass, page: u64) -> Result<(), FetchFault>
+    requires rests { IsResting steps.now.events p.old }
+    requires page { page < steps.now.events.setup.pages }
+    ensures rests { IsResting steps.now.events p.new }
+    ensures stays { KeepsWork p.old p.new }
+    ensures numbers { p.new.numbers
+        ≡ numbers_fetched result (pass_view p.new).turn.durable p.old.numbers }
+    ensures turns { (pass_view p.new).turn.count
+        ≡ turns_fetched result (pass_view p.old).turn.count }
+    ensures ok { IfOk result (λ done.
+        BySeat (HasFetched M.sight steps.now.events page) p.old p.new) }
+    ensures err { IfErr result (λ fault.
+        BySeat (HasFetchFault M.sight steps.now.events page fault) p.old p.new) }
+{
+    let numbers = p.numbers();
+    let mut seat = p.take_seat();
+    let mut durable = numbers.durable;
+    let result = stm_pages::fetch(steps, &mut seat, numbers.thread, page, &mut durable);
+    p.put_seat(seat, after_fetch(numbers, &result, durable));
+    result
+}
+
+fn after_fetch(numbers: PassNumbers, answer: &Result<(), FetchFault>, durable: u64) -> PassNumbers
+    ensures { result ≡ numbers_fetched answer.now durable numbers }
+{
+    match answer {
+        Ok(()) => numbers.have_turn(durable),
+        Err(FetchFault::Held { seen: _ }) => numbers.refuse(1),
+        Err(FetchFault::Behind { .. }) => numbers.have_turn(durable).refuse(1),
+        Err(FetchFault::AllPinned { .. }) => numbers.have_turn(durable).refuse(1),
+        Err(FetchFault::Device) => numbers.meet_fault(durable),
+        Err(FetchFault::Dead) => numbers.meet_fault(durable),
+    }
+}
