@@ -1,6 +1,7 @@
 -- What a turn leaves of a pass.
 use Rattle.std.specs.Prelude.{◌≡◌, ℕ, ◌+◌, ◌≤◌, ◌⊎◌, true}
 use Rattle.pmem_trait.specs.Faults.{up_to_last}
+use Rattle.core_events.specs.Conditions.{KeepsFrame}
 use Rattle.core_table.specs.Layout.{TableSight}
 use Rattle.stm_passes.specs.Passes.{PassSight, IsResting, pass_view}
 use Rattle.request_attempts.specs.declared.turn_fault.TurnFault.{TurnFault}
@@ -24,13 +25,14 @@ pub record HasPumped {X K : Type 0} (t : TableSight K) (p q : PassSight X) (n : 
   pub no_fault : q.numbers.met_fault ≡ p.numbers.met_fault
   pub counts : (q.numbers.refused ≡ up_to_last (p.numbers.refused + 1)) ⊎ ((p.numbers.last ≤ n) × (p.numbers.drawn ≤ n))
 
--- A page is shown
-pub record HasFetched {X K : Type 0} (t : TableSight K) (p q : PassSight X) : Type 0 where
+-- The page was in a frame in this turn; it may be out again by now
+pub record HasFetched {X K : Type 0} (t : TableSight K) (page : ℕ) (p q : PassSight X) : Type 0 where
   pub keeps : KeepsRest t p q
+  pub shown : KeepsFrame (pass_view q) page
   pub had : q.numbers.had_turn ≡ true
   pub no_fault : q.numbers.met_fault ≡ p.numbers.met_fault
 
--- Nothing was done, and a refusal counted
+-- What was wanted wasn't done, and a refusal counted
 pub record WasRefused {X K : Type 0} (t : TableSight K) (p q : PassSight X) : Type 0 where
   pub keeps : KeepsRest t p q
   pub had : p.numbers.had_turn ≡ true → q.numbers.had_turn ≡ true

@@ -17,10 +17,10 @@ pub trait Turns<S, X, K, P: TransactionRule<S, X, K>> {
         ensures ok { IfOk result (HasPumped stm.now.events p.old p.new) }
         ensures err { IfErr result (LeavesFault stm.now.events p.old p.new) };
 
-    /// Takes the turn, and shows a page.
+    /// Takes the turn, and shows a page. Another turn may make it absent before a transaction reads it.
     fn fetch(&self, stm: &Stm<S, X, K, P>, p: &mut Pass<X>, page: u64) -> Result<(), TurnFault>
         requires rests { IsResting stm.now.events p.old }
         requires page { page < stm.now.events.setup.pages }
-        ensures ok { OnOk result (HasFetched stm.now.events p.old p.new) }
+        ensures ok { OnOk result (HasFetched stm.now.events page p.old p.new) }
         ensures err { IfErr result (LeavesFault stm.now.events p.old p.new) };
 }
