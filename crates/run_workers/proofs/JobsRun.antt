@@ -1,0 +1,43 @@
+-- The jobs of files before and behind their threads.
+use Rattle.std.proofs.Common.{◌≡◌, ℕ, suc, ◌+◌, ◌<◌, List, [], ◌∷◌, length, get_or, map, refl, ap, ap₂, sym, ◌∙◌, arith}
+use Rattle.std.specs.List.{All, sum_by}
+use Rattle.std.proofs.lemmas.List.{get_or-map, length-map}
+use Rattle.std.proofs.lemmas.List.FromFn.{get_or-range_with_len, length-range_with_len}
+use Rattle.std.proofs.lemmas.List.Sums.{sum_by-cons}
+use Rattle.dude_base.specs.declared.sizes.Sizes.{Sizes}
+use Rattle.tatp_model.specs.declared.request.Request.{Request}
+use Rattle.core_events.specs.Views.{Part}
+use Rattle.core_events.specs.KeptThreads.{held_of}
+use Rattle.core_table.specs.Layout.{TableSight}
+use Rattle.stm_passes.specs.Passes.{pass_view}
+use Rattle.run_workers.specs.declared.job.Job.{Job}
+use Rattle.run_workers.specs.Job.{HasWorkedOn, IsJobOf, KeepPlaces, thread_count}
+use Rattle.run_workers.specs.Jobs.{AreFresh, HaveWorked}
+
+module _ {X K : Type 0} (t : TableSight K) (files : List (List Request)) where
+  pub jobs_of : (jobs : List (Job X)) → AreFresh t files jobs → All (IsJobOf t files) jobs
+  jobs_of jobs h k d within =
+      let all : length (map (λ (j : Job X). j.file) jobs) ≡ length files = ap length h.in_order ∙ length-range_with_len 0 (length files) in
+      let long = length-map jobs (λ (j : Job X). j.file) in
+      let here : k < length files = omega arith in
+      let at : (get_or jobs k d).file ≡ 0 + k = sym (get_or-map (λ (j : Job X). j.file) jobs k d 0 within) ∙ ap (λ (l : List ℕ). get_or l k 0) h.in_order ∙ get_or-range_with_len 0 (length files) k 0 here in
+      record { there = omega arith; fresh = h.each k d within }
+
+  -- jobs whose places were kept
+  files_kept : (old new : List (Job X)) → length new ≡ length old → KeepPlaces old new → map (λ (j : Job X). j.file) new ≡ map (λ (j : Job X). j.file) old
+  files_kept [] [] long keeps = refl
+  files_kept [] (n ∷ ns) long keeps = absurd (omega arith)
+  files_kept (o ∷ os) [] long keeps = absurd (omega arith)
+  files_kept (o ∷ os) (n ∷ ns) long keeps = ap₂ (λ (f : ℕ) (l : List ℕ). f ∷ l) (keeps 0 o (omega arith)).file (files_kept os ns (omega arith) (λ i d within. keeps (suc i) d (omega arith)))
+
+  threads_kept : (old new : List (Job X)) → length new ≡ length old → KeepPlaces old new → sum_by (λ (j : Job X). thread_count (pass_view j.pass)) new ≡ sum_by (λ (j : Job X). thread_count (pass_view j.pass)) old
+  threads_kept [] [] long keeps = refl
+  threads_kept [] (n ∷ ns) long keeps = absurd (omega arith)
+  threads_kept (o ∷ os) [] long keeps = absurd (omega arith)
+  threads_kept (o ∷ os) (n ∷ ns) long keeps =
+      let here : thread_count (pass_view n.pass) ≡ thread_count (pass_view o.pass) = ap (λ (p : Part). held_of p + p.splits) (keeps 0 o (omega arith)).part in
+      let rest = threads_kept os ns (omega arith) (λ i d within. keeps (suc i) d (omega arith)) in
+      omega (arith, sum_by-cons (λ (j : Job X). thread_count (pass_view j.pass)) n ns, sum_by-cons (λ (j : Job X). thread_count (pass_view j.pass)) o os)
+
+  pub jobs_worked : (s : Sizes) (old new : List (Job X)) → AreFresh t files old → length new ≡ length old → KeepPlaces old new → All (HasWorkedOn t s files) new → HaveWorked t s files new
+  jobs_worked s old new h long keeps worked = record { each = worked; in_order = files_kept old new long keeps ∙ h.in_order; threads = threads_kept old new long keeps ∙ h.threads }

@@ -1,0 +1,6 @@
+pub mod NextDone
+pub mod JobSteps
+pub mod PassesJoined
+pub mod JobsRun
+pub mod JobsJoined
+pub mod FilesServed

@@ -1,0 +1,42 @@
+use Rattle.std.proofs.Common.{[], ◌∷◌, ◌++◌, List, sym, ap, ◌∙◌, subst, append_assoc}
+use Rattle.std.specs.List.{All}
+use Rattle.std.proofs.lemmas.List.Elements.{All-head}
+use Rattle.run_order.proofs.Pairs.{all_before, all_behind}
+use Rattle.stm_passes.specs.Passes.{IsResting}
+use Rattle.run_workers.specs.declared.job.Job.{Job}
+use Rattle.run_workers.proofs.PassesJoined.{took_one, took_next}
+use Rattle.run_workers.proofs.joining.join_passes.Goals as goal
+
+pub loop-job-init : goal.loop-job-init
+loop-job-init g c =
+    let t = c.args.stm.now.events in
+    let last = c.in-Some.last in
+    let left = c.pop.new.self.items in
+    let rests = subst (λ (l : List (Job _)). All (λ j. IsResting t j.pass) l) c.in-Some.ensures.items c.requires.rests in
+    record {
+      rests = all_before (λ (j : Job _). IsResting t j.pass) left (last ∷ []) rests;
+      joined = (last ∷ [], sym c.in-Some.ensures.items, took_one t last (All-head (λ (j : Job _). IsResting t j.pass) last [] (all_behind (λ (j : Job _). IsResting t j.pass) left (last ∷ []) rests)));
+    }
+
+pub join-requires-clause-rests : goal.join-requires-clause-rests
+join-requires-clause-rests g c =
+    let t = c.args.stm.now.events in
+    let job = c.in-Some-pop.job in
+    let left = c.pop-in-loop-job.new.self.items in
+    All-head (λ (j : Job _). IsResting t j.pass) job [] (all_behind (λ (j : Job _). IsResting t j.pass) left (job ∷ []) (subst (λ (l : List (Job _)). All (λ j. IsResting t j.pass) l) c.in-Some-pop.ensures.items c.loop-job.invariant.rests))
+
+pub loop-job-preserved : goal.loop-job-preserved
+loop-job-preserved g c =
+    let t = c.args.stm.now.events in
+    let job = c.in-Some-pop.job in
+    let left = c.pop-in-loop-job.new.self.items in
+    let rests = subst (λ (l : List (Job _)). All (λ j. IsResting t j.pass) l) c.in-Some-pop.ensures.items c.loop-job.invariant.rests in
+    let h = c.loop-job.invariant.joined in
+    record {
+      rests = all_before (λ (j : Job _). IsResting t j.pass) left (job ∷ []) rests;
+      joined = (
+        job ∷ h.0,
+        sym (append_assoc left (job ∷ []) h.0) ∙ ap (λ (l : List (Job _)). l ++ h.0) (sym c.in-Some-pop.ensures.items) ∙ h.1,
+        took_next t job h.0 c.loop-job.pass c.join.new.self (All-head (λ (j : Job _). IsResting t j.pass) job [] (all_behind (λ (j : Job _). IsResting t j.pass) left (job ∷ []) rests)) h.2 c.join.ensures.joined,
+      );
+    }

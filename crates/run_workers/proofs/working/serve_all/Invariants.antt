@@ -1,0 +1,10 @@
+use Rattle.run_workers.specs.Job.{KeepsPlace}
+use Rattle.run_workers.specs.Steps.{IsAt}
+use Rattle.run_workers.proofs.working.serve_all.Given as goal
+
+-- the requests before this one are done
+abbrev pub invariant-loop-index : goal.invariant-loop-index
+invariant-loop-index g l = record {
+  place : KeepsPlace l.initial.job l.job;
+  at : IsAt l.stm.events l.lay l.requests l.index l.job;
+}
