@@ -20,8 +20,8 @@ module _ {M : Type 0} {ghosts : Ghosts M} (o : Opening M ghosts) (h : TheHome M 
   -- it is what the table may start with
   pub is_first : (wide : MAX_RINGS ≤ length h.next) → (next : (t : ℕ) → get_or h.next t 0 ≡ 0) → IsFirst ghosts.sight o h
   is_first wide next = record {
-    known = subst (λ (b : Back M ghosts). Known (record { start = ghosts.sight (medium_of b); opening = o.terms.opening; first = o.terms.first }) (lists (state_of h.back) []) (ghosts.sight (medium_of h.back))) (sym snapshot)
-        (start (record { start = ghosts.sight (medium_of h.back); opening = o.terms.opening; first = o.terms.first }) may.idle);
+    known = subst (λ (b : Back M ghosts). Known (record { start = ghosts.sight (medium_of b); state = state_of b; opening = o.terms.opening; first = o.terms.first }) (lists (state_of h.back) []) (ghosts.sight (medium_of h.back))) (sym snapshot)
+        (start (record { start = ghosts.sight (medium_of h.back); state = state_of h.back; opening = o.terms.opening; first = o.terms.first }) may.idle);
     settled = settled;
     durable = (let e = may.idle.durable in omega arith);
     pages = may.pages;

@@ -1,0 +1,10 @@
+pub mod Answering
+pub mod Rests
+pub mod Bundling
+pub mod Handing
+pub mod CatchingUp
+pub mod Retrying
+pub mod Keeping
+pub mod Homes
+pub mod IdleMedia
+pub mod Tellings
