@@ -1,4 +1,5 @@
 pub mod NextDone
+pub mod FirstShares
 pub mod JobSteps
 pub mod PassesJoined
 pub mod JobsRun
