@@ -71,9 +71,13 @@ module _ {S X K P R : Type 0} {g : Ghosts R} (e : TableSight K) (p r : PassSight
   entries : (tx_view t).entries ≡ (pass_view p).entries
   entries = turns.entries ∙ ap (λ (v : View). v.entries) begun.view
 
+  part : (tx_view t).part ≡ (pass_view p).part
+  part = turns.part ∙ ap (λ (v : View). v.part) begun.view
+
   pub stopped_as : (x : Stop) → t.stopped ≡ Some x → x ≢ stop.Wide → HasAborted t r → HasStopped e x p r
   stopped_as x is narrow a = record {
     rests = subst (λ (y : TableSight K). IsResting y r) events a.rests;
+    part = a.ended.part ∙ part;
     entries = a.ended.entries ∙ entries;
     refusals = t.refused;
     counts_it = subst (λ (o : Option Stop). counts o ≤ t.refused) is t.stops.counted;
@@ -85,6 +89,7 @@ module _ {S X K P R : Type 0} {g : Ghosts R} (e : TableSight K) (p r : PassSight
   pub lost_as : (l : Lost) → HasLostCommit t r l → WasLost e l p r
   lost_as l u = record {
     rests = subst (λ (y : TableSight K). IsResting y r) events u.rests;
+    part = u.part ∙ part;
     entries = u.entries ∙ entries;
     refusals = t.refused;
     numbers = u.numbers ∙ (ap (λ (b : Bool). with_refusals t.refused (after_commit b (Err l) (tx_table t).setup.boxes (tx_numbers t))) (wrote_some t.writes u.some)
@@ -102,6 +107,7 @@ module _ {S X K P R : Type 0} {g : Ghosts R} (e : TableSight K) (p r : PassSight
           rests = subst (λ (y : TableSight K). IsResting y r) events h.rests;
           at = (ap (λ (x : Done). x.file) same, ap (λ (x : Done). x.index) same, ap (λ (x : Done). x.request) same);
           entry = entry_of d0 (tx_reads t) t.writes;
+          part = h.part ∙ part;
           entries = h.entries ∙ (ap (λ (x : Done). (tx_view t).entries ++ entry_of x (tx_reads t) t.writes ∷ []) same ∙ ap (λ (l : List Entry). l ++ entry_of d0 (tx_reads t) t.writes ∷ []) entries);
           done = sym same;
           served = served_entry s (tx_sight t) (entry_of d0 (tx_reads t) t.writes) no_sync (record { reads = refl; writes = refl; wrote = says_writes t.writes }) answers;

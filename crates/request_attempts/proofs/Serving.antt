@@ -13,7 +13,7 @@ use Rattle.request_attempts.specs.MayTry.{MayServe, MayTry}
 use Rattle.request_attempts.specs.Tries.{IsServing, IsUnserved, IsAgain, HasTried, AnswersBy}
 
 pub tried_none : {X K : Type 0} (t : TableSight K) (p : PassSight X) → IsResting t p → HasTried 0 t p p
-tried_none t p r = record { rests = r; entries = refl; last = refl; no_fault = refl; rises = omega arith; durable = omega arith; used = 0; draws = omega arith; counted = omega arith; tries = omega arith; under = omega arith }
+tried_none t p r = record { rests = r; part = refl; entries = refl; last = refl; no_fault = refl; rises = omega arith; durable = omega arith; used = 0; draws = omega arith; counted = omega arith; tries = omega arith; under = omega arith }
 
 module _ {X K : Type 0} (k : ℕ) (t : TableSight K) (p q : PassSight X) (h : HasTried k t p q) where
   pub may_try : (s : Sizes) (x : Request) → MayServe t s x p → MayTry t s x q
@@ -27,6 +27,7 @@ module _ {X K : Type 0} (k : ℕ) (t : TableSight K) (p q : PassSight X) (h : Ha
   tried_on r a under = ⊎_elim (λ last. let u = under.1 in absurd (omega arith))
       (λ c. let d = h.draws in let e = a.draws.draws in let tr = h.tries in let co = h.counted in let c0 = c.0 in let c1 = c.1 in record {
         rests = a.rests;
+        part = a.part ∙ h.part;
         entries = a.entries ∙ h.entries;
         last = a.last ∙ h.last;
         no_fault = a.no_fault ∙ h.no_fault;
@@ -46,6 +47,7 @@ module _ {X K : Type 0} (k : ℕ) (t : TableSight K) (p q : PassSight X) (h : Ha
     rests = a.rests;
     at = a.at;
     entry = a.entry;
+    part = a.part ∙ h.part;
     entries = a.entries ∙ ap (λ (l : List Entry). l ++ a.entry ∷ []) h.entries;
     done = a.done;
     served = a.served;
@@ -56,6 +58,7 @@ module _ {X K : Type 0} (k : ℕ) (t : TableSight K) (p q : PassSight X) (h : Ha
   pub served_on : (s : Sizes) (file index : ℕ) (x : Request) (d : Done) (r : PassSight X) → IsServing 1 t s file index x q r d → IsServing 65 t s file index x p r d
   served_on s file index x d r a = let i = h.draws in let e = a.draws.draws in let c = h.counted in let u = h.under in let f = a.draws.few in record {
     answers = answers_on (is_sync x) s file index x d r a.answers;
+    part = a.part ∙ h.part;
     draws = record { used = h.used + a.draws.used; draws = omega arith; few = omega arith };
     no_fault = a.no_fault ∙ h.no_fault;
     durable = kept_over r a.durable;
@@ -63,11 +66,11 @@ module _ {X K : Type 0} (k : ℕ) (t : TableSight K) (p q : PassSight X) (h : Ha
 
   pub unserved_on : (r : PassSight X) → IsUnserved 0 t q r → IsUnserved 65 t p r
   unserved_on r a = let i = h.draws in let e = a.draws.draws in let c = h.counted in let u = h.under in let f = a.draws.few in
-      record { rests = a.rests; entries = a.entries ∙ h.entries; draws = record { used = h.used + a.draws.used; draws = omega arith; few = omega arith }; durable = kept_over r a.durable }
+      record { rests = a.rests; part = a.part ∙ h.part; entries = a.entries ∙ h.entries; draws = record { used = h.used + a.draws.used; draws = omega arith; few = omega arith }; durable = kept_over r a.durable }
 
   pub again_unserved : (most : ℕ) (r : PassSight X) → IsAgain t q r → 64 ≤ most → IsUnserved most t p r
   again_unserved most r a le = let i = h.draws in let e = a.draws.draws in let c = h.counted in let u = h.under in let f = a.draws.few in
-      record { rests = a.rests; entries = a.entries ∙ h.entries; draws = record { used = h.used + a.draws.used; draws = omega arith; few = omega arith }; durable = kept_over r a.durable }
+      record { rests = a.rests; part = a.part ∙ h.part; entries = a.entries ∙ h.entries; draws = record { used = h.used + a.draws.used; draws = omega arith; few = omega arith }; durable = kept_over r a.durable }
 
   pub never : 129 ≤ k → ⊥
   never le = at_bit q.numbers.had_turn h.tries

@@ -47,6 +47,7 @@ rises_less a b k l le r = ⊎_elim (λ x. inl (omega arith)) (λ last. inr last)
 
 -- what a transaction leaves that made no entry, drew so many numbers and counted so many refusals
 record IsBare {X : Type 0} (used k : ℕ) (p m : PassSight X) : Type 0 where
+  pub part : (pass_view m).part ≡ (pass_view p).part
   pub entries : (pass_view m).entries ≡ (pass_view p).entries
   pub last : m.numbers.last ≡ p.numbers.last
   pub no_fault : m.numbers.met_fault ≡ p.numbers.met_fault
@@ -58,12 +59,13 @@ record IsBare {X : Type 0} (used k : ℕ) (p m : PassSight X) : Type 0 where
 
 module _ {X K : Type 0} (t : TableSight K) (p m r : PassSight X) where
   fewer : (used k l : ℕ) → l ≤ k → IsBare used k p m → IsBare used l p m
-  fewer used k l le b = record { entries = b.entries; last = b.last; no_fault = b.no_fault; draws = b.draws; few = b.few; rises = b.rises; durable = b.durable; counts = rises_less p.numbers.refused m.numbers.refused k l le b.counts }
+  fewer used k l le b = record { part = b.part; entries = b.entries; last = b.last; no_fault = b.no_fault; draws = b.draws; few = b.few; rises = b.rises; durable = b.durable; counts = rises_less p.numbers.refused m.numbers.refused k l le b.counts }
 
   -- one that counts a refusal for itself, and nothing behind it
   again_same : (used : ℕ) → IsBare used 1 p m → IsResting t m → IsAgain t p m
   again_same used b rests = record {
     rests = rests;
+    part = b.part;
     entries = b.entries;
     last = b.last;
     no_fault = b.no_fault;
@@ -81,6 +83,7 @@ module _ {X K : Type 0} (t : TableSight K) (p m r : PassSight X) where
   again_turned : (used : ℕ) → IsBare used 1 p m → HasGained t m r → IsAgain t p r
   again_turned used b g = let c = g.keeps.rises in record {
     rests = g.keeps.rests;
+    part = g.keeps.part ∙ b.part;
     entries = g.keeps.entries ∙ b.entries;
     last = g.keeps.last ∙ b.last;
     no_fault = g.no_fault ∙ b.no_fault;
@@ -97,6 +100,7 @@ module _ {X K : Type 0} (t : TableSight K) (p m r : PassSight X) where
   unserved k b f = (
     record {
       rests = f.keeps.rests;
+      part = f.keeps.part ∙ b.part;
       entries = f.keeps.entries ∙ b.entries;
       draws = record { used = 0; draws = ap (λ (n : ℕ). n + 0) f.keeps.left ∙ b.draws; few = omega arith };
       durable = kept_bare 0 k b f.keeps;
@@ -113,8 +117,9 @@ module _ {X : Type 0} (p m : PassSight X) (small : up_to_last p.numbers.refused 
   rises_of k is = omega arith
 
   -- only refusals are new
-  refused_bare : (k : ℕ) → (pass_view m).entries ≡ (pass_view p).entries → m.numbers ≡ with_refusals k p.numbers → IsBare 0 k p m
-  refused_bare k entries is = let n = ap (λ (x : PassNumbers). x.refused) is in record {
+  refused_bare : (k : ℕ) → (pass_view m).part ≡ (pass_view p).part → (pass_view m).entries ≡ (pass_view p).entries → m.numbers ≡ with_refusals k p.numbers → IsBare 0 k p m
+  refused_bare k part entries is = let n = ap (λ (x : PassNumbers). x.refused) is in record {
+    part = part;
     entries = entries;
     last = ap (λ (x : PassNumbers). x.last) is;
     no_fault = ap (λ (x : PassNumbers). x.met_fault) is;
@@ -128,7 +133,7 @@ module _ {X : Type 0} (p m : PassSight X) (small : up_to_last p.numbers.refused 
 -- ---- a full box
 module _ {X K : Type 0} (t : TableSight K) (seen : ℕ) (p m : PassSight X) (small : up_to_last p.numbers.refused ≡ p.numbers.refused) (h : IsRefused t seen p m) where
   full_bare : (b : Bool) → p.numbers.had_turn ≡ b → IsBare 0 (bit b) p m
-  full_bare b is = refused_bare p m small (bit b) (ap (λ (v : View). v.entries) h.looked.view) (h.numbers ∙ ap (λ (x : Bool). with_refusals (bit x) p.numbers) is)
+  full_bare b is = refused_bare p m small (bit b) (ap (λ (v : View). v.part) h.looked.view) (ap (λ (v : View). v.entries) h.looked.view) (h.numbers ∙ ap (λ (x : Bool). with_refusals (bit x) p.numbers) is)
 
   full_again : (r : PassSight X) → HasGained t m r → IsAgain t p r
   full_again r g = ⊎_elim
@@ -139,6 +144,7 @@ module _ {X K : Type 0} (t : TableSight K) (seen : ℕ) (p m : PassSight X) (sma
       let c = g.keeps.rises in
       record {
         rests = g.keeps.rests;
+        part = g.keeps.part ∙ b.part;
         entries = g.keeps.entries ∙ b.entries;
         last = g.keeps.last ∙ b.last;
         no_fault = g.no_fault ∙ b.no_fault;
@@ -161,7 +167,7 @@ module _ {X K : Type 0} (t : TableSight K) (seen : ℕ) (p m : PassSight X) (sma
 -- ---- a Stop
 module _ {X K : Type 0} (t : TableSight K) (e : Stop) (p m : PassSight X) (small : up_to_last p.numbers.refused ≡ p.numbers.refused) (h : HasStopped t e p m) where
   stop_bare : IsBare 0 h.refusals p m
-  stop_bare = refused_bare p m small h.refusals h.entries h.numbers
+  stop_bare = refused_bare p m small h.refusals h.part h.entries h.numbers
 
   stop_counts : (e2 : Stop) → e ≡ e2 → e2 ≢ stop.Wide → e2 ≢ stop.NoMemory → 1 ≤ h.refusals
   stop_counts (stop.Conflict lock seen) is a b = let c = subst (λ (x : Stop). counts (Some x) ≤ h.refusals) is h.counts_it in c
@@ -178,7 +184,7 @@ module _ {X K : Type 0} (t : TableSight K) (e : Stop) (p m : PassSight X) (small
   stop_try s file index q Again r a = again_counted t p m r 0 (stop_one a.0) h.rests a.1
   stop_try s file index q Device r a = unserved t p m r h.refusals stop_bare a
   stop_try s file index q NoMemory r a = subst (λ (y : PassSight X). IsUnserved 0 t p y × (y.numbers.met_fault ≡ p.numbers.met_fault)) (sym a)
-      (record { rests = h.rests; entries = h.entries; draws = record { used = 0; draws = stop_bare.draws; few = omega arith }; durable = (let d = stop_bare.durable in omega arith) }, stop_bare.no_fault)
+      (record { rests = h.rests; part = h.part; entries = h.entries; draws = record { used = 0; draws = stop_bare.draws; few = omega arith }; durable = (let d = stop_bare.durable in omega arith) }, stop_bare.no_fault)
 
 -- ---- a commit that was lost
 module _ {X K : Type 0} (t : TableSight K) (p m : PassSight X) (small : up_to_last p.numbers.refused ≡ p.numbers.refused) (left : 0 < p.numbers.left) where
@@ -189,8 +195,9 @@ module _ {X K : Type 0} (t : TableSight K) (p m : PassSight X) (small : up_to_la
       twice : up_to_last (up_to_last (p.numbers.refused + 1) + k) ≡ up_to_last (p.numbers.refused + (1 + k))
       twice = omega arith
 
-  lost_page : (k : ℕ) → m.numbers ≡ with_refusals k (with_refusals 1 p.numbers) → (pass_view m).entries ≡ (pass_view p).entries → IsBare 0 1 p m
-  lost_page k is entries = let n = lost_refused k p.numbers is refl in fewer t p m m 0 (1 + k) 1 (omega arith) (record {
+  lost_page : (k : ℕ) → m.numbers ≡ with_refusals k (with_refusals 1 p.numbers) → (pass_view m).part ≡ (pass_view p).part → (pass_view m).entries ≡ (pass_view p).entries → IsBare 0 1 p m
+  lost_page k is part entries = let n = lost_refused k p.numbers is refl in fewer t p m m 0 (1 + k) 1 (omega arith) (record {
+    part = part;
     entries = entries;
     last = ap (λ (x : PassNumbers). x.last) is;
     no_fault = ap (λ (x : PassNumbers). x.met_fault) is;
@@ -201,8 +208,9 @@ module _ {X K : Type 0} (t : TableSight K) (p m : PassSight X) (small : up_to_la
     counts = counts_of p m small (1 + k) n;
   })
 
-  lost_number : (k number : ℕ) → m.numbers ≡ with_refusals k (with_refusals 1 (after_draw number t.setup.boxes p.numbers)) → (pass_view m).entries ≡ (pass_view p).entries → IsBare 1 1 p m
-  lost_number k number is entries = let n = lost_refused k (after_draw number t.setup.boxes p.numbers) is refl in fewer t p m m 1 (1 + k) 1 (omega arith) (record {
+  lost_number : (k number : ℕ) → m.numbers ≡ with_refusals k (with_refusals 1 (after_draw number t.setup.boxes p.numbers)) → (pass_view m).part ≡ (pass_view p).part → (pass_view m).entries ≡ (pass_view p).entries → IsBare 1 1 p m
+  lost_number k number is part entries = let n = lost_refused k (after_draw number t.setup.boxes p.numbers) is refl in fewer t p m m 1 (1 + k) 1 (omega arith) (record {
+    part = part;
     entries = entries;
     last = ap (λ (x : PassNumbers). x.last) is;
     no_fault = ap (λ (x : PassNumbers). x.met_fault) is;
@@ -216,11 +224,11 @@ module _ {X K : Type 0} (t : TableSight K) (p m : PassSight X) (small : up_to_la
   pub lost_try : (l : Lost) (s : Sizes) (file index : ℕ) (q : Request) (x : Tried) (r : PassSight X) → WasLost t l p m → AfterLost t l x m r → AfterTry t s file index q x p r
   lost_try l s file index q (Done d) r h a = absurd a
   lost_try l s file index q NoMemory r h a = absurd a
-  lost_try (lost.Out page) s file index q Again r h a = again_counted t p m r 0 (lost_page h.refusals h.numbers h.entries) h.rests a
-  lost_try (lost.Busy page seen) s file index q Again r h a = again_counted t p m r 0 (lost_page h.refusals h.numbers h.entries) h.rests a
-  lost_try (lost.Conflict lock seen n) s file index q Again r h a = again_counted t p m r 1 (lost_number h.refusals n h.numbers h.entries) h.rests a
-  lost_try (lost.Out page) s file index q Device r h a = unserved t p m r 1 (lost_page h.refusals h.numbers h.entries) a.0
-  lost_try (lost.Busy page seen) s file index q Device r h a = unserved t p m r 1 (lost_page h.refusals h.numbers h.entries) a.0
+  lost_try (lost.Out page) s file index q Again r h a = again_counted t p m r 0 (lost_page h.refusals h.numbers h.part h.entries) h.rests a
+  lost_try (lost.Busy page seen) s file index q Again r h a = again_counted t p m r 0 (lost_page h.refusals h.numbers h.part h.entries) h.rests a
+  lost_try (lost.Conflict lock seen n) s file index q Again r h a = again_counted t p m r 1 (lost_number h.refusals n h.numbers h.part h.entries) h.rests a
+  lost_try (lost.Out page) s file index q Device r h a = unserved t p m r 1 (lost_page h.refusals h.numbers h.part h.entries) a.0
+  lost_try (lost.Busy page seen) s file index q Device r h a = unserved t p m r 1 (lost_page h.refusals h.numbers h.part h.entries) a.0
   lost_try (lost.Conflict lock seen n) s file index q Device r h a = absurd (a.1 lock seen n refl)
 
 -- ---- it was answered
@@ -231,8 +239,8 @@ done_try {X} {K} t s file index q d p r no_sync left h = by_wrote h.1.1 h.1.2
     answers = subst (λ (b : Bool). AnswersBy b t s file index q p r d) (sym no_sync) h.0
 
     by_wrote : (b : Bool) → r.numbers ≡ with_refusals h.1.0 (after_commit b (Ok d.number) t.setup.boxes p.numbers) → IsServing 1 t s file index q p r d
-    by_wrote true is = record { answers = answers; draws = record { used = 1; draws = (let l = ap (λ (x : PassNumbers). x.left) is in omega arith); few = omega arith }; no_fault = ap (λ (x : PassNumbers). x.met_fault) is; durable = (let d = ap (λ (x : PassNumbers). x.durable) is in omega arith) }
-    by_wrote false is = record { answers = answers; draws = record { used = 0; draws = (let l = ap (λ (x : PassNumbers). x.left) is in omega arith); few = omega arith }; no_fault = ap (λ (x : PassNumbers). x.met_fault) is; durable = (let d = ap (λ (x : PassNumbers). x.durable) is in omega arith) }
+    by_wrote true is = record { answers = answers; part = h.0.part; draws = record { used = 1; draws = (let l = ap (λ (x : PassNumbers). x.left) is in omega arith); few = omega arith }; no_fault = ap (λ (x : PassNumbers). x.met_fault) is; durable = (let d = ap (λ (x : PassNumbers). x.durable) is in omega arith) }
+    by_wrote false is = record { answers = answers; part = h.0.part; draws = record { used = 0; draws = (let l = ap (λ (x : PassNumbers). x.left) is in omega arith); few = omega arith }; no_fault = ap (λ (x : PassNumbers). x.met_fault) is; durable = (let d = ap (λ (x : PassNumbers). x.durable) is in omega arith) }
 
 -- ---- a `SYNC`
 module _ {X K : Type 0} (t : TableSight K) (p r : PassSight X) (small : up_to_last p.numbers.refused ≡ p.numbers.refused) where
@@ -240,6 +248,7 @@ module _ {X K : Type 0} (t : TableSight K) (p r : PassSight X) (small : up_to_la
   turn_again : KeepsRest t p r → r.numbers.met_fault ≡ p.numbers.met_fault → r.numbers.refused ≡ up_to_last (p.numbers.refused + 1) → IsAgain t p r
   turn_again k no_fault is = record {
     rests = k.rests;
+    part = k.part;
     entries = k.entries;
     last = k.last;
     no_fault = no_fault;

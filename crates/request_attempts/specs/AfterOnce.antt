@@ -18,6 +18,7 @@ use Rattle.request_attempts.specs.Served.{HasServed}
 -- A read or a write stopped it, and it made no entry. A page that was out exists, and there was room for all writes
 pub record HasStopped {X K : Type 0} (t : TableSight K) (e : Stop) (p r : PassSight X) : Type 0 where
   pub rests : IsResting t r
+  pub part : (pass_view r).part ≡ (pass_view p).part
   pub entries : (pass_view r).entries ≡ (pass_view p).entries
   -- so many refusals were counted, the last one for this Stop
   pub refusals : ℕ
@@ -29,6 +30,7 @@ pub record HasStopped {X K : Type 0} (t : TableSight K) (e : Stop) (p r : PassSi
 -- Its commit was lost, and it made no entry. A page that was out exists
 pub record WasLost {X K : Type 0} (t : TableSight K) (l : LostOf) (p r : PassSight X) : Type 0 where
   pub rests : IsResting t r
+  pub part : (pass_view r).part ≡ (pass_view p).part
   pub entries : (pass_view r).entries ≡ (pass_view p).entries
   -- so many refusals were counted in front of the loss
   pub refusals : ℕ

@@ -36,16 +36,19 @@ pub record DrawsUpTo {X : Type 0} (most : ℕ) (p r : PassSight X) : Type 0 wher
   pub draws : r.numbers.left + used ≡ p.numbers.left
   pub few : used ≤ most
 
--- The request was answered, at most so many numbers were drawn, no fault was met, and the durable number didn't fall
+-- The request was answered by the pass, which is whose it was; at most so many numbers were drawn, no fault was met, and the durable
+-- number didn't fall
 pub record IsServing {X K : Type 0} (most : ℕ) (t : TableSight K) (s : Sizes) (file index : ℕ) (q : Request) (p r : PassSight X) (d : DoneOf) : Type 0 where
   pub answers : AnswersBy (is_sync q) t s file index q p r d
+  pub part : (pass_view r).part ≡ (pass_view p).part
   pub draws : DrawsUpTo most p r
   pub no_fault : r.numbers.met_fault ≡ p.numbers.met_fault
   pub durable : p.numbers.durable ≤ r.numbers.durable
 
--- It wasn't: no entry is new, and the durable number didn't fall
+-- It wasn't: the pass is whose it was, no entry is new, and the durable number didn't fall
 pub record IsUnserved {X K : Type 0} (most : ℕ) (t : TableSight K) (p r : PassSight X) : Type 0 where
   pub rests : IsResting t r
+  pub part : (pass_view r).part ≡ (pass_view p).part
   pub entries : (pass_view r).entries ≡ (pass_view p).entries
   pub draws : DrawsUpTo most p r
   pub durable : p.numbers.durable ≤ r.numbers.durable
@@ -58,6 +61,7 @@ pub record IsGivenUp {X K : Type 0} (t : TableSight K) (p r : PassSight X) : Typ
 -- A try that made no entry and is to be made again
 pub record IsAgain {X K : Type 0} (t : TableSight K) (p r : PassSight X) : Type 0 where
   pub rests : IsResting t r
+  pub part : (pass_view r).part ≡ (pass_view p).part
   pub entries : (pass_view r).entries ≡ (pass_view p).entries
   pub last : r.numbers.last ≡ p.numbers.last
   pub no_fault : r.numbers.met_fault ≡ p.numbers.met_fault
@@ -70,6 +74,7 @@ pub record IsAgain {X K : Type 0} (t : TableSight K) (p r : PassSight X) : Type 
 -- So many tries were made again, and the request isn't given up yet
 pub record HasTried {X K : Type 0} (k : ℕ) (t : TableSight K) (p q : PassSight X) : Type 0 where
   pub rests : IsResting t q
+  pub part : (pass_view q).part ≡ (pass_view p).part
   pub entries : (pass_view q).entries ≡ (pass_view p).entries
   pub last : q.numbers.last ≡ p.numbers.last
   pub no_fault : q.numbers.met_fault ≡ p.numbers.met_fault

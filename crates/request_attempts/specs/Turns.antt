@@ -6,9 +6,10 @@ use Rattle.stm_passes.specs.Passes.{PassSight, IsResting, pass_view}
 use Rattle.request_attempts.specs.declared.turn_fault.TurnFault.{TurnFault}
 use Rattle.request_attempts.specs.declared.turn_fault.TurnFault.TheVariants.{Refused, Fault}
 
--- No entry and no draw is new, refusals only grow, and the durable number doesn't fall
+-- The pass is whose it was; no entry and no draw is new, refusals only grow, and the durable number doesn't fall
 pub record KeepsRest {X K : Type 0} (t : TableSight K) (p q : PassSight X) : Type 0 where
   pub rests : IsResting t q
+  pub part : (pass_view q).part ≡ (pass_view p).part
   pub entries : (pass_view q).entries ≡ (pass_view p).entries
   pub last : q.numbers.last ≡ p.numbers.last
   pub left : q.numbers.left ≡ p.numbers.left

@@ -111,14 +111,15 @@ module _ (z : Setup) (f : PassNumbers) (v : View) (t : Describes z f v) where
 -- what all ends leave
 pub record LeavesIdle (v w : View) : Type 0 where
   pub idle : IsIdle w
+  pub part : w.part ≡ v.part
   pub turn : w.turn ≡ v.turn
   pub entries : w.entries ≡ v.entries
 
 module _ (z : Setup) (f : PassNumbers) (v : View) (t : Describes z f v) (snapshot : ℕ) (reads : List (ℕ × ℕ)) (ws : List Write) where
   pub lost_leaves : (l : Lost) (w : View) → IsLost z f.thread snapshot reads ws l v w → LeavesIdle v w
-  lost_leaves (Out page) w h = record { idle = h.ended.idle; turn = h.ended.turn; entries = h.ended.entries }
-  lost_leaves (Busy page seen) w h = record { idle = h.ended.idle; turn = h.ended.turn; entries = h.ended.entries }
-  lost_leaves (Conflict lock seen n) w h = record { idle = h.idle; turn = h.turn; entries = h.entries }
+  lost_leaves (Out page) w h = record { idle = h.ended.idle; part = h.ended.part; turn = h.ended.turn; entries = h.ended.entries }
+  lost_leaves (Busy page seen) w h = record { idle = h.ended.idle; part = h.ended.part; turn = h.ended.turn; entries = h.ended.entries }
+  lost_leaves (Conflict lock seen n) w h = record { idle = h.idle; part = h.part; turn = h.turn; entries = h.entries }
 
   pub describes_lost : (b : Bool) (l : Lost) (w : View) → IsLost z f.thread snapshot reads ws l v w → Describes z (after_commit b (Err l) z.boxes f) w
   describes_lost true (Out page) w h = refused_describes z f w (describes_ended z f v t w h.ended) 1

@@ -24,12 +24,13 @@ module _ {S X K P R : Type 0} {g : Ghosts R} where
   abbrev pub HasDrawLeft : TxOver S X K P R g → Type 0
   HasDrawLeft t = 0 < length (tx_writes t) → 0 < (tx_numbers t).left
 
-  -- The pass has one entry more, of what is done
+  -- The pass is whose it was, and has one entry more, of what is done
   pub record HasCommitted (file index : ℕ) (q : Request) (r : Reply) (t : TxOver S X K P R g) (p : PassSight X) (d : Done) : Type 0 where
     pub rests : IsResting (tx_table t) p
     pub done : d ≡ record { file = file; index = index; number = d.number; wrote = has_writes (tx_writes t); request = q; reply = r }
     pub entries : (pass_view p).entries ≡ (tx_view t).entries ++ entry_of d (tx_reads t) (tx_writes t) ∷ []
     pub drawn : (pass_view p).drawn ≡ (tx_view t).drawn ++ drawn_for (tx_writes t) d.number
+    pub part : (pass_view p).part ≡ (tx_view t).part
     pub turn : (pass_view p).turn ≡ (tx_view t).turn
     pub last : (tx_numbers t).last ≤ d.number
     pub over : 0 < length (tx_writes t) → (tx_numbers t).last < d.number
@@ -40,6 +41,7 @@ module _ {S X K P R : Type 0} {g : Ghosts R} where
     pub rests : IsResting (tx_table t) p
     pub some : 0 < length (tx_writes t)
     pub entries : (pass_view p).entries ≡ (tx_view t).entries
+    pub part : (pass_view p).part ≡ (tx_view t).part
     pub turn : (pass_view p).turn ≡ (tx_view t).turn
     pub why : IsLost (tx_table t).setup t.numbers.thread t.snapshot (tx_reads t) (tx_writes t) l (tx_view t) (pass_view p)
     pub numbers : p.numbers ≡ with_refusals (tx_refused t) (after_commit (has_writes (tx_writes t)) (Err l) (tx_table t).setup.boxes (tx_numbers t))

@@ -35,6 +35,7 @@ returns-clause-ok g c = if_ok c.done_of-done.result _ _ _ c.done_of-done.ensures
       done = done;
       entries = h.entries ∙ ap (λ (x : Done). v.entries ++ entry_of x reads ws ∷ []) (sym done);
       drawn = h.drawn;
+      part = h.part;
       turn = h.turn;
       last = (let u = greatest_upto z.first v.entries d.number h.from h.upto in let l = t.describes.last in omega arith);
       over = λ some. (let u = greatest_under z.first v.entries d.number (h.over some).0 (h.over some).1 in let l = t.describes.last in omega arith);
@@ -61,6 +62,7 @@ returns-clause-err g c = if_err c.done_of-done.result _ _ _ c.done_of-done.ensur
       rests = rests_with t.stm.now.events s t.refused n v c.commit_all-answer.ensures.stays.belongs leaves.idle leaves.turn t.running.no_turn (describes_lost z t.numbers v t.describes t.snapshot reads ws (has_writes ws) l w h);
       some = some;
       entries = leaves.entries;
+      part = leaves.part;
       turn = leaves.turn;
       why = h;
       numbers = refl;
