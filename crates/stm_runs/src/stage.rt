@@ -1,0 +1,214 @@
+//! Running transactions, and all their passes.
+
+ghost use Rattle.std.proofs.Props.{props};
+ghost use Rattle.tiny_stm.specs.Tables.{table_of};
+ghost use Rattle.core_events.specs.Telling.{HasAll};
+ghost use Rattle.stm_passes.specs.Passes.{IsResting, pass_view};
+ghost use Rattle.stm_runs.specs.Kept.{AreHeld};
+
+use crate::acting::act_by;
+use crate::moves::{Access, Act, Move};
+use crate::outcome::{Answer, Ended, Outcome};
+use crate::settings::Settings;
+use crate::transacting::{Around, transact_around};
+use image_opening::Opened;
+use pmem_fake::MemPmem;
+use std::alloc::Global;
+use tiny_stm::closed::Closed;
+use tiny_stm::stm::{Pass, Stm};
+use tiny_stm::stm_fault::StmFault;
+
+/// Running transactions, and all their passes.
+pub struct Stage {
+    alloc: Global,
+    stm: Stm<MemPmem>,
+    first: Pass,
+    others: Vec<Pass>,
+    ghost held: { AreHeld (table_of stm) first others.items } by { Prim.hlevel props },
+}
+
+impl Stage {
+    ghost use Rattle.std.specs.Prelude.{◌<◌, length};
+    ghost use Rattle.tiny_stm.specs.Started.{IsAtRest};
+
+    /// Transactions begin to run over an image.
+    pub fn over(alloc: Global, opened: Opened<MemPmem>, settings: &Settings) -> Result<Stage, StmFault>
+        requires { IsAtRest opened.back opened.words.items opened.number }
+    {
+        let Opened {
+            back,
+            lay: _,
+            sizes: _,
+            words,
+            number,
+        } = opened;
+        match Stm::new(alloc, back, words, number, &settings.run, settings.threads) {
+            Ok((stm, first)) => Ok(Stage {
+                alloc,
+                stm,
+                first,
+                others: Vec::new(alloc),
+            }),
+            Err((fault, _, _)) => Err(fault),
+        }
+    }
+
+    /// A pass, where it is there.
+    pub fn pass(&self, who: u64) -> Option<&Pass> {
+        match who {
+            0 => Some(&self.first),
+            _ => self.others.get((who - 1) as usize),
+        }
+    }
+
+    /// Has passes do this, and keeps what they read.
+    pub fn play(&mut self, made: &Move, seen: &mut Vec<(u64, u64)>) -> Outcome {
+        match made {
+            Move::Split(draws) => {
+                split_off(&self.stm, &mut self.first, &mut self.others, *draws)
+            }
+            Move::Join => join_last(&self.stm, &mut self.first, &mut self.others),
+            Move::One { who, act } => match self.act(*who, act, seen) {
+                Some(answer) => Outcome::One(answer),
+                None => Outcome::Nothing,
+            },
+            Move::Around {
+                who,
+                before,
+                other,
+                act,
+                after,
+            } => {
+                let around = Around { before, act, after };
+                self.around(*who, *other, &around, seen)
+            }
+        }
+    }
+
+
+    // Has one pass do something.
+    fn act(&mut self, who: u64, act: &Act, seen: &mut Vec<(u64, u64)>) -> Option<Answer> {
+        if who == 0 {
+            return Some(act_by(&self.stm, &mut self.first, self.alloc, act, seen));
+        }
+        let k = (who - 1) as usize;
+        if k >= self.others.len() {
+            return None;
+        }
+        Some(act_by(&self.stm, &mut self.others[k], self.alloc, act, seen))
+    }
+
+    // Has one pass do something between accesses of another one; one of them is the first pass.
+    fn around(
+        &mut self,
+        who: u64,
+        other: u64,
+        around: &Around,
+        seen: &mut Vec<(u64, u64)>,
+    ) -> Outcome {
+        let k = (who.max(other).saturating_sub(1)) as usize;
+        if who.min(other) != 0 || who == other || k >= self.others.len() {
+            return Outcome::Nothing;
+        }
+        let (answer, ended) = if who == 0 {
+            self.first_around(k, around, seen)
+        } else {
+            self.other_around(k, around, seen)
+        };
+        Outcome::Around(answer, ended)
+    }
+
+    fn first_around(
+        &mut self,
+        k: usize,
+        around: &Around,
+        seen: &mut Vec<(u64, u64)>,
+    ) -> (Option<Answer>, Ended)
+        requires { k < length self.old.others.items }
+    {
+        let other = &mut self.others[k];
+        transact_around(&self.stm, &mut self.first, other, self.alloc, around, seen)
+    }
+
+    fn other_around(
+        &mut self,
+        k: usize,
+        around: &Around,
+        seen: &mut Vec<(u64, u64)>,
+    ) -> (Option<Answer>, Ended)
+        requires { k < length self.old.others.items }
+    {
+        let other = &mut self.others[k];
+        transact_around(&self.stm, other, &mut self.first, self.alloc, around, seen)
+    }
+
+    /// Joins all passes, and closes.
+    pub fn close(self) -> Closed<MemPmem> {
+        let Stage {
+            alloc: _,
+            stm,
+            mut first,
+            others,
+        } = self;
+        join_all(&stm, &mut first, others);
+        stm.close(first)
+    }
+}
+
+/// The first pass gives so many draws to a new one.
+fn split_off(
+    stm: &Stm<MemPmem>,
+    first: &mut Pass,
+    others: &mut Vec<Pass>,
+    draws: u64,
+) -> Outcome
+    requires { AreHeld (table_of stm.now) first.old others.old.items }
+    ensures { AreHeld (table_of stm.now) first.new others.new.items }
+{
+    if draws > first.left() || others.reserve(1).is_err() {
+        return Outcome::Nothing;
+    }
+    match stm.split(first, draws) {
+        Ok(pass) => {
+            let new = pass.left();
+            others.push_reserved(pass);
+            Outcome::Split {
+                left: first.left(),
+                new,
+            }
+        }
+        Err(fault) => Outcome::NoSplit(fault),
+    }
+}
+
+/// The last pass is joined into the first one.
+fn join_last(stm: &Stm<MemPmem>, first: &mut Pass, others: &mut Vec<Pass>) -> Outcome
+    requires { AreHeld (table_of stm.now) first.old others.old.items }
+    ensures { AreHeld (table_of stm.now) first.new others.new.items }
+{
+    match others.pop() {
+        Some(other) => {
+            stm.join(first, other);
+            Outcome::Joined
+        }
+        None => Outcome::Nothing,
+    }
+}
+
+/// Joins all other passes into the first one.
+fn join_all(stm: &Stm<MemPmem>, first: &mut Pass, others: Vec<Pass>)
+    requires { AreHeld (table_of stm.now) first.old others.items }
+    ensures rests { IsResting (table_of stm.now) first.new }
+    ensures all { HasAll (table_of stm.now).setup (pass_view first.new) }
+{
+    let mut others = others;
+    while let Some(other) = others.pop() {
+        stm.join(first, other);
+    }
+}
+
+impl Drop for Stage {
+    fn drop(self) {
+        let _closed = self.close();
+    }
+}
