@@ -1,9 +1,10 @@
 -- All passes of a run are held, whatever one of them does.
-use Rattle.std.proofs.Common.{◌≡◌, ℕ, ◌+◌, ◌-◌, ◌<◌, ◌≤◌, List, [], ◌∷◌, ◌++◌, length, length-append, append-nil, refl, sym, ap, ◌∙◌, subst, arith}
+use Rattle.std.proofs.Common.{◌≡◌, ℕ, ◌+◌, ◌-◌, ◌<◌, ◌≤◌, List, [], ◌∷◌, ◌++◌, get_or, length, length-append, append-nil, refl, sym, ap, ◌∙◌, subst, arith}
 use Rattle.std.specs.Prelude.{Option, Some, slice_set}
 use Rattle.std.specs.List.{All}
 use Rattle.std.proofs.Math.ListN.{set}
-use Rattle.std.proofs.lemmas.List.Elements.{All-nil, All-pop, All-push, All-set}
+use Rattle.std.proofs.lemmas.List.{length-set}
+use Rattle.std.proofs.lemmas.List.Elements.{All-get_or, All-nil, All-pop, All-push, All-set}
 use Rattle.core_events.specs.Events.{number, view_after}
 use Rattle.core_events.specs.Keyed.{one_if}
 use Rattle.core_events.specs.KeptThreads.{held_of}
@@ -55,11 +56,8 @@ module _ {X K : Type 0} (t : TableSight K) where
   others_on first p q others k h o s = record {
     held = h.held;
     each = All-set (IsOther t) others k q (other_on p q o s) h.each;
-    share = ap (λ (n : ℕ). share_of (pass_view first) + n) (same_length others k q) ∙ h.share;
+    share = ap (λ (n : ℕ). share_of (pass_view first) + n) (length-set others k q) ∙ h.share;
   }
-    where
-      same_length : (xs : List (PassSight X)) (i : ℕ) (y : PassSight X) → length (set xs i y) ≡ length xs
-      same_length xs i y = grind arith
 
   -- ---- a pass is split off, or joined
   pub split_on : (draws : ℕ) (p q r : PassSight X) (others : List (PassSight X)) → AreHeld t p others → IsSplitOff t draws p q r → AreHeld t q (others ++ r ∷ [])
@@ -97,6 +95,15 @@ module _ {X K : Type 0} (t : TableSight K) where
 
   pub join_none : (p : PassSight X) (all others : List (PassSight X)) → all ≡ others ++ [] → AreHeld t p all → AreHeld t p others
   join_none p all others is h = subst (λ (xs : List (PassSight X)). AreHeld t p xs) (is ∙ append-nil others) h
+
+  pub last_rests : (p r : PassSight X) (all others : List (PassSight X)) → all ≡ others ++ r ∷ [] → AreHeld t p all → IsResting t r
+  last_rests p r all others is h =
+      let parts : All (IsOther t) others × IsOther t r = All-pop (IsOther t) all others (Some r) is h.each in
+      let other : IsOther t r = parts.1 in
+      rests r other.held
+
+  pub other_rests : (first : PassSight X) (others : List (PassSight X)) (k : ℕ) (d : PassSight X) → k < length others → AreHeld t first others → IsResting t (get_or others k d)
+  other_rests first others k d lt h = let o : IsOther t (get_or others k d) = All-get_or (IsOther t) others k d lt h.each in rests (get_or others k d) o.held
 
   -- ---- the beginning and the end
   pub begun : (p : PassSight X) → 1 ≤ t.setup.threads → IsFirstPass t p → AreHeld t p []

@@ -1,0 +1,9 @@
+use Rattle.std.proofs.Common.{◌++◌, ◌∷◌, [], List, sym, subst}
+use Rattle.stm_passes.specs.Passes.{PassSight}
+use Rattle.tiny_stm.specs.Tables.{table_of}
+use Rattle.stm_runs.specs.Kept.{AreHeld}
+use Rattle.stm_runs.proofs.Held.{split_on}
+use Rattle.stm_runs.proofs.stage.split_off.Goals as goal
+
+pub returns-in-Ok : goal.returns-in-Ok
+returns-in-Ok c = rw c.push_reserved.ensures.items (split_on (table_of c.args.stm.now) c.args.draws c.args.first.now c.split.new.p c.in-Ok.pass c.args.others.now.items c.requires c.in-Ok.ensures.ok)
