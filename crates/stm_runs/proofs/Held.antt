@@ -105,6 +105,9 @@ module _ {X K : Type 0} (t : TableSight K) where
   pub other_rests : (first : PassSight X) (others : List (PassSight X)) (k : ℕ) (d : PassSight X) → k < length others → AreHeld t first others → IsResting t (get_or others k d)
   other_rests first others k d lt h = let o : IsOther t (get_or others k d) = All-get_or (IsOther t) others k d lt h.each in rests (get_or others k d) o.held
 
+  pub at_rests : (first : PassSight X) (others : List (PassSight X)) (k : ℕ) (x : PassSight X) → k < length others → x ≡ get_or others k x → AreHeld t first others → IsResting t x
+  at_rests first others k x lt is h = subst (λ (p : PassSight X). IsResting t p) (sym is) (other_rests first others k x lt h)
+
   -- ---- the beginning and the end
   pub begun : (p : PassSight X) → 1 ≤ t.setup.threads → IsFirstPass t p → AreHeld t p []
   begun p some f = record {

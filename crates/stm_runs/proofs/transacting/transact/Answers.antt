@@ -15,7 +15,7 @@ commit-requires c =
     let left = ap (λ (f : PassNumbers). f.left) (numbers c.steps.result.now.events c.args.p.now c.args.p.now c.in-Ok.tx c.access_all.new.w c.in-Ok.ensures.begun turns) in
     let was = c.left.ensures in
     let some = c.if-left-eq0.false in
-    λ _. omega arith
+    record { draws = λ _. omega arith }
 
 pub returns-in-Err-access_all : goal.returns-in-Err-access_all
 returns-in-Err-access_all c =

@@ -12,11 +12,11 @@ use Rattle.stm_runs.proofs.transacting.transact_around.Goals as goal
 pub commit-requires : goal.commit-requires
 commit-requires c =
     let first = c.access_all.ensures c.in-Ok.tx (turns_begin c.in-Ok.tx) in
-    let turns = c.access_all-2.ensures c.in-Ok.tx first in
-    let left = ap (λ (f : PassNumbers). f.left) (numbers c.steps.result.now.events c.args.p.now c.args.p.now c.in-Ok.tx c.access_all-2.new.w c.in-Ok.ensures.begun turns) in
+    let turns = c.access_all-in-Ok-access_all.ensures c.in-Ok.tx first in
+    let left = ap (λ (f : PassNumbers). f.left) (numbers c.steps.result.now.events c.args.p.now c.args.p.now c.in-Ok.tx c.access_all-in-Ok-access_all.new.w c.in-Ok.ensures.begun turns) in
     let was = c.left.ensures in
     let some = c.if-left-eq0.false in
-    λ _. omega arith
+    record { draws = λ _. omega arith }
 
 pub returns-in-Err-access_all-clause-stays : goal.returns-in-Err-access_all-clause-stays
 returns-in-Err-access_all-clause-stays c =
@@ -30,26 +30,26 @@ returns-in-Err-access_all-clause-stays c =
 pub returns-in-Err-access_all-2-clause-stays : goal.returns-in-Err-access_all-2-clause-stays
 returns-in-Err-access_all-2-clause-stays c =
     let first = c.access_all.ensures c.in-Ok.tx (turns_begin c.in-Ok.tx) in
-    let turns = c.access_all-2.ensures c.in-Ok.tx first in
-    let tie : c.p-in-Err-access_all-2-1.given.0 ≡ c.drop-tx.new.self.0 = c.p-in-Err-access_all-2-1.given.1 (sym (turns.same_pass ∙ c.in-Ok.ensures.same)) in
+    let turns = c.access_all-in-Ok-access_all.ensures c.in-Ok.tx first in
+    let tie : c.p-in-Err-access_all-2-1.given.0 ≡ c.drop-tx-in-Err-access_all-2.new.self.0 = c.p-in-Err-access_all-2-1.given.1 (sym (turns.same_pass ∙ c.in-Ok.ensures.same)) in
     subst (λ (t : TableSight _). StaysWith t c.args.p.now c.p-in-Err-access_all-2-1.given.0) c.steps.ensures
-    (aborted c.steps.result.now.events c.args.p.now c.p-in-Err-access_all-2-1.given.0 c.in-Ok.tx c.access_all-2.new.w c.in-Ok.ensures.begun turns
-    (subst (λ (x : PassSight _). HasAborted c.access_all-2.new.w x) (sym tie) c.drop-tx.ensures))
+    (aborted c.steps.result.now.events c.args.p.now c.p-in-Err-access_all-2-1.given.0 c.in-Ok.tx c.access_all-in-Ok-access_all.new.w c.in-Ok.ensures.begun turns
+    (subst (λ (x : PassSight _). HasAborted c.access_all-in-Ok-access_all.new.w x) (sym tie) c.drop-tx-in-Err-access_all-2.ensures))
 
 pub returns-in-Ok-commit-clause-stays : goal.returns-in-Ok-commit-clause-stays
 returns-in-Ok-commit-clause-stays c =
     let first = c.access_all.ensures c.in-Ok.tx (turns_begin c.in-Ok.tx) in
-    let turns = c.access_all-2.ensures c.in-Ok.tx first in
+    let turns = c.access_all-in-Ok-access_all.ensures c.in-Ok.tx first in
     let tie : c.p-in-Ok-access_all-2-1.given.0 ≡ c.commit.new.self.0 = c.p-in-Ok-access_all-2-1.given.1 (sym (turns.same_pass ∙ c.in-Ok.ensures.same)) in
     subst (λ (t : TableSight _). StaysWith t c.args.p.now c.p-in-Ok-access_all-2-1.given.0) c.steps.ensures
-    (committed c.steps.result.now.events c.args.p.now c.p-in-Ok-access_all-2-1.given.0 c.in-Ok.tx c.access_all-2.new.w c.in-Ok.ensures.begun turns 0 0 _ _ c.in-Ok-commit.done
-    (subst (λ (x : PassSight _). HasCommitted 0 0 _ _ c.access_all-2.new.w x c.in-Ok-commit.done) (sym tie) c.in-Ok-commit.ensures.ok))
+    (committed c.steps.result.now.events c.args.p.now c.p-in-Ok-access_all-2-1.given.0 c.in-Ok.tx c.access_all-in-Ok-access_all.new.w c.in-Ok.ensures.begun turns 0 0 _ _ c.in-Ok-commit.done
+    (subst (λ (x : PassSight _). HasCommitted 0 0 _ _ c.access_all-in-Ok-access_all.new.w x c.in-Ok-commit.done) (sym tie) c.in-Ok-commit.ensures.ok))
 
 pub returns-in-Err-commit-clause-stays : goal.returns-in-Err-commit-clause-stays
 returns-in-Err-commit-clause-stays c =
     let first = c.access_all.ensures c.in-Ok.tx (turns_begin c.in-Ok.tx) in
-    let turns = c.access_all-2.ensures c.in-Ok.tx first in
+    let turns = c.access_all-in-Ok-access_all.ensures c.in-Ok.tx first in
     let tie : c.p-in-Ok-access_all-2-1.given.0 ≡ c.commit.new.self.0 = c.p-in-Ok-access_all-2-1.given.1 (sym (turns.same_pass ∙ c.in-Ok.ensures.same)) in
     subst (λ (t : TableSight _). StaysWith t c.args.p.now c.p-in-Ok-access_all-2-1.given.0) c.steps.ensures
-    (lost c.steps.result.now.events c.args.p.now c.p-in-Ok-access_all-2-1.given.0 c.in-Ok.tx c.access_all-2.new.w c.in-Ok.ensures.begun turns c.in-Err-commit.lost
-    (subst (λ (x : PassSight _). HasLostCommit c.access_all-2.new.w x c.in-Err-commit.lost) (sym tie) c.in-Err-commit.ensures.err))
+    (lost c.steps.result.now.events c.args.p.now c.p-in-Ok-access_all-2-1.given.0 c.in-Ok.tx c.access_all-in-Ok-access_all.new.w c.in-Ok.ensures.begun turns c.in-Err-commit.lost
+    (subst (λ (x : PassSight _). HasLostCommit c.access_all-in-Ok-access_all.new.w x c.in-Err-commit.lost) (sym tie) c.in-Err-commit.ensures.err))
