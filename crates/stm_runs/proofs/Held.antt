@@ -31,7 +31,7 @@ part_share o e f s u n h = let l = length-append e (n ∷ f) in omega (arith, l,
 both_share : (v w : View) (n : ℕ) → w.part.thread ≡ Some n → share_of w ≡ 1 → share_of (both_of v w) ≡ share_of v + 1
 both_share v w n its alone =
     let P : Option ℕ → Type 0 = λ (t : Option ℕ). one_if t + length w.part.ended + w.part.splits ≡ 1
-        → one_if v.part.thread + length (v.part.ended ++ (thread_list t ++ w.part.ended)) + (v.part.splits + (w.part.splits + (1 - one_if t))) ≡ share_of v + 1 in
+    → one_if v.part.thread + length (v.part.ended ++ (thread_list t ++ w.part.ended)) + (v.part.splits + (w.part.splits + (1 - one_if t))) ≡ share_of v + 1 in
     subst P (sym its) (part_share v.part.thread v.part.ended w.part.ended v.part.splits w.part.splits n) alone
 
 module _ {X K : Type 0} (t : TableSight K) where
@@ -65,12 +65,12 @@ module _ {X K : Type 0} (t : TableSight K) where
     held = holds q s.rests;
     each = All-push (IsOther t) others r h.each alone;
     share =
-      let had : share_of (pass_view p) + length others ≡ t.setup.threads = h.share in
-      let some : 0 < (pass_view p).part.splits = subst (λ (n : ℕ). 0 < n) (sym (rests p h.held).numbers.splits) s.some in
-      let left : (pass_view q).part.splits ≡ (pass_view p).part.splits - 1 = ap (λ (v : View). v.part.splits) s.view in
-      let kept : held_of (pass_view q).part ≡ held_of (pass_view p).part = ap (λ (v : View). held_of v.part) s.view in
-      let long : length (others ++ r ∷ []) ≡ length others + 1 = length-append others (r ∷ []) in
-      omega (arith, had, some, left, kept, long);
+        let had : share_of (pass_view p) + length others ≡ t.setup.threads = h.share in
+        let some : 0 < (pass_view p).part.splits = subst (λ (n : ℕ). 0 < n) (sym (rests p h.held).numbers.splits) s.some in
+        let left : (pass_view q).part.splits ≡ (pass_view p).part.splits - 1 = ap (λ (v : View). v.part.splits) s.view in
+        let kept : held_of (pass_view q).part ≡ held_of (pass_view p).part = ap (λ (v : View). held_of v.part) s.view in
+        let long : length (others ++ r ∷ []) ≡ length others + 1 = length-append others (r ∷ []) in
+        omega (arith, had, some, left, kept, long);
   }
     where
       alone : IsOther t r
@@ -81,10 +81,10 @@ module _ {X K : Type 0} (t : TableSight K) where
     held = holds q j.rests;
     each = parts.0;
     share =
-      let had : share_of (pass_view p) + length all ≡ t.setup.threads = h.share in
-      let more : share_of (pass_view q) ≡ share_of (pass_view p) + 1 = ap share_of j.view ∙ both_share (pass_view p) (pass_view r) r.numbers.thread (rests r other.held).numbers.of.its other.alone in
-      let long : length all ≡ length others + 1 = ap (λ (xs : List (PassSight X)). length xs) is ∙ length-append others (r ∷ []) in
-      omega (arith, had, more, long);
+        let had : share_of (pass_view p) + length all ≡ t.setup.threads = h.share in
+        let more : share_of (pass_view q) ≡ share_of (pass_view p) + 1 = ap share_of j.view ∙ both_share (pass_view p) (pass_view r) r.numbers.thread (rests r other.held).numbers.of.its other.alone in
+        let long : length all ≡ length others + 1 = ap (λ (xs : List (PassSight X)). length xs) is ∙ length-append others (r ∷ []) in
+        omega (arith, had, more, long);
   }
     where
       parts : All (IsOther t) others × IsOther t r

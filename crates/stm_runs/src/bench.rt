@@ -102,7 +102,10 @@ impl Bench {
         };
         let (count, pages) = (image.len(), sizes.pages);
         let home = count.saturating_sub(pages.saturating_mul(PAGE) as usize);
-        self.home = image.get(home..).unwrap_or_default().to_vec(self.rt.alloc())?;
+        self.home = image
+            .get(home..)
+            .unwrap_or_default()
+            .to_vec(self.rt.alloc())?;
         self.opening = calls_of_opening(self.rt.alloc(), &image).unwrap_or(0);
         self.image = image;
         println!(self.rt; "{count} words, {pages} pages")

@@ -23,7 +23,9 @@ pub fn say_closed(
     } = closed;
     let (durable, reproduced) = (back.durable(), back.reproduced());
     let state = if back.is_dead() { "dead" } else { "alive" };
-    println!(rt; "closed at {number}: durable {durable}, reproduced {reproduced}, the back is {state}")?;
+    println!(rt;
+        "closed at {number}: durable {durable}, reproduced {reproduced}, the back is {state}"
+    )?;
     for posted in &rest {
         say_posted(rt, posted)?;
     }
@@ -80,7 +82,9 @@ fn say_calls(rt: HostRuntime, medium: &MemPmem, began: u64) -> io::Result<()> {
     }
     let [reads, puts, flushes, fences, tells] = counts;
     let calls = medium.now().saturating_sub(began);
-    print!(rt; "{calls} calls: {reads} reads, {puts} puts, {flushes} flushes, {fences} fences, {tells} tells")?;
+    print!(rt;
+        "{calls} calls: {reads} reads, {puts} puts, {flushes} flushes, {fences} fences, {tells} tells"
+    )?;
     match told {
         Some(number) => println!(rt; ", the last one of {number}"),
         None => rt.println(""),

@@ -38,7 +38,11 @@ struct Left {
 /// Makes the moves where this call fails.
 fn left_by(alloc: Global, ground: &Ground, failing: Failing) -> Option<Left> {
     let failing = Failing {
-        call: if failing.call == 0 { 0 } else { ground.opening.saturating_add(failing.call) },
+        call: if failing.call == 0 {
+            0
+        } else {
+            ground.opening.saturating_add(failing.call)
+        },
         late: failing.late,
     };
     let opened = opened(alloc, ground.image, failing)?;
@@ -138,7 +142,11 @@ fn say_failure(rt: HostRuntime, failure: Option<Failure>) -> io::Result<()> {
     let Some(failure) = failure else {
         return rt.println("nothing");
     };
-    let last = if failure.is_last { "the last one" } else { "not the last one" };
+    let last = if failure.is_last {
+        "the last one"
+    } else {
+        "not the last one"
+    };
     let state = if failure.is_dead { "dead" } else { "alive" };
     let (device, dead) = (failure.device, failure.dead);
     let (number, told) = (failure.number, failure.told);
@@ -164,8 +172,12 @@ pub fn say_moments(rt: HostRuntime, ground: &Ground) -> io::Result<()> {
     let mut before = None;
     for moment in ground.opening..=left.medium.now() {
         let told = told_by(&left.medium, moment, false);
-        let settled = left.commits.judge(ground.home, &left.medium, moment, false, false);
-        let later = left.commits.judge(ground.home, &left.medium, moment, true, false);
+        let settled = left
+            .commits
+            .judge(ground.home, &left.medium, moment, false, false);
+        let later = left
+            .commits
+            .judge(ground.home, &left.medium, moment, true, false);
         if before != Some((told, settled, later)) {
             let call = moment.saturating_sub(ground.opening);
             print!(rt; "from call {call} on: told {told},")?;

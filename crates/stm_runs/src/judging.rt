@@ -66,7 +66,11 @@ impl Commits {
         after: &[Access],
         ended: &Ended,
     ) -> Result<(), AllocError> {
-        if let Ended::Done { number, wrote: true } = ended {
+        if let Ended::Done {
+            number,
+            wrote: true,
+        } = ended
+        {
             let mut accesses = before.to_vec(self.alloc)?;
             accesses.extend_from_slice(after)?;
             self.all.push(Commit {

@@ -24,7 +24,10 @@ pub enum Move {
     Split(u64),
     /// The last pass is joined into the first one.
     Join,
-    One { who: u64, act: Act },
+    One {
+        who: u64,
+        act: Act,
+    },
     /// A transaction of one pass, between whose accesses another pass does something.
     Around {
         who: u64,

@@ -14,7 +14,15 @@ pub fn move_of(alloc: Global, line: &str) -> Result<Option<Move>, AllocError> {
         (Some(first), None, None) => one_of(alloc, first),
         (Some(before), Some(between), Some(after)) => {
             match (one_of(alloc, before)?, one_of(alloc, between)?) {
-                (Some(Move::One { who, act: Act::Transact(before) }), Some(Move::One { who: other, act })) => {
+                (
+                    Some(
+                        Move::One {
+                            who,
+                            act: Act::Transact(before),
+                        },
+                    ),
+                    Some(Move::One { who: other, act }),
+                ) => {
                     let words = words_of(alloc, after)?;
                     Ok(Some(Move::Around {
                         who,
@@ -76,7 +84,10 @@ fn accesses_of(alloc: Global, words: &[&str]) -> Result<Vec<Access>, AllocError>
 fn range_of(word: &str) -> (u64, u64) {
     let (first, last) = word.split_once(':').unwrap_or((word, word));
     match (number_of(first), number_of(last)) {
-        (Some(first), Some(last)) => (first, last.saturating_add(1).min(first.saturating_add(MOST))),
+        (Some(first), Some(last)) => (
+            first,
+            last.saturating_add(1).min(first.saturating_add(MOST)),
+        ),
         _ => (0, 0),
     }
 }

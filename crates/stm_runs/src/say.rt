@@ -135,5 +135,7 @@ pub fn say_pass(rt: HostRuntime, pass: &Pass) -> io::Result<()> {
     } else {
         "no fault"
     };
-    println!(rt; "last {last}, left {left}, splits {splits}, durable {durable}, refused {refused}, {met}")
+    println!(rt;
+        "last {last}, left {left}, splits {splits}, durable {durable}, refused {refused}, {met}"
+    )
 }

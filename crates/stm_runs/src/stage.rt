@@ -32,7 +32,11 @@ impl Stage {
     ghost use Rattle.tiny_stm.specs.Started.{IsAtRest};
 
     /// Transactions begin to run over an image.
-    pub fn over(alloc: Global, opened: Opened<MemPmem>, settings: &Settings) -> Result<Stage, StmFault>
+    pub fn over(
+        alloc: Global,
+        opened: Opened<MemPmem>,
+        settings: &Settings,
+    ) -> Result<Stage, StmFault>
         requires { IsAtRest opened.back opened.words.items opened.number }
     {
         let Opened {
@@ -84,7 +88,6 @@ impl Stage {
             }
         }
     }
-
 
     // Has one pass do something.
     fn act(&mut self, who: u64, act: &Act, seen: &mut Vec<(u64, u64)>) -> Option<Answer> {
@@ -156,12 +159,7 @@ impl Stage {
 }
 
 /// The first pass gives so many draws to a new one.
-fn split_off(
-    stm: &Stm<MemPmem>,
-    first: &mut Pass,
-    others: &mut Vec<Pass>,
-    draws: u64,
-) -> Outcome
+fn split_off(stm: &Stm<MemPmem>, first: &mut Pass, others: &mut Vec<Pass>, draws: u64) -> Outcome
     requires { AreHeld (table_of stm.now) first.old others.old.items }
     ensures { AreHeld (table_of stm.now) first.new others.new.items }
 {
