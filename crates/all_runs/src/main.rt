@@ -24,6 +24,7 @@ fn follow(rt: HostRuntime, name: &str, script: &str) -> io::Result<()> {
         "log_runs" => log_runs::follow(rt, script),
         "home_runs" => home_runs::follow(rt, script),
         "text_runs" => text_runs::follow(rt, script),
+        "stm_runs" => stm_runs::follow(rt, script),
         "program_runs" => program_runs::follow(rt, script),
         _ => rt.println("no such script"),
     }
