@@ -25,6 +25,7 @@ module _ {X K : Type 0} (t : TableSight K) (page d : ℕ) (p q : PassSight X) (w
   fetched shown e = record {
     keeps = record {
       rests = is;
+      part = stays.part;
       entries = stays.entries;
       last = ap (λ (f : PassNumbers). f.last) e;
       left = ap (λ (f : PassNumbers). f.left) e;
