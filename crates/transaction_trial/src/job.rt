@@ -15,4 +15,6 @@ pub struct Job {
     pub requests: Vec<Request>,
     pub done: Vec<Done>,
     pub counts: Counts,
+    /// Nothing: so what two threads write lies on cache lines of their own.
+    pub apart: [u64; 16],
 }

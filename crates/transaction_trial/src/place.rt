@@ -132,5 +132,6 @@ fn job_of(
         requests,
         done,
         counts: Counts::new(),
+        apart: [0; 16],
     })
 }
