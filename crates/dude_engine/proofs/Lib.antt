@@ -5,3 +5,4 @@ pub mod Serving
 pub mod Steps
 pub mod Tellings
 pub mod Turns
+pub mod LogOperations

@@ -48,16 +48,17 @@ pub record Ended (ok : Bool) (opening : Opening) (words : List ℕ) (durable : �
   pub answered : AreAnswered opening performed
   pub len : t.len ≡ s.len
   pub ran : SomeCalls ok s t
+  pub rises : opening.number ≤ durable
   pub tells : IsTrue s.is_visible → WereTold ok opening.number durable (state_now s).told (state_now t).told
   pub syncs : IsTrue s.is_visible → AreSyncsTold performed s t
   pub moments : (before : ℕ) → HoldsOpened before opening.sizes opening.number words s → AtEveryMoment (RecoversSoFar before opening performed) s t
 
 module _ {M : Type 0} {ghosts : Ghosts M} (opening : Opening) (words : List ℕ) (run : Run M ghosts) (s t : Sight) where
   running_ended : IsRunning opening words run.lay run.log (words_of run.words) run.done.items s t → Ended true opening words (log_durable run.log) run.done.items s t
-  running_ended r = record { answered = r.answered; len = r.len; ran = r.ran; tells = r.tells; syncs = λ visible. syncs_told (log_durable run.log) run.done.items s t (r.syncs visible); moments = r.moments }
+  running_ended r = record { answered = r.answered; len = r.len; ran = r.ran; rises = r.rises; tells = r.tells; syncs = λ visible. syncs_told (log_durable run.log) run.done.items s t (r.syncs visible); moments = r.moments }
 
   failed_ended : HasFailed opening words (log_durable run.log) run.done.items s t → Ended false opening words (log_durable run.log) run.done.items s t
-  failed_ended r = record { answered = r.answered; len = r.len; ran = r.ran; tells = r.tells; syncs = r.syncs; moments = r.moments }
+  failed_ended r = record { answered = r.answered; len = r.len; ran = r.ran; rises = r.rises; tells = r.tells; syncs = r.syncs; moments = r.moments }
 
   pub ended_by : (served : Result (Unit {0}) RunFault) → IsLeft served opening words run s t → Ended (went_well served) opening words (log_durable run.log) run.done.items s t
   ended_by (Ok done) left = running_ended left

@@ -63,6 +63,7 @@ module _ {M : Type 0} {ghosts : Ghosts M} (opening : Opening) (words : List ℕ)
         stands = stands;
         len = refl;
         ran = ran_here s;
+        rises = omega (arith, durable);
         tells = λ visible. subst (λ (n : ℕ). WereTold true opening.number n (state_now s).told (state_now s).told) (sym durable) (tells_none true opening.number opening.number (state_now s).told (state_now s).told refl refl);
         syncs = λ visible. All-nil (λ d. IsTrue (is_sync d.request) → WasToldLast (log_durable l) s s × (d.number ≤ log_durable l));
         follows = λ before held. record { arrays = a; has = has; follows = follows before held };
@@ -85,6 +86,7 @@ module _ {M : Type 0} {ghosts : Ghosts M} (opening : Opening) (words : List ℕ)
     stands = subst (λ (db : Database). StandsFor opening.sizes current db) (sym (tables_unwritten opening performed d next unwritten)) run.stands;
     len = run.len;
     ran = run.ran;
+    rises = run.rises;
     tells = run.tells;
     syncs = λ visible. syncs_other (log_durable l) performed d s t other (run.syncs visible);
     follows = λ before held. let f = run.follows before held in record { arrays = f.arrays; has = arrays_read opening performed d current f.arrays next unwritten f.has; follows = f.follows };
@@ -109,6 +111,7 @@ module _ {M : Type 0} {ghosts : Ghosts M} (opening : Opening) (words : List ℕ)
     stands = stands;
     len = goes.len ∙ run.len;
     ran = ran_then run.ran goes.ran;
+    rises = omega (arith, run.rises, goes.rises);
     tells = λ visible. tells_then true opening.number (log_durable l) (log_durable later) (state_now s).told (state_now t).told (state_now u).told (run.tells visible) (goes.tells (visible_on run.ran visible));
     syncs = syncs;
     follows = λ before held. let f = run.follows before held in record { arrays = more f.arrays; has = arrays f.arrays f.has; follows = follows before f.arrays f.follows };
@@ -127,6 +130,7 @@ module _ {M : Type 0} {ghosts : Ghosts M} (opening : Opening) (words : List ℕ)
     len = goes.len ∙ run.len;
     ran = ran_then run.ran goes.ran;
     cause = risen_later s.faults t.faults u.faults u.faults (made_later run.ran.1).faults (goes.cause refl) (omega arith);
+    rises = omega (arith, run.rises, goes.rises);
     tells = λ visible. tells_then false opening.number (log_durable l) (log_durable later) (state_now s).told (state_now t).told (state_now u).told (run.tells visible) (goes.tells (visible_on run.ran visible));
     syncs = λ visible. syncs (syncs_last false (log_durable l) (log_durable later) performed s t u goes.rises (run.syncs visible) (goes.tells (visible_on run.ran visible)));
     moments = λ before held. moments_on before opening performed done current new more l s t u run.sizes (grows before) arrays (run.moments before held) (run.follows before held) recovers;

@@ -108,7 +108,8 @@ pub record EndsAs {M : Type 0} {ghosts : Ghosts M} (o : Opened M ghosts) (files 
   pub calls : end ≡ Whole → MakesItsCalls o.sizes o.words.items (state_of o.back) done last (sight_of o.back) t
   -- at Whole no number done is lost, at NoMemory at most 256, and at Device at most 257
   pub few_lost : (opening : Opening) → IsOpeningOf o opening → LosesFew (most_lost end) opening o.words.items done (sight_of o.back) t
-  -- the last number told
+  -- the last number told, which is none under the opening one
+  pub from : o.number ≤ last
   pub last_told : IsTrue (sight_of o.back).is_visible → (opening : Opening) → IsOpeningOf o opening → IsLastTold end opening last (sight_of o.back) t
   -- a call on the medium failed exactly at Device
   pub ran : RanUnlessDevice end (sight_of o.back) t

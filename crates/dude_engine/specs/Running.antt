@@ -95,7 +95,9 @@ pub record IsRunning {M : Type 0} {ghosts : Ghosts M} (opening : Opening) (words
   pub len : t.len ≡ s.len
   -- calls were made on the medium, and none failed
   pub ran : SomeCalls true s t
-  -- the durable number was told last, or it is the opening one and none was told
+  -- the durable number doesn't fall under the opening one
+  pub rises : opening.number ≤ log_durable l
+  -- it was told last, or it is the opening one and none was told
   pub tells : IsTrue s.is_visible → WereTold true opening.number (log_durable l) (state_now s).told (state_now t).told
   -- the number of each `SYNC` is at most the durable one, which was told last
   pub syncs : IsTrue s.is_visible → AreSyncsUpTo (log_durable l) performed s t
@@ -127,6 +129,8 @@ pub record HasFailed (opening : Opening) (words : List ℕ) (durable : ℕ) (per
   pub ran : SomeCalls false s t
   -- the medium's count of faults rose
   pub cause : Risen s.faults t.faults
+  -- the durable number doesn't fall under the opening one
+  pub rises : opening.number ≤ durable
   -- numbers were told as in a run; the call that failed may have told one more, no less than the durable one
   pub tells : IsTrue s.is_visible → WereTold false opening.number durable (state_now s).told (state_now t).told
   -- the number of each `SYNC` is at most the last one told

@@ -4,7 +4,7 @@ ghost use Rattle.std.specs.Prelude.{◌≡◌, ◌≤◌, length, map};
 ghost use Rattle.back_store.specs.BackView.{sight_of};
 ghost use Rattle.image_opening.specs.Opened.{IsOpened};
 ghost use Rattle.dude_engine.specs.Opening.{Opening};
-ghost use Rattle.dude_engine.specs.Requests.{AreInRange, HasNumbersFor};
+ghost use Rattle.dude_engine.specs.Requests.{AreInRange, HasNumberEach};
 ghost use Rattle.dude_engine.specs.Running.{end_by};
 ghost use Rattle.dude_engine.specs.Plain.{AnswersFiles, EndsAs, IsOpeningOf, RecoversOnTheRun, TellsSyncs};
 
@@ -27,7 +27,7 @@ pub fn plain<M: Medium>(alloc: Global, opened: Opened<M>, files: &[Vec<Request>]
     requires opened { IsOpened opened }
     requires rings { length files.now ≤ opened.sizes.rings }
     requires in_range { AreInRange (map (λ f. f.items) files.now) }
-    requires numbers { HasNumbersFor opened.number (map (λ f. f.items) files.now) }
+    requires numbers { HasNumberEach opened.number (map (λ f. f.items) files.now) }
     ensures replies { (opening : Opening) → IsOpeningOf opened opening
         → AnswersFiles opening (map (λ f. f.items) files.now) result.done.items }
     ensures syncs { TellsSyncs opened.number result.done.items (sight_of opened.back)

@@ -6,7 +6,7 @@ ghost use Rattle.tatp_model.specs.declared.request.Request.TheVariants.{Sync};
 ghost use Rattle.tatp_model.specs.OneThread.{is_sync};
 ghost use Rattle.tatp_model.specs.Request.{IsInRange};
 ghost use Rattle.log_numbered.specs.RunLog.{log_last};
-ghost use Rattle.dude_engine.specs.Requests.{AreInRange, HasLength, HasNumberEach, HasNumbersFor, request_count};
+ghost use Rattle.dude_engine.specs.Requests.{AreInRange, HasLength, HasNumberEach, request_count};
 ghost use Rattle.dude_engine.specs.Running.{HasRoomToNote, IsAtStart, IsChanging, IsReady, LeavesOn, LeavesRun, MakesRun, MayServe, NotesTurn, NotesUnless, NumbersNoMore, PerformsFiles, SettlesRun, silent_done};
 
 use crate::run_fault::RunFault;
@@ -34,7 +34,7 @@ impl<M: Medium> Run<M> {
         requires start { IsAtStart self.old }
         requires rings { length files.now ≤ self.old.lay.rings }
         requires in_range { AreInRange (map (λ f. f.items) files.now) }
-        requires numbers { HasNumbersFor (log_last self.old.log) (map (λ f. f.items) files.now) }
+        requires numbers { HasNumberEach (log_last self.old.log) (map (λ f. f.items) files.now) }
         ensures left { LeavesOn result self.old self.new }
         ensures performs { PerformsFiles result (map (λ f. f.items) files.now) self.new.done.items }
         ensures calls { OnOk result (MakesRun self.old self.new) }

@@ -147,7 +147,7 @@ module _ (first : ℕ) (files : List (List Request)) (done : List Done) (numbere
   }
 
   -- databases lead along the order, and no others
-  along_order : (limit : ℕ) (db : Database) (databases : ℕ → Database) → AreDatabases first limit db done databases → (n : ℕ) → first ≤ n → after_number limit db order n ≡ databases n
+  pub along_order : (limit : ℕ) (db : Database) (databases : ℕ → Database) → AreDatabases first limit db done databases → (n : ℕ) → first ≤ n → after_number limit db order n ≡ databases n
   along_order limit db databases leads =
       databases_along first limit db order databases printed.sorted differ over (with_writers first limit db done order databases same_writers leads)
 

@@ -10,13 +10,13 @@ use Rattle.tatp_model.specs.declared.request.Request.{Request}
 use Rattle.tatp_model.specs.declared.reply.Reply.TheVariants.{Durable}
 use Rattle.tatp_model.specs.Database.{Database}
 use Rattle.tatp_model.specs.Transaction.{after_request}
-use Rattle.tatp_model.specs.OneThread.{is_sync, PrecedesInFiles, IndexedRequest, indexed_request_of, indexed_requests_from, IsPrefixOf, HoldsPrefixes}
+use Rattle.tatp_model.specs.OneThread.{AllAreDone, is_sync, PrecedesInFiles, IndexedRequest, indexed_request_of, indexed_requests_from, IsPrefixOf, HoldsPrefixes}
 use Rattle.run_order.specs.Runs.{Performs, Collects, SyncsFollow}
 use Rattle.run_order.proofs.Pairs.{pairs_among, one_or_other}
 use Rattle.run_order.proofs.Law.{Earlier, numbers_rise, earlier_pairs, syncs_durable}
 use Rattle.run_order.proofs.FileOrder.{indexed, in_files_from_holding, holds_from_permutation}
 use Rattle.legal_order.specs.Numbers.{AreDatabases, IsAnswered, Differ, FollowsInFile, IsNumbered, AreNumbered, AreAnswered}
-use Rattle.legal_order.specs.Rests.{PerformsBehind, firsts_of, rests_of, files_of, LengthsAre, shifted, AreAnsweredUpTo, AreAnsweredOn, PerformsRests, LawOfRests, LawOfSyncs}
+use Rattle.legal_order.specs.Rests.{IsUnion, PerformsBehind, firsts_of, rests_of, files_of, LengthsAre, shifted, AreAnsweredUpTo, AreAnsweredOn, PerformsRests, NumbersRests, LawOfRests, LawOfRestNumbers, LawOfSyncs}
 use Rattle.legal_order.proofs.Members.{contains_map, map_contains}
 use Rattle.legal_order.proofs.Performing.{performs_behind, answer_stays}
 
@@ -98,30 +98,18 @@ in_files_once : (d e : Done) → PrecedesInFiles d e → PrecedesInFiles e d →
 in_files_once d e before after =
     ⊎_elim (λ p. ⊎_elim (λ q. absurd (omega (arith, p, q))) (λ q. absurd (omega (arith, p, q.0))) after) (λ p. ⊎_elim (λ q. absurd (omega (arith, p.0, q))) (λ q. absurd (omega (arith, p.1, q.1))) after) before
 
-module _ (first limit last : ℕ) (db : Database) (counts : ℕ → ℕ) (parts : List (List Request × List Request)) (databases : ℕ → Database) (threads performed collected done : List Done) (rests : PerformsRests first limit last db counts parts databases threads performed collected done) where
-  lengths : LengthsAre counts 0 (firsts_of parts)
-  lengths = rests.lengths
-
-  t : AreAnsweredUpTo first limit last db (firsts_of parts) threads databases
-  t = rests.answered
-
-  p : Performs last limit (databases last) performed
+module _ (first limit last : ℕ) (db : Database) (counts : ℕ → ℕ) (parts : List (List Request × List Request)) (threads performed collected done : List Done) (rests : NumbersRests first limit last db counts parts threads performed collected done) where
+  p : Performs last limit db performed
   p = rests.performs
 
   c : Collects (rests_of parts) performed collected
   c = rests.collects
-
-  gone : PerformsBehind first limit last db threads performed databases
-  gone = performs_behind first limit last db threads performed databases t.ends p.numbered p.replies
 
   same : IsPermutation (threads ++ map (shifted counts) collected) done
   same = rests.union.same
 
   sorted : AllPairs PrecedesInFiles done
   sorted = rests.union.sorted
-
-  abbrev further : ℕ → Database
-  further = gone.further
 
   -- one of those done was answered counts a thread, or performed behind, at another index
   which : (d : Done) → Contains done d → Contains threads d ⊎ ((e : Done) × Contains performed e × (shifted counts e ≡ d))
@@ -141,7 +129,7 @@ module _ (first limit last : ℕ) (db : Database) (counts : ℕ → ℕ) (parts 
   held =
       let both_prefix = parted_prefix parts c.held.0 c.held.1 in
       let asked : IsPermutation (map indexed_request_of (threads ++ map (shifted counts) collected)) (indexed_requests_from 0 (both (firsts_of parts) c.held.0)) =
-      rw (map-append indexed_request_of threads (map (shifted counts) collected), map_requests counts collected, t.all, c.held.2) (union_requests counts 0 (firsts_of parts) c.held.0 lengths both_prefix.1) in
+      rw (map-append indexed_request_of threads (map (shifted counts) collected), map_requests counts collected, rests.all, c.held.2) (union_requests counts 0 (firsts_of parts) c.held.0 rests.lengths both_prefix.1) in
       (both (firsts_of parts) c.held.0, both_prefix.0, holds_from_permutation (both (firsts_of parts) c.held.0) (threads ++ map (shifted counts) collected) done asked same sorted)
 
   -- ---- each request alone
@@ -149,17 +137,17 @@ module _ (first limit last : ℕ) (db : Database) (counts : ℕ → ℕ) (parts 
   later e at = All-contains (λ x. (last ≤ x.number) × (x.wrote ≡ true → last < x.number)) performed e (numbers_rise last performed p.numbered) at
 
   early : (d : Done) → Contains threads d → d.number ≤ last
-  early d at = All-contains (λ x. x.number ≤ last) threads d t.ends.upto at
+  early d at = All-contains (λ x. x.number ≤ last) threads d rests.upto at
 
   numbered_one : (d : Done) → Contains done d → IsNumbered first d
   numbered_one d at = ⊎_elim
-      (λ here. All-contains (IsNumbered first) threads d t.numbered.each here)
+      (λ here. All-contains (IsNumbered first) threads d rests.numbered.each here)
       (λ r. subst (λ (x : Done). IsNumbered first x) r.2 (
-      let l = later r.0 r.1 in let f = t.ends.from in
+      let l = later r.0 r.1 in let f = rests.from in
       record {
         over = λ w. let o = l.1 w in omega arith;
         from = λ n. let o = l.0 in omega arith;
-        durable = All-contains (λ x. is_sync x.request ≡ true → (x.reply ≡ Durable) × (x.wrote ≡ false)) performed r.0 (syncs_durable limit (databases last) performed p.replies) r.1;
+        durable = All-contains (λ x. is_sync x.request ≡ true → (x.reply ≡ Durable) × (x.wrote ≡ false)) performed r.0 (syncs_durable limit db performed p.replies) r.1;
       }))
       (which d at)
 
@@ -167,11 +155,11 @@ module _ (first limit last : ℕ) (db : Database) (counts : ℕ → ℕ) (parts 
   earlier = earlier_pairs last performed p.numbered p.rounds
 
   in_threads : AllPairs PrecedesInFiles threads
-  in_threads = in_files_from_holding (firsts_of parts) threads t.all
+  in_threads = in_files_from_holding (firsts_of parts) threads rests.all
 
   index_under : (d : Done) → Contains threads d → d.index < counts d.file
   index_under d at =
-      let all : All (λ r. r.index < counts r.file) (map indexed_request_of threads) = rw t.all (firsts_under counts 0 (firsts_of parts) lengths) in
+      let all : All (λ r. r.index < counts r.file) (map indexed_request_of threads) = rw rests.all (firsts_under counts 0 (firsts_of parts) rests.lengths) in
       All-contains (λ r. r.index < counts r.file) (map indexed_request_of threads) (indexed_request_of d) all (contains_map indexed_request_of threads d at)
 
   -- two of them, in the order of files
@@ -185,7 +173,7 @@ module _ (first limit last : ℕ) (db : Database) (counts : ℕ → ℕ) (parts 
       (λ r. (r.1.0, r.1.1))
       (λ r. absurd (in_files_once d e before r.0)) other)
       (one_or_other (λ u v. PrecedesInFiles u v × (Differ u v × FollowsInFile u v)) threads d e
-      (λ i j f low within. (in_threads i j f low within, (t.numbered.differ i j f low within, t.numbered.follow i j f low within))) here here'))
+      (λ i j f low within. (in_threads i j f low within, (rests.numbered.differ i j f low within, rests.numbered.follow i j f low within))) here here'))
       (λ r. let u = early d here in let l = later r.0 r.1 in
       subst (λ (x : Done). Differ d x × FollowsInFile d x) r.2
       ((λ w w' same. let o = l.1 w' in omega arith), (λ f n n'. record { upto = (let o = l.0 in omega arith); under = λ w. let o = l.1 w in omega arith })))
@@ -217,7 +205,7 @@ module _ (first limit last : ℕ) (db : Database) (counts : ℕ → ℕ) (parts 
           other)
           (one_or_other Earlier performed x y earlier cx cy)
 
-  numbered : AreNumbered first (files_of parts) done
+  pub numbered : AreNumbered first (files_of parts) done
   numbered = record {
     held = held;
     each = All-weaker (Contains done) (IsNumbered first) numbered_one done (All-contains_itself done);
@@ -260,8 +248,24 @@ module _ (first limit last : ℕ) (db : Database) (counts : ℕ → ℕ) (parts 
           ⊎_elim (λ less. absurd (omega arith)) (λ less. let i = less.1 in ⊎_elim (λ l. absurd (omega arith)) (λ l. let j = l.1 in let k = l.0 in absurd (omega arith)) r.2) before) other)
           (one_or_other Earlier performed x y earlier cx cy)
 
-  syncs : SyncsFollow threads → SyncsFollow done
+  pub syncs : SyncsFollow threads → SyncsFollow done
   syncs follow = pairs_among PrecedesInFiles SyncFollows done (sync_pair follow) sorted
+
+module _ (first limit last : ℕ) (db : Database) (counts : ℕ → ℕ) (parts : List (List Request × List Request)) (databases : ℕ → Database) (threads performed collected done : List Done) (rests : PerformsRests first limit last db counts parts databases threads performed collected done) where
+  t : AreAnsweredUpTo first limit last db (firsts_of parts) threads databases
+  t = rests.answered
+
+  gone : PerformsBehind first limit last db threads performed databases
+  gone = performs_behind first limit last db threads performed databases t.ends rests.performs.numbered rests.performs.replies
+
+  numbers : NumbersRests first limit last (databases last) counts parts threads performed collected done
+  numbers = record { lengths = rests.lengths; all = t.all; numbered = t.numbered; from = t.ends.from; upto = t.ends.upto; performs = rests.performs; collects = rests.collects; union = rests.union }
+
+  abbrev further : ℕ → Database
+  further = gone.further
+
+  which_of : (d : Done) → Contains done d → Contains threads d ⊎ ((e : Done) × Contains performed e × (shifted counts e ≡ d))
+  which_of = which first limit last (databases last) counts parts threads performed collected done numbers
 
   -- ---- the databases
   leads : AreDatabases first limit db done further
@@ -271,29 +275,49 @@ module _ (first limit last : ℕ) (db : Database) (counts : ℕ → ℕ) (parts 
         (λ here. gone.leads.wrote n d le (Contains-append_left threads performed d here) w)
         (λ r. gone.leads.wrote n r.0 le (Contains-append_right threads performed r.0 r.1) (record { wrote = ap (λ (x : Done). x.wrote) r.2 ∙ w.wrote; number = ap (λ (x : Done). x.number) r.2 ∙ w.number })
         ∙ ap (λ (x : Done). after_request limit (further n) x.request) r.2)
-        (which d at);
+        (which_of d at);
     stays = λ n le none. gone.leads.stays n le (λ d at w. ⊎_elim
-        (λ here. none d (of_threads d here) w)
-        (λ there. none (shifted counts d) (of_performed d there) (record { wrote = w.wrote; number = w.number }))
+        (λ here. none d (of_threads first limit last (databases last) counts parts threads performed collected done numbers d here) w)
+        (λ there. none (shifted counts d) (of_performed first limit last (databases last) counts parts threads performed collected done numbers d there) (record { wrote = w.wrote; number = w.number }))
         (Contains-append_cases threads performed d at));
   }
 
   answer : (d : Done) → Contains done d → is_sync d.request ≡ false → IsAnswered limit further d
   answer d at n = ⊎_elim
-      (λ here. answer_stays limit databases further last d (early d here) gone.go_on.upto (All-contains (λ x. is_sync x.request ≡ false → IsAnswered limit databases x) threads d t.answers here n))
+      (λ here. answer_stays limit databases further last d (early first limit last (databases last) counts parts threads performed collected done numbers d here) gone.go_on.upto (All-contains (λ x. is_sync x.request ≡ false → IsAnswered limit databases x) threads d t.answers here n))
       (λ r. subst (λ (x : Done). IsAnswered limit further x) r.2 (let a = All-contains (IsAnswered limit further) performed r.0 gone.answers r.1 in record { reply = a.reply; wrote = a.wrote }))
-      (which d at)
+      (which_of d at)
 
   answers : AreAnswered limit further done
   answers = All-weaker (Contains done) (λ d. is_sync d.request ≡ false → IsAnswered limit further d) answer done (All-contains_itself done)
 
   answered_on : AreAnsweredOn first limit last db (files_of parts) performed done databases
-  answered_on = record { further = further; go_on = gone.go_on; numbered = numbered; leads = leads; answers = answers }
+  answered_on = record { further = further; go_on = gone.go_on; numbered = numbered first limit last (databases last) counts parts threads performed collected done numbers; leads = leads; answers = answers }
+
+-- where all of the rests is done, all of the files is
+both_parts : (parts : List (List Request × List Request)) → both (firsts_of parts) (rests_of parts) ≡ files_of parts
+both_parts [] = refl
+both_parts (p ∷ parts) = ap (λ (l : List (List Request)). (p.0 ++ p.1) ∷ l) (both_parts parts)
+
+as_long : (parts : List (List Request × List Request)) → length (firsts_of parts) ≡ length (rests_of parts)
+as_long [] = refl
+as_long (p ∷ parts) = let l = as_long parts in omega arith
+
+pub all_together : (counts : ℕ → ℕ) (parts : List (List Request × List Request)) (threads collected done : List Done) → LengthsAre counts 0 (firsts_of parts) → AllAreDone (firsts_of parts) threads → AllAreDone (rests_of parts) collected
+    → IsUnion counts threads collected done → AllAreDone (files_of parts) done
+all_together counts parts threads collected done lengths first rest union =
+    let asked : IsPermutation (map indexed_request_of (threads ++ map (shifted counts) collected)) (indexed_requests_from 0 (both (firsts_of parts) (rests_of parts))) =
+    rw (map-append indexed_request_of threads (map (shifted counts) collected), map_requests counts collected, first, rest) (union_requests counts 0 (firsts_of parts) (rests_of parts) lengths (as_long parts)) in
+    subst (λ (l : List (List Request)). AllAreDone l done) (both_parts parts) (holds_from_permutation (both (firsts_of parts) (rests_of parts)) (threads ++ map (shifted counts) collected) done asked union.same union.sorted)
 
 pub law_rests : LawOfRests
 law_rests first limit last db counts parts databases threads performed collected done rests =
     answered_on first limit last db counts parts databases threads performed collected done rests
 
+pub law_rest_numbers : LawOfRestNumbers
+law_rest_numbers first limit last db counts parts threads performed collected done rests =
+    numbered first limit last db counts parts threads performed collected done rests
+
 pub law_syncs : LawOfSyncs
-law_syncs first limit last db counts parts databases threads performed collected done rests follow =
-    syncs first limit last db counts parts databases threads performed collected done rests follow
+law_syncs first limit last db counts parts threads performed collected done rests follow =
+    syncs first limit last db counts parts threads performed collected done rests follow

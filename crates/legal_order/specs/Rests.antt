@@ -88,7 +88,24 @@ abbrev pub LawOfRests : Type 0
 LawOfRests = (first limit last : ℕ) (db : Database) (counts : ℕ → ℕ) (parts : List (List Request × List Request)) (databases : ℕ → Database) (threads performed collected done : List Done)
     → PerformsRests first limit last db counts parts databases threads performed collected done → AreAnsweredOn first limit last db (files_of parts) performed done databases
 
+-- The same of the numbers alone: threads answered the first requests of each file at numbers up to the last one, whatever they read, and one
+-- thread performed of the rests behind it, on any database.
+pub record NumbersRests (first limit last : ℕ) (db : Database) (counts : ℕ → ℕ) (parts : List (List Request × List Request)) (threads performed collected done : List Done) : Type 0 where
+  pub lengths : LengthsAre counts 0 (firsts_of parts)
+  pub all : AllAreDone (firsts_of parts) threads
+  pub numbered : AreNumbered first (firsts_of parts) threads
+  pub from : first ≤ last
+  pub upto : All (λ d. d.number ≤ last) threads
+  pub performs : Performs last limit db performed
+  pub collects : Collects (rests_of parts) performed collected
+  pub union : IsUnion counts threads collected done
+
+-- together these are first requests of the whole files, with numbers
+abbrev pub LawOfRestNumbers : Type 0
+LawOfRestNumbers = (first limit last : ℕ) (db : Database) (counts : ℕ → ℕ) (parts : List (List Request × List Request)) (threads performed collected done : List Done)
+    → NumbersRests first limit last db counts parts threads performed collected done → AreNumbered first (files_of parts) done
+
 -- a `Sync` of all together has no number under an earlier one of its file, where it is so for what threads answered
 abbrev pub LawOfSyncs : Type 0
-LawOfSyncs = (first limit last : ℕ) (db : Database) (counts : ℕ → ℕ) (parts : List (List Request × List Request)) (databases : ℕ → Database) (threads performed collected done : List Done)
-    → PerformsRests first limit last db counts parts databases threads performed collected done → SyncsFollow threads → SyncsFollow done
+LawOfSyncs = (first limit last : ℕ) (db : Database) (counts : ℕ → ℕ) (parts : List (List Request × List Request)) (threads performed collected done : List Done)
+    → NumbersRests first limit last db counts parts threads performed collected done → SyncsFollow threads → SyncsFollow done

@@ -2,7 +2,7 @@
 
 ghost use Rattle.legal_order.specs.Numbers.{LawOfWriters};
 ghost use Rattle.legal_order.specs.Printed.{LawOfPrintedOrder, LawOfParts, LawOfReplies, LawOfDatabases};
-ghost use Rattle.legal_order.specs.Rests.{LawOfPerforming, LawOfRests, LawOfSyncs};
+ghost use Rattle.legal_order.specs.Rests.{LawOfPerforming, LawOfRests, LawOfRestNumbers, LawOfSyncs};
 
 /// Requests that have numbers, whatever threads answered them, have a printed order that keeps
 /// each file's: that is all of what is said of one thread but its replies. Where each was answered
@@ -18,9 +18,11 @@ pub fn law_of_numbered_requests()
 
 /// What one thread performs behind the last number is answered at numbers too, on databases that
 /// go on from there. Where threads answered the first requests of each file and one thread goes on
-/// with the rests, all together are requests of whole files that were answered at numbers.
+/// with the rests, all together are requests of whole files that were answered at numbers. The
+/// numbers are so whatever was read.
 pub fn law_of_rests()
     ensures performing { LawOfPerforming }
     ensures rests { LawOfRests }
+    ensures numbers { LawOfRestNumbers }
     ensures syncs { LawOfSyncs }
 {}

@@ -1,4 +1,4 @@
-use Rattle.std.proofs.Common.{◌≡◌, ◌↔◌, ◌∙◌, ℕ, Bool, None, false, ap, sym, refl, subst, map}
+use Rattle.std.proofs.Common.{◌≡◌, ◌↔◌, ◌≤◌, ◌∙◌, ℕ, Bool, None, false, ap, sym, refl, subst, map}
 use Rattle.std.specs.List.{AllPairs}
 use Rattle.std.specs.Prelude.{IsPermutation}
 use Rattle.pmem_trait.specs.Sights.{Sight, Risen, state_now}
@@ -80,6 +80,7 @@ returns g c =
             subst (λ (e : RanEnd). LosesFew (most_lost e) opening o.words.items done s u) (sym c.end_of.ensures)
             (few_lost_of opening files performed done same collects rounds (at opening is).answered (most_lost (end_by served)) o.words.items s u
             (subst (λ (v : Sight). EndsNearLast (most_lost (end_by served)) opening o.words.items performed s v) (sym still) near));
+        from = subst (λ (n : ℕ). o.number ≤ n) (sym c.durable-last.ensures) (at lawful lawful_is).rises;
         last_told = λ visible opening is.
             subst (λ (e : RanEnd). IsLastTold e opening c.durable-last.result s u) (sym c.end_of.ensures)
             (subst (λ (n : ℕ). IsLastTold (end_by served) opening n s u) (sym c.durable-last.ensures)

@@ -10,3 +10,6 @@ returns-clause-rests c = Together.law_rests
 
 pub returns-clause-syncs : goal.returns-clause-syncs
 returns-clause-syncs c = Together.law_syncs
+
+pub returns-clause-numbers : goal.returns-clause-numbers
+returns-clause-numbers c = Together.law_rest_numbers
