@@ -1,5 +1,5 @@
 -- Tries, one after another.
-use Rattle.std.proofs.Common.{ℕ, ◌+◌, ◌*◌, ◌≤◌, Bool, true, false, List, [], ◌∷◌, ◌++◌, refl, ap, ◌∙◌, ⊎_elim, arith}
+use Rattle.std.proofs.Common.{ℕ, ◌+◌, ◌*◌, ◌<◌, ◌≤◌, Bool, true, false, List, [], ◌∷◌, ◌++◌, refl, ap, ◌∙◌, inl, inr, ⊎_elim, arith}
 use Rattle.dude_base.specs.declared.sizes.Sizes.{Sizes}
 use Rattle.tatp_model.specs.declared.request.Request.{Request}
 use Rattle.tatp_model.specs.declared.done.Done.{Done}
@@ -8,23 +8,27 @@ use Rattle.core_events.specs.Views.{Entry}
 use Rattle.core_table.specs.Layout.{TableSight}
 use Rattle.stm_passes.specs.Numbers.{bit}
 use Rattle.stm_passes.specs.Passes.{PassSight, IsResting}
-use Rattle.request_attempts.specs.Counting.{IsUnder}
+use Rattle.request_attempts.specs.Counting.{IsUnder, PATIENCE, RisesBy}
 use Rattle.request_attempts.specs.MayTry.{MayServe, MayTry}
 use Rattle.request_attempts.specs.Tries.{IsServing, IsUnserved, IsAgain, HasTried, AnswersBy}
 
 pub tried_none : {X K : Type 0} (t : TableSight K) (p : PassSight X) → IsResting t p → HasTried 0 t p p
-tried_none t p r = record { rests = r; part = refl; entries = refl; last = refl; no_fault = refl; rises = omega arith; durable = omega arith; used = 0; draws = omega arith; counted = omega arith; tries = omega arith; under = omega arith }
+tried_none t p r = record { rests = r; part = refl; entries = refl; last = refl; no_fault = refl; rises = omega arith; durable = omega arith; used = 0; draws = omega arith; counted = omega arith; tries = omega arith; few = omega arith; under = omega arith }
 
 module _ {X K : Type 0} (k : ℕ) (t : TableSight K) (p q : PassSight X) (h : HasTried k t p q) where
   pub may_try : (s : Sizes) (x : Request) → MayServe t s x p → MayTry t s x q
-  may_try s x m = record { rests = h.rests; draws = (let d = h.draws in let c = h.counted in let u = h.under in let l = m.draws in omega arith); home = m.home; in_range = m.in_range }
+  may_try s x m = record { rests = h.rests; draws = (let d = h.draws in let f = h.few in let l = m.draws in omega arith); home = m.home; in_range = m.in_range }
 
   -- the durable number didn't fall since p either
   kept_over : (r : PassSight X) → q.numbers.durable ≤ r.numbers.durable → p.numbers.durable ≤ r.numbers.durable
   kept_over r k = let d = h.durable in omega arith
 
-  pub tried_on : (r : PassSight X) → IsAgain t q r → IsUnder 64 p.numbers.refused r.numbers.refused → HasTried (k + 1) t p r
-  tried_on r a under = ⊎_elim (λ last. let u = under.1 in absurd (omega arith))
+  -- what is left falls
+  pub left_under : (r : PassSight X) → IsAgain t q r → r.numbers.left ≤ p.numbers.left
+  left_under r a = let d = h.draws in let e = a.draws.draws in omega arith
+
+  pub tried_on : (r : PassSight X) → IsAgain t q r → p.numbers.left < r.numbers.left + 64 → IsUnder PATIENCE p.numbers.refused r.numbers.refused → HasTried (k + 1) t p r
+  tried_on r a fewer under = ⊎_elim (λ last. let u = under.1 in absurd (omega arith))
       (λ c. let d = h.draws in let e = a.draws.draws in let tr = h.tries in let co = h.counted in let c0 = c.0 in let c1 = c.1 in record {
         rests = a.rests;
         part = a.part ∙ h.part;
@@ -37,6 +41,7 @@ module _ {X K : Type 0} (k : ℕ) (t : TableSight K) (p q : PassSight X) (h : Ha
         draws = omega arith;
         counted = omega arith;
         tries = omega arith;
+        few = omega arith;
         under = under.0;
       })
       a.counts
@@ -56,7 +61,7 @@ module _ {X K : Type 0} (k : ℕ) (t : TableSight K) (p q : PassSight X) (h : Ha
   }
 
   pub served_on : (s : Sizes) (file index : ℕ) (x : Request) (d : Done) (r : PassSight X) → IsServing 1 t s file index x q r d → IsServing 65 t s file index x p r d
-  served_on s file index x d r a = let i = h.draws in let e = a.draws.draws in let c = h.counted in let u = h.under in let f = a.draws.few in record {
+  served_on s file index x d r a = let i = h.draws in let e = a.draws.draws in let u = h.few in let f = a.draws.few in record {
     answers = answers_on (is_sync x) s file index x d r a.answers;
     part = a.part ∙ h.part;
     draws = record { used = h.used + a.draws.used; draws = omega arith; few = omega arith };
@@ -65,14 +70,20 @@ module _ {X K : Type 0} (k : ℕ) (t : TableSight K) (p q : PassSight X) (h : Ha
   }
 
   pub unserved_on : (r : PassSight X) → IsUnserved 0 t q r → IsUnserved 65 t p r
-  unserved_on r a = let i = h.draws in let e = a.draws.draws in let c = h.counted in let u = h.under in let f = a.draws.few in
+  unserved_on r a = let i = h.draws in let e = a.draws.draws in let u = h.few in let f = a.draws.few in
       record { rests = a.rests; part = a.part ∙ h.part; entries = a.entries ∙ h.entries; draws = record { used = h.used + a.draws.used; draws = omega arith; few = omega arith }; durable = kept_over r a.durable }
 
   pub again_unserved : (most : ℕ) (r : PassSight X) → IsAgain t q r → 64 ≤ most → IsUnserved most t p r
-  again_unserved most r a le = let i = h.draws in let e = a.draws.draws in let c = h.counted in let u = h.under in let f = a.draws.few in
+  again_unserved most r a le = let i = h.draws in let e = a.draws.draws in let u = h.few in let f = a.draws.few in
       record { rests = a.rests; part = a.part ∙ h.part; entries = a.entries ∙ h.entries; draws = record { used = h.used + a.draws.used; draws = omega arith; few = omega arith }; durable = kept_over r a.durable }
 
-  pub never : 129 ≤ k → ⊥
+  -- each number drawn in vain counts a refusal
+  pub drawn_often : (r : PassSight X) → IsAgain t q r → r.numbers.left + 64 ≤ p.numbers.left → RisesBy 64 p.numbers.refused r.numbers.refused
+  drawn_often r a drawn = ⊎_elim (λ last. inr last)
+      (λ c. let d = h.draws in let e = a.draws.draws in let co = h.counted in let c0 = c.0 in inl (omega arith))
+      a.counts
+
+  pub never : 2000001 ≤ k → ⊥
   never le = at_bit q.numbers.had_turn h.tries
     where
       at_bit : (b : Bool) → 2 * p.numbers.refused + k ≤ 2 * q.numbers.refused + bit b → ⊥

@@ -42,7 +42,7 @@ one_more : (a b : ℕ) (x y : Bool) → a < b → 2 * a + bit x < 2 * b + bit y
 one_more a b x y lt = let f = bit_few x in omega arith
 
 -- so many refusals and more are refusals enough
-rises_less : (a b k l : ℕ) → l ≤ k → RisesBy k a b → RisesBy l a b
+pub rises_less : (a b k l : ℕ) → l ≤ k → RisesBy k a b → RisesBy l a b
 rises_less a b k l le r = ⊎_elim (λ x. inl (omega arith)) (λ last. inr last) r
 
 -- what a transaction leaves that made no entry, drew so many numbers and counted so many refusals

@@ -5,6 +5,10 @@ use Rattle.std.specs.Prelude.{ℕ, ◌+◌, ◌-◌, ◌^◌, ◌<◌, ◌≤◌
 abbrev pub LAST_COUNT : ℕ
 LAST_COUNT = 2 ^ 64 - 1
 
+-- a request is refused so often at most
+abbrev pub PATIENCE : ℕ
+PATIENCE = 1000000
+
 -- it rose by so many, or stands at its last value
 abbrev pub RisesBy : ℕ → ℕ → ℕ → Type 0
 RisesBy more before now = (before + more ≤ now) ⊎ (LAST_COUNT ≤ now)

@@ -14,7 +14,7 @@ use Rattle.stm_passes.specs.Numbers.{bit}
 use Rattle.stm_passes.specs.Passes.{PassSight, IsResting, pass_view}
 use Rattle.request_attempts.specs.declared.tried.Tried.{Tried}
 use Rattle.request_attempts.specs.declared.tried.Tried.TheVariants.{Done, Again, Device, NoMemory}
-use Rattle.request_attempts.specs.Counting.{LAST_COUNT, RisesBy}
+use Rattle.request_attempts.specs.Counting.{LAST_COUNT, PATIENCE, RisesBy}
 use Rattle.request_attempts.specs.Served.{HasServed}
 use Rattle.request_attempts.specs.Turns.{KeepsRest, HasFailed}
 
@@ -53,7 +53,7 @@ pub record IsUnserved {X K : Type 0} (most : ℕ) (t : TableSight K) (p r : Pass
   pub draws : DrawsUpTo most p r
   pub durable : p.numbers.durable ≤ r.numbers.durable
 
--- It was given up: the pass was refused 64 times, or the count stands at its last value
+-- It was given up: the pass was refused 64 times at least, or the count stands at its last value
 pub record IsGivenUp {X K : Type 0} (t : TableSight K) (p r : PassSight X) : Type 0 where
   pub often : RisesBy 64 p.numbers.refused r.numbers.refused
   pub unserved : IsUnserved 64 t p r
@@ -80,13 +80,14 @@ pub record HasTried {X K : Type 0} (k : ℕ) (t : TableSight K) (p q : PassSight
   pub no_fault : q.numbers.met_fault ≡ p.numbers.met_fault
   pub rises : p.numbers.refused ≤ q.numbers.refused
   pub durable : p.numbers.durable ≤ q.numbers.durable
-  -- so many numbers were drawn, each for a refusal
+  -- so many numbers were drawn, each for a refusal, fewer than 64
   pub used : ℕ
   pub draws : q.numbers.left + used ≡ p.numbers.left
   pub counted : p.numbers.refused + used ≤ q.numbers.refused
   -- two tries count a refusal at least
   pub tries : 2 * p.numbers.refused + k ≤ 2 * q.numbers.refused + bit q.numbers.had_turn
-  pub under : q.numbers.refused < p.numbers.refused + 64
+  pub few : used < 64
+  pub under : q.numbers.refused < p.numbers.refused + PATIENCE
 
 -- A turn for a try that can't get on counted a refusal, or was had
 pub record HasGained {X K : Type 0} (t : TableSight K) (p q : PassSight X) : Type 0 where

@@ -1,9 +1,9 @@
 //! A request is served: it is tried until a try is good.
 
-ghost use Rattle.std.specs.Prelude.{◌≡◌, ◌≤◌, ◌↔◌, true, IfOk, IfErr, IsErrOf, MatchBool};
+ghost use Rattle.std.specs.Prelude.{◌≡◌, ◌+◌, ◌<◌, ◌≤◌, ◌↔◌, true, IfOk, IfErr, IsErrOf, MatchBool};
 ghost use Rattle.stm_passes.specs.Passes.{IsResting};
 ghost use Rattle.request_attempts.specs.MayTry.{MayServe};
-ghost use Rattle.request_attempts.specs.Counting.{IsUnder, RisesBy};
+ghost use Rattle.request_attempts.specs.Counting.{IsUnder, PATIENCE, RisesBy};
 ghost use Rattle.request_attempts.specs.Tries.{IsGivenUp, IsServing, IsUnserved};
 ghost use Rattle.request_attempts.specs.declared.unserved.Unserved.TheVariants.{Refused as RefusedOf, Device as DeviceOf};
 
@@ -21,15 +21,24 @@ use tatp_layout::Layout;
 use tatp_model::done::Done;
 use tatp_model::request::Request;
 
-// Whether a request is to be given up.
+// Whether a request was refused so often that it is given up. A turn that another thread has is a refusal too, and that
+// thread may have to wait for its medium.
 fn is_given_up(before: u64, now: u64) -> bool
     requires { before ≤ now }
-    ensures { MatchBool result (RisesBy 64 before now) (IsUnder 64 before now) }
+    ensures { MatchBool result (RisesBy PATIENCE before now) (IsUnder PATIENCE before now) }
 {
-    now - before >= 64 || now == u64::MAX
+    now - before >= 1_000_000 || now == u64::MAX
 }
 
-/// Serves a request: tries it until a try is good, or the pass was refused 64 times.
+// Whether a request drew so many numbers in vain that it is given up.
+fn is_drawn_out(room: u64, left: u64) -> bool
+    requires { left ≤ room }
+    ensures { MatchBool result (left + 64 ≤ room) (room < left + 64) }
+{
+    room - left >= 64
+}
+
+/// Serves a request: tries it until a try is good, or it drew 64 numbers in vain, or it was refused a million times.
 #[tactic(auto, using(crate::proofs::Serving::tried_none, crate::proofs::Serving::tried_on, crate::proofs::Serving::may_try, crate::proofs::Serving::never))]
 pub fn serve_one<
     S,
@@ -58,12 +67,16 @@ pub fn serve_one<
     ensures device { IsErrOf result DeviceOf ↔ (p.new.numbers.met_fault ≡ true) }
 {
     let before = p.refused();
-    for _ in 0..129u64 {
+    let room = p.left();
+    for _ in 0..2_000_001u64 {
         match try_once(stm, turns, p, alloc, lay, file, index, q, gate) {
             Tried::Done(done) => return Ok(done),
             Tried::Device => return Err(Unserved::Device),
             Tried::NoMemory => return Err(Unserved::NoMemory),
             Tried::Again => {}
+        }
+        if is_drawn_out(room, p.left()) {
+            return Err(Unserved::Refused);
         }
         if is_given_up(before, p.refused()) {
             return Err(Unserved::Refused);

@@ -14,4 +14,6 @@ pub struct Job<X> {
     pub done: Vec<Done>,
     /// How it ended. Before its work all requests are set aside.
     pub end: WorkEnd,
+    /// Nothing: so what two workers write lies on cache lines of their own.
+    pub apart: [u64; 16],
 }

@@ -49,6 +49,7 @@ pub fn make_jobs<S, X, K, P: TransactionRule<S, X, K>>(
         pass: first,
         done,
         end: WorkEnd::SetAside,
+        apart: [0; 16],
     };
     let Ok(()) = jobs.each.insert(0, job) else {
         unreachable!()
@@ -136,6 +137,7 @@ fn split_job<S, X, K, P: TransactionRule<S, X, K>>(
         pass,
         done,
         end: WorkEnd::SetAside,
+        apart: [0; 16],
     })
 }
 

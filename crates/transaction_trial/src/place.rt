@@ -32,15 +32,20 @@ pub struct Place {
     pub stm: Small,
 }
 
-/// Makes the tables and the first pass, where there are such tables.
-pub fn open_place(alloc: Global, settings: &Settings) -> Option<(Place, Pass<()>)>
+/// Makes the tables of so many subscribers and the first pass, where there are such tables.
+pub fn open_place(
+    alloc: Global,
+    subscribers: u64,
+    threads: u64,
+    locks: u64,
+) -> Option<(Place, Pass<()>)>
     ensures { IfSome result (λ r. IsOpen r.0 r.1) }
 {
-    let calls = settings.subscribers.checked_mul(12)?;
-    let sizes = Sizes::of(settings.subscribers, calls, settings.threads, 16).ok()?;
+    let calls = subscribers.checked_mul(12)?;
+    let sizes = Sizes::of(subscribers, calls, threads, 16).ok()?;
     let lay = Layout::of(&sizes).ok()?;
     let words = populate(alloc, &lay).ok()?;
-    let terms = terms_of(alloc, &lay, &words, settings.locks)?;
+    let terms = terms_of(alloc, &lay, &words, locks)?;
     let (stm, pass) = share(alloc, &terms)?;
     Some((Place { lay, words, stm }, pass))
 }

@@ -28,6 +28,7 @@ pub fn read_settings(words: &[String]) -> Option<Settings> {
     })
 }
 
-fn number_of(word: &String) -> Option<u64> {
+/// The number that a word says.
+pub fn number_of(word: &String) -> Option<u64> {
     word.as_str().parse::<u64>().ok()
 }
