@@ -1,0 +1,16 @@
+pub mod ToldOnTheWay
+pub mod Answering
+pub mod Closing
+pub mod Finishing
+pub mod NothingDone
+pub mod Opened
+pub mod Counts
+pub mod FilesServed
+pub mod RunEnded
+pub mod Begun
+pub mod Behind
+pub mod RestsRun
+pub mod Reopening
+pub mod Parting
+pub mod Uniting
+pub mod AsideRun

@@ -1,0 +1,10 @@
+pub mod Answers
+pub mod Ends
+pub mod HasRun
+pub mod Ran
+pub mod Starts
+pub mod HasRests
+pub mod Served
+pub mod SetAside
+pub mod Behind
+pub mod Parts

@@ -1,0 +1,70 @@
+//! The requests of files, run on threads.
+
+ghost use Rattle.std.specs.Prelude.{◌≡◌, length, map};
+ghost use Rattle.back_store.specs.BackView.{sight_of};
+ghost use Rattle.dude_engine.specs.Opening.{Opening};
+ghost use Rattle.dude_engine.specs.Plain.{IsOpeningOf};
+ghost use Rattle.image_opening.specs.Opened.{IsOpened};
+ghost use Rattle.run_threads.specs.Answers.{AnswersOnThreads, TellsSyncsOnThreads};
+ghost use Rattle.run_threads.specs.Ends.{EndsOnThreads, MayRunOn, RecoversOnThreads};
+
+use crate::beginning::begin;
+use crate::ending::finish;
+use crate::serving::serve;
+use dude_base::run::Run;
+use dude_engine::{Ran, RanEnd};
+use image_opening::Opened;
+use pmem_trait::Medium;
+use request_attempts::gate::Gate;
+use std::alloc::Global;
+use std::thread::Threads;
+use tatp_model::Request;
+
+/// Runs the requests of files, each file on a thread of its own, as transactions over shared pages. Whoever takes the turn
+/// persists what has committed in bundles, announces and reproduces. When all threads are joined the rest is persisted,
+/// announced and reproduced, and what a thread set aside after many refusals is run on one thread behind the others. Each
+/// transaction passes the gate between its last read and its commit.
+pub fn threaded<R: Threads + Sync, M: Medium + Send, G: Gate + Sync>(
+    rt: &R,
+    alloc: Global,
+    opened: Opened<M>,
+    run: &Run,
+    files: &[Vec<Request>],
+    gate: &G,
+) -> Ran<M>
+    requires opened { IsOpened opened }
+    requires may { MayRunOn opened run.now (length files.now) (map (λ f. f.items) files.now) }
+    ensures replies { (opening : Opening) → IsOpeningOf opened opening
+        → AnswersOnThreads run.now opening (map (λ f. f.items) files.now) result.done.items
+        (sight_of opened.back) }
+    ensures syncs { TellsSyncsOnThreads opened.number result.done.items (sight_of opened.back)
+        (M.sight result.medium) }
+    ensures moments { (opening : Opening) → IsOpeningOf opened opening
+        → RecoversOnThreads opening opened.words.items result.done.items (sight_of opened.back)
+        (M.sight result.medium) }
+    ensures end { EndsOnThreads opened (map (λ f. f.items) files.now) result.done.items result.end
+        result.last (M.sight result.medium) }
+{
+    let Opened {
+        back,
+        lay,
+        sizes: _,
+        words,
+        number,
+    } = opened;
+    match begin(alloc, back, words, number, run, files.len() as u64) {
+        Ok((stm, pass)) => {
+            let served = serve(rt, alloc, stm, pass, &lay, files, gate);
+            finish(alloc, served, lay, run.frames, files)
+        }
+        Err(back) => {
+            known_back::start(&back);
+            Ran {
+                done: Vec::new(alloc),
+                medium: back.into_medium(),
+                end: RanEnd::NoMemory,
+                last: number,
+            }
+        }
+    }
+}
