@@ -3,18 +3,24 @@
 #![tactic(auto)]
 
 use std::io;
+use std::thread::Threads;
 
 fn main(rt: HostRuntime) -> io::Result<()> {
     let input = io::read_to_string(rt.alloc(), rt.reader())?;
     for part in input.split("=== ") {
         let (name, script) = part.split_once('\n').unwrap_or((part, ""));
-        follow(rt, name, script)?;
+        follow(&rt, rt, name, script)?;
     }
     Ok(())
 }
 
 /// Carries out the script of this name. In front of the first one stands nothing.
-fn follow(rt: HostRuntime, name: &str, script: &str) -> io::Result<()> {
+fn follow<R: Threads + Sync>(
+    threads: &R,
+    rt: HostRuntime,
+    name: &str,
+    script: &str,
+) -> io::Result<()> {
     if name.is_empty() {
         return Ok(());
     }
@@ -25,7 +31,7 @@ fn follow(rt: HostRuntime, name: &str, script: &str) -> io::Result<()> {
         "home_runs" => home_runs::follow(rt, script),
         "text_runs" => text_runs::follow(rt, script),
         "stm_runs" => stm_runs::follow(rt, script),
-        "program_runs" => program_runs::follow(rt, script),
+        "program_runs" => program_runs::follow(threads, rt, script),
         _ => rt.println("no such script"),
     }
 }

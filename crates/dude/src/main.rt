@@ -11,6 +11,7 @@ use dude_io::{EdgeFault, FilePmem, RealFiles, RealSink};
 use dude_program::{Fault, fault_text};
 use std::process::ExitCode;
 use std::rc::RcStr;
+use std::thread::Threads;
 use std::{env, io};
 
 /// What `--help` prints.
@@ -26,10 +27,11 @@ format S C N CELLS
   forwardings (1 to 120000), and with N log rings (1 to 16) of so many CELLS
   (16 to 4096). The new tables have up to 12 call forwardings a subscriber.
 run [--frames F] [--locks L] FILE..
-  Opens IMAGE, carries out the requests of the files, at most one file for each
-  ring, and writes what they change. F is from 32, or from IMAGE's pages where
-  there are fewer, to its pages, and L from 1 to 65536; nothing else depends on
-  them yet.
+  Opens IMAGE, carries out the requests of the files, each file on a thread of
+  its own and at most one for each ring, and writes what they change. F pages
+  are in memory at a time, from 32, or from IMAGE's pages where there are fewer,
+  to its pages, as many as where it isn't said. L locks keep the threads apart,
+  from 1 to 65536, and 1024 where it isn't said.
 recover
   Opens IMAGE, which writes what it recovers to, and prints its last number.
 dump
@@ -37,7 +39,8 @@ dump
   last number.
 drive SEED COUNT FILES
   Opens IMAGE, carries out COUNT random requests (0 to 99999) of each of so many
-  FILES (1 to 16), writes what they change, and prints how they were answered.
+  FILES (1 to 16), each on a thread of its own, writes what they change, and
+  prints how they were answered.
 audit PRINTED FILE..
   Prints yes where PRINTED is what one thread could print that runs the files on
   IMAGE, which has to be a copy from before the run. Only reads IMAGE.
@@ -56,11 +59,11 @@ no such run
 const VERSION: &str = "dude 0.1.0\n";
 
 fn main(rt: HostRuntime) -> ExitCode {
-    ExitCode::from(status(rt))
+    ExitCode::from(status(&rt, rt))
 }
 
 /// Does what the command line says, and gives the status.
-fn status(rt: HostRuntime) -> u8 {
+fn status<R: Threads + Sync>(threads: &R, rt: HostRuntime) -> u8 {
     let words = match words_of(&rt) {
         Ok(words) => words,
         Err(fault) => return fault_status(rt, fault),
@@ -70,7 +73,7 @@ fn status(rt: HostRuntime) -> u8 {
         [image, words @ ..] => match image.as_str() {
             "--help" => text_status(rt, HELP),
             "--version" => text_status(rt, VERSION),
-            name => command_status(rt, name, words),
+            name => command_status(threads, rt, name, words),
         },
     }
 }
@@ -95,7 +98,12 @@ fn words_of(rt: &HostRuntime) -> Result<Vec<RcStr>, Fault> {
 }
 
 /// Carries out a command on the image of this name.
-fn command_status(rt: HostRuntime, name: &str, words: &[RcStr]) -> u8 {
+fn command_status<R: Threads + Sync>(
+    threads: &R,
+    rt: HostRuntime,
+    name: &str,
+    words: &[RcStr],
+) -> u8 {
     let medium = match FilePmem::open(rt, name) {
         Ok(medium) => medium,
         Err(EdgeFault::Failed) => return fault_status(rt, Fault::Device),
@@ -103,7 +111,7 @@ fn command_status(rt: HostRuntime, name: &str, words: &[RcStr]) -> u8 {
     };
     let mut files = RealFiles::new(rt);
     let mut out = RealSink::new(rt);
-    let ended = dude_program::dude(rt.alloc(), words, medium, &mut files, &mut out);
+    let ended = dude_program::dude(threads, rt.alloc(), words, medium, &mut files, &mut out);
     match ended.fault {
         None => 0,
         Some(fault) => fault_status(rt, fault),

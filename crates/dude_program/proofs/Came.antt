@@ -1,14 +1,14 @@
 -- What a command comes to before its output, from the opening of its image and its run.
-use Rattle.std.proofs.Common.{◌≡◌, ◌⊎◌, ℕ, ◌≤◌, Bool, true, false, IsTrue, List, [], refl, sym, subst, inl, inr, arith, Option, Some, None}
+use Rattle.std.proofs.Common.{◌≡◌, ◌⊎◌, ℕ, ◌≤◌, Bool, true, false, IsTrue, List, [], refl, sym, ◌∙◌, subst, inl, inr, arith, Option, Some, None}
 use Rattle.std.specs.Bool.{MatchBool}
 use Rattle.std.proofs.lemmas.List.Elements.{All-nil}
 use Rattle.std.proofs.lemmas.List.Sorted.{IsPermutation-refl}
 use Rattle.dude_base.specs.declared.sizes.Sizes.{Sizes}
-use Rattle.pmem_trait.specs.Sights.{Sight, CallsMade.none}
+use Rattle.pmem_trait.specs.Sights.{Sight, SomeCalls, CallsMade.none}
 use Rattle.pmem_trait.proofs.Runs.{made_later, ran_here, ran_then, risen_later}
 use Rattle.tatp_model.specs.declared.done.Done.{Done}
 use Rattle.tatp_model.specs.declared.request.Request.{Request}
-use Rattle.tatp_model.specs.OneThread.{is_sync}
+use Rattle.tatp_model.specs.OneThread.{RepliesOfOneThread, is_sync}
 use Rattle.run_order.specs.Runs.{Collects}
 use Rattle.run_order.proofs.Law.{law}
 use Rattle.run_order.proofs.Performed.{performs_start}
@@ -17,17 +17,19 @@ use Rattle.back_store.specs.Back.{idle}
 use Rattle.image_format.specs.Causes.{FitsImage}
 use Rattle.command_words.specs.Command.{Meaning, Meaning.FreshRun, Meaning.FormatImage, Meaning.RunFiles, Meaning.RecoverImage, Meaning.DumpTables, Meaning.DriveLoad, Meaning.AuditRun}
 use Rattle.dude_engine.specs.Opening.{Opening}
+use Rattle.dude_engine.specs.Plain.{LosesFew, most_lost_by}
 use Rattle.command_edges.specs.declared.fault.Fault.{Fault}
 use Rattle.command_edges.specs.declared.fault.Fault.TheVariants.{Device, Memory}
 use Rattle.command_openings.specs.Opens.{Opens}
 use Rattle.command_openings.specs.Openings.{IsOpeningOn, new_opening}
 use Rattle.command_openings.proofs.OneOpening.{one_opening}
-use Rattle.dude_program.specs.Opening.{IsReachable, RequestsAre, ends_opened, makes_image, only_reads, runs_requests}
-use Rattle.dude_program.specs.Headline.{Replies}
+use Rattle.dude_program.specs.Opening.{IsReachable, KnowsReplies, RequestsAre, ends_opened, makes_image, only_reads, runs_requests, runs_threads}
+use Rattle.dude_program.specs.Headline.{FailedOnThreads, Replies}
 use Rattle.dude_program.specs.Causes.{EndedWell, MustRefuse, OpensOnce, RanUnlessDevice}
 use Rattle.back_store.specs.Operations.{MakesOperations, OperatesLog.rests}
 use Rattle.dude_program.specs.Work.{EndsWhole, RanOver}
 use Rattle.dude_program.proofs.FilesRead.{FilesRead}
+use Rattle.dude_program.proofs.Works.{numbers_of}
 use Rattle.dude_program.proofs.Contents.{fits_not_refused, makes_none}
 use Rattle.dude_program.proofs.Crashes.{opens_prefix, crash_prefix, crash_run, end_opened, end_run, reachable, sync_none, sync_run}
 use Rattle.dude_program.proofs.Endings.{Came, CameBy, Finished, StartsAt}
@@ -65,6 +67,18 @@ opened_old {meaning} {opening} {words} {s} {m} opener writes on is_open = record
   is_open = subst (λ (b : Bool). Opens b opening words s m) (sym opener.opens) is_open;
 }
 
+-- what is known of the replies stays so while no call changes whether the medium is visible
+known_behind : (meaning : Meaning) (opening : Opening) (s m : Sight) → m.is_visible ≡ s.is_visible → KnowsReplies meaning opening s → KnowsReplies meaning opening m
+known_behind (FreshRun subscribers file) opening s m same known = tt
+known_behind (FormatImage subscribers calls rings cells) opening s m same known = tt
+known_behind (RunFiles None locks files) opening s m same known = tt
+known_behind (RunFiles (Some frames) locks files) opening s m same (inl seen) = inl (same ∙ seen)
+known_behind (RunFiles (Some frames) locks files) opening s m same (inr all) = inr all
+known_behind RecoverImage opening s m same known = tt
+known_behind DumpTables opening s m same known = tt
+known_behind (DriveLoad seed count number) opening s m same known = tt
+known_behind (AuditRun printed files) opening s m same known = tt
+
 -- a command that carries requests out makes calls behind its opening
 runs_on : (meaning : Meaning) → runs_requests meaning ≡ true → ends_opened meaning ≡ false
 runs_on (FreshRun subscribers file) runs = refl
@@ -79,11 +93,15 @@ runs_on (AuditRun printed files) runs = cc runs
 collects_none : Collects [] [] []
 collects_none = record { same = IsPermutation-refl []; held = ([], tt, refl) }
 
-pub replies_none : (meaning : Meaning) (f : FilesSight) (opening : Opening) → RequestsAre meaning f opening [] → Replies meaning f opening []
-replies_none meaning f opening are = record {
+answered_none : (opening : Opening) → RepliesOfOneThread opening.number opening.sizes.calls opening.database [] []
+answered_none opening = (law opening.number opening.sizes.calls opening.database [] [] [] (performs_start opening.number opening.sizes.calls opening.database) collects_none).0
+
+pub replies_none : (meaning : Meaning) (f : FilesSight) (s : Sight) (opening : Opening) → RequestsAre meaning f opening [] → Replies meaning f s opening []
+replies_none meaning f s opening are = record {
   requests = [];
   read = are;
-  answered = (law opening.number opening.sizes.calls opening.database [] [] [] (performs_start opening.number opening.sizes.calls opening.database) collects_none).0;
+  numbers = numbers_of opening.number opening.sizes.calls opening.database [] [] (answered_none opening);
+  answered = λ known. answered_none opening;
   syncs_from = All-nil (λ d. IsTrue (is_sync d.request) → opening.number ≤ d.number);
 }
 
@@ -126,7 +144,7 @@ module _ {meaning : Meaning} {f g : FilesSight} {opening : Opening} {words : Lis
   unfolding replies_none
   came_idle are passes = came_none opening.number None (λ e. let no : ⊥ = cc in no) (record {
     passes = passes;
-    replies = replies_none meaning f opening are;
+    replies = replies_none meaning f s opening are;
     all = refl;
     none_over = All-nil (λ d. d.number ≤ opening.number);
     from = omega arith;
@@ -141,18 +159,34 @@ module _ {meaning : Meaning} {f g : FilesSight} {opening : Opening} {words : Lis
   ran_behind : {fault : Option Fault} {t : Sight} → RanUnlessDevice fault m t → RanUnlessDevice fault s t
   ran_behind ran = (ran.0, ran_then opened_image.is_open.ran ran.1, ran.2)
 
-  -- a command whose requests were run
-  module _ {Reaches : List Done → ℕ → Type 0} {requests : List (List Request)} {done : List Done} {last : ℕ} {t : Sight} (reaches : (order : List Done) (n : ℕ) → Reaches order n → IsReachable meaning opening order n) (runs : runs_requests meaning ≡ true) (are : RequestsAre meaning f opening requests)
-      (passes : makes_image meaning ≡ false → (why : Fault) → MustRefuse meaning f opening why → ⊥) where
-    abbrev replies_run : {fault : Option Fault} → RanOver Reaches opening words requests done last fault m t → Replies meaning f opening done
-    replies_run run = record { requests = requests; read = are; answered = run.replies; syncs_from = run.syncs_from }
+  -- what is known of the replies from the start is known behind the opening
+  known_at : KnowsReplies meaning opening s → KnowsReplies meaning opening m
+  known_at known = known_behind meaning opening s m (made_later opened_image.is_open.ran.1).is_visible known
 
-    came_by : (fault : Option Fault) → (EndedWell fault → fault ≡ None) → RanOver Reaches opening words requests done last fault m t → CameBy meaning f opening done last s t fault → Came meaning f g opening done last fault s t
+  -- a command whose requests were run
+  module _ {threads : Bool} {Knows : Type 0} {Reaches : List Done → ℕ → Type 0} {requests : List (List Request)} {done : List Done} {last : ℕ} {t : Sight} (where_run : runs_threads meaning ≡ threads)
+      (knows : KnowsReplies meaning opening m → Knows) (reaches : (order : List Done) (n : ℕ) → Reaches order n → IsReachable meaning opening order n) (runs : runs_requests meaning ≡ true) (are : RequestsAre meaning f opening requests)
+      (passes : makes_image meaning ≡ false → (why : Fault) → MustRefuse meaning f opening why → ⊥) where
+    abbrev replies_run : {fault : Option Fault} → RanOver threads Knows Reaches opening words requests done last fault m t → Replies meaning f s opening done
+    replies_run run = record { requests = requests; read = are; numbers = run.numbers; answered = λ known. run.replies (knows (known_at known)); syncs_from = run.syncs_from }
+
+    -- how few numbers are lost
+    lost_of : {fault : Option Fault} → RanOver threads Knows Reaches opening words requests done last fault m t
+        → FailedOnThreads meaning s t ⊎ ((ok : Bool) × SomeCalls ok m t × LosesFew (most_lost_by ok) opening words done m t)
+    lost_of run = elim run.few_lost [
+      | inl failed ↦ inl (
+        where_run ∙ failed.0,
+        ran_then opened_image.is_open.ran (subst (λ (b : Bool). SomeCalls b m t) (run.ran.2.1 failed.1) run.ran.1),
+      )
+      | inr few ↦ inr few
+    ]
+
+    came_by : (fault : Option Fault) → (EndedWell fault → fault ≡ None) → RanOver threads Knows Reaches opening words requests done last fault m t → CameBy meaning f opening done last s t fault → Came meaning f g opening done last fault s t
     came_by fault well run by = record {
       files = files;
       at = opened_image.at;
       replies = inr (replies_run run);
-      crash = crash_run Reaches meaning opening words requests done s m t runs opened_image.is_open reaches run.replies run.moments run.few_lost;
+      crash = crash_run Reaches meaning opening words requests done s m t runs opened_image.is_open reaches run.numbers run.moments run.ran (lost_of run);
       sync = sync_run (makes_image meaning) opening words done s m t opened_image.is_open run.syncs_follow run.syncs_told;
       ran = ran_behind run.ran;
       once = opens_once (subst (λ (b : Bool). MatchBool b (t ≡ m) (RanUnlessDevice fault m t)) (sym (runs_on meaning runs)) run.ran) (λ ended. run.operates (well ended));
@@ -160,7 +194,7 @@ module _ {meaning : Meaning} {f g : FilesSight} {opening : Opening} {words : Lis
       cause = by;
     }
 
-    finished : RanOver Reaches opening words requests done last None m t → Finished meaning f opening done last s t
+    finished : RanOver threads Knows Reaches opening words requests done last None m t → Finished meaning f opening done last s t
     finished run =
         let whole : EndsWhole Reaches opening words requests done last m t = run.whole refl in
         record {
@@ -174,11 +208,11 @@ module _ {meaning : Meaning} {f g : FilesSight} {opening : Opening} {words : Lis
               (whole.end _ opened_image.is_open.holds (subst (λ b. IsTrue b) (sym (made_later opened_image.is_open.ran.1).is_visible) visible));
         }
 
-    pub came_ran : (fault : Option Fault) → RanOver Reaches opening words requests done last fault m t → Came meaning f g opening done last fault s t
+    pub came_ran : (fault : Option Fault) → RanOver threads Knows Reaches opening words requests done last fault m t → Came meaning f g opening done last fault s t
     came_ran fault run = by run.only
       where
         P : Option Fault → Type 0
-        P o = RanOver Reaches opening words requests done last o m t
+        P o = RanOver threads Knows Reaches opening words requests done last o m t
 
         Q : Option Fault → Type 0
         Q o = Came meaning f g opening done last o s t

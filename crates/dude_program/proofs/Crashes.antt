@@ -1,5 +1,5 @@
 -- What every image recovers to along a command, from its opening and its run.
-use Rattle.std.proofs.Common.{◌≡◌, ℕ, ◌<◌, ◌≤◌, Bool, true, false, cond, not, ◌&&◌, IsTrue, List, [], ◌∷◌, ◌++◌, length, drop, map, refl, sym, ◌∙◌, ap, subst, arith, inl, inr, append_assoc}
+use Rattle.std.proofs.Common.{◌≡◌, ◌⊎◌, ℕ, ◌<◌, ◌≤◌, Bool, true, false, cond, not, ◌&&◌, IsTrue, List, [], ◌∷◌, ◌++◌, length, drop, map, refl, sym, ◌∙◌, ap, subst, arith, inl, inr, append_assoc, get_or, Option}
 use Rattle.std.specs.Prelude.{nat_le}
 use Rattle.std.specs.List.{All, filter}
 use Rattle.std.proofs.lemmas.Bool.{lt-leb}
@@ -15,18 +15,21 @@ use Rattle.pmem_trait.proofs.Runs.{made_later, ran_then}
 use Rattle.tatp_model.specs.declared.done.Done.{Done}
 use Rattle.tatp_model.specs.declared.request.Request.{Request}
 use Rattle.tatp_model.specs.Database.{Database}
-use Rattle.tatp_model.specs.OneThread.{IsPrintedOrder, RepliesOfOneThread, after_number, after_requests, is_sync}
+use Rattle.tatp_model.specs.OneThread.{IsPrintedOrder, after_number, after_requests, is_sync}
 use Rattle.run_order.specs.Runs.{SyncsFollow}
+use Rattle.legal_order.specs.Printed.{NumbersOfOneThread}
+use Rattle.run_threads.specs.Answers.{AreSyncsDurable}
 use Rattle.image_recovery.specs.Recovered.{RecoversTo}
 use Rattle.command_words.specs.Command.{Meaning, Meaning.FreshRun, Meaning.FormatImage, Meaning.RunFiles, Meaning.RecoverImage, Meaning.DumpTables, Meaning.DriveLoad, Meaning.AuditRun}
-use Rattle.dude_engine.specs.Endings.{AreSyncsTold, End, LosesAtMost, WasToldLast}
+use Rattle.dude_engine.specs.Endings.{End, LosesAtMost, WasToldLast}
 use Rattle.dude_engine.specs.Opening.{Opening, RecoversAmong, last_of}
 use Rattle.dude_engine.specs.Plain.{LosesFew, RecoversAlongRun, most_lost_by}
 use Rattle.dude_engine.proofs.Numbering.{greatest_from}
+use Rattle.command_edges.specs.declared.fault.Fault.{Fault}
 use Rattle.command_openings.specs.Opens.{Opens, OpensPartly, ShowsOpening, TellsAtMost}
 use Rattle.dude_program.specs.Opening.{IsReachable, makes_image, runs_requests}
-use Rattle.dude_program.specs.Headline.{Crash, RecoversSince, Sync, WasToldFirst}
-use Rattle.dude_program.specs.Causes.{IsLeftOpened}
+use Rattle.dude_program.specs.Headline.{Crash, FailedOnThreads, RecoversSince, Sync, WasToldFirst}
+use Rattle.dude_program.specs.Causes.{IsLeftOpened, RanUnlessDevice}
 
 -- ---- numbers
 
@@ -120,28 +123,32 @@ opens_prefix makes opening words s t is_open = record { moments = is_open.moment
 -- where requests were run
 pub crash_run : (Reaches : List Done → ℕ → Type 0) (meaning : Meaning) (opening : Opening) (words : List ℕ) (requests : List (List Request)) (done : List Done) (s m t : Sight) → runs_requests meaning ≡ true → Opens (makes_image meaning) opening words s m
     → ((order : List Done) (n : ℕ) → Reaches order n → IsReachable meaning opening order n)
-    → RepliesOfOneThread opening.number opening.sizes.calls opening.database requests done → RecoversAlongRun Reaches opening words done m t → (ok : Bool) × SomeCalls ok m t × LosesFew (most_lost_by ok) opening words done m t → Crash meaning opening done s t
-crash_run Reaches meaning opening words requests done s m t runs is_open reaches replies moments few =
+    → NumbersOfOneThread opening.number requests done → RecoversAlongRun Reaches opening words done m t → {fault : Option Fault} → RanUnlessDevice fault m t
+    → FailedOnThreads meaning s t ⊎ ((ok : Bool) × SomeCalls ok m t × LosesFew (most_lost_by ok) opening words done m t) → Crash meaning opening done s t
+crash_run Reaches meaning opening words requests done s m t runs is_open reaches numbers moments ran lost =
     let run = moments (length (state_now s).told) is_open.holds in
-    let start = none_at_opening opening.sizes.calls opening.number opening.database done run.0 run.1 replies.over in
+    let start = none_at_opening opening.sizes.calls opening.number opening.database done run.0 run.1 numbers.over in
     record {
       order = run.0;
       printed = run.1;
       keeps = every_moment_then (every_moment_weaker (λ told image size shown. shows_since meaning (length (state_now s).told) opening run.0 told image start shown) is_open.moments)
           (every_moment_weaker (λ told image size shown. from_since (Reaches run.0) meaning (length (state_now s).told) opening run.0 told image (reaches run.0) shown) run.2);
       first_told = λ visible.
-          let more = calls_told few.1.1 (subst (λ b. IsTrue b) (sym (made_later is_open.ran.1).is_visible) visible) in
+          let more = calls_told ran.1.1 (subst (λ b. IsTrue b) (sym (made_later is_open.ran.1).is_visible) visible) in
           inr (
             more.more,
             ap (drop (length (state_now s).told)) (more.is ∙ (ap (λ (l : List ℕ). l ++ more.more) (is_open.told visible) ∙ append_assoc (state_now s).told (opening.number ∷ []) more.more))
                 ∙ drop-append_seam (state_now s).told (opening.number ∷ more.more),
           );
       told_alone = λ alone visible. absurd (let no : ⊥ = cc in no);
-      few_lost = inr (λ visible. (
-        few.0,
-        ran_then is_open.ran few.1,
-        few.2 (length (state_now s).told) is_open.holds (subst (λ b. IsTrue b) (sym (made_later is_open.ran.1).is_visible) visible),
-      ));
+      few_lost = elim lost [
+        | inl failed ↦ inr (inl failed)
+        | inr few ↦ inr (inr (λ visible. (
+          few.0,
+          ran_then is_open.ran few.1,
+          few.2 (length (state_now s).told) is_open.holds (subst (λ b. IsTrue b) (sym (made_later is_open.ran.1).is_visible) visible),
+        )))
+      ];
     }
 
 -- it is said of each opening, since a visible medium has one
@@ -158,7 +165,8 @@ crash_each meaning opening other done s t same crash =
       told_alone = λ alone visible. subst R (sym (same visible)) (crash.told_alone alone visible);
       few_lost = elim crash.few_lost [
         | inl none ↦ inl none
-        | inr few ↦ inr (λ visible. let lost = few visible in (lost.0, lost.1, subst (λ (o : Opening). LosesAtMost (most_lost_by lost.0) o done t) (sym (same visible)) lost.2))
+        | inr (inl failed) ↦ inr (inl failed)
+        | inr (inr few) ↦ inr (inr (λ visible. let lost = few visible in (lost.0, lost.1, subst (λ (o : Opening). LosesAtMost (most_lost_by lost.0) o done t) (sym (same visible)) lost.2)))
       ];
     }
 
@@ -176,13 +184,20 @@ told_later n s m t long told = (told.0, told.1, omega (arith, long, told.2))
 told_longer : (opening : Opening) (s m : Sight) → (state_now m).told ≡ (state_now s).told ++ opening.number ∷ [] → length (state_now s).told ≤ length (state_now m).told
 told_longer opening s m is = let long = ap length is ∙ length-append (state_now s).told (opening.number ∷ []) in omega (arith, long)
 
+-- a number that is durable behind the opening is at most the last one told
+durable_told : (opening : Opening) (s m t : Sight) (n : ℕ) → (state_now m).told ≡ (state_now s).told ++ opening.number ∷ []
+    → ((n ≡ opening.number) × ((state_now t).told ≡ (state_now m).told)) ⊎ ((last : ℕ) × WasToldLast last m t × (n ≤ last))
+    → (last : ℕ) × WasToldLast last s t × (n ≤ last)
+durable_told opening s m t n told (inl none) = (opening.number, ((state_now s).told, none.1 ∙ told, omega arith), let is = none.0 in omega arith)
+durable_told opening s m t n told (inr some) = (some.0, told_later some.0 s m t (told_longer opening s m told) some.1, some.2)
+
 pub sync_run : (makes : Bool) (opening : Opening) (words : List ℕ) (done : List Done) (s m t : Sight) → Opens makes opening words s m → SyncsFollow done
-    → (IsTrue m.is_visible → AreSyncsTold done m t) → Sync done s t
+    → (IsTrue m.is_visible → AreSyncsDurable opening.number done m t) → Sync done s t
 sync_run makes opening words done s m t is_open follow told = record {
   over_earlier = follow;
   told = λ visible k d below sync.
-      let one = told (subst (λ b. IsTrue b) (sym (made_later is_open.ran.1).is_visible) visible) k d below sync in
-      (one.0, told_later one.0 s m t (told_longer opening s m (is_open.told visible)) one.1, one.2);
+      durable_told opening s m t (get_or done k d).number (is_open.told visible)
+      (told (subst (λ b. IsTrue b) (sym (made_later is_open.ran.1).is_visible) visible) k d below sync);
 }
 
 pub end_run : (makes : Bool) (opening : Opening) (words : List ℕ) (done : List Done) (last : ℕ) (s m t : Sight) → Opens makes opening words s m → IsTrue s.is_visible → End opening done last m t → End opening done last s t

@@ -1,34 +1,42 @@
 -- How each command ends, from what its calls leave.
-use Rattle.std.proofs.Common.{◌≡◌, ◌⊎◌, ℕ, ◌+◌, ◌*◌, ◌≤◌, List, [], length, refl, sym, ◌∙◌, ap, subst, inl, inr, arith, Option, Some, None}
+use Rattle.std.proofs.Common.{◌≡◌, ◌⊎◌, false, ℕ, ◌+◌, ◌*◌, ◌≤◌, List, [], length, refl, sym, ◌∙◌, ap, subst, inl, inr, ⊎_elim, ◌<◌, arith, Option, Some, None}
 use Rattle.std.specs.List.{AllZip}
-use Rattle.dude_base.specs.declared.limits.TheConstants.{MAX_NUMBER}
+use Rattle.std.specs.Prelude.{IfSome, min, unwrap_or}
+use Rattle.std.proofs.lemmas.Bool.{cases_lt}
+use Rattle.dude_base.specs.declared.limits.TheConstants.{DEFAULT_LOCKS, MAX_LOCKS, MAX_NUMBER, MIN_FRAMES}
+use Rattle.dude_base.specs.declared.run.Run.{Run}
 use Rattle.dude_base.specs.declared.sizes.Sizes.{Sizes}
-use Rattle.dude_base.specs.Sizes.{sizes_for}
+use Rattle.dude_base.specs.Sizes.{IsFrom, sizes_for}
 use Rattle.pmem_trait.specs.declared.medium.Medium.{Ghosts}
-use Rattle.pmem_trait.specs.Sights.{Sight}
+use Rattle.pmem_trait.specs.Sights.{Sight, state_now}
 use Rattle.tatp_model.specs.declared.done.Done.{Done}
 use Rattle.tatp_model.specs.declared.request.Request.{Request}
 use Rattle.dude_io.specs.Files.{FilesSight}
 use Rattle.dude_io.specs.Sink.{SinkSight}
 use Rattle.tatp_text.specs.Output.{output_of, last_line}
+use Rattle.back_store.specs.BackView.{sight_of}
 use Rattle.image_opening.specs.declared.opened.Opened.{Opened}
 use Rattle.image_opening.specs.Opened.{IsOpened}
-use Rattle.command_words.specs.Command.{Meaning, Meaning.FreshRun, Meaning.FormatImage, Meaning.RunFiles, Meaning.RecoverImage, Meaning.DumpTables, Meaning.DriveLoad, Meaning.AuditRun}
+use Rattle.command_words.specs.Command.{IsBetween, Meaning, Meaning.FreshRun, Meaning.FormatImage, Meaning.RunFiles, Meaning.RecoverImage, Meaning.DumpTables, Meaning.DriveLoad, Meaning.AuditRun}
 use Rattle.command_edges.specs.Files.{OfFile}
 use Rattle.dude_engine.specs.Opening.{Opening}
 use Rattle.dude_engine.specs.Plain.{IsOpeningOf}
 use Rattle.dude_engine.specs.Requests.{request_count}
 use Rattle.command_edges.specs.declared.fault.Fault.{Fault}
 use Rattle.command_edges.specs.declared.fault.Fault.TheVariants.{Usage, File, Text, Small, TooFew, Unformatted, Damaged, NotDb, ManyFiles, Frames, FewSubscribers, Numbers, Device, Output, Memory, Audit}
+use Rattle.run_threads.specs.Answers.{KnowsReads}
+use Rattle.run_threads.specs.Ends.{IsAsOpened}
+use Rattle.command_openings.specs.Opens.{Opens}
 use Rattle.command_openings.specs.Openings.{new_opening}
 use Rattle.command_openings.proofs.OneOpening.{opening_with}
-use Rattle.dude_program.specs.Opening.{fresh_sizes, load_of}
+use Rattle.dude_program.specs.Opening.{KnowsReplies, fresh_sizes, load_of}
 use Rattle.dude_program.specs.Causes.{IsLeftOpened, MustRefuse, RefusesOpening, WantsFrames}
-use Rattle.dude_program.specs.Work.{HasFewNumbers, PrintsText, RefusesLoad, RefusesRun}
+use Rattle.dude_program.specs.Work.{AllowsFrames, HasFewNumbers, HasFrames, PrintsText, RefusesLoad, RefusesRun}
 use Rattle.dude_program.proofs.FilesRead.{all_read}
 use Rattle.dude_program.proofs.Refusals.{one_requests, passes_if}
 use Rattle.dude_program.proofs.Endings.{CameBy}
 use Rattle.dude_program.proofs.Stops.{IsMaker, IsOpener}
+use Rattle.dude_program.proofs.Works.{as_opened}
 
 -- ---- which commands make an image, and which open one
 
@@ -175,6 +183,38 @@ module _ (seed count files : ℕ) (f : FilesSight) (opening : Opening) (requests
     | inl e ↦ subst (λ (x : Fault). CameBy (DriveLoad seed count files) f opening [] last s t (Some x) × (◌≡◌ {A = Option Fault} (Some x) (Some Device) → ⊥)) (sym e) (tt, λ same. let no : ⊥ = cc in no)
     | inr refuses ↦ by_refusal last s t left why refuses
   ]
+
+-- ---- what threads share
+
+-- a number that isn't out of its limits is in them
+not_out : (least most n : ℕ) → ((IsFrom least most n → ⊥) → ⊥) → IsFrom least most n
+not_out least most n within = record {
+  low = ⊎_elim (λ (out : n < least). absurd (within (λ is. let low = is.low in omega arith))) (λ (low : least ≤ n). low) (cases_lt n least);
+  high = ⊎_elim (λ (out : most < n). absurd (within (λ is. let high = is.high in omega arith))) (λ (high : n ≤ most). high) (cases_lt most n);
+}
+
+pub frames_within : (frames : Option ℕ) (pages n : ℕ) → AllowsFrames frames pages → n ≡ unwrap_or frames pages → IsFrom (min MIN_FRAMES pages) pages n
+frames_within None pages n allows has = record { low = all_low pages n has; high = omega (arith, has) }
+  where
+    all_low : (pages n : ℕ) → n ≡ pages → min MIN_FRAMES pages ≤ n
+    all_low pages n is = grind arith
+frames_within (Some frames) pages n allows has =
+    subst (λ (x : ℕ). IsFrom (min MIN_FRAMES pages) pages x) (sym has) (not_out (min MIN_FRAMES pages) pages frames (λ out. allows None [] frames (refl, out)))
+
+pub locks_within : (locks : Option ℕ) (n : ℕ) → IfSome locks (IsBetween 1 MAX_LOCKS) → n ≡ unwrap_or locks DEFAULT_LOCKS → IsFrom 1 MAX_LOCKS n
+locks_within None n between has = record { low = omega (arith, has); high = omega (arith, has) }
+locks_within (Some locks) n between has = record { low = omega (arith, has, between.0); high = omega (arith, has, between.1) }
+
+-- where a run's replies are known it is known what its threads read
+pub run_knows : (frames locks : Option ℕ) (names : List (List ℕ)) (opening : Opening) (run : Run) (m : Sight) → HasFrames frames opening.sizes.pages run → KnowsReplies (RunFiles frames locks names) opening m
+    → KnowsReads opening.sizes run m
+run_knows None locks names opening run m has known = inr has
+run_knows (Some frames) locks names opening run m has (inl seen) = inl seen
+run_knows (Some frames) locks names opening run m has (inr all) = inr (has ∙ all)
+
+-- an image that was opened is as an opening leaves it
+pub held_as_opened : {M : Type 0} {ghosts : Ghosts M} (o : Opened M ghosts) (opened : IsOpened o) (s : Sight) → Opens false (opening_of o opened) o.words.items s (sight_of o.back) → IsAsOpened o
+held_as_opened o opened s is_open = as_opened (length (state_now s).told) o.sizes o.number o.words.items (sight_of o.back) is_open.holds
 
 -- ---- what is printed
 

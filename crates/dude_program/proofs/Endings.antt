@@ -38,7 +38,7 @@ must_not meaning s writes opening starts (inr none) = none opening starts
 -- All requests are done, up to this last number.
 pub record Finished (meaning : Meaning) (f : FilesSight) (opening : Opening) (done : List Done) (last : ℕ) (s t : Sight) : Type 0 where
   pub passes : makes_image meaning ≡ false → (why : Fault) → MustRefuse meaning f opening why → ⊥
-  pub replies : Replies meaning f opening done
+  pub replies : Replies meaning f s opening done
   pub all : AllAreDone replies.requests done
   pub none_over : All (λ d. d.number ≤ last) done
   pub from : opening.number ≤ last
@@ -65,7 +65,7 @@ pub record StartsAt (meaning : Meaning) (opening : Opening) (s : Sight) : Type 0
 pub record Came (meaning : Meaning) (f g : FilesSight) (opening : Opening) (done : List Done) (last : ℕ) (fault : Option Fault) (s t : Sight) : Type 0 where
   pub files : FilesRead meaning f g
   pub at : StartsAt meaning opening s
-  pub replies : (done ≡ []) ⊎ Replies meaning f opening done
+  pub replies : (done ≡ []) ⊎ Replies meaning f s opening done
   pub crash : Crash meaning opening done s t
   pub sync : Sync done s t
   pub ran : RanUnlessDevice fault s t

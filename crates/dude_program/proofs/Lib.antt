@@ -8,4 +8,3 @@ pub mod Came
 pub mod EachCommand
 pub mod Audits
 pub mod Works
-pub mod LogOperations

@@ -1,5 +1,5 @@
 -- A run over an opened image, as the command sees it; the requests of a load; and texts.
-use Rattle.std.proofs.Common.{◌≡◌, ◌⊎◌, ◌↔◌, Bool, true, false, ℕ, zero, suc, ◌+◌, ◌<◌, ◌≤◌, List, [], ◌∷◌, ◌++◌, length, map, refl, sym, ◌∙◌, ap, subst, inl, inr, arith, Some, None, Result, Ok, Err, Vec, Global, take, get_or}
+use Rattle.std.proofs.Common.{◌≡◌, ◌⊎◌, ◌↔◌, Bool, true, false, IsTrue, ℕ, zero, suc, ◌+◌, ◌<◌, ◌≤◌, List, [], ◌∷◌, ◌++◌, length, map, refl, sym, ◌∙◌, ap, subst, inl, inr, arith, Some, None, Result, Ok, Err, Vec, Global, take, get_or}
 use Rattle.std.specs.Result.{result_err}
 use Rattle.std.specs.Prelude.{OnOk, IfErr}
 use Rattle.std.specs.List.{All, range_with_len}
@@ -7,10 +7,20 @@ use Rattle.std.proofs.lemmas.List.{length-map, map_more, map-append}
 use Rattle.std.proofs.lemmas.List.Elements.{All-append, All-cons, All-head, All-nil, All-tail}
 use Rattle.std.proofs.lemmas.List.FromFn.{length-map-range_with_len}
 use Rattle.std.proofs.lemmas.List.Sums.{fold-append}
-use Rattle.pmem_trait.specs.Sights.{Sight, SomeCalls}
+use Rattle.dude_base.specs.declared.sizes.Sizes.{Sizes}
+use Rattle.pmem_trait.specs.Sights.{Sight, SomeCalls, state_now}
 use Rattle.tatp_model.specs.declared.done.Done.{Done}
 use Rattle.tatp_model.specs.declared.request.Request.{Request}
+use Rattle.tatp_model.specs.Database.{Database}
+use Rattle.tatp_model.specs.OneThread.{RepliesOfOneThread}
+use Rattle.legal_order.specs.Printed.{NumbersOfOneThread}
+use Rattle.legal_order.proofs.Printing.{law_parts}
 use Rattle.dude_io.specs.Sink.{SinkSight, Took}
+use Rattle.back_store.specs.Back.{BackState, idle}
+use Rattle.back_store.specs.Operations.{MakesOperations}
+use Rattle.image_opening.specs.Opened.{HoldsOpened}
+use Rattle.run_threads.specs.Ends.{AnyNumber, IsWholeOnThreads}
+use Rattle.command_openings.proofs.Images.{none_behind}
 use Rattle.command_edges.specs.Printing.{FailsIn}
 use Rattle.tatp_model.specs.Files.{requests_in}
 use Rattle.dude_engine.specs.Opening.{IsUpToLast, Opening}
@@ -47,6 +57,10 @@ most_by ran.Device false which = omega arith
 most_by NoMemory true which = omega arith
 most_by NoMemory false which = omega arith
 
+-- the numbers of a run whose replies are one thread's
+pub numbers_of : (first limit : ℕ) (db : Database) (files : List (List Request)) (done : List Done) → RepliesOfOneThread first limit db files done → NumbersOfOneThread first files done
+numbers_of first limit db files done replies = ((law_parts first limit db files done).0 replies).0
+
 -- how many numbers are lost, by whether each call went well
 pub lost_end : (end : RanEnd) (opening : Opening) (words : List ℕ) (done : List Done) (s t : Sight) → plain.RanUnlessDevice end s t → plain.LosesFew (plain.most_lost end) opening words done s t
     → (ok : Bool) × SomeCalls ok s t × plain.LosesFew (plain.most_lost_by ok) opening words done s t
@@ -61,6 +75,33 @@ lost_end end opening words done s t ran few = (
         images = record { each = λ image is. let r = loses.images.each image is in (r.0, omega (arith, r.1, most_by end ran.0 ran.2), r.2) };
       },
 )
+
+-- on threads only where no call failed
+pub lost_on_threads : (end : RanEnd) (opening : Opening) (words : List ℕ) (done : List Done) (s t : Sight) → plain.RanUnlessDevice end s t
+    → (plain.ran_well end ≡ true → plain.LosesFew (plain.most_lost end) opening words done s t)
+    → (IsTrue true × (fault_of_end end ≡ Some Device)) ⊎ ((ok : Bool) × SomeCalls ok s t × plain.LosesFew (plain.most_lost_by ok) opening words done s t)
+lost_on_threads ran.Device opening words done s t ran few = inl (refl, refl)
+lost_on_threads Whole opening words done s t ran few = inr (lost_end Whole opening words done s t ran (few refl))
+lost_on_threads NoMemory opening words done s t ran few = inr (lost_end NoMemory opening words done s t ran (few refl))
+
+-- what holds of an opened image's state holds of an idle back at its opening
+pub operates_idle : {state : BackState} {sizes : Sizes} {number : ℕ} (opening : Opening) (s t : Sight) → state ≡ idle sizes number → opening.sizes ≡ sizes → opening.number ≡ number
+    → MakesOperations state s t → MakesOperations (idle opening.sizes opening.number) s t
+operates_idle {state} {sizes} {number} opening s t is same_sizes same_number made =
+    subst (λ (n : ℕ). MakesOperations (idle opening.sizes n) s t) (sym same_number)
+    (subst (λ (z : Sizes). MakesOperations (idle z number) s t) (sym same_sizes) (subst (λ (v : BackState). MakesOperations v s t) is made))
+
+-- a medium that is as an opening left it, whatever was told
+pub as_opened : (before : ℕ) (sizes : Sizes) (number : ℕ) (words : List ℕ) (s : Sight) → HoldsOpened before sizes number words s → HoldsOpened (length (state_now s).told) sizes number words s
+as_opened before sizes number words s held = record {
+  keeps = record { holds = held.keeps.holds; told = λ alive visible. none_behind (state_now s).told number };
+  home = held.home;
+}
+
+-- the last number of a whole run on threads
+pub ends_whole_on_threads : (opening : Opening) (words : List ℕ) (requests : List (List Request)) (done : List Done) (last : ℕ) (s t : Sight) → IsWholeOnThreads opening words requests done last s t
+    → EndsWhole AnyNumber opening words requests done last s t
+ends_whole_on_threads opening words requests done last s t whole = record { all = whole.all; none_over = whole.none_over; from = whole.from; reaches = tt; end = whole.end }
 
 -- the greatest number done is a last number
 pub ends_whole_at : (opening : Opening) (words : List ℕ) (requests : List (List Request)) (done : List Done) (last : ℕ) (s t : Sight) → plain.IsWhole opening words requests done last s t

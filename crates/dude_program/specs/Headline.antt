@@ -15,6 +15,7 @@ use Rattle.tatp_model.specs.OneThread.{is_sync, IsPrintedOrder, AllAreDone, Repl
 use Rattle.dude_io.specs.Files.{FilesSight}
 use Rattle.dude_io.specs.Sink.{SinkSight}
 use Rattle.run_order.specs.Runs.{SyncsFollow}
+use Rattle.legal_order.specs.Printed.{NumbersOfOneThread}
 use Rattle.dude_engine.specs.Opening.{Opening, IsOpening, RecoversAt}
 use Rattle.dude_engine.specs.Endings.{AreSyncsTold, End, LosesAtMost}
 use Rattle.dude_engine.specs.Plain.{most_lost_by}
@@ -24,14 +25,16 @@ use Rattle.command_words.specs.Command.{Meaning, Meaning.FreshRun, Meaning.Forma
 use Rattle.dude_program.specs.Audit.{IsRunFound}
 use Rattle.dude_program.specs.World.{World}
 use Rattle.command_openings.specs.Opens.{TellsAtMost}
-use Rattle.dude_program.specs.Opening.{makes_image, only_reads, runs_requests, Starts, RequestsAre, IsReachable, IsOutput, prints_early}
+use Rattle.dude_program.specs.Opening.{makes_image, only_reads, runs_requests, runs_threads, Starts, RequestsAre, KnowsReplies, IsReachable, IsOutput, prints_early}
 
--- Replies: of the command's requests these are done, each file's first ones in its order, each once; and the replies are
--- those of one thread along the printed order. A `SYNC` has a number from the opening number on.
-pub record Replies (meaning : Meaning) (files : FilesSight) (opening : Opening) (done : List Done) : Type 0 where
+-- Replies: of the command's requests these are done, each file's first ones in its order, each once, at numbers along which
+-- each file keeps its order; and, where it is known what they read, the replies are those of one thread along the printed
+-- order. A `SYNC` has a number from the opening number on.
+pub record Replies (meaning : Meaning) (files : FilesSight) (medium : Sight) (opening : Opening) (done : List Done) : Type 0 where
   pub requests : List (List Request)
   pub read : RequestsAre meaning files opening requests
-  pub answered : RepliesOfOneThread opening.number opening.sizes.calls opening.database requests done
+  pub numbers : NumbersOfOneThread opening.number requests done
+  pub answered : KnowsReplies meaning opening medium → RepliesOfOneThread opening.number opening.sizes.calls opening.database requests done
   pub syncs_from : All (λ d. IsTrue (is_sync d.request) → opening.number ≤ d.number) done
 
 -- The command makes its image anew and told nothing yet; or the image recovers, to a number that the command may come to,
@@ -53,6 +56,10 @@ WasToldFirst first s t =
 abbrev pub LosesFewAtExit : Opening → List Done → Sight → Sight → Type 0
 LosesFewAtExit opening done s t = IsTrue s.is_visible → (ok : Bool) × SomeCalls ok s t × LosesAtMost (most_lost_by ok) opening done t
 
+-- The command runs threads, and a call on the medium failed.
+abbrev pub FailedOnThreads : Meaning → Sight → Sight → Type 0
+FailedOnThreads meaning s t = IsTrue (runs_threads meaning) × SomeCalls false s t
+
 -- Crash: at each moment of the call each image that a crash may leave recovers so, along the printed order. The first
 -- number that is told in the call is the opening number; a command that carries no requests out tells it once, and no other.
 pub record Crash (meaning : Meaning) (opening : Opening) (done : List Done) (s t : Sight) : Type 0 where
@@ -61,8 +68,8 @@ pub record Crash (meaning : Meaning) (opening : Opening) (done : List Done) (s t
   pub keeps : AtEveryMoment (RecoversSince meaning (length (state_now s).told) opening order) s t
   pub first_told : IsTrue s.is_visible → WasToldFirst opening.number s t
   pub told_alone : runs_requests meaning ≡ false → IsTrue s.is_visible → TellsAtMost opening.number s t
-  -- at exit few numbers are lost of those done, whatever the status
-  pub few_lost : (done ≡ []) ⊎ LosesFewAtExit opening done s t
+  -- at exit few numbers are lost of those done, whatever the status; on threads, unless a call on the medium failed
+  pub few_lost : (done ≡ []) ⊎ FailedOnThreads meaning s t ⊎ LosesFewAtExit opening done s t
 
 -- Sync: the number of a `SYNC` is at least that of each earlier request of its file, and at most the last number told
 pub record Sync (done : List Done) (s t : Sight) : Type 0 where
@@ -77,7 +84,7 @@ pub record AllDone (meaning : Meaning) (old new : World) (done : List Done) (Tak
   pub starts : Starts meaning old.medium opening
   pub lawful : IsOpening opening
   -- what is done is answered as by one thread
-  pub replies : Replies meaning old.files opening done
+  pub replies : Replies meaning old.files old.medium opening done
   pub all : AllAreDone replies.requests done
   -- the last number
   pub last : ℕ
@@ -165,7 +172,7 @@ MustOnlyRead meaning s = IsTrue (only_reads meaning) ⊎ ((opening : Opening) �
 pub record Headline (meaning : Meaning) (old new : World) (done : List Done) (fault : Option Fault) : Type 0 where
   -- nothing is done; or what is done is answered as by one thread that starts from the opening
   pub replies : (done ≡ [])
-      ⊎ ((opening : Opening) × Starts meaning old.medium opening × IsOpening opening × Replies meaning old.files opening done)
+      ⊎ ((opening : Opening) × Starts meaning old.medium opening × IsOpening opening × Replies meaning old.files old.medium opening done)
   -- what each image that a crash at any moment may leave recovers to, for each opening of the command
   pub crash : (opening : Opening) → Starts meaning old.medium opening → Crash meaning opening done old.medium new.medium
   -- the number of each `SYNC` is at least that of each earlier request of its file, and at most the last number told

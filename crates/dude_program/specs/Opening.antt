@@ -1,5 +1,5 @@
 -- What a command starts from, and what it runs: the cases, a command each, below the headline.
-use Rattle.std.specs.Prelude.{◌≡◌, ℕ, ◌*◌, ◌≤◌, ⊤, Bool, true, false, List, [], ◌∷◌, ◌++◌, codes, map}
+use Rattle.std.specs.Prelude.{◌≡◌, ◌⊎◌, ℕ, ◌*◌, ◌≤◌, ⊤, Bool, true, false, Some, None, IsTrue, List, [], ◌∷◌, ◌++◌, codes, map}
 use Rattle.std.specs.List.{AllZip, list_all, range_with_len}
 use Rattle.dude_base.specs.declared.sizes.Sizes.{Sizes}
 use Rattle.dude_base.specs.Sizes.{sizes_for}
@@ -25,6 +25,7 @@ fresh_sizes subscribers = sizes_for subscribers (12 * subscribers) 1 16
 pub record Properties : Type 0 where
   pub makes_image : Bool
   pub runs_requests : Bool
+  pub runs_threads : Bool
   pub ends_opened : Bool
   pub only_reads : Bool
   pub prints_early : Bool
@@ -32,13 +33,13 @@ pub record Properties : Type 0 where
 
 -- the properties of each command
 abbrev pub properties_of : Meaning → Properties
-properties_of (FreshRun subscribers file) = record { makes_image = true; runs_requests = true; ends_opened = false; only_reads = false; prints_early = false; has_headline = true }
-properties_of (FormatImage subscribers calls rings cells) = record { makes_image = true; runs_requests = false; ends_opened = true; only_reads = false; prints_early = false; has_headline = true }
-properties_of (RunFiles frames locks files) = record { makes_image = false; runs_requests = true; ends_opened = false; only_reads = false; prints_early = false; has_headline = true }
-properties_of RecoverImage = record { makes_image = false; runs_requests = false; ends_opened = true; only_reads = false; prints_early = false; has_headline = true }
-properties_of DumpTables = record { makes_image = false; runs_requests = false; ends_opened = true; only_reads = false; prints_early = false; has_headline = true }
-properties_of (DriveLoad seed count number) = record { makes_image = false; runs_requests = true; ends_opened = false; only_reads = false; prints_early = false; has_headline = true }
-properties_of (AuditRun printed files) = record { makes_image = false; runs_requests = false; ends_opened = true; only_reads = true; prints_early = false; has_headline = true }
+properties_of (FreshRun subscribers file) = record { makes_image = true; runs_requests = true; runs_threads = false; ends_opened = false; only_reads = false; prints_early = false; has_headline = true }
+properties_of (FormatImage subscribers calls rings cells) = record { makes_image = true; runs_requests = false; runs_threads = false; ends_opened = true; only_reads = false; prints_early = false; has_headline = true }
+properties_of (RunFiles frames locks files) = record { makes_image = false; runs_requests = true; runs_threads = true; ends_opened = false; only_reads = false; prints_early = false; has_headline = true }
+properties_of RecoverImage = record { makes_image = false; runs_requests = false; runs_threads = false; ends_opened = true; only_reads = false; prints_early = false; has_headline = true }
+properties_of DumpTables = record { makes_image = false; runs_requests = false; runs_threads = false; ends_opened = true; only_reads = false; prints_early = false; has_headline = true }
+properties_of (DriveLoad seed count number) = record { makes_image = false; runs_requests = true; runs_threads = true; ends_opened = false; only_reads = false; prints_early = false; has_headline = true }
+properties_of (AuditRun printed files) = record { makes_image = false; runs_requests = false; runs_threads = false; ends_opened = true; only_reads = true; prints_early = false; has_headline = true }
 
 -- whether the command makes its image anew
 abbrev pub makes_image : Meaning → Bool
@@ -47,6 +48,10 @@ makes_image meaning = (properties_of meaning).makes_image
 -- whether the command carries requests out
 abbrev pub runs_requests : Meaning → Bool
 runs_requests meaning = (properties_of meaning).runs_requests
+
+-- whether the command carries them out on threads
+abbrev pub runs_threads : Meaning → Bool
+runs_threads meaning = (properties_of meaning).runs_threads
 
 -- whether the command makes no call on the medium behind its opening
 abbrev pub ends_opened : Meaning → Bool
@@ -103,6 +108,17 @@ RequestsAre RecoverImage files opening requests = requests ≡ []
 RequestsAre DumpTables files opening requests = requests ≡ []
 RequestsAre (AuditRun printed names) files opening requests = requests ≡ []
 RequestsAre (DriveLoad seed count number) files opening requests = requests ≡ load_of opening.sizes.subscribers seed count number
+
+-- It is known what the command's requests read: all pages are in memory while they run, or the medium is visible.
+abbrev pub KnowsReplies : Meaning → Opening → Sight → Type 0
+KnowsReplies (FreshRun subscribers file) opening medium = ⊤
+KnowsReplies (FormatImage subscribers calls rings cells) opening medium = ⊤
+KnowsReplies (RunFiles None locks files) opening medium = ⊤
+KnowsReplies (RunFiles (Some frames) locks files) opening medium = IsTrue medium.is_visible ⊎ (frames ≡ opening.sizes.pages)
+KnowsReplies RecoverImage opening medium = ⊤
+KnowsReplies DumpTables opening medium = ⊤
+KnowsReplies (DriveLoad seed count number) opening medium = ⊤
+KnowsReplies (AuditRun printed files) opening medium = ⊤
 
 -- The command may come to this number. Where threads may run, numbers may follow those of what is done.
 abbrev pub IsReachable : Meaning → Opening → List Done → ℕ → Type 0

@@ -1,7 +1,8 @@
 -- What becomes of a command's requests, and of its output.
-use Rattle.std.specs.Prelude.{◌≡◌, ◌⊎◌, Bool, ℕ, ◌<◌, ◌≤◌, ◌+◌, ◌*◌, Option, Some, None, IsTrue, List, length, All, ⊤}
+use Rattle.std.specs.Prelude.{◌≡◌, ◌⊎◌, Bool, true, false, ℕ, ◌<◌, ◌≤◌, ◌+◌, ◌*◌, Option, Some, None, unwrap_or, IsTrue, List, length, All, ⊤}
 use Rattle.std.specs.Global.{Vec}
 use Rattle.dude_base.specs.declared.limits.TheConstants.{MAX_NUMBER}
+use Rattle.dude_base.specs.declared.run.Run.{Run}
 use Rattle.dude_base.specs.declared.sizes.Sizes.{Sizes}
 use Rattle.pmem_trait.specs.declared.medium.Medium.{Ghosts}
 use Rattle.pmem_trait.specs.Sights.{Sight, Risen, SomeCalls}
@@ -16,10 +17,13 @@ use Rattle.tatp_text.specs.Output.{output_of}
 use Rattle.tatp_text.specs.Summary.{summary_of}
 use Rattle.dude_io.specs.Sink.{SinkSight, Took}
 use Rattle.run_order.specs.Runs.{SyncsFollow}
+use Rattle.legal_order.specs.Printed.{NumbersOfOneThread}
+use Rattle.run_threads.specs.Answers.{AreSyncsDurable, KnowsReads}
+use Rattle.run_threads.specs.Ends.{AnyNumber}
 use Rattle.dude_engine.specs.declared.ran.RanEnd.{RanEnd}
 use Rattle.dude_engine.specs.declared.ran.RanEnd.TheVariants.{Whole, NoMemory}
 use Rattle.dude_engine.specs.declared.ran.RanEnd.TheVariants as ran
-use Rattle.dude_engine.specs.Endings.{AreSyncsTold, End}
+use Rattle.dude_engine.specs.Endings.{End}
 use Rattle.dude_engine.specs.Opening.{IsUpToLast, Opening}
 use Rattle.dude_engine.specs.Plain.{IsOpeningOf, LosesFew, RecoversAlongRun, most_lost_by}
 use Rattle.dude_engine.specs.Requests.{AreInRange, request_count}
@@ -51,24 +55,27 @@ pub record EndsWhole (Reaches : List Done → ℕ → Type 0) (opening : Opening
   pub end : (before : ℕ) → HoldsOpened before opening.sizes opening.number words s → IsTrue s.is_visible → End opening done last s t
 
 -- The requests were run over an image that was opened at this opening with these home words: what is done, the last number
--- told, and the fault, if any. A run may come to numbers that nothing done has; which ones, by what is done, is given.
-pub record RanOver (Reaches : List Done → ℕ → Type 0) (opening : Opening) (words : List ℕ) (requests : List (List Request)) (done : List Done) (last : ℕ) (fault : Option Fault) (s t : Sight) : Type 0 where
-  -- what is done is answered as by one thread along the printed order
-  pub replies : RepliesOfOneThread opening.number opening.sizes.calls opening.database requests done
+-- told, and the fault, if any. It is given whether threads ran, where it is known what they read, and which numbers the run may
+-- come to, by what is done: some, where threads ran, that nothing done has.
+pub record RanOver (threads : Bool) (Knows : Type 0) (Reaches : List Done → ℕ → Type 0) (opening : Opening) (words : List ℕ) (requests : List (List Request)) (done : List Done) (last : ℕ) (fault : Option Fault) (s t : Sight) : Type 0 where
+  -- each request is done once, at numbers along which each file keeps its order
+  pub numbers : NumbersOfOneThread opening.number requests done
+  -- and answered as by one thread along the printed order
+  pub replies : Knows → RepliesOfOneThread opening.number opening.sizes.calls opening.database requests done
   -- the number of a `SYNC` is at least that of each earlier request of its file
   pub syncs_follow : SyncsFollow done
   -- and at least the opening number
   pub syncs_from : All (λ d. IsTrue (is_sync d.request) → opening.number ≤ d.number) done
-  -- and at most the last number told
-  pub syncs_told : IsTrue s.is_visible → AreSyncsTold done s t
+  -- and at most the last number told, or the opening number where none was
+  pub syncs_told : IsTrue s.is_visible → AreSyncsDurable opening.number done s t
   -- at each moment every image recovers to the database after a prefix of the printed order
   pub moments : RecoversAlongRun Reaches opening words done s t
   -- with no fault all is done, the last number was told, and every image recovers to it
   pub whole : fault ≡ None → EndsWhole Reaches opening words requests done last s t
   -- and the calls made are operations of the opened log
   pub operates : fault ≡ None → MakesOperations (idle opening.sizes opening.number) s t
-  -- at the end few of the numbers done are lost: at most 256, or 257 where the last call on the medium failed
-  pub few_lost : (ok : Bool) × SomeCalls ok s t × LosesFew (most_lost_by ok) opening words done s t
+  -- at the end few of the numbers done are lost: at most 256, or on one thread 257 where the last call on the medium failed
+  pub few_lost : (IsTrue threads × (fault ≡ Some Device)) ⊎ ((ok : Bool) × SomeCalls ok s t × LosesFew (most_lost_by ok) opening words done s t)
   -- no call on the medium failed but the last one, where the fault is `Device`
   pub ran : RanUnlessDevice fault s t
   -- at `Device` the medium's count of faults rose
@@ -97,8 +104,14 @@ EndsBy sight text earlier fault old new = PrintsText text earlier fault (sight o
 -- the requests were run so over an opened image, on one thread; its medium, seen so, is given back
 abbrev pub RanOverOpened : {M : Type 0} {ghosts : Ghosts M} → (M → Sight) → Opened M ghosts → List (Vec Request) → Worked M → Type 0
 RanOverOpened sight o files worked = (opening : Opening) → IsOpeningOf o opening
-    → RanOver (IsUpToLast opening) opening o.words.items (requests_in files) worked.done.items worked.last worked.fault
+    → RanOver false ⊤ (IsUpToLast opening) opening o.words.items (requests_in files) worked.done.items worked.last worked.fault
     (sight (medium_of o.back)) (sight worked.medium)
+
+-- so on threads, which share this: their replies are known where it is known what they read
+abbrev pub RanOnThreads : {M : Type 0} {ghosts : Ghosts M} → (M → Sight) → Opened M ghosts → Run → List (Vec Request) → Worked M → Type 0
+RanOnThreads sight o run files worked = (opening : Opening) → IsOpeningOf o opening
+    → RanOver true (KnowsReads opening.sizes run (sight (medium_of o.back))) AnyNumber opening o.words.items (requests_in files) worked.done.items
+    worked.last worked.fault (sight (medium_of o.back)) (sight worked.medium)
 
 -- no list has more than 100,000 requests
 abbrev pub EachIsFew : List (List Request) → Type 0
@@ -107,6 +120,10 @@ EachIsFew requests = All (λ list. length list ≤ 100000) requests
 -- the numbers behind this one are enough for the requests
 abbrev pub HasNumbers : ℕ → List (List Request) → Type 0
 HasNumbers number requests = number + 65 * request_count requests ≤ MAX_NUMBER
+
+-- what threads share has as many frames as said, or as pages where that isn't said
+abbrev pub HasFrames : Option ℕ → ℕ → Run → Type 0
+HasFrames frames pages run = run.frames ≡ unwrap_or frames pages
 
 -- frames that are in their limits, or not said
 abbrev pub AllowsFrames : Option ℕ → ℕ → Type 0

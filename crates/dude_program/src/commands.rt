@@ -1,8 +1,8 @@
 //! The commands that make or open the image: each reads its files, makes or opens the image, does its work, and prints.
 
-ghost use Rattle.std.specs.Prelude.{◌≡◌, ◌≤◌, ℕ, Option, map};
+ghost use Rattle.std.specs.Prelude.{◌≡◌, ◌<◌, ◌≤◌, IfSome, length, map};
 ghost use Rattle.std.specs.Rc.{rc_str_bytes};
-ghost use Rattle.dude_base.specs.declared.limits.TheConstants.{MAX_RINGS};
+ghost use Rattle.dude_base.specs.declared.limits.TheConstants.{MAX_LOCKS, MAX_RINGS};
 ghost use Rattle.pmem_trait.specs.Sights.{IsAtRest};
 ghost use Rattle.command_words.specs.Command.{IsBetween, Meaning.FreshRun, Meaning.FormatImage, Meaning.RunFiles, Meaning.RecoverImage, Meaning.DumpTables, Meaning.DriveLoad};
 ghost use Rattle.dude_io.specs.Files.{FilesSight};
@@ -14,7 +14,8 @@ use crate::checks::check_run;
 use crate::ended::Ended;
 use crate::load::{Load, make_load};
 use crate::output::{end_with_lines, end_with_summary, print_dump};
-use crate::worked::{idle, work};
+use crate::run_options::RunOptions;
+use crate::worked::{idle, work, work_on_threads};
 use command_edges::read_files;
 use command_openings::{make_and_open, open_and_announce};
 use dude_base::sizes::Sizes;
@@ -22,6 +23,7 @@ use dude_io::{Files, Sink};
 use pmem_trait::Medium;
 use std::alloc::Global;
 use std::rc::RcStr;
+use std::thread::Threads;
 
 /// What a new image is to have.
 #[derive(Clone, Copy)]
@@ -91,18 +93,21 @@ pub fn format<M: Medium, K: Sink>(
     }
 }
 
-/// Runs the requests of the files over the image, with so many frames where that is said.
-pub fn run<M: Medium, F: Files, K: Sink>(
+/// Runs the requests of the files over the image, each file on a thread of its own.
+pub fn run<R: Threads + Sync, M: Medium + Send, F: Files, K: Sink>(
+    rt: &R,
     alloc: Global,
-    frames: Option<u64>,
+    options: RunOptions,
     names: &[RcStr],
     medium: M,
     files: &mut F,
     out: &mut K,
 ) -> Ended<M>
     requires settled { IsAtRest (M.sight medium) }
+    requires locks { IfSome options.locks (IsBetween 1 MAX_LOCKS) }
+    requires some { 0 < length names.now }
     ensures status { result.status ≡ status_of result.fault }
-    ensures ends { (locks : Option ℕ) → Ends (RunFiles frames locks (map rc_str_bytes names.now))
+    ensures ends { Ends (RunFiles options.frames options.locks (map rc_str_bytes names.now))
         (world_of (M.sight medium) (F.sight files.old) (K.sight out.old))
         (world_of (M.sight result.medium) (F.sight files.new) (K.sight out.new))
         result.done.items result.fault }
@@ -115,8 +120,11 @@ pub fn run<M: Medium, F: Files, K: Sink>(
         Ok(opened) => opened,
         Err((fault, medium)) => return Ended::refused(alloc, fault, medium),
     };
-    match check_run(&opened, frames, &lists) {
-        Ok(()) => end_with_lines(alloc, work(alloc, opened, &lists), out),
+    match check_run(&opened, options.frames, &lists) {
+        Ok(()) => {
+            let run = options.over(opened.sizes.pages);
+            end_with_lines(alloc, work_on_threads(rt, alloc, opened, &run, &lists), out)
+        }
         Err(fault) => Ended::refused(alloc, fault, opened.back.into_medium()),
     }
 }
@@ -154,8 +162,14 @@ pub fn dump<M: Medium, K: Sink>(alloc: Global, medium: M, out: &mut K) -> Ended<
     }
 }
 
-/// Runs a load over the image: so many requests of each of so many files, made from a seed.
-pub fn drive<M: Medium, K: Sink>(alloc: Global, load: Load, medium: M, out: &mut K) -> Ended<M>
+/// Runs a load over the image, each file on a thread of its own: so many requests of each of so many files, made from a seed.
+pub fn drive<R: Threads + Sync, M: Medium + Send, K: Sink>(
+    rt: &R,
+    alloc: Global,
+    load: Load,
+    medium: M,
+    out: &mut K,
+) -> Ended<M>
     requires settled { IsAtRest (M.sight medium) }
     requires count { load.count ≤ 99_999 }
     requires files { IsBetween 1 MAX_RINGS load.files }
@@ -170,7 +184,14 @@ pub fn drive<M: Medium, K: Sink>(alloc: Global, load: Load, medium: M, out: &mut
         Err((fault, medium)) => return Ended::refused(alloc, fault, medium),
     };
     match make_load(alloc, &opened, &load) {
-        Ok(lists) => end_with_summary(alloc, work(alloc, opened, &lists), out),
+        Ok(lists) => {
+            let options = RunOptions {
+                frames: None,
+                locks: None,
+            };
+            let run = options.over(opened.sizes.pages);
+            end_with_summary(alloc, work_on_threads(rt, alloc, opened, &run, &lists), out)
+        }
         Err(fault) => Ended::refused(alloc, fault, opened.back.into_medium()),
     }
 }

@@ -16,7 +16,8 @@ pub struct Ended<M> {
     /// The medium that was handed in.
     pub medium: M,
     /// The requests done, in order of file and index. At status 6 and 8 those that wrote last may be in no record on the
-    /// medium: at most the 256 of an open bundle and, at 6, the one that it didn't take.
+    /// medium: at 8 at most the 256 of an open bundle, at 6 on one thread these and the one that it didn't take, and on
+    /// threads perhaps more.
     pub done: Vec<Done>,
 }
 

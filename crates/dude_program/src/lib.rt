@@ -10,6 +10,7 @@ mod commands;
 mod ended;
 mod load;
 mod output;
+mod run_options;
 mod top;
 mod worked;
 

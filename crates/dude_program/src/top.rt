@@ -12,15 +12,18 @@ use crate::audit::audit;
 use crate::commands::{ImageCounts, drive, dump, format, fresh, recover, run};
 use crate::ended::Ended;
 use crate::load::Load;
+use crate::run_options::RunOptions;
 use command_edges::Fault;
 use command_words::{Command, command_of};
 use dude_io::{Files, Sink};
 use pmem_trait::Medium;
 use std::alloc::Global;
 use std::rc::RcStr;
+use std::thread::Threads;
 
 /// Carries out a command, by its kind.
-fn carry_out<M: Medium, F: Files, K: Sink>(
+fn carry_out<R: Threads + Sync, M: Medium + Send, F: Files, K: Sink>(
+    rt: &R,
     alloc: Global,
     command: &Command,
     medium: M,
@@ -55,13 +58,21 @@ fn carry_out<M: Medium, F: Files, K: Sink>(
         }
         Command::Run {
             frames,
+            locks,
             files: names,
-            ..
-        } => run(alloc, frames, names, medium, files, out),
+        } => run(
+            rt,
+            alloc,
+            RunOptions { frames, locks },
+            names,
+            medium,
+            files,
+            out,
+        ),
         Command::Recover => recover(alloc, medium, out),
         Command::Dump => dump(alloc, medium, out),
         Command::Drive { seed, count, files } => {
-            drive(alloc, Load { seed, count, files }, medium, out)
+            drive(rt, alloc, Load { seed, count, files }, medium, out)
         }
         Command::Audit {
             printed,
@@ -70,11 +81,12 @@ fn carry_out<M: Medium, F: Files, K: Sink>(
     }
 }
 
-/// Carries out a command.
+/// Carries out a command. `run` and `drive` start a thread for each file, and join it.
 ///
 /// The words are the command and its arguments, without the image's name. `medium` is the image; `files` gives the
 /// request files and a printed run, and `out` gets the output. The medium is given back, also after a fault.
-pub fn dude<M: Medium + Send, F: Files, K: Sink>(
+pub fn dude<R: Threads + Sync, M: Medium + Send, F: Files, K: Sink>(
+    rt: &R,
     alloc: Global,
     words: &[RcStr],
     medium: M,
@@ -97,7 +109,7 @@ pub fn dude<M: Medium + Send, F: Files, K: Sink>(
         result.done.items result.fault }
 {
     match command_of(alloc, words) {
-        Ok(Some(command)) => carry_out(alloc, &command, medium, files, out),
+        Ok(Some(command)) => carry_out(rt, alloc, &command, medium, files, out),
         Ok(None) => Ended::refused(alloc, Fault::Usage, medium),
         Err(_) => Ended::refused(alloc, Fault::Memory, medium),
     }

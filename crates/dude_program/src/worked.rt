@@ -1,17 +1,23 @@
 //! What became of a command's requests, before its output.
 
-ghost use Rattle.std.specs.Prelude.{◌≡◌, ◌≤◌, [], None, length};
+ghost use Rattle.std.specs.Prelude.{◌≡◌, ◌<◌, ◌≤◌, [], None, length};
+ghost use Rattle.dude_base.specs.Run.{IsRunWithin};
 ghost use Rattle.back_store.specs.BackView.{medium_of};
 ghost use Rattle.image_opening.specs.Opened.{IsOpened};
 ghost use Rattle.tatp_model.specs.Files.{requests_in};
 ghost use Rattle.dude_engine.specs.Requests.{AreInRange};
-ghost use Rattle.dude_program.specs.Work.{HasNumbers, RanOverOpened, fault_of_end};
+ghost use Rattle.run_threads.specs.Ends.{IsAsOpened};
+ghost use Rattle.dude_program.specs.Work.{HasNumbers, RanOnThreads, RanOverOpened, fault_of_end};
 
 use command_edges::Fault;
+use dude_base::run::Run;
 use dude_engine::{RanEnd, plain};
 use image_opening::Opened;
 use pmem_trait::Medium;
+use request_attempts::open_gate::OpenGate;
+use run_threads::threaded;
 use std::alloc::Global;
+use std::thread::Threads;
 use tatp_model::{Done, Request};
 
 /// What became of a command's requests, before its output.
@@ -24,6 +30,7 @@ pub struct Worked<M> {
     pub fault: Option<Fault>,
 }
 
+// The fault that a run ended with, if any.
 fn fault_of(end: RanEnd) -> Option<Fault>
     ensures { result ≡ fault_of_end end }
 {
@@ -34,7 +41,7 @@ fn fault_of(end: RanEnd) -> Option<Fault>
     }
 }
 
-/// Runs the requests of files over an opened image.
+/// Runs the requests of files over an opened image, on one thread.
 pub fn work<M: Medium>(alloc: Global, opened: Opened<M>, files: &[Vec<Request>]) -> Worked<M>
     requires opened { IsOpened opened }
     requires rings { length files.now ≤ opened.sizes.rings }
@@ -43,6 +50,32 @@ pub fn work<M: Medium>(alloc: Global, opened: Opened<M>, files: &[Vec<Request>])
     ensures { RanOverOpened M.sight opened files.now result }
 {
     let ran = plain(alloc, opened, files);
+    Worked {
+        done: ran.done,
+        medium: ran.medium,
+        last: ran.last,
+        fault: fault_of(ran.end),
+    }
+}
+
+/// Runs the requests of files over an opened image, each file on a thread of its own.
+pub fn work_on_threads<R: Threads + Sync, M: Medium + Send>(
+    rt: &R,
+    alloc: Global,
+    opened: Opened<M>,
+    run: &Run,
+    files: &[Vec<Request>],
+) -> Worked<M>
+    requires opened { IsOpened opened }
+    requires held { IsAsOpened opened }
+    requires run { IsRunWithin opened.sizes.pages run.now }
+    requires some { 0 < length files.now }
+    requires rings { length files.now ≤ opened.sizes.rings }
+    requires in_range { AreInRange (requests_in files.now) }
+    requires numbers { HasNumbers opened.number (requests_in files.now) }
+    ensures { RanOnThreads M.sight opened run.now files.now result }
+{
+    let ran = threaded(rt, alloc, opened, run, files, &OpenGate);
     Worked {
         done: ran.done,
         medium: ran.medium,

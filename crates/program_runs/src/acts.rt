@@ -4,6 +4,7 @@ use crate::found::found_text;
 use crate::outcome::Outcome;
 use crate::scene::{Scene, files_of, medium_of, sink_of};
 use crate::setup::changed;
+use crate::several::runs_several;
 use command_edges::{Fault, fault_text};
 use dude_base::sizes::Sizes;
 use dude_io::{Files, Sink};
@@ -14,11 +15,17 @@ use pmem_trait::Medium;
 use script_words::numbers_of;
 use std::alloc::{AllocError, Global};
 use std::rc::RcStr;
+use std::thread::Threads;
 
 /// Carries out what these words say. Where they say nothing, the medium isn't called.
-pub fn act(alloc: Global, scene: &Scene, words: &[&str]) -> Result<Outcome, AllocError> {
+pub fn act<R: Threads + Sync>(
+    threads: &R,
+    alloc: Global,
+    scene: &Scene,
+    words: &[&str],
+) -> Result<Outcome, AllocError> {
     match words {
-        ["dude" | "aside", command @ ..] => command_of(alloc, scene, command),
+        ["dude" | "aside", command @ ..] => command_of(threads, alloc, scene, command),
         ["open", pairs @ ..] => match changed(alloc, scene.image, pairs)? {
             Some(image) => opened(
                 alloc,
@@ -46,7 +53,12 @@ fn not_called(alloc: Global, scene: &Scene) -> Result<Outcome, AllocError> {
 }
 
 /// Carries out a command of the product.
-pub fn command_of(alloc: Global, scene: &Scene, command: &[&str]) -> Result<Outcome, AllocError> {
+pub fn command_of<R: Threads + Sync>(
+    threads: &R,
+    alloc: Global,
+    scene: &Scene,
+    command: &[&str],
+) -> Result<Outcome, AllocError> {
     let mut words = Vec::new(alloc);
     for word in command {
         words.push(RcStr::from_str(alloc, word)?)?;
@@ -54,7 +66,7 @@ pub fn command_of(alloc: Global, scene: &Scene, command: &[&str]) -> Result<Outc
     let medium = medium_of(alloc, scene)?;
     let mut files = files_of(alloc, scene)?;
     let mut sink = sink_of(alloc, &scene.settings)?;
-    let ended = dude(alloc, &words, medium, &mut files, &mut sink);
+    let ended = dude(threads, alloc, &words, medium, &mut files, &mut sink);
     let printed = sink.bytes().to_vec(alloc)?;
     Ok(Outcome {
         before: scene.image.to_vec(alloc)?,
@@ -62,6 +74,7 @@ pub fn command_of(alloc: Global, scene: &Scene, command: &[&str]) -> Result<Outc
         medium: ended.medium,
         done: ended.done,
         printed: Some(printed),
+        runs_several: runs_several(command),
         next_fail: files.read("f", 0, &mut [0; 8]).is_err() && sink.write(b"last 0\n").is_err(),
     })
 }

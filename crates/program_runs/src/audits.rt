@@ -4,15 +4,19 @@ use crate::acts::command_of;
 use crate::outcome::Outcome;
 use crate::printing::print_ending;
 use crate::scene::{Scene, Settings};
+use crate::several::behind_options;
 use dude_io::MemFile;
 use std::alloc::{AllocError, Global};
 use std::io;
+use std::thread::Threads;
 
 /// The name of the file that has what a run printed.
 const PRINTED: &str = "run.out";
 
-/// Audits what a run of the product printed, where it ended well, and prints how that ended unless the answer is yes.
-pub fn audit_run(
+/// Audits what a run of the product printed, where it ended well, and prints how that ended unless the answer is yes; where
+/// numbers depend on the turns of threads, also where it is.
+pub fn audit_run<R: Threads + Sync>(
+    threads: &R,
     rt: &HostRuntime,
     scene: &Scene,
     words: &[&str],
@@ -27,10 +31,15 @@ pub fn audit_run(
     if outcome.answer.as_str() != "status 0\n" {
         return Ok(());
     }
-    let names = behind_option(behind_option(rest));
-    let audited = audited(rt.alloc(), scene, names, printed)?;
+    let names = behind_options(rest);
+    let audited = audited(threads, rt.alloc(), scene, names, printed)?;
     match &audited.printed {
-        Some(text) if text.as_slice() == b"yes\n".as_slice() => Ok(()),
+        Some(text) if text.as_slice() == b"yes\n".as_slice() => {
+            if outcome.depends_on_turns() {
+                rt.println("an audit of this run says yes")?;
+            }
+            Ok(())
+        }
         _ => {
             rt.println("an audit of this run ends otherwise:")?;
             print_ending(rt, &audited)
@@ -38,16 +47,9 @@ pub fn audit_run(
     }
 }
 
-/// The words behind an option and its number, if they begin with one.
-fn behind_option<'a>(words: &'a [&'a str]) -> &'a [&'a str] {
-    match words {
-        [option, _, rest @ ..] if option.starts_with("--") => rest,
-        _ => words,
-    }
-}
-
 /// Carries out an audit of a printed run of the files of these names.
-fn audited(
+fn audited<R: Threads + Sync>(
+    threads: &R,
     alloc: Global,
     scene: &Scene,
     names: &[&str],
@@ -77,5 +79,5 @@ fn audited(
         files: &files,
         settings,
     };
-    command_of(alloc, &scene, &command)
+    command_of(threads, alloc, &scene, &command)
 }

@@ -13,6 +13,7 @@ use dude_io::MemFile;
 use script_words::{is_remark, number_of, words_of};
 use std::alloc::{AllocError, Global};
 use std::io;
+use std::thread::Threads;
 
 /// What a script's lines are carried out on.
 #[derive(Drop)]
@@ -56,7 +57,12 @@ impl Bench {
     }
 
     /// Does what a line says.
-    pub fn take_line(&mut self, rt: &HostRuntime, line: &str) -> io::Result<()> {
+    pub fn take_line<R: Threads + Sync>(
+        &mut self,
+        threads: &R,
+        rt: &HostRuntime,
+        line: &str,
+    ) -> io::Result<()> {
         if self.in_file {
             self.add_to_file(line)?;
             return Ok(());
@@ -65,7 +71,7 @@ impl Bench {
             return rt.println(line);
         }
         let words = words_of(rt.alloc(), line)?;
-        if self.obey(rt, &words)? {
+        if self.obey(threads, rt, &words)? {
             Ok(())
         } else {
             rt.println("no command")
@@ -82,7 +88,12 @@ impl Bench {
     }
 
     /// Does what a line of these words says; `false` where it says nothing.
-    fn obey(&mut self, rt: &HostRuntime, words: &[&str]) -> io::Result<bool> {
+    fn obey<R: Threads + Sync>(
+        &mut self,
+        threads: &R,
+        rt: &HostRuntime,
+        words: &[&str],
+    ) -> io::Result<bool> {
         let [first, rest @ ..] = words else {
             return Ok(false);
         };
@@ -92,32 +103,46 @@ impl Bench {
                 [name] => self.image = stored_image(rt, name)?,
                 _ => return Ok(false),
             },
-            "dude" | "open" | "format" | "make" => self.outcome = self.carried_out(rt, words)?,
-            "aside" => {
-                self.carried_out(rt, words)?;
+            "dude" | "open" | "format" | "make" => {
+                self.outcome = self.carried_out(threads, rt, words)?;
             }
-            "each" => return each(rt, &self.scene(), rest),
-            "after" => match after(rt, &self.scene(), &self.outcome, rest)? {
+            "aside" => {
+                self.carried_out(threads, rt, words)?;
+            }
+            "each" => return each(threads, rt, &self.scene(), rest),
+            "after" => match after(threads, rt, &self.scene(), &self.outcome, rest)? {
                 Some(outcome) => self.outcome = outcome,
                 None => return Ok(false),
             },
-            _ => return self.set_up(rt, first, rest),
+            _ => return self.set_up(threads, rt, first, rest),
         }
         Ok(true)
     }
 
     /// Carries out a command, and prints what it left.
-    fn carried_out(&self, rt: &HostRuntime, words: &[&str]) -> io::Result<Outcome> {
-        let outcome = act(rt.alloc(), &self.scene(), words)?;
+    fn carried_out<R: Threads + Sync>(
+        &self,
+        threads: &R,
+        rt: &HostRuntime,
+        words: &[&str],
+    ) -> io::Result<Outcome> {
+        let outcome = act(threads, rt.alloc(), &self.scene(), words)?;
         print_ending(rt, &outcome)?;
         print_output(rt, &outcome)?;
-        audit_run(rt, &self.scene(), words, &outcome)?;
+        audit_run(threads, rt, &self.scene(), words, &outcome)?;
         Ok(outcome)
     }
 
     /// Sets up the image, a file or a setting, or asks for something.
-    fn set_up(&mut self, rt: &HostRuntime, first: &str, rest: &[&str]) -> io::Result<bool> {
-        if let Some(image) = next_image(rt.alloc(), &self.image, &self.outcome, first, rest)? {
+    fn set_up<R: Threads + Sync>(
+        &mut self,
+        threads: &R,
+        rt: &HostRuntime,
+        first: &str,
+        rest: &[&str],
+    ) -> io::Result<bool> {
+        let made = next_image(threads, rt.alloc(), &self.image, &self.outcome, first, rest)?;
+        if let Some(image) = made {
             self.image = image;
             return Ok(true);
         }

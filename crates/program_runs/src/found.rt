@@ -8,6 +8,7 @@ use pmem_fake::MemPmem;
 use pmem_trait::{Call, Made, Medium};
 use slow_recovery::{Replay, recover};
 use std::alloc::{AllocError, Global};
+use std::thread::Threads;
 
 /// What a recovery or an opening gives: the number and the home words, or why not.
 pub type Found = Result<(u64, Vec<u64>), OpenFault>;
@@ -127,7 +128,12 @@ impl Wanted {
 
     /// Whether both images that a command leaves in a crash are right, and `recover` ends well on them. Where it began on
     /// no image and nothing was told, each image is right.
-    pub fn both_survive(&self, alloc: Global, outcome: &Outcome) -> Result<bool, AllocError> {
+    pub fn both_survive<R: Threads + Sync>(
+        &self,
+        threads: &R,
+        alloc: Global,
+        outcome: &Outcome,
+    ) -> Result<bool, AllocError> {
         let medium = &outcome.medium;
         let told = medium.told();
         let done = outcome.last_done();
@@ -136,7 +142,9 @@ impl Wanted {
         }
         for later in [false, true] {
             let image = crash_at(alloc, medium, medium.now(), later)?;
-            if !self.is_right(alloc, &image, told, done)? || !is_recovered(alloc, &image)? {
+            if !self.is_right(alloc, &image, told, done)?
+                || !is_recovered(threads, alloc, &image)?
+            {
                 return Ok(false);
             }
         }
@@ -187,12 +195,16 @@ fn told_by(medium: &MemPmem, index: u64, told: Option<u64>) -> Option<u64> {
 }
 
 /// Whether the command `recover` ends well on an image.
-fn is_recovered(alloc: Global, image: &[u64]) -> Result<bool, AllocError> {
+fn is_recovered<R: Threads + Sync>(
+    threads: &R,
+    alloc: Global,
+    image: &[u64],
+) -> Result<bool, AllocError> {
     let scene = Scene {
         image,
         files: &[],
         settings: Settings::new(),
     };
-    let left = command_of(alloc, &scene, &["recover"])?;
+    let left = command_of(threads, alloc, &scene, &["recover"])?;
     Ok(left.answer.as_str() == "status 0\n")
 }

@@ -11,17 +11,19 @@ mod outcome;
 mod printing;
 mod scene;
 mod setup;
+mod several;
 mod stored;
 mod turns;
 
 use bench::Bench;
 use std::io;
+use std::thread::Threads;
 
 /// Carries out a script, and prints what it leaves.
-pub fn follow(rt: HostRuntime, script: &str) -> io::Result<()> {
+pub fn follow<R: Threads + Sync>(threads: &R, rt: HostRuntime, script: &str) -> io::Result<()> {
     let mut bench = Bench::new(rt.alloc())?;
     for line in script.lines() {
-        bench.take_line(&rt, line)?;
+        bench.take_line(threads, &rt, line)?;
     }
     Ok(())
 }

@@ -17,6 +17,8 @@ pub struct Outcome {
     pub done: Vec<Done>,
     /// The output of a command of the product.
     pub printed: Option<Vec<u8>>,
+    /// Whether several files were run, each on a thread of its own.
+    pub runs_several: bool,
     /// Whether the next read of file `f` and the next write of the sink fail.
     pub next_fail: bool,
 }
@@ -35,6 +37,7 @@ impl Outcome {
             medium,
             done: Vec::new(alloc),
             printed: None,
+            runs_several: false,
             next_fail: false,
         })
     }
@@ -46,6 +49,21 @@ impl Outcome {
             last = Some(done.number.max(last.unwrap_or(0)));
         }
         last
+    }
+
+    /// Whether the numbers of what was done depend on the turns of threads. Where none wrote they don't.
+    pub fn depends_on_turns(&self) -> bool {
+        self.runs_several && self.wrote_some()
+    }
+
+    /// Whether a request wrote.
+    fn wrote_some(&self) -> bool {
+        for done in &self.done {
+            if done.wrote {
+                return true;
+            }
+        }
+        false
     }
 
     /// How many calls on the medium were made up to this one, with it.
@@ -79,10 +97,14 @@ impl Outcome {
         format!(in alloc; "done {done}, {told}, {words}{failed}\n")
     }
 
-    /// What was told last.
+    /// What was told last; where several threads drew numbers, only whether it covers all that is done.
     pub fn told(&self, alloc: Global) -> Result<String, AllocError> {
         match self.medium.told() {
             None => String::from_str(alloc, "told nothing"),
+            Some(number) if self.depends_on_turns() => {
+                let covers = number >= self.last_done().unwrap_or(0);
+                String::from_str(alloc, if covers { "all told" } else { "not all told" })
+            }
             Some(number) => format!(in alloc; "told {number}"),
         }
     }

@@ -11,12 +11,16 @@ pub fn print_ending(rt: &HostRuntime, outcome: &Outcome) -> io::Result<()> {
     rt.print(ending.as_str())
 }
 
-/// Prints the lines of the output. Of lines that follow one another and are the same, only one stands, with their count.
+/// Prints the lines of the output. Of lines that follow one another and are the same, only one stands, with their count. Of
+/// those that depend on the turns of threads it prints how many there are.
 pub fn print_output(rt: &HostRuntime, outcome: &Outcome) -> io::Result<()> {
     let Some(printed) = &outcome.printed else {
         return Ok(());
     };
     let printed = str::from_utf8(printed).unwrap_or("(no text)");
+    if outcome.depends_on_turns() && printed.contains("last ") {
+        return println!(rt; "| {} lines", printed.lines().count());
+    }
     let mut lines = Vec::new(rt.alloc());
     for line in printed.lines() {
         lines.push(line)?;

@@ -7,9 +7,11 @@ use dude_io::MemFile;
 use pmem_trait::{Call, Medium};
 use script_words::{number_of, numbers_of, pair_of, pairs_of};
 use std::alloc::{AllocError, Global};
+use std::thread::Threads;
 
 /// The image that a line makes of the one in memory, or of what the last command left; `None` where it makes none.
-pub fn next_image(
+pub fn next_image<R: Threads + Sync>(
+    threads: &R,
     alloc: Global,
     image: &[u64],
     outcome: &Outcome,
@@ -18,7 +20,7 @@ pub fn next_image(
 ) -> Result<Option<Vec<u64>>, AllocError> {
     match first {
         "words" => changed(alloc, image, rest),
-        "made" => made_image(alloc, rest),
+        "made" => made_image(threads, alloc, rest),
         "take" => taken(alloc, outcome, rest),
         "keep" => Ok(Some(outcome.medium.content().to_vec(alloc)?)),
         _ => resized(alloc, image, first, rest),
@@ -45,7 +47,11 @@ pub fn changed(
 }
 
 /// `made COUNT COMMAND`: the image that the command makes of so many words of 0.
-fn made_image(alloc: Global, rest: &[&str]) -> Result<Option<Vec<u64>>, AllocError> {
+fn made_image<R: Threads + Sync>(
+    threads: &R,
+    alloc: Global,
+    rest: &[&str],
+) -> Result<Option<Vec<u64>>, AllocError> {
     let [count, command @ ..] = rest else {
         return Ok(None);
     };
@@ -60,7 +66,7 @@ fn made_image(alloc: Global, rest: &[&str]) -> Result<Option<Vec<u64>>, AllocErr
         files: &[],
         settings,
     };
-    let left = command_of(alloc, &scene, command)?;
+    let left = command_of(threads, alloc, &scene, command)?;
     if left.answer.as_str() == "status 0\n" {
         Ok(Some(left.medium.content().to_vec(alloc)?))
     } else {
@@ -114,31 +120,44 @@ fn resized(
     Ok(Some(image))
 }
 
-/// `file NAME`: a file, whose lines follow. `file NAME COUNT LINE`: one that has this line so many times, with the number of the
-/// line in the place of a `*`; empty lines where none is given, and lines of one byte where it is the number of a byte.
+/// `file NAME`: a file, whose lines follow. `file NAME COUNT LINE ..`: one that has these lines so many times, one behind the
+/// other, with how often they stand there in the place of a `*`; empty lines where none is given, and lines of one byte where
+/// it is the number of a byte.
 pub fn next_file(alloc: Global, first: &str, rest: &[&str]) -> Result<Option<MemFile>, AllocError> {
-    let (name, count, line) = match rest {
-        _ if first != "file" => return Ok(None),
-        [name] => (*name, "0", ""),
-        [name, count] => (*name, *count, ""),
-        [name, count, line] => (*name, *count, *line),
-        _ => return Ok(None),
-    };
-    let Some(count) = number_of(count) else {
+    let [name, behind @ ..] = rest else {
         return Ok(None);
     };
+    let count = match behind {
+        [] => Some(0),
+        [count, ..] => number_of(count),
+    };
+    let Some(count) = count else {
+        return Ok(None);
+    };
+    if first != "file" {
+        return Ok(None);
+    }
     let mut file = MemFile {
         name: String::from_str(alloc, name)?,
         bytes: Vec::new(alloc),
     };
-    let byte = number_of(line);
     for number in 1..=count {
-        match byte {
-            Some(byte) => add_line(&mut file.bytes, &[byte.min(255) as u8])?,
-            None => add_numbered(&mut file.bytes, line, number)?,
+        if behind.len() == 1 {
+            add_line(&mut file.bytes, b"")?;
+        }
+        for line in behind.iter().skip(1) {
+            add_given(&mut file.bytes, line, number)?;
         }
     }
     Ok(Some(file))
+}
+
+/// Adds a given line: one byte where it is the number of a byte, else with this number in the place of a `*`.
+fn add_given(bytes: &mut Vec<u8>, line: &str, number: u64) -> Result<(), AllocError> {
+    match number_of(line) {
+        Some(byte) => add_line(bytes, &[byte.min(255) as u8]),
+        None => add_numbered(bytes, line, number),
+    }
 }
 
 /// Adds a line with this number in the place of a `*`.

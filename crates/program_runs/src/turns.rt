@@ -9,17 +9,23 @@ use pmem_trait::{Call, Medium};
 use script_words::number_of;
 use std::alloc::{AllocError, Global};
 use std::io;
+use std::thread::Threads;
 
 /// `each TURN NUMBER COMMAND`: carries out the command, and then again and again, each time with another call that fails.
 /// The number is the greatest one to which an image that is left may recover, or how many reads or writes fail.
-pub fn each(rt: &HostRuntime, scene: &Scene, rest: &[&str]) -> io::Result<bool> {
+pub fn each<R: Threads + Sync>(
+    threads: &R,
+    rt: &HostRuntime,
+    scene: &Scene,
+    rest: &[&str],
+) -> io::Result<bool> {
     let [turn, number, words @ ..] = rest else {
         return Ok(false);
     };
     let Some(most) = number_of(number) else {
         return Ok(false);
     };
-    let whole = act(rt.alloc(), scene, words)?;
+    let whole = act(threads, rt.alloc(), scene, words)?;
     print_ending(rt, &whole)?;
     let began = recovered(rt.alloc(), scene.image);
     let wanted = Wanted { began, most };
@@ -29,8 +35,8 @@ pub fn each(rt: &HostRuntime, scene: &Scene, rest: &[&str]) -> io::Result<bool> 
     };
     let mut last = String::new(rt.alloc());
     for call in 1..=calls {
-        let outcome = failed(rt.alloc(), scene, turn, words, call)?;
-        let report = report(rt.alloc(), turn, &whole, &wanted, &outcome, call)?;
+        let outcome = failed(threads, rt.alloc(), scene, turn, words, call)?;
+        let report = report(threads, rt.alloc(), turn, &whole, &wanted, &outcome, call)?;
         // Of those that follow one another and are the same, only the first stands.
         if report.as_str() != last.as_str() {
             print!(rt; "from call {call} on:\n{report}")?;
@@ -42,7 +48,8 @@ pub fn each(rt: &HostRuntime, scene: &Scene, rest: &[&str]) -> io::Result<bool> 
 
 /// `after NUMBER MOST COMMAND`: carries out a command where the call fails behind the one by which the last command told
 /// this number, and says what was told, and then the same as `each`. Gives what was left.
-pub fn after(
+pub fn after<R: Threads + Sync>(
+    threads: &R,
     rt: &HostRuntime,
     scene: &Scene,
     whole: &Outcome,
@@ -60,15 +67,16 @@ pub fn after(
     let began = recovered(rt.alloc(), scene.image);
     let wanted = Wanted { began, most };
     let call = calls.saturating_add(1);
-    let outcome = failed(rt.alloc(), scene, "early", words, call)?;
+    let outcome = failed(threads, rt.alloc(), scene, "early", words, call)?;
     let told = outcome.told(rt.alloc())?;
-    let report = report(rt.alloc(), "early", whole, &wanted, &outcome, call)?;
+    let report = report(threads, rt.alloc(), "early", whole, &wanted, &outcome, call)?;
     print!(rt; "{told}\n{report}")?;
     Ok(Some(outcome))
 }
 
 /// What a command leaves where this call fails, or the budget ends before it.
-fn failed(
+fn failed<R: Threads + Sync>(
+    threads: &R,
     alloc: Global,
     scene: &Scene,
     turn: &str,
@@ -78,11 +86,12 @@ fn failed(
     let mut scene = *scene;
     let before = if turn == "budget" { 1 } else { 0 };
     scene.settings.set(turn, call.saturating_sub(before));
-    act(alloc, &scene, words)
+    act(threads, alloc, &scene, words)
 }
 
 /// The lines that say how a command ended where this call failed.
-fn report(
+fn report<R: Threads + Sync>(
+    threads: &R,
     alloc: Global,
     turn: &str,
     whole: &Outcome,
@@ -102,7 +111,7 @@ fn report(
         "other calls on the medium failed\n"
     })?;
     text.push_str(output_line(turn, whole, outcome, call))?;
-    text.push_str(if wanted.both_survive(alloc, outcome)? {
+    text.push_str(if wanted.both_survive(threads, alloc, outcome)? {
         "both images of a crash are right\n"
     } else {
         "an image of a crash is wrong\n"

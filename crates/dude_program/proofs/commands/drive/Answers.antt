@@ -1,14 +1,16 @@
-use Rattle.std.proofs.Common.{◌≡◌, ◌∙◌, refl, ap}
+use Rattle.std.proofs.Common.{◌≡◌, ◌∙◌, arith, length, refl, ap, inr}
 use Rattle.back_store.specs.BackView.{medium_of}
 use Rattle.command_words.specs.Command.{Meaning.DriveLoad}
 use Rattle.tatp_model.specs.Files.{requests_in}
+use Rattle.tatp_text.specs.Load.{mixed}
 use Rattle.dude_program.specs.Opening.{load_of}
 use Rattle.dude_program.proofs.FilesRead.{no_files}
 use Rattle.dude_program.proofs.Endings.{ends_faulted, ends_printed}
 use Rattle.dude_program.proofs.Stops.{ends_at_open, unless_opened}
-use Rattle.dude_program.proofs.Crashes.{left_opened, reachable}
+use Rattle.dude_program.proofs.Crashes.{left_opened}
 use Rattle.dude_program.proofs.Came.{opened_old, came_ran, came_refused}
-use Rattle.dude_program.proofs.EachCommand.{drive_came, drive_opens, drive_passes, is_opening_of, opening_of}
+use Rattle.dude_program.proofs.EachCommand.{drive_came, drive_opens, drive_passes, held_as_opened, is_opening_of, opening_of}
+use Rattle.dude_program.proofs.Works.{mixed_length}
 use Rattle.dude_program.proofs.commands.drive.Goals as goal
 
 pub returns-in-Err-clause-ends : goal.returns-in-Err-clause-ends
@@ -16,6 +18,20 @@ returns-in-Err-clause-ends g c f =
     let load = c.args.load in
     rw (c.refused.ensures.medium, c.refused.ensures.done, c.refused.ensures.fault)
     (ends_at_open (drive_opens load.seed load.count load.files _) (no_files (DriveLoad load.seed load.count load.files) f refl) c.in-Err.ensures.prefix (unless_opened (drive_opens load.seed load.count load.files _) refl c.in-Err.ensures.only_read) c.in-Err.fault c.in-Err.ensures.fault)
+
+pub work_on_threads-requires-clause-held : goal.work_on_threads-requires-clause-held
+work_on_threads-requires-clause-held g c lives bounds =
+    let o = c.in-Ok.opened in
+    let opened = c.in-Ok.ensures.opened in
+    held_as_opened o opened (g.M.Medium.sight c.args.medium) (c.in-Ok.ensures.is_open (opening_of o opened) (is_opening_of o opened)).1
+
+pub work_on_threads-requires-clause-some : goal.work_on_threads-requires-clause-some
+work_on_threads-requires-clause-some g c =
+    let load = c.args.load in
+    let lists = c.in-Ok-make_load.lists.items in
+    let long : length lists ≡ load.files =
+    mixed_length (λ file. mixed load.seed file load.files c.in-Ok.opened.sizes.subscribers load.count) lists load.files c.in-Ok-make_load.ensures.made.requests in
+    rw c.deref.ensures.value (omega (arith, long, c.requires.files.0))
 
 pub returns-in-Ok-make_load-clause-ends : goal.returns-in-Ok-make_load-clause-ends
 returns-in-Ok-make_load-clause-ends g c f =
@@ -28,9 +44,9 @@ returns-in-Ok-make_load-clause-ends g c f =
     let made = c.in-Ok-make_load.ensures.made in
     let are : requests_in lists ≡ load_of o.sizes.subscribers load.seed load.count load.files = ap requests_in c.deref.ensures.value ∙ made.requests in
     let came = came_ran (no_files (DriveLoad load.seed load.count load.files) f refl) (opened_old (drive_opens load.seed load.count load.files _) refl is_open.0 is_open.1)
-    (reachable (DriveLoad load.seed load.count load.files) opening) refl are
+    refl (λ known. inr c.over-run.ensures.frames) (λ order n any. tt) refl are
     (λ opens why refuses. drive_passes load.seed load.count load.files f opening (requests_in lists) are made.files made.subscribers (rw c.deref.ensures.value made.numbers) why refuses)
-    c.work.result.fault (c.work.ensures opening (is_opening_of o opened)) in
+    c.work_on_threads.result.fault (c.work_on_threads.ensures opening (is_opening_of o opened)) in
     rw (c.end_with_summary.ensures.medium, c.end_with_summary.ensures.done) (ends_printed _ _ _ came refl c.end_with_summary.ensures.printed)
 
 pub returns-in-Err-make_load-clause-ends : goal.returns-in-Err-make_load-clause-ends

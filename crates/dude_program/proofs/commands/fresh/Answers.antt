@@ -44,7 +44,7 @@ returns-in-Ok-make_and_open-clause-ends g c =
     let maker = fresh_makes c.args.subscribers c.args.file.now c.in-Ok.sizes (g.M.Medium.sight c.args.medium) c.in-Ok.ensures.ok.0 in
     let read : AllZip (OfFile (g.F.Files.sight c.args.files.now)) (c.args.file.now ∷ []) (requests_in c.deref.result.now) = rw c.deref.ensures.value c.in-Ok-read_files.ensures.read in
     let came = came_ran (fresh_files c.args.subscribers c.args.file.now (requests_in c.deref.result.now) read c.in-Ok-read_files.ensures.reads) (opened_new maker e.fits e.is_open)
-    (reachable (FreshRun c.args.subscribers c.args.file.now) (new_opening c.in-Ok.sizes)) refl read
+    refl (λ known. tt) (reachable (FreshRun c.args.subscribers c.args.file.now) (new_opening c.in-Ok.sizes)) refl read
     (λ opens. let no : ⊥ = cc in absurd no) c.work.result.fault (c.work.ensures _ e.opening) in
     rw (c.end_with_lines.ensures.medium, c.end_with_lines.ensures.done) (ends_printed _ _ _ came refl c.end_with_lines.ensures.printed)
 

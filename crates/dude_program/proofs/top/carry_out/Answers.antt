@@ -4,7 +4,7 @@ pub returns-in-Format-clause-ends : goal.returns-in-Format-clause-ends
 returns-in-Format-clause-ends g c = rw c.in-Format.is (c.format.ensures.ends (g.F.Files.sight c.args.files.now))
 
 pub returns-in-Run-clause-ends : goal.returns-in-Run-clause-ends
-returns-in-Run-clause-ends g c = rw c.in-Run.is (c.run.ensures.ends c.in-Run.locks)
+returns-in-Run-clause-ends g c = rw c.in-Run.is c.run.ensures.ends
 
 pub returns-in-Recover-clause-ends : goal.returns-in-Recover-clause-ends
 returns-in-Recover-clause-ends g c = rw c.in-Recover.is (c.recover.ensures.ends (g.F.Files.sight c.args.files.now))
