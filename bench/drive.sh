@@ -1,9 +1,11 @@
 #!/usr/bin/env bash
 # Times generated loads, on new images with room for 12 call rows a subscriber and a ring of 256 cells for each file, in a
-# folder on a disk and in memory: `drive 1 10000` with 1 and with 4 files, `drive 1 80000 1` and `drive 1 20000 4` on 1,000
-# subscribers, and the last one on 100 and on 10,000, beside the rate at which that medium takes single lines of 64 bytes,
-# each synced. Of each load: requests a second, syncs a change and a second, and the peak memory. A change is a request whose
-# update got a number. Outside the gate. Needs programs that are built, with the commands `format`, `recover` and `drive`.
+# folder on a disk and in memory: `drive 1 10000 F` and `drive 1 80000 F` for F = 1, 2 and 4 files, each on a thread of its
+# own, and `drive 1 20000 4`, the load of bench/stores.sh, on 1,000 subscribers; and the last one on 100 and on 10,000, beside
+# the rate at which that medium takes single lines of 64 bytes, each synced. Of each load: requests a second and how often they
+# are those of one file, syncs a change and a second, the numbers that no request has, and the peak memory. A change is a
+# request whose update got a number: the updates that the summary says were OK. Outside the gate. Needs programs that are
+# built, with the commands `format`, `recover` and `drive`.
 #
 #     bench/drive.sh [--csv FILE] [--rounds N] [FOLDER [MEMORY [PROGRAM..]]]
 #         FOLDER on a disk, or here; MEMORY one in memory, or /dev/shm
@@ -12,9 +14,10 @@
 #
 # The time is that of `drive` less that of `recover` on the same image, the median of five runs, or of N, each on an image
 # of its own, with the least and the greatest; where a run came out no slower than its recovery there is no figure. A round
-# takes each program and each size in turn. A sync is an fdatasync or its like: those are counted in a run of their own,
-# since strace makes it slow. With one thread every run makes the same; with more threads their number may differ from run to
-# run. Programs that don't all answer a load alike are refused.
+# takes each program and each size in turn. A sync is an fdatasync or its like: those are counted in a run of their own, of
+# all threads, since strace makes it slow. How many there are, and how many numbers have no request, differs from run to run
+# with the schedule of the threads: both are those of one run. What a load answers doesn't differ, as no two files of it share
+# a subscriber and no table gets full: programs and runs that don't all answer it alike are refused.
 set -euo pipefail
 shopt -s inherit_errexit
 top=$(cd "$(dirname "$0")/.." && pwd)
@@ -86,8 +89,11 @@ expect_whole() {
     { echo "the programs answer the load otherwise:" >&2; diff "$summary" "$room/out" >&2; exit 1; }
 }
 
-# How many changes the last drive made: the last number told less the first one, that of the opening.
-changes() { awk '$1 == "durable" { last = $2; if (!told++) first = $2 } END { print last - first }' "$room/told"; }
+# How many changes the last drive made: the updates that were OK.
+changes() { awk '$1 ~ /^(UPDATE|INSERT|DELETE)_/ { made += $3 } END { print made + 0 }' "$room/out"; }
+
+# How many numbers the last drive took: the last one told less the first one, that of the opening.
+numbers() { awk '$1 == "durable" { last = $2; if (!told++) first = $2 } END { print last - first }' "$room/told"; }
 
 # How many syncs a drive makes beyond those of a recovery, or nothing where they can't be counted.
 fences() {
@@ -102,7 +108,7 @@ fences() {
 }
 
 # One round of a case, which is a program's index, a dot and a number of subscribers.
-declare -A most times made
+declare -A most times made void one
 round() {
   local key=$1 count=$2 files=$3 base all
   local program=${programs[${key%.*}]}
@@ -111,6 +117,8 @@ round() {
   all=$(measure "$program" "$room/tatp.img" drive 1 "$count" "$files")
   expect_whole "$count" "$files" "${key#*.}"
   made[$key]=$(changes)
+  void[$key]=$(($(numbers) - ${made[$key]}))
+  [ "${void[$key]}" -ge 0 ] || { echo "fewer numbers than changes" >&2; exit 1; }
   echo $((${all% *} - ${base% *})) >> "$room/times.$key"
   [ "${all#* }" -le "${most[$key]}" ] || most[$key]=${all#* }
 }
@@ -119,7 +127,7 @@ milliseconds() { awk -v micros="$1" 'BEGIN { printf "%.1f", micros / 1000 }'; }
 
 # Prints what the rounds of a case gave.
 tell() {
-  local key=$1 count=$2 files=$3 micros range syncs rate told="syncs not counted, for want of strace"
+  local key=$1 count=$2 files=$3 micros range syncs rate times_one= told="syncs not counted, for want of strace"
   local name=${names[${key%.*}]} subscribers=${key#*.}
   micros=$(median "$room/times.$key")
   sort -n -o "$room/times.$key" "$room/times.$key"
@@ -132,12 +140,15 @@ tell() {
   fi
   times[$key]=$micros
   rate=$((files * count * 1000000 / micros))
+  [ "$files" -gt 1 ] || one[$key.$count]=$rate
+  [ "$files" -eq 1 ] || [ -z "${one[$key.$count]-}" ] || times_one=" ($(ratio "$rate" "${one[$key.$count]}") of one file's)"
   syncs=$(fences "$key" "$count" "$files")
   if [ -n "$syncs" ]; then
     told="$(ratio "$syncs" "${made[$key]}") syncs a change ($syncs of ${made[$key]}),"
     told+=" $((syncs * 1000000 / micros)) syncs a second"
   fi
-  echo "$(milliseconds "$micros") ms ($range) beyond a recovery, $rate requests a second, $told, peak ${most[$key]} KB"
+  echo "$(milliseconds "$micros") ms ($range) beyond a recovery, $rate requests a second$times_one, $told," \
+    "${void[$key]} numbers void, peak ${most[$key]} KB"
   add_figures "$csv" "$where" "$name" "$subscribers" "$files" "$count" "" "$rate" "$(ratio "$syncs" "${made[$key]}")"
 }
 
@@ -175,9 +186,9 @@ for where in disk memory; do
   [ "$where" = disk ] || place=$memory
   room=$(mktemp -d "$place/bench.XXXXXX")
   echo "$place ($(file_system "$place")), load $(cut -d ' ' -f 1 /proc/loadavg):"
-  drive 10000 1 1000
-  drive 10000 4 1000
-  drive 80000 1 1000
+  for count in 10000 80000; do
+    for files in 1 2 4; do drive "$count" "$files" 1000; done
+  done
   drive 20000 4 1000
   drive 20000 4 100 10000
   growth 100 10000

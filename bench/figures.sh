@@ -5,7 +5,7 @@
 #     where             disk or memory
 #     program           a name: of a build of this program, or of another store and its version
 #     subscribers       of the database
-#     files             of the load
+#     files             of the load; this program has a thread for each, a store one for all
 #     requests a file   of the load, without its SYNC
 #     changes a commit  how many changes the store was let to commit and sync at once; empty where that is its own to choose
 #     requests a second

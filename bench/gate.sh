@@ -1,7 +1,7 @@
 #!/usr/bin/env bash
 # Measures one gate from nothing (`rt ci`, with `--anew` where the kit's keeps what passed) from the system's table of
-# processes: processor seconds of each crate's proof, of its tests, of what builds and runs its program, and of each edit;
-# and the longest chain of crates. An example of the kit is proved and built right before, alone, as a yardstick of the machine.
+# processes: processor seconds of each crate's proof, of its tests, of what builds and runs its program, and of its edits;
+# which edits are slow, and the longest chain of crates. An example of the kit is proved and built right before, alone, as a yardstick of the machine.
 #
 #     bench/gate.sh              the whole gate, at the top; writes the tables of docs/GATE.md
 #     bench/gate.sh CRATE..      these crates and those below them, on a copy; prints the tables alone. Some kits can't
@@ -12,6 +12,8 @@ import os, re, subprocess, sys, time
 
 TICK = os.sysconf("SC_CLK_TCK")
 LOOK = 0.5
+# The processor seconds from which an edit is named, and a crate has a row of its own.
+SLOW_EDIT, OWN_ROW = 20, 30
 HEAD = "<!-- made by bench/gate.sh -->"
 ROOMS = {}
 
@@ -136,36 +138,47 @@ def yardstick():
     return after.children_user + after.children_system - before.children_user - before.children_system
 
 
+def row_of(name, lines, by):
+    """A row of the table: what is below half a second stays empty; tests and programs count in the sum alone."""
+    cells = [f"{by[kind]:.0f}" if by[kind] >= 0.5 else "" for kind in ("proof", "seed", "edits")]
+    return f"| {name} | {lines} | " + " | ".join(cells) + f" | {sum(by.values()):.0f} |"
+
+
 def tables(below, looks, wall, whole, measure):
     sums, kinds = looks.seconds(), ("proof", "tests", "program", "seed", "edits")
-    rows, edits, total = [], [], dict.fromkeys(kinds, 0)
+    rows, slow, ran, total, others = [], [], [], dict.fromkeys(kinds, 0), {}
     for crate in below:
         by = {kind: sum(used for work, used in sums.items() if work and work[:2] == (crate, kind)) for kind in kinds}
         if not any(by.values()):
             continue
         total = {kind: total[kind] + by[kind] for kind in kinds}
-        cells = [f"{by[kind]:.0f}" if by[kind] >= 0.5 else "" for kind in kinds]
-        rows.append(f"| `{crate}` | {lines_of(crate)} | " + " | ".join(cells) + f" | {sum(by.values()):.0f} |")
-        tried = [f"`{name}` {sums.get((crate, 'edits', at), 0):.0f}" for at, name in enumerate(edits_of(crate))]
-        if tried and by["edits"]:
-            edits.append(f"| `{crate}` | {', '.join(tried)} |")
+        if sum(by.values()) < OWN_ROW:
+            others[crate] = by
+        else:
+            rows.append(row_of(f"`{crate}`", lines_of(crate), by))
+        tried = [(name, sums.get((crate, "edits", at), 0)) for at, name in enumerate(edits_of(crate))]
+        slow += [f"`{crate}/{name}` {used:.0f}" for name, used in tried if used >= SLOW_EDIT]
+        ran += [f"`{crate}` {by[kind]:.0f}" for kind in ("tests", "program") if by[kind] >= 0.5]
     lines = sum(lines_of(crate) for crate in below if (crate, "proof", None) in looks.spans)
-    rows.append(f"| all | {lines} | " + " | ".join(f"{total[kind]:.0f}" for kind in kinds) + f" | {sum(total.values()):.0f} |")
+    rest = {kind: sum(it[kind] for it in others.values()) for kind in kinds}
+    rows += [row_of(f"{len(others)} others", sum(map(lines_of, others)), rest), row_of("all", lines, total)]
     chain = longest_chain(below, looks.spans)
     return "\n".join([
         f"{whole / 60:.0f} processor minutes, {whole / 60 / (lines / 1000):.2f} a thousand lines, in {wall / 60:.0f} minutes on "
         f"{os.cpu_count()} hardware threads. {whole - sum(total.values()):.0f} processor seconds are those of `rt` itself and of what ended between two looks.",
         f"`rt selftest`, an example of the kit, took {measure:.0f} processor seconds right before: tables of two machines compare by it.",
         "",
-        "| Crate | Lines | Proof | Tests | Program | Seed of edits | Edits | All |",
-        "| --- | --- | --- | --- | --- | --- | --- | --- |",
+        f"Crates that took under {OWN_ROW} seconds are in one row.",
+        "",
+        "| Crate | Lines | Proof | Seed | Edits | All |",
+        "| --- | --- | --- | --- | --- | --- |",
         *rows,
         "",
-        f"The longest chain took {chain[0] / 60:.0f} minutes: {', '.join(f'`{it}`' for it in chain[1])}.",
+        f"Tests and programs, compiled and run: {', '.join(ran) or 'none'}.",
         "",
-        "| Crate | Its edits, and the processor seconds of each |",
-        "| --- | --- |",
-        *edits,
+        f"Edits of {SLOW_EDIT} seconds and more: {', '.join(slow) or 'none'}.",
+        "",
+        f"The longest chain took {chain[0] / 60:.0f} minutes: {', '.join(f'`{it}`' for it in chain[1])}.",
     ])
 
 

@@ -1,25 +1,32 @@
 #!/usr/bin/env bash
-# Kills commands of the built program on a real file at random moments: `format`, runs of one and of two request files, and
-# generated loads. After each, a slow program of its own, recover.py, recovers what is left of the image. It has to recover to
-# a number, at least the last `durable N` printed, and to the database after so many of the requests that write, from the
-# image that stood there before. A new image has to be there whole or not at all. A process that is killed loses nothing that
-# it has written, so nothing is said of a loss of power. Outside the gate.
+# Kills commands of the built program on a real file at random moments: `format`, runs of one, of two and of four request
+# files, and generated loads of one and of four. A file has a thread of its own, so nobody knows in which order the requests
+# of several files were carried out. After each kill the program recovers and dumps a copy of what is left of the image, and
+# a slow program of its own, recover.py, recovers it too: both must come to the same number and the same rows. The number is
+# at least the last `durable N` printed, and the rows are those of the image that stood there before, with a prefix of each
+# file carried out on them. In most runs each file has subscribers of its own, so that its prefix is read off its rows; in
+# one of six, four files give locations to the same 40 subscribers, each a value of its own, and there must be an order of
+# some prefixes that leaves the locations found. A run that ends before its moment has to have done all, and what it printed
+# is audited. A new image has to be there whole or not at all. A process that is killed loses nothing that it has written,
+# so nothing is said of a loss of power. Outside the gate.
 #
-#     bench/kill.sh [FOLDER [KILLS [SECONDS]]]     at most KILLS (200) kills in about SECONDS (180), in a folder below FOLDER (.)
+#     bench/kill.sh [FOLDER [KILLS [SECONDS [PROGRAM]]]]
+#         at most KILLS (200) kills in about SECONDS (180), in a folder below FOLDER (.)
+#         PROGRAM a path, or crates/dude/out/dude
 set -eu
 here=$(cd "$(dirname "$0")" && pwd)
-program=$here/../crates/dude/out/dude
-[ -x "$program" ] || { echo "build it first: ./dude --version" >&2; exit 1; }
+program=$(readlink -f "${4:-$here/../crates/dude/out/dude}")
+[ -x "$program" ] || { echo "no program: $program; ./dude --version builds it" >&2; exit 1; }
 most=${2:-200} limit=${3:-180}
 folder=$(mktemp -d "${1:-.}/kill.XXXXXX")
-image=$folder/tatp.img before=$folder/before.img
+image=$folder/tatp.img before=$folder/before.img copy=$folder/copy.img
 
-# Two files of 20,000 requests of 1,000 subscribers. Half of them read, and each fiftieth that writes has a number that no
-# subscriber has.
-for file in 1 2; do
+# Four files of 20,000 requests, each of 250 subscribers of its own among 1,000. Half of them read, and each fiftieth that
+# writes has a number that no subscriber has.
+for file in 1 2 3 4; do
   awk -v file="$file" 'BEGIN {
     for (i = 1; i <= 20000; i++) {
-      s = 1 + (i * 7919 + file) % 1000
+      s = file + 4 * (i * 7919 % 250)
       number = (i % 50 == 1 ? 2000 : 0) + s
       type = 1 + i % 4
       start = 8 * (i % 3)
@@ -31,8 +38,24 @@ for file in 1 2; do
       else if (i % 10 < 8) printf "GET_SUBSCRIBER_DATA,%d\n", s
       else printf "GET_NEW_DESTINATION,%d,%d,%d,%d\n", s, type, start, 1 + i % 24
     }
-  }' > "$folder/requests$file.csv"
+  }' > "$folder/own$file.csv"
 done
+
+# Writes four files of 5,000 requests of the same 40 subscribers. No location that they give was given before, in this run or
+# in an earlier one.
+write_shared() {
+  local file
+  for file in 1 2 3 4; do
+    awk -v file="$file" -v run="$runs" 'BEGIN {
+      for (i = 1; i <= 5000; i++) {
+        s = 1 + (i * 7919 + file * 17) % 40
+        if (i % 50 == 0) print "SYNC"
+        else if (i % 4 == 0) printf "GET_SUBSCRIBER_DATA,%d\n", s
+        else printf "UPDATE_LOCATION,%015d,%d\n", s, 2000000 + (4 * run + file) * 5000 + i
+      }
+    }' > "$folder/shared$file.csv"
+  done
+}
 
 # The folder is left where something is wrong, so that it can be looked at.
 wrong() {
@@ -40,29 +63,53 @@ wrong() {
   exit 1
 }
 
-# The words of the next command. Each fifth one makes an image, and so does each while there is none; half of them a new file,
-# and the other half one with short rings, which soon go round.
+# The words of the next command. Each sixth one makes an image, and so does each while there is none; half of them a new file,
+# and half of them with short rings, which soon go round.
 choose() {
-  local make=(format 1000 12000 4 "$((runs % 2 == 0 ? 16 : 256))")
-  case $((runs % 5)) in
+  local make=(format 1000 12000 4 "$((runs / 6 % 2 == 0 ? 16 : 256))")
+  case $((runs % 6)) in
     1) words=("${make[@]}") ;;
-    2) words=(run "$folder/requests1.csv") ;;
+    2) words=(run "$folder"/own{1,2,3,4}.csv) ;;
     3) words=(drive "$runs" 20000 4) ;;
-    4) words=(run "$folder/requests1.csv" "$folder/requests2.csv") ;;
-    0) words=(drive "$runs" 20000 1) ;;
+    4) words=(run "$folder"/shared{1,2,3,4}.csv) ;;
+    5) words=(run "$folder"/own{1,2}.csv) ;;
+    0) if [ $((runs / 6 % 2)) -eq 0 ]; then words=(drive "$runs" 20000 1); else words=(run "$folder/own1.csv"); fi ;;
   esac
   [ "$formatted" = yes ] || words=("${make[@]}")
-  [ "${words[0]}" = run ] || [ "${words[0]}" = drive ] || [ $((runs % 2)) -eq 0 ] || rm -f "$image" "$image".new*
+  [ "${words[-1]}" != "$folder/shared4.csv" ] || write_shared
+  [ "${words[0]}" != format ] || [ $((runs / 12 % 2)) -eq 0 ] || rm -f "$image" "$image".new*
 }
 
-kills=0 runs=0 untold=0 unmade=0 ahead=0 furthest=0 formatted=no
+# What the program itself recovers from a copy of the image, or nothing where it can't. It is timed.
+recover_copy() {
+  local start
+  cp "$image" "$copy"
+  : > "$folder/dumped"
+  start=$(date +%s%N)
+  if "$program" "$copy" recover > "$folder/recovered" 2>&1; then
+    opening=$(($(date +%s%N) - start))
+    "$program" "$copy" dump > "$folder/dumped" 2> "$folder/other" || wrong "what was recovered has no dump"
+    [ "$(sed -n 's/^last //p' "$folder/recovered")" = "$(sed -n 's/^LAST,//p' "$folder/dumped")" ] ||
+      wrong "the dump has another number than the recovery"
+  fi
+}
+
+# A run that wasn't killed has printed an order that may be.
+audit_output() {
+  [ "${words[0]}" = run ] || return 0
+  "$program" "$before" audit "$folder/output" "${words[@]:1}" > "$folder/audited" 2> "$folder/other" || true
+  [ "$(cat "$folder/audited")" = yes ] || wrong "the audit of its output said $(cat "$folder/audited" "$folder/other")"
+  audits=$((audits + 1))
+}
+
+opening=0 kills=0 runs=0 untold=0 unmade=0 ahead=0 furthest=0 formatted=no void=0 audits=0 judged=0 four=0
 while [ "$kills" -lt "$most" ] && [ "$SECONDS" -lt "$limit" ]; do
   runs=$((runs + 1))
   choose
   rm -f "$before"
   [ ! -e "$image" ] || cp "$image" "$before"
-  # Below a second, and early moments more often.
-  moment=$(awk -v a="$RANDOM" 'BEGIN { u = (a + 1) / 32769; printf "%.5f", u * u }')
+  # Below a second and four times the last opening, and early moments more often.
+  moment=$(awk -v a="$RANDOM" -v opening="$opening" 'BEGIN { u = (a + 1) / 32769; printf "%.5f", u * u * (1 + 4e-9 * opening) }')
   status=0
   timeout --foreground --preserve-status -s KILL "$moment" "$program" "$image" "${words[@]}" \
     > "$folder/output" 2> "$folder/told" || status=$?
@@ -74,17 +121,25 @@ while [ "$kills" -lt "$most" ] && [ "$SECONDS" -lt "$limit" ]; do
     continue
   fi
   [ "$(stat -c %s "$image")" -eq 33554432 ] || wrong "the image isn't whole"
-  said=$(python3 "$here/recover.py" "$before" "$image" "$folder/told" "${words[@]}") || wrong "see the line above"
+  recover_copy
+  ended=()
+  [ "$status" -ne 0 ] || ended=(--ended)
+  said=$(python3 "$here/recover.py" "${ended[@]}" --dump "$folder/dumped" "$before" "$image" "$folder/told" "${words[@]}") ||
+    wrong "see the line above"
   if [ "$said" = none ]; then
     untold=$((untold + 1)) formatted=no
     continue
   fi
-  formatted=yes told=${said% *} number=${said#* }
-  [ "$status" -ne 0 ] || [ "$told" -eq "$number" ] || wrong "it ended, and told $told of $number"
+  read -r told number empty <<< "$said"
+  formatted=yes judged=$((judged + 1)) void=$((void + empty))
+  [ "$status" -ne 0 ] || audit_output
+  case ${words[*]} in "drive "*" 4" | *4.csv) [ ! -s "$folder/told" ] || four=$((four + 1)) ;; esac
   [ $((number - told)) -le "$ahead" ] || ahead=$((number - told))
   [ "$number" -le "$furthest" ] || furthest=$number
 done
 rm -rf "$folder"
 echo "$kills of $runs commands were killed, in $SECONDS s: $unmade ended before the image was there, $untold more before durable 0"
-echo "after each other one the image recovered to at least the last number printed, and at most $ahead over it"
+echo "after each other one, $judged, the program and recover.py recovered the same rows and number, those of prefixes of its files;"
+echo "$four of them had four files; $audits runs that ended had an audit that said yes; at least $void numbers had no request"
+echo "the image recovered to at least the last number printed, and at most $ahead over it"
 echo "the greatest number that one recovered to was $furthest"

@@ -2,9 +2,10 @@
 """picture.py [FIGURES [PICTURE]]
 
 Draws requests a second from a file of figures (bench/figures.sh has its fields; bench/speed.csv) as SVG (docs/speed.svg):
-on the disk each build of this program with 1 and 4 files, beside the other stores, with a commit for each change and with
-many changes a commit; and in memory each build again. Of loads on 1,000 subscribers with as many files it takes the longest,
-and of two lines for one figure the later one. The caption ends with the file's first line, which tells the machine.
+on the disk each build of this program with 1, 2 and 4 files, each on a thread, beside the other stores, with a commit for each
+change and with many changes a commit; and in memory each build again. Of loads on 1,000 subscribers with as many files it
+takes the longest, and of two lines for one figure the later one. The caption ends with the file's first line, which tells the
+machine.
 """
 import csv
 import pathlib
@@ -152,6 +153,16 @@ class Drawing:
         )
 
 
+def loads_told(figures):
+    """The lengths of the files, of this program's loads and of the stores'."""
+    told = []
+    for name, some in ("Yelmsker", [it for it in figures if not it.changes]), ("other stores", [it for it in figures if it.changes]):
+        lengths = sorted({figure.count for figure in some})
+        if lengths:
+            told.append(f"{name}: files of {' and '.join(f'{count:,}' for count in lengths)} requests")
+    return ", ".join(told)
+
+
 def picture(told, figures):
     title = "Requests a second of the generated load; a longer bar is better"
     drawing = Drawing({figure.program for figure in figures})
@@ -160,9 +171,7 @@ def picture(told, figures):
         groups = list(groups_of(figures, where))
         if groups:
             drawing.panel(name, groups)
-    counts = sorted({(figure.files, figure.count) for figure in figures})
-    loads = " and ".join(f"{files_told(files)} of {count:,} requests" for files, count in counts)
-    caption = f"{SUBSCRIBERS:,} subscribers; {loads}, of which about a sixth change a row."
+    caption = f"{SUBSCRIBERS:,} subscribers; {loads_told(figures)}. About a sixth of the requests change a row."
     drawing.y += 6
     for line in textwrap.wrap(caption, 115) + textwrap.wrap(told, 115):
         drawing.y += 16

@@ -1,15 +1,30 @@
 #!/usr/bin/env python3
-"""recover.py BEFORE AFTER TOLD COMMAND..
+"""recover.py [--ended] [--dump DUMPED] BEFORE AFTER TOLD COMMAND..
 
 Judges what a command left that was killed or that ended. BEFORE is a copy of the image as it was at the start, AFTER is the
 image now, TOLD is what the command printed on standard error, and COMMAND its words: `format S C N CELLS`, `fresh S FILE`,
 `run FILE..` or `drive SEED COUNT FILES`. It recovers both images by a slow program that shares nothing with the
 repository's code (docs/FORMATS.md has the layout), reads their tables, and carries the requests out on tables of its own.
 
-Prints the last number told and the number that the image recovers to; or `none`, where the command makes its image anew and
-told nothing. Ends with 1 and says why where the image can't be recovered, recovers to less than was told, or holds another
-database than the one after so many of the requests that write.
+`run` and `drive` serve each file on a thread of its own, so the order of their requests isn't known, and some numbers have no
+request. What must hold then is seen in the tables alone:
+
+- Where no two files may change rows of one subscriber, the rows of a file's subscribers are those after a prefix of the file,
+  and each other row is as before.
+- Where they may, they change locations alone, each to a value of its own: some order of requests, those of each file being a
+  prefix of it in its order, leaves these locations.
+
+The requests of these prefixes that write are at most as many as numbers were recovered. `fresh` has one file and no number
+without a request, so there they are exactly as many.
+
+With --ended the command wasn't killed: the last number told is the one recovered to, and each file is done whole. With --dump
+the program's own dump of this image has to be the one of the number and the tables found here.
+
+Prints the last number told, the number that the image recovers to, and at least how many numbers have no request that
+writes; or `none`, where the command makes its image anew and told nothing. Ends with 1 and says why where the image can't be
+recovered, recovers to less than was told, or holds another database.
 """
+import copy
 import struct
 import sys
 
@@ -175,6 +190,11 @@ class Tables:
     def __eq__(self, other):
         return vars(self) == vars(other)
 
+    def copied(self):
+        other = copy.copy(self)
+        vars(other).update({name: dict(rows) for name, rows in vars(self).items() if isinstance(rows, dict)})
+        return other
+
 
 def population(subscribers, limit):
     """The tables of a new image."""
@@ -232,6 +252,36 @@ def change(tables, request):
         tables.calls[key] = tuple(rest)
         return True
     return False
+
+
+# ---- the dump ----
+
+
+def bytes_in(word, count):
+    return [word >> 8 * i & 0xFF for i in range(count)]
+
+
+def text_in(word, count):
+    return "".join(map(chr, bytes_in(word, count)))
+
+
+def subscriber_fields(s, words):
+    flags, low, high, msc, vlr, number = words
+    bits = [flags >> i & 1 for i in range(10)]
+    hexes = [flags >> (10 + 4 * i) & 15 for i in range(10)]
+    return [s, f"{number:015}", *bits, *hexes, *bytes_in(low, 8), *bytes_in(high, 2), msc, vlr]
+
+
+def dump_of(number, tables):
+    """The dump of these tables at this number."""
+    lines = [["SUBSCRIBER", *subscriber_fields(s, words)] for s, words in sorted(tables.subscribers.items())]
+    for key, (data, last) in sorted(tables.access.items()):
+        lines.append(["ACCESS_INFO", key // 4, key % 4 + 1, *bytes_in(data, 2), text_in(data >> 16, 3), text_in(last, 5)])
+    for key, (data, last) in sorted(tables.facilities.items()):
+        lines.append(["SPECIAL_FACILITY", key // 4, key % 4 + 1, *bytes_in(data, 3), text_in(last, 5)])
+    for key, (end, to) in sorted(tables.calls.items()):
+        lines.append(["CALL_FORWARDING", key // 12, key // 3 % 4 + 1, 8 * (key % 3), end, f"{to:015}"])
+    return "".join(",".join(map(str, line)) + "\n" for line in [*lines, ["LAST", number]])
 
 
 # ---- the requests ----
@@ -304,6 +354,143 @@ def files_of(command, subscribers):
     return [requests_in(words[1])] if kind == "fresh" else []
 
 
+# ---- files on threads ----
+
+
+def changed_by(request, numbers):
+    """The subscriber whose rows a request may change, or none."""
+    name, *fields = request
+    if name == "UPDATE_SUBSCRIBER_DATA":
+        return int(fields[0])
+    if name in ("UPDATE_LOCATION", "INSERT_CALL_FORWARDING", "DELETE_CALL_FORWARDING"):
+        return numbers.get(int(fields[0]))
+    return None
+
+
+def rows_at(tables, s):
+    """The rows of a subscriber that requests may change."""
+    facilities = [tables.facilities.get(4 * s + f) for f in range(4)]
+    return tables.subscribers.get(s), facilities, [tables.calls.get(12 * s + k) for k in range(12)]
+
+
+def prefixes(requests, tables, found, own):
+    """How many requests write in each prefix of a file after which the rows of its subscribers are those found, and in all
+    of it. Carries the file out on the tables."""
+    differing = {s for s in own if rows_at(tables, s) != rows_at(found, s)}
+    writes, fitting = 0, [] if differing else [0]
+    for request in requests:
+        s = changed_by(request, tables.numbers)
+        if change(tables, request):
+            writes += 1
+            (differing.discard if rows_at(tables, s) == rows_at(found, s) else differing.add)(s)
+            if not differing:
+                fitting.append(writes)
+    return fitting, writes
+
+
+def perform(tables, requests, writes):
+    """Carries out the requests of a file until so many have written."""
+    for request in requests:
+        if writes == 0:
+            break
+        writes -= change(tables, request)
+
+
+def writes_apart(tables, found, files, own, is_ended):
+    """For each file how many requests write in those of its prefixes that leave the rows found."""
+    if len(files) > 1 and tables.limit < 12 * len(tables.subscribers):
+        raise Wrong("the table of call rows may be full, so the files aren't apart")
+    reached, told = tables.copied(), []
+    for index, (requests, mine) in enumerate(zip(files, own)):
+        fitting, writes = prefixes(requests, tables, found, mine)
+        if is_ended:
+            fitting = [count for count in fitting if count == writes]
+        if not fitting:
+            raise Wrong(f"the rows of file {index}'s subscribers are those after no prefix of it that may be")
+        perform(reached, requests, fitting[0])
+        told.append(fitting)
+    if reached != found:
+        raise Wrong("rows have changed that no file changes")
+    return told
+
+
+def locations_of(requests, numbers):
+    """The subscriber and the location of each request that writes, in a file that changes locations alone."""
+    for request in requests:
+        s = changed_by(request, numbers)
+        if s is not None:
+            if request[0] != "UPDATE_LOCATION":
+                raise Wrong("files that share subscribers may change locations alone, to be judged")
+            yield s, int(request[2])
+
+
+def givers_of(files, tables, found):
+    """By subscriber whose location is another one now, the file and the place there of the write that gave it."""
+    givers = {pair: (file, at) for file, pairs in enumerate(files) for at, pair in enumerate(pairs)}
+    if len(givers) < sum(map(len, files)) or any((s, words[4]) in givers for s, words in tables.subscribers.items()):
+        raise Wrong("two requests of these files give one location, or it stood there before: this can't be judged")
+    last = {}
+    for s, words in tables.subscribers.items():
+        location = found.subscribers[s][4]
+        if location != words[4]:
+            if (s, location) not in givers:
+                raise Wrong(f"no request gives subscriber {s} the location {location}")
+            last[s] = givers[s, location]
+    return last
+
+
+def has_order(files, last):
+    """Whether the files' writes can be made in some order, each file's in its own, with these as the last ones."""
+    left = {}
+    for pairs in files:
+        for s, _ in pairs:
+            left[s] = left.get(s, 0) + 1
+    done, is_moving = [0] * len(files), True
+    while is_moving:
+        is_moving = False
+        for file, pairs in enumerate(files):
+            while done[file] < len(pairs):
+                s = pairs[done[file]][0]
+                if last.get(s) == (file, done[file]) and left[s] > 1:
+                    break
+                left[s] -= 1
+                done[file] += 1
+                is_moving = True
+    return done == list(map(len, files))
+
+
+def writes_shared(tables, found, files, is_ended):
+    """The least number of writes of each file in an order of prefixes of files that leaves the locations found."""
+    files = [list(locations_of(requests, tables.numbers)) for requests in files]
+    if set(found.subscribers) != set(tables.subscribers):
+        raise Wrong("there are other subscribers than before")
+    last = givers_of(files, tables, found)
+    made = [len(pairs) if is_ended else 0 for pairs in files]
+    for file, at in last.values():
+        made[file] = max(made[file], at + 1)
+    files = [pairs[:count] for pairs, count in zip(files, made)]
+    if {s for pairs in files for s, _ in pairs} != set(last) or not has_order(files, last):
+        raise Wrong("no order of prefixes of the files leaves these locations")
+    for s in last:
+        *others, _, number = tables.subscribers[s]
+        tables.subscribers[s] = (*others, found.subscribers[s][4], number)
+    if tables != found:
+        raise Wrong("other rows than locations have changed")
+    return made
+
+
+def writes_between(tables, found, files, is_ended):
+    """The least and the greatest number of requests that may have written, by the tables before and those found, or the list
+    of these numbers where there is one file."""
+    own = [{changed_by(request, tables.numbers) for request in requests} - {None} for requests in files]
+    if sum(map(len, own)) == len(set().union(*own)):
+        told = writes_apart(tables, found, files, own, is_ended)
+        return told[0] if len(told) == 1 else [sum(it[0] for it in told), sum(it[-1] for it in told)]
+    most = sum(len(list(locations_of(requests, tables.numbers))) for requests in files)
+    least = sum(writes_shared(tables, found, files, is_ended))
+    return [least, most]
+
+
 # ---- the judgment ----
 
 
@@ -325,9 +512,10 @@ def opening_of(command, before):
     return Image(before).recovered()
 
 
-def judged(before, after, told_name, *command):
+def judged(is_ended, dumped, before, after, told_name, *command):
     told = numbers_told(told_name)
-    if not told and command[0] in ("format", "fresh"):
+    is_new = command[0] in ("format", "fresh")
+    if not told and is_new:
         return "none"
     opening, tables = opening_of(command, before)
     if told != sorted(told) or told[:1] not in ([], [opening]):
@@ -337,20 +525,32 @@ def judged(before, after, told_name, *command):
     number, found = image.recovered()
     if number < least:
         raise Wrong(f"durable {least} was printed, and the image recovers to {number}")
-    reached = opening
-    requests = in_rounds(files_of(command, image.subscribers)) if told and number > opening else iter(())
-    while reached < number:
-        request = next(requests, None)
-        if request is None:
-            raise Wrong(f"the image recovers to {number}, and the requests end at {reached}")
-        reached += change(tables, request)
-    if tables != found:
-        raise Wrong(f"the tables aren't those after number {number}")
-    return f"{least} {number}"
+    if is_ended and number > least:
+        raise Wrong(f"it ended with durable {least}, and the image recovers to {number}")
+    if not told and number > opening:
+        raise Wrong(f"nothing was told, and the image recovers to {number}")
+    if dumped is not None and dumped != dump_of(number, found):
+        raise Wrong(f"the program's dump is another one than that of number {number}")
+    writes = writes_between(tables, found, files_of(command, image.subscribers) if told else [], is_ended)
+    count = number - opening
+    if writes[0] > count or is_new and count not in (writes or [0]):
+        raise Wrong(f"{count} numbers were recovered over {opening}, and the tables have {writes[0]} to {writes[-1]} writes")
+    return f"{least} {number} {max(0, count - writes[-1])}"
+
+
+def main(words):
+    is_ended, dumped = False, None
+    if words[:1] == ["--ended"]:
+        is_ended, words = True, words[1:]
+    if words[:1] == ["--dump"]:
+        with open(words[1]) as file:
+            dumped = file.read()
+        words = words[2:]
+    print(judged(is_ended, dumped, *words))
 
 
 if __name__ == "__main__":
     try:
-        print(judged(*sys.argv[1:]))
+        main(sys.argv[1:])
     except Wrong as why:
         sys.exit(f"recover: {why}")

@@ -13,8 +13,9 @@
 # A store is a program of bench/stores. It opens a new store, puts the population in, reads all requests, and is timed from
 # the first request to the end of the last commit; the median of five runs, or of N. A round takes each store in turn. After
 # each run its rows have to be those that bench/recover.py gets, and its answers those that PROGRAM counts. The load fills
-# no table, so the limit of call rows isn't kept. Syncs are counted in runs of their own, less those of a load without
-# requests.
+# no table, so the limit of call rows isn't kept. A store carries the requests out one after another; PROGRAM runs each file
+# on a thread. As no two files share a subscriber, that leaves the same rows and answers. Syncs are counted in runs of their
+# own, less those of a load without requests.
 set -euo pipefail
 shopt -s inherit_errexit
 top=$(cd "$(dirname "$0")/.." && pwd)
@@ -53,11 +54,11 @@ ask_program() {
   "$program" "$image" format "$subscribers" "$((12 * subscribers))" "$files" 256 > /dev/null 2>&1
   cp "$image" "$tools/before.img"
   "$program" "$image" drive 1 "$count" "$files" > "$tools/expected" 2> "$tools/told"
-  python3 "$top/bench/recover.py" "$tools/before.img" "$image" "$tools/told" drive 1 "$count" "$files" > "$tools/judged"
+  python3 "$top/bench/recover.py" --ended "$tools/before.img" "$image" "$tools/told" drive 1 "$count" "$files" > "$tools/judged"
   "$program" "$image" dump 2> /dev/null | cut -d , -f 1 | uniq -c | awk '$2 != "LAST" { print $1 }' > "$tools/dumped"
   # The stores have the numbers as a table of its own, table 1, which is no part of a dump.
   cut -d ' ' -f 1 "$tools/final" | grep -v 1 | uniq -c | awk '{ print $1 }' | cmp - "$tools/dumped"
-  echo "$program: told and recovered to $(cat "$tools/judged"), with $(paste -sd ' ' "$tools/dumped") rows"
+  echo "$program: told, recovered to, and numbers void: $(cat "$tools/judged"); with $(paste -sd ' ' "$tools/dumped") rows"
 }
 
 # Runs a store in a new folder, by way of a command if one is given behind the three words.

@@ -1,6 +1,7 @@
 #!/usr/bin/env bash
 # Lets two processes at one image, and prints how often each pair of statuses came: first both make it, in so many tries
-# (200); then, while one drives a load, each command is tried on its image. Ends with 1 where an image was lost.
+# (200); then, while one drives a load of eight files, each on a thread, every command is tried on its image. Ends with 1 where
+# an image was lost.
 #
 #     bench/two.sh [PROGRAM] [TRIES]
 set -u
@@ -22,8 +23,8 @@ for _ in $(seq "$tries"); do
   [ "$(echo made.img*)" = made.img ] || { echo "left: $(echo made.img*)"; status=1; }
   echo "both make it: $(printf '%s\n' "$a" "$b" | sort | paste -sd' ')"
 done | sort | uniq -c
-"$program" kept.img format 1000 12000 4 256 > /dev/null 2>&1
-"$program" kept.img drive 1 90000 4 > drive.out 2> drive.err & driver=$!
+"$program" kept.img format 1000 12000 8 256 > /dev/null 2>&1
+"$program" kept.img drive 1 99999 8 > drive.out 2> drive.err & driver=$!
 until grep -q durable drive.err 2> /dev/null; do sleep 0.01; done
 echo SYNC > sync.csv
 for words in dump recover 'run sync.csv' 'fresh 8 sync.csv' 'format 8 96 2 16' 'drive 1 5 2'; do

@@ -29,8 +29,9 @@ echo "which it read. SYNC waits until all before it is durable."
 show tour.img run "$here/every.csv"
 
 echo
-echo "Nine updates, three with a SYNC behind each and six without. Five lines are told: the number that the image is opened"
-echo "with, one at each SYNC, and one at the end. The six updates are one bundle of the log."
+echo "Nine updates, three with a SYNC behind each and six without. Six lines are told: the number that the image is opened"
+echo "with, one at each SYNC, one behind the eighth request, where the thread of a file takes a turn and persists what has"
+echo "committed, and one at the end. So the six updates are two bundles of the log, of two and of four."
 show tour.img run "$here/bundles.csv"
 
 echo
@@ -38,8 +39,9 @@ echo "The first subscriber's rows now. The dump has all tables as CSV, and the n
 "$dude" tour.img dump 2> /dev/null | awk -F , '$2 == 1 || $1 == "LAST"'
 
 echo
-echo "A generated load: 2,000 requests and a SYNC for each of four files. For each kind of request it shows how many there"
-echo "were, and how many were answered OK, NONE, NOFAC, DUP and FULL."
+echo "A generated load: 2,000 requests and a SYNC for each of four files, each file on a thread of its own. For each kind of"
+echo "request it shows how many there were, and how many were answered OK, NONE, NOFAC, DUP and FULL. No two files share a"
+echo "subscriber, so that is the same in each run, in whatever order the threads come."
 show tour.img drive 1 2000 4 2> tour.told
 echo "up to number $(last_durable tour.told) all is durable"
 
