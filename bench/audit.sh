@@ -16,7 +16,8 @@
 # frame can't be counted so in most builds, since the function that takes its frame (`evict`) stands inside its caller there;
 # but all frames are taken from the start, so each page that is brought in has put another one out. Where a build has no
 # function of a name, it is said that this can't be seen. Under callgrind one thread runs at a time, so these counts say that
-# such things happen and are audited well, not how often they do. The script fails where a count is 0.
+# such things happen and are audited well, not how often they do. The script fails where a count is 0, but for that of rests: a
+# request is set aside only after 64 numbers drawn in vain or a million refusals, which comes seldom.
 #
 # Outside the gate. Needs a program that is built, and valgrind for the counts of calls.
 #
@@ -127,10 +128,11 @@ SIZES = {"few": (4, 48, 4, 16), "many": (100, 1200, 4, 64), "wide": (40, 480, 4,
 MIX = [0, 1, 2, 3, 3, 4, 4, 4, 5, 5, 5, 6, 7, 7]
 WRITES = {"UPDATE_SUBSCRIBER_DATA", "UPDATE_LOCATION", "INSERT_CALL_FORWARDING", "DELETE_CALL_FORWARDING"}
 # What is counted: the function whose calls it is, and a caller whose calls are no such thing.
+RESTS = "runs with files set aside"
 COUNTED = {
     "pages brought in": ("known_back::calls::read_page", "run_(ending|threads)::"),
     "calls that put a page out": ("stm_pages::entries::evict", None),
-    "runs with files set aside": ("run_threads::rests::run_rests", None),
+    RESTS: ("run_threads::rests::run_rests", None),
 }
 
 
@@ -237,7 +239,7 @@ def calls_in(name, function, caller):
 
 
 def count_calls():
-    """Tells what callgrind counts in further runs, and whether none of it is 0."""
+    """Tells what callgrind counts in further runs, and whether none of it is 0 but the rests, which come seldom."""
     names = subprocess.run(["nm", program], capture_output=True, text=True).stdout
     seen = {what: how for what, how in COUNTED.items() if re.search(rf" {how[0]}\b", names)}
     sums = dict.fromkeys(seen, 0)
@@ -246,9 +248,10 @@ def count_calls():
         make(Run(3 * (runs + index)), under)
         for what, how in seen.items():
             sums[what] += calls_in("calls", *how)
+    print(f"{counted} short runs under callgrind, 32 frames over more pages: each audit said yes")
     for what, (function, _) in COUNTED.items():
         print(f"  {what}: {sums[what] if what in seen else 'not to be seen in this build'} (calls of {function})")
-    return all(sums.values())
+    return all(calls for what, calls in sums.items() if what != RESTS)
 
 
 make_images()
@@ -259,7 +262,6 @@ for index in range(runs):
 print(f"{runs} short runs of {FILES} files of {REQUESTS} requests: each audit said yes; {void} numbers were void, in {with_void} runs")
 met = void > 0
 if counted and shutil.which("valgrind"):
-    print(f"{counted} short runs under callgrind, 32 frames over more pages: each audit said yes")
     met = count_calls() and met
 else:
     print("pages brought in, evictions and files set aside weren't counted, for want of valgrind")
