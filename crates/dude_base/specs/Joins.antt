@@ -4,7 +4,6 @@ use Rattle.std.specs.Option.{option_or}
 use Rattle.dude_base.specs.declared.limits.TheConstants.{MAX_SPAN, MAX_BUNDLE_WRITES}
 use Rattle.dude_base.specs.declared.no_join.NoJoin.{NoJoin}
 use Rattle.dude_base.specs.declared.no_join.NoJoin.TheVariants.{Gap, Long, Broad}
-use Rattle.dude_base.specs.declared.write.Write.{Write}
 use Rattle.dude_base.specs.Records.{RedoRecord, RedoBundle, with_next}
 use Rattle.dude_base.specs.Writes.{HasDistinctPlaces, written, overwritten, put_all}
 

@@ -2,7 +2,6 @@
 use Rattle.std.specs.Prelude.{ℕ, ◌+◌, ◌-◌, ◌≤◌, List, [], ◌∷◌}
 use Rattle.dude_base.specs.declared.limits.TheConstants.{MAX_NUMBER, MAX_SPAN, MAX_BUNDLE_WRITES}
 use Rattle.dude_base.specs.declared.write.Write.{Write}
-use Rattle.dude_base.specs.Sizes.{IsFrom}
 use Rattle.dude_base.specs.Writes.{overwritten, put_all, put_write, AreWrites}
 
 -- the number of a transaction, and its writes

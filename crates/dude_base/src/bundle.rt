@@ -1,6 +1,6 @@
 //! What the log has for consecutive numbers.
 
-ghost use Rattle.std.specs.Prelude.{◌≡◌, ◌<◌, ◌≤◌, All, length, slice_get, OnOk, OnErr, IfErr};
+ghost use Rattle.std.specs.Prelude.{◌≡◌, ◌<◌, ◌≤◌, ◌↔◌, All, IsTrue, length, slice_get, OnOk, OnErr, IfErr};
 ghost use Rattle.dude_base.specs.Joins.{CanJoin, LawOfJoining, Refuses, places_of};
 ghost use Rattle.dude_base.specs.Records.{IsBundle, bundle_of, first_of, with_next};
 ghost use Rattle.dude_base.specs.Writes.{overwritten};
@@ -67,6 +67,21 @@ impl Bundle {
             span: self.span,
             writes: self.writes.copy(),
         }
+    }
+
+    /// Whether the two cover the same numbers and have the same writes in the same order.
+    pub fn is_same(&self, other: &Bundle) -> bool
+        ensures { IsTrue result ↔ (self.now ≡ other.now) }
+    {
+        if self.last != other.last || self.span != other.span || self.len() != other.len() {
+            return false;
+        }
+        for k in 0..self.len() {
+            if self.write_at(k) != other.write_at(k) {
+                return false;
+            }
+        }
+        true
     }
 
     /// The first number that it covers.

@@ -3,7 +3,7 @@
 /// Why a request was not served.
 #[derive(Clone, Copy)]
 pub enum Unserved {
-    /// The pass was refused 64 times.
+    /// The pass drew 64 numbers in vain, or was refused a million times.
     Refused,
     /// The back met a fault.
     Device,

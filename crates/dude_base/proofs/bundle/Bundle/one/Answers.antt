@@ -1,5 +1,4 @@
-use Rattle.std.proofs.Common.{◌≢◌, ◌<◌, ◌≡◌, ◌++◌, ◌∷◌, [], All, length, take, sym, ap, ◌∙◌, subst, arith}
-use Rattle.dude_base.specs.declared.write.Write.{Write}
+use Rattle.std.proofs.Common.{◌≢◌, ◌++◌, ◌∷◌, [], All, length, sym, ap, ◌∙◌, subst, arith}
 use Rattle.dude_base.proofs.Overwriting.{copied_more}
 use Rattle.dude_base.proofs.bundle.Bundle.one.Goals as goal
 

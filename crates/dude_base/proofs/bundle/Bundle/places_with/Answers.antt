@@ -1,7 +1,7 @@
-use Rattle.std.proofs.Common.{◌≡◌, ℕ, ◌≤◌, ◌+◌, List, length, take, Option, None, is_some, not, true, false, sym, ap, ◌∙◌, arith, rules}
+use Rattle.std.proofs.Common.{◌≡◌, ◌+◌, List, None, is_some, not, sym, ap, ◌∙◌, arith}
 use Rattle.dude_base.specs.declared.write.Write.{Write}
 use Rattle.dude_base.specs.Records.{RedoBundle}
-use Rattle.dude_base.specs.Writes.{put_all, written}
+use Rattle.dude_base.specs.Writes.{written}
 use Rattle.dude_base.proofs.WriteLists.{None-from_is_some}
 use Rattle.dude_base.proofs.Joining.{place_more, place_same, few_so_far, length-put_all}
 use Rattle.dude_base.proofs.bundle.Bundle.places_with.Goals.{then-is_none, else-is_none}

@@ -1,4 +1,4 @@
-use Rattle.std.proofs.Common.{◌≡◌, length, take}
+use Rattle.std.proofs.Common.{◌≡◌, take}
 use Rattle.dude_base.specs.Writes.{put_all}
 use Rattle.dude_base.proofs.bundle.Bundle.take.Given as goal
 
