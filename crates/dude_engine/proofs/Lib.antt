@@ -6,3 +6,5 @@ pub mod Steps
 pub mod Tellings
 pub mod Turns
 pub mod LogOperations
+pub mod Keeping
+pub mod Packets

@@ -124,7 +124,7 @@ module _ (opening : Opening) (files : List (List Request)) (performed done : Lis
   pub replies_of : RepliesOfOneThread opening.number opening.sizes.calls opening.database files done
   replies_of = (law opening.number opening.sizes.calls opening.database files performed done performs_of collects).0
 
-  printed_like : PrintedLike opening.sizes.calls opening.database performed done
+  pub printed_like : PrintedLike opening.sizes.calls opening.database performed done
   printed_like = (law opening.number opening.sizes.calls opening.database files performed done performs_of collects).1
 
   pub follow_of : SyncsFollow done
@@ -159,7 +159,7 @@ module _ (opening : Opening) (files : List (List Request)) (performed done : Lis
       omega (arith, up, down)
 
   -- what an image recovers to is the same along the printed order
-  recovers_printed : (image : List ℕ) (n : ℕ) → RecoversAt opening performed image n → RecoversAt opening printed_like.order image n
+  pub recovers_printed : (image : List ℕ) (n : ℕ) → RecoversAt opening performed image n → RecoversAt opening printed_like.order image n
   recovers_printed image n r = record {
     array = r.array;
     recovered = r.recovered;

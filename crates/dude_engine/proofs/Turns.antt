@@ -17,6 +17,7 @@ use Rattle.tatp_model.specs.declared.reply.Reply.TheVariants.{Durable}
 use Rattle.dude_engine.specs.declared.run.Run.{Run}
 use Rattle.dude_engine.specs.declared.run_fault.RunFault.{RunFault}
 use Rattle.dude_engine.specs.Opening.{Opening}
+use Rattle.dude_engine.specs.Keeping.{LeavesKept}
 use Rattle.dude_engine.specs.Requests.{HasLength, request_count}
 use Rattle.dude_engine.specs.Running.{Adds, AddsTurn, AddsUnless, IsReady, Runs, ServesMore}
 
@@ -143,6 +144,7 @@ pub record InRounds {M : Type 0} {ghosts : Ghosts M} (sight : M → Sight) (file
   pub rounds : Rounds files i k run.done.items
   pub left : (opening : Opening) (words : List ℕ) (s : Sight) → Runs opening words first s (sight (log_medium first.log)) → Runs opening words run s (sight (log_medium run.log))
   pub calls : ServesMore first (sight (log_medium first.log)) run (sight (log_medium run.log))
+  pub kept : LeavesKept (Ok tt) first run
 
 -- the value made of the element at a place, as that of the file whose turn it is
 pub file_there : {X Y : Type 0} (f : X → Y) (xs : List X) (k : ℕ) (x : X) (y : Y) → k < length xs → x ≡ get_or xs k x → y ≡ f x → slice_get (map f xs) k ≡ Some y

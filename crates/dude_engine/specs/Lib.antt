@@ -4,3 +4,5 @@ pub mod Plain
 pub mod Requests
 pub mod RunCalls
 pub mod Running
+pub mod Keeping
+pub mod Shipping

@@ -5,7 +5,9 @@ mod one_thread;
 mod ran;
 mod run;
 mod run_fault;
+mod shipping;
 
-pub use one_thread::plain;
+pub use one_thread::{plain, shipped};
 pub use ran::{Ran, RanEnd};
+pub use shipping::Shipped;
 pub use tatp_core::run_request;

@@ -1,18 +1,23 @@
 //! The requests of files, run on one thread.
 
-ghost use Rattle.std.specs.Prelude.{◌≡◌, ◌≤◌, length, map};
+ghost use Rattle.std.specs.Prelude.{◌≡◌, ◌≤◌, [], IsTrue, length, map};
 ghost use Rattle.back_store.specs.BackView.{sight_of};
 ghost use Rattle.image_opening.specs.Opened.{IsOpened};
+ghost use Rattle.redo_record.specs.Recovery.{AreConsecutive};
+ghost use Rattle.log_numbered.specs.KeptBundles.{are_kept, kept_bundles};
+ghost use Rattle.dude_engine.specs.declared.ran.RanEnd.TheVariants.{Whole};
 ghost use Rattle.dude_engine.specs.Opening.{Opening};
 ghost use Rattle.dude_engine.specs.Requests.{AreInRange, HasNumberEach};
 ghost use Rattle.dude_engine.specs.Running.{end_by};
+ghost use Rattle.dude_engine.specs.Shipping.{KeepsUp, Ships};
 ghost use Rattle.dude_engine.specs.Plain.{AnswersFiles, EndsAs, IsOpeningOf, RecoversOnTheRun, TellsSyncs};
 
 use crate::ran::{Ran, RanEnd};
 use crate::run::Run;
 use crate::run_fault::RunFault;
+use crate::shipping::Shipped;
 use image_opening::Opened;
-use log_numbered::RunLog;
+use log_numbered::{KeptBundles, RunLog};
 use pmem_trait::Medium;
 use run_order::put_in_files;
 use std::alloc::Global;
@@ -38,21 +43,87 @@ pub fn plain<M: Medium>(alloc: Global, opened: Opened<M>, files: &[Vec<Request>]
     ensures end { EndsAs opened (map (λ f. f.items) files.now) result.done.items result.end
         result.last (M.sight result.medium) }
 {
+    let shipped = run_files(alloc, opened, files, KeptBundles::none(alloc));
+    shipped.ran
+}
+
+/// Runs the requests of files as `plain` does, and gives the bundles that it persisted as well: packets for followers, who come
+/// by them to each database of the run at the last number of a packet. Where the medium failed or there was no memory, they
+/// are the first ones of those of the whole run.
+pub fn shipped<M: Medium>(alloc: Global, opened: Opened<M>, files: &[Vec<Request>]) -> Shipped<M>
+    requires opened { IsOpened opened }
+    requires rings { length files.now ≤ opened.sizes.rings }
+    requires in_range { AreInRange (map (λ f. f.items) files.now) }
+    requires numbers { HasNumberEach opened.number (map (λ f. f.items) files.now) }
+    ensures replies { (opening : Opening) → IsOpeningOf opened opening
+        → AnswersFiles opening (map (λ f. f.items) files.now) result.ran.done.items }
+    ensures syncs { TellsSyncs opened.number result.ran.done.items (sight_of opened.back)
+        (M.sight result.ran.medium) }
+    ensures moments { (opening : Opening) → IsOpeningOf opened opening
+        → RecoversOnTheRun opening opened.words.items result.ran.done.items (sight_of opened.back)
+        (M.sight result.ran.medium) }
+    ensures end { EndsAs opened (map (λ f. f.items) files.now) result.ran.done.items result.ran.end
+        result.ran.last (M.sight result.ran.medium) }
+    ensures packets { (opening : Opening) → IsOpeningOf opened opening
+        → Ships opening opened.words.items result.ran.done.items result.packets.items }
+    ensures persisted { (opening : Opening) → IsOpeningOf opened opening
+        → KeepsUp opening opened.words.items result.ran.done.items result.packets.items
+        (sight_of opened.back) (M.sight result.ran.medium) }
+    ensures whole { result.ran.end ≡ Whole
+        → AreConsecutive opened.number result.packets.items result.ran.last }
+{
+    run_files(alloc, opened, files, KeptBundles::new(alloc))
+}
+
+// Runs the requests of files, and keeps the bundles persisted or doesn't.
+fn run_files<M: Medium>(
+    alloc: Global,
+    opened: Opened<M>,
+    files: &[Vec<Request>],
+    packets: KeptBundles,
+) -> Shipped<M>
+    requires opened { IsOpened opened }
+    requires rings { length files.now ≤ opened.sizes.rings }
+    requires in_range { AreInRange (map (λ f. f.items) files.now) }
+    requires numbers { HasNumberEach opened.number (map (λ f. f.items) files.now) }
+    requires none { kept_bundles packets ≡ [] }
+    ensures replies { (opening : Opening) → IsOpeningOf opened opening
+        → AnswersFiles opening (map (λ f. f.items) files.now) result.ran.done.items }
+    ensures syncs { TellsSyncs opened.number result.ran.done.items (sight_of opened.back)
+        (M.sight result.ran.medium) }
+    ensures moments { (opening : Opening) → IsOpeningOf opened opening
+        → RecoversOnTheRun opening opened.words.items result.ran.done.items (sight_of opened.back)
+        (M.sight result.ran.medium) }
+    ensures end { EndsAs opened (map (λ f. f.items) files.now) result.ran.done.items result.ran.end
+        result.ran.last (M.sight result.ran.medium) }
+    ensures packets { IsTrue (are_kept packets) → (opening : Opening) → IsOpeningOf opened opening
+        → Ships opening opened.words.items result.ran.done.items result.packets.items }
+    ensures persisted { IsTrue (are_kept packets) → (opening : Opening) → IsOpeningOf opened opening
+        → KeepsUp opening opened.words.items result.ran.done.items result.packets.items
+        (sight_of opened.back) (M.sight result.ran.medium) }
+    ensures whole { IsTrue (are_kept packets) → result.ran.end ≡ Whole
+        → AreConsecutive opened.number result.packets.items result.ran.last }
+{
     let number = opened.number;
     let mut run = Run {
         log: RunLog::new(opened.back, number),
         lay: opened.lay,
         words: Flat::new(opened.words),
         done: Vec::new(alloc),
+        packets,
     };
     let served = run.run_all(files);
     put_in_files(&mut run.done);
     let last = run.log.durable();
-    Ran {
+    let ran = Ran {
         done: run.done,
         medium: run.log.into_medium(),
         end: end_of(served),
         last,
+    };
+    Shipped {
+        ran,
+        packets: run.packets.into_list(),
     }
 }
 

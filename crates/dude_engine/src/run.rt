@@ -5,12 +5,14 @@ ghost use Rattle.dude_base.specs.declared.limits.TheConstants.{MAX_NUMBER};
 ghost use Rattle.tatp_model.specs.declared.request.Request.TheVariants.{Sync};
 ghost use Rattle.tatp_model.specs.OneThread.{is_sync};
 ghost use Rattle.tatp_model.specs.Request.{IsInRange};
-ghost use Rattle.log_numbered.specs.RunLog.{log_last};
+ghost use Rattle.log_numbered.specs.RunLog.{log_durable, log_end, log_last};
+ghost use Rattle.log_numbered.specs.KeptBundles.{HasRoomToKeep};
 ghost use Rattle.dude_engine.specs.Requests.{AreInRange, HasLength, HasNumberEach, request_count};
+ghost use Rattle.dude_engine.specs.Keeping.{LeavesKept};
 ghost use Rattle.dude_engine.specs.Running.{HasRoomToNote, IsAtStart, IsChanging, IsReady, LeavesOn, LeavesRun, MakesRun, MayServe, NotesTurn, NotesUnless, NumbersNoMore, PerformsFiles, SettlesRun, silent_done};
 
 use crate::run_fault::RunFault;
-use log_numbered::RunLog;
+use log_numbered::{KeptBundles, RunLog};
 use pmem_trait::Medium;
 use tatp_core::run_request;
 use tatp_layout::Layout;
@@ -18,13 +20,15 @@ use tatp_model::{Done, Reply, Request};
 use word_space::flat::Flat;
 use word_space::stop::Stop;
 
-/// A run of request files on one thread: its log, its tables in memory, and what is done, in the order of performance.
+/// A run of request files on one thread: its log, its tables in memory, what is done, in the order of performance, and the
+/// bundles persisted, where they are kept.
 #[derive(Drop)]
 pub struct Run<M: Medium> {
     pub log: RunLog<M>,
     pub lay: Layout,
     pub words: Flat,
     pub done: Vec<Done>,
+    pub packets: KeptBundles,
 }
 
 impl<M: Medium> Run<M> {
@@ -39,11 +43,14 @@ impl<M: Medium> Run<M> {
         ensures performs { PerformsFiles result (map (λ f. f.items) files.now) self.new.done.items }
         ensures calls { OnOk result (MakesRun self.old self.new) }
         ensures settled { OnOk result (SettlesRun self.old self.new) }
+        ensures kept { LeavesKept result self.old self.new }
+        ensures end { OnOk result (log_end self.new.log ≡ log_durable self.new.log) }
     {
         let count = count_requests(files);
         self.done.reserve_exact(count)?;
         self.serve_all(files)?;
-        self.log.checkpoint()?;
+        self.packets.reserve()?;
+        self.log.checkpoint(&mut self.packets)?;
         Ok(())
     }
 
@@ -55,6 +62,7 @@ impl<M: Medium> Run<M> {
         requires in_range { AreInRange (map (λ f. f.items) files.now) }
         requires numbers { HasNumberEach (log_last self.old.log) (map (λ f. f.items) files.now) }
         ensures leaves { LeavesRun result self.old self.new }
+        ensures kept { LeavesKept result self.old self.new }
         ensures performs { PerformsFiles result (map (λ f. f.items) files.now) self.new.done.items }
     {
         let longest = longest_file(files);
@@ -74,6 +82,7 @@ impl<M: Medium> Run<M> {
         requires ring { file < self.old.lay.rings }
         requires in_range { All IsInRange requests.now }
         ensures leaves { LeavesRun result self.old self.new }
+        ensures kept { LeavesKept result self.old self.new }
         ensures number { OnOk result (NumbersNoMore self.old self.new) }
         ensures adds { NotesTurn result file index requests.now self.old self.new }
     {
@@ -88,9 +97,11 @@ impl<M: Medium> Run<M> {
         requires may { MayServe file self.old }
         requires in_range { IsInRange request.now }
         ensures leaves { LeavesRun result self.old self.new }
+        ensures kept { LeavesKept result self.old self.new }
         ensures number { OnOk result (log_last self.new.log ≤ log_last self.old.log + 1) }
         ensures adds { NotesUnless result file index request.now self.old self.new }
     {
+        self.packets.reserve()?;
         match request {
             Request::Sync => self.serve_sync(file, index),
             _ => self.perform(file, index, request),
@@ -101,11 +112,13 @@ impl<M: Medium> Run<M> {
     fn serve_sync(&mut self, file: u64, index: u64) -> Result<(), RunFault>
         requires ready { IsReady self.old }
         requires room { HasRoomToNote self.old }
+        requires keep { HasRoomToKeep self.old.packets }
         ensures leaves { LeavesRun result self.old self.new }
+        ensures kept { LeavesKept result self.old self.new }
         ensures number { OnOk result (log_last self.new.log ≡ log_last self.old.log) }
         ensures adds { NotesUnless result file index Sync self.old self.new }
     {
-        let number = self.log.announce()?;
+        let number = self.log.announce(&mut self.packets)?;
         self.note(file, index, number, Request::Sync, Reply::Durable);
         Ok(())
     }
@@ -113,9 +126,11 @@ impl<M: Medium> Run<M> {
     // Performs a request on the tables, and logs what it changed.
     fn perform(&mut self, file: u64, index: u64, request: &Request) -> Result<(), RunFault>
         requires may { MayServe file self.old }
+        requires keep { HasRoomToKeep self.old.packets }
         requires in_range { IsInRange request.now }
         requires no_sync { is_sync request.now ≡ false }
         ensures leaves { LeavesRun result self.old self.new }
+        ensures kept { LeavesKept result self.old self.new }
         ensures number { OnOk result (log_last self.new.log ≤ log_last self.old.log + 1) }
         ensures adds { NotesUnless result file index request.now self.old self.new }
     {
@@ -142,10 +157,12 @@ impl<M: Medium> Run<M> {
     fn log_change(&mut self, file: u64, index: u64, request: &Request) -> Result<(), RunFault>
         requires change { IsChanging request.now self.old }
         requires room { HasRoomToNote self.old }
+        requires keep { HasRoomToKeep self.old.packets }
         requires number { log_last self.old.log < MAX_NUMBER }
         requires ring { file < self.old.lay.rings }
         requires no_sync { is_sync request.now ≡ false }
         ensures leaves { LeavesRun result self.old self.new }
+        ensures kept { LeavesKept result self.old self.new }
         ensures number { OnOk result (log_last self.new.log ≡ log_last self.old.log + 1) }
         ensures adds { NotesUnless result file index request.now self.old self.new }
     {
@@ -159,7 +176,7 @@ impl<M: Medium> Run<M> {
             request: *request,
             reply: Reply::Changed,
         });
-        self.log.append(file, &redo)?;
+        self.log.append(file, &redo, &mut self.packets)?;
         Ok(())
     }
 
@@ -172,6 +189,7 @@ impl<M: Medium> Run<M> {
         ensures log { self.new.log ≡ self.old.log }
         ensures lay { self.new.lay ≡ self.old.lay }
         ensures words { self.new.words ≡ self.old.words }
+        ensures packets { self.new.packets ≡ self.old.packets }
     {
         self.done.push_reserved(Done {
             file,

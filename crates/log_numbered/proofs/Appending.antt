@@ -6,7 +6,7 @@ use Rattle.std.proofs.lemmas.List.Elements.{All-cons, All-head, All-nil, All-pus
 use Rattle.dude_base.specs.declared.limits.TheConstants.{MAX_NUMBER}
 use Rattle.dude_base.specs.declared.write.Write.{Write}
 use Rattle.dude_base.specs.Image.{image_words}
-use Rattle.dude_base.specs.Records.{RedoRecord, bundle_of, with_next}
+use Rattle.dude_base.specs.Records.{RedoBundle, RedoRecord, bundle_of, with_next}
 use Rattle.dude_base.specs.Writes.{IsWriteList, overwritten, put_all, put_write, written}
 use Rattle.dude_base.proofs.Joining.{joining_law}
 use Rattle.pmem_trait.specs.declared.medium.Medium.{Ghosts}
@@ -14,7 +14,7 @@ use Rattle.pmem_trait.specs.Sights.{AtEveryMoment, Sight, state_now, CallsMade, 
 use Rattle.log_numbered.specs.declared.bundle_log.BundleLog.{BundleLog}
 use Rattle.log_numbered.specs.declared.open_bundle.OpenBundle.{OpenBundle}
 use Rattle.log_numbered.specs.declared.run_log.RunLog.{RunLog}
-use Rattle.log_numbered.specs.Arrays.{RecoversIn, RunArrays, array_at, last_number, with_writes}
+use Rattle.log_numbered.specs.Arrays.{LeadsToLast, RecoversIn, RunArrays, array_at, last_number, with_writes}
 use Rattle.log_numbered.specs.Backs.{Carries, LogGoesOn, LeadsUpTo}
 use Rattle.log_numbered.specs.BundleLog.{kept_back}
 use Rattle.log_numbered.specs.LogCalls.{Joins}
@@ -47,6 +47,28 @@ put_home n ws w all new = elim (cases_Bool (is_some (written ws w.at))) [
 puts_home : (n : ℕ) (ws vs : List Write) → All (λ x. x.at < n) ws → All (λ x. x.at < n) vs → All (λ x. x.at < n) (put_all ws vs)
 puts_home n ws [] all home = all
 puts_home n ws (v ∷ vs) all home = puts_home n (put_write ws v) vs (put_home n ws v all (All-head (λ (x : Write). x.at < n) v vs home)) (All-tail (λ (x : Write). x.at < n) v vs home)
+
+-- ---- what the open bundle leads to, with one array more
+
+-- a bundle that a record joined
+pub joined_leads : (a : RunArrays) (end : ℕ) (b : RedoBundle) (r : RedoRecord) → IsWriteList r.writes → end ≤ last_number a → LeadsToLast a end b → LeadsToLast (with_writes r.writes a) end (with_next b r)
+joined_leads a end b r writes upto to =
+    let new : RunArrays = with_writes r.writes a in
+    record {
+      last = (let same = to.last in let more = one_more r.writes a in omega arith);
+      array = joining_law.effect b r (array_at new end) writes.distinct
+          ∙ ap (overwritten r.writes) (ap (overwritten b.writes) (array_stays r.writes a end upto) ∙ to.array)
+          ∙ sym (array_added r.writes a (last_number new) (one_more r.writes a));
+    }
+
+-- one that a record begins
+pub begun_leads : (a : RunArrays) (end : ℕ) (r : RedoRecord) → end ≡ last_number a → r.number ≡ last_number a + 1 → LeadsToLast (with_writes r.writes a) end (bundle_of r)
+begun_leads a end r is number =
+    let new : RunArrays = with_writes r.writes a in
+    record {
+      last = (let more = one_more r.writes a in omega arith);
+      array = ap (overwritten r.writes) (array_stays r.writes a end (omega arith) ∙ ap (array_at a) is) ∙ sym (array_added r.writes a (last_number new) (one_more r.writes a));
+    }
 
 -- ---- a record joins
 
@@ -82,18 +104,12 @@ module _ {M : Type 0} {ghosts : Ghosts M} (k l : RunLog M ghosts) (s t : Sight) 
     joined_follows before a f =
         let to = leads_to before a k s o f was in
         let new : RunArrays = with_writes r.writes a in
-        let upto = f.carried.upto in
         record {
           last = (let same = f.last in let more = one_more r.writes a in omega arith);
           carried = subst (λ (u : Sight). Carries before new (log_back l) (log_end l) u) (sym still)
               (subst (λ (x : BundleLog M ghosts). Carries before new (kept_back x) x.end s) (sym log_is) (carries_more before (log_back k) (log_end k) a r.writes s alive.leads f.carried));
           leads_on = subst (λ (x : BundleLog M ghosts). OpenLeads new x.end (log_open l)) (sym log_is)
-              (subst (λ (x : Option OpenBundle). OpenLeads new (log_end k) x) (sym now) (record {
-                last = (let same = to.last in let more = one_more r.writes a in omega arith);
-                array = joining_law.effect o.bundle r (array_at new (log_end k)) writes.distinct
-                    ∙ ap (overwritten r.writes) (ap (overwritten o.bundle.writes) (array_stays r.writes a (log_end k) upto) ∙ to.array)
-                    ∙ sym (array_added r.writes a (last_number new) (one_more r.writes a));
-              }));
+              (subst (λ (x : Option OpenBundle). OpenLeads new (log_end k) x) (sym now) (joined_leads a (log_end k) o.bundle r writes f.carried.upto to));
         }
 
 -- at rest, with one array more
@@ -133,8 +149,5 @@ module _ {M : Type 0} {ghosts : Ghosts M} (m l : RunLog M ghosts) (ring : ℕ) (
         last = (let same = f.last in let more = one_more r.writes a in omega arith);
         carried = subst (λ (x : BundleLog M ghosts). Carries before new (kept_back x) x.end t) (sym log_is) (carries_more before (log_back m) (log_end m) a r.writes t alive.leads f.carried);
         leads_on = subst (λ (x : BundleLog M ghosts). OpenLeads new x.end (log_open l)) (sym log_is)
-            (subst (λ (x : Option OpenBundle). OpenLeads new (log_end m) x) (sym now) (record {
-              last = (let same = f.last in let more = one_more r.writes a in omega arith);
-              array = ap (overwritten r.writes) (array_stays r.writes a (log_end m) f.carried.upto ∙ ap (array_at a) end) ∙ sym (array_added r.writes a (last_number new) (one_more r.writes a));
-            }));
+            (subst (λ (x : Option OpenBundle). OpenLeads new (log_end m) x) (sym now) (begun_leads a (log_end m) r end (next ∙ ap (λ (n : ℕ). n + 1) f.last)));
       }

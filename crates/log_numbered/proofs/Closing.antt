@@ -117,6 +117,7 @@ module _ {M : Type 0} {ghosts : Ghosts M} where
   tells_behind k m n last closed goes end durable told carries = record {
     told = told_behind k m (log_sight k) (log_sight m) (kept_sight n) (log_end m) (log_last k) closed.end goes told;
     last = last;
+    end = end ∙ closed.end;
     durable = durable ∙ closed.end;
     follows = λ before a f.
         closed_follows m (record m { log = n }) (log_sight m) (kept_sight n) Any (λ before a f. tt) carries (end ∙ closed.end ∙ sym last) refl closed.none_open before a (closed.follows before a f);

@@ -5,6 +5,7 @@ pub mod Closing
 pub mod GoingOn
 pub mod HeldArrays
 pub mod Joining
+pub mod Keeping
 pub mod LedLogs
 pub mod LoggedCalls
 pub mod OpenedLogs

@@ -190,8 +190,9 @@ pub record TellsRun {M : Type 0} {ghosts : Ghosts M} (k l : RunLog M ghosts) : T
   -- it was told last
   pub told : IsTrue (log_sight k).is_visible
       → (earlier : List ℕ) × ((state_now (log_sight l)).told ≡ (state_now (log_sight k)).told ++ earlier ++ log_last k ∷ [])
-  -- it stays the last, and is durable
+  -- it stays the last, is the last one persisted, and is durable
   pub last : log_last l ≡ log_last k
+  pub end : log_end l ≡ log_last k
   pub durable : log_durable l ≡ log_last k
   -- the log follows the arrays that it followed
   pub follows : FollowsOn (λ a. a) k (log_sight k) l (log_sight l)

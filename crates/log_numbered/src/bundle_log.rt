@@ -1,6 +1,6 @@
 //! The persisted part of a log: bundles are appended, announced, and brought home.
 
-ghost use Rattle.std.specs.Prelude.{◌≡◌, ◌≤◌, IfOk, OnOk, is_ok, length, true};
+ghost use Rattle.std.specs.Prelude.{◌≡◌, ◌≤◌, IfOk, OnOk, false, is_ok, length, true};
 ghost use Rattle.redo_record.specs.Record.{cells_for};
 ghost use Rattle.log_numbered.specs.Backs.{LeadsUpTo};
 
@@ -26,6 +26,7 @@ impl<M: Medium> BundleLog<M> {
         ensures alive { is_ok result ≡ true → LeadsUpTo (kept_back self.new) self.new.end }
         ensures persists { IfOk result (λ room. PersistsIf room ring b.now self.old self.new) }
         ensures full { IfOk result (λ room. WasFullUnless room ring b.now self.old self.new) }
+        ensures end { is_ok result ≡ false → self.new.end ≡ self.old.end }
         ensures moments { RecoversWith b.now self.old self.new }
     {
         match self.back.persist(ring, b) {
@@ -48,6 +49,7 @@ impl<M: Medium> BundleLog<M> {
         ensures goes_on { KeptGoesOn (is_ok result) self.old self.new }
         ensures alive { is_ok result ≡ true → LeadsUpTo (kept_back self.new) self.new.end }
         ensures persists { OnOk result (PersistsNext ring b.now self.old self.new) }
+        ensures end { is_ok result ≡ false → self.new.end ≡ self.old.end }
         ensures moments { RecoversWith b.now self.old self.new }
     {
         if self.persist(ring, b)? {
@@ -82,6 +84,7 @@ impl<M: Medium> BundleLog<M> {
         ensures goes_on { KeptGoesOn (is_ok result) self.old self.new }
         ensures alive { is_ok result ≡ true → LeadsUpTo (kept_back self.new) self.new.end }
         ensures appends { OnOk result (AppendsNext ring b.now self.old self.new) }
+        ensures end { is_ok result ≡ false → self.new.end ≡ self.old.end }
         ensures moments { RecoversWith b.now self.old self.new }
     {
         if self.persist(ring, b)? {

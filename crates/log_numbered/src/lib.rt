@@ -4,7 +4,9 @@
 #![tactic(auto)]
 
 mod bundle_log;
+mod kept_bundles;
 mod open_bundle;
 mod run_log;
 
+pub use kept_bundles::KeptBundles;
 pub use run_log::RunLog;

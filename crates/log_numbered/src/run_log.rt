@@ -4,8 +4,10 @@ ghost use Rattle.std.specs.Prelude.{◌≡◌, ◌≤◌, IfOk, OnOk, false, is_
 ghost use Rattle.dude_base.specs.declared.limits.TheConstants.{MAX_NUMBER};
 ghost use Rattle.dude_base.specs.Sizes.{IsAccepted};
 ghost use Rattle.dude_base.specs.Writes.{IsWriteList};
+ghost use Rattle.log_numbered.specs.KeptBundles.{HasRoomToKeep};
 
 use crate::bundle_log::BundleLog;
+use crate::kept_bundles::KeptBundles;
 use crate::open_bundle::OpenBundle;
 use back_store::Back;
 use dude_base::bundle::Bundle;
@@ -25,7 +27,8 @@ impl<M: Medium> RunLog<M> {
     ghost use Rattle.back_store.specs.Back.{idle};
     ghost use Rattle.back_store.specs.BackView.{state_of};
     ghost use Rattle.log_numbered.specs.Arrays.{with_writes};
-    ghost use Rattle.log_numbered.specs.RunLog.{AnnouncesRun, AppendsRecord, CheckpointsRun, Closes, FollowsOpened, IsAlive, IsNextRecord, JoinsOpen, NoneJoins, RunGoesOn, RunRecovers, StartsOn, log_durable, log_last, log_medium};
+    ghost use Rattle.log_numbered.specs.Keeping.{FailsFrom, KeepsOn};
+    ghost use Rattle.log_numbered.specs.RunLog.{AnnouncesRun, AppendsRecord, CheckpointsRun, Closes, FollowsOpened, IsAlive, IsNextRecord, JoinsOpen, NoneJoins, RunGoesOn, RunRecovers, StartsOn, log_durable, log_end, log_last, log_medium};
 
     /// The log of a run that starts on a back where nothing waits and all up to this number is durable and in the home.
     pub fn new(back: Back<M>, number: u64) -> RunLog<M>
@@ -76,36 +79,47 @@ impl<M: Medium> RunLog<M> {
     }
 
     // Persists the open bundle, where there is one.
-    fn close(&mut self) -> Result<(), Failed>
+    fn close(&mut self, kept: &mut KeptBundles) -> Result<(), Failed>
         requires alive { IsAlive self.old }
+        requires room { HasRoomToKeep kept.old }
         ensures goes_on { RunGoesOn (is_ok result) self.old self.new }
         ensures alive { is_ok result ≡ true → IsAlive self.new }
         ensures last { log_last self.new ≡ log_last self.old }
         ensures closes { OnOk result (Closes self.old self.new) }
         ensures moments { RunRecovers (λ a. a) self.old self.new }
+        ensures end { is_ok result ≡ false → log_end self.new ≡ log_end self.old }
+        ensures keeps { KeepsOn (is_ok result) (λ a. a) self.old kept.old self.new kept.new }
     {
         match self.current.take() {
-            Some(closed) => self.log.append(closed.ring, &closed.bundle),
+            Some(closed) => {
+                self.log.append(closed.ring, &closed.bundle)?;
+                kept.keep(&closed.bundle);
+                Ok(())
+            }
             None => Ok(()),
         }
     }
 
     /// Takes the record of the next number: it joins the open bundle. Where that doesn't take it, the bundle is persisted, and
     /// a new one begun with the record, in this ring. Where a bundle's ring is full, all that waits is announced and reproduced
-    /// before the bundle is persisted.
-    pub fn append(&mut self, ring: u64, r: &Redo) -> Result<(), Failed>
+    /// before the bundle is persisted. A bundle that is persisted is then kept.
+    pub fn append(&mut self, ring: u64, r: &Redo, kept: &mut KeptBundles) -> Result<(), Failed>
         requires alive { IsAlive self.old }
         requires next { IsNextRecord self.old ring r.now }
+        requires room { HasRoomToKeep kept.old }
         ensures goes_on { RunGoesOn (is_ok result) self.old self.new }
         ensures alive { is_ok result ≡ true → IsAlive self.new }
         ensures appends { OnOk result (AppendsRecord ring r.now self.old self.new) }
         ensures moments { RunRecovers (with_writes r.now.writes) self.old self.new }
+        ensures keeps { KeepsOn (is_ok result) (with_writes r.now.writes) self.old kept.old
+            self.new kept.new }
+        ensures ends { FailsFrom (is_ok result) (with_writes r.now.writes) self.old self.new }
     {
         if self.joins(r) {
             self.last += 1;
             return Ok(());
         }
-        self.close()?;
+        self.close(kept)?;
         let bundle = Bundle::one(r);
         self.current = Some(OpenBundle { ring, bundle });
         self.last += 1;
@@ -114,30 +128,36 @@ impl<M: Medium> RunLog<M> {
 
     /// Persists the open bundle, announces the last number, and answers it.
     #[tactic(auto, using(crate::proofs::GoingOn::if_ok_same))]
-    pub fn announce(&mut self) -> Result<u64, Failed>
+    pub fn announce(&mut self, kept: &mut KeptBundles) -> Result<u64, Failed>
         requires alive { IsAlive self.old }
+        requires room { HasRoomToKeep kept.old }
         ensures goes_on { RunGoesOn (is_ok result) self.old self.new }
         ensures alive { is_ok result ≡ true → IsAlive self.new }
         ensures answer { IfOk result (λ number. number ≡ log_last self.old) }
         ensures announces { OnOk result (AnnouncesRun self.old self.new) }
         ensures moments { RunRecovers (λ a. a) self.old self.new }
+        ensures keeps { KeepsOn (is_ok result) (λ a. a) self.old kept.old self.new kept.new }
+        ensures ends { FailsFrom (is_ok result) (λ a. a) self.old self.new }
     {
-        self.close()?;
+        self.close(kept)?;
         self.log.announce()
     }
 
     /// Persists the open bundle, announces the last number, and reproduces all that waits: the home is then the last array.
     /// Answers the number.
     #[tactic(auto, using(crate::proofs::GoingOn::if_ok_same))]
-    pub fn checkpoint(&mut self) -> Result<u64, Failed>
+    pub fn checkpoint(&mut self, kept: &mut KeptBundles) -> Result<u64, Failed>
         requires alive { IsAlive self.old }
+        requires room { HasRoomToKeep kept.old }
         ensures goes_on { RunGoesOn (is_ok result) self.old self.new }
         ensures alive { is_ok result ≡ true → IsAlive self.new }
         ensures answer { IfOk result (λ number. number ≡ log_last self.old) }
         ensures checkpoints { OnOk result (CheckpointsRun self.old self.new) }
         ensures moments { RunRecovers (λ a. a) self.old self.new }
+        ensures keeps { KeepsOn (is_ok result) (λ a. a) self.old kept.old self.new kept.new }
+        ensures ends { FailsFrom (is_ok result) (λ a. a) self.old self.new }
     {
-        self.close()?;
+        self.close(kept)?;
         self.log.checkpoint()
     }
 

@@ -1,4 +1,4 @@
-use Rattle.std.proofs.Common.{◌≡◌, ◌+◌, ◌∙◌, ap, sym, refl, subst, rules, true, List, length, Err, ℕ}
+use Rattle.std.proofs.Common.{◌≡◌, ◌+◌, ◌∙◌, ap, sym, refl, subst, rules, true, List, [], ◌∷◌, ◌++◌, length, Err, ℕ}
 use Rattle.dude_base.specs.declared.write.Write.{Write}
 use Rattle.dude_base.specs.Records.{RedoRecord}
 use Rattle.dude_base.specs.Writes.{overwritten}
@@ -8,10 +8,14 @@ use Rattle.tatp_model.specs.declared.reply.Reply.TheVariants.{Changed}
 use Rattle.tatp_core.specs.Serves.{Serves}
 use Rattle.tatp_layout.specs.StandsFor.{StandsFor}
 use Rattle.word_space.specs.Flats.{words_of, flat_below, flat_sight}
+use Rattle.log_numbered.specs.Arrays.{with_writes}
+use Rattle.log_numbered.specs.KeptBundles.{kept_bundles}
 use Rattle.log_numbered.specs.RunLog.{log_durable, log_medium}
 use Rattle.dude_engine.specs.declared.run_fault.RunFault.TheVariants.{Device}
 use Rattle.dude_engine.specs.Running.{HasFailed, IsRunning, tables_after}
 use Rattle.dude_engine.specs.RunCalls.{AreBodyWrites, IsRecordOf}
+use Rattle.dude_engine.proofs.Arrays.{arrays_write}
+use Rattle.dude_engine.proofs.Keeping.{keeps_as, keeps_failed, kept_device}
 use Rattle.dude_engine.proofs.Serving.{serves_logged}
 use Rattle.dude_engine.proofs.Steps.{change_served, failed_write, fault_on_ok, left_failed, running_write}
 use Rattle.dude_engine.proofs.run.Run.log_change.Goals as goal
@@ -64,3 +68,32 @@ returns-clause-leaves g c =
 
 pub returns-clause-number : goal.returns-clause-number
 returns-clause-number g c = c.in_ok-append.ensures.appends.last
+
+pub returns-in_err-append-clause-kept : goal.returns-in_err-append-clause-kept
+returns-in_err-append-clause-kept g c =
+    let self = c.args.self.now in
+    let is : c.from_residual.result ≡ Err Device = search rules in
+    let d : Done = record { file = c.args.file; index = c.args.index; number = c.last-number.result + 1; wrote = true; request = c.args.request.now; reply = Changed } in
+    record {
+      kept = c.in_err-append.ensures.keeps.kept;
+      all = λ kept opening words s run keeps.
+          let change = change_served opening self.lay self.done.items c.args.file c.args.index c.last-number.result c.args.request.now c.requires.change.writes run.layout run.stands (c.last-number.ensures ∙ run.last) c.take-redo.ensures.words (sym (ap (λ (r : RedoRecord). r.writes) c.take-redo.ensures.record)) in
+          kept_device opening words c.from_residual.result _ s _ is
+          (keeps_failed opening words _ self.log c.append.new.self (words_of self.words) (words_of c.take-redo.new.self) self.done.items (self.done.items ++ d ∷ []) (kept_bundles c.append.new.kept) (with_writes c.take-redo.result.writes) keeps.arrays self.lay
+          s (g.M.Medium.sight (log_medium self.log)) (g.M.Medium.sight (log_medium c.append.new.self)) run
+          (λ a has. arrays_write opening self.done.items d c.take-redo.result.writes (words_of self.words) (words_of c.take-redo.new.self) a run.answered change.next refl change.words change.stands has)
+          (c.in_err-append.ensures.ends refl) c.in_err-append.ensures.goes_on.sizes refl c.push_reserved.ensures.items refl keeps.has keeps.opening_is (c.in_err-append.ensures.keeps.all kept keeps.arrays keeps.keeps));
+    }
+
+pub returns-clause-kept : goal.returns-clause-kept
+returns-clause-kept g c =
+    let self = c.args.self.now in
+    let d : Done = record { file = c.args.file; index = c.args.index; number = c.last-number.result + 1; wrote = true; request = c.args.request.now; reply = Changed } in
+    record {
+      kept = c.in_ok-append.ensures.keeps.kept;
+      all = λ kept opening words s run keeps.
+          let change = change_served opening self.lay self.done.items c.args.file c.args.index c.last-number.result c.args.request.now c.requires.change.writes run.layout run.stands (c.last-number.ensures ∙ run.last) c.take-redo.ensures.words (sym (ap (λ (r : RedoRecord). r.writes) c.take-redo.ensures.record)) in
+          keeps_as opening words _ c.append.new.self (words_of c.take-redo.new.self) (self.done.items ++ d ∷ []) (kept_bundles c.append.new.kept) (with_writes c.take-redo.result.writes keeps.arrays) refl refl c.push_reserved.ensures.items refl
+          (arrays_write opening self.done.items d c.take-redo.result.writes (words_of self.words) (words_of c.take-redo.new.self) keeps.arrays run.answered change.next refl change.words change.stands keeps.has)
+          keeps.opening_is (c.in_ok-append.ensures.keeps.all kept keeps.arrays keeps.keeps);
+    }

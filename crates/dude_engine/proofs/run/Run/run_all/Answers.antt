@@ -1,11 +1,13 @@
-use Rattle.std.proofs.Common.{◌≡◌, ◌∙◌, sym, subst, rules, map, List, Err}
+use Rattle.std.proofs.Common.{◌≡◌, ◌∙◌, refl, sym, subst, rules, map, List, Err}
 use Rattle.tatp_model.specs.declared.done.Done.{Done}
 use Rattle.word_space.specs.Flats.{words_of}
+use Rattle.log_numbered.specs.KeptBundles.{kept_bundles}
 use Rattle.log_numbered.specs.RunLog.{log_durable, log_last, log_medium, log_parts}
 use Rattle.run_order.proofs.Rounds.{Rounds, rounds_collect, rounds_first, rounds_rounds, rounds_start}
 use Rattle.dude_engine.specs.declared.run_fault.RunFault.TheVariants.{Device, NoMemory}
+use Rattle.dude_engine.proofs.Keeping.{keeps_as, keeps_failed, keeps_reserved, kept_device, kept_from, kept_full, kept_memory, kept_same, kept_then}
 use Rattle.dude_engine.proofs.Serving.{runs_by}
-use Rattle.dude_engine.proofs.Steps.{failed_same, fault_on_ok, left_failed, running_as, running_settled, settled_run}
+use Rattle.dude_engine.proofs.Steps.{failed_same, fault_on_ok, left_failed, left_memory, running_as, running_settled, settled_run}
 use Rattle.dude_engine.proofs.run.Run.run_all.Goals as goal
 
 pub returns-in_err-checkpoint-clause-left : goal.returns-in_err-checkpoint-clause-left
@@ -60,3 +62,85 @@ returns-in_err-checkpoint-clause-performs g c =
       first = performs.first;
       all = fault_on_ok _ c.from_residual-in_err-checkpoint.result Device is;
     }
+
+-- ---- where there is no memory to keep the last bundle
+
+pub returns-in_err-reserve-clause-left : goal.returns-in_err-reserve-clause-left
+returns-in_err-reserve-clause-left g c opening words s run =
+    let is : c.from_residual-in_err-reserve.result ≡ Err NoMemory = search rules in
+    left_memory opening words c.from_residual-in_err-reserve.result _ s _ is (c.in_ok-serve_all.ensures.leaves.left opening words s (running_as (sym c.reserve_exact.ensures.items) run)) c.in_ok-serve_all.ensures.leaves.ready.alive
+
+pub returns-in_err-reserve-clause-performs : goal.returns-in_err-reserve-clause-performs
+returns-in_err-reserve-clause-performs g c =
+    let is : c.from_residual-in_err-reserve.result ≡ Err NoMemory = search rules in
+    let performs = c.in_ok-serve_all.ensures.performs in
+    record {
+      rounds = performs.rounds;
+      collects = performs.collects;
+      first = performs.first;
+      all = fault_on_ok _ c.from_residual-in_err-reserve.result NoMemory is;
+    }
+
+-- ---- the bundles kept
+
+pub returns-in_err-reserve_exact-clause-kept : goal.returns-in_err-reserve_exact-clause-kept
+returns-in_err-reserve_exact-clause-kept g c =
+    let self = c.args.self.now in
+    let is : c.from_residual.result ≡ Err NoMemory = search rules in
+    record {
+      kept = refl;
+      all = λ kept opening words s run keeps. kept_memory opening words c.from_residual.result _ s _ is
+          (keeps_as opening words _ self.log (words_of self.words) self.done.items (kept_bundles self.packets) keeps.arrays refl refl c.reserve_exact.ensures.items refl keeps.has keeps.opening_is keeps.keeps);
+    }
+
+pub returns-in_err-serve_all-clause-kept : goal.returns-in_err-serve_all-clause-kept
+returns-in_err-serve_all-clause-kept g c =
+    let self = c.args.self.now in
+    let fault = c.in_err-serve_all.field-0.0 in
+    let is : c.from_residual-in_err-serve_all.result ≡ Err fault = search rules in
+    kept_same c.from_residual-in_err-serve_all.result (Err fault) self c.serve_all.new.self is
+    (kept_from self (record c.args.self.now { done = c.reserve_exact.new.self }) c.serve_all.new.self (Err fault) refl refl refl c.reserve_exact.ensures.items refl refl c.in_err-serve_all.ensures.kept)
+
+pub returns-in_err-reserve-clause-kept : goal.returns-in_err-reserve-clause-kept
+returns-in_err-reserve-clause-kept g c =
+    let self = c.args.self.now in
+    let served = c.serve_all.new.self in
+    let is : c.from_residual-in_err-reserve.result ≡ Err NoMemory = search rules in
+    kept_from self (record c.args.self.now { done = c.reserve_exact.new.self }) _ c.from_residual-in_err-reserve.result refl refl refl c.reserve_exact.ensures.items refl refl
+    (kept_then c.from_residual-in_err-reserve.result (record c.args.self.now { done = c.reserve_exact.new.self }) served _ c.in_ok-serve_all.ensures.leaves.left c.in_ok-serve_all.ensures.kept
+    (kept_full served c.reserve.new.self c.reserve.ensures.kept c.reserve.ensures.bundles c.from_residual-in_err-reserve.result is))
+
+pub returns-in_err-checkpoint-clause-kept : goal.returns-in_err-checkpoint-clause-kept
+returns-in_err-checkpoint-clause-kept g c =
+    let served = c.serve_all.new.self in
+    let is : c.from_residual-in_err-checkpoint.result ≡ Err Device = search rules in
+    let failed = c.in_err-checkpoint.ensures in
+    record {
+      kept = failed.keeps.kept ∙ c.reserve.ensures.kept ∙ c.in_ok-serve_all.ensures.kept.kept;
+      all = λ kept opening words s run keeps.
+          let start = keeps_as opening words (record c.args.self.now { done = c.reserve_exact.new.self }) c.args.self.now.log (words_of c.args.self.now.words) c.args.self.now.done.items (kept_bundles c.args.self.now.packets) keeps.arrays refl refl c.reserve_exact.ensures.items refl keeps.has keeps.opening_is keeps.keeps in
+          let runs = running_as (sym c.reserve_exact.ensures.items) run in
+          let now = keeps_reserved served c.reserve.new.self c.reserve.ensures.kept c.reserve.ensures.bundles opening words (c.in_ok-serve_all.ensures.kept.all kept opening words s runs start) in
+          let all = failed.keeps.all (c.reserve.ensures.kept ∙ c.in_ok-serve_all.ensures.kept.kept ∙ kept) now.arrays now.keeps in
+          kept_device opening words c.from_residual-in_err-checkpoint.result _ s _ is
+          (keeps_failed opening words _ served.log c.checkpoint.new.self (words_of served.words) (words_of served.words) served.done.items served.done.items (kept_bundles c.checkpoint.new.kept) (λ a. a) now.arrays served.lay
+          s (g.M.Medium.sight (log_medium served.log)) (g.M.Medium.sight (log_medium c.checkpoint.new.self)) (c.in_ok-serve_all.ensures.leaves.left opening words s runs) (λ a has. has)
+          (failed.ends refl) failed.goes_on.sizes refl refl refl now.has now.opening_is all);
+    }
+
+pub returns-clause-kept : goal.returns-clause-kept
+returns-clause-kept g c =
+    let served = c.serve_all.new.self in
+    let ok = c.in_ok-checkpoint.ensures in
+    record {
+      kept = ok.keeps.kept ∙ c.reserve.ensures.kept ∙ c.in_ok-serve_all.ensures.kept.kept;
+      all = λ kept opening words s run keeps.
+          let start = keeps_as opening words (record c.args.self.now { done = c.reserve_exact.new.self }) c.args.self.now.log (words_of c.args.self.now.words) c.args.self.now.done.items (kept_bundles c.args.self.now.packets) keeps.arrays refl refl c.reserve_exact.ensures.items refl keeps.has keeps.opening_is keeps.keeps in
+          let runs = running_as (sym c.reserve_exact.ensures.items) run in
+          let now = keeps_reserved served c.reserve.new.self c.reserve.ensures.kept c.reserve.ensures.bundles opening words (c.in_ok-serve_all.ensures.kept.all kept opening words s runs start) in
+          keeps_as opening words _ c.checkpoint.new.self (words_of served.words) served.done.items (kept_bundles c.checkpoint.new.kept) now.arrays refl refl refl refl now.has now.opening_is
+          (ok.keeps.all (c.reserve.ensures.kept ∙ c.in_ok-serve_all.ensures.kept.kept ∙ kept) now.arrays now.keeps);
+    }
+
+pub returns-clause-end : goal.returns-clause-end
+returns-clause-end g c = c.in_ok-checkpoint.ensures.checkpoints.tells.end ∙ sym c.in_ok-checkpoint.ensures.checkpoints.tells.durable

@@ -1,4 +1,4 @@
-use Rattle.std.proofs.Common.{◌≡◌, ◌≤◌, ◌∙◌, ℕ, ap, sym, refl, subst, arith, rules, length, map, List, Some, Err, Result}
+use Rattle.std.proofs.Common.{◌≡◌, ◌≤◌, ◌∙◌, ℕ, ap, sym, refl, subst, arith, rules, length, map, List, Some, Ok, Err, Result}
 use Rattle.std.specs.List.{All, slice_get}
 use Rattle.std.proofs.lemmas.List.{length-map}
 use Rattle.std.proofs.lemmas.List.Elements.{All-weaker}
@@ -9,6 +9,7 @@ use Rattle.log_numbered.specs.RunLog.{log_medium}
 use Rattle.run_order.proofs.Rounds.{Rounds, rounds_all, rounds_collect, rounds_first, rounds_rounds, rounds_start, rounds_turn}
 use Rattle.dude_engine.specs.declared.run_fault.RunFault.{RunFault}
 use Rattle.dude_engine.specs.Running.{IsLeft}
+use Rattle.dude_engine.proofs.Keeping.{kept_here, kept_same, kept_then}
 use Rattle.dude_engine.proofs.Serving.{serves_none, serves_then}
 use Rattle.dude_engine.proofs.Steps.{fault_on_ok}
 use Rattle.dude_engine.proofs.Turns.{all_at, file_there, room_for, turn_last, turn_next}
@@ -23,6 +24,7 @@ loop-index-init g c = record {
   rounds = subst (λ (done : List Done). Rounds (map (λ f. f.items) c.args.files.now) 0 0 done) (sym c.requires.start.empty) (rounds_start (map (λ f. f.items) c.args.files.now));
   left = λ opening words s run. run;
   calls = serves_none c.args.self.now (g.M.Medium.sight (log_medium c.args.self.now.log));
+  kept = kept_here c.args.self.now;
 }
 
 pub serve_turn-requires-clause-room : goal.serve_turn-requires-clause-room
@@ -54,6 +56,7 @@ loop-file-preserved g c =
       rounds = turn_next files c.loop-index.index c.loop-file.file c.deref.result.now c.loop-file.self.done.items c.serve_turn.new.self.done.items there ok.adds i.rounds;
       left = λ opening words s run. ok.leaves.left opening words s (i.left opening words s run);
       calls = serves_then c.args.self.now c.loop-file.self c.serve_turn.new.self (g.M.Medium.sight (log_medium c.args.self.now.log)) (g.M.Medium.sight (log_medium c.loop-file.self.log)) (g.M.Medium.sight (log_medium c.serve_turn.new.self.log)) i.lay i.calls ok.leaves.calls;
+      kept = kept_then (Ok tt) c.args.self.now c.loop-file.self c.serve_turn.new.self i.left i.kept ok.kept;
     }
 
 pub loop-index-preserved : goal.loop-index-preserved
@@ -69,6 +72,7 @@ loop-index-preserved g c =
       rounds = rounds_turn files c.loop-index.index c.loop-file.self.done.items (subst (λ (k : ℕ). Rounds files c.loop-index.index k c.loop-file.self.done.items) all i.rounds);
       left = i.left;
       calls = i.calls;
+      kept = i.kept;
     }
 
 pub returns-in_err-serve_turn-clause-leaves : goal.returns-in_err-serve_turn-clause-leaves
@@ -123,3 +127,14 @@ returns-clause-performs g c =
           All-weaker (λ (requests : List Request). length requests ≤ longest) (λ (requests : List Request). length requests ≤ index) (λ requests h. omega (arith, h, over)) files c.longest_file-longest.ensures.none_longer in
           rounds_all files index performed done short rounds same sorted;
     }
+
+pub returns-in_err-serve_turn-clause-kept : goal.returns-in_err-serve_turn-clause-kept
+returns-in_err-serve_turn-clause-kept g c =
+    let i = c.loop-file.invariant in
+    let fault = c.in_err-serve_turn.field-0.0 in
+    let is : c.from_residual.result ≡ Err fault = search rules in
+    kept_same c.from_residual.result (Err fault) c.args.self.now c.serve_turn.new.self is
+    (kept_then (Err fault) c.args.self.now c.loop-file.self c.serve_turn.new.self i.left i.kept c.in_err-serve_turn.ensures.kept)
+
+pub returns-clause-kept : goal.returns-clause-kept
+returns-clause-kept g c = c.loop-index.invariant.kept

@@ -4,8 +4,11 @@ use Rattle.tatp_model.specs.declared.request.Request.TheVariants.{Sync}
 use Rattle.tatp_model.specs.declared.reply.Reply.TheVariants.{Durable}
 use Rattle.word_space.specs.declared.flat.Flat.{Flat}
 use Rattle.word_space.specs.Flats.{flat_sight, fresh, words_of}
+use Rattle.log_numbered.specs.KeptBundles.{are_kept, kept_bundles}
 use Rattle.log_numbered.specs.RunLog.{log_last, log_medium}
 use Rattle.dude_engine.specs.declared.run_fault.RunFault.TheVariants.{Device}
+use Rattle.dude_engine.proofs.Arrays.{arrays_read}
+use Rattle.dude_engine.proofs.Keeping.{keeps_as, keeps_failed, kept_device}
 use Rattle.dude_engine.proofs.Numbering.{IsNext}
 use Rattle.dude_engine.proofs.Serving.{serves_sync}
 use Rattle.dude_engine.proofs.Steps.{failed_same, fault_on_ok, left_failed, ready_same, running_sync, runs_same}
@@ -55,3 +58,29 @@ returns-clause-leaves g c =
 
 pub returns-clause-number : goal.returns-clause-number
 returns-clause-number g c = ap (λ l. log_last l) c.note.ensures.log ∙ c.in_ok-number.ensures.announces.tells.last
+
+pub returns-in_err-number-clause-kept : goal.returns-in_err-number-clause-kept
+returns-in_err-number-clause-kept g c =
+    let self = c.args.self.now in
+    let is : c.from_residual.result ≡ Err Device = search rules in
+    record {
+      kept = c.in_err-number.ensures.keeps.kept;
+      all = λ kept opening words s run keeps. kept_device opening words c.from_residual.result _ s _ is
+          (keeps_failed opening words _ self.log c.announce.new.self (words_of self.words) (words_of self.words) self.done.items self.done.items (kept_bundles c.announce.new.kept) (λ a. a) keeps.arrays self.lay
+          s (g.M.Medium.sight (log_medium self.log)) (g.M.Medium.sight (log_medium c.announce.new.self)) run (λ a has. has)
+          (c.in_err-number.ensures.ends refl) c.in_err-number.ensures.goes_on.sizes refl refl refl keeps.has keeps.opening_is (c.in_err-number.ensures.keeps.all kept keeps.arrays keeps.keeps));
+    }
+
+pub returns-clause-kept : goal.returns-clause-kept
+returns-clause-kept g c =
+    let self = c.args.self.now in
+    let ok = c.in_ok-number.ensures in
+    let d : Done = record { file = c.args.file; index = c.args.index; number = c.in_ok-number.number; wrote = false; request = Sync; reply = Durable } in
+    record {
+      kept = ap (λ p. are_kept p) c.note.ensures.packets ∙ ok.keeps.kept;
+      all = λ kept opening words s run keeps.
+          let next : IsNext opening self.done.items d = record { number = ok.answer ∙ run.last; reply = refl; wrote = refl } in
+          keeps_as opening words c.note.new.self c.announce.new.self (words_of self.words) (self.done.items ++ d ∷ []) (kept_bundles c.announce.new.kept) keeps.arrays
+          c.note.ensures.log (ap (λ (f : Flat). words_of f) c.note.ensures.words) c.note.ensures.done (ap (λ p. kept_bundles p) c.note.ensures.packets)
+          (arrays_read opening self.done.items d (words_of self.words) keeps.arrays next refl keeps.has) keeps.opening_is (ok.keeps.all kept keeps.arrays keeps.keeps);
+    }

@@ -1,5 +1,6 @@
 use Rattle.std.proofs.Common.{refl}
 use Rattle.log_numbered.specs.RunLog.{log_medium}
+use Rattle.dude_engine.proofs.Keeping.{kept_here}
 use Rattle.dude_engine.proofs.Serving.{serves_none}
 use Rattle.dude_engine.proofs.run.Run.serve_turn.Goals as goal
 
@@ -11,3 +12,6 @@ returns-in-None-clause-leaves g c = record {
   left = λ opening words s run. run;
   calls = serves_none c.args.self.now (g.M.Medium.sight (log_medium c.args.self.now.log));
 }
+
+pub returns-in-None-clause-kept : goal.returns-in-None-clause-kept
+returns-in-None-clause-kept g c = kept_here c.args.self.now

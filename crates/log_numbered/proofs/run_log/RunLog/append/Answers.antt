@@ -6,9 +6,13 @@ use Rattle.log_numbered.specs.declared.open_bundle.OpenBundle.{OpenBundle}
 use Rattle.log_numbered.specs.BundleLog.{kept_back, kept_medium}
 use Rattle.log_numbered.specs.Backs.{LogGoesOn}
 use Rattle.back_store.specs.Operations.{Makes}
+use Rattle.log_numbered.specs.Arrays.{with_writes}
+use Rattle.log_numbered.specs.KeptBundles.{kept_bundles}
+use Rattle.log_numbered.specs.Keeping.{KeepsOn}
 use Rattle.log_numbered.specs.LogCalls.{ClosedBy}
-use Rattle.log_numbered.specs.RunLog.{FollowsOn, HasRoom, IsAlive, RecoversOn, log_back, log_medium, log_open, log_parts, log_sizes}
+use Rattle.log_numbered.specs.RunLog.{FollowsOn, HasRoom, IsAlive, RecoversOn, log_back, log_end, log_medium, log_open, log_parts, log_sizes}
 use Rattle.log_numbered.proofs.Appending.{begun_alive, begun_follows, calls_here, goes_here, joined_alive, joined_follows, recovers_more_on, recovers_still}
+use Rattle.log_numbered.proofs.Keeping.{ends_still, keeps_begun, keeps_failed, keeps_joined}
 use Rattle.log_numbered.proofs.LoggedCalls.{begun_calls}
 use Rattle.log_numbered.proofs.run_log.RunLog.append.Goals as goal
 
@@ -44,10 +48,19 @@ returns-then-joins-clause-appends g c = record {
 pub returns-then-joins-clause-moments : goal.returns-then-joins-clause-moments
 returns-then-joins-clause-moments g c = recovers_still c.args.self.now (g.M.Medium.sight (log_medium c.args.self.now)) _ c.args.r.now.writes (ap (λ x. g.M.Medium.sight (kept_medium x)) c.joins.ensures.log) c.requires.alive c.args.self.now.log.back.room
 
+pub returns-then-joins-clause-keeps : goal.returns-then-joins-clause-keeps
+returns-then-joins-clause-keeps g c =
+    let j = c.joins.ensures.joined c.if-joins.true in
+    let ks = kept_bundles c.args.kept.now in
+    record {
+      kept = refl;
+      all = λ kept a keeps. keeps_joined c.args.self.now (record c.joins.new.self { last = c.joins.new.self.last + 1 }) j.0 c.args.r.now a ks ks c.joins.ensures.writes c.joins.ensures.log j.1 j.3 (ap (λ (n : ℕ). n + 1) c.joins.ensures.last) refl keeps;
+    }
+
 -- ---- where it didn't join
 
 pub close-requires : goal.close-requires
-close-requires g c = record { alive = subst (λ k. IsAlive k) (sym (c.joins.ensures.stays c.if-joins.false)) c.requires.alive }
+close-requires g c = record { alive = subst (λ k. IsAlive k) (sym (c.joins.ensures.stays c.if-joins.false)) c.requires.alive; room = c.requires.room }
 
 pub returns-in_err-close-clause-goes_on : goal.returns-in_err-close-clause-goes_on
 returns-in_err-close-clause-goes_on g c =
@@ -57,6 +70,17 @@ returns-in_err-close-clause-goes_on g c =
 pub returns-in_err-close-clause-moments : goal.returns-in_err-close-clause-moments
 returns-in_err-close-clause-moments g c =
     recovers_more_on c.args.r.now.writes c.args.self.now _ _ (subst (λ k. RecoversOn (λ a. a) k (g.M.Medium.sight (log_medium k)) (g.M.Medium.sight (log_medium c.close.new.self))) (c.joins.ensures.stays c.if-joins.false) c.close.ensures.moments)
+
+pub returns-in_err-close-clause-keeps : goal.returns-in_err-close-clause-keeps
+returns-in_err-close-clause-keeps g c =
+    let err : is_ok c.from_residual.result ≡ false = search rules in
+    rw err (keeps_failed c.args.r.now.writes c.args.self.now c.close.new.self c.args.kept.now c.close.new.kept
+    (subst (λ k. KeepsOn false (λ a. a) k c.args.kept.now c.close.new.self c.close.new.kept) (c.joins.ensures.stays c.if-joins.false) c.in_err-close.ensures.keeps))
+
+pub returns-in_err-close-clause-ends : goal.returns-in_err-close-clause-ends
+returns-in_err-close-clause-ends g c _ =
+    ends_still (with_writes c.args.r.now.writes) c.args.self.now c.close.new.self (g.M.Medium.sight (log_medium c.args.self.now)) (g.M.Medium.sight (log_medium c.close.new.self))
+    (c.in_err-close.ensures.end refl ∙ ap (λ k. log_end k) (c.joins.ensures.stays c.if-joins.false)) (returns-in_err-close-clause-moments g c)
 
 pub returns-clause-goes_on : goal.returns-clause-goes_on
 returns-clause-goes_on g c =
@@ -96,3 +120,16 @@ returns-clause-appends g c = record {
 pub returns-clause-moments : goal.returns-clause-moments
 returns-clause-moments g c =
     recovers_more_on c.args.r.now.writes c.args.self.now _ _ (subst (λ k. RecoversOn (λ a. a) k (g.M.Medium.sight (log_medium k)) (g.M.Medium.sight (log_medium c.close.new.self))) (c.joins.ensures.stays c.if-joins.false) c.close.ensures.moments)
+
+pub returns-clause-keeps : goal.returns-clause-keeps
+returns-clause-keeps g c =
+    let last : c.close.new.self.last ≡ c.args.self.now.last = c.close.ensures.last ∙ c.joins.ensures.last in
+    let now = ap (λ (b : RedoBundle). (let o : Option OpenBundle = Some (record { ring = c.args.ring; bundle = b }) in o)) c.one-bundle.ensures in
+    let closed : KeepsOn true (λ a. a) c.args.self.now c.args.kept.now c.close.new.self c.close.new.kept =
+    subst (λ k. KeepsOn true (λ a. a) k c.args.kept.now c.close.new.self c.close.new.kept) (c.joins.ensures.stays c.if-joins.false) c.in_ok-close.ensures.keeps in
+    record {
+      kept = closed.kept;
+      all = λ kept a keeps.
+          keeps_begun c.close.new.self (record { log = c.close.new.self.log; last = c.close.new.self.last + 1; current = Some (record { ring = c.args.ring; bundle = c.one-bundle.result }) }) c.args.ring c.args.r.now a (kept_bundles c.close.new.kept) refl c.in_ok-close.ensures.closes.none_open now
+          (c.requires.next.number ∙ ap (λ (n : ℕ). n + 1) (sym last)) refl (closed.all kept a keeps);
+    }

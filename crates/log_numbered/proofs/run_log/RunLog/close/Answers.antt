@@ -1,16 +1,18 @@
-use Rattle.std.proofs.Common.{◌≡◌, ℕ, ◌≤◌, [], None, Option, Some, refl, sym, ◌∙◌, subst}
+use Rattle.std.proofs.Common.{◌≡◌, ℕ, ◌≤◌, [], None, Option, Some, false, is_ok, refl, sym, ◌∙◌, subst, rules}
 use Rattle.dude_base.specs.declared.limits.TheConstants.{MAX_NUMBER}
 use Rattle.pmem_trait.specs.Sights.{CallsMade.none}
 use Rattle.log_numbered.specs.declared.open_bundle.OpenBundle.{OpenBundle}
 use Rattle.log_numbered.specs.Arrays.{LeadsToLast}
 use Rattle.log_numbered.specs.Backs.{Any}
-use Rattle.log_numbered.specs.BundleLog.{AppendsNext, kept_back, kept_medium}
+use Rattle.log_numbered.specs.BundleLog.{kept_back, kept_medium}
+use Rattle.log_numbered.specs.KeptBundles.{kept_bundles}
 use Rattle.back_store.specs.Operations.{Makes}
 use Rattle.log_numbered.specs.LogCalls.{ClosedBy}
-use Rattle.log_numbered.specs.RunLog.{Closes, log_back, log_end, log_last, log_medium, log_open}
+use Rattle.log_numbered.specs.RunLog.{log_back, log_end, log_last, log_medium, log_open}
 use Rattle.log_numbered.proofs.Appending.{goes_here}
 use Rattle.log_numbered.proofs.Closing.{closed_alive, closed_follows, leads_to, none_end, opened, recovers_closing}
-use Rattle.log_numbered.proofs.GoingOn.{ok_holds, on_ok, recovers_here}
+use Rattle.log_numbered.proofs.GoingOn.{recovers_here}
+use Rattle.log_numbered.proofs.Keeping.{bundles_kept, keeps_closed, keeps_same, keeps_still}
 use Rattle.log_numbered.proofs.run_log.RunLog.close.Goals as goal
 
 pub append-requires-clause-alive : goal.append-requires-clause-alive
@@ -29,14 +31,8 @@ append-requires-clause-next g c =
 pub append-requires-clause-short : goal.append-requires-clause-short
 append-requires-clause-short g c = (opened c.args.self.now c.in-Some.closed c.requires.alive (sym c.take.ensures.value ∙ c.in-Some.is)).short
 
-pub returns-in-Some-clause-alive : goal.returns-in-Some-clause-alive
-returns-in-Some-clause-alive g c ok =
-    let is : log_open c.args.self.now ≡ Some c.in-Some.closed = sym c.take.ensures.value ∙ c.in-Some.is in
-    closed_alive (record c.args.self.now { log = c.append.new.self; current = c.take.new.self }) (log_last c.args.self.now) (c.append.ensures.alive ok)
-    ((ok_holds c.append.result ok c.append.ensures.appends).end ∙ (opened c.args.self.now c.in-Some.closed c.requires.alive is).last_is) refl c.take.ensures.after
-
-pub returns-in-Some-clause-closes : goal.returns-in-Some-clause-closes
-returns-in-Some-clause-closes g c =
+pub returns-in_ok-append-in-Some-clause-closes : goal.returns-in_ok-append-in-Some-clause-closes
+returns-in_ok-append-in-Some-clause-closes g c =
     let k = c.args.self.now in
     let n = c.append.new.self in
     let l = record c.args.self.now { log = c.append.new.self; current = c.take.new.self } in
@@ -45,22 +41,26 @@ returns-in-Some-clause-closes g c =
     let t = g.M.Medium.sight (kept_medium n) in
     let is : log_open k ≡ Some o = sym c.take.ensures.value ∙ c.in-Some.is in
     let at = opened k o c.requires.alive is in
-    on_ok {P = AppendsNext o.ring o.bundle k.log n} {Q = Closes k l} c.append.result
-    (λ a. record {
+    let a = c.in_ok-append-in-Some.ensures.appends in
+    record {
       end = a.end ∙ at.last_is;
       none_open = c.take.ensures.after;
       calls = subst (λ (x : Option OpenBundle). Makes (ClosedBy x (log_back k) (kept_back n)) s t) (sym is) a.calls;
       untold = λ room visible. a.untold (room o is) visible;
       follows = closed_follows k l s t (λ a. LeadsToLast a (log_end k) o.bundle) (λ before a f. leads_to before a k s o f is) a.carries (a.end ∙ at.last_is) refl c.take.ensures.after;
-    })
-    c.append.ensures.appends
+    }
 
-pub returns-in-Some-clause-moments : goal.returns-in-Some-clause-moments
-returns-in-Some-clause-moments g c =
+pub returns-in_ok-append-in-Some-clause-keeps : goal.returns-in_ok-append-in-Some-clause-keeps
+returns-in_ok-append-in-Some-clause-keeps g c =
     let k = c.args.self.now in
-    let is : log_open k ≡ Some c.in-Some.closed = sym c.take.ensures.value ∙ c.in-Some.is in
-    recovers_closing k (g.M.Medium.sight (log_medium k)) (g.M.Medium.sight (kept_medium c.append.new.self)) (λ a. LeadsToLast a (log_end k) c.in-Some.closed.bundle)
-    (λ before a f. leads_to before a k (g.M.Medium.sight (log_medium k)) c.in-Some.closed f is) c.append.ensures.moments
+    let l = record c.args.self.now { log = c.append.new.self; current = c.take.new.self } in
+    let o : OpenBundle = c.in-Some.closed in
+    let is : log_open k ≡ Some o = sym c.take.ensures.value ∙ c.in-Some.is in
+    record {
+      kept = c.keep.ensures.kept;
+      all = λ kept a keeps. keeps_closed k l o a (kept_bundles c.args.kept.now) (kept_bundles c.keep.new.self) c.requires.alive is c.in_ok-append-in-Some.ensures.goes_on.sizes refl c.in_ok-append-in-Some.ensures.appends.end c.take.ensures.after
+          (c.keep.ensures.bundles ∙ bundles_kept c.args.kept.now o.bundle kept) keeps;
+    }
 
 -- ---- where none is open
 
@@ -89,3 +89,10 @@ pub returns-in-None-clause-moments : goal.returns-in-None-clause-moments
 returns-in-None-clause-moments g c =
     let k = c.args.self.now in
     recovers_closing k (g.M.Medium.sight (log_medium k)) (g.M.Medium.sight (log_medium k)) Any (λ before a f. tt) (recovers_here (log_back k) (log_end k) (g.M.Medium.sight (log_medium k)) c.args.self.now.log.back.room c.requires.alive.leads)
+
+pub returns-in-None-clause-keeps : goal.returns-in-None-clause-keeps
+returns-in-None-clause-keeps g c =
+    let k = c.args.self.now in
+    let ks = kept_bundles c.args.kept.now in
+    let same : c.take.new.self ≡ log_open k = c.take.ensures.after ∙ sym c.in-None.is ∙ c.take.ensures.value in
+    record { kept = refl; all = λ kept a keeps. keeps_same k (record c.args.self.now { current = c.take.new.self }) a ks ks refl refl refl same refl keeps }

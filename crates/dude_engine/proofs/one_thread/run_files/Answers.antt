@@ -1,6 +1,10 @@
-use Rattle.std.proofs.Common.{◌≡◌, ◌↔◌, ◌≤◌, ◌∙◌, ℕ, Bool, None, false, ap, sym, refl, subst, map}
+use Rattle.std.proofs.Common.{◌≡◌, ◌↔◌, ◌≤◌, ◌∙◌, ℕ, Bool, IsTrue, List, None, false, ap, sym, refl, subst, map}
 use Rattle.std.specs.List.{AllPairs}
 use Rattle.std.specs.Prelude.{IsPermutation}
+use Rattle.dude_base.specs.declared.sizes.Sizes.{Sizes}
+use Rattle.dude_base.specs.Records.{RedoBundle}
+use Rattle.redo_record.specs.Recovery.{AreConsecutive}
+use Rattle.tatp_layout.specs.StandsFor.{StandsFor}
 use Rattle.pmem_trait.specs.Sights.{Sight, Risen, state_now}
 use Rattle.tatp_model.specs.OneThread.{PrecedesInFiles}
 use Rattle.run_order.specs.Runs.{Collects}
@@ -9,18 +13,24 @@ use Rattle.back_store.specs.BackView.{medium_of, state_of}
 use Rattle.word_space.specs.Flats.{words_of}
 use Rattle.back_store.specs.Operations.{Makes}
 use Rattle.back_store.specs.Told.{WereTold}
-use Rattle.log_numbered.specs.RunLog.{log_back, log_durable, log_medium, log_open, log_parts}
+use Rattle.log_numbered.specs.RunLog.{log_back, log_durable, log_end, log_medium, log_open, log_parts}
+use Rattle.log_numbered.specs.KeptBundles.{are_kept, kept_bundles}
 use Rattle.log_numbered.proofs.GoingOn.{on_ok}
 use Rattle.log_numbered.proofs.LoggedCalls.{parts, parts_are}
 use Rattle.dude_engine.specs.declared.ran.RanEnd.{RanEnd}
+use Rattle.dude_engine.specs.declared.run.Run.{Run}
 use Rattle.dude_engine.specs.declared.ran.RanEnd.TheVariants.{Device}
 use Rattle.dude_engine.specs.Opening.{Opening}
 use Rattle.dude_engine.specs.Plain.{IsLastTold, IsOpeningOf, LosesFew, most_lost}
+use Rattle.dude_engine.specs.Keeping.{KeepsBy, KeepsRun}
+use Rattle.dude_engine.specs.Shipping.{KeepsUp, Ships}
 use Rattle.dude_engine.specs.RunCalls.{RunBy, run_at_start}
 use Rattle.dude_engine.specs.Running.{EndsNearLast, IsLeft, IsRunning, IsSettledRun, SettlesRun, end_by, went_well}
 use Rattle.dude_engine.proofs.RunEnds.{Ended, begins, cause_by, device_by, ended_by, few_lost_of, follow_of, from_of, near_by, on_whole, performs_in_rounds, recovers_of, replies_of, syncs_of, well_by, whole_of}
 use Rattle.dude_engine.proofs.Serving.{makes_its_calls, run_parts_are}
-use Rattle.dude_engine.proofs.one_thread.plain.Goals as goal
+use Rattle.dude_engine.proofs.Keeping.{keeps_start}
+use Rattle.dude_engine.proofs.Packets.{KeptThrough, keeps_up_of, over_of, ships_of, through_of}
+use Rattle.dude_engine.proofs.one_thread.run_files.Goals as goal
 
 pub returns : goal.returns
 returns g c =
@@ -49,6 +59,14 @@ returns g c =
     let sorted : AllPairs PrecedesInFiles done = c.put_in_files.ensures.sorted (rounds_apart performed rounds) in
     let collects : Collects files performed done = performs.collects done same sorted in
     let some = (at lawful lawful_is).answered in
+    let first : Run g.row.M.Denot g.M.Medium = record { log = c.new.result; lay = o.lay; words = c.new-2.result; done = c.new-3.result; packets = c.args.packets } in
+    let start : (opening : Opening) → IsOpeningOf o opening → KeepsRun opening o.words.items first =
+    λ opening is. keeps_start opening o.words.items first (subst (λ (z : Sizes). StandsFor z o.words.items opening.database) (sym is.sizes) is.stands) c.new-2.ensures.words c.new-3.ensures.items c.requires.none (starts.last ∙ sym is.number) (starts.end ∙ sym is.number) starts.none_open in
+    let bundles : List RedoBundle = kept_bundles run.packets in
+    let kept_by : IsTrue (are_kept c.args.packets) → (opening : Opening) → IsOpeningOf o opening → KeepsBy served opening o.words.items run s t =
+    λ kept opening is. c.run_all-served.ensures.kept.all kept opening o.words.items s (running opening is) (start opening is) in
+    let through : IsTrue (are_kept c.args.packets) → (opening : Opening) → IsOpeningOf o opening → KeptThrough opening o.words.items run =
+    λ kept opening is. through_of opening o.words.items run s t served (left opening is) (kept_by kept opening is) in
     record {
       replies = λ opening is. record {
         performs = performs_in_rounds opening files performed done same collects rounds (at opening is).answered (performs.first done same sorted);
@@ -89,4 +107,21 @@ returns g c =
         cause = λ device.
             subst (λ (v : Sight). Risen s.faults v.faults) (sym still) (cause_by lawful o.words.items run s t served (left lawful lawful_is) (sym c.end_of.ensures ∙ device));
       };
+      packets = λ kept opening is.
+          let th = through kept opening is in
+          subst (λ (bs : List RedoBundle). Ships opening o.words.items done bs) (sym c.into_list.ensures)
+          (ships_of opening files performed done same collects rounds (at opening is).answered o.words.items th.arrays th.current (log_end run.log) bundles th.has th.opening_is th.through);
+      persisted = λ kept opening is.
+          let th = through kept opening is in
+          subst (λ (bs : List RedoBundle). KeepsUp opening o.words.items done bs s u) (sym c.into_list.ensures)
+          (subst (λ (v : Sight). KeepsUp opening o.words.items done bundles s v) (sym still)
+          (keeps_up_of opening files performed done same collects rounds (at opening is).answered o.words.items (log_end run.log) bundles s t
+          (subst (λ (n : ℕ). AreConsecutive n bundles (log_end run.log)) th.has.first th.through.lead)
+          (over_of opening o.words.items run s t served (log_durable run.log) run.log.log.back.room (left opening is) (kept_by kept opening is)
+          (on_ok served (λ settles. settles opening o.words.items s (running opening is)) c.run_all-served.ensures.settled) c.run_all-served.ensures.end)));
+      whole = λ kept whole.
+          let th = through kept lawful lawful_is in
+          let end : log_end run.log ≡ c.durable-last.result = on_whole served (sym c.end_of.ensures ∙ whole) c.run_all-served.ensures.end ∙ sym c.durable-last.ensures in
+          subst (λ (bs : List RedoBundle). AreConsecutive o.number bs c.durable-last.result) (sym c.into_list.ensures)
+          (subst (λ (n : ℕ). AreConsecutive o.number bundles n) end (subst (λ (n : ℕ). AreConsecutive n bundles (log_end run.log)) th.has.first th.through.lead));
     }

@@ -1,0 +1,12 @@
+pub mod AppendedBytes
+pub mod Applying
+pub mod Chains
+pub mod FollowingLaws
+pub mod LeaderImagesLaw
+pub mod Leading
+pub mod PacketCells
+pub mod Progress
+pub mod ReadPackets
+pub mod Sharing
+pub mod TakenPackets
+pub mod WrittenPackets

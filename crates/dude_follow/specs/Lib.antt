@@ -1,0 +1,11 @@
+pub mod Applying
+pub mod Chain
+pub mod Follower
+pub mod Following
+pub mod LeaderImages
+pub mod Packet
+pub mod Packets
+pub mod ReorderBuffer
+pub mod Replica
+pub mod Taking
+pub mod Verdict
