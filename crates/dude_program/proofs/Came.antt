@@ -25,9 +25,10 @@ use Rattle.command_openings.specs.Openings.{IsOpeningOn, new_opening}
 use Rattle.command_openings.proofs.OneOpening.{one_opening}
 use Rattle.dude_program.specs.Opening.{IsReachable, KnowsReplies, RequestsAre, ends_opened, makes_image, only_reads, runs_requests, runs_threads}
 use Rattle.dude_program.specs.Headline.{FailedOnThreads, Replies}
-use Rattle.dude_program.specs.Causes.{EndedWell, MustRefuse, OpensOnce, RanUnlessDevice}
+use Rattle.dude_program.specs.Causes.{EndedWell, FailsOnlyAtDevice, MustRefuse, OpensOnce}
 use Rattle.back_store.specs.Operations.{MakesOperations, OperatesLog.rests}
-use Rattle.dude_program.specs.Work.{EndsWhole, RanOver}
+use Rattle.run_threads.specs.Ends.{EndsWhole}
+use Rattle.dude_program.specs.Work.{RanOver}
 use Rattle.dude_program.proofs.FilesRead.{FilesRead}
 use Rattle.dude_program.proofs.Works.{numbers_of}
 use Rattle.dude_program.proofs.Contents.{fits_not_refused, makes_none}
@@ -106,10 +107,10 @@ replies_none meaning f s opening are = record {
 }
 
 module _ {meaning : Meaning} {f g : FilesSight} {opening : Opening} {words : List ℕ} {s m : Sight} (files : FilesRead meaning f g) (opened_image : ImageOpens meaning opening words s m) where
-  opened_well : {fault : Option Fault} → (fault ≡ Some Device → ⊥) → RanUnlessDevice fault s m
+  opened_well : {fault : Option Fault} → (fault ≡ Some Device → ⊥) → FailsOnlyAtDevice fault s m
   opened_well other = (true, opened_image.is_open.ran, (λ failed. absurd (let no : ⊥ = cc in no), λ is. absurd (other is)))
 
-  opens_once : {fault : Option Fault} {t : Sight} → MatchBool (ends_opened meaning) (t ≡ m) (RanUnlessDevice fault m t)
+  opens_once : {fault : Option Fault} {t : Sight} → MatchBool (ends_opened meaning) (t ≡ m) (FailsOnlyAtDevice fault m t)
       → (EndedWell fault → MakesOperations (idle opening.sizes opening.number) m t) → OpensOnce meaning fault s t
   opens_once behind operates = record {
     opening = opening;
@@ -121,7 +122,7 @@ module _ {meaning : Meaning} {f g : FilesSight} {opening : Opening} {words : Lis
     operates = operates;
   }
 
-  none_behind : (b : Bool) {fault : Option Fault} → (fault ≡ Some Device → ⊥) → MatchBool b (m ≡ m) (RanUnlessDevice fault m m)
+  none_behind : (b : Bool) {fault : Option Fault} → (fault ≡ Some Device → ⊥) → MatchBool b (m ≡ m) (FailsOnlyAtDevice fault m m)
   none_behind true other = refl
   none_behind false other = (true, ran_here m, (λ failed. absurd (let no : ⊥ = cc in no), λ is. absurd (other is)))
 
@@ -156,7 +157,7 @@ module _ {meaning : Meaning} {f g : FilesSight} {opening : Opening} {words : Lis
   pub came_refused : (last : ℕ) (why : Fault) → (◌≡◌ {A = Option Fault} (Some why) (Some Device) → ⊥) → CameBy meaning f opening [] last s m (Some why) → Came meaning f g opening [] last (Some why) s m
   came_refused last why other by = came_none last (Some why) other by
 
-  ran_behind : {fault : Option Fault} {t : Sight} → RanUnlessDevice fault m t → RanUnlessDevice fault s t
+  ran_behind : {fault : Option Fault} {t : Sight} → FailsOnlyAtDevice fault m t → FailsOnlyAtDevice fault s t
   ran_behind ran = (ran.0, ran_then opened_image.is_open.ran ran.1, ran.2)
 
   -- what is known of the replies from the start is known behind the opening
@@ -189,7 +190,7 @@ module _ {meaning : Meaning} {f g : FilesSight} {opening : Opening} {words : Lis
       crash = crash_run Reaches meaning opening words requests done s m t runs opened_image.is_open reaches run.numbers run.moments run.ran (lost_of run);
       sync = sync_run (makes_image meaning) opening words done s m t opened_image.is_open run.syncs_follow run.syncs_told;
       ran = ran_behind run.ran;
-      once = opens_once (subst (λ (b : Bool). MatchBool b (t ≡ m) (RanUnlessDevice fault m t)) (sym (runs_on meaning runs)) run.ran) (λ ended. run.operates (well ended));
+      once = opens_once (subst (λ (b : Bool). MatchBool b (t ≡ m) (FailsOnlyAtDevice fault m t)) (sym (runs_on meaning runs)) run.ran) (λ ended. run.operates (well ended));
       nothing = λ opens why refuses. absurd (passes opens why refuses);
       cause = by;
     }

@@ -29,7 +29,7 @@ use Rattle.command_edges.specs.declared.fault.Fault.{Fault}
 use Rattle.command_openings.specs.Opens.{Opens, OpensPartly, ShowsOpening, TellsAtMost}
 use Rattle.dude_program.specs.Opening.{IsReachable, makes_image, runs_requests}
 use Rattle.dude_program.specs.Headline.{Crash, FailedOnThreads, RecoversSince, Sync, WasToldFirst}
-use Rattle.dude_program.specs.Causes.{IsLeftOpened, RanUnlessDevice}
+use Rattle.dude_program.specs.Causes.{FailsOnlyAtDevice, IsLeftOpened}
 
 -- ---- numbers
 
@@ -123,7 +123,7 @@ opens_prefix makes opening words s t is_open = record { moments = is_open.moment
 -- where requests were run
 pub crash_run : (Reaches : List Done → ℕ → Type 0) (meaning : Meaning) (opening : Opening) (words : List ℕ) (requests : List (List Request)) (done : List Done) (s m t : Sight) → runs_requests meaning ≡ true → Opens (makes_image meaning) opening words s m
     → ((order : List Done) (n : ℕ) → Reaches order n → IsReachable meaning opening order n)
-    → NumbersOfOneThread opening.number requests done → RecoversAlongRun Reaches opening words done m t → {fault : Option Fault} → RanUnlessDevice fault m t
+    → NumbersOfOneThread opening.number requests done → RecoversAlongRun Reaches opening words done m t → {fault : Option Fault} → FailsOnlyAtDevice fault m t
     → FailedOnThreads meaning s t ⊎ ((ok : Bool) × SomeCalls ok m t × LosesFew (most_lost_by ok) opening words done m t) → Crash meaning opening done s t
 crash_run Reaches meaning opening words requests done s m t runs is_open reaches numbers moments ran lost =
     let run = moments (length (state_now s).told) is_open.holds in

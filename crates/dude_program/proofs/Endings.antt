@@ -22,7 +22,7 @@ use Rattle.command_openings.specs.Openings.{IsOpeningOn}
 use Rattle.dude_program.specs.World.{SinkStays, World, world_of}
 use Rattle.dude_program.specs.Opening.{IsOutput, IsReachable, Starts, ends_opened, makes_image, only_reads}
 use Rattle.dude_program.specs.Headline.{AllDone, Completed, Crash, Headline, MustOnlyRead, Printed, Replies, Sync, TookAll, TookPrefix}
-use Rattle.dude_program.specs.Causes.{Causes, HasCause, IsGood, IsLeft, IsLeftOpened, MustRefuse, OpensOnce, OpensOnceBy, RanUnlessDevice, RefusesFormat, RefusesOpening, StoppedByOpening, Untouched}
+use Rattle.dude_program.specs.Causes.{Causes, FailsOnlyAtDevice, HasCause, IsGood, IsLeft, IsLeftOpened, MustRefuse, OpensOnce, OpensOnceBy, RefusesFormat, RefusesOpening, StoppedByOpening, Untouched}
 use Rattle.dude_program.specs.Ending.{Ends}
 use Rattle.dude_program.specs.Work.{PrintsText}
 use Rattle.dude_program.proofs.FilesRead.{FilesRead, read_bad, read_before, read_fits, read_missing}
@@ -68,7 +68,7 @@ pub record Came (meaning : Meaning) (f g : FilesSight) (opening : Opening) (done
   pub replies : (done ≡ []) ⊎ Replies meaning f s opening done
   pub crash : Crash meaning opening done s t
   pub sync : Sync done s t
-  pub ran : RanUnlessDevice fault s t
+  pub ran : FailsOnlyAtDevice fault s t
   pub once : OpensOnce meaning fault s t
   pub nothing : makes_image meaning ≡ false → (why : Fault) → MustRefuse meaning f opening why → done ≡ []
   pub cause : CameBy meaning f opening done last s t fault
@@ -81,11 +81,11 @@ pub sink_took : {bytes : List ℕ} {k l : SinkSight} → Took bytes k l → Sink
 sink_took took = record { faults = took.faults; is_visible = took.is_visible }
 
 -- the calls before a fault that isn't the medium's
-ran_well : {fault : Option Fault} {s t : Sight} → RanUnlessDevice None s t → (fault ≡ Some Device → ⊥) → RanUnlessDevice fault s t
+ran_well : {fault : Option Fault} {s t : Sight} → FailsOnlyAtDevice None s t → (fault ≡ Some Device → ⊥) → FailsOnlyAtDevice fault s t
 ran_well ran other = (ran.0, ran.1, (λ failed. absurd (let e = ran.2.0 failed in let no : ⊥ = cc in no), λ is. absurd (other is)))
 
 -- and those behind the opening
-behind_well : (b : Bool) {fault : Option Fault} (s t : Sight) → MatchBool b (t ≡ s) (RanUnlessDevice None s t) → (fault ≡ Some Device → ⊥) → MatchBool b (t ≡ s) (RanUnlessDevice fault s t)
+behind_well : (b : Bool) {fault : Option Fault} (s t : Sight) → MatchBool b (t ≡ s) (FailsOnlyAtDevice None s t) → (fault ≡ Some Device → ⊥) → MatchBool b (t ≡ s) (FailsOnlyAtDevice fault s t)
 behind_well true s t behind other = behind
 behind_well false s t behind other = ran_well behind other
 
@@ -128,7 +128,7 @@ module _ {meaning : Meaning} {f g : FilesSight} {opening : Opening} {done : List
   causes_of : {k l : SinkSight} (fault : Option Fault) → IsNoReadFault fault → HasCause meaning (world_of s f k) (world_of t g l) fault
       → (makes_image meaning ≡ false → IsTrue s.is_visible → (why : Fault) → MustRefuse meaning f opening why → (fault ≡ Some why) ⊎ StoppedByOpening meaning fault)
       → (IsGood meaning (world_of s f k) → (Risen s.faults t.faults → ⊥) → (Risen k.faults l.faults → ⊥) → (fault ≡ None) ⊎ (fault ≡ Some Memory))
-      → Untouched meaning fault s t done → RanUnlessDevice fault s t → OpensOnce meaning fault s t → SinkStays k l → Causes meaning (world_of s f k) (world_of t g l) done fault
+      → Untouched meaning fault s t done → FailsOnlyAtDevice fault s t → OpensOnce meaning fault s t → SinkStays k l → Causes meaning (world_of s f k) (world_of t g l) done fault
   causes_of fault unread cause refused complete untouched ran once sink = record {
     cause = cause;
     order = record {

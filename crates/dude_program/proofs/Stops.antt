@@ -33,7 +33,7 @@ use Rattle.command_openings.proofs.ImageOpened.{partly_opened}
 use Rattle.dude_program.specs.World.{world_of}
 use Rattle.dude_program.specs.Opening.{Starts, command_files, makes_image, only_reads}
 use Rattle.dude_program.specs.Headline.{Headline, MustOnlyRead, Printed}
-use Rattle.dude_program.specs.Causes.{FilesRefuse, HasCause, MakesSome, OpensOnceBy, RanUnlessDevice, RefusesContent, RefusesFormat, RefusesInOrder, StoppedAtFiles, StoppedByOpening, StoppedReading, SucceedsIfGood, Untouched, sizes_made}
+use Rattle.dude_program.specs.Causes.{FailsOnlyAtDevice, FilesRefuse, HasCause, MakesSome, OpensOnceBy, RefusesContent, RefusesFormat, RefusesInOrder, StoppedAtFiles, StoppedByOpening, StoppedReading, SucceedsIfGood, Untouched, sizes_made}
 use Rattle.dude_program.specs.Ending.{Ends}
 use Rattle.dude_program.proofs.FilesRead.{FilesRead, all_read, good_none_bad, one_bad, read_bad, read_before, read_fits, read_missing}
 use Rattle.dude_program.proofs.Contents.{fits_not_refused, makes_none, one_content_fault, one_format_fault, opens_not_refused}
@@ -41,20 +41,20 @@ use Rattle.dude_program.proofs.Crashes.{crash_prefix, sync_none}
 use Rattle.dude_program.proofs.Endings.{must_not, sink_same}
 
 -- the calls behind which a fault isn't the medium's
-calls_well : {fault : Option Fault} {s t : Sight} → SomeCalls true s t → (fault ≡ Some Device → ⊥) → RanUnlessDevice fault s t
+calls_well : {fault : Option Fault} {s t : Sight} → SomeCalls true s t → (fault ≡ Some Device → ⊥) → FailsOnlyAtDevice fault s t
 calls_well ran other = (true, ran, (λ failed. absurd (let no : ⊥ = cc in no), λ is. absurd (other is)))
 
-calls_failed : {s t : Sight} → SomeCalls false s t → RanUnlessDevice (Some Device) s t
+calls_failed : {s t : Sight} → SomeCalls false s t → FailsOnlyAtDevice (Some Device) s t
 calls_failed ran = (false, ran, (λ failed. refl, λ is. refl))
 
-calls_none : {fault : Option Fault} (s t : Sight) → t ≡ s → (fault ≡ Some Device → ⊥) → RanUnlessDevice fault s t
-calls_none {fault} s t same other = subst (λ (u : Sight). RanUnlessDevice fault s u) (sym same) (calls_well (ran_here s) other)
+calls_none : {fault : Option Fault} (s t : Sight) → t ≡ s → (fault ≡ Some Device → ⊥) → FailsOnlyAtDevice fault s t
+calls_none {fault} s t same other = subst (λ (u : Sight). FailsOnlyAtDevice fault s u) (sym same) (calls_well (ran_here s) other)
 
-pub reads_ran : {fault : Option Fault} {s t : Sight} → OnlyReads true s t → (fault ≡ Some Device → ⊥) → RanUnlessDevice fault s t
+pub reads_ran : {fault : Option Fault} {s t : Sight} → OnlyReads true s t → (fault ≡ Some Device → ⊥) → FailsOnlyAtDevice fault s t
 reads_ran reads other = calls_well (map Read reads.words, reads.made) other
 
 -- the image was made, or no call was made
-made_or_none : (sizes : Sizes) (s t : Sight) → (t ≡ s) ⊎ FormatsSome sizes true s t → RanUnlessDevice (Some Memory) s t
+made_or_none : (sizes : Sizes) (s t : Sight) → (t ≡ s) ⊎ FormatsSome sizes true s t → FailsOnlyAtDevice (Some Memory) s t
 made_or_none sizes s t (inl same) = calls_none s t same (λ e. let no : ⊥ = cc in no)
 made_or_none sizes s t (inr made) = calls_well (format_calls sizes made.0, made.2) (λ e. let no : ⊥ = cc in no)
 

@@ -19,7 +19,7 @@ use Rattle.dude_io.specs.Sink.{SinkSight, Took}
 use Rattle.back_store.specs.Back.{BackState, idle}
 use Rattle.back_store.specs.Operations.{MakesOperations}
 use Rattle.image_opening.specs.Opened.{HoldsOpened}
-use Rattle.run_threads.specs.Ends.{AnyNumber, IsWholeOnThreads}
+use Rattle.run_threads.specs.Ends.{EndsWhole}
 use Rattle.command_openings.proofs.Images.{none_behind}
 use Rattle.command_edges.specs.Printing.{FailsIn}
 use Rattle.tatp_model.specs.Files.{requests_in}
@@ -32,8 +32,8 @@ use Rattle.dude_engine.specs.Plain as plain
 use Rattle.dude_engine.proofs.Numbering.{greatest_all, greatest_from}
 use Rattle.command_edges.specs.declared.fault.Fault.{Fault}
 use Rattle.command_edges.specs.declared.fault.Fault.TheVariants.{Device, Memory}
-use Rattle.dude_program.specs.Causes.{RanUnlessDevice}
-use Rattle.dude_program.specs.Work.{EndsWhole, PrintsText, fault_of_end}
+use Rattle.dude_program.specs.Causes.{FailsOnlyAtDevice}
+use Rattle.dude_program.specs.Work.{PrintsText, fault_of_end}
 
 pub whole_end : (end : RanEnd) → fault_of_end end ≡ None → end ≡ Whole
 whole_end Whole e = refl
@@ -98,11 +98,6 @@ as_opened before sizes number words s held = record {
   home = held.home;
 }
 
--- the last number of a whole run on threads
-pub ends_whole_on_threads : (opening : Opening) (words : List ℕ) (requests : List (List Request)) (done : List Done) (last : ℕ) (s t : Sight) → IsWholeOnThreads opening words requests done last s t
-    → EndsWhole AnyNumber opening words requests done last s t
-ends_whole_on_threads opening words requests done last s t whole = record { all = whole.all; none_over = whole.none_over; from = whole.from; reaches = tt; end = whole.end }
-
 -- the greatest number done is a last number
 pub ends_whole_at : (opening : Opening) (words : List ℕ) (requests : List (List Request)) (done : List Done) (last : ℕ) (s t : Sight) → plain.IsWhole opening words requests done last s t
     → EndsWhole (IsUpToLast opening) opening words requests done last s t
@@ -114,7 +109,7 @@ ends_whole_at opening words requests done last s t whole = record {
   end = whole.end;
 }
 
-pub ran_end : (end : RanEnd) (s t : Sight) → plain.RanUnlessDevice end s t → RanUnlessDevice (fault_of_end end) s t
+pub ran_end : (end : RanEnd) (s t : Sight) → plain.RanUnlessDevice end s t → FailsOnlyAtDevice (fault_of_end end) s t
 ran_end end s t r = (r.0, r.1, (λ failed. ap fault_of_end (r.2.0 failed), λ is. r.2.1 (device_end end is)))
 
 -- ---- a text

@@ -273,8 +273,8 @@ DoesNothingRefused meaning old done = makes_image meaning ≡ false → IsTrue o
     → Starts meaning old.medium opening → (why : Fault) → MustRefuse meaning old.files opening why → done ≡ []
 
 -- Some calls were made on the medium. None failed but perhaps the last, and that one exactly where the fault is `Device`.
-abbrev pub RanUnlessDevice : Option Fault → Sight → Sight → Type 0
-RanUnlessDevice fault s t = (ok : Bool) × SomeCalls ok s t × ((ok ≡ false) ↔ (fault ≡ Some Device))
+abbrev pub FailsOnlyAtDevice : Option Fault → Sight → Sight → Type 0
+FailsOnlyAtDevice fault s t = (ok : Bool) × SomeCalls ok s t × ((ok ≡ false) ↔ (fault ≡ Some Device))
 
 -- it ended well, or only its output failed
 abbrev pub EndedWell : Option Fault → Type 0
@@ -292,7 +292,7 @@ pub record OpensOnce (meaning : Meaning) (fault : Option Fault) (s t : Sight) : 
   pub opened : Sight
   pub calls : OpensByCalls (makes_image meaning) opening words s opened
   -- behind them come calls of the command's work; or none, where it ends with its opening
-  pub behind : MatchBool (ends_opened meaning) (t ≡ opened) (RanUnlessDevice fault opened t)
+  pub behind : MatchBool (ends_opened meaning) (t ≡ opened) (FailsOnlyAtDevice fault opened t)
   -- and where it ended well these are operations of the opened log
   pub operates : EndedWell fault → MakesOperations (idle opening.sizes opening.number) opened t
 
@@ -330,7 +330,7 @@ pub record Causes (meaning : Meaning) (old new : World) (done : List Done) (faul
   -- where an opened image is refused nothing is done, whatever is answered
   pub nothing : DoesNothingRefused meaning old done
   -- no call on the medium failed but the last one, where the fault is `Device`
-  pub ran : RanUnlessDevice fault old.medium new.medium
+  pub ran : FailsOnlyAtDevice fault old.medium new.medium
   -- unless it only reads, its calls begin with exactly those of one opening, or they are these up to one that failed
   pub once : only_reads meaning ≡ false → OpensOnceBy meaning fault done old.medium new.medium
   -- its files were read in order, each once, up to one that couldn't be read, and no other file

@@ -9,24 +9,22 @@ use Rattle.pmem_trait.specs.Sights.{Sight, Risen, SomeCalls}
 use Rattle.back_store.specs.Back.{idle}
 use Rattle.back_store.specs.BackView.{medium_of}
 use Rattle.image_opening.specs.declared.opened.Opened.{Opened}
-use Rattle.image_opening.specs.Opened.{HoldsOpened}
 use Rattle.tatp_model.specs.declared.done.Done.{Done}
 use Rattle.tatp_model.specs.declared.request.Request.{Request}
-use Rattle.tatp_model.specs.OneThread.{AllAreDone, is_sync, RepliesOfOneThread}
+use Rattle.tatp_model.specs.OneThread.{is_sync, RepliesOfOneThread}
 use Rattle.tatp_text.specs.Output.{output_of}
 use Rattle.tatp_text.specs.Summary.{summary_of}
 use Rattle.dude_io.specs.Sink.{SinkSight, Took}
 use Rattle.run_order.specs.Runs.{SyncsFollow}
 use Rattle.legal_order.specs.Printed.{NumbersOfOneThread}
 use Rattle.run_threads.specs.Answers.{AreSyncsDurable, KnowsReads}
-use Rattle.run_threads.specs.Ends.{AnyNumber}
+use Rattle.run_threads.specs.Ends.{AnyNumber, EndsWhole}
 use Rattle.dude_engine.specs.declared.ran.RanEnd.{RanEnd}
 use Rattle.dude_engine.specs.declared.ran.RanEnd.TheVariants.{Whole, NoMemory}
 use Rattle.dude_engine.specs.declared.ran.RanEnd.TheVariants as ran
-use Rattle.dude_engine.specs.Endings.{End}
 use Rattle.dude_engine.specs.Opening.{IsUpToLast, Opening}
 use Rattle.dude_engine.specs.Plain.{IsOpeningOf, LosesFew, RecoversAlongRun, most_lost_by}
-use Rattle.dude_engine.specs.Requests.{AreInRange, request_count}
+use Rattle.dude_engine.specs.Requests.{AreInRange, HasNumbersFor, request_count}
 use Rattle.command_edges.specs.declared.fault.Fault.{Fault}
 use Rattle.command_edges.specs.declared.fault.Fault.TheVariants.{ManyFiles, Frames, FewSubscribers, Numbers, Device, Memory}
 use Rattle.command_edges.specs.Printing.{StopsIn}
@@ -34,7 +32,7 @@ use Rattle.tatp_model.specs.Files.{requests_in}
 use Rattle.command_words.specs.Command.{Meaning, Meaning.RunFiles}
 use Rattle.dude_program.specs.declared.load.Load.{Load}
 use Rattle.dude_program.specs.declared.worked.Worked.{Worked}
-use Rattle.dude_program.specs.Causes.{RanUnlessDevice, WantsFrames}
+use Rattle.dude_program.specs.Causes.{FailsOnlyAtDevice, WantsFrames}
 use Rattle.back_store.specs.Operations.{MakesOperations}
 use Rattle.dude_program.specs.Opening.{load_of}
 
@@ -43,16 +41,6 @@ abbrev pub fault_of_end : RanEnd → Option Fault
 fault_of_end Whole = None
 fault_of_end ran.Device = Some Device
 fault_of_end NoMemory = Some Memory
-
--- At the end of a run all requests are done; the last number, which is at least the opening number and each number done, was
--- told last, and every image recovers to it.
-pub record EndsWhole (Reaches : List Done → ℕ → Type 0) (opening : Opening) (words : List ℕ) (requests : List (List Request)) (done : List Done) (last : ℕ) (s t : Sight) : Type 0 where
-  pub all : AllAreDone requests done
-  pub none_over : All (λ d. d.number ≤ last) done
-  pub from : opening.number ≤ last
-  -- the run may come to it
-  pub reaches : Reaches done last
-  pub end : (before : ℕ) → HoldsOpened before opening.sizes opening.number words s → IsTrue s.is_visible → End opening done last s t
 
 -- The requests were run over an image that was opened at this opening with these home words: what is done, the last number
 -- told, and the fault, if any. It is given whether threads ran, where it is known what they read, and which numbers the run may
@@ -77,7 +65,7 @@ pub record RanOver (threads : Bool) (Knows : Type 0) (Reaches : List Done → �
   -- at the end few of the numbers done are lost: at most 256, or on one thread 257 where the last call on the medium failed
   pub few_lost : (IsTrue threads × (fault ≡ Some Device)) ⊎ ((ok : Bool) × SomeCalls ok s t × LosesFew (most_lost_by ok) opening words done s t)
   -- no call on the medium failed but the last one, where the fault is `Device`
-  pub ran : RanUnlessDevice fault s t
+  pub ran : FailsOnlyAtDevice fault s t
   -- at `Device` the medium's count of faults rose
   pub cause : fault ≡ Some Device → Risen s.faults t.faults
   -- no other fault comes but want of memory
@@ -116,10 +104,6 @@ RanOnThreads sight o run files worked = (opening : Opening) → IsOpeningOf o op
 -- no list has more than 100,000 requests
 abbrev pub EachIsFew : List (List Request) → Type 0
 EachIsFew requests = All (λ list. length list ≤ 100000) requests
-
--- the numbers behind this one are enough for the requests
-abbrev pub HasNumbers : ℕ → List (List Request) → Type 0
-HasNumbers number requests = number + 65 * request_count requests ≤ MAX_NUMBER
 
 -- what threads share has as many frames as said, or as pages where that isn't said
 abbrev pub HasFrames : Option ℕ → ℕ → Run → Type 0
@@ -180,7 +164,7 @@ pub record IsLoadFor (sizes : Sizes) (number : ℕ) (load : Load) (lists : Vec (
   pub files : load.files ≤ sizes.rings
   pub subscribers : load.files ≤ sizes.subscribers
   pub in_range : AreInRange (requests_in lists.items)
-  pub numbers : HasNumbers number (requests_in lists.items)
+  pub numbers : HasNumbersFor number (requests_in lists.items)
 
 -- why a load is refused over an opened image
 abbrev pub RefusesLoadFor : Sizes → ℕ → Load → Fault → Type 0

@@ -4,8 +4,8 @@ ghost use Rattle.std.specs.Prelude.{◌≡◌, ◌≤◌, length, OnOk, IfErr};
 ghost use Rattle.dude_base.specs.declared.limits.TheConstants.{MAX_NUMBER};
 ghost use Rattle.image_opening.specs.Opened.{IsOpened};
 ghost use Rattle.tatp_model.specs.Files.{requests_in};
-ghost use Rattle.dude_engine.specs.Requests.{request_count};
-ghost use Rattle.dude_program.specs.Work.{AllowsFrames, EachIsFew, HasFewNumbers, HasManyFiles, HasNumbers, RefusesFiles, RefusesFrames};
+ghost use Rattle.dude_engine.specs.Requests.{HasNumbersFor, request_count};
+ghost use Rattle.dude_program.specs.Work.{AllowsFrames, EachIsFew, HasFewNumbers, HasManyFiles, RefusesFiles, RefusesFrames};
 
 use command_edges::Fault;
 use dude_base::limits::{MAX_NUMBER, MIN_FRAMES};
@@ -56,7 +56,7 @@ pub fn check_numbers(number: u64, files: &[Vec<Request>]) -> Result<(), Fault>
     requires small { number ≤ MAX_NUMBER }
     requires files { length files.now ≤ 16 }
     requires few { EachIsFew (requests_in files.now) }
-    ensures ok { OnOk result (HasNumbers number (requests_in files.now)) }
+    ensures ok { OnOk result (HasNumbersFor number (requests_in files.now)) }
     ensures err { IfErr result (HasFewNumbers number (requests_in files.now)) }
 {
     let requests = count_requests(files);
@@ -77,7 +77,7 @@ pub fn check_run<M: Medium>(
     requires few { EachIsFew (requests_in files.now) }
     ensures rings { OnOk result (length files.now ≤ opened.now.sizes.rings) }
     ensures frames { OnOk result (AllowsFrames frames opened.now.sizes.pages) }
-    ensures numbers { OnOk result (HasNumbers opened.now.number (requests_in files.now)) }
+    ensures numbers { OnOk result (HasNumbersFor opened.now.number (requests_in files.now)) }
     ensures err { IfErr result (RefusesFiles frames opened.now.sizes opened.now.number files.now) }
 {
     check_rings(files.len() as u64, opened.sizes.rings)?;

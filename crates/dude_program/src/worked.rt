@@ -5,9 +5,9 @@ ghost use Rattle.dude_base.specs.Run.{IsRunWithin};
 ghost use Rattle.back_store.specs.BackView.{medium_of};
 ghost use Rattle.image_opening.specs.Opened.{IsOpened};
 ghost use Rattle.tatp_model.specs.Files.{requests_in};
-ghost use Rattle.dude_engine.specs.Requests.{AreInRange};
+ghost use Rattle.dude_engine.specs.Requests.{AreInRange, HasNumbersFor};
 ghost use Rattle.run_threads.specs.Ends.{IsAsOpened};
-ghost use Rattle.dude_program.specs.Work.{HasNumbers, RanOnThreads, RanOverOpened, fault_of_end};
+ghost use Rattle.dude_program.specs.Work.{RanOnThreads, RanOverOpened, fault_of_end};
 
 use command_edges::Fault;
 use dude_base::run::Run;
@@ -46,7 +46,7 @@ pub fn work<M: Medium>(alloc: Global, opened: Opened<M>, files: &[Vec<Request>])
     requires opened { IsOpened opened }
     requires rings { length files.now ≤ opened.sizes.rings }
     requires in_range { AreInRange (requests_in files.now) }
-    requires numbers { HasNumbers opened.number (requests_in files.now) }
+    requires numbers { HasNumbersFor opened.number (requests_in files.now) }
     ensures { RanOverOpened M.sight opened files.now result }
 {
     let ran = plain(alloc, opened, files);
@@ -72,7 +72,7 @@ pub fn work_on_threads<R: Threads + Sync, M: Medium + Send>(
     requires some { 0 < length files.now }
     requires rings { length files.now ≤ opened.sizes.rings }
     requires in_range { AreInRange (requests_in files.now) }
-    requires numbers { HasNumbers opened.number (requests_in files.now) }
+    requires numbers { HasNumbersFor opened.number (requests_in files.now) }
     ensures { RanOnThreads M.sight opened run.now files.now result }
 {
     let ran = threaded(rt, alloc, opened, run, files, &OpenGate);

@@ -23,8 +23,8 @@ use Rattle.request_attempts.specs.declared.tried.Tried.TheVariants.{Done, Again,
 use Rattle.request_attempts.specs.Counting.{LAST_COUNT, RisesBy}
 use Rattle.request_attempts.specs.Served.{HasServed}
 use Rattle.request_attempts.specs.AfterOnce.{HasStopped, WasLost, CountsEntry}
-use Rattle.request_attempts.specs.Turns.{HasFailed, HasPumped, KeepsRest, WasRefused}
-use Rattle.request_attempts.specs.Tries.{IsServing, IsUnserved, IsAgain, HasGained, AnswersBy, AfterTurn, AfterStop, AfterLost, AfterTry}
+use Rattle.request_attempts.specs.Turns.{HasFailed, HasFetched, HasPumped, KeepsRest, WasRefused}
+use Rattle.request_attempts.specs.Tries.{IsServing, IsUnserved, IsAgain, HasGained, AnswersAtOnce, AnswersBy, AfterFull, AfterLost, AfterOut, AfterStop, AfterTry}
 
 bit_few : (b : Bool) → bit b ≤ 1
 bit_few true = omega arith
@@ -93,8 +93,24 @@ module _ {X K : Type 0} (t : TableSight K) (p m r : PassSight X) where
     counts = ⊎_elim (λ n. inr ((let f = b.few in omega arith), one_more p.numbers.refused r.numbers.refused p.numbers.had_turn r.numbers.had_turn (omega arith))) (λ l. inl (omega arith)) b.counts;
   }
 
-  again_counted : (used : ℕ) → IsBare used 1 p m → IsResting t m → (r ≡ m) ⊎ HasGained t m r → IsAgain t p r
-  again_counted used b rests x = ⊎_elim (λ same. subst (λ (y : PassSight X). IsAgain t p y) (sym same) (again_same used b rests)) (λ g. again_turned used b g) x
+  -- a turn that was refused, or had
+  refused_gains : WasRefused t m r → HasGained t m r
+  refused_gains w = record {
+    keeps = w.keeps;
+    no_fault = w.no_fault;
+    had = w.had;
+    gains = ⊎_elim (λ l. inl (let is = w.counts in omega arith)) (λ n. inr (inl (let is = w.counts in omega arith))) (more_by m.numbers.refused 1);
+  }
+
+  pumped_gains : (n : ℕ) → HasPumped t m r n → HasGained t m r
+  pumped_gains n h = record { keeps = h.keeps; no_fault = h.no_fault; had = λ had. h.had; gains = inr (inr h.had) }
+
+  fetched_gains : (page : ℕ) → HasFetched t page m r → HasGained t m r
+  fetched_gains page h = record { keeps = h.keeps; no_fault = h.no_fault; had = λ had. h.had; gains = inr (inr h.had) }
+
+  -- nothing behind it, with this answer
+  at_once : (used : ℕ) → IsBare used 1 p m → IsResting t m → (s : Sizes) (file index : ℕ) (q : Request) (x : Tried) → AnswersAtOnce Again x m r → AfterTry t s file index q x p r
+  at_once used b rests s file index q x a = subst (λ (y : Tried). AfterTry t s file index q y p r) (sym a.0) (subst (λ (y : PassSight X). IsAgain t p y) (sym a.1) (again_same used b rests))
 
   unserved : (k : ℕ) → IsBare 0 k p m → HasFailed t m r → IsUnserved 0 t p r × (r.numbers.met_fault ≡ true)
   unserved k b f = (
@@ -158,11 +174,18 @@ module _ {X K : Type 0} (t : TableSight K) (seen : ℕ) (p m : PassSight X) (sma
       })
       (cases_Bool p.numbers.had_turn)
 
-  pub full_try : (s : Sizes) (file index : ℕ) (q : Request) (x : Tried) (r : PassSight X) → AfterTurn t x m r → AfterTry t s file index q x p r
+  pub full_try : (s : Sizes) (file index : ℕ) (q : Request) (x : Tried) (r : PassSight X) → AfterFull t x m r → AfterTry t s file index q x p r
   full_try s file index q (Done d) r a = absurd a
-  full_try s file index q Again r a = full_again r a
+  full_try s file index q Again r a = full_again r (⊎_elim (λ h. pumped_gains t p m r h.0 h.1) (λ w. refused_gains t p m r w) a)
   full_try s file index q Device r a = unserved t p m r (bit p.numbers.had_turn) (full_bare p.numbers.had_turn refl) a
   full_try s file index q NoMemory r a = absurd a
+
+-- ---- a page that is out
+out_try : {X K : Type 0} (t : TableSight K) (page : ℕ) (p m : PassSight X) → IsBare 0 1 p m → (s : Sizes) (file index : ℕ) (q : Request) (x : Tried) (r : PassSight X) → AfterOut t page x m r → AfterTry t s file index q x p r
+out_try t page p m b s file index q (Done d) r a = absurd a
+out_try t page p m b s file index q Again r a = again_turned t p m r 0 b (⊎_elim (λ h. fetched_gains t p m r page h) (λ w. refused_gains t p m r w) a)
+out_try t page p m b s file index q Device r a = unserved t p m r 1 b a
+out_try t page p m b s file index q NoMemory r a = absurd a
 
 -- ---- a Stop
 module _ {X K : Type 0} (t : TableSight K) (e : Stop) (p m : PassSight X) (small : up_to_last p.numbers.refused ≡ p.numbers.refused) (h : HasStopped t e p m) where
@@ -180,11 +203,19 @@ module _ {X K : Type 0} (t : TableSight K) (e : Stop) (p m : PassSight X) (small
   stop_one other = fewer t p m m 0 h.refusals 1 (stop_counts e refl h.narrow other) stop_bare
 
   pub stop_try : (s : Sizes) (file index : ℕ) (q : Request) (x : Tried) (r : PassSight X) → AfterStop t e x m r → AfterTry t s file index q x p r
-  stop_try s file index q (Done d) r a = absurd a
-  stop_try s file index q Again r a = again_counted t p m r 0 (stop_one a.0) h.rests a.1
-  stop_try s file index q Device r a = unserved t p m r h.refusals stop_bare a
-  stop_try s file index q NoMemory r a = subst (λ (y : PassSight X). IsUnserved 0 t p y × (y.numbers.met_fault ≡ p.numbers.met_fault)) (sym a)
-      (record { rests = h.rests; part = h.part; entries = h.entries; draws = record { used = 0; draws = stop_bare.draws; few = omega arith }; durable = (let d = stop_bare.durable in omega arith) }, stop_bare.no_fault)
+  stop_try s file index q x r a = by e refl a
+    where
+      other : (e2 : Stop) → e ≡ e2 → e2 ≢ stop.NoMemory → e ≢ stop.NoMemory
+      other e2 is differs none = differs (sym is ∙ none)
+
+      by : (e2 : Stop) → e ≡ e2 → AfterStop t e2 x m r → AfterTry t s file index q x p r
+      by (stop.Conflict lock seen) is b = at_once t p m r 0 (stop_one (other (stop.Conflict lock seen) is (λ same. let bad : ⊥ = cc in bad))) h.rests s file index q x b
+      by (stop.Out page) is b = out_try t page p m (stop_one (other (stop.Out page) is (λ same. let bad : ⊥ = cc in bad))) s file index q x r b
+      by (stop.Busy page seen) is b = at_once t p m r 0 (stop_one (other (stop.Busy page seen) is (λ same. let bad : ⊥ = cc in bad))) h.rests s file index q x b
+      by stop.Wide is b = absurd (h.narrow is)
+      by stop.NoMemory is b = subst (λ (y : Tried). AfterTry t s file index q y p r) (sym b.0)
+          (subst (λ (y : PassSight X). IsUnserved 0 t p y × (y.numbers.met_fault ≡ p.numbers.met_fault)) (sym b.1)
+          (record { rests = h.rests; part = h.part; entries = h.entries; draws = record { used = 0; draws = stop_bare.draws; few = omega arith }; durable = (let d = stop_bare.durable in omega arith) }, stop_bare.no_fault))
 
 -- ---- a commit that was lost
 module _ {X K : Type 0} (t : TableSight K) (p m : PassSight X) (small : up_to_last p.numbers.refused ≡ p.numbers.refused) (left : 0 < p.numbers.left) where
@@ -222,14 +253,9 @@ module _ {X K : Type 0} (t : TableSight K) (p m : PassSight X) (small : up_to_la
   })
 
   pub lost_try : (l : Lost) (s : Sizes) (file index : ℕ) (q : Request) (x : Tried) (r : PassSight X) → WasLost t l p m → AfterLost t l x m r → AfterTry t s file index q x p r
-  lost_try l s file index q (Done d) r h a = absurd a
-  lost_try l s file index q NoMemory r h a = absurd a
-  lost_try (lost.Out page) s file index q Again r h a = again_counted t p m r 0 (lost_page h.refusals h.numbers h.part h.entries) h.rests a
-  lost_try (lost.Busy page seen) s file index q Again r h a = again_counted t p m r 0 (lost_page h.refusals h.numbers h.part h.entries) h.rests a
-  lost_try (lost.Conflict lock seen n) s file index q Again r h a = again_counted t p m r 1 (lost_number h.refusals n h.numbers h.part h.entries) h.rests a
-  lost_try (lost.Out page) s file index q Device r h a = unserved t p m r 1 (lost_page h.refusals h.numbers h.part h.entries) a.0
-  lost_try (lost.Busy page seen) s file index q Device r h a = unserved t p m r 1 (lost_page h.refusals h.numbers h.part h.entries) a.0
-  lost_try (lost.Conflict lock seen n) s file index q Device r h a = absurd (a.1 lock seen n refl)
+  lost_try (lost.Out page) s file index q x r h a = out_try t page p m (lost_page h.refusals h.numbers h.part h.entries) s file index q x r a
+  lost_try (lost.Busy page seen) s file index q x r h a = at_once t p m r 0 (lost_page h.refusals h.numbers h.part h.entries) h.rests s file index q x a
+  lost_try (lost.Conflict lock seen n) s file index q x r h a = at_once t p m r 1 (lost_number h.refusals n h.numbers h.part h.entries) h.rests s file index q x a
 
 -- ---- it was answered
 pub done_try : {X K : Type 0} (t : TableSight K) (s : Sizes) (file index : ℕ) (q : Request) (d : DoneOf) (p r : PassSight X) → is_sync q ≡ false → 0 < p.numbers.left → HasServed t s file index q p r d × CountsEntry t d.number p r → AfterTry t s file index q (Done d) p r

@@ -1,5 +1,5 @@
 -- What tries of a request leave of a pass.
-use Rattle.std.specs.Prelude.{◌≡◌, ◌≢◌, ℕ, ◌+◌, ◌*◌, ◌<◌, ◌≤◌, ◌⊎◌, Bool, true, false}
+use Rattle.std.specs.Prelude.{◌≡◌, ℕ, ◌+◌, ◌*◌, ◌<◌, ◌≤◌, ◌⊎◌, Bool, true, false}
 use Rattle.dude_base.specs.declared.sizes.Sizes.{Sizes}
 use Rattle.word_space.specs.declared.stop.Stop.{Stop}
 use Rattle.word_space.specs.declared.stop.Stop.TheVariants as stop
@@ -16,7 +16,7 @@ use Rattle.request_attempts.specs.declared.tried.Tried.{Tried}
 use Rattle.request_attempts.specs.declared.tried.Tried.TheVariants.{Done, Again, Device, NoMemory}
 use Rattle.request_attempts.specs.Counting.{LAST_COUNT, PATIENCE, RisesBy}
 use Rattle.request_attempts.specs.Served.{HasServed}
-use Rattle.request_attempts.specs.Turns.{KeepsRest, HasFailed}
+use Rattle.request_attempts.specs.Turns.{HasFailed, HasFetched, HasPumped, KeepsRest, WasRefused}
 
 -- A `SYNC` was answered with a durable number that is at least each one of the pass
 pub record HasSynced {X K : Type 0} (t : TableSight K) (file index : ℕ) (q : Request) (p r : PassSight X) (d : DoneOf) : Type 0 where
@@ -96,26 +96,37 @@ pub record HasGained {X K : Type 0} (t : TableSight K) (p q : PassSight X) : Typ
   pub had : p.numbers.had_turn ≡ true → q.numbers.had_turn ≡ true
   pub gains : (LAST_COUNT ≤ q.numbers.refused) ⊎ ((p.numbers.refused < q.numbers.refused) ⊎ (q.numbers.had_turn ≡ true))
 
--- what a turn for a try that can't get on leaves
-abbrev pub AfterTurn : {X K : Type 0} → TableSight K → Tried → PassSight X → PassSight X → Type 0
-AfterTurn t (Done d) p q = ⊥
-AfterTurn t Again p q = HasGained t p q
-AfterTurn t Device p q = HasFailed t p q
-AfterTurn t NoMemory p q = ⊥
+-- what follows a full box: a pump, and a try again unless it met a fault
+abbrev pub AfterFull : {X K : Type 0} → TableSight K → Tried → PassSight X → PassSight X → Type 0
+AfterFull t (Done d) p q = ⊥
+AfterFull t Again p q = ((n : ℕ) × HasPumped t p q n) ⊎ WasRefused t p q
+AfterFull t Device p q = HasFailed t p q
+AfterFull t NoMemory p q = ⊥
+
+-- what follows a page that is out: its fetch, and a try again unless it met a fault
+abbrev pub AfterOut : {X K : Type 0} → TableSight K → ℕ → Tried → PassSight X → PassSight X → Type 0
+AfterOut t page (Done d) p q = ⊥
+AfterOut t page Again p q = HasFetched t page p q ⊎ WasRefused t p q
+AfterOut t page Device p q = HasFailed t p q
+AfterOut t page NoMemory p q = ⊥
+
+-- the answer is this one, and nothing was done
+abbrev pub AnswersAtOnce : {X : Type 0} → Tried → Tried → PassSight X → PassSight X → Type 0
+AnswersAtOnce which tried p q = (tried ≡ which) × (q ≡ p)
 
 -- what follows a Stop
 abbrev pub AfterStop : {X K : Type 0} → TableSight K → Stop → Tried → PassSight X → PassSight X → Type 0
-AfterStop t e (Done d) p q = ⊥
-AfterStop t e Again p q = (e ≢ stop.NoMemory) × ((q ≡ p) ⊎ HasGained t p q)
-AfterStop t e Device p q = HasFailed t p q
-AfterStop t e NoMemory p q = q ≡ p
+AfterStop t (stop.Conflict lock seen) tried p q = AnswersAtOnce Again tried p q
+AfterStop t (stop.Out page) tried p q = AfterOut t page tried p q
+AfterStop t (stop.Busy page seen) tried p q = AnswersAtOnce Again tried p q
+AfterStop t stop.Wide tried p q = AnswersAtOnce Again tried p q
+AfterStop t stop.NoMemory tried p q = AnswersAtOnce NoMemory tried p q
 
 -- what follows a commit that was lost; one that drew a number is tried again at once
 abbrev pub AfterLost : {X K : Type 0} → TableSight K → Lost → Tried → PassSight X → PassSight X → Type 0
-AfterLost t l (Done d) p q = ⊥
-AfterLost t l Again p q = (q ≡ p) ⊎ HasGained t p q
-AfterLost t l Device p q = HasFailed t p q × ((lock seen n : ℕ) → l ≢ lost.Conflict lock seen n)
-AfterLost t l NoMemory p q = ⊥
+AfterLost t (lost.Out page) tried p q = AfterOut t page tried p q
+AfterLost t (lost.Busy page seen) tried p q = AnswersAtOnce Again tried p q
+AfterLost t (lost.Conflict lock seen n) tried p q = AnswersAtOnce Again tried p q
 
 -- what a try leaves, by how it ended
 abbrev pub AfterTry : {X K : Type 0} → TableSight K → Sizes → ℕ → ℕ → Request → Tried → PassSight X → PassSight X → Type 0

@@ -13,6 +13,7 @@ use crate::trying::try_once;
 use crate::turns::Turns;
 use crate::unserved::Unserved;
 use std::alloc::Global;
+use std::hint::spin_loop;
 use stm_boxes::box_rule::BoxRule;
 use stm_passes::pass::Pass;
 use stm_steps::stm::Stm;
@@ -73,7 +74,7 @@ pub fn serve_one<
             Tried::Done(done) => return Ok(done),
             Tried::Device => return Err(Unserved::Device),
             Tried::NoMemory => return Err(Unserved::NoMemory),
-            Tried::Again => {}
+            Tried::Again => spin_loop(),
         }
         if is_drawn_out(room, p.left()) {
             return Err(Unserved::Refused);

@@ -4,7 +4,7 @@ ghost use Rattle.std.specs.Prelude.{◌≡◌, ◌<◌, ℕ, true, false};
 ghost use Rattle.tatp_model.specs.OneThread.{is_sync};
 ghost use Rattle.stm_passes.specs.Passes.{IsResting};
 ghost use Rattle.request_attempts.specs.MayTry.{MayTry};
-ghost use Rattle.request_attempts.specs.Tries.{AfterTry, AfterTurn, AfterStop, AfterLost};
+ghost use Rattle.request_attempts.specs.Tries.{AfterFull, AfterLost, AfterOut, AfterStop, AfterTry};
 
 use crate::gate::Gate;
 use crate::once::Once;
@@ -31,7 +31,7 @@ fn after_full<S, X, K, P: TransactionRule<S, X, K>, T: Turns<S, X, K, P>>(
     p: &mut Pass<X>,
 ) -> Tried
     requires { IsResting stm.now.events p.old }
-    ensures { AfterTurn stm.now.events result p.old p.new }
+    ensures { AfterFull stm.now.events result p.old p.new }
 {
     match turns.pump(stm, p) {
         Ok(_) => Tried::Again,
@@ -49,7 +49,7 @@ fn after_out<S, X, K, P: TransactionRule<S, X, K>, T: Turns<S, X, K, P>>(
 ) -> Tried
     requires rests { IsResting stm.now.events p.old }
     requires page { page < stm.now.events.setup.pages }
-    ensures { AfterTurn stm.now.events result p.old p.new }
+    ensures { AfterOut stm.now.events page result p.old p.new }
 {
     match turns.fetch(stm, p, page) {
         Ok(()) => Tried::Again,
@@ -72,7 +72,9 @@ fn after_stop<S, X, K, P: TransactionRule<S, X, K>, T: Turns<S, X, K, P>>(
     match stop {
         Stop::Out { page } => after_out(stm, turns, p, page),
         Stop::NoMemory => Tried::NoMemory,
-        _ => Tried::Again,
+        Stop::Conflict { lock: _, seen: _ } => Tried::Again,
+        Stop::Busy { page: _, seen: _ } => Tried::Again,
+        Stop::Wide => Tried::Again,
     }
 }
 
@@ -89,7 +91,12 @@ fn after_lost<S, X, K, P: TransactionRule<S, X, K>, T: Turns<S, X, K, P>>(
 {
     match lost {
         Lost::Out { page } => after_out(stm, turns, p, page),
-        _ => Tried::Again,
+        Lost::Busy { page: _, seen: _ } => Tried::Again,
+        Lost::Conflict {
+            lock: _,
+            seen: _,
+            number: _,
+        } => Tried::Again,
     }
 }
 

@@ -33,8 +33,8 @@ module _ (first : ℕ) (v : BackState) (rs : List RedoRecord) (lawful : LawfulLi
   announce_on w result end is dead = let goes = announce_goes v.log.sizes.rings first v rs lawful w result end is dead in
       record { sizes = goes.sizes; durable = goes.durable; alive = goes.alive; waits = goes.waits }
 
-  pub reproduce_on : (w : BackState) (result : Result ℕ BackFault) → w ≡ after_reproduce result v → GoesOn v w
-  reproduce_on w result is = let goes = reproduce_goes v.log.sizes.rings first v rs lawful w 0 result is rings_are in
+  pub reproduce_on : (w : BackState) (most : ℕ) (result : Result ℕ BackFault) → IfOk result (StopsAfter v.log most) → w ≡ after_reproduce result v → GoesOn v w
+  reproduce_on w most result stop is = let goes = reproduce_goes v.log.sizes.rings first v rs lawful w most result stop is rings_are in
       record { sizes = goes.sizes; durable = goes.durable; alive = goes.alive; waits = goes.waits }
 
 pub then_on : (u v w : BackState) → GoesOn u v → GoesOn v w → GoesOn u w

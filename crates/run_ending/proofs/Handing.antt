@@ -163,7 +163,8 @@ module _ (e : Ending) (rest : List Posted) (from : ℕ) (v : BackState) (s : Sig
 
   -- its ring had no room
   pub full_hand : (result : Result (Unit {0}) BackFault) (used need : ℕ) → result ≡ Err (RingFull used need) → (w : BackState) → w ≡ after_persist result o.ring bundle v → IfErr result (IsPersistFault v o.ring bundle) → (IsErrOf result (ring_full v o.ring bundle) ↔ ((v.dead ≡ false) × IsRingFull v o.ring bundle)) → (w ≡ v) × (v.log.reproduced + 1 < first_of bundle)
-  full_hand result used need full w state only cause = full_late e.setup.first v rs u.known.known.lawful o.ring bundle ring_lane over_durable newest b.short result used need full w state only cause
+  full_hand result used need full w state only cause =
+      let late = full_late e.setup.first v rs u.known.known.lawful o.ring bundle ring_lane over_durable newest b.short result used need full w state only cause in (late.0.0, late.1)
 
 -- nothing changed
 pub same_under : (e : Ending) (rest : List Posted) (from : ℕ) (v w : BackState) (s t : Sight) → (u : IsUnderWay e rest from v s) → w ≡ v → Known (since e) (lists w u.records) t → IsUnderWay e rest from w t

@@ -45,7 +45,7 @@ use Rattle.dude_engine.specs.Requests.{AreInRange, HasNumberEach, request_count}
 use Rattle.dude_engine.proofs.Numbering.{greatest_within}
 use Rattle.run_threads.specs.Behind.{RanBehind}
 use Rattle.run_threads.specs.HasRun.{HasRun}
-use Rattle.run_threads.specs.Parts.{AreParts, AreRests, HasParts as AreInParts, IsCounted}
+use Rattle.run_threads.specs.Parts.{AreInParts, AreParts, AreRests, IsCounted}
 use Rattle.run_threads.specs.Ran.{RanFrom, Start, StandsAt, opening_of}
 use Rattle.run_threads.specs.SetAside.{HasSetAside}
 use Rattle.run_threads.specs.Starts.{start_of}

@@ -11,6 +11,7 @@ use Rattle.pmem_trait.specs.Sights.{AtEveryMoment, Sight, state_now}
 use Rattle.pmem_trait.specs.declared.medium.Medium.{Ghosts}
 use Rattle.pmem_trait.proofs.Told.{settled_image}
 use Rattle.redo_record.proofs.Recovered.{home_sizes, images_at_rest_law}
+use Rattle.redo_record.proofs.WaitingRecords.{consecutive_up}
 use Rattle.back_store.specs.declared.back.Back.{Back}
 use Rattle.back_store.specs.Back.{home_now, idle}
 use Rattle.back_store.specs.BackView.{medium_of, state_of}
@@ -50,6 +51,10 @@ module _ {M : Type 0} {ghosts : Ghosts M} (sight : M → Sight) (o : Opening M g
     };
     ran = kept.ran;
     told = λ seen. kept.told (kept.images.later.is_visible ∙ seen);
+    from =
+        let lawful = kept.by_entries.known.lawful in let low = lawful.from in
+        let up = consecutive_up (state_of b).log.reproduced (state_of b).log.durable lawful.log.led.records lawful.log.led.lead.consecutive in
+        omega arith;
   }
 
 -- where the medium is visible, or all pages are in frames, it is known what the medium gives

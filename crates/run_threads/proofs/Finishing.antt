@@ -44,6 +44,7 @@ module _ (k : Start) (es : List Entry) (last durable : ℕ) (well : Bool) (t : S
     len = run.later.len;
     whole = λ whole. absurd (not_whole whole);
     operates = λ whole. absurd (not_whole whole);
+    from = run.from;
     last_told = λ visible db. subst (λ (ok : Bool). WereTold ok k.setup.first durable (state_now k.sight).told (state_now t).told) well_is (run.told visible);
     ran = (well, run.ran, device);
     cause = cause;
@@ -61,11 +62,13 @@ module _ (k : Start) (es : List Entry) (last durable : ℕ) (well : Bool) (t : S
     whole = λ whole db stands. record {
       all = all;
       none_over = subst (λ (n : ℕ). All (λ d. d.number ≤ n) done) (sym all_durable) (answering.none_over k.setup k.sizes es last durable well k.sight t run synced files done are upto (omega arith));
-      from = omega arith;
+      from = run.from;
+      reaches = tt;
       end = λ before held visible. subst (λ (n : ℕ). End (opening_of k db) done n k.sight t) (sym all_durable)
           (answering.end k.setup k.sizes es last durable well k.sight t run synced files done are upto db stands (seen visible) before held visible (said visible));
     };
     operates = λ whole. operates;
+    from = run.from;
     last_told = λ visible db. subst (λ (ok : Bool). WereTold ok k.setup.first durable (state_now k.sight).told (state_now t).told) went (run.told visible);
     ran = (true, subst (λ (ok : Bool). SomeCalls ok k.sight t) went run.ran, ((λ no. absurd (true≢false no)), (λ device. absurd (let no : ⊥ = cc in no))));
     cause = λ device. absurd (let no : ⊥ = cc in no);

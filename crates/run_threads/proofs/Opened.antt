@@ -36,7 +36,7 @@ use Rattle.dude_engine.specs.Opening.{Opening as RunOpening, last_of}
 use Rattle.dude_engine.specs.Plain.{IsLastTold, IsOpeningOf, LosesFew, most_lost}
 use Rattle.dude_engine.proofs.Numbering.{greatest_within}
 use Rattle.run_threads.specs.Answers.{AnswersOnThreads, KnowsReads, TellsSyncsOnThreads}
-use Rattle.run_threads.specs.Ends.{EndsOnThreads, IsAsOpened, IsWholeOnThreads, RecoversOnThreads}
+use Rattle.run_threads.specs.Ends.{AnyNumber, EndsOnThreads, EndsWhole, IsAsOpened, RecoversOnThreads}
 use Rattle.run_threads.specs.HasRun.{HasRun}
 use Rattle.run_threads.specs.Ran.{RanFrom, Start, StandsAt, opening_of}
 use Rattle.run_threads.specs.Starts.{start_of}
@@ -122,8 +122,9 @@ module _ {M : Type 0} {ghosts : Ghosts M} (o : Opened M ghosts) (run : Run) (thr
     pub ends : EndsOnThreads o files done end last t
     ends = record {
       len = ran.len;
-      whole = λ whole opening is. at_opening (λ (x : RunOpening). IsWholeOnThreads x o.words.items files done last s t) opening is (ran.whole whole opening.database is.stands);
+      whole = λ whole opening is. at_opening (λ (x : RunOpening). EndsWhole AnyNumber x o.words.items files done last s t) opening is (ran.whole whole opening.database is.stands);
       operates = ran.operates;
+      from = ran.from;
       last_told = λ visible opening is. at_opening (λ (x : RunOpening). IsLastTold end x last s t) opening is (ran.last_told visible opening.database);
       ran = ran.ran;
       cause = ran.cause;
@@ -159,6 +160,7 @@ module _ {M : Type 0} {ghosts : Ghosts M} (o : Opened M ghosts) (run : Run) (thr
       }) known_here.is.moments;
       ran = ran_here s;
       told = λ seen. tells_none true o.number o.number (state_now s).told (state_now s).told refl refl;
+      from = omega arith;
     }
 
     none_lost : (files : List (List Request)) (most : ℕ) (db : Database) → StandsAt start db → LosesFew most (opening_of start db) o.words.items [] s s

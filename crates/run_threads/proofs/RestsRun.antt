@@ -36,7 +36,7 @@ use Rattle.dude_engine.specs.Opening.{IsUpToLast, RecoversAmong, RecoversAt, las
 use Rattle.dude_engine.specs.Endings.{End, WasToldLast}
 use Rattle.dude_engine.specs.Plain.{AnswersFiles, LosesFew, most_lost, ran_well}
 use Rattle.dude_engine.proofs.Numbering.{greatest_all, greatest_from, greatest_within}
-use Rattle.run_threads.specs.Answers.{TellsSyncsOnThreads}
+use Rattle.run_threads.specs.Answers.{IsDurable, TellsSyncsOnThreads}
 use Rattle.run_threads.specs.Behind.{RanBehind, reopening}
 use Rattle.run_threads.specs.Ends.{AnyNumber, RecoversOnThreads}
 use Rattle.run_threads.specs.HasRests.{HasRests}
@@ -113,7 +113,7 @@ module _ (k : Start) (es : List Entry) (last : ℕ) (t : Sight) (run : HasRun k.
   told : IsTrue k.sight.is_visible → WereTold (ran_well end) k.setup.first number (state_now k.sight).told (state_now u).told
   told visible = tells_then (ran_well end) k.setup.first last number (state_now k.sight).told (state_now t).told (state_now u).told (run.told visible) (behind.told (run.later.is_visible ∙ visible))
 
-  thread_durable : IsTrue k.sight.is_visible → (d : Done) → Contains threads d → IsTrue (is_sync d.request) → ((d.number ≡ k.setup.first) × ((state_now u).told ≡ (state_now k.sight).told)) ⊎ ((n : ℕ) × WasToldLast n k.sight u × (d.number ≤ n))
+  thread_durable : IsTrue k.sight.is_visible → (d : Done) → Contains threads d → IsTrue (is_sync d.request) → IsDurable k.setup.first k.sight u d.number
   thread_durable visible d c sync =
       let both = All-contains (λ x. IsTrue (is_sync x.request) → (k.setup.first ≤ x.number) × (x.number ≤ synced)) threads d are.syncs c sync in let low = both.0 in let high = both.1 in let least = behind.from in
       ⊎_elim (λ (none : (number ≡ k.setup.first) × ((state_now u).told ≡ (state_now k.sight).told)). inl ((let is = none.0 in omega arith), none.1))
@@ -126,7 +126,7 @@ module _ (k : Start) (es : List Entry) (last : ℕ) (t : Sight) (run : HasRun k.
     from = of_both (λ d. IsTrue (is_sync d.request) → k.setup.first ≤ d.number)
         (λ d c sync. (All-contains (λ x. IsTrue (is_sync x.request) → (k.setup.first ≤ x.number) × (x.number ≤ synced)) threads d are.syncs c sync).0)
         (λ e c sync. let least = All-contains (λ x. IsTrue (is_sync x.request) → last ≤ x.number) collected e behind.least c sync in omega arith);
-    told = λ visible. of_both (λ d. IsTrue (is_sync d.request) → ((d.number ≡ k.setup.first) × ((state_now u).told ≡ (state_now k.sight).told)) ⊎ ((n : ℕ) × WasToldLast n k.sight u × (d.number ≤ n)))
+    told = λ visible. of_both (λ d. IsTrue (is_sync d.request) → IsDurable k.setup.first k.sight u d.number)
         (thread_durable visible)
         (λ e c sync. let r = All-contains (λ x. IsTrue (is_sync x.request) → (n : ℕ) × WasToldLast n t u × (x.number ≤ n)) collected e (behind.syncs (run.later.is_visible ∙ visible)) c sync in
         inr (r.0, told_since r.0 true k.sight t u run.ran visible r.1, r.2));
@@ -238,6 +238,9 @@ module _ (k : Start) (es : List Entry) (last : ℕ) (t : Sight) (run : HasRun k.
       (numbers.order, numbers.printed, record { later = later_then run.later later.2.later; each = λ visible m from most. absurd (both_ways k.sight.is_visible unseen visible) }))
       (cases_Bool k.sight.is_visible)
 
+  from : k.setup.first ≤ number
+  from = let from = behind.from in omega arith
+
   -- ---- all together
   pub ran_rests : (end ≡ Whole → MakesOperations k.state k.sight u) → RanFrom k files done end number u
   ran_rests operates = record {
@@ -251,10 +254,12 @@ module _ (k : Start) (es : List Entry) (last : ℕ) (t : Sight) (run : HasRun k.
       none_over = of_both (λ d. d.number ≤ number)
           (λ d c. let low = All-contains (λ (x : Done). x.number ≤ last) threads d threads_under c in let from = behind.from in omega arith)
           (λ e c. let most = All-contains (λ (x : Done). x.number ≤ last_of last collected) collected e (greatest_all last collected) c in let is = w.last_is in omega arith);
-      from = let from = behind.from in omega arith;
+      from = from;
+      reaches = tt;
       end = λ before held visible. end_told (seen visible) db stands whole before held visible;
     };
     operates = operates;
+    from = from;
     last_told = λ visible db. told visible;
     ran = (behind.ran.0, ran_then run.ran behind.ran.1, behind.ran.2);
     cause = λ device. risen_later k.sight.faults t.faults u.faults u.faults run.later.faults (behind.cause device) (omega arith);

@@ -22,9 +22,14 @@ pub record AnswersOnThreads (run : Run) (opening : Opening) (files : List (List 
   -- and answered as one thread answers along the printed order
   pub replies : KnowsReads opening.sizes run s → RepliesOfOneThread opening.number opening.sizes.calls opening.database files done
 
--- the number of each `SYNC` is at most the last number told in this call; or it is the opening one, and no number was told
+-- the number is at most the last number told in this call; or it is the opening one, and no number was told
+abbrev pub IsDurable : ℕ → Sight → Sight → ℕ → Type 0
+IsDurable first s t number = ((number ≡ first) × ((state_now t).told ≡ (state_now s).told))
+    ⊎ ((n : ℕ) × WasToldLast n s t × (number ≤ n))
+
+-- the number of each `SYNC` is durable
 abbrev pub AreSyncsDurable : ℕ → List Done → Sight → Sight → Type 0
-AreSyncsDurable first done s t = All (λ d. IsTrue (is_sync d.request) → ((d.number ≡ first) × ((state_now t).told ≡ (state_now s).told)) ⊎ ((n : ℕ) × WasToldLast n s t × (d.number ≤ n))) done
+AreSyncsDurable first done s t = All (λ d. IsTrue (is_sync d.request) → IsDurable first s t d.number) done
 
 -- Sync: the numbers of the `SYNC`s.
 pub record TellsSyncsOnThreads (first : ℕ) (done : List Done) (s t : Sight) : Type 0 where

@@ -40,12 +40,14 @@ AnyNumber order n = Unit {0}
 abbrev pub RecoversOnThreads : Opening → List ℕ → List Done → Sight → Sight → Type 0
 RecoversOnThreads = RecoversAlongRun AnyNumber
 
--- At the end of a whole run all requests are done; the last number, which is none under the opening one or one done, was told last, and
--- every image recovers to it.
-pub record IsWholeOnThreads (opening : Opening) (words : List ℕ) (files : List (List Request)) (done : List Done) (last : ℕ) (s t : Sight) : Type 0 where
+-- At the end of a whole run all requests are done; the last number, which is at least the opening number and each number done, was
+-- told last, and every image recovers to it. It is given which numbers the run may come to, by what is done.
+pub record EndsWhole (Reaches : List Done → ℕ → Type 0) (opening : Opening) (words : List ℕ) (files : List (List Request))
+    (done : List Done) (last : ℕ) (s t : Sight) : Type 0 where
   pub all : AllAreDone files done
   pub none_over : All (λ d. d.number ≤ last) done
   pub from : opening.number ≤ last
+  pub reaches : Reaches done last
   pub end : (before : ℕ) → HoldsOpened before opening.sizes opening.number words s → IsTrue s.is_visible → End opening done last s t
 
 -- End: how a run on threads over this image ends, and what is told.
@@ -53,10 +55,12 @@ pub record EndsOnThreads {M : Type 0} {ghosts : Ghosts M} (o : Opened M ghosts) 
   -- the medium is as long as before
   pub len : t.len ≡ (sight_of o.back).len
   -- at Whole all is done, told and in the home
-  pub whole : end ≡ Whole → (opening : Opening) → IsOpeningOf o opening → IsWholeOnThreads opening o.words.items files done last (sight_of o.back) t
+  pub whole : end ≡ Whole → (opening : Opening) → IsOpeningOf o opening
+      → EndsWhole AnyNumber opening o.words.items files done last (sight_of o.back) t
   -- at Whole the calls made are operations of the log
   pub operates : end ≡ Whole → MakesOperations (state_of o.back) (sight_of o.back) t
-  -- the last number told
+  -- the last number told, which is none under the opening one
+  pub from : o.number ≤ last
   pub last_told : IsTrue (sight_of o.back).is_visible → (opening : Opening) → IsOpeningOf o opening → IsLastTold end opening last (sight_of o.back) t
   -- a call on the medium failed exactly at Device
   pub ran : RanUnlessDevice end (sight_of o.back) t

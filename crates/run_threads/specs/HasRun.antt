@@ -28,6 +28,7 @@ pub record HasRun (z : Setup) (sizes : Sizes) (es : List Entry) (last durable : 
   -- calls were made, of which at most the last one failed
   pub ran : SomeCalls well s t
   pub told : IsTrue s.is_visible → WereTold well z.first durable (state_now s).told (state_now t).told
+  pub from : z.first ≤ durable
 
 -- What was done is what these entries did, and each `SYNC`, which has a number from the first one to one that was made durable.
 pub record AreEntriesDone (sizes : Sizes) (first synced : ℕ) (files : List (List Request)) (es : List Entry) (done : List Done) : Type 0 where

@@ -11,8 +11,8 @@ pub record AreParts (files : List (List Request)) (counts : List ℕ) (parts : L
   pub counted : length files ≤ length counts
 
 -- they are in some such parts
-abbrev pub HasParts : List (List Request) → List ℕ → Type 0
-HasParts files counts = (parts : List (List Request × List Request)) × AreParts files counts parts
+abbrev pub AreInParts : List (List Request) → List ℕ → Type 0
+AreInParts files counts = (parts : List (List Request × List Request)) × AreParts files counts parts
 
 -- whatever the parts, these are the rests
 abbrev pub AreRests : List (List Request) → List ℕ → List (List Request) → Type 0

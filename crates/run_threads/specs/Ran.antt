@@ -1,5 +1,5 @@
 -- What is left of a run on threads, by what it started from.
-use Rattle.std.specs.Prelude.{◌≡◌, ℕ, true, IsTrue, List}
+use Rattle.std.specs.Prelude.{◌≡◌, ℕ, ◌≤◌, true, IsTrue, List}
 use Rattle.dude_base.specs.declared.sizes.Sizes.{Sizes}
 use Rattle.pmem_trait.specs.Sights.{Risen, Sight}
 use Rattle.tatp_model.specs.declared.done.Done.{Done}
@@ -16,7 +16,7 @@ use Rattle.dude_engine.specs.declared.ran.RanEnd.TheVariants.{Device, Whole}
 use Rattle.dude_engine.specs.Opening.{Opening}
 use Rattle.dude_engine.specs.Plain.{IsLastTold, LosesFew, RanUnlessDevice, most_lost, ran_well}
 use Rattle.run_threads.specs.Answers.{TellsSyncsOnThreads}
-use Rattle.run_threads.specs.Ends.{IsWholeOnThreads, RecoversOnThreads}
+use Rattle.run_threads.specs.Ends.{AnyNumber, EndsWhole, RecoversOnThreads}
 
 -- What a run started from: what its transactions were set up with, the sizes of the image, and the back and its medium.
 pub record Start : Type 0 where
@@ -40,8 +40,9 @@ pub record RanFrom (k : Start) (files : List (List Request)) (done : List Done) 
   pub syncs : TellsSyncsOnThreads k.setup.first done k.sight t
   pub moments : (db : Database) → StandsAt k db → RecoversOnThreads (opening_of k db) k.setup.opening done k.sight t
   pub len : t.len ≡ k.sight.len
-  pub whole : end ≡ Whole → (db : Database) → StandsAt k db → IsWholeOnThreads (opening_of k db) k.setup.opening files done last k.sight t
+  pub whole : end ≡ Whole → (db : Database) → StandsAt k db → EndsWhole AnyNumber (opening_of k db) k.setup.opening files done last k.sight t
   pub operates : end ≡ Whole → MakesOperations k.state k.sight t
+  pub from : k.setup.first ≤ last
   pub last_told : IsTrue k.sight.is_visible → (db : Database) → IsLastTold end (opening_of k db) last k.sight t
   pub ran : RanUnlessDevice end k.sight t
   pub cause : end ≡ Device → Risen k.sight.faults t.faults

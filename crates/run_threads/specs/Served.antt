@@ -32,7 +32,8 @@ module _ {M : Type 0} {ghosts : Ghosts M} (sight : M → Sight) where
 
   -- whatever was served so, with so many frames, it ran so
   abbrev pub RunsOn : Sizes → ℕ → List (List Request) → Served M ghosts → Ran M → Type 0
-  RunsOn sizes frames files served ran = (o : Opening M ghosts) → o.terms.frames ≡ frames → HasServed o sizes files served → RanFrom (start_of sight o sizes) files ran.done.items ran.end ran.last (sight ran.medium)
+  RunsOn sizes frames files served ran = (o : Opening M ghosts) → o.terms.frames ≡ frames → HasServed o sizes files served
+      → RanFrom (start_of sight o sizes) files ran.done.items ran.end ran.last (sight ran.medium)
 
   -- some transactions, with so many frames, served first requests of these files
   abbrev pub WasServed : Sizes → ℕ → List (List Request) → Served M ghosts → Type 0

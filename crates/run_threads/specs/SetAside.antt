@@ -31,7 +31,8 @@ module _ {M : Type 0} {ghosts : Ghosts M} (sight : M → Sight) where
 
   -- whatever was set aside so, it ran so
   abbrev pub RunsBehind : Sizes → ℕ → List (List Request) → Closed M ghosts → List Done → List ℕ → Ran M → Type 0
-  RunsBehind sizes frames files c done counts ran = (o : Opening M ghosts) → HasSetAside o sizes frames files c done counts → RanFrom (start_of sight o sizes) files ran.done.items ran.end ran.last (sight ran.medium)
+  RunsBehind sizes frames files c done counts ran = (o : Opening M ghosts) → HasSetAside o sizes frames files c done counts
+      → RanFrom (start_of sight o sizes) files ran.done.items ran.end ran.last (sight ran.medium)
 
   -- some transactions set something aside
   abbrev pub WasSetAside : Sizes → ℕ → List (List Request) → Closed M ghosts → List Done → List ℕ → Type 0

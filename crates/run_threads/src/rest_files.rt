@@ -3,31 +3,31 @@
 ghost use Rattle.std.specs.Prelude.{◌≡◌, ◌+◌, ◌≤◌, IfOk, OnOk, drop, length, map, vec_capacity, vec_len};
 ghost use Rattle.dude_base.specs.declared.limits.TheConstants.{MAX_NUMBER};
 ghost use Rattle.dude_engine.specs.Requests.{request_count};
-ghost use Rattle.run_threads.specs.Parts.{AreRests, HasParts};
+ghost use Rattle.run_threads.specs.Parts.{AreInParts, AreRests};
 
 use std::alloc::{AllocError, Global};
 use tatp_model::{Done, Request};
 
 /// What is left of each file.
-pub(crate) fn rests_of(
+pub(crate) fn left_of_files(
     alloc: Global,
     files: &[Vec<Request>],
     counts: &[u64],
 ) -> Result<Vec<Vec<Request>>, AllocError>
-    requires { HasParts (map (λ f. f.items) files.now) counts.now }
+    requires { AreInParts (map (λ f. f.items) files.now) counts.now }
     ensures { IfOk result (λ rests.
         AreRests (map (λ f. f.items) files.now) counts.now (map (λ f. f.items) rests.items)) }
 {
     let mut rests = Vec::with_capacity(alloc, files.len())?;
     for file in 0..files.len() {
-        let rest = rest_of(alloc, &files[file], counts[file])?;
+        let rest = left_of_file(alloc, &files[file], counts[file])?;
         rests.push_reserved(rest);
     }
     Ok(rests)
 }
 
 /// What is left of a file behind its first requests.
-fn rest_of(alloc: Global, requests: &[Request], count: u64) -> Result<Vec<Request>, AllocError>
+fn left_of_file(alloc: Global, requests: &[Request], count: u64) -> Result<Vec<Request>, AllocError>
     requires { count ≤ length requests.now }
     ensures { IfOk result (λ rest. rest.items ≡ drop count requests.now) }
 {

@@ -5,7 +5,7 @@ ghost use Rattle.dude_engine.specs.Requests.{AreInRange};
 ghost use Rattle.run_threads.specs.SetAside.{RunsBehind, WasSetAside};
 
 use crate::ending::end_with;
-use crate::rest_files::{reserve, rests_of};
+use crate::rest_files::{left_of_files, reserve};
 use crate::union::unite;
 use dude_engine::{Ran, RanEnd, plain};
 use pmem_trait::Medium;
@@ -32,7 +32,7 @@ pub(crate) fn run_rests<M: Medium>(
     ensures { RunsBehind M.sight lay frames (map (λ f. f.items) files.now) closed done.items
         counts.items result }
 {
-    let Ok(rests) = rests_of(alloc, files, counts.as_slice()) else {
+    let Ok(rests) = left_of_files(alloc, files, counts.as_slice()) else {
         return end_with(done, closed, RanEnd::NoMemory);
     };
     let Ok(()) = reserve(&mut done, rests.as_slice()) else {

@@ -34,10 +34,10 @@ use Rattle.stm_pages.specs.Paging.{HasTurn}
 
 -- ---- the state
 read_same : (threads : ℕ) (v : BackState) → GoesOn threads v v
-read_same threads v = record { sizes = refl; durable = omega arith; dead = λ e. e; alive = λ e. e; waits = λ alive t q lt among. among }
+read_same threads v = record { sizes = refl; durable = omega arith; reproduced = omega arith; dead = λ e. e; alive = λ e. e; waits = λ alive t q lt among. among }
 
 read_dead : (threads : ℕ) (v : BackState) → GoesOn threads v (record v { dead = true })
-read_dead threads v = record { sizes = refl; durable = omega arith; dead = λ e. refl; alive = λ e. absurd (false≢true (sym e)); waits = λ alive t q lt among. absurd (false≢true (sym alive)) }
+read_dead threads v = record { sizes = refl; durable = omega arith; reproduced = omega arith; dead = λ e. refl; alive = λ e. absurd (false≢true (sym e)); waits = λ alive t q lt among. absurd (false≢true (sym alive)) }
 
 pub read_goes : (threads : ℕ) (v w : BackState) (result : Result (Unit {0}) BackFault) → w ≡ after_read result v → GoesOn threads v w
 read_goes threads v w (Ok done) is = subst (GoesOn threads v) (sym is) (read_same threads v)

@@ -389,7 +389,7 @@ module _ {M : Type 0} {ghosts : Ghosts M} (sight : M → Sight) (o : Opening M g
           (λ told. record { told = told; view = refl; beside = refl; slots = refl }),
         )
 
-    pub reproduced_acts : (d : ℕ) → d ≤ m.state.log.durable → Acts fact z (raise_reproduced d) id me (WentOn sight o (raise_reproduced d) (record now { shown = d }) me.1 me)
+    pub reproduced_acts : (d : ℕ) → d ≤ m.state.log.reproduced → Acts fact z (raise_reproduced d) id me (WentOn sight o (raise_reproduced d) (record now { shown = d }) me.1 me)
     reproduced_acts d le c xs homes k allowed at f =
         let v : View = me.0.view in let x : Beside = me.0.beside in let there_v = allowed.is_there in
         let at_v = at_map owner_of c.views id v there_v in let y1 : Beside = record x { turn = Some now } in let y2 : Beside = record x { turn = Some (record now { shown = d }) } in

@@ -135,7 +135,7 @@ module _ {M : Type 0} {ghosts : Ghosts M} (sight : M → Sight) (o : Opening M g
         rings = subst (λ (n : ℕ). z.threads ≤ n) (sym (ap (λ u. u.rings) f.sizes)) k.lists.rings;
         pages = ap (λ u. u.pages) f.sizes ∙ k.lists.pages;
         durable = (let a = k.lists.durable in let b = f.durable in omega arith);
-        reproduced = (let a = k.lists.reproduced in let b = f.durable in omega arith);
+        reproduced = (let a = k.lists.reproduced in let b = f.reproduced in omega arith);
         fault = λ j p at met. f.dead (k.lists.fault j p at met);
         persisted = λ j d lt. let p = k.lists.persisted j d lt in let n = (get_or s.persisted j d).number in (had n p.0, old_writes n p.0 ∙ p.1);
         handed = λ n has. ⊎_elim

@@ -39,6 +39,7 @@ module _ (z : Setup) (next : List ℕ) (taken : List (ℕ × RedoRecord)) where
     lawful = lawful;
     sizes = refl;
     durable = omega arith;
+    reproduced = omega arith;
     dead = λ e. e;
     more = [];
     records = refl;
@@ -48,13 +49,14 @@ module _ (z : Setup) (next : List ℕ) (taken : List (ℕ × RedoRecord)) where
   }
 
   module _ (l : BackLists) (v : BackState) (rs : List RedoRecord) (f : Follows z next taken l (lists v rs)) (w : BackState) (sizes : w.log.sizes ≡ v.log.sizes) (durable : v.log.durable ≤ w.log.durable)
-      (dead : v.dead ≡ true → w.dead ≡ true) (alive : w.dead ≡ false → v.dead ≡ false) where
+      (reproduced : v.log.reproduced ≤ w.log.reproduced) (dead : v.dead ≡ true → w.dead ≡ true) (alive : w.dead ≡ false → v.dead ≡ false) where
     -- calls that hand over nothing
     pub follows_on : LawfulLists z.first (lists w rs) → (w.dead ≡ false → (t : ℕ) (q : RedoBundle) → t < z.threads → Contains (waiting_of_ring w t) q → Contains (waiting_of_ring v t) q) → Follows z next taken l (lists w rs)
     follows_on lawful waits = record {
       lawful = lawful;
       sizes = sizes ∙ f.sizes;
       durable = (let a = f.durable in omega arith);
+      reproduced = (let a = f.reproduced in omega arith);
       dead = λ e. dead (f.dead e);
       more = f.more;
       records = f.records;
@@ -70,6 +72,7 @@ module _ (z : Setup) (next : List ℕ) (taken : List (ℕ × RedoRecord)) where
       lawful = lawful;
       sizes = sizes ∙ f.sizes;
       durable = (let a = f.durable in omega arith);
+      reproduced = (let a = f.reproduced in omega arith);
       dead = λ e. dead (f.dead e);
       more = more ++ f.more;
       records = ap (λ ps. more ++ ps) f.records ∙ sym (append_assoc more f.more l.records);

@@ -184,6 +184,7 @@ module _ {M : Type 0} {ghosts : Ghosts M} (sight : M → Sight) (o : Opening M g
       let settled : IsSettled l.state = subst IsSettled (sym is.state) is.settled in record {
         images = every_moment_weaker (λ told image len r. recovers_to z c k l ls (since_of sight o) refl refl told image r) known.moments;
         durable = ls.durable;
+        reproduced = ls.reproduced;
         raised = λ j v at. let up = (k.layers.turn.each j v at).raised in let d = ls.durable in omega arith;
         fault = λ j v at met. ls.fault j (owner_of v) (at_map owner_of c.views j v at) met;
         ran = known.ran;

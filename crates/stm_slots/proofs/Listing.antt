@@ -12,7 +12,7 @@ use Rattle.stm_slots.proofs.Alike.{AreAlike}
 module _ (z : Setup) where
   -- with other owners, of whom none is new
   pub lists_alike : (s : Stage) (os : List Owner) (l : BackLists) (taken : List (ℕ × RedoRecord)) → AreAlike os s.owners → ((j : ℕ) (o : Owner) → get_elem? os j ≡ some o → o.met_fault ≡ true → l.state.dead ≡ true) → ListsKept z s l taken
-      → (turn durable reproduced : ℕ) (entries : List ℕ) → durable ≤ l.state.log.durable → reproduced ≤ l.state.log.durable → ListsKept z (record s { owners = os; turn = turn; durable = durable; reproduced = reproduced; entries = entries }) l taken
+      → (turn durable reproduced : ℕ) (entries : List ℕ) → durable ≤ l.state.log.durable → reproduced ≤ l.state.log.reproduced → ListsKept z (record s { owners = os; turn = turn; durable = durable; reproduced = reproduced; entries = entries }) l taken
   lists_alike s os l taken same fault k turn durable reproduced entries le low = record {
     lawful = k.lawful;
     rings = k.rings;

@@ -85,7 +85,7 @@ module _ {M : Type 0} {ghosts : Ghosts M} (sight : M → Sight) (o : Opening M g
         rings = first.rings;
         pages = first.pages;
         durable = first.durable;
-        reproduced = first.durable;
+        reproduced = first.known.lawful.from;
         fault = λ j p e met. absurd (true≢false (sym met ∙ sym (ap (λ (q : Owner). q.met_fault) (one_owner j p e))));
         persisted = All-nil (λ (r : RedoRecord). HasRecord [] r.number × (writes_in [] r.number ≡ r.writes));
         handed = λ n has. absurd (false≢true has);

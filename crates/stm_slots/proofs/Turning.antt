@@ -135,7 +135,7 @@ module _ {M : Type 0} {ghosts : Ghosts M} (sight : M → Sight) (o : Opening M g
       held = k.held;
     }
 
-    pub raised_reproduced : (d : ℕ) → d ≤ hands.lists.state.log.durable → 0 < s.turn → ((j : ℕ) (p : Owner) → get_elem? s.owners j ≡ some p → p.has_turn ≡ true → j ≡ id) → SlotsKeptBy sight o (record s { reproduced = d }) (set xs id (record x { turn = Some (record hands { shown = d }) })) homes (record hands { shown = d })
+    pub raised_reproduced : (d : ℕ) → d ≤ hands.lists.state.log.reproduced → 0 < s.turn → ((j : ℕ) (p : Owner) → get_elem? s.owners j ≡ some p → p.has_turn ≡ true → j ≡ id) → SlotsKeptBy sight o (record s { reproduced = d }) (set xs id (record x { turn = Some (record hands { shown = d }) })) homes (record hands { shown = d })
     raised_reproduced d le turn alone = let y : Beside = record x { turn = Some (record hands { shown = d }) } in record {
       sized = k.sized;
       seats = length-set xs id y ∙ k.seats;

@@ -76,8 +76,9 @@ module _ {M : Type 0} {ghosts : Ghosts M} (sight : M → Sight) where
   pub record KeptBack (o : Opening M ghosts) (c : State) (b : Back M ghosts) : Type 0 where
     -- at each moment since the start, every image
     pub images : AtEveryMoment (RecoversTo (setup_of sight o) c (state_of b).log.sizes (told_before (since_of sight o))) (start_sight sight o) (sight (medium_of b))
-    -- the durable word, and what views know of it
+    -- the words of the numbers, and what views know of the durable one
     pub durable : c.durable ≤ (state_of b).log.durable
+    pub reproduced : c.reproduced ≤ (state_of b).log.reproduced
     pub raised : (j : ℕ) (v : View) → get_elem? c.views j ≡ some v → v.turn.durable ≤ (state_of b).log.durable
     -- faults, and the number told last
     pub fault : (j : ℕ) (v : View) → get_elem? c.views j ≡ some v → v.turn.met_fault ≡ true → (state_of b).dead ≡ true

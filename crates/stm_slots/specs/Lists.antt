@@ -30,9 +30,9 @@ pub record ListsKept (z : Setup) (s : Stage) (l : BackLists) (taken : List (ℕ 
   pub lawful : LawfulLists z.first l
   pub rings : z.threads ≤ l.state.log.sizes.rings
   pub pages : l.state.log.sizes.pages ≡ z.pages
-  -- the words of the numbers are at most the durable number of the back
+  -- the words of the numbers are at most those of the back
   pub durable : s.durable ≤ l.state.log.durable
-  pub reproduced : s.reproduced ≤ l.state.log.durable
+  pub reproduced : s.reproduced ≤ l.state.log.reproduced
   pub fault : (j : ℕ) (o : Owner) → get_elem? s.owners j ≡ some o → o.met_fault ≡ true → l.state.dead ≡ true
   pub persisted : All (λ r. HasRecord l.records r.number × (writes_in l.records r.number ≡ r.writes)) s.persisted
   pub handed : (n : ℕ) → HasRecord l.records n → HasRecord s.persisted n ⊎ ((k : ℕ) × IsBoxed s k (record { number = n; writes = writes_in l.records n }))

@@ -50,6 +50,7 @@ pub record Follows (z : Setup) (next : List ℕ) (taken : List (ℕ × RedoRecor
   pub lawful : LawfulLists z.first m
   pub sizes : m.state.log.sizes ≡ l.state.log.sizes
   pub durable : l.state.log.durable ≤ m.state.log.durable
+  pub reproduced : l.state.log.reproduced ≤ m.state.log.reproduced
   pub dead : l.state.dead ≡ true → m.state.dead ≡ true
   -- the records handed over since
   pub more : List RedoRecord

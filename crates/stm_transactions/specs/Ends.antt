@@ -24,7 +24,7 @@ module _ {S X K P R : Type 0} {g : Ghosts R} where
   abbrev pub HasDrawLeft : TxOver S X K P R g → Type 0
   HasDrawLeft t = 0 < length (tx_writes t) → 0 < (tx_numbers t).left
 
-  -- The pass is whose it was, and has one entry more, of what is done
+  -- The pass is whose it was, and has one entry more, of what is done: where nothing was written, at the snapshot
   pub record HasCommitted (file index : ℕ) (q : Request) (r : Reply) (t : TxOver S X K P R g) (p : PassSight X) (d : Done) : Type 0 where
     pub rests : IsResting (tx_table t) p
     pub done : d ≡ record { file = file; index = index; number = d.number; wrote = has_writes (tx_writes t); request = q; reply = r }
@@ -34,6 +34,7 @@ module _ {S X K P R : Type 0} {g : Ghosts R} where
     pub turn : (pass_view p).turn ≡ (tx_view t).turn
     pub last : (tx_numbers t).last ≤ d.number
     pub over : 0 < length (tx_writes t) → (tx_numbers t).last < d.number
+    pub reader : tx_writes t ≡ [] → d.number ≡ t.snapshot
     pub numbers : p.numbers ≡ with_refusals (tx_refused t) (after_commit (has_writes (tx_writes t)) (Ok d.number) (tx_table t).setup.boxes (tx_numbers t))
 
   -- It has no entry more, and this is why. That comes only with writes

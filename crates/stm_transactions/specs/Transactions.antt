@@ -10,8 +10,9 @@ use Rattle.word_space.specs.Steps.{stop_of}
 use Rattle.core_events.specs.Setups.{Setup, lock_of}
 use Rattle.core_events.specs.Views.{View}
 use Rattle.core_events.specs.Events.{begin, see_box, view_after}
+use Rattle.core_table.specs.Known.{Known}
 use Rattle.core_table.specs.Layout.{TableSight}
-use Rattle.tx_reading.specs.Looks.{InConflict}
+use Rattle.tx_reading.specs.Owns.{IsOwnStop}
 use Rattle.tx_reading.specs.Reads.{IsReadStop}
 use Rattle.stm_passes.specs.declared.pass_numbers.PassNumbers.{PassNumbers}
 use Rattle.stm_passes.specs.Passes.{PassSight, pass_view}
@@ -20,9 +21,9 @@ use Rattle.stm_transactions.specs.declared.reads.ReadList.{Ghosts}
 use Rattle.stm_transactions.specs.Stops.{CountsStop, after_stop}
 
 -- why a write of the word `at` stopped for another transaction
-abbrev pub IsWriteStop : Setup → ℕ → ℕ → List (ℕ × ℕ) → ℕ → Stop → View → View → Type 0
-IsWriteStop z thread snapshot reads at (Conflict lock seen) v w = InConflict z thread snapshot reads (lock_of z at) lock seen v w
-IsWriteStop z thread snapshot reads at _ v w = ⊥
+abbrev pub IsWriteStop : {X : Type 0} → Setup → ℕ → ℕ → List (ℕ × ℕ) → ℕ → Stop → View → Known X → Type 0
+IsWriteStop z thread snapshot reads at (Conflict lock seen) v k = IsOwnStop z thread snapshot reads (lock_of z at) lock seen v k
+IsWriteStop z thread snapshot reads at _ v k = ⊥
 
 module _ {S X K P R : Type 0} {g : Ghosts R} where
   -- the table that it runs on
@@ -77,7 +78,7 @@ module _ {S X K P R : Type 0} {g : Ghosts R} where
 
   -- Why a write of the word `at` stopped: it would be of a word too many, and no step was made, or a lock hinders it
   abbrev pub StopsWriting : ℕ → TxOver S X K P R g → TxOver S X K P R g → Stop → Type 0
-  StopsWriting at t u stop = ((stop ≡ Wide) × (tx_view u ≡ tx_view t)) ⊎ IsWriteStop (tx_table t).setup t.numbers.thread t.snapshot (tx_reads t) at stop (tx_view t) (tx_view u)
+  StopsWriting at t u stop = ((stop ≡ Wide) × (tx_view u ≡ tx_view t)) ⊎ IsWriteStop (tx_table t).setup t.numbers.thread t.snapshot (tx_reads t) at stop (tx_view t) u.seat.me.0
 
   -- a call that handed on such a Stop, or none, counts refusals as it says
   abbrev pub CountsRefusal : {T : Type 0} → Result T Stop → TxOver S X K P R g → TxOver S X K P R g → Type 0

@@ -1,6 +1,7 @@
 -- What a persist that met a full ring, and what follows it, leave.
-use Rattle.std.proofs.Common.{◌≡◌, ℕ, ◌+◌, ◌<◌, Bool, true, false, [], subst}
+use Rattle.std.proofs.Common.{◌≡◌, ℕ, ◌+◌, ◌<◌, Bool, true, false, [], sym, subst}
 use Rattle.std.specs.Prelude.{Result, Ok, Err, IfOk}
+use Rattle.dude_base.specs.Records.{RedoBundle, first_of}
 use Rattle.pmem_trait.specs.Sights.{Sight}
 use Rattle.pmem_trait.specs.declared.medium.Medium.{Ghosts}
 use Rattle.back_store.specs.Back.{BackState}
@@ -13,15 +14,21 @@ use Rattle.stm_slots.specs.Beside.{Beside}
 use Rattle.stm_slots.specs.declared.home.Home.{Home as TheHome}
 use Rattle.stm_slots.specs.declared.slot.Slot.{Slot}
 use Rattle.stm_slots.specs.declared.opening.Opening.{Opening}
-use Rattle.stm_turns.specs.Bundles.{InTurnWith, IsLate, SteppedBy, SteppedWith}
-use Rattle.stm_turns.specs.Turns.{Advanced, KeepsPast, RisesTo, Stepped}
+use Rattle.stm_turns.specs.Bundles.{FoundFull, InTurnWith, IsFullStill, IsLate, SteppedBy, SteppedWith}
+use Rattle.stm_turns.specs.Turns.{Advanced, IsAnnounced, KeepsPast, RisesTo, Stepped}
 use Rattle.stm_turns.specs.declared.gathering.Gathering.{Gathering}
 use Rattle.stm_turns.proofs.Past.{rises_behind}
 use Rattle.stm_turns.proofs.Seats.{advanced, then_advanced, then_turn}
 
 -- what is known of a persist that found its ring full
-pub late_at : (m : ℕ) (v w : BackState) (result : Result (Unit {0}) BackFault) (used need : ℕ) → result ≡ Err (RingFull used need) → IsLate result m v w → (w ≡ v) × (v.log.reproduced + 1 < m)
-late_at m v w result used need is late = subst (λ (r : Result (Unit {0}) BackFault). IsLate r m v w) is late
+pub late_at : (ring : ℕ) (b : RedoBundle) (v w : BackState) (result : Result (Unit {0}) BackFault) (used need : ℕ) → result ≡ Err (RingFull used need) → IsLate result ring b v w → FoundFull ring b v w × (v.log.reproduced + 1 < first_of b)
+late_at ring b v w result used need is late = subst (λ (r : Result (Unit {0}) BackFault). IsLate r ring b v w) is late
+
+-- where all was announced and reproduced before it was tried again
+pub full_still : (ring : ℕ) (b : RedoBundle) (result : Result Bool BackFault) (v w : BackState) (n : ℕ) → IsAnnounced v n → v.log.reproduced ≡ n → IfOk result (λ done. done ≡ false → FoundFull ring b v w) → IfOk result (λ done. done ≡ false → IsFullStill ring b w)
+full_still ring b (Ok done) v w n announced reproduced found = λ e. let f = found e in
+    subst (IsFullStill ring b) (sym f.0) (record { number = n; announced = announced; reproduced = reproduced; full = f.1 })
+full_still ring b (Err fault) v w n announced reproduced found = tt
 
 -- it rises over what was past before calls that keep that, where it was persisted
 pub rises_after : (m ring : ℕ) (result : Result Bool BackFault) (u v w : BackState) → KeepsPast u v → IfOk result (λ done. done ≡ true → RisesTo m ring v w) → IfOk result (λ done. done ≡ true → RisesTo m ring u w)

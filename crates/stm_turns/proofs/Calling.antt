@@ -12,6 +12,7 @@ use Rattle.dude_base.specs.declared.limits.TheConstants.{PAGE}
 use Rattle.pmem_trait.specs.Sights.{Sight}
 use Rattle.pmem_trait.specs.declared.medium.Medium.{Ghosts}
 use Rattle.redo_record.specs.Waiting.{IsEnd as IsAnyEnd}
+use Rattle.redo_record.proofs.WaitingRecords.{consecutive_up}
 use Rattle.log_waiting.specs.Backlog.{StopsAfter}
 use Rattle.log_waiting.proofs.ReleasedRecords.{released_waiting}
 use Rattle.back_store.specs.declared.back.Back.{Back}
@@ -55,6 +56,7 @@ use Rattle.stm_turns.proofs.Holdings.{called_holding}
 pub record GoesOn (threads : ℕ) (v w : BackState) : Type 0 where
   pub sizes : w.log.sizes ≡ v.log.sizes
   pub durable : v.log.durable ≤ w.log.durable
+  pub reproduced : v.log.reproduced ≤ w.log.reproduced
   pub dead : v.dead ≡ true → w.dead ≡ true
   pub alive : w.dead ≡ false → v.dead ≡ false
   pub waits : w.dead ≡ false → (t : ℕ) (q : RedoBundle) → t < threads → Contains (waiting_of_ring w t) q → Contains (waiting_of_ring v t) q
@@ -71,15 +73,15 @@ alive_unless v r x ok dead = by_case v.dead refl
 
 module _ (threads first : ℕ) (v : BackState) (rs : List RedoRecord) (lawful : LawfulLists first (lists v rs)) where
   goes_same : GoesOn threads v v
-  goes_same = record { sizes = refl; durable = omega arith; dead = λ e. e; alive = λ e. e; waits = λ alive t q lt among. among }
+  goes_same = record { sizes = refl; durable = omega arith; reproduced = omega arith; dead = λ e. e; alive = λ e. e; waits = λ alive t q lt among. among }
 
   goes_dead : GoesOn threads v (record v { dead = true })
-  goes_dead = record { sizes = refl; durable = omega arith; dead = λ e. refl; alive = λ e. absurd (true≢false e); waits = λ alive t q lt among. absurd (true≢false alive) }
+  goes_dead = record { sizes = refl; durable = omega arith; reproduced = omega arith; dead = λ e. refl; alive = λ e. absurd (true≢false e); waits = λ alive t q lt among. absurd (true≢false alive) }
 
   pub announce_goes : (w : BackState) (result : Result ℕ BackFault) → IfOk result (IsEnd v) → w ≡ after_announce result v → (IsErrOf result Dead ↔ (v.dead ≡ true)) → GoesOn threads v w
   announce_goes w (Ok n) end is dead =
       let up = (end_of first (lists v rs) lawful (alive_unless v (Ok n) n refl dead) n end).up in
-      subst (GoesOn threads v) (sym is) (record { sizes = refl; durable = up; dead = λ e. e; alive = λ e. e; waits = λ alive t q lt among. among })
+      subst (GoesOn threads v) (sym is) (record { sizes = refl; durable = up; reproduced = omega arith; dead = λ e. e; alive = λ e. e; waits = λ alive t q lt among. among })
   announce_goes w (Err (RingFull used need)) end is dead = subst (GoesOn threads v) (sym is) goes_same
   announce_goes w (Err Device) end is dead = subst (GoesOn threads v) (sym is) goes_dead
   announce_goes w (Err Dead) end is dead = subst (GoesOn threads v) (sym is) goes_same
@@ -95,10 +97,16 @@ module _ (threads first : ℕ) (v : BackState) (rs : List RedoRecord) (lawful : 
       let alive = alive_unless v r n ok dead in let e = end_of first (lists v rs) lawful alive n end in
       subst (Announced n) (sym is) (record { is = record { alive = alive; durable = refl; next = end.greatest }; reached = e.reached; lacks = e.next })
 
-  pub reproduce_goes : (w : BackState) (most : ℕ) (result : Result ℕ BackFault) → w ≡ after_reproduce result v → threads ≤ length v.log.lanes → GoesOn threads v w
-  reproduce_goes w most (Ok n) is wide = subst (GoesOn threads v) (sym is) (record {
+  -- a reproduction stops at no lesser number
+  stop_over : (most n : ℕ) → StopsAfter v.log most n → v.log.reproduced ≤ n
+  stop_over most n (inl near) = consecutive_up v.log.reproduced n near.0.end.records near.0.end.lead.consecutive
+  stop_over most n (inr next) = let over = next.3.over in omega arith
+
+  pub reproduce_goes : (w : BackState) (most : ℕ) (result : Result ℕ BackFault) → IfOk result (StopsAfter v.log most) → w ≡ after_reproduce result v → threads ≤ length v.log.lanes → GoesOn threads v w
+  reproduce_goes w most (Ok n) stop is wide = subst (GoesOn threads v) (sym is) (record {
     sizes = dite (ℕ_discrete n v.log.reproduced) (λ e. rw (eq-eqb n v.log.reproduced e) refl) (λ o. rw (ne_eqb n v.log.reproduced o) refl);
     durable = (let same : (reproduced v n).log.durable ≡ v.log.durable = dite (ℕ_discrete n v.log.reproduced) (λ e. rw (eq-eqb n v.log.reproduced e) refl) (λ o. rw (ne_eqb n v.log.reproduced o) refl) in omega arith);
+    reproduced = (let over = stop_over most n stop in let there : (reproduced v n).log.reproduced ≡ n = dite (ℕ_discrete n v.log.reproduced) (λ e. rw (eq-eqb n v.log.reproduced e) (sym e)) (λ o. rw (ne_eqb n v.log.reproduced o) refl) in omega arith);
     dead = λ e. same_dead n ∙ e;
     alive = λ e. sym (same_dead n) ∙ e;
     waits = λ alive t q lt among. waits_reproduced v n t q (omega arith) among;
@@ -106,9 +114,9 @@ module _ (threads first : ℕ) (v : BackState) (rs : List RedoRecord) (lawful : 
     where
       same_dead : (n : ℕ) → (reproduced v n).dead ≡ v.dead
       same_dead n = dite (ℕ_discrete n v.log.reproduced) (λ e. rw (eq-eqb n v.log.reproduced e) refl) (λ o. rw (ne_eqb n v.log.reproduced o) refl)
-  reproduce_goes w most (Err (RingFull used need)) is wide = subst (GoesOn threads v) (sym is) goes_same
-  reproduce_goes w most (Err Device) is wide = subst (GoesOn threads v) (sym is) goes_dead
-  reproduce_goes w most (Err Dead) is wide = subst (GoesOn threads v) (sym is) goes_same
+  reproduce_goes w most (Err (RingFull used need)) stop is wide = subst (GoesOn threads v) (sym is) goes_same
+  reproduce_goes w most (Err Device) stop is wide = subst (GoesOn threads v) (sym is) goes_dead
+  reproduce_goes w most (Err Dead) stop is wide = subst (GoesOn threads v) (sym is) goes_same
 
   -- what waits leads to the durable number
   here : IsAnyEnd (waiting_now v) v.log.reproduced v.log.durable
@@ -172,7 +180,7 @@ module _ {M : Type 0} {ghosts : Ghosts M} (sight : M → Sight) (t : TableSight 
       belongs = i.belongs;
       setup = i.setup;
       holding = called_holding sight t.key seat.me h hand i.holding (record h { back = b }) i.holding.records refl refl
-          (follows_on z h.next (boxes_held z hand) i.holding.stale (state_of h.back) i.holding.records i.holding.follows (state_of b) goes.sizes goes.durable goes.dead goes.alive known.lawful goes.waits) known;
+          (follows_on z h.next (boxes_held z hand) i.holding.stale (state_of h.back) i.holding.records i.holding.follows (state_of b) goes.sizes goes.durable goes.reproduced goes.dead goes.alive known.lawful goes.waits) known;
       slots = i.slots;
       same = i.same;
       in_hand = in_hand_on (state_of h.back) (state_of b) i.holding.records hand goes i.in_hand;
@@ -250,10 +258,10 @@ module _ {M : Type 0} {ghosts : Ghosts M} (sight : M → Sight) (t : TableSight 
         }
 
     -- what the seat knows where the records were handed over, or perhaps were
-    abbrev pub handed_holding : v.dead ≡ false → (b : Back M ghosts) → KnownBy (since_of sight t.key) (lists (state_of b) (more ++ rs)) (sight (medium_of b)) → (state_of b).log.sizes ≡ v.log.sizes → v.log.durable ≤ (state_of b).log.durable
+    abbrev pub handed_holding : v.dead ≡ false → (b : Back M ghosts) → KnownBy (since_of sight t.key) (lists (state_of b) (more ++ rs)) (sight (medium_of b)) → (state_of b).log.sizes ≡ v.log.sizes → v.log.durable ≤ (state_of b).log.durable → v.log.reproduced ≤ (state_of b).log.reproduced
         → ((state_of b).dead ≡ false → (u : ℕ) (q : RedoBundle) → u < z.threads → Contains (waiting_of_ring (state_of b) u) q → Contains (waiting_of_ring v u) q ⊎ ((u ≡ g.ring) × (q ≡ bundle))) → Holding sight t.key seat.me.0 (record h { back = b }) w.hand
-    handed_holding alive b known sizes durable waits = called_holding sight t.key seat.me h w.hand w.turn.holding (record h { back = b }) (more ++ rs) refl refl
-        (follows_handed z h.next boxes w.turn.holding.stale v rs w.turn.holding.follows (state_of b) sizes durable (λ e. absurd (true≢false (sym e ∙ alive))) (λ e. alive) more known.lawful (new_with alive)
+    handed_holding alive b known sizes durable reproduced waits = called_holding sight t.key seat.me h w.hand w.turn.holding (record h { back = b }) (more ++ rs) refl refl
+        (follows_handed z h.next boxes w.turn.holding.stale v rs w.turn.holding.follows (state_of b) sizes durable reproduced (λ e. absurd (true≢false (sym e ∙ alive))) (λ e. alive) more known.lawful (new_with alive)
         (λ n has. let o = w.gathered.joined.only n has in (box_held z o.0, subst (λ (r : RedoRecord). Contains boxes (box_held z o.0, r)) o.2 (box_in z w.hand o.0 o.1)))
         (λ e u q lt in_ring. ⊎_elim inl (λ new. inr (rw (new.0, new.1) begins_with)) (waits e u q lt in_ring))) known
 
@@ -264,7 +272,7 @@ module _ {M : Type 0} {ghosts : Ghosts M} (sight : M → Sight) (t : TableSight 
         letting = record {
           belongs = w.turn.belongs;
           setup = w.turn.setup;
-          holding = handed_holding alive b known (ap (λ (s : BackState). s.log.sizes) is) (let e = ap (λ (s : BackState). s.log.durable) is in omega arith)
+          holding = handed_holding alive b known (ap (λ (s : BackState). s.log.sizes) is) (let e = ap (λ (s : BackState). s.log.durable) is in omega arith) (let e = ap (λ (s : BackState). s.log.reproduced) is in omega arith)
               (λ e u q lt among. waits_with_record v g.ring bundle ring_lane u q (subst (λ (s : BackState). Contains (waiting_of_ring s u) q) is among));
           slots_are = w.turn.slots;
           near = λ p among. (w.turn.in_hand p among).near;
@@ -285,7 +293,7 @@ module _ {M : Type 0} {ghosts : Ghosts M} (sight : M → Sight) (t : TableSight 
         letting = record {
           belongs = w.turn.belongs;
           setup = w.turn.setup;
-          holding = handed_holding alive b known (ap (λ (s : BackState). s.log.sizes) is) (let e = ap (λ (s : BackState). s.log.durable) is in omega arith) (λ e u q lt among. absurd (true≢false (sym dead ∙ e)));
+          holding = handed_holding alive b known (ap (λ (s : BackState). s.log.sizes) is) (let e = ap (λ (s : BackState). s.log.durable) is in omega arith) (let e = ap (λ (s : BackState). s.log.reproduced) is in omega arith) (λ e u q lt among. absurd (true≢false (sym dead ∙ e)));
           slots_are = w.turn.slots;
           near = λ p among. (w.turn.in_hand p among).near;
           apart = w.gathered.apart;

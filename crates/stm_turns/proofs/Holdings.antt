@@ -240,7 +240,7 @@ module _ {M : Type 0} {ghosts : Ghosts M} (sight : M → Sight) (o : Opening M g
         (durable_acts sight o id me i.turn old i.hands (lists (state_of h.back) i.records) i.follows d le)
         (λ n w s. raised (raise_durable d) i.shown n 0 w refl same tt (let a = s.told.word.0 in let b = s.told.word.1 in omega arith) s)
 
-    pub reproduced_acts_on : (id d : ℕ) → i.stale.records ≡ i.records → d ≤ (state_of h.back).log.durable → Acts fact z (raise_reproduced d) id me (λ n. Raised sight o (raise_reproduced d) h me 0)
+    pub reproduced_acts_on : (id d : ℕ) → i.stale.records ≡ i.records → d ≤ (state_of h.back).log.reproduced → Acts fact z (raise_reproduced d) id me (λ n. Raised sight o (raise_reproduced d) h me 0)
     reproduced_acts_on id d same le =
         told_less (raise_reproduced d) id me (WentOn sight o (raise_reproduced d) (record now { shown = d }) me.1 me) (λ n. Raised sight o (raise_reproduced d) h me 0)
         (reproduced_acts sight o id me i.turn old i.hands (lists (state_of h.back) i.records) i.follows d le)
@@ -284,7 +284,7 @@ module _ {M : Type 0} {ghosts : Ghosts M} (sight : M → Sight) (o : Opening M g
     pub durable_fits : (id d : ℕ) → IsReached z.first i.records d → (state_of h.back).log.durable ≤ d → Foreseen fact z (raise_durable d) id me.0
     durable_fits id d reached le s hs at = let a = (lists_now id s hs at).durable in ((omega arith), upto_clock id s hs at d reached)
 
-    pub reproduced_fits : (id d : ℕ) → d ≡ me.0.view.turn.durable → d ≡ (state_of h.back).log.durable → Foreseen fact z (raise_reproduced d) id me.0
+    pub reproduced_fits : (id d : ℕ) → d ≡ me.0.view.turn.durable → d ≡ (state_of h.back).log.reproduced → Foreseen fact z (raise_reproduced d) id me.0
     reproduced_fits id d told is s hs at =
         let a = (lists_now id s hs at).reproduced in let turn = hs.kept.layers.turn in let b = turn.durable.drawn in let e = (turn.each id me.0.view (view_there id s hs at)).raised in
         ((omega arith), (omega arith))

@@ -1,5 +1,5 @@
 -- The record of the next number is taken, or left in its box.
-use Rattle.std.proofs.Common.{◌≡◌, ℕ, ◌+◌, ◌<◌, [], ◌∷◌, ◌++◌, length, get_or, refl, sym, ap, ◌∙◌, subst, arith}
+use Rattle.std.proofs.Common.{◌≡◌, ℕ, ◌+◌, ◌<◌, ◌≤◌, [], ◌∷◌, ◌++◌, length, get_or, refl, sym, ap, ◌∙◌, subst, arith}
 use Rattle.std.proofs.lemmas.List.Elements.{Contains-push}
 use Rattle.dude_base.specs.declared.limits.TheConstants.{MAX_SPAN}
 use Rattle.dude_base.specs.Records.{RedoRecord}
@@ -44,6 +44,10 @@ module _ {M : Type 0} {ghosts : Ghosts M} (sight : M → Sight) (t : TableSight 
   TurnSeat = Seat (Slot M ghosts) (Known Beside)
 
   module _ (old : TurnSeat) (h : TheHome M ghosts) (g : Gathering) (w : InTurnWith sight t old h g) where
+    -- each thread has a place ahead
+    pub ahead_wide : z.threads ≤ length g.ahead
+    ahead_wide = (fronts_inside z h.next w.hand g.ahead w.turn.holding.wide w.turn.holding.places w.gathered.fronts).0
+
     -- the places ahead are ones that there are
     pub ahead_inside : (u : ℕ) → u < z.threads → get_or g.ahead u 0 < z.boxes
     ahead_inside = (fronts_inside z h.next w.hand g.ahead w.turn.holding.wide w.turn.holding.places w.gathered.fronts).1

@@ -27,6 +27,7 @@ use Rattle.back_store.specs.Back.{IsPersistFault, ring_full}
 use Rattle.back_store.specs.Answers.{after_persist}
 use Rattle.redo_record.specs.Record.{cells_for}
 use Rattle.back_store.specs.Answers.{with_record}
+use Rattle.stm_turns.specs.Bundles.{FoundFull}
 use Rattle.stm_turns.specs.Turns.{IsPast, KeepsPast, RisesTo}
 
 -- where cells are used something waits
@@ -107,8 +108,9 @@ module _ (first : ℕ) (v : BackState) (rs : List RedoRecord) (lawful : LawfulLi
   }
 
   -- a persist that found its ring full changed nothing, and came too late
-  pub full_late : cells_for (length b.writes) ≤ v.log.sizes.cells → (result : Result (Unit {0}) BackFault) (used need : ℕ) → result ≡ Err (RingFull used need) → (w : BackState) → w ≡ after_persist result thread b v → IfErr result (IsPersistFault v thread b) → (IsErrOf result (ring_full v thread b) ↔ ((v.dead ≡ false) × IsRingFull v thread b)) → (w ≡ v) × (v.log.reproduced + 1 < first_of b)
-  full_late fits result used need full w state only cause = (
-    subst (λ (q : Result (Unit {0}) BackFault). w ≡ after_persist q thread b v) full state,
-    late first v rs lawful thread b inside (cause.0 (full ∙ ap (λ f. Err f) (⊎_elim (λ e. e) (λ o. ⊎_elim (λ e. absurd (full_or_device used need e)) (λ e. absurd (full_or_dead used need e)) o) (subst (λ (q : Result (Unit {0}) BackFault). IfErr q (IsPersistFault v thread b)) full only)))).1 fits newest,
-  )
+  pub full_late : cells_for (length b.writes) ≤ v.log.sizes.cells → (result : Result (Unit {0}) BackFault) (used need : ℕ) → result ≡ Err (RingFull used need) → (w : BackState) → w ≡ after_persist result thread b v → IfErr result (IsPersistFault v thread b) → (IsErrOf result (ring_full v thread b) ↔ ((v.dead ≡ false) × IsRingFull v thread b)) → FoundFull thread b v w × (v.log.reproduced + 1 < first_of b)
+  full_late fits result used need full w state only cause =
+      let is_full = (cause.0 (full ∙ ap (λ f. Err f) (⊎_elim (λ e. e) (λ o. ⊎_elim (λ e. absurd (full_or_device used need e)) (λ e. absurd (full_or_dead used need e)) o) (subst (λ (q : Result (Unit {0}) BackFault). IfErr q (IsPersistFault v thread b)) full only)))).1 in (
+        (subst (λ (q : Result (Unit {0}) BackFault). w ≡ after_persist q thread b v) full state, is_full),
+        late first v rs lawful thread b inside is_full fits newest,
+      )

@@ -1,10 +1,10 @@
 -- The seat with the turn and a gathering: what persists, and what of it stays.
 use Rattle.std.specs.Prelude.{◌≡◌, ◌≢◌, ℕ, ◌+◌, ◌<◌, true, false, List, [], ◌∷◌, ◌++◌, Option, Result, Ok, Err, slice_set}
 use Rattle.std.specs.List.{Contains}
-use Rattle.dude_base.specs.Records.{RedoRecord}
+use Rattle.dude_base.specs.Records.{RedoBundle, RedoRecord, first_of}
 use Rattle.pmem_trait.specs.Sights.{Sight}
 use Rattle.pmem_trait.specs.declared.medium.Medium.{Ghosts}
-use Rattle.back_store.specs.Back.{BackState}
+use Rattle.back_store.specs.Back.{BackState, IsRingFull}
 use Rattle.back_store.specs.BackView.{state_of}
 use Rattle.back_store.specs.declared.back_fault.BackFault.{BackFault}
 use Rattle.back_store.specs.declared.back_fault.BackFault.TheVariants.{RingFull, Device, Dead}
@@ -24,7 +24,7 @@ use Rattle.stm_slots.specs.declared.slot.Slot.TheVariants.{Empty, Record}
 use Rattle.stm_slots.specs.declared.opening.Opening.{Opening}
 use Rattle.stm_turns.specs.Gathered.{AreApart, AreFronts, AreThreads, IsGathered}
 use Rattle.stm_turns.specs.Holding.{Held, Holding, IsHeld, box_held, boxes_held, slots_held, slots_out}
-use Rattle.stm_turns.specs.Turns.{HandedBelow, InTurn, Stepped, settled_view}
+use Rattle.stm_turns.specs.Turns.{HandedBelow, InTurn, IsAnnounced, Stepped, settled_view}
 use Rattle.stm_turns.specs.declared.gathering.Gathering.{Gathering}
 
 -- the number behind this one isn't one that the view drew
@@ -38,12 +38,23 @@ IsAliveUnless (Err Device) v = v.dead ≡ true
 IsAliveUnless (Err Dead) v = v.dead ≡ true
 IsAliveUnless (Err (RingFull used need)) v = v.dead ≡ false
 
--- where the ring was full nothing changed, and the number isn't the next one to reproduce
-abbrev pub IsLate : Result (Unit {0}) BackFault → ℕ → BackState → BackState → Type 0
-IsLate (Err (RingFull used need)) m v w = (w ≡ v) × (v.log.reproduced + 1 < m)
-IsLate (Ok done) m v w = Unit {0}
-IsLate (Err Device) m v w = Unit {0}
-IsLate (Err Dead) m v w = Unit {0}
+-- the ring had no room for the bundle, and nothing changed
+abbrev pub FoundFull : ℕ → RedoBundle → BackState → BackState → Type 0
+FoundFull ring b v w = (w ≡ v) × IsRingFull v ring b
+
+-- where the ring was full nothing changed, and the first number of the bundle isn't the next one to reproduce
+abbrev pub IsLate : Result (Unit {0}) BackFault → ℕ → RedoBundle → BackState → BackState → Type 0
+IsLate (Err (RingFull used need)) ring b v w = FoundFull ring b v w × (v.log.reproduced + 1 < first_of b)
+IsLate (Ok done) ring b v w = Unit {0}
+IsLate (Err Device) ring b v w = Unit {0}
+IsLate (Err Dead) ring b v w = Unit {0}
+
+-- All that leads on is announced and in the home, and the ring still has no room for the bundle
+pub record IsFullStill (ring : ℕ) (b : RedoBundle) (v : BackState) : Type 0 where
+  pub number : ℕ
+  pub announced : IsAnnounced v number
+  pub reproduced : v.log.reproduced ≡ number
+  pub full : IsRingFull v ring b
 
 module _ {M : Type 0} {ghosts : Ghosts M} (sight : M → Sight) (t : TableSight (Opening M ghosts)) where
   -- ---- with a gathering in hand

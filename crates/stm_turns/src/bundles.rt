@@ -3,7 +3,7 @@
 ghost use Rattle.std.specs.Prelude.{◌≡◌, ◌+◌, ◌<◌, [], IfOk, OnOk, OnErr, true, false};
 ghost use Rattle.back_store.specs.BackView.{state_of};
 ghost use Rattle.dude_base.specs.Records.{first_of};
-ghost use Rattle.stm_turns.specs.Bundles.{InTurnWith, IsAliveUnless, IsLate, SteppedBy};
+ghost use Rattle.stm_turns.specs.Bundles.{FoundFull, InTurnWith, IsAliveUnless, IsFullStill, IsLate, SteppedBy};
 ghost use Rattle.stm_turns.specs.Turns.{Advanced, RisesTo, Stepped};
 
 use crate::calls::catch_up;
@@ -29,7 +29,7 @@ fn persist<M: Medium>(
     ensures life { IsAliveUnless result (state_of home.new.back) }
     ensures rises { OnOk result (RisesTo (first_of gathering.now.bundle) gathering.now.ring
         (state_of home.old.back) (state_of home.new.back)) }
-    ensures late { IsLate result (first_of gathering.now.bundle)
+    ensures late { IsLate result gathering.now.ring gathering.now.bundle
         (state_of home.old.back) (state_of home.new.back) }
 {
     match known_back::persist(&mut home.back, gathering.ring, &gathering.bundle) {
@@ -61,6 +61,9 @@ fn persist_or_put_back<M: Medium>(
     ensures rises { IfOk result (λ done. done ≡ true
         → RisesTo (first_of gathering.now.bundle) gathering.now.ring
         (state_of home.old.back) (state_of home.new.back)) }
+    ensures stays { IfOk result (λ done. done ≡ false
+        → FoundFull gathering.now.ring gathering.now.bundle
+        (state_of home.old.back) (state_of home.new.back)) }
     ensures err { OnErr result ((state_of home.new.back).dead ≡ true) }
 {
     match persist(events, seat, home, gathering) {
@@ -90,6 +93,8 @@ fn retry<M: Medium>(
     ensures rises { IfOk result (λ done. done ≡ true
         → RisesTo (first_of gathering.now.bundle) gathering.now.ring
         (state_of home.old.back) (state_of home.new.back)) }
+    ensures stays { IfOk result (λ done. done ≡ false
+        → IsFullStill gathering.now.ring gathering.now.bundle (state_of home.new.back)) }
     ensures err { OnErr result ((state_of home.new.back).dead ≡ true) }
 {
     match catch_up(events, seat, home, durable) {
@@ -119,7 +124,10 @@ pub fn persist_bundle<M: Medium>(
     ensures rises { IfOk result (λ done. done ≡ true
         → RisesTo (first_of gathering.now.bundle) gathering.now.ring
         (state_of home.old.back) (state_of home.new.back)) }
-    // It stays only where its first number isn't the next one to reproduce.
+    // It stays only where its ring is full still when all was reproduced,
+    ensures stays { IfOk result (λ done. done ≡ false
+        → IsFullStill gathering.now.ring gathering.now.bundle (state_of home.new.back)) }
+    // and its first number isn't the next one to reproduce.
     ensures late { IfOk result (λ done. done ≡ false
         → (state_of home.old.back).log.reproduced + 1 < first_of gathering.now.bundle) }
     ensures err { OnErr result ((state_of home.new.back).dead ≡ true) }

@@ -13,8 +13,12 @@ use pmem_trait::Medium;
 use stm_slots::home::Home;
 use stm_slots::slots_rule::Events;
 
-/// Of each thread what was found in front of its boxes: a number, or 0 where there is none to take.
+/// Of each thread what was found in front of its boxes: a number, 0 where there is none to take, and
+/// `LEFT` where its records stay.
 pub type Fronts = [u64; MAX_RINGS as usize];
+
+/// More than any number: nothing is taken any more from a thread whose records stay in their boxes.
+pub const LEFT: u64 = u64::MAX;
 
 /// Looks at one box of each thread, at these places.
 pub fn look_at_all<M: Medium>(
@@ -34,6 +38,51 @@ pub fn look_at_all<M: Medium>(
         fronts[thread as usize] = look(events, seat, home, thread, places[thread as usize]);
     }
     fronts
+}
+
+/// What was found in front of a thread's boxes, after one more look where nothing was. A number up to
+/// `above` is none to take.
+fn look_where_empty<M: Medium>(
+    events: &Events<M>,
+    seat: &mut SlotSeat<M>,
+    home: &Home<M>,
+    thread: u64,
+    place: u64,
+    above: u64,
+    front: u64,
+) -> u64
+    requires turn { HasHome M.sight events.now seat.old home.now }
+    requires thread { thread < events.now.setup.threads }
+    requires place { place < events.now.setup.boxes }
+    ensures step { SteppedOn M.sight events.now seat.old seat.new home.now home.now }
+{
+    if front != 0 {
+        return front;
+    }
+    let number = look(events, seat, home, thread, place);
+    if number > above { number } else { 0 }
+}
+
+/// Looks once more at the box of each thread where nothing was found, at these places. A number up to
+/// `above` is none to take.
+pub fn look_again<M: Medium>(
+    events: &Events<M>,
+    seat: &mut SlotSeat<M>,
+    home: &Home<M>,
+    places: &Fronts,
+    above: u64,
+    fronts: &mut Fronts,
+)
+    requires turn { HasHome M.sight events.now seat.old home.now }
+    requires wide { events.now.setup.threads ≤ length places.now }
+    requires places { (u : ℕ) → u < events.now.setup.threads
+        → slice_index places.now u < events.now.setup.boxes }
+    ensures step { SteppedOn M.sight events.now seat.old seat.new home.now home.now }
+{
+    for thread in 0..events.threads() {
+        let (place, front) = (places[thread as usize], fronts[thread as usize]);
+        fronts[thread as usize] = look_where_empty(events, seat, home, thread, place, above, front);
+    }
 }
 
 /// The first of so many threads that has this number in front.
@@ -122,6 +171,27 @@ fn join_next<M: Medium>(
     true
 }
 
+/// Takes the record of the next number as `join_next` does, if need be after one more look at the
+/// boxes that were empty: it may have been posted since.
+fn join_next_posted<M: Medium>(
+    events: &Events<M>,
+    seat: &mut SlotSeat<M>,
+    home: &Home<M>,
+    gathering: &mut Gathering,
+    fronts: &mut Fronts,
+) -> bool
+    requires with { InTurnWith M.sight events.now seat.old home.now gathering.old }
+    ensures step { SteppedWith M.sight events.now seat.old seat.new home.now gathering.new }
+    ensures alike { BeginsAlike gathering.old gathering.new }
+{
+    if join_next(events, seat, home, gathering, fronts) {
+        return true;
+    }
+    let last = gathering.bundle.last();
+    look_again(events, seat, home, &gathering.ahead, last, fronts);
+    join_next(events, seat, home, gathering, fronts)
+}
+
 /// Takes the records of the numbers that follow, as long as the next one stands in front of some
 /// thread's boxes and the bundle takes it.
 pub fn gather<M: Medium>(
@@ -136,7 +206,7 @@ pub fn gather<M: Medium>(
     ensures alike { BeginsAlike gathering.old gathering.new }
 {
     for _ in 0..MAX_SPAN {
-        if !join_next(events, seat, home, gathering, fronts) {
+        if !join_next_posted(events, seat, home, gathering, fronts) {
             return;
         }
     }

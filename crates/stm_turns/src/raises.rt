@@ -26,7 +26,7 @@ pub fn raise_durable<M: Medium>(
     events.store_by::<Brand, (u64, &Home<M>)>(seat, DURABLE, number, &(number, home));
 }
 
-/// Raises the reproduced word to the back's durable number, to which the durable word was raised.
+/// Raises the reproduced word to the back's reproduced number, to which the durable word was raised.
 pub fn raise_reproduced<M: Medium>(
     events: &Events<M>,
     seat: &mut SlotSeat<M>,
@@ -35,7 +35,7 @@ pub fn raise_reproduced<M: Medium>(
 )
     requires turn { HasHome M.sight events.now seat.old home.now }
     requires raised { seat.old.me.0.view.turn.durable ≡ number }
-    requires number { (state_of home.now.back).log.durable ≡ number }
+    requires number { (state_of home.now.back).log.reproduced ≡ number }
     ensures step { SteppedOn M.sight events.now seat.old seat.new home.now home.now }
     ensures raised { seat.new.me.0.view.turn.durable ≡ number }
     ensures shown { HasShown seat.new number }

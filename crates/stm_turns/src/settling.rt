@@ -10,7 +10,7 @@ use crate::boxes::see_front;
 use crate::bundles::persist_bundle;
 use crate::calls::catch_up;
 use crate::gathering::Gathering;
-use crate::gathers::{Fronts, gather, look_at_all, look_behind};
+use crate::gathers::{Fronts, LEFT, gather, look_again, look_at_all, look_behind};
 use crate::letting::put_all_back;
 use crate::slots::SlotSeat;
 use back_store::BackFault;
@@ -25,7 +25,7 @@ fn least(fronts: &Fronts, threads: u64) -> Option<u64>
     ensures { IfSome result (λ thread. thread < threads) }
 {
     let mut least = None;
-    let mut number = u64::MAX;
+    let mut number = LEFT;
     for thread in 0..threads {
         let front = fronts[thread as usize];
         if front != 0 && front < number {
@@ -40,7 +40,7 @@ fn least(fronts: &Fronts, threads: u64) -> Option<u64>
 fn leave(fronts: &mut Fronts, gathering: &Gathering, next: &Fronts) {
     for thread in 0..MAX_RINGS as usize {
         if gathering.ahead[thread] != next[thread] {
-            fronts[thread] = 0;
+            fronts[thread] = LEFT;
         }
     }
 }
@@ -96,6 +96,8 @@ fn persist_all<M: Medium>(
             return Ok(());
         };
         persist_from(events, seat, home, &mut fronts, thread, durable)?;
+        // While that was written, threads may have posted.
+        look_again(events, seat, home, &home.next, 0, &mut fronts);
     }
     Ok(())
 }

@@ -38,8 +38,7 @@ missed z thread snapshot reads ws held pins v0 r v p frames e v2 w q why is = re
   };
   at = v2;
   why = why.0;
-  found = ap (λ (u : View). u.found) is;
-  count = ap (λ (u : View). u.count) is;
+  undone = is;
   counted = (let a = p.counted in let b = why.1 in let c = ap (λ (u : View). u.count) is in omega arith);
 }
 
@@ -66,8 +65,7 @@ module _ (z : Setup) (thread snapshot : ℕ) (reads : List (ℕ × ℕ)) (ws : L
     };
     at = m.at;
     why = m.why;
-    found = m.found;
-    count = m.count;
+    undone = m.undone;
     counted = (let a = p.counted in let b = m.counted in omega arith);
   }
 

@@ -111,6 +111,7 @@ module _ (z : Setup) (thread place snapshot : ℕ) (a : About) (reads : List (�
         upto = λ k d lt. let le = told.entries k d lt in omega arith;
         over = λ some. ((let f = told.from in omega arith), (λ k d lt. let le = told.entries k d lt in omega arith));
         newest = λ some. λ m h. let le = (told.drawn m h).1 in omega arith;
+        reader = λ none. let l = ap length none in absurd (omega arith);
         idle = p.idle;
         next = p.next ∙ (ap (λ (k : ℕ). place_behind z k) next3 ∙ sym (next_some z ws v.box.next some));
       }

@@ -49,6 +49,7 @@ pub record HasEntered (z : Setup) (n : ℕ) (a : About) (reads : List (ℕ × �
   pub upto : All (λ e. e.number ≤ n) v.entries
   pub over : 0 < length ws → (z.first < n) × All (λ e. e.number < n) v.entries
   pub newest : 0 < length ws → (m : ℕ) → has v.drawn m ≡ true → m < n
+  pub reader : ws ≡ [] → n ≡ v.tx.snapshot
   pub idle : IsIdle w
   pub next : w.box.next ≡ next_for z ws v.box.next
 
@@ -79,13 +80,12 @@ pub record HasEnded (v w : View) : Type 0 where
   pub idle : IsIdle w
   pub counted : HasNotFallen v.count w.count
 
--- and since a page of the writes couldn't be pinned: the last found word is that page's entry
+-- and since a page of the writes couldn't be pinned: w is the view then, but for the locks and pins that it still had
 pub record HasMissed (z : Setup) (ws : List Write) (stop : Stop) (v w : View) : Type 0 where
   pub ended : HasEnded v w
   pub at : View
   pub why : IsPageStop z ws stop at
-  pub found : w.found ≡ at.found
-  pub count : w.count ≡ at.count
+  pub undone : w ≡ record at { tx = record at.tx { owned = [] }; paging = record at.paging { pins = [] } }
   pub counted : HasRisen v.count w.count
 
 -- why a commit with writes was lost

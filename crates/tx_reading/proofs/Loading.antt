@@ -191,13 +191,12 @@ module _ (z : Setup) (thread snapshot at frame : ℕ) (reads pins : List (ℕ ×
               counted = count4;
               why = inl (
                 refl,
-                inr (
-                  seen,
-                  record {
-                    differ = λ e. other (sym e);
-                    looked_other = λ own. other (told.owned (subst (λ (l : List (ℕ × ℕ)). Keeps l (lock_of z at)) (sym owned3) (g.own own)) ∙ (ap own_word thread3 ∙ sym own));
-                    seen_other = λ own. other (own ∙ sym (g.owned (subst (λ (l : List (ℕ × ℕ)). Keeps l (lock_of z at)) owned3 (told.own (seated.no_number none).0 (own ∙ ap own_word (sym thread3))))));
-                  },
-                ),
+                inr (record {
+                  looked = seen;
+                  look = ap (λ (w : View). w.tx.look) e4 ∙ g.look;
+                  differ = λ e. other (sym e);
+                  looked_other = λ own. other (told.owned (subst (λ (l : List (ℕ × ℕ)). Keeps l (lock_of z at)) (sym owned3) (g.own own)) ∙ (ap own_word thread3 ∙ sym own));
+                  seen_other = λ own. other (own ∙ sym (g.owned (subst (λ (l : List (ℕ × ℕ)). Keeps l (lock_of z at)) owned3 (told.own (seated.no_number none).0 (own ∙ ap own_word (sym thread3))))));
+                }),
               );
             }

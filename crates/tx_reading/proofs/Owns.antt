@@ -1,5 +1,5 @@
 -- A lock is taken under a look that was good.
-use Rattle.std.proofs.Common.{◌≡◌, ◌≢◌, ℕ, ◌*◌, ◌/◌, ◌<◌, ◌≤◌, ◌==◌, ◌&&◌, leb, true, List, [], ◌∷◌, ◌++◌, refl, sym, ap, ◌∙◌, subst, inl, inr, eq-eqb, ne_eqb, arith}
+use Rattle.std.proofs.Common.{◌≡◌, ◌≢◌, ℕ, ◌*◌, ◌/◌, ◌<◌, ◌≤◌, ◌==◌, ◌&&◌, leb, true, List, [], ◌∷◌, ◌++◌, refl, sym, ap, ◌∙◌, subst, inr, eq-eqb, ne_eqb, arith}
 use Rattle.std.specs.Prelude.{Some, None}
 use Rattle.std.proofs.lemmas.Bool.{eqb-true, leb-true, and_parts}
 use Rattle.dude_base.specs.declared.write.Write.{Write}
@@ -10,8 +10,9 @@ use Rattle.core_events.specs.Views.{View, Transaction, the_lock}
 use Rattle.core_events.specs.Events.{take, is_good, own_word, looked_word, noticed, view_after}
 use Rattle.core_events.specs.Conditions.{May}
 use Rattle.core_events.specs.Telling.{IsSeated, LockTold}
-use Rattle.tx_reading.specs.Looks.{HasGoodLook, HasNoLook, InConflict, IsReading, Within}
-use Rattle.tx_reading.specs.Owns.{AfterOwn}
+use Rattle.core_table.specs.Known.{Known, known_after}
+use Rattle.tx_reading.specs.Looks.{HasChanged, HasGoodLook, HasNoLook, IsReading, Within}
+use Rattle.tx_reading.specs.Owns.{AfterOwn, IsOwnStop}
 use Rattle.tx_reading.specs.Pairs.{pairs_of}
 use Rattle.tx_reading.proofs.Pairs.{find_pairs, pairs_push}
 use Rattle.tx_reading.specs.Seats.{HasNotFallen}
@@ -94,24 +95,31 @@ module _ (z : Setup) (thread snapshot lock : ℕ) (reads : List (ℕ × ℕ)) (h
           subst (λ (l : List (ℕ × ℕ)). AfterOwn l s2 v v3) (ap (λ (t : Transaction). t.owned) g.tx ∙ owned)
           (after_take (record v2.tx { look = Some (lock, m); loaded = None }) (noticed (the_lock lock) m (record v2 { tx = record v2.tx { look = Some (lock, m); loaded = None } })) (lost other) refl refl refl (omega arith))
 
-      pub take_conflict : LockTold z v2 lock m → IsSeated z v2 → m ≢ seen → InConflict z thread snapshot reads lock lock m v v3
-      take_conflict told seated other =
+      -- another word was found than the one that was looked at
+      pub take_changed : LockTold z v2 lock m → IsSeated z v2 → m ≢ seen → HasChanged thread lock m v2
+      take_changed told seated other =
           let none_drawn : v2.tx.hand.number ≡ 0 = ap (λ (t : Transaction). t.hand.number) g.tx ∙ x.steady.undrawn.no_number in
           record {
-            found = ap (λ (w : View). w.found) (lost other);
-            counted = (let c = g.counted in let d = ap (λ (w : View). w.count) (lost other) in omega arith);
-            why = inl (
-              refl,
-              inr (
-                seen,
-                record {
-                  differ = λ e. other (sym e);
-                  looked_other = not_own;
-                  seen_other = λ own. let k = told.own (seated.no_number none_drawn).0 (own ∙ ap own_word (sym take_thread)) in not_kept k.0 (ap (λ (l : List (ℕ × ℕ)). find l lock) (sym (ap (λ (t : Transaction). t.owned) g.tx)) ∙ k.1);
-                },
-              ),
-            );
+            looked = seen;
+            look = g.look;
+            differ = λ e. other (sym e);
+            looked_other = not_own;
+            seen_other = λ own. let k = told.own (seated.no_number none_drawn).0 (own ∙ ap own_word (sym take_thread)) in not_kept k.0 (ap (λ (l : List (ℕ × ℕ)). find l lock) (sym (ap (λ (t : Transaction). t.owned) g.tx)) ∙ k.1);
           }
+
+      pub take_failed : {X : Type 0} (k2 k3 : Known X) → k2.view ≡ v2 → k3.view ≡ v3 → k3 ≡ known_after z (take lock) k2 m → LockTold z v2 lock m → IsSeated z v2 → m ≢ seen
+          → IsOwnStop z thread snapshot reads lock lock m v k3
+      take_failed k2 k3 e2 e3 tried told seated other =
+          inr (
+            refl,
+            record {
+              before = k2;
+              tried = tried;
+              changed = subst (HasChanged thread lock m) (sym e2) (take_changed told seated other);
+              found = ap (λ (w : View). w.found) (e3 ∙ lost other);
+              counted = (let c = g.counted in let d = ap (λ (w : View). w.count) (e3 ∙ lost other) in omega arith);
+            },
+          )
 
       pub take_won : m ≡ seen → AfterOwn (pairs_of (held ++ (record { at = lock; value = seen }) ∷ [])) s2 v v3
       take_won same =

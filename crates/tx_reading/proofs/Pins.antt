@@ -6,13 +6,13 @@ use Rattle.word_space.specs.declared.stop.Stop.TheVariants.{Out, Busy}
 use Rattle.core_events.specs.Setups.{Setup, ENTRY, frame_in}
 use Rattle.core_events.specs.Keyed.{find, without, or_else}
 use Rattle.core_events.specs.Views.{View, Part, the_entry}
-use Rattle.core_events.specs.Events.{entry, pin, unpin, kept_entry, view_after, one_more}
+use Rattle.core_events.specs.Events.{Event, entry, pin, unpin, kept_entry, view_after, one_more}
 use Rattle.core_events.specs.Conditions.{May}
 use Rattle.core_events.specs.Telling.{EntryTold, IsSeated}
 use Rattle.core_events.proofs.Lists.{find_head}
-use Rattle.core_table.specs.Known.{Known}
+use Rattle.core_table.specs.Known.{Known, known_after}
 use Rattle.core_table.specs.Layout.{TableSight}
-use Rattle.core_table.specs.Steps.{BelongsTo, HasMade, HasFound}
+use Rattle.core_table.specs.Steps.{BelongsTo, HasMade, HasFound, IsAfter}
 use Rattle.atomic_table.specs.declared.shared.Seat.{Seat}
 use Rattle.tx_reading.specs.declared.pinned.Pinned.{Pinned}
 use Rattle.tx_reading.specs.Pins.{IsNotPinned, IsPinning, Paged, pin_list}
@@ -27,6 +27,13 @@ module _ {S X K : Type 0} (t : TableSight K) where
 
   pub stays_once : (e : _) (n : ℕ) (s u : Seat S (Known X)) → HasFound t e s u n → Stays t s u
   stays_once e n s u m = stays_made e s u m.made
+
+  -- what the seat knows behind an event that found the number n
+  pub known_found : (e : Event) (n : ℕ) (s u : Seat S (Known X)) → IsAfter t e s u n → HasFound t e s u n → u.me.0 ≡ known_after t.setup e s.me.0 n
+  known_found e n s u view m =
+      ap (λ (w : View). let k : Known X = record { view = w; beside = u.me.0.beside; made = u.me.0.made } in k) view
+      ∙ (ap (λ (x : X). let k : Known X = record { view = view_after t.setup e s.me.0.view n; beside = x; made = u.me.0.made } in k) m.made.beside
+      ∙ ap (λ (es : List Event). let k : Known X = record { view = view_after t.setup e s.me.0.view n; beside = s.me.0.beside; made = es } in k) m.made.made)
 
   pub stays_on : (s u w : Seat S (Known X)) → Stays t s u → Stays t u w → Stays t s w
   stays_on s u w a b = record { belongs = b.belongs; id = b.id ∙ a.id; beside = b.beside ∙ a.beside; slots = b.slots ∙ a.slots }

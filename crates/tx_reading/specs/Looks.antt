@@ -51,8 +51,10 @@ pub record IsForeign (thread seen : ℕ) : Type 0 where
   pub is : seen ≡ 2 * owner + 1
   pub other : owner ≢ thread
 
--- it differs from the word that was looked at, and neither is the thread's own
-pub record HasChanged (thread looked seen : ℕ) : Type 0 where
+-- it differs from the word that the view saw at its last look, which was of this lock, and neither is the thread's own
+pub record HasChanged (thread lock seen : ℕ) (v : View) : Type 0 where
+  pub looked : ℕ
+  pub look : v.tx.look ≡ Some (lock, looked)
   pub differ : looked ≢ seen
   pub looked_other : looked ≢ own_word (Some thread)
   pub seen_other : seen ≢ own_word (Some thread)
@@ -61,7 +63,7 @@ pub record HasChanged (thread looked seen : ℕ) : Type 0 where
 pub record InConflict (z : Setup) (thread snapshot : ℕ) (reads : List (ℕ × ℕ)) (own lock seen : ℕ) (v w : View) : Type 0 where
   pub found : w.found ≡ Some (the_lock lock, seen)
   pub counted : HasRisen v.count w.count
-  pub why : ((lock ≡ own) × (IsForeign thread seen ⊎ ((y : ℕ) × HasChanged thread y seen))) ⊎ IsOutdated z thread snapshot reads lock seen
+  pub why : ((lock ≡ own) × (IsForeign thread seen ⊎ HasChanged thread lock seen w)) ⊎ IsOutdated z thread snapshot reads lock seen
 
 -- the lock was looked at, and its word is good for this snapshot
 pub record HasGoodLook (thread lock seen snapshot2 : ℕ) (v w : View) : Type 0 where

@@ -3,7 +3,7 @@ use Rattle.pmem_trait.specs.Sights.{Sight}
 use Rattle.back_store.specs.BackView.{sight_of}
 use Rattle.tatp_model.specs.Files.{requests_in}
 use Rattle.run_threads.specs.Answers.{AreSyncsDurable}
-use Rattle.dude_program.proofs.Works.{device_end, ends_whole_on_threads, lost_on_threads, only_ends, operates_idle, ran_end, whole_end}
+use Rattle.dude_program.proofs.Works.{device_end, lost_on_threads, only_ends, operates_idle, ran_end, whole_end}
 use Rattle.dude_program.proofs.worked.work_on_threads.Goals as goal
 
 pub returns : goal.returns
@@ -23,7 +23,7 @@ returns g c opening own =
       syncs_from = λ i d below sync. omega (arith, syncs.from i d below sync, own.number);
       syncs_told = λ visible. subst (λ (n : ℕ). AreSyncsDurable n done s t) (sym own.number) (syncs.told visible);
       moments = c.threaded-ran.ensures.moments opening own;
-      whole = λ none. ends_whole_on_threads opening words (requests_in c.args.files.now) done c.threaded-ran.result.last s t (ends.whole (whole_end end none) opening own);
+      whole = λ none. ends.whole (whole_end end none) opening own;
       operates = λ none. operates_idle opening s t c.requires.opened.idle own.sizes own.number (ends.operates (whole_end end none));
       few_lost = lost_on_threads end opening words done s t ends.ran (λ well. ends.few_lost well opening own);
       ran = ran_end end _ _ ends.ran;

@@ -14,13 +14,13 @@ pub returns-in-Ok-reproduce-clause-goes : goal.returns-in-Ok-reproduce-clause-go
 returns-in-Ok-reproduce-clause-goes g c =
     let k = c.requires.known in let a = c.announce in let b = c.reproduce in let u = state_of c.args.back.now in let v = state_of a.new.back in let w = state_of b.new.back in
     let then = a.ensures.known k.since k.records k.known in
-    then_on u v w (announce_on k.since.first u k.records k.known.lawful v a.result a.ensures.answer a.ensures.state a.ensures.cause.dead) (reproduce_on k.since.first v k.records then.lawful w b.result b.ensures.state)
+    then_on u v w (announce_on k.since.first u k.records k.known.lawful v a.result a.ensures.answer a.ensures.state a.ensures.cause.dead) (reproduce_on k.since.first v k.records then.lawful w c.in-Ok.end b.result b.ensures.answer b.ensures.state)
 
 pub returns-in-Err-clause-goes : goal.returns-in-Err-clause-goes
 returns-in-Err-clause-goes g c =
     let k = c.requires.known in let a = c.announce in let b = c.reproduce in let u = state_of c.args.back.now in let v = state_of a.new.back in let w = state_of b.new.back in
     let then = a.ensures.known k.since k.records k.known in
-    then_on u v w (announce_on k.since.first u k.records k.known.lawful v a.result a.ensures.answer a.ensures.state a.ensures.cause.dead) (reproduce_on k.since.first v k.records then.lawful w b.result b.ensures.state)
+    then_on u v w (announce_on k.since.first u k.records k.known.lawful v a.result a.ensures.answer a.ensures.state a.ensures.cause.dead) (reproduce_on k.since.first v k.records then.lawful w c.in-Ok.end b.result b.ensures.answer b.ensures.state)
 
 pub returns-in-Ok-reproduce-clause-ok : goal.returns-in-Ok-reproduce-clause-ok
 returns-in-Ok-reproduce-clause-ok g c =

@@ -6,7 +6,7 @@ use Rattle.stm_pages.proofs.fetching.bring_in.Goals as goal
 
 pub raise_reproduced-requires : goal.raise_reproduced-requires
 raise_reproduced-requires g c =
-    let s = c.settle in let ok = c.in-Ok.ensures.ok in record { turn = ([], s.ensures.step.turn); raised = ok.durable; number = ok.is.durable }
+    let s = c.settle in let ok = c.in-Ok.ensures.ok in record { turn = ([], s.ensures.step.turn); raised = ok.durable; number = ok.reproduced }
 
 pub see_entry-requires-clause-turn : goal.see_entry-requires-clause-turn
 see_entry-requires-clause-turn g c =

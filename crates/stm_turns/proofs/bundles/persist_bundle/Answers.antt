@@ -26,12 +26,12 @@ returns-in-Err-RingFull-clause-step g c =
 pub returns-in-Err-RingFull-clause-rises : goal.returns-in-Err-RingFull-clause-rises
 returns-in-Err-RingFull-clause-rises g c =
     let x = c.persist in let q = c.args.gathering.now in let arm = c.in-Err-RingFull in let y = c.retry in let v = state_of c.args.home.now.back in let w = state_of x.new.home.back in
-    rises_from (first_of q.bundle) q.ring y.result v w (state_of y.new.home.back) (late_at (first_of q.bundle) v w x.result arm.field-0-0 arm.field-0-1 (arm.is ∙ ap (λ f. Err f) arm.field-0-is) x.ensures.late).0 y.ensures.rises
+    rises_from (first_of q.bundle) q.ring y.result v w (state_of y.new.home.back) (late_at q.ring q.bundle v w x.result arm.field-0-0 arm.field-0-1 (arm.is ∙ ap (λ f. Err f) arm.field-0-is) x.ensures.late).0.0 y.ensures.rises
 
 pub returns-in-Err-RingFull-clause-late : goal.returns-in-Err-RingFull-clause-late
 returns-in-Err-RingFull-clause-late g c =
     let x = c.persist in let q = c.args.gathering.now in let arm = c.in-Err-RingFull in let y = c.retry in let v = state_of c.args.home.now.back in let w = state_of x.new.home.back in
-    late_from (first_of q.bundle) y.result v (late_at (first_of q.bundle) v w x.result arm.field-0-0 arm.field-0-1 (arm.is ∙ ap (λ f. Err f) arm.field-0-is) x.ensures.late).1
+    late_from (first_of q.bundle) y.result v (late_at q.ring q.bundle v w x.result arm.field-0-0 arm.field-0-1 (arm.is ∙ ap (λ f. Err f) arm.field-0-is) x.ensures.late).1
 
 pub returns-in-Err-Device-clause-step : goal.returns-in-Err-Device-clause-step
 returns-in-Err-Device-clause-step g c =

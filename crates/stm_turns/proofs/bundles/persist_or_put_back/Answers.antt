@@ -1,7 +1,8 @@
 use Rattle.std.proofs.Common.{◌∙◌, ap}
 use Rattle.std.specs.Prelude.{Err}
+use Rattle.back_store.specs.BackView.{state_of}
 use Rattle.back_store.specs.declared.back_fault.BackFault.TheVariants.{RingFull, Device, Dead}
-use Rattle.stm_turns.proofs.Bundling.{stepped_by, then_bare, with_of}
+use Rattle.stm_turns.proofs.Bundling.{late_at, stepped_by, then_bare, with_of}
 use Rattle.stm_turns.proofs.Calling.{may_put_all}
 use Rattle.stm_turns.proofs.bundles.persist_or_put_back.Goals as goal
 
@@ -32,3 +33,8 @@ pub returns-in-Err-Dead-clause-step : goal.returns-in-Err-Dead-clause-step
 returns-in-Err-Dead-clause-step g c =
     let x = c.persist in let arm = c.in-Err-Dead in
     stepped_by g.M.Medium.sight c.args.events.now c.args.seat.now x.new.seat x.new.home c.args.gathering.now x.result (Err Dead) (arm.is ∙ ap (λ f. Err f) arm.field-0-is) x.ensures.step
+
+pub returns-in-Err-RingFull-clause-stays : goal.returns-in-Err-RingFull-clause-stays
+returns-in-Err-RingFull-clause-stays g c =
+    let x = c.persist in let q = c.args.gathering.now in let arm = c.in-Err-RingFull in
+    λ e. (late_at q.ring q.bundle (state_of c.args.home.now.back) (state_of x.new.home.back) x.result arm.field-0-0 arm.field-0-1 (arm.is ∙ ap (λ f. Err f) arm.field-0-is) x.ensures.late).0

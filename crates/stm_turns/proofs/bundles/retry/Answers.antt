@@ -1,7 +1,7 @@
 use Rattle.std.proofs.Common.{[]}
 use Rattle.back_store.specs.BackView.{state_of}
 use Rattle.dude_base.specs.Records.{first_of}
-use Rattle.stm_turns.proofs.Bundling.{rises_after}
+use Rattle.stm_turns.proofs.Bundling.{full_still, rises_after}
 use Rattle.stm_turns.proofs.Calling.{may_put_all, with_on}
 use Rattle.stm_turns.proofs.Seats.{advanced, then_advanced}
 use Rattle.stm_turns.proofs.bundles.retry.Goals as goal
@@ -24,6 +24,11 @@ pub returns-in-Ok-clause-rises : goal.returns-in-Ok-clause-rises
 returns-in-Ok-clause-rises g c =
     let x = c.catch_up in let q = c.args.gathering.now in let y = c.persist_or_put_back in
     rises_after (first_of q.bundle) q.ring y.result (state_of c.args.home.now.back) (state_of x.new.home.back) (state_of y.new.home.back) c.in-Ok.ensures.past y.ensures.rises
+
+pub returns-in-Ok-clause-stays : goal.returns-in-Ok-clause-stays
+returns-in-Ok-clause-stays g c =
+    let x = c.catch_up in let q = c.args.gathering.now in let y = c.persist_or_put_back in let ends = c.in-Ok.ensures.ok in
+    full_still q.ring q.bundle y.result (state_of x.new.home.back) (state_of y.new.home.back) _ ends.is ends.reproduced y.ensures.stays
 
 pub put_all_back-requires-clause-may : goal.put_all_back-requires-clause-may
 put_all_back-requires-clause-may g c =

@@ -15,7 +15,7 @@ returns-in_err-number-clause-step g c =
     let t = c.args.events.now in let seat = c.args.seat.now in let h = c.args.home.now in let sight = g.M.Medium.sight in let a = c.reproduce in let b = a.new.back in let z = setup_of sight t.key in
     λ hand i.
     same_turn sight t seat (record h { back = b }) hand (called_turn sight t seat h hand i b (a.ensures.known (since_of sight t.key) i.holding.records i.holding.known)
-    (reproduce_goes z.threads z.first (state_of h.back) i.holding.records i.holding.known.lawful (state_of b) 0 a.result a.ensures.state (lanes_of_threads sight t seat h hand i)))
+    (reproduce_goes z.threads z.first (state_of h.back) i.holding.records i.holding.known.lawful (state_of b) c.durable-durable.result a.result a.ensures.answer a.ensures.state (lanes_of_threads sight t seat h hand i)))
 
 pub raise_reproduced-requires-clause-turn : goal.raise_reproduced-requires-clause-turn
 raise_reproduced-requires-clause-turn g c =
@@ -23,7 +23,7 @@ raise_reproduced-requires-clause-turn g c =
     let hand = c.requires.turn.0 in let i = c.requires.turn.1 in (
       hand,
       called_turn sight t seat h hand i b (a.ensures.known (since_of sight t.key) i.holding.records i.holding.known)
-          (reproduce_goes z.threads z.first (state_of h.back) i.holding.records i.holding.known.lawful (state_of b) 0 a.result a.ensures.state (lanes_of_threads sight t seat h hand i)),
+          (reproduce_goes z.threads z.first (state_of h.back) i.holding.records i.holding.known.lawful (state_of b) c.durable-durable.result a.result a.ensures.answer a.ensures.state (lanes_of_threads sight t seat h hand i)),
     )
 
 pub raise_reproduced-requires-clause-raised : goal.raise_reproduced-requires-clause-raised
@@ -38,14 +38,14 @@ raise_reproduced-requires-clause-number g c =
     let t = c.args.events.now in let h = c.args.home.now in let sight = g.M.Medium.sight in let a = c.reproduce in let b = a.new.back in let z = setup_of sight t.key in
     let i = c.requires.turn.1 in let ok = c.in_ok-number in let d = c.args.seat.now.me.0.view.turn.durable in
     let stop = subst (λ (d : ℕ). StopsAfter (state_of h.back).log d ok.number) c.durable-durable.ensures.number ok.ensures.answer in
-    (reproduced_ok z.threads z.first (state_of h.back) i.holding.records i.holding.known.lawful (state_of b) d ok.number c.requires.announced stop ok.ensures.state).is.durable
+    (reproduced_ok z.threads z.first (state_of h.back) i.holding.records i.holding.known.lawful (state_of b) d ok.number c.requires.announced stop ok.ensures.state).reproduced
 
 pub returns-clause-step : goal.returns-clause-step
 returns-clause-step g c =
     let t = c.args.events.now in let seat = c.args.seat.now in let h = c.args.home.now in let sight = g.M.Medium.sight in let a = c.reproduce in let b = a.new.back in let z = setup_of sight t.key in
     λ hand i.
     c.raise_reproduced.ensures.step hand (called_turn sight t seat h hand i b (a.ensures.known (since_of sight t.key) i.holding.records i.holding.known)
-    (reproduce_goes z.threads z.first (state_of h.back) i.holding.records i.holding.known.lawful (state_of b) 0 a.result a.ensures.state (lanes_of_threads sight t seat h hand i)))
+    (reproduce_goes z.threads z.first (state_of h.back) i.holding.records i.holding.known.lawful (state_of b) c.durable-durable.result a.result a.ensures.answer a.ensures.state (lanes_of_threads sight t seat h hand i)))
 
 pub returns-clause-ok : goal.returns-clause-ok
 returns-clause-ok g c =
@@ -66,9 +66,9 @@ returns-clause-past g c =
 pub returns-clause-places : goal.returns-clause-places
 returns-clause-places g c =
     let t = c.args.events.now in let h = c.args.home.now in let seat = c.args.seat.now in let sight = g.M.Medium.sight in let a = c.reproduce in let b = a.new.back in let z = setup_of sight t.key in let hand = c.requires.turn.0 in let i = c.requires.turn.1 in
-    record { next = refl; sizes = (reproduce_goes z.threads z.first (state_of h.back) i.holding.records i.holding.known.lawful (state_of b) 0 a.result a.ensures.state (lanes_of_threads sight t seat h hand i)).sizes }
+    record { next = refl; sizes = (reproduce_goes z.threads z.first (state_of h.back) i.holding.records i.holding.known.lawful (state_of b) c.durable-durable.result a.result a.ensures.answer a.ensures.state (lanes_of_threads sight t seat h hand i)).sizes }
 
 pub returns-in_err-number-clause-places : goal.returns-in_err-number-clause-places
 returns-in_err-number-clause-places g c =
     let t = c.args.events.now in let h = c.args.home.now in let seat = c.args.seat.now in let sight = g.M.Medium.sight in let a = c.reproduce in let b = a.new.back in let z = setup_of sight t.key in let hand = c.requires.turn.0 in let i = c.requires.turn.1 in
-    record { next = refl; sizes = (reproduce_goes z.threads z.first (state_of h.back) i.holding.records i.holding.known.lawful (state_of b) 0 a.result a.ensures.state (lanes_of_threads sight t seat h hand i)).sizes }
+    record { next = refl; sizes = (reproduce_goes z.threads z.first (state_of h.back) i.holding.records i.holding.known.lawful (state_of b) c.durable-durable.result a.result a.ensures.answer a.ensures.state (lanes_of_threads sight t seat h hand i)).sizes }

@@ -14,7 +14,7 @@ store_by-requires-clause-fits g c =
 pub store_by-requires-clause-may : goal.store_by-requires-clause-may
 store_by-requires-clause-may g c =
     let t = c.args.events.now in let r = c.requires in let i = r.turn.1 in let seat = c.args.seat.now in let h = c.args.home.now in let sight = g.M.Medium.sight in
-    let le : c.args.number ≤ (state_of h.back).log.durable = omega (arith, r.number) in
+    let le : c.args.number ≤ (state_of h.back).log.reproduced = omega (arith, r.number) in
     may_in_turn sight t seat h r.turn.0 i.belongs i.setup i.holding (raise_reproduced c.args.number) (record { live = i.holding.live; threaded = i.holding.thread; named = tt; can = i.holding.turn }) (λ n. Raised sight t.key (raise_reproduced c.args.number) h seat.me 0)
     (reproduced_acts_on sight t.key seat.me h r.turn.0 i.holding seat.id c.args.number i.same le)
 

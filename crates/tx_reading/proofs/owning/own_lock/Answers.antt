@@ -1,10 +1,12 @@
-use Rattle.std.proofs.Common.{◌≡◌, List, None, subst, sym, ◌∙◌, rules}
+use Rattle.std.proofs.Common.{◌≡◌, List, None, refl, subst, sym, ◌∙◌, rules}
 use Rattle.dude_base.specs.declared.write.Write.{Write}
+use Rattle.core_events.specs.Events.{take}
 use Rattle.tx_reading.specs.Pairs.{pairs_of}
 use Rattle.dude_base.specs.Writes.{written}
 use Rattle.tx_reading.specs.Owns.{AfterOwn}
 use Rattle.tx_reading.proofs.Pairs.{put_new, noted_new}
-use Rattle.tx_reading.proofs.Owns.{take_may, take_won, take_conflict}
+use Rattle.tx_reading.proofs.Pins.{known_found}
+use Rattle.tx_reading.proofs.Owns.{take_may, take_won, take_failed}
 use Rattle.tx_reading.proofs.owning.own_lock.Goals as goal
 
 pub take-found-requires-clause-may : goal.take-found-requires-clause-may
@@ -18,9 +20,11 @@ take-found-requires-clause-may g c =
 
 pub returns-then-found-seen-clause-why : goal.returns-then-found-seen-clause-why
 returns-then-found-seen-clause-why g c =
-    take_conflict c.args.stm.now.events.setup c.args.thread c.args.snapshot.now c.args.lock c.args.reads.now c.args.held.now c.args.seat.now.me.0.view c.requires.reading c.requires.owned (search rules) (search rules)
+    take_failed c.args.stm.now.events.setup c.args.thread c.args.snapshot.now c.args.lock c.args.reads.now c.args.held.now c.args.seat.now.me.0.view c.requires.reading c.requires.owned (search rules) (search rules)
     c.in_ok-look.look.seen c.in_ok-look.look.snapshot c.look_at.new.seat.me.0.view c.in_ok-look.ensures.ok
-    c.take-found.result c.take-found.new.seat.me.0.view c.take-found.ensures.view c.take-found.ensures.found.told.word c.take-found.ensures.found.told.before (λ same. absurd (c.if-found-seen.true same))
+    c.take-found.result c.take-found.new.seat.me.0.view c.take-found.ensures.view c.look_at.new.seat.me.0 c.take-found.new.seat.me.0 refl refl
+    (known_found c.args.stm.now.events (take c.args.lock) c.take-found.result c.look_at.new.seat c.take-found.new.seat c.take-found.ensures.view c.take-found.ensures.found)
+    c.take-found.ensures.found.told.word c.take-found.ensures.found.told.before (λ same. absurd (c.if-found-seen.true same))
 
 pub returns-clause-ok : goal.returns-clause-ok
 returns-clause-ok g c =

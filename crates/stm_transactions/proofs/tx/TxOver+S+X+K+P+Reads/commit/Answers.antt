@@ -39,6 +39,7 @@ returns-clause-ok g c = if_ok c.done_of-done.result _ _ _ c.done_of-done.ensures
       turn = h.turn;
       last = (let u = greatest_upto z.first v.entries d.number h.from h.upto in let l = t.describes.last in omega arith);
       over = λ some. (let u = greatest_under z.first v.entries d.number (h.over some).0 (h.over some).1 in let l = t.describes.last in omega arith);
+      reader = λ none. h.reader none ∙ t.running.snap;
       numbers = refl;
     }))
 

@@ -4,13 +4,13 @@ use Rattle.std.proofs.lemmas.List.{length-map, map_push, take_all}
 use Rattle.tatp_model.specs.declared.request.Request.{Request}
 use Rattle.legal_order.specs.Rests.{rests_of}
 use Rattle.run_threads.proofs.Parting.{as_many, file_at, rest_at}
-use Rattle.run_threads.proofs.rest_files.rests_of.Goals as goal
+use Rattle.run_threads.proofs.rest_files.left_of_files.Goals as goal
 
 pub bounds-counts-file : goal.bounds-counts-file
 bounds-counts-file c = let many = length-map c.args.files.now (λ f. f.items) in let counted = c.requires.1.counted in omega arith
 
-pub rest_of-requires : goal.rest_of-requires
-rest_of-requires c =
+pub left_of_file-requires : goal.left_of_file-requires
+left_of_file-requires c =
     let files = c.args.files.now in let k = c.loop-file.file in let parts = c.requires.0 in let are = c.requires.1 in
     let here = file_at (λ f. f.items) files k c.index-files-file.result c.loop-file-test.true c.index-files-file.is in
     let long = ap (λ (l : List (List Request)). length l) are.files_are in
