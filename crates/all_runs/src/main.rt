@@ -32,6 +32,7 @@ fn follow<R: Threads + Sync>(
         "text_runs" => text_runs::follow(rt, script),
         "stm_runs" => stm_runs::follow(rt, script),
         "program_runs" => program_runs::follow(threads, rt, script),
+        "thread_runs" => thread_runs::follow(threads, rt, script),
         _ => rt.println("no such script"),
     }
 }

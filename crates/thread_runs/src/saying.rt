@@ -1,0 +1,74 @@
+//! What is printed of a run whose first file was held up.
+
+use crate::held::Held;
+use crate::recovered::crashed;
+use std::io;
+use tatp_model::{Done, Reply};
+
+/// Prints how the run ended, what is done, the numbers in rising order, the last number, whether the second file passed while the
+/// first one was held up, and what the two extreme images of a crash recover to.
+pub fn say_held(rt: HostRuntime, held: &Held) -> io::Result<()> {
+    let (end, last) = (held.ran.end, held.ran.last);
+    print!(rt; "{end:?}:")?;
+    for done in &held.ran.done {
+        say_done(rt, done)?;
+    }
+    print!(rt; "\nnumbers")?;
+    say_numbers(rt, &held.ran.done)?;
+    println!(rt; ", last {last}")?;
+    rt.println(if held.was_met {
+        "the second file passed while the first one was held up"
+    } else {
+        "the first file was held up in vain"
+    })?;
+    for later in [false, true] {
+        say_image(rt, held, later)?;
+    }
+    Ok(())
+}
+
+/// Prints which request is done, and how it was answered.
+fn say_done(rt: HostRuntime, done: &Done) -> io::Result<()> {
+    let (file, index) = (done.file, done.index);
+    let reply = match done.reply {
+        Reply::Changed => "changed",
+        _ => "not changed",
+    };
+    print!(rt; " file {file} request {index} {reply}")
+}
+
+/// Prints the numbers of what is done, in rising order.
+fn say_numbers(rt: HostRuntime, done: &[Done]) -> io::Result<()> {
+    let mut numbers = Vec::new(rt.alloc());
+    for done in done {
+        numbers.push(done.number)?;
+    }
+    numbers.sort()?;
+    for number in &numbers {
+        print!(rt; " {number}")?;
+    }
+    Ok(())
+}
+
+/// Prints to what an extreme image of a crash recovers: the number, and the words that aren't those on which the run began.
+fn say_image(rt: HostRuntime, held: &Held, later: bool) -> io::Result<()> {
+    let values = if later { "later" } else { "settled" };
+    match crashed(rt.alloc(), &held.ran.medium, later) {
+        Some((number, home)) => {
+            print!(rt; "{values} values: number {number},")?;
+            say_changed(rt, &held.home, &home)
+        }
+        None => println!(rt; "{values} values: not recovered"),
+    }
+}
+
+/// Prints words that aren't as they were, each behind its place.
+fn say_changed(rt: HostRuntime, before: &[u64], words: &[u64]) -> io::Result<()> {
+    for at in 0..before.len().min(words.len()) {
+        if before[at] != words[at] {
+            let value = words[at];
+            print!(rt; " {at}={value}")?;
+        }
+    }
+    rt.println("")
+}
