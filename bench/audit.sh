@@ -12,7 +12,7 @@
 # or whether a thread set the rest of its file aside after many refusals. So further short runs are made under valgrind's
 # callgrind, which counts calls, by the names of functions that stand in the program: of the one that reads a page to bring it
 # in (`read_page`, but for the pages that are read when the threads are through), and of the one that runs behind the threads
-# what they set aside (`run_rests`; it is called once a run, so runs are counted there and not files). A page that leaves its
+# what they set aside (`plain`; it is called once a run, so runs are counted there and not files). A page that leaves its
 # frame can't be counted so in most builds, since the function that takes its frame (`evict`) stands inside its caller there;
 # but all frames are taken from the start, so each page that is brought in has put another one out. Where a build has no
 # function of a name, it is said that this can't be seen. Under callgrind one thread runs at a time, so these counts say that
@@ -132,7 +132,7 @@ RESTS = "runs with files set aside"
 COUNTED = {
     "pages brought in": ("known_back::calls::read_page", "run_(ending|threads)::"),
     "calls that put a page out": ("stm_pages::entries::evict", None),
-    RESTS: ("run_threads::rests::run_rests", None),
+    RESTS: ("dude_engine::one_thread::plain", None),
 }
 
 
