@@ -11,7 +11,7 @@ use Rattle.dude_base.specs.declared.limits.TheConstants.{MAX_RINGS}
 use Rattle.tatp_text.specs.Number.{is_decimal}
 use Rattle.command_words.specs.declared.command.Command.{Command}
 use Rattle.command_words.specs.declared.command.Command.TheVariants as command
-use Rattle.command_words.specs.Command.{Meaning, FreshRun, FormatImage, RunFiles, RecoverImage, DumpTables, DriveLoad, AuditRun, IsBetween, IsInLimits, alone, are_file_names, audit_of, drive_of, drive_with, format_of, format_with, fresh_of, is_file_name, meaning_of_command, optional_number, run_of, run_with, run_words, word_number}
+use Rattle.command_words.specs.Command.{Meaning, FreshRun, FormatImage, RunFiles, RecoverImage, DumpTables, DriveLoad, AuditRun, ShipFiles, FollowFiles, IsBetween, IsInLimits, alone, are_file_names, audit_of, drive_of, drive_with, follow_of, format_of, format_with, fresh_of, is_file_name, meaning_of_command, optional_number, run_of, run_with, run_words, ship_of, word_number}
 
 -- `IsInLimits`, of a meaning
 abbrev pub IsLawful : Meaning → Type 0
@@ -23,6 +23,8 @@ IsLawful RecoverImage = ⊤
 IsLawful DumpTables = ⊤
 IsLawful (DriveLoad seed count files) = (seed < 2 ^ 64) × (count ≤ 99_999) × IsBetween 1 MAX_RINGS files
 IsLawful (AuditRun printed files) = 0 < length files
+IsLawful (ShipFiles files) = 0 < length files
+IsLawful (FollowFiles files) = 0 < length files
 
 abbrev pub AreLawful : Option Meaning → Type 0
 AreLawful meaning = IfSome meaning IsLawful
@@ -129,6 +131,14 @@ audit-lawful (printed ∷ []) = none-lawful (is_file_name printed) (Some (AuditR
 audit-lawful (printed ∷ file ∷ files) =
     either-lawful (is_file_name printed && are_file_names (file ∷ files)) (Some (AuditRun printed (file ∷ files))) None (omega arith) tt
 
+pub ship-lawful : (words : List (List ℕ)) → AreLawful (ship_of words)
+ship-lawful [] = tt
+ship-lawful (file ∷ files) = either-lawful (are_file_names (file ∷ files)) (Some (ShipFiles (file ∷ files))) None (omega arith) tt
+
+pub follow-lawful : (words : List (List ℕ)) → AreLawful (follow_of words)
+follow-lawful [] = tt
+follow-lawful (file ∷ files) = either-lawful (are_file_names (file ∷ files)) (Some (FollowFiles (file ∷ files))) None (omega arith) tt
+
 pub alone-lawful : (meaning : Meaning) (words : List (List ℕ)) → IsLawful meaning → AreLawful (alone meaning words)
 alone-lawful meaning [] h = h
 alone-lawful meaning (word ∷ more) h = tt
@@ -146,6 +156,12 @@ in-limits (command.Drive s c n) h = h
 in-limits (command.Audit printed files) h =
     let same = length-map files.now rc_str_bytes in
     omega arith
+in-limits (command.Ship files) h =
+    let same = length-map files.now rc_str_bytes in
+    omega arith
+in-limits (command.Follow files) h =
+    let same = length-map files.now rc_str_bytes in
+    omega arith
 
 -- a command that means something lawful is in the limits
 pub limits-in : (c : Option Command) (m : Option Meaning) → AreLawful m → option_map meaning_of_command c ≡ m → IfSome c IsInLimits
@@ -158,4 +174,4 @@ limits-if-ok (Ok c) m h e = limits-in c m h e
 limits-if-ok (Err e) m h x = tt
 
 -- the numbers of each command are in their limits
-pub ruleset lawful = (limits-if-ok, limits-in, fresh-lawful, format-lawful, run-lawful, drive-lawful, audit-lawful, alone-lawful)
+pub ruleset lawful = (limits-if-ok, limits-in, fresh-lawful, format-lawful, run-lawful, drive-lawful, audit-lawful, ship-lawful, follow-lawful, alone-lawful)

@@ -14,6 +14,8 @@ pub record IsOther (name : List ℕ) : Type 0 where
   pub dump : name ≡ codes "dump" → ⊥
   pub drive : name ≡ codes "drive" → ⊥
   pub audit : name ≡ codes "audit" → ⊥
+  pub ship : name ≡ codes "ship" → ⊥
+  pub follow : name ≡ codes "follow" → ⊥
 
 different : (xs ys : List ℕ) → (xs ≡ ys → ⊥) → bytes_eq xs ys ≡ false
 different xs ys apart = false_from_ne_true (bytes_eq xs ys) (λ e. apart ((bytes_eq-Decides xs ys).0 e))
@@ -28,6 +30,8 @@ meaning_of-other name words other =
       different name (codes "dump") other.dump,
       different name (codes "drive") other.drive,
       different name (codes "audit") other.audit,
+      different name (codes "ship") other.ship,
+      different name (codes "follow") other.follow,
     ) refl
 
 -- words whose first is the name of a command

@@ -7,7 +7,7 @@ use Rattle.std.specs.Str.{bytes_eq}
 use Rattle.dude_base.specs.declared.limits.TheConstants.{MAX_RINGS}
 use Rattle.tatp_text.specs.Number.{number_in}
 use Rattle.command_words.specs.declared.command.Command.{Command}
-use Rattle.command_words.specs.declared.command.Command.TheVariants.{Fresh, Format, Run, Recover, Dump, Drive, Audit}
+use Rattle.command_words.specs.declared.command.Command.TheVariants.{Fresh, Format, Run, Recover, Dump, Drive, Audit, Ship, Follow}
 
 -- the command that words mean, with its numbers and the names of its files
 pub data Meaning : Type 0 where
@@ -25,6 +25,10 @@ pub data Meaning : Type 0 where
   DriveLoad : (seed count files : ℕ) → Meaning
   -- say whether this file is the printed run of these files
   AuditRun : (printed : List ℕ) (files : List (List ℕ)) → Meaning
+  -- run these files, and print the bundles of the log as packets
+  ShipFiles : (files : List (List ℕ)) → Meaning
+  -- apply the packets of these files to the image
+  FollowFiles : (files : List (List ℕ)) → Meaning
 
 -- ---- words that are numbers and names
 
@@ -127,6 +131,14 @@ abbrev pub audit_of : List (List ℕ) → Option Meaning
 audit_of [] = None
 audit_of (printed ∷ files) = if is_file_name printed && are_file_names files then Some (AuditRun printed files) else None
 
+-- `ship FILE..`
+abbrev pub ship_of : List (List ℕ) → Option Meaning
+ship_of files = if are_file_names files then Some (ShipFiles files) else None
+
+-- `follow FILE..`
+abbrev pub follow_of : List (List ℕ) → Option Meaning
+follow_of files = if are_file_names files then Some (FollowFiles files) else None
+
 -- ---- all commands
 
 -- the first word is the command; each list of words that isn't one of these is refused
@@ -140,7 +152,9 @@ meaning_of (name ∷ words) =
     else (if bytes_eq name (codes "dump") then alone DumpTables words
     else (if bytes_eq name (codes "drive") then drive_of words
     else (if bytes_eq name (codes "audit") then audit_of words
-    else None))))))
+    else (if bytes_eq name (codes "ship") then ship_of words
+    else (if bytes_eq name (codes "follow") then follow_of words
+    else None))))))))
 
 -- what a command of the code says
 abbrev pub meaning_of_command : Command → Meaning
@@ -151,6 +165,8 @@ meaning_of_command Recover = RecoverImage
 meaning_of_command Dump = DumpTables
 meaning_of_command (Drive seed count files) = DriveLoad seed count files
 meaning_of_command (Audit printed files) = AuditRun printed.now (map rc_str_bytes files.now)
+meaning_of_command (Ship files) = ShipFiles (map rc_str_bytes files.now)
+meaning_of_command (Follow files) = FollowFiles (map rc_str_bytes files.now)
 
 -- a command of the code, or none, means this
 abbrev pub HasMeaning : Option Meaning → Option Command → Type 0
@@ -168,7 +184,7 @@ IsAlone words command result = HasMeaning (behind_name (alone (meaning_of_comman
 abbrev pub IsBetween : ℕ → ℕ → ℕ → Type 0
 IsBetween least greatest number = (least ≤ number) × (number ≤ greatest)
 
--- the numbers of a command are in their limits, and `run` and `audit` have a file
+-- the numbers of a command are in their limits, and `run`, `audit`, `ship` and `follow` have a file
 abbrev pub IsInLimits : Command → Type 0
 IsInLimits (Fresh subscribers file) = IsBetween 1 10_000 subscribers
 IsInLimits (Format subscribers calls rings cells) =
@@ -179,3 +195,5 @@ IsInLimits Recover = ⊤
 IsInLimits Dump = ⊤
 IsInLimits (Drive seed count files) = (seed < 2 ^ 64) × (count ≤ 99_999) × IsBetween 1 MAX_RINGS files
 IsInLimits (Audit printed files) = 0 < length files.now
+IsInLimits (Ship files) = 0 < length files.now
+IsInLimits (Follow files) = 0 < length files.now

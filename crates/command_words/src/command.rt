@@ -6,9 +6,11 @@ ghost use Rattle.command_words.specs.Command.{HasMeaning, IsAlone, IsInLimits, m
 
 use crate::audit::audit_of;
 use crate::drive::drive_of;
+use crate::follow::follow_of;
 use crate::format::format_of;
 use crate::fresh::fresh_of;
 use crate::run::run_of;
+use crate::ship::ship_of;
 use std::alloc::{AllocError, Global};
 use std::rc::RcStr;
 
@@ -52,6 +54,16 @@ pub enum Command<'a> {
         printed: &'a str,
         files: &'a [RcStr],
     },
+    /// Run the requests of the files, of which there is at least one, on one
+    /// thread, and print the bundles of its log as packets.
+    Ship {
+        files: &'a [RcStr],
+    },
+    /// Apply the packets of the files, of which there is at least one, to the
+    /// image.
+    Follow {
+        files: &'a [RcStr],
+    },
 }
 
 /// The command that the words mean; none where they are refused.
@@ -71,6 +83,8 @@ pub fn command_of(alloc: Global, words: &[RcStr]) -> Result<Option<Command<'_>>,
         "dump" => Ok(alone(words, Command::Dump)),
         "drive" => drive_of(alloc, words),
         "audit" => Ok(audit_of(words)),
+        "ship" => Ok(ship_of(words)),
+        "follow" => Ok(follow_of(words)),
         _ => Ok(None),
     }
 }

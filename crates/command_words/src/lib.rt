@@ -7,11 +7,13 @@
 mod audit;
 mod command;
 mod drive;
+mod follow;
 mod form;
 mod format;
 mod fresh;
 mod matches;
 mod numbers;
 mod run;
+mod ship;
 
 pub use command::{Command, command_of};

@@ -1,6 +1,6 @@
 use Rattle.std.proofs.Common.{◌∙◌, codes, refl, sym}
 use Rattle.std.specs.Rc.{rc_str_bytes}
-use Rattle.command_words.specs.Command.{RecoverImage, DumpTables, alone, audit_of, drive_of, format_of, fresh_of, run_of}
+use Rattle.command_words.specs.Command.{RecoverImage, DumpTables, alone, audit_of, drive_of, follow_of, format_of, fresh_of, run_of, ship_of}
 use Rattle.command_words.proofs.Names.{first-named, first-other}
 use Rattle.command_words.proofs.Readings.{means-if-ok}
 use Rattle.command_words.proofs.command.command_of.Goals as goal
@@ -51,6 +51,18 @@ returns-in-audit-clause-meaning c =
     c.audit_of.ensures
     ∙ first-named rc_str_bytes c.args.words.now c.in-Some.name.now (codes "audit") audit_of (λ words. refl) item.3.0 item.1 (sym c.as_str.ensures.value ∙ c.in-audit.is)
 
+pub returns-in-ship-clause-meaning : goal.returns-in-ship-clause-meaning
+returns-in-ship-clause-meaning c =
+    let item = c.in-Some.ensures.item in
+    c.ship_of.ensures
+    ∙ first-named rc_str_bytes c.args.words.now c.in-Some.name.now (codes "ship") ship_of (λ words. refl) item.3.0 item.1 (sym c.as_str.ensures.value ∙ c.in-ship.is)
+
+pub returns-in-follow-clause-meaning : goal.returns-in-follow-clause-meaning
+returns-in-follow-clause-meaning c =
+    let item = c.in-Some.ensures.item in
+    c.follow_of.ensures
+    ∙ first-named rc_str_bytes c.args.words.now c.in-Some.name.now (codes "follow") follow_of (λ words. refl) item.3.0 item.1 (sym c.as_str.ensures.value ∙ c.in-follow.is)
+
 pub returns-in_default-as_str-clause-meaning : goal.returns-in_default-as_str-clause-meaning
 returns-in_default-as_str-clause-meaning c =
     let item = c.in-Some.ensures.item in
@@ -64,4 +76,6 @@ returns-in_default-as_str-clause-meaning c =
       dump = λ e. arm.not-dump (text ∙ e);
       drive = λ e. arm.not-drive (text ∙ e);
       audit = λ e. arm.not-audit (text ∙ e);
+      ship = λ e. arm.not-ship (text ∙ e);
+      follow = λ e. arm.not-follow (text ∙ e);
     }))
