@@ -5,13 +5,15 @@ use Rattle.std.proofs.lemmas.Bool.{cases_eq, ne_eqb}
 use Rattle.std.proofs.lemmas.List.Elements.{All-head, All-tail}
 use Rattle.dude_base.specs.Records.{RedoBundle, first_of, overwritten_by_all}
 use Rattle.dude_base.specs.Writes.{overwritten}
-use Rattle.pmem_trait.specs.Sights.{Extends, Risen, Sight}
+use Rattle.pmem_trait.specs.declared.call.Call.{Call}
+use Rattle.pmem_trait.specs.Sights.{Extends, Risen, Sight, SomeCalls}
+use Rattle.redo_record.specs.BackCalls.{announce_calls}
 use Rattle.redo_record.specs.LogState.{RecoversAmong}
 use Rattle.redo_record.specs.Recovery.{Recovers}
 use Rattle.redo_record.specs.Waiting.{IsArrayAt, Lead, Waiting, Waits}
 use Rattle.redo_record.proofs.WaitingRecords.{waiting_law}
 use Rattle.log_waiting.specs.Backlog.{MayWait, log_of, without_records_to}
-use Rattle.back_store.specs.Answers.{announced, answered, reproduced, with_record}
+use Rattle.back_store.specs.Answers.{Announces, CallsAnswered, ReproducesUnlessDead, announced, answered, reproduced, with_record}
 use Rattle.back_store.specs.Back.{BackState, IsRingFull, home_now, waiting_now}
 use Rattle.back_store.specs.Images.{HasReproduced, HomeStays, RecoversOnTheWay, StillHoldsStore}
 use Rattle.back_store.specs.declared.back_fault.BackFault.{BackFault}
@@ -26,8 +28,8 @@ use Rattle.dude_follow.specs.Packets.{IsPacket}
 -- ---- answers
 
 -- a call that went well
-pub went : (v w : BackState) (s t : Sight) → Extends s t → w.log.sizes ≡ v.log.sizes → w.dead ≡ false → GoesOn true v s w t
-went v w s t later sizes alive = record { later = later; sizes = sizes; cause = λ no. absurd (cc); dead = alive }
+pub went : (v w : BackState) (s t : Sight) → Extends s t → w.log.sizes ≡ v.log.sizes → w.dead ≡ false → SomeCalls true s t → GoesOn true v s w t
+went v w s t later sizes alive ran = record { later = later; sizes = sizes; ran = ran; cause = λ no. absurd (cc); dead = alive }
 
 -- of a back that isn't dead a call fails by its device
 pub failed_so : {X : Type 0} (fault : BackFault) (v w : BackState) (ok : X → BackState) → (fault ≡ Device) ⊎ (fault ≡ Dead) → (let result : Result X BackFault = Err fault in IsErrOf result Dead ↔ (v.dead ≡ true)) → v.dead ≡ false
@@ -36,13 +38,24 @@ failed_so fault v w ok which dead alive state =
     let device : fault ≡ Device = by_device fault v which (λ is. dead.0 (ap Err is)) alive in
     (device, subst (λ f. w ≡ answered (Err f) ok v) device state)
 
-pub went_wrong : (v w : BackState) (s t : Sight) → Extends s t → w ≡ record v { dead = true } → Risen s.faults t.faults → GoesOn false v s w t
-went_wrong v w s t later state cause = record {
+pub went_wrong : (v w : BackState) (s t : Sight) → Extends s t → w ≡ record v { dead = true } → Risen s.faults t.faults → SomeCalls false s t → GoesOn false v s w t
+went_wrong v w s t later state cause ran = record {
   later = later;
   sizes = ap (λ (x : BackState). x.log.sizes) state;
+  ran = ran;
   cause = λ no. cause;
   dead = ap (λ (x : BackState). x.dead) state;
 }
+
+-- the calls of one that failed by its device
+pub persist_ran : (fault : BackFault) (calls : List Call) (s t : Sight) → fault ≡ Device → (let result : Result (Unit {0}) BackFault = Err fault in CallsAnswered result calls s t) → SomeCalls false s t
+persist_ran fault calls s t device made = (calls, subst (λ (f : BackFault). let result : Result (Unit {0}) BackFault = Err f in CallsAnswered result calls s t) device made)
+
+pub announce_ran : (v : BackState) (fault : BackFault) (s t : Sight) → fault ≡ Device → Announces v (Err fault) s t → SomeCalls false s t
+announce_ran v fault s t device is = let own = subst (λ (f : BackFault). Announces v (Err f) s t) device is in (announce_calls own.end, own.made)
+
+pub reproduce_ran : (v : BackState) (most : ℕ) (fault : BackFault) (s t : Sight) → fault ≡ Device → ReproducesUnlessDead v most (Err fault) s t → SomeCalls false s t
+reproduce_ran v most fault s t device is = let own = subst (λ (f : BackFault). ReproducesUnlessDead v most (Err f) s t) device is in (own.made.calls, own.made.made)
 
 -- a reproduction leaves the sizes, and the back alive
 pub record Reproduced (v w : BackState) : Type 0 where

@@ -6,7 +6,7 @@ use Rattle.dude_base.specs.Records.{RedoBundle, first_of, overwritten_by_all}
 use Rattle.pmem_trait.specs.declared.call.Call.{Call}
 use Rattle.pmem_trait.specs.Sights.{AtEveryMoment, CallsMade, Extends, Sight, state_now}
 use Rattle.pmem_trait.proofs.Laws.{every_moment_then, every_moment_weaker}
-use Rattle.pmem_trait.proofs.Runs.{later_then, made_then, risen_later}
+use Rattle.pmem_trait.proofs.Runs.{later_then, made_then, ran_then, risen_later}
 use Rattle.redo_record.specs.Recovery.{AreConsecutive, Recovers}
 use Rattle.redo_record.proofs.Reproducing.{overwritten-append}
 use Rattle.back_store.specs.Back.{BackState}
@@ -67,6 +67,7 @@ pub goes_then : {ok : Bool} (v w x : BackState) (s t u : Sight) → GoesOn true 
 goes_then v w x s t u one other = record {
   later = later_then one.later other.later;
   sizes = other.sizes ∙ one.sizes;
+  ran = ran_then one.ran other.ran;
   cause = λ no. risen_later s.faults t.faults u.faults u.faults one.later.faults (other.cause no) (omega arith);
   dead = other.dead;
 }

@@ -1,6 +1,6 @@
 -- What a follower does with a packet, by what the rule says.
-use Rattle.std.proofs.Common.{◌≡◌, ℕ, ◌+◌, ◌≤◌, false, List, [], ◌∷◌, All, filter, nat_lt, is_ok, Result, Ok, Err, append-nil, refl, sym, ap, ◌∙◌, subst}
-use Rattle.std.specs.Prelude.{IfOk}
+use Rattle.std.proofs.Common.{◌≡◌, ℕ, ◌+◌, ◌≤◌, false, true, List, [], ◌∷◌, All, filter, nat_lt, is_ok, Result, Ok, Err, append-nil, refl, sym, ap, ◌∙◌, subst}
+use Rattle.std.specs.Prelude.{IfOk, OnOk}
 use Rattle.std.proofs.lemmas.List.Elements.{All-filter}
 use Rattle.dude_base.specs.declared.limits.TheConstants.{MAX_NUMBER}
 use Rattle.dude_base.specs.declared.sizes.Sizes.{Sizes}
@@ -8,8 +8,9 @@ use Rattle.dude_base.specs.Image.{image_words}
 use Rattle.dude_base.specs.Records.{RedoBundle, first_of}
 use Rattle.dude_base.specs.Sizes.{IsAccepted}
 use Rattle.pmem_trait.specs.declared.medium.Medium.{Ghosts}
-use Rattle.pmem_trait.specs.Sights.{CallsMade, Sight, state_now}
+use Rattle.pmem_trait.specs.Sights.{CallsMade, Sight, SomeCalls, state_now}
 use Rattle.pmem_trait.proofs.Laws.{every_moment_here}
+use Rattle.pmem_trait.proofs.Runs.{ran_here}
 use Rattle.redo_record.specs.Recovery.{Recovers}
 use Rattle.log_waiting.proofs.EmptyLanes.{none_waiting}
 use Rattle.back_store.specs.Back.{BackState, idle}
@@ -46,7 +47,7 @@ still_packets s z number kept new sizes is packets =
 
 -- ---- nothing is applied
 
-applies_none : (v : BackState) (s : Sight) → Applies [] v s v s
+pub applies_none : (v : BackState) (s : Sight) → Applies [] v s v s
 applies_none v s = record {
   lead = refl;
   overwrites = λ before array is. is;
@@ -83,7 +84,9 @@ module _ {M : Type 0} {ghosts : Ghosts M} (b : RedoBundle) (f g : Follower M gho
     takes = takes;
     ok = (refl, refl);
     applies = subst (λ (r : Replica M ghosts). Applies [] (follower_back f) (follower_sight f) (replica_back r) (replica_sight r)) (sym same) (applies_none (follower_back f) (follower_sight f));
+    ran = subst (λ (r : Replica M ghosts). SomeCalls true (follower_sight f) (replica_sight r)) (sym same) (ran_here (follower_sight f));
     alive = subst (λ (r : Replica M ghosts). (replica_back r).dead ≡ false) (sym same) rests.alive;
+    rests = subst (λ (r : Replica M ghosts). IsAtRest (replica_back r)) (sym same) rests;
     quiet = λ none. (refl, record { back = ap (λ (r : Replica M ghosts). replica_back r) same; medium = ap (λ (r : Replica M ghosts). replica_medium r) same });
     stopped = tt;
     moments = subst (λ (r : Replica M ghosts). RecoversThrough [] (follower_back f) (follower_sight f) (replica_sight r)) (sym same) (moments_none (follower_back f) (follower_sight f) rests room);
@@ -98,9 +101,9 @@ module _ {M : Type 0} {ghosts : Ghosts M} (b : RedoBundle) (f g : Follower M gho
       → GoesOn (is_ok result) (follower_back f) (follower_sight f) (follower_back g) (follower_sight g)
       → AppliesChain (follower_state f).kept b (is_ok result) (follower_back f) (follower_sight f) (follower_back g) (follower_sight g)
       → (follower_state g).kept ≡ filter (λ c. nat_lt (follower_state g).number c.last) (follower_state f).kept
-      → IfOk result (λ taken. taken ≡ Applied (follower_state g).number) → TakesPacket b result f g
+      → IfOk result (λ taken. taken ≡ Applied (follower_state g).number) → OnOk result (IsAtRest (follower_back g)) → TakesPacket b result f g
   unfolding reached
-  takes_next (Ok taken) new first goes chain kept is = record {
+  takes_next (Ok taken) new first goes chain kept is rests = record {
     answer = Applied chain.end;
     packets = b ∷ chain.more;
     after = reached chain.end;
@@ -112,12 +115,14 @@ module _ {M : Type 0} {ghosts : Ghosts M} (b : RedoBundle) (f g : Follower M gho
     );
     ok = (is ∙ ap (λ n. Applied n) (chain.number refl), state_with (follower_state g).number (follower_state g).kept (filter (λ c. nat_lt (follower_state g).number c.last) (follower_state f).kept) kept ∙ ap reached (chain.number refl));
     applies = chain.whole refl;
+    ran = goes.ran;
     alive = goes.dead;
+    rests = rests;
     quiet = λ none. absurd (cc);
     stopped = tt;
     moments = chain.moments;
   }
-  takes_next (Err fault) new first goes chain kept is = record {
+  takes_next (Err fault) new first goes chain kept is rests = record {
     answer = Applied chain.end;
     packets = b ∷ chain.more;
     after = reached chain.end;
@@ -129,7 +134,9 @@ module _ {M : Type 0} {ghosts : Ghosts M} (b : RedoBundle) (f g : Follower M gho
     );
     ok = tt;
     applies = tt;
+    ran = goes.ran;
     alive = tt;
+    rests = tt;
     quiet = λ none. absurd (cc);
     stopped = record { stops = chain.part refl; kept = kept };
     moments = chain.moments;

@@ -5,7 +5,7 @@ use Rattle.dude_base.specs.declared.sizes.Sizes.{Sizes}
 use Rattle.dude_base.specs.Records.{RedoBundle, first_of, overwritten_by_all}
 use Rattle.pmem_trait.specs.declared.call.Call.{Call}
 use Rattle.pmem_trait.specs.Words.{AtLeast}
-use Rattle.pmem_trait.specs.Sights.{AtEveryMoment, CallsMade, Extends, Risen, Sight, state_now}
+use Rattle.pmem_trait.specs.Sights.{AtEveryMoment, CallsMade, Extends, Risen, Sight, SomeCalls, state_now}
 use Rattle.redo_record.specs.BackCalls.{announce_calls}
 use Rattle.redo_record.specs.Images.{sizes_of}
 use Rattle.redo_record.specs.Recovery.{AreConsecutive, Recovers}
@@ -60,11 +60,12 @@ RecoversThrough packets v s t = (before : ℕ) (array : List ℕ) → HoldsArray
 
 -- ---- what calls leave
 
--- What a call leaves, whether it went well or not: the medium's length, and the sizes. Where it failed the count of faults
--- rose, and the back is dead.
+-- What a call leaves, whether it went well or not: the medium's length, and the sizes. Where it failed, just the last call on
+-- the medium did, the count of faults rose, and the back is dead.
 pub record GoesOn (ok : Bool) (v : BackState) (s : Sight) (w : BackState) (t : Sight) : Type 0 where
   pub later : Extends s t
   pub sizes : w.log.sizes ≡ v.log.sizes
+  pub ran : SomeCalls ok s t
   pub cause : ok ≡ false → Risen s.faults t.faults
   pub dead : w.dead ≡ not ok
 

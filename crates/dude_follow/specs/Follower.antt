@@ -1,16 +1,16 @@
 -- What contracts see of a follower, and what it does with a packet.
-use Rattle.std.specs.Prelude.{◌≡◌, ℕ, Bool, List, [], false, filter, nat_lt, IfOk, IsOk, OnErr, OnOk, Result}
+use Rattle.std.specs.Prelude.{◌≡◌, ℕ, Bool, List, [], false, filter, is_ok, nat_lt, IfOk, IsOk, OnErr, OnOk, Result}
 use Rattle.dude_base.specs.declared.sizes.Sizes.{Sizes}
 use Rattle.dude_base.specs.Records.{RedoBundle}
 use Rattle.pmem_trait.specs.declared.medium.Medium.{Ghosts}
-use Rattle.pmem_trait.specs.Sights.{Sight}
+use Rattle.pmem_trait.specs.Sights.{Sight, SomeCalls}
 use Rattle.back_store.specs.Back.{BackState, idle}
 use Rattle.back_store.specs.BackView.{medium_of}
 use Rattle.image_opening.specs.declared.opened.Opened.{Opened}
 use Rattle.dude_follow.specs.declared.follow_fault.FollowFault.{FollowFault}
 use Rattle.dude_follow.specs.declared.follower.Follower.{Follower}
 use Rattle.dude_follow.specs.declared.taken.Taken.{Taken}
-use Rattle.dude_follow.specs.Applying.{Applies, RecoversThrough}
+use Rattle.dude_follow.specs.Applying.{Applies, IsAtRest, RecoversThrough}
 use Rattle.dude_follow.specs.Chain.{AppliesChain, StopsBefore}
 use Rattle.dude_follow.specs.Replica.{replica_back, replica_medium, replica_sight}
 use Rattle.dude_follow.specs.Taking.{FollowerState, Takes}
@@ -79,8 +79,12 @@ pub record TakesPacket {M : Type 0} {ghosts : Ghosts M} (b : RedoBundle) (result
   pub ok : IfOk result (λ taken. (taken ≡ answer) × (follower_state g ≡ after))
   -- and just these packets were applied
   pub applies : OnOk result (Applies packets (follower_back f) (follower_sight f) (follower_back g) (follower_sight g))
-  -- it isn't dead then
+  -- no call on the medium failed but perhaps the last, and that one exactly at a fault
+  pub ran : SomeCalls (is_ok result) (follower_sight f) (follower_sight g)
+  -- at Ok it isn't dead
   pub alive : OnOk result ((follower_back g).dead ≡ false)
+  -- and nothing waits in its back
+  pub rests : OnOk result (IsAtRest (follower_back g))
   -- where the rule applies none, no call is made, and none fails
   pub quiet : packets ≡ [] → IsOk result × MakesNoCall f g
   -- at a fault the packets before one of these were applied

@@ -1,12 +1,12 @@
 //! A follower of a shipped log, over any medium.
 
-ghost use Rattle.std.specs.Prelude.{◌≡◌, ◌+◌, ◌≤◌, ◌↔◌, ℕ, List, All, IfErr, IfOk, IsErrOf, false, is_ok, length, true};
+ghost use Rattle.std.specs.Prelude.{◌≡◌, ◌+◌, ◌≤◌, ◌↔◌, ℕ, List, All, IfErr, IfOk, IsErrOf, OnOk, false, is_ok, length, true};
 ghost use Rattle.dude_base.specs.Records.{first_of};
 ghost use Rattle.pmem_trait.specs.Sights.{Extends, Risen};
 ghost use Rattle.dude_follow.specs.declared.reorder_buffer.TheConstants.{MAX_KEPT};
 ghost use Rattle.dude_follow.specs.declared.follow_fault.FollowFault.TheVariants.{Device, Dead};
 ghost use Rattle.dude_follow.specs.declared.taken.Taken.TheVariants.{Applied};
-ghost use Rattle.dude_follow.specs.Applying.{GoesOn, HoldsArray};
+ghost use Rattle.dude_follow.specs.Applying.{GoesOn, HoldsArray, IsAtRest};
 ghost use Rattle.dude_follow.specs.Packets.{IsPacket};
 ghost use Rattle.dude_follow.specs.Replica.{replica_back};
 
@@ -101,6 +101,7 @@ impl<M: Medium> Follower<M> {
         ensures goes_on { GoesOn (is_ok result) (follower_back self.old) (follower_sight self.old)
             (follower_back self.new) (follower_sight self.new) }
         ensures advances { AdvancesBy b.now (is_ok result) self.old self.new }
+        ensures rests { OnOk result (IsAtRest (follower_back self.new)) }
         ensures room { follower_room self.new ≡ follower_room self.old }
         ensures answer { IfOk result (λ taken. taken ≡ Applied (follower_state self.new).number) }
         ensures fault { IfErr result (λ fault. fault ≡ Device) }

@@ -2,6 +2,7 @@ use Rattle.std.proofs.Common.{◌≡◌, false, is_ok, rules}
 use Rattle.std.proofs.lemmas.List.Elements.{All-contains}
 use Rattle.dude_follow.specs.Packets.{IsPacket}
 use Rattle.dude_follow.specs.Replica.{replica_back, replica_sight}
+use Rattle.dude_follow.proofs.Chains.{goes_then}
 use Rattle.dude_follow.proofs.Progress.{begins, chain_failed, chain_stopped, goes_further, nearer, next_at}
 use Rattle.dude_follow.proofs.chain.apply_chain.Goals as goal
 
@@ -32,6 +33,12 @@ loop-k-smaller g c =
     let next = next_at kept c.in-Some.k c.number.result (replica_back c.loop-k.replica).log.reproduced one found.0 found.1 c.number.ensures.number (search (rules, c.index.ensures)) in
     nearer (replica_back c.loop-k.replica).log.reproduced (replica_back c.apply-in-Some.new.self).log.reproduced one c.in_ok-apply-2.ensures.applies.lead
     (All-contains (IsPacket (replica_back c.args.replica.now).log.sizes) kept one c.requires.packets next.0).numbers.high
+
+pub returns-in_err-apply-2-clause-goes_on : goal.returns-in_err-apply-2-clause-goes_on
+returns-in_err-apply-2-clause-goes_on g c =
+    let err : is_ok c.from_residual-in_err-apply-2.result ≡ false = search rules in
+    rw err (goes_then (replica_back c.args.replica.now) (replica_back c.loop-k.replica) (replica_back c.apply-in-Some.new.self) (replica_sight c.args.replica.now) (replica_sight c.loop-k.replica) (replica_sight c.apply-in-Some.new.self)
+    c.loop-k.invariant.goes c.in_err-apply-2.ensures.goes_on)
 
 pub returns-in_err-apply-2-clause-chain : goal.returns-in_err-apply-2-clause-chain
 returns-in_err-apply-2-clause-chain g c =

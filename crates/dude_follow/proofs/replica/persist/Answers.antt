@@ -8,7 +8,7 @@ use Rattle.back_store.specs.BackView.{sight_of, state_of}
 use Rattle.back_store.specs.declared.back_fault.BackFault.TheVariants.{Device, Dead}
 use Rattle.back_store.proofs.NoTells.{append_tells_nothing, told_same}
 use Rattle.dude_follow.specs.Applying.{WaitsAlone}
-use Rattle.dude_follow.proofs.Applying.{array_stays, failed_so, may_wait, persist_moments, room_for, waits_alone, went_wrong}
+use Rattle.dude_follow.proofs.Applying.{array_stays, failed_so, may_wait, persist_moments, persist_ran, room_for, waits_alone, went_wrong}
 use Rattle.dude_follow.proofs.replica.persist.Goals as goal
 
 pub persist-requires : goal.persist-requires
@@ -62,7 +62,7 @@ returns-in-Err g c =
     e.cause.only in
     let so = failed_so fault v w (λ done. with_record 0 b v) which e.cause.dead c.requires.rests.alive e.state in
     record {
-      goes_on = went_wrong v w s t e.extends so.1 (e.cause.device (ap Err so.0));
+      goes_on = went_wrong v w s t e.extends so.1 (e.cause.device (ap Err so.0)) (persist_ran fault (persist_calls v 0 b) s t so.0 e.calls);
       persists = tt;
       number = ap (λ (x : BackState). x.log.reproduced) so.1;
       moments = persist_moments v b s t c.requires.rests (waits_alone v b c.requires.rests c.requires.packet c.requires.next) e.crash.moments;

@@ -23,7 +23,7 @@ pub returns-in-Next-clause-takes : goal.returns-in-Next-clause-takes
 returns-in-Next-clause-takes g c alive =
     let b = c.args.b.now in
     let is = at_number (λ (s : FollowerState). IsNew s b × (first_of b ≡ s.number + 1)) c.args.self.now c.number.result c.number.ensures.number c.in-Next.ensures in
-    takes_next b c.args.self.now c.advance.new.self c.advance.result is.0 is.1 c.advance.ensures.goes_on c.advance.ensures.advances.chain c.advance.ensures.advances.kept c.advance.ensures.answer
+    takes_next b c.args.self.now c.advance.new.self c.advance.result is.0 is.1 c.advance.ensures.goes_on c.advance.ensures.advances.chain c.advance.ensures.advances.kept c.advance.ensures.answer c.advance.ensures.rests
 
 pub returns-in-Known-clause-takes : goal.returns-in-Known-clause-takes
 returns-in-Known-clause-takes g c alive =

@@ -1,10 +1,10 @@
-use Rattle.std.proofs.Common.{[], ◌∷◌, ap}
+use Rattle.std.proofs.Common.{◌≡◌, [], ◌∷◌, ap, false, is_ok, rules}
 use Rattle.pmem_trait.specs.Sights.{Sight}
 use Rattle.back_store.specs.Back.{BackState}
 use Rattle.back_store.specs.BackView.{sight_of, state_of}
 use Rattle.dude_follow.specs.Replica.{replica_back, replica_sight}
 use Rattle.dude_follow.proofs.Applying.{announced_waits, rests_behind}
-use Rattle.dude_follow.proofs.Chains.{applies_one, through_same}
+use Rattle.dude_follow.proofs.Chains.{applies_one, goes_then, through_same}
 use Rattle.dude_follow.proofs.replica.Replica.apply.Goals as goal
 
 pub persist-requires-clause-rests : goal.persist-requires-clause-rests
@@ -14,6 +14,33 @@ persist-requires-clause-rests g c = record {
   durable = c.args.self.now.announced c.requires.alive;
   none_waits = c.args.self.now.none_waits c.requires.alive;
 }
+
+pub returns-in_err-announce-clause-goes_on : goal.returns-in_err-announce-clause-goes_on
+returns-in_err-announce-clause-goes_on g c =
+    let err : is_ok c.from_residual-in_err-announce.result ≡ false = search rules in
+    rw err (goes_then (replica_back c.args.self.now) (state_of c.persist.new.back) (state_of c.announce.new.back) (replica_sight c.args.self.now) (sight_of c.persist.new.back) (sight_of c.announce.new.back)
+    c.in_ok-persist.ensures.goes_on c.in_err-announce.ensures.goes_on)
+
+pub returns-in_err-reproduce_all-clause-goes_on : goal.returns-in_err-reproduce_all-clause-goes_on
+returns-in_err-reproduce_all-clause-goes_on g c =
+    let w : BackState = state_of c.persist.new.back in
+    let x : BackState = state_of c.announce.new.back in
+    let y : BackState = state_of c.reproduce_all.new.back in
+    let t : Sight = sight_of c.persist.new.back in
+    let u : Sight = sight_of c.announce.new.back in
+    let r : Sight = sight_of c.reproduce_all.new.back in
+    let err : is_ok c.from_residual-in_err-reproduce_all.result ≡ false = search rules in
+    rw err (goes_then (replica_back c.args.self.now) w y (replica_sight c.args.self.now) t r c.in_ok-persist.ensures.goes_on (goes_then w x y t u r c.in_ok-announce.ensures.goes_on c.in_err-reproduce_all.ensures.goes_on))
+
+pub returns-clause-goes_on : goal.returns-clause-goes_on
+returns-clause-goes_on g c =
+    let w : BackState = state_of c.persist.new.back in
+    let x : BackState = state_of c.announce.new.back in
+    let y : BackState = state_of c.reproduce_all.new.back in
+    let t : Sight = sight_of c.persist.new.back in
+    let u : Sight = sight_of c.announce.new.back in
+    let r : Sight = sight_of c.reproduce_all.new.back in
+    goes_then (replica_back c.args.self.now) w y (replica_sight c.args.self.now) t r c.in_ok-persist.ensures.goes_on (goes_then w x y t u r c.in_ok-announce.ensures.goes_on c.in_ok-reproduce_all.ensures.goes_on)
 
 pub returns-in_err-announce-clause-moments : goal.returns-in_err-announce-clause-moments
 returns-in_err-announce-clause-moments g c =
