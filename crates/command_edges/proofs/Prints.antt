@@ -1,6 +1,6 @@
 -- Printing in pieces: what was taken and what is held back are the lines so far.
-use Rattle.std.proofs.Common.{◌≡◌, ℕ, add-one, ◌+◌, ◌<◌, ◌≤◌, List, [], ◌∷◌, ◌++◌, length, get_or, take, drop, refl, sym, ◌∙◌, ap, arith, append_assoc, append-nil, inl, Result, Ok, Err}
-use Rattle.std.specs.Prelude.{IfErr}
+use Rattle.std.proofs.Common.{◌≡◌, ℕ, add-one, ◌+◌, ◌<◌, ◌≤◌, List, [], ◌∷◌, ◌++◌, length, get_or, take, drop, refl, sym, ◌∙◌, ap, arith, append_assoc, append-nil, inl, inr, subst, Result, Ok, Err}
+use Rattle.std.specs.Prelude.{IfErr, IsErrAnd, decimal}
 use Rattle.std.proofs.lemmas.List.{take-append-drop, flat_map_more, take_more, take_all, length-drop, length-append}
 use Rattle.std.proofs.lemmas.Grind.{flat_map-append}
 use Rattle.std.proofs.Math.Seq.{drop-cons}
@@ -8,8 +8,9 @@ use Rattle.std.specs.List.{flat_map}
 use Rattle.pmem_trait.proofs.Runs.{risen_later}
 use Rattle.tatp_model.specs.declared.done.Done.{Done}
 use Rattle.command_edges.specs.declared.fault.Fault.{Fault}
-use Rattle.command_edges.specs.declared.fault.Fault.TheVariants.{Output}
+use Rattle.command_edges.specs.declared.fault.Fault.TheVariants.{Memory, Output}
 use Rattle.tatp_text.specs.Output.{output_line, last_line, output_of}
+use Rattle.tatp_text.specs.Reply.{reply_text}
 use Rattle.dude_io.specs.Sink.{SinkSight, Took, TookPart}
 use Rattle.dude_io.proofs.WriteLaws.{took_none, took-then}
 use Rattle.command_edges.specs.Printing.{Collects, StopsIn}
@@ -40,6 +41,20 @@ later_stops {fault} {text} all more prefix {s} {t} {u} whole took h = record {
   where
     regroup : (a b c d : List ℕ) → a ++ ((b ++ c) ++ d) ≡ (a ++ b) ++ (c ++ d)
     regroup a b c d = simp append_assoc
+
+-- there was no memory for a text that isn't empty
+pub untold : {X : Type 0} (r : Result X Fault) (text : List ℕ) (s : SinkSight) → IsErrAnd r (λ fault. fault ≡ Memory) → 1 ≤ length text → IfErr r (StopsIn text s s)
+untold (Ok x) text s is some = absurd is
+untold (Err fault) text s is some =
+    subst (StopsIn text s s) (sym is) (record { prefix = []; rest = text; split = refl; some = some; took = took_none; cause = λ e. absurd (let no : ⊥ = cc in no); only = inr refl })
+
+-- what is held back with a line behind it isn't empty
+some_behind : (xs ys : List ℕ) → 1 ≤ length ys → 1 ≤ length (xs ++ ys)
+some_behind [] ys some = some
+some_behind (x ∷ xs) ys some = omega arith
+
+pub line_some : (text : List ℕ) (done : Done) → 1 ≤ length (text ++ output_line done)
+line_some text done = some_behind text (output_line done) (some_behind (decimal done.number ++ 32 ∷ [] ++ reply_text done.reply) (10 ∷ []) (omega arith))
 
 -- What was taken and what is held back are the lines of the first so many requests.
 pub record Printed (done : List Done) (i : ℕ) (held : List ℕ) (s t : SinkSight) : Type 0 where

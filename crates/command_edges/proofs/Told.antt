@@ -1,6 +1,7 @@
 -- What texts that were read say of their files.
 use Rattle.std.proofs.Common.{◌≡◌, ℕ, zero, suc, ◌+◌, ◌<◌, Bool, true, false, Option, Some, None, IsTrue, List, [], ◌∷◌, ◌++◌, length, get_or, take, refl, sym, ◌∙◌, ap, subst, arith}
-use Rattle.std.specs.Prelude.{Result, Ok, Err, All, IsSome, IsSomeAnd, IsOk, if◌then◌else◌, nat_lt}
+use Rattle.std.specs.Prelude.{Result, Ok, Err, All, IfErr, IfOk, IsSome, IsSomeAnd, IsOk, if◌then◌else◌, nat_lt}
+use Rattle.std.specs.Global.{Vec}
 use Rattle.std.specs.List.{AllZip}
 use Rattle.std.proofs.lemmas.Bool.Decides.{nat_tests}
 use Rattle.std.proofs.lemmas.List.Elements.{All-append, All-cons, All-contains, All-nil}
@@ -12,11 +13,11 @@ use Rattle.dude_io.specs.FileText.{HoldsText}
 use Rattle.dude_io.specs.Files.{FilesSight, FilesStay}
 use Rattle.command_edges.specs.CommandFile.{CommandFile, file_limit, request_file, request_files}
 use Rattle.command_edges.specs.declared.file_kind.FileKind.{FileKind}
-use Rattle.command_edges.specs.declared.file_kind.FileKind.TheVariants.{Requests, Printed}
+use Rattle.command_edges.specs.declared.file_kind.FileKind.TheVariants.{Requests, Printed, Packets}
 use Rattle.command_edges.specs.declared.fault.Fault.{Fault}
-use Rattle.command_edges.specs.declared.fault.Fault.TheVariants.{Text, Memory}
-use Rattle.command_edges.specs.Files.{OfFile, IsBadAs, IsBadAt, IsGoodAs, IsGoodFile, IsThere, MissesFile, HasBadFile, IsFirst, HasFileFault}
-use Rattle.command_edges.specs.Texts.{IsTextOf, meaning_of, HoldsRequests, IsTextFault, IsFirstTextFault}
+use Rattle.command_edges.specs.declared.fault.Fault.TheVariants.{File, Text, Memory}
+use Rattle.command_edges.specs.Files.{OfFile, IsBadAs, IsBadAt, IsGoodAs, IsGoodFile, IsThere, MissesFile, HasBadFile, IsFirst, HasFileFault, HasReadFault, MissingStops}
+use Rattle.command_edges.specs.Texts.{AreTextsOf, IsTextOf, meaning_of, HoldsRequests, IsTextFault, IsFirstTextFault}
 use Rattle.command_edges.proofs.Firsts.{IsFirst-at, IsFirst-behind, IsFirst-mapped, IsFirst-zip}
 use Rattle.command_edges.proofs.Results.{ok_value}
 use Rattle.command_edges.proofs.Zips.{AllZip-firsts, AllZip-unmapped}
@@ -56,7 +57,7 @@ long_text : (text : List ℕ) × (16777216 < length text)
 long_text = let long = some_text 16777217 in (long.0, omega (arith, long.1))
 
 -- a text that is too long, and that of the file where it is told
-long_file : (tells : Bool) (o : Option (List ℕ)) → (IsTrue tells → IsSomeAnd o (λ x. 16777216 < length x)) → (text : List ℕ) × (16777216 < length text) × (IsTrue tells → o ≡ Some text)
+pub long_file : (tells : Bool) (o : Option (List ℕ)) → (IsTrue tells → IsSomeAnd o (λ x. 16777216 < length x)) → (text : List ℕ) × (16777216 < length text) × (IsTrue tells → o ≡ Some text)
 long_file true None h = absurd (h refl)
 long_file true (Some x) h = (x, h refl, λ told. refl)
 long_file false o h = (long_text.0, long_text.1, λ told. cc told)
@@ -80,6 +81,7 @@ not_both_as Requests s name row field told (requests, (good, means, its)) (bad, 
     let both : ◌≡◌ {A = Result (List Request) Place} (Ok requests) (Err (row, field)) = sym means ∙ ap requests_of text ∙ faulty in
     cc
 not_both_as Printed s name row field told good bad = bad
+not_both_as Packets s name row field told good bad = bad
 
 pub not_both : (s : FilesSight) (file : CommandFile) (row field : ℕ) → IsTrue s.is_visible → IsGoodFile s file → IsBadAt s file row field → ⊥
 not_both s file row field told good bad = not_both_as file.kind s file.name row field told good bad
@@ -94,6 +96,13 @@ none_missing s files texts read told (k, file, below, is, missing) =
     gone : (o : Option (List ℕ)) → o ≡ None → IsSome o → ⊥
     gone None e h = cc h
     gone (Some x) e h = cc e
+
+-- so one that isn't there ends the reading
+pub missing_stops : (s t : FilesSight) (files : List CommandFile) (r : Result (Vec FileText) Fault) → IfOk r (AreTextsOf s files) → IfErr r (HasReadFault files s t) → MissingStops s files r
+missing_stops s t files (Ok texts) read cause told missing = absurd (none_missing s files texts.items read told missing)
+missing_stops s t files (Err (File number)) read cause told missing = tt
+missing_stops s t files (Err Memory) read cause told missing = tt
+missing_stops s t files (Err fault) read cause told missing = absurd cause
 
 -- files of requests are good
 pub all_good : (s : FilesSight) (names : List (List ℕ)) (lists : List (List Request)) → AllZip (OfFile s) names lists → All (IsGoodFile s) (request_files names)

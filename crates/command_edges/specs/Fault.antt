@@ -1,7 +1,7 @@
 -- The faults: the status of each, and the line that it prints.
 use Rattle.std.specs.Prelude.{ℕ, Option, Some, None, List, [], ◌∷◌, ◌++◌, codes, decimal}
 use Rattle.command_edges.specs.declared.fault.Fault.{Fault}
-use Rattle.command_edges.specs.declared.fault.Fault.TheVariants.{Usage, File, Text, Small, TooFew, Unformatted, Damaged, NotDb, ManyFiles, Frames, FewSubscribers, Numbers, Device, Output, Memory, Audit}
+use Rattle.command_edges.specs.declared.fault.Fault.TheVariants.{Usage, File, Text, Small, TooFew, Unformatted, Damaged, NotDb, ManyFiles, Frames, FewSubscribers, Numbers, Device, Output, Memory, Audit, Strange}
 
 -- the status that a command ends with
 abbrev pub status_of : Option Fault → ℕ
@@ -22,6 +22,7 @@ status_of (Some Device) = 6
 status_of (Some Output) = 7
 status_of (Some Memory) = 8
 status_of (Some (Audit _)) = 10
+status_of (Some (Strange _ _)) = 11
 
 -- what a fault prints
 abbrev pub fault_words : Fault → List ℕ
@@ -46,6 +47,7 @@ fault_words Device = codes "device"
 fault_words Output = codes "output"
 fault_words Memory = codes "memory"
 fault_words (Audit line) = codes "audit line " ++ decimal line
+fault_words (Strange file packet) = codes "strange packet " ++ decimal packet ++ codes " of file " ++ decimal file
 
 -- the line of a fault: its text, and LF
 abbrev pub fault_line : Fault → List ℕ

@@ -1,5 +1,5 @@
 -- What the files of a command hold, and why they give no requests.
-use Rattle.std.specs.Prelude.{◌≡◌, ℕ, ◌+◌, ◌≤◌, ⊤, true, IsTrue, Some, None, IsSome, Result, Ok, Err, IsErr, IsErrAnd, List, [], ◌∷◌, ◌++◌, length, map, All, Any}
+use Rattle.std.specs.Prelude.{◌≡◌, ℕ, ◌+◌, ◌≤◌, ⊤, true, IsTrue, Some, None, IsSome, Result, Ok, Err, IsErr, IsErrAnd, List, [], ◌∷◌, ◌++◌, length, All, Any}
 use Rattle.std.specs.List.{AllZip}
 use Rattle.std.specs.Global.{Vec}
 use Rattle.pmem_trait.specs.Sights.{Risen}
@@ -10,7 +10,7 @@ use Rattle.tatp_csv.specs.RequestFile.{requests_of}
 use Rattle.dude_io.specs.Files.{FilesSight, ReadMade}
 use Rattle.command_edges.specs.CommandFile.{CommandFile}
 use Rattle.command_edges.specs.declared.file_kind.FileKind.{FileKind}
-use Rattle.command_edges.specs.declared.file_kind.FileKind.TheVariants.{Requests, Printed}
+use Rattle.command_edges.specs.declared.file_kind.FileKind.TheVariants.{Requests, Printed, Packets}
 use Rattle.command_edges.specs.declared.fault.Fault.{Fault}
 use Rattle.command_edges.specs.declared.fault.Fault.TheVariants.{File, Text, Memory}
 use Rattle.command_edges.specs.Reads.{ReadsInOrder}
@@ -25,16 +25,18 @@ abbrev pub IsThere : FilesSight → CommandFile → Type 0
 IsThere files file = IsSome (files.text file.name)
 
 -- Some text is first bad at this record and field, and is that of the file of this name where the files are visible. What a
--- run printed is never bad.
+-- run printed is never bad, and packets aren't before the image is opened.
 abbrev pub IsBadAs : FileKind → FilesSight → List ℕ → ℕ → ℕ → Type 0
 IsBadAs Requests files name row field =
     (text : List ℕ) × (requests_of text ≡ Err (row, field)) × (IsTrue files.is_visible → files.text name ≡ Some text)
 IsBadAs Printed files name row field = ⊥
+IsBadAs Packets files name row field = ⊥
 
--- the file of this name is there and holds what it is to hold, where the files are visible
+-- the file of this name is there, and holds what it is to hold as far as that is judged first, where the files are visible
 abbrev pub IsGoodAs : FileKind → FilesSight → List ℕ → Type 0
 IsGoodAs Requests files name = (requests : List Request) × OfFile files name requests
 IsGoodAs Printed files name = IsTrue files.is_visible → IsSome (files.text name)
+IsGoodAs Packets files name = IsTrue files.is_visible → IsSome (files.text name)
 
 -- the file is bad at this record and field
 abbrev pub IsBadAt : FilesSight → CommandFile → ℕ → ℕ → Type 0

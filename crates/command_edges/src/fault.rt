@@ -16,7 +16,8 @@ pub enum Fault {
     /// A file couldn't be read.
     File { file: u64 },
     /// A file's first bad record and its first bad field, both counted from 1. The field is 0 where the record's name or
-    /// its count of fields is wrong, and the record is 0 where the file is too long.
+    /// its count of fields is wrong, and the record is 0 where the file is too long. Of a file of packets the record is the
+    /// first bad packet, and the field 0.
     Text { file: u64, row: u64, field: u64 },
     /// The medium has fewer words than the image needs.
     Small { has: u64, needs: u64 },
@@ -45,6 +46,8 @@ pub enum Fault {
     /// What was given as printed is no one-thread run of the files from the image. The line is the first wrong one, counted
     /// from 1, or 0 where the text is too long.
     Audit { line: u64 },
+    /// A packet of a file is none of the leader whose packets were taken before. Both are counted from 1.
+    Strange { file: u64, packet: u64 },
 }
 
 impl Fault {
@@ -72,6 +75,7 @@ impl Fault {
             Fault::Output => 7,
             Fault::Memory => 8,
             Fault::Audit { .. } => 10,
+            Fault::Strange { .. } => 11,
         }
     }
 }
@@ -128,6 +132,9 @@ impl fmt::Display for Fault {
             Fault::Output => f.write_str("output"),
             Fault::Memory => f.write_str("memory"),
             Fault::Audit { line } => write_one(f, "audit line ", line),
+            Fault::Strange { file, packet } => {
+                write_two(f, "strange packet ", packet, " of file ", file)
+            }
         }
     }
 }

@@ -9,6 +9,8 @@ pub enum FileKind {
     Requests,
     /// What a run printed.
     Printed,
+    /// Packets, one behind another.
+    Packets,
 }
 
 impl FileKind {
@@ -20,7 +22,7 @@ impl FileKind {
         ensures { result ≡ limit_of self }
     {
         match self {
-            FileKind::Requests => MAX_BYTES as u64,
+            FileKind::Requests | FileKind::Packets => MAX_BYTES as u64,
             FileKind::Printed => 268_435_456,
         }
     }

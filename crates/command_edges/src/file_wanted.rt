@@ -1,7 +1,7 @@
 //! The files that a command is to read.
 
 ghost use Rattle.std.specs.Prelude.{◌≡◌, ◌++◌, map, OnOk};
-ghost use Rattle.command_edges.specs.CommandFile.{files_wanted, request_files};
+ghost use Rattle.command_edges.specs.CommandFile.{files_of, files_wanted};
 
 use crate::file_kind::FileKind;
 use std::alloc::AllocError;
@@ -14,18 +14,19 @@ pub struct FileWanted<'a> {
     pub kind: FileKind,
 }
 
-/// Adds files of requests of these names.
-pub fn want_requests<'a, S: AsStr>(
+/// Adds files of this kind and these names.
+pub fn want_files<'a, S: AsStr>(
+    kind: FileKind,
     names: &'a [S],
     wanted: &mut Vec<FileWanted<'a>>,
 ) -> Result<(), AllocError>
     ensures { OnOk result (files_wanted wanted.new.items
-        ≡ files_wanted wanted.old.items ++ request_files (map S.text names.now)) }
+        ≡ files_wanted wanted.old.items ++ files_of kind (map S.text names.now)) }
 {
     for name in names {
         wanted.push(FileWanted {
             name: name.as_str(),
-            kind: FileKind::Requests,
+            kind,
         })?;
     }
     Ok(())

@@ -7,8 +7,9 @@ ghost use Rattle.command_edges.specs.Files.{AreOfFiles, AreInRange, AreFew, IsFi
 ghost use Rattle.command_edges.specs.Reads.{ReadsInOrder};
 
 use crate::fault::Fault;
+use crate::file_kind::FileKind;
 use crate::file_texts::read_texts;
-use crate::file_wanted::want_requests;
+use crate::file_wanted::want_files;
 use crate::lists::parse_texts;
 use dude_io::Files;
 use std::alloc::Global;
@@ -36,7 +37,7 @@ pub fn read_files<F: Files, S: AsStr>(
     ensures bad { BadStops (F.sight files.old) (request_files (map S.text names.now)) result }
 {
     let mut wanted = Vec::new(alloc);
-    want_requests(names, &mut wanted)?;
+    want_files(FileKind::Requests, names, &mut wanted)?;
     let texts = match read_texts(alloc, &wanted, files) {
         Ok(texts) => texts,
         Err(fault) => return Err(fault),

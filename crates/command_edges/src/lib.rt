@@ -9,11 +9,13 @@ mod file_wanted;
 mod files;
 mod lines;
 mod lists;
+mod packet_files;
 mod printed_run;
 mod text;
 
 pub use fault::{Fault, fault_text};
 pub use files::read_files;
 pub use lines::print_lines;
+pub use packet_files::read_packet_files;
 pub use printed_run::{PrintedRun, read_printed_run};
 pub use text::print_text;

@@ -10,7 +10,7 @@ ghost use Rattle.command_edges.specs.Reads.{ReadsInOrder};
 use crate::fault::Fault;
 use crate::file_kind::FileKind;
 use crate::file_texts::read_texts;
-use crate::file_wanted::{FileWanted, want_requests};
+use crate::file_wanted::{FileWanted, want_files};
 use crate::lists::parse_texts;
 use dude_io::{FileText, Files};
 use std::alloc::Global;
@@ -45,7 +45,7 @@ pub fn read_printed_run<F: Files, S: AsStr>(
         name: printed,
         kind: FileKind::Printed,
     })?;
-    want_requests(names, &mut wanted)?;
+    want_files(FileKind::Requests, names, &mut wanted)?;
     let mut texts = match read_texts(alloc, &wanted, files) {
         Ok(texts) => texts,
         Err(fault) => return Err(fault),

@@ -17,15 +17,15 @@ use Rattle.command_edges.proofs.Told.{of_file, none_missing, none_bad, file_faul
 use Rattle.command_edges.proofs.Zips.{AllZip-seconds, AllZip-then, AllZip-unmapped}
 use Rattle.command_edges.proofs.files.read_files.Goals as goal
 
-pub returns-in_err-want_requests-clause-reads : goal.returns-in_err-want_requests-clause-reads
-returns-in_err-want_requests-clause-reads g c =
+pub returns-in_err-want_files-clause-reads : goal.returns-in_err-want_files-clause-reads
+returns-in_err-want_files-clause-reads g c =
     let s = g.F.Files.sight c.args.files.now in
     let files = request_files (map g.S.AsStr.text c.args.names.now) in
     subst (λ (fault : Option Fault). ReadsInOrder files fault s s) (sym (is_memory c.from_residual.result c.from_residual.ensures.1)) (stopped_in_order files [] files refl (whole_none s))
 
 pub returns-clause-reads : goal.returns-clause-reads
 returns-clause-reads g c =
-    let same : files_wanted c.deref.result.now ≡ request_files (map g.S.AsStr.text c.args.names.now) = ap files_wanted c.deref.ensures.value ∙ (c.in_ok-want_requests.ensures ∙ ap (λ (l : List FileWanted). files_wanted l ++ request_files (map g.S.AsStr.text c.args.names.now)) c.new-wanted.ensures.items) in
+    let same : files_wanted c.deref.result.now ≡ request_files (map g.S.AsStr.text c.args.names.now) = ap files_wanted c.deref.ensures.value ∙ (c.in_ok-want_files.ensures ∙ ap (λ (l : List FileWanted). files_wanted l ++ request_files (map g.S.AsStr.text c.args.names.now)) c.new-wanted.ensures.items) in
     let all = rw same at c.in-Ok.ensures.reads in
     let texts = rw c.deref-2.ensures.value at c.parse_texts.ensures.cause in
     then_fault (result_err c.parse_texts.result) (parsed_reads 0 _ c.parse_texts.result texts) all
@@ -33,7 +33,7 @@ returns-clause-reads g c =
 pub returns-clause-read : goal.returns-clause-read
 returns-clause-read g c =
     let s = g.F.Files.sight c.args.files.now in
-    let same : files_wanted c.deref.result.now ≡ request_files (map g.S.AsStr.text c.args.names.now) = ap files_wanted c.deref.ensures.value ∙ (c.in_ok-want_requests.ensures ∙ ap (λ (l : List FileWanted). files_wanted l ++ request_files (map g.S.AsStr.text c.args.names.now)) c.new-wanted.ensures.items) in
+    let same : files_wanted c.deref.result.now ≡ request_files (map g.S.AsStr.text c.args.names.now) = ap files_wanted c.deref.ensures.value ∙ (c.in_ok-want_files.ensures ∙ ap (λ (l : List FileWanted). files_wanted l ++ request_files (map g.S.AsStr.text c.args.names.now)) c.new-wanted.ensures.items) in
     let read = AllZip-unmapped (IsTextOf s) request_file (map g.S.AsStr.text c.args.names.now) c.in-Ok.texts.items (rw same at c.in-Ok.ensures.read) in
     let texts = rw c.deref-2.ensures.value at c.parse_texts.ensures.parsed in
     ok_map c.parse_texts.result (λ lists parsed. AllZip-then (λ name text. IsTextOf s (request_file name) text) HoldsRequests (OfFile s) (map g.S.AsStr.text c.args.names.now) c.in-Ok.texts.items (requests_in lists.items)
@@ -50,7 +50,7 @@ returns-clause-few g c =
 pub returns-clause-cause : goal.returns-clause-cause
 returns-clause-cause g c =
     let s = g.F.Files.sight c.args.files.now in
-    let same : files_wanted c.deref.result.now ≡ request_files (map g.S.AsStr.text c.args.names.now) = ap files_wanted c.deref.ensures.value ∙ (c.in_ok-want_requests.ensures ∙ ap (λ (l : List FileWanted). files_wanted l ++ request_files (map g.S.AsStr.text c.args.names.now)) c.new-wanted.ensures.items) in
+    let same : files_wanted c.deref.result.now ≡ request_files (map g.S.AsStr.text c.args.names.now) = ap files_wanted c.deref.ensures.value ∙ (c.in_ok-want_files.ensures ∙ ap (λ (l : List FileWanted). files_wanted l ++ request_files (map g.S.AsStr.text c.args.names.now)) c.new-wanted.ensures.items) in
     let texts = rw c.deref-2.ensures.value at c.parse_texts.ensures.cause in
     err_map c.parse_texts.result (λ fault h. file_fault s (g.F.Files.sight c.read_texts.new.files) [] (map g.S.AsStr.text c.args.names.now) c.in-Ok.texts.items fault c.in-Ok.ensures.calm
     (All-nil (IsGoodFile s)) (λ told. All-nil (IsThere s)) (rw same at c.in-Ok.ensures.read) h) texts
@@ -58,7 +58,7 @@ returns-clause-cause g c =
 pub returns-clause-missing : goal.returns-clause-missing
 returns-clause-missing g c =
     let s = g.F.Files.sight c.args.files.now in
-    let same : files_wanted c.deref.result.now ≡ request_files (map g.S.AsStr.text c.args.names.now) = ap files_wanted c.deref.ensures.value ∙ (c.in_ok-want_requests.ensures ∙ ap (λ (l : List FileWanted). files_wanted l ++ request_files (map g.S.AsStr.text c.args.names.now)) c.new-wanted.ensures.items) in
+    let same : files_wanted c.deref.result.now ≡ request_files (map g.S.AsStr.text c.args.names.now) = ap files_wanted c.deref.ensures.value ∙ (c.in_ok-want_files.ensures ∙ ap (λ (l : List FileWanted). files_wanted l ++ request_files (map g.S.AsStr.text c.args.names.now)) c.new-wanted.ensures.items) in
     λ told missing. absurd (none_missing s (request_files (map g.S.AsStr.text c.args.names.now)) c.in-Ok.texts.items (rw same at c.in-Ok.ensures.read) told missing)
 
 pub returns-clause-bad : goal.returns-clause-bad

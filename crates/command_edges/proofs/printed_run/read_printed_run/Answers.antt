@@ -22,11 +22,11 @@ returns-in_err-push-clause-reads g c =
     let files = audit_files c.args.printed.now (map g.S.AsStr.text c.args.names.now) in
     subst (λ (fault : Option Fault). ReadsInOrder files fault s s) (sym (is_memory c.from_residual.result c.from_residual.ensures.1)) (stopped_in_order files [] files refl (whole_none s))
 
-pub returns-in_err-want_requests-clause-reads : goal.returns-in_err-want_requests-clause-reads
-returns-in_err-want_requests-clause-reads g c =
+pub returns-in_err-want_files-clause-reads : goal.returns-in_err-want_files-clause-reads
+returns-in_err-want_files-clause-reads g c =
     let s = g.F.Files.sight c.args.files.now in
     let files = audit_files c.args.printed.now (map g.S.AsStr.text c.args.names.now) in
-    subst (λ (fault : Option Fault). ReadsInOrder files fault s s) (sym (is_memory c.from_residual-in_err-want_requests.result c.from_residual-in_err-want_requests.ensures.1))
+    subst (λ (fault : Option Fault). ReadsInOrder files fault s s) (sym (is_memory c.from_residual-in_err-want_files.result c.from_residual-in_err-want_files.ensures.1))
     (stopped_in_order files [] files refl (whole_none s))
 
 pub returns-in-Err-parse_texts-clause-cause : goal.returns-in-Err-parse_texts-clause-cause
@@ -36,7 +36,7 @@ returns-in-Err-parse_texts-clause-cause g c =
     let names = map g.S.AsStr.text c.args.names.now in
     let printed : CommandFile = record { name = c.args.printed.now; kind = Printed } in
     let same : files_wanted c.deref.result.now ≡ audit_files c.args.printed.now names =
-    ap files_wanted c.deref.ensures.value ∙ (c.in_ok-want_requests.ensures ∙ ap (λ (l : List FileWanted). files_wanted l ++ request_files names) (c.in_ok-push.ensures.items ∙ ap (λ (l : List FileWanted). l ++ record { name = c.args.printed; kind = Printed } ∷ []) c.new-wanted.ensures.items)) in
+    ap files_wanted c.deref.ensures.value ∙ (c.in_ok-want_files.ensures ∙ ap (λ (l : List FileWanted). files_wanted l ++ request_files names) (c.in_ok-push.ensures.items ∙ ap (λ (l : List FileWanted). l ++ record { name = c.args.printed; kind = Printed } ∷ []) c.new-wanted.ensures.items)) in
     let read : AllZip (IsTextOf s) (audit_files c.args.printed.now names) c.in-Ok.texts.items = rw same at c.in-Ok.ensures.read in
     let first = AllZip-front (IsTextOf s) printed (request_files names) c.in-Ok.texts.items read in
     let there = λ (told : _). file_is_there s printed first.0 first.1 told in
@@ -50,7 +50,7 @@ returns-in-Err-parse_texts-clause-missing g c =
     let s = g.F.Files.sight c.args.files.now in
     let names = map g.S.AsStr.text c.args.names.now in
     let same : files_wanted c.deref.result.now ≡ audit_files c.args.printed.now names =
-    ap files_wanted c.deref.ensures.value ∙ (c.in_ok-want_requests.ensures ∙ ap (λ (l : List FileWanted). files_wanted l ++ request_files names) (c.in_ok-push.ensures.items ∙ ap (λ (l : List FileWanted). l ++ record { name = c.args.printed; kind = Printed } ∷ []) c.new-wanted.ensures.items)) in
+    ap files_wanted c.deref.ensures.value ∙ (c.in_ok-want_files.ensures ∙ ap (λ (l : List FileWanted). files_wanted l ++ request_files names) (c.in_ok-push.ensures.items ∙ ap (λ (l : List FileWanted). l ++ record { name = c.args.printed; kind = Printed } ∷ []) c.new-wanted.ensures.items)) in
     λ told missing. absurd (none_missing s (audit_files c.args.printed.now names) c.in-Ok.texts.items (rw same at c.in-Ok.ensures.read) told missing)
 
 pub returns-clause-read : goal.returns-clause-read
@@ -59,7 +59,7 @@ returns-clause-read g c =
     let names = map g.S.AsStr.text c.args.names.now in
     let printed : CommandFile = record { name = c.args.printed.now; kind = Printed } in
     let same : files_wanted c.deref.result.now ≡ audit_files c.args.printed.now names =
-    ap files_wanted c.deref.ensures.value ∙ (c.in_ok-want_requests.ensures ∙ ap (λ (l : List FileWanted). files_wanted l ++ request_files names) (c.in_ok-push.ensures.items ∙ ap (λ (l : List FileWanted). l ++ record { name = c.args.printed; kind = Printed } ∷ []) c.new-wanted.ensures.items)) in
+    ap files_wanted c.deref.ensures.value ∙ (c.in_ok-want_files.ensures ∙ ap (λ (l : List FileWanted). files_wanted l ++ request_files names) (c.in_ok-push.ensures.items ∙ ap (λ (l : List FileWanted). l ++ record { name = c.args.printed; kind = Printed } ∷ []) c.new-wanted.ensures.items)) in
     let read : AllZip (IsTextOf s) (audit_files c.args.printed.now names) c.in-Ok.texts.items = rw same at c.in-Ok.ensures.read in
     let first = AllZip-front (IsTextOf s) printed (request_files names) c.in-Ok.texts.items read in
     let parsed = rw (c.deref-2.ensures.value, all_behind c.in-Ok.texts.items) at c.in-Ok-parse_texts.ensures.parsed in
@@ -76,5 +76,5 @@ returns-clause-missing g c =
     let s = g.F.Files.sight c.args.files.now in
     let names = map g.S.AsStr.text c.args.names.now in
     let same : files_wanted c.deref.result.now ≡ audit_files c.args.printed.now names =
-    ap files_wanted c.deref.ensures.value ∙ (c.in_ok-want_requests.ensures ∙ ap (λ (l : List FileWanted). files_wanted l ++ request_files names) (c.in_ok-push.ensures.items ∙ ap (λ (l : List FileWanted). l ++ record { name = c.args.printed; kind = Printed } ∷ []) c.new-wanted.ensures.items)) in
+    ap files_wanted c.deref.ensures.value ∙ (c.in_ok-want_files.ensures ∙ ap (λ (l : List FileWanted). files_wanted l ++ request_files names) (c.in_ok-push.ensures.items ∙ ap (λ (l : List FileWanted). l ++ record { name = c.args.printed; kind = Printed } ∷ []) c.new-wanted.ensures.items)) in
     λ told missing. absurd (none_missing s (audit_files c.args.printed.now names) c.in-Ok.texts.items (rw same at c.in-Ok.ensures.read) told missing)
