@@ -100,6 +100,13 @@ is_sized (format.TooFew rows count) sizes s t accepted cause = tt
 is_sized format.Device sizes s t accepted cause = tt
 is_sized format.NoMemory sizes s t accepted cause = tt
 
+-- an image with the same parts has the array to which the content recovers
+pub recovered_same : {M : Type 0} {ghosts : Ghosts M} (o x : Opened M ghosts) (s : Sight) → IsSameImage o x → ContentHas (RecoversArray o.sizes o.number o.words.items) s
+    → ContentHas (RecoversArray x.sizes x.number x.words.items) s
+recovered_same o x s same recovered =
+    let words : x.words.items ≡ o.words.items = ap (λ v. v.items) same.words in
+    rw (same.sizes, same.number, words) recovered
+
 -- an image was opened, and its number is announced
 module _ {M : Type 0} {ghosts : Ghosts M} (o : Opened M ghosts) (s m t : Sight) (opened : IsOpened o)
     (recovered : ContentHas (RecoversArray o.sizes o.number o.words.items) s) (calls : SomeCalls true s m)

@@ -5,9 +5,9 @@ use Rattle.pmem_trait.specs.Words.{AtLeast}
 use Rattle.dude_base.specs.declared.sizes.Sizes.{Sizes}
 use Rattle.pmem_trait.specs.declared.call.Call.TheVariants.{Tell}
 use Rattle.pmem_trait.specs.Sights.{Sight, state_now, AtEveryMoment, CallsMade, SomeCalls}
-use Rattle.pmem_trait.specs.Reads.{OnlyReads}
+use Rattle.pmem_trait.specs.Reads.{ContentHas, OnlyReads}
 use Rattle.back_store.specs.BackView.{medium_of}
-use Rattle.image_recovery.specs.Recovered.{RecoversTo}
+use Rattle.image_recovery.specs.Recovered.{RecoversArray, RecoversTo}
 use Rattle.image_format.specs.Causes.{FormatsSome}
 use Rattle.image_opening.specs.Answers as answers
 use Rattle.image_opening.specs.Opened.{HoldsOpened}
@@ -73,6 +73,10 @@ OpensImagePartly sight makes opening medium refused = OpensPartly makes opening 
 abbrev pub OpensOwn : {M : Type 0} {ghosts : Ghosts M} → (M → Sight) → M → Opened M ghosts → Type 0
 OpensOwn sight medium o =
     (opening : Opening) → IsOpeningOf o opening → IsOpeningOn (sight medium) opening × OpensImage sight false opening medium o
+
+-- the medium's content recovers to the number and the home words of the opened image
+abbrev pub RecoversOwn : {M : Type 0} {ghosts : Ghosts M} → (M → Sight) → M → Opened M ghosts → Type 0
+RecoversOwn sight medium o = ContentHas (RecoversArray o.sizes o.number o.words.items) (sight medium)
 
 -- the medium is given back, with a prefix of that done for each opening that its content recovers to
 abbrev pub OpensOwnPartly : {M : Type 0} → (M → Sight) → M → Fault × M → Type 0

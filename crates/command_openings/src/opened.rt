@@ -4,7 +4,7 @@ ghost use Rattle.std.specs.Prelude.{IfOk, IfErr};
 ghost use Rattle.pmem_trait.specs.Sights.{IsAtRest};
 ghost use Rattle.image_opening.specs.Opened.{IsOpened};
 ghost use Rattle.command_openings.specs.Announcing.{FailsTelling, IsAnnounced, IsSameImage, RanTelling, RisesFaults, ShowsWhileTelling};
-ghost use Rattle.command_openings.specs.Opens.{OpensOwn, OpensOwnPartly, OnlyReadsUnopened};
+ghost use Rattle.command_openings.specs.Opens.{OpensOwn, OpensOwnPartly, OnlyReadsUnopened, RecoversOwn};
 ghost use Rattle.command_openings.specs.Faults.{IsOpenRefusal};
 
 use crate::fault::fault_of;
@@ -37,6 +37,7 @@ pub fn open_and_announce<M: Medium>(alloc: Global, medium: M) -> Result<Opened<M
     ensures opened { IfOk result IsOpened }
     // At `Ok` the content recovers to the opening of the image, and the image is opened at it.
     ensures is_open { IfOk result (OpensOwn M.sight medium) }
+    ensures recovered { IfOk result (RecoversOwn M.sight medium) }
     // Else a prefix of that is done.
     ensures prefix { IfErr result (OpensOwnPartly M.sight medium) }
     ensures fault { IfErr result (IsOpenRefusal M.sight medium) }

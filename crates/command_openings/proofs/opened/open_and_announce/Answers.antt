@@ -1,5 +1,5 @@
 use Rattle.pmem_trait.proofs.Runs.{made_later, ran_on}
-use Rattle.command_openings.proofs.ImageOpened.{announced_opens_all, announced_fault, announced_prefix, announced_opens, partly_opened, open_fault}
+use Rattle.command_openings.proofs.ImageOpened.{announced_opens_all, announced_fault, announced_prefix, announced_opens, partly_opened, open_fault, recovered_same}
 use Rattle.command_openings.proofs.Results.{err_of, if_err, if_ok, match_err, match_ok, ok_of}
 use Rattle.command_openings.proofs.OneOpening.{opening_with}
 use Rattle.command_openings.proofs.opened.open_and_announce.Goals as goal
@@ -10,6 +10,10 @@ returns-in-Ok-clause-is_open g c = if_ok c.announce.result (λ x is.
     announced_opens_all c.in-Ok.opened _ _ _ c.in-Ok.ensures.opened c.in-Ok.ensures.opens.recovered c.in-Ok.ensures.opens.calls c.in-Ok.ensures.opens.holds c.in-Ok.ensures.opens.moments
     (λ opening before own held. match_ok _ _ is (c.announce.ensures.moments opening before own held)) x
     (ok_of _ is c.announce.ensures.same) c.in-Ok.ensures.opens.made (match_ok _ _ is c.announce.ensures.ran) is_announced.told is_announced.holds)
+
+pub returns-in-Ok-clause-recovered : goal.returns-in-Ok-clause-recovered
+returns-in-Ok-clause-recovered g c = if_ok c.announce.result (λ x is.
+    recovered_same c.in-Ok.opened x (g.M.Medium.sight c.args.medium) (ok_of _ is c.announce.ensures.same) c.in-Ok.ensures.opens.recovered)
 
 pub returns-in-Ok-clause-prefix : goal.returns-in-Ok-clause-prefix
 returns-in-Ok-clause-prefix g c = if_err c.announce.result (λ r is.
