@@ -15,7 +15,7 @@ use Rattle.run_order.proofs.Performed.{performs_start}
 use Rattle.dude_io.specs.Files.{FilesSight}
 use Rattle.back_store.specs.Back.{idle}
 use Rattle.image_format.specs.Causes.{FitsImage}
-use Rattle.command_words.specs.Command.{Meaning, Meaning.FreshRun, Meaning.FormatImage, Meaning.RunFiles, Meaning.RecoverImage, Meaning.DumpTables, Meaning.DriveLoad, Meaning.AuditRun}
+use Rattle.command_words.specs.Command.{Meaning, Meaning.FreshRun, Meaning.FormatImage, Meaning.RunFiles, Meaning.RecoverImage, Meaning.DumpTables, Meaning.DriveLoad, Meaning.AuditRun, Meaning.ShipFiles, Meaning.FollowFiles}
 use Rattle.dude_engine.specs.Opening.{Opening}
 use Rattle.dude_engine.specs.Plain.{LosesFew, most_lost_by}
 use Rattle.command_edges.specs.declared.fault.Fault.{Fault}
@@ -79,6 +79,8 @@ known_behind RecoverImage opening s m same known = tt
 known_behind DumpTables opening s m same known = tt
 known_behind (DriveLoad seed count number) opening s m same known = tt
 known_behind (AuditRun printed files) opening s m same known = tt
+known_behind (ShipFiles files) opening s m same known = tt
+known_behind (FollowFiles files) opening s m same known = tt
 
 -- a command that carries requests out makes calls behind its opening
 runs_on : (meaning : Meaning) → runs_requests meaning ≡ true → ends_opened meaning ≡ false
@@ -89,6 +91,8 @@ runs_on RecoverImage runs = cc runs
 runs_on DumpTables runs = cc runs
 runs_on (DriveLoad seed count number) runs = refl
 runs_on (AuditRun printed files) runs = cc runs
+runs_on (ShipFiles files) runs = refl
+runs_on (FollowFiles files) runs = cc runs
 
 -- no request, no reply
 collects_none : Collects [] [] []
@@ -110,7 +114,7 @@ module _ {meaning : Meaning} {f g : FilesSight} {opening : Opening} {words : Lis
   opened_well : {fault : Option Fault} → (fault ≡ Some Device → ⊥) → FailsOnlyAtDevice fault s m
   opened_well other = (true, opened_image.is_open.ran, (λ failed. absurd (let no : ⊥ = cc in no), λ is. absurd (other is)))
 
-  opens_once : {fault : Option Fault} {t : Sight} → MatchBool (ends_opened meaning) (t ≡ m) (FailsOnlyAtDevice fault m t)
+  pub opens_once : {fault : Option Fault} {t : Sight} → MatchBool (ends_opened meaning) (t ≡ m) (FailsOnlyAtDevice fault m t)
       → (EndedWell fault → MakesOperations (idle opening.sizes opening.number) m t) → OpensOnce meaning fault s t
   opens_once behind operates = record {
     opening = opening;
@@ -157,7 +161,7 @@ module _ {meaning : Meaning} {f g : FilesSight} {opening : Opening} {words : Lis
   pub came_refused : (last : ℕ) (why : Fault) → (◌≡◌ {A = Option Fault} (Some why) (Some Device) → ⊥) → CameBy meaning f opening [] last s m (Some why) → Came meaning f g opening [] last (Some why) s m
   came_refused last why other by = came_none last (Some why) other by
 
-  ran_behind : {fault : Option Fault} {t : Sight} → FailsOnlyAtDevice fault m t → FailsOnlyAtDevice fault s t
+  pub ran_behind : {fault : Option Fault} {t : Sight} → FailsOnlyAtDevice fault m t → FailsOnlyAtDevice fault s t
   ran_behind ran = (ran.0, ran_then opened_image.is_open.ran ran.1, ran.2)
 
   -- what is known of the replies from the start is known behind the opening

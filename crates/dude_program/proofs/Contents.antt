@@ -49,6 +49,7 @@ given_for fault.Device s visible has = never fault.Device s visible (λ content 
 given_for fault.Output s visible has = never fault.Output s visible (λ content no. no) has
 given_for fault.Memory s visible has = never fault.Memory s visible (λ content no. no) has
 given_for (fault.Audit a) s visible has = never (fault.Audit a) s visible (λ content no. no) has
+given_for (fault.Strange a b) s visible has = never (fault.Strange a b) s visible (λ content no. no) has
 
 -- it is refused for one reason
 pub one_content_fault : (s : Sight) (a b : Fault) → IsTrue s.is_visible → ContentHas (λ content. RefusesContent content a) s → ContentHas (λ content. RefusesContent content b) s
@@ -97,6 +98,7 @@ which meaning s len fault.Device is r = absurd r
 which meaning s len fault.Output is r = absurd r
 which meaning s len fault.Memory is r = absurd r
 which meaning s len (fault.Audit a) is r = absurd r
+which meaning s len (fault.Strange a b) is r = absurd r
 
 pub one_format_fault : (meaning : Meaning) (s : Sizes) (len : ℕ) (a b : Fault) → sizes_made meaning ≡ Some s → RefusesFormat meaning len a → RefusesFormat meaning len b → a ≡ b
 one_format_fault meaning s len a b is one other = by (which meaning s len a is one) (which meaning s len b is other)
@@ -132,3 +134,4 @@ makes_none meaning len fault.Device is r = r
 makes_none meaning len fault.Output is r = r
 makes_none meaning len fault.Memory is r = r
 makes_none meaning len (fault.Audit a) is r = r
+makes_none meaning len (fault.Strange a b) is r = r

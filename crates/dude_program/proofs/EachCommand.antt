@@ -17,13 +17,13 @@ use Rattle.tatp_text.specs.Output.{output_of, last_line}
 use Rattle.back_store.specs.BackView.{sight_of}
 use Rattle.image_opening.specs.declared.opened.Opened.{Opened}
 use Rattle.image_opening.specs.Opened.{IsOpened}
-use Rattle.command_words.specs.Command.{IsBetween, Meaning, Meaning.FreshRun, Meaning.FormatImage, Meaning.RunFiles, Meaning.RecoverImage, Meaning.DumpTables, Meaning.DriveLoad, Meaning.AuditRun}
+use Rattle.command_words.specs.Command.{IsBetween, Meaning, Meaning.FreshRun, Meaning.FormatImage, Meaning.RunFiles, Meaning.RecoverImage, Meaning.DumpTables, Meaning.DriveLoad, Meaning.AuditRun, Meaning.ShipFiles, Meaning.FollowFiles}
 use Rattle.command_edges.specs.Files.{OfFile}
 use Rattle.dude_engine.specs.Opening.{Opening}
 use Rattle.dude_engine.specs.Plain.{IsOpeningOf}
 use Rattle.dude_engine.specs.Requests.{request_count}
 use Rattle.command_edges.specs.declared.fault.Fault.{Fault}
-use Rattle.command_edges.specs.declared.fault.Fault.TheVariants.{Usage, File, Text, Small, TooFew, Unformatted, Damaged, NotDb, ManyFiles, Frames, FewSubscribers, Numbers, Device, Output, Memory, Audit}
+use Rattle.command_edges.specs.declared.fault.Fault.TheVariants.{Usage, File, Text, Small, TooFew, Unformatted, Damaged, NotDb, ManyFiles, Frames, FewSubscribers, Numbers, Device, Output, Memory, Audit, Strange}
 use Rattle.run_threads.specs.Answers.{KnowsReads}
 use Rattle.run_threads.specs.Ends.{IsAsOpened}
 use Rattle.command_openings.specs.Opens.{Opens}
@@ -32,7 +32,7 @@ use Rattle.command_openings.proofs.OneOpening.{opening_with}
 use Rattle.dude_program.specs.Opening.{KnowsReplies, fresh_sizes, load_of}
 use Rattle.dude_program.specs.Causes.{IsLeftOpened, MustRefuse, RefusesOpening, WantsFrames}
 use Rattle.dude_program.specs.Work.{AllowsFrames, HasFewNumbers, HasFrames, PrintsText, RefusesLoad, RefusesRun}
-use Rattle.dude_program.proofs.FilesRead.{all_read}
+use Rattle.dude_program.proofs.FilesRead.{all_judged}
 use Rattle.dude_program.proofs.Refusals.{one_requests, passes_if}
 use Rattle.dude_program.proofs.Endings.{CameBy}
 use Rattle.dude_program.proofs.Stops.{IsMaker, IsOpener}
@@ -73,6 +73,12 @@ drive_opens seed count files s = record { opens = refl; sized = refl; on = λ op
 pub audit_opens : (printed : List ℕ) (files : List (List ℕ)) (s : Sight) → IsOpener (AuditRun printed files) s
 audit_opens printed files s = record { opens = refl; sized = refl; on = λ opening starts. starts; starts = λ opening on. on }
 
+pub ship_opens : (files : List (List ℕ)) (s : Sight) → IsOpener (ShipFiles files) s
+ship_opens files s = record { opens = refl; sized = refl; on = λ opening starts. starts; starts = λ opening on. on }
+
+pub follow_opens : (files : List (List ℕ)) (s : Sight) → IsOpener (FollowFiles files) s
+follow_opens files s = record { opens = refl; sized = refl; on = λ opening starts. starts; starts = λ opening on. on }
+
 -- the opening of an opened image
 abbrev pub opening_of : {M : Type 0} {ghosts : Ghosts M} (o : Opened M ghosts) → IsOpened o → Opening
 opening_of o opened = opening_with o.number o.sizes opened.lawful.0
@@ -97,7 +103,7 @@ module _ (frames locks : Option ℕ) (names : List (List ℕ)) (f : FilesSight) 
       let over = few.2 in omega (arith, same, over, enough)) why refuses
 
   run_refuses : (opening : Opening) (why : Fault) → RefusesRun (RunFiles frames locks names) number opening.sizes opening.number requests why → RefusesOpening (RunFiles frames locks names) f opening why
-  run_refuses opening (ManyFiles a b) r = (r.0 ∙ as_many, r.1, r.2, all_read (RunFiles frames locks names))
+  run_refuses opening (ManyFiles a b) r = (r.0 ∙ as_many, r.1, r.2, all_judged names)
   run_refuses opening (Frames a b) r = (omega (arith, as_many, r.0), r.1, r.2)
   run_refuses opening (Numbers a b) r = (omega (arith, as_many, r.0), r.1, (λ w no. no), r.2, (tt, (requests, read, r.3), r.4))
   run_refuses opening (FewSubscribers a b) r = absurd r
@@ -113,6 +119,7 @@ module _ (frames locks : Option ℕ) (names : List (List ℕ)) (f : FilesSight) 
   run_refuses opening Output r = absurd r
   run_refuses opening Memory r = absurd r
   run_refuses opening (Audit a) r = absurd r
+  run_refuses opening (Strange a b) r = absurd r
 
   pub run_came : (opening : Opening) (last : ℕ) (s t : Sight) → IsLeftOpened opening s t → (why : Fault) → RefusesRun (RunFiles frames locks names) number opening.sizes opening.number requests why
       → CameBy (RunFiles frames locks names) f opening [] last s t (Some why) × (◌≡◌ {A = Option Fault} (Some why) (Some Device) → ⊥)
@@ -132,6 +139,7 @@ module _ (frames locks : Option ℕ) (names : List (List ℕ)) (f : FilesSight) 
   run_came opening last s t left Output r = absurd r
   run_came opening last s t left Memory r = absurd r
   run_came opening last s t left (Audit a) r = absurd r
+  run_came opening last s t left (Strange a b) r = absurd r
 
 module _ (seed count files : ℕ) (f : FilesSight) (opening : Opening) (requests : List (List Request)) (is : requests ≡ load_of opening.sizes.subscribers seed count files) where
   pub drive_passes : files ≤ opening.sizes.rings → files ≤ opening.sizes.subscribers → opening.number + 65 * request_count requests ≤ MAX_NUMBER
@@ -157,6 +165,7 @@ module _ (seed count files : ℕ) (f : FilesSight) (opening : Opening) (requests
   drive_refuses Device r = absurd r
   drive_refuses Output r = absurd r
   drive_refuses (Audit a) r = absurd r
+  drive_refuses (Strange a b) r = absurd r
 
   by_refusal : (last : ℕ) (s t : Sight) → IsLeftOpened opening s t → (why : Fault) → RefusesOpening (DriveLoad seed count files) f opening why
       → CameBy (DriveLoad seed count files) f opening [] last s t (Some why) × (◌≡◌ {A = Option Fault} (Some why) (Some Device) → ⊥)
@@ -176,6 +185,7 @@ module _ (seed count files : ℕ) (f : FilesSight) (opening : Opening) (requests
   by_refusal last s t left Device r = absurd r
   by_refusal last s t left Output r = absurd r
   by_refusal last s t left (Audit a) r = absurd r
+  by_refusal last s t left (Strange a b) r = absurd r
 
   pub drive_came : (last : ℕ) (s t : Sight) → IsLeftOpened opening s t → (why : Fault) → RefusesLoad files opening.sizes opening.number requests why
       → CameBy (DriveLoad seed count files) f opening [] last s t (Some why) × (◌≡◌ {A = Option Fault} (Some why) (Some Device) → ⊥)

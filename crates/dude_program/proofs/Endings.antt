@@ -11,15 +11,16 @@ use Rattle.tatp_model.specs.declared.done.Done.{Done}
 use Rattle.tatp_model.specs.OneThread.{AllAreDone}
 use Rattle.dude_io.specs.Files.{FilesSight}
 use Rattle.dude_io.specs.Sink.{SinkSight, Took}
-use Rattle.command_words.specs.Command.{Meaning, Meaning.FreshRun, Meaning.FormatImage, Meaning.RunFiles, Meaning.RecoverImage, Meaning.DumpTables, Meaning.DriveLoad, Meaning.AuditRun}
+use Rattle.command_words.specs.Command.{Meaning, Meaning.FreshRun, Meaning.FormatImage, Meaning.RunFiles, Meaning.RecoverImage, Meaning.DumpTables, Meaning.DriveLoad, Meaning.AuditRun, Meaning.ShipFiles, Meaning.FollowFiles}
 use Rattle.dude_engine.specs.Endings.{End}
 use Rattle.dude_engine.specs.Opening.{Opening, IsOpening}
 use Rattle.command_edges.specs.declared.fault.Fault.{Fault}
-use Rattle.command_edges.specs.declared.fault.Fault.TheVariants.{Usage, File, Text, Small, TooFew, Unformatted, Damaged, NotDb, ManyFiles, Frames, FewSubscribers, Numbers, Device, Output, Memory, Audit}
+use Rattle.command_edges.specs.declared.fault.Fault.TheVariants.{Usage, File, Text, Small, TooFew, Unformatted, Damaged, NotDb, ManyFiles, Frames, FewSubscribers, Numbers, Device, Output, Memory, Audit, Strange}
 use Rattle.command_edges.specs.Printing.{StopsIn}
 use Rattle.command_edges.proofs.Order.{IsNoReadFault}
 use Rattle.command_openings.specs.Openings.{IsOpeningOn}
 use Rattle.dude_program.specs.World.{SinkStays, World, world_of}
+use Rattle.dude_program.specs.Ship.{ShipsContent}
 use Rattle.dude_program.specs.Opening.{IsOutput, IsReachable, Starts, ends_opened, makes_image, only_reads}
 use Rattle.dude_program.specs.Headline.{AllDone, Completed, Crash, Headline, MustOnlyRead, Printed, Replies, Sync, TookAll, TookPrefix}
 use Rattle.dude_program.specs.Causes.{Causes, FailsOnlyAtDevice, HasCause, IsGood, IsLeft, IsLeftOpened, MustRefuse, OpensOnce, OpensOnceBy, RefusesFormat, RefusesOpening, StoppedByOpening, Untouched}
@@ -100,7 +101,7 @@ once_well {meaning} {t = t} once other = record {
   operates = λ well. once.operates tt;
 }
 
-once_by : (meaning : Meaning) (fault : Option Fault) (done : List Done) (s t : Sight) → OpensOnce meaning fault s t → OpensOnceBy meaning fault done s t
+pub once_by : (meaning : Meaning) (fault : Option Fault) (done : List Done) (s t : Sight) → OpensOnce meaning fault s t → OpensOnceBy meaning fault done s t
 once_by meaning None done s t once = once
 once_by meaning (Some Output) done s t once = once
 once_by meaning fault done s t once = inr once
@@ -154,15 +155,27 @@ module _ {meaning : Meaning} {f g : FilesSight} {opening : Opening} {done : List
 is_left : (meaning : Meaning) (opening : Opening) (s t : Sight) → only_reads meaning ≡ false → IsLeftOpened opening s t → IsLeft meaning opening s t
 is_left meaning opening s t writes left = subst (λ (b : Bool). MatchBool b (OnlyReads true s t) (IsLeftOpened opening s t)) (sym writes) left
 
+-- what is said of an output beside: that the packets of `ship` lead from the array to which the content recovers
+abbrev pub FromContent : (meaning : Meaning) (opening : Opening) (done : List Done) (last : ℕ) (text : List ℕ) → IsOutput meaning opening done last text → Sight → Type 0
+FromContent (ShipFiles files) opening done last text output s = ShipsContent output s
+FromContent meaning opening done last text output s = ⊤
+
+-- the text is the command's output, from this medium on
+abbrev pub Outputs : Meaning → Opening → List Done → ℕ → List ℕ → Sight → Type 0
+Outputs meaning opening done last text s = (output : IsOutput meaning opening done last text) × FromContent meaning opening done last text output s
+
 -- and all is done where it ends well
-completed : (meaning : Meaning) (old new : World) (done : List Done) (Taken : List ℕ → Type 0) → only_reads meaning ≡ false → AllDone meaning old new done Taken → Completed meaning old new done Taken
-completed (FreshRun subscribers file) old new done Taken writes all = all
-completed (FormatImage s c n k) old new done Taken writes all = all
-completed (RunFiles frames locks files) old new done Taken writes all = all
-completed RecoverImage old new done Taken writes all = all
-completed DumpTables old new done Taken writes all = all
-completed (DriveLoad seed count number) old new done Taken writes all = all
-completed (AuditRun printed names) old new done Taken writes all = absurd (let no : ⊥ = cc in no)
+completed : (meaning : Meaning) (old new : World) (done : List Done) (Taken : List ℕ → Type 0) → only_reads meaning ≡ false → (all : AllDone meaning old new done Taken)
+    → FromContent meaning all.opening done all.last all.text all.output old.medium → Completed meaning old new done Taken
+completed (FreshRun subscribers file) old new done Taken writes all from = all
+completed (FormatImage s c n k) old new done Taken writes all from = all
+completed (RunFiles frames locks files) old new done Taken writes all from = all
+completed RecoverImage old new done Taken writes all from = all
+completed DumpTables old new done Taken writes all from = all
+completed (DriveLoad seed count number) old new done Taken writes all from = all
+completed (AuditRun printed names) old new done Taken writes all from = absurd (let no : ⊥ = cc in no)
+completed (ShipFiles files) old new done Taken writes all from = record { all = all; from = from }
+completed (FollowFiles files) old new done Taken writes all from = all
 
 -- an opened image was refused
 ends_behind : {meaning : Meaning} {f g : FilesSight} {opening : Opening} {done : List Done} {last : ℕ} {s t : Sight} {k : SinkSight} (why : Fault) → Came meaning f g opening done last (Some why) s t
@@ -206,11 +219,12 @@ ends_faulted Unformatted came = absurd came.cause.2
 ends_faulted (Damaged a) came = absurd came.cause.2
 ends_faulted (NotDb a) came = absurd came.cause.2
 ends_faulted Output came = absurd came.cause.2
+ends_faulted (Strange a b) came = absurd came.cause.2
 ends_faulted {meaning} {f} {opening = opening} (Audit line) came = absurd (never_no meaning f opening line came.at.writes came.cause.2)
 
 module _ {meaning : Meaning} {f g : FilesSight} {opening : Opening} {done : List Done} {last : ℕ} {s t : Sight} (came : Came meaning f g opening done last None s t) (text : List ℕ)
-    (output : IsOutput meaning opening done last text) where
-  all_done : (k l : SinkSight) {Taken : List ℕ → Type 0} → Taken text → AllDone meaning (world_of s f k) (world_of t g l) done Taken
+    (output : Outputs meaning opening done last text s) where
+  abbrev all_done : (k l : SinkSight) {Taken : List ℕ → Type 0} → Taken text → AllDone meaning (world_of s f k) (world_of t g l) done Taken
   all_done k l taken = record {
     opening = opening;
     starts = came.at.starts;
@@ -223,7 +237,7 @@ module _ {meaning : Meaning} {f g : FilesSight} {opening : Opening} {done : List
     reachable = came.cause.reachable;
     end = came.cause.end;
     text = text;
-    output = output;
+    output = output.0;
     bytes = taken;
   }
 
@@ -233,7 +247,7 @@ module _ {meaning : Meaning} {f g : FilesSight} {opening : Opening} {done : List
   -- all was done and printed
   ends_whole : {k l : SinkSight} → Took text k l → Ends meaning (world_of s f k) (world_of t g l) done None
   ends_whole {k} {l} took = record {
-    headline = λ has. headline_of came None (completed meaning (world_of s f k) (world_of t g l) done (TookAll k l) came.at.writes (all_done k l {Taken = TookAll k l} took.taken));
+    headline = λ has. headline_of came None (completed meaning (world_of s f k) (world_of t g l) done (TookAll k l) came.at.writes (all_done k l {Taken = TookAll k l} took.taken) output.1);
     causes = causes_of came None tt tt (passed None) (λ good medium output. inl refl) tt came.ran came.once (sink_took took);
   }
 
@@ -245,7 +259,7 @@ module _ {meaning : Meaning} {f g : FilesSight} {opening : Opening} {done : List
       P x = Ends meaning (world_of s f k) (world_of t g l) done (Some x)
 
       all : Completed meaning (world_of s f k) (world_of t g l) done (TookPrefix k l)
-      all = completed meaning (world_of s f k) (world_of t g l) done (TookPrefix k l) came.at.writes (all_done k l {Taken = TookPrefix k l} (took_prefix stops))
+      all = completed meaning (world_of s f k) (world_of t g l) done (TookPrefix k l) came.at.writes (all_done k l {Taken = TookPrefix k l} (took_prefix stops)) output.1
 
       at_output : Risen k.faults l.faults → P Output
       at_output risen = record {
@@ -272,12 +286,12 @@ module _ {meaning : Meaning} {f g : FilesSight} {opening : Opening} {done : List
 
 -- What is printed decides how the command ends.
 pub ends_printed : {meaning : Meaning} {f g : FilesSight} {opening : Opening} {done : List Done} {last : ℕ} {s t : Sight} {k l : SinkSight} (text : List ℕ) (earlier fault : Option Fault)
-    → Came meaning f g opening done last earlier s t → IsOutput meaning opening done last text → PrintsText text earlier fault k l → Ends meaning (world_of s f k) (world_of t g l) done fault
+    → Came meaning f g opening done last earlier s t → (earlier ≡ None → Outputs meaning opening done last text s) → PrintsText text earlier fault k l → Ends meaning (world_of s f k) (world_of t g l) done fault
 ends_printed {meaning} {f} {g} {done = done} {s = s} {t = t} {k = k} {l = l} text (Some earlier) fault came output printed =
     subst (λ (o : Option Fault). Ends meaning (world_of s f k) (world_of t g l) done o) (sym printed.0)
     (subst (λ (x : SinkSight). Ends meaning (world_of s f k) (world_of t g x) done (Some earlier)) (sym printed.1) (ends_faulted earlier came))
-ends_printed text None None came output printed = ends_whole came text output printed
-ends_printed text None (Some fault) came output (inl stops) = ends_unprinted came text output fault stops
+ends_printed text None None came output printed = ends_whole came text (output refl) printed
+ends_printed text None (Some fault) came output (inl stops) = ends_unprinted came text (output refl) fault stops
 ends_printed {meaning} {f} {g} {done = done} {s = s} {t = t} {k = k} {l = l} text None (Some fault) came output (inr printed) =
     subst (λ (x : Fault). Ends meaning (world_of s f k) (world_of t g l) done (Some x)) (sym printed.0)
-    (subst (λ (x : SinkSight). Ends meaning (world_of s f k) (world_of t g x) done (Some Memory)) (sym printed.1) (ends_untold came text output))
+    (subst (λ (x : SinkSight). Ends meaning (world_of s f k) (world_of t g x) done (Some Memory)) (sym printed.1) (ends_untold came text (output refl)))

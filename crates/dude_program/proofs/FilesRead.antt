@@ -4,19 +4,19 @@ use Rattle.std.specs.Prelude.{if◌then◌else◌, nat_lt}
 use Rattle.std.specs.List.{All, AllZip, list_all}
 use Rattle.std.proofs.lemmas.Bool.Decides.{nat_tests}
 use Rattle.std.proofs.lemmas.List.{length-append, get_or_append_left}
-use Rattle.std.proofs.lemmas.List.Elements.{All-nil}
+use Rattle.std.proofs.lemmas.List.Elements.{All-cons, All-nil}
 use Rattle.std.proofs.Math.Seq.{get_or-append_seam}
 use Rattle.tatp_model.specs.declared.request.Request.{Request}
 use Rattle.tatp_csv.specs.RequestFile.{requests_of}
 use Rattle.dude_io.specs.Files.{FilesSight}
-use Rattle.command_edges.specs.CommandFile.{CommandFile, IsInLimit, IsInLimitAs, is_judged_first, request_file, request_files}
+use Rattle.command_edges.specs.CommandFile.{CommandFile, IsInLimit, IsInLimitAs, is_judged_first, packet_files, request_file, request_files}
 use Rattle.command_edges.specs.declared.file_kind.FileKind.{FileKind}
-use Rattle.command_edges.specs.declared.file_kind.FileKind.TheVariants.{Requests, Printed}
+use Rattle.command_edges.specs.declared.file_kind.FileKind.TheVariants.{Requests, Printed, Packets}
 use Rattle.command_edges.specs.Files.{IsBadAs, IsBadAt, IsFirst, IsFirstBad, IsGoodAs, IsGoodFile, MissesFile, OfFile}
 use Rattle.command_edges.specs.Reads.{ReadsInOrder}
 use Rattle.command_edges.proofs.Told.{all_good, not_both}
 use Rattle.command_edges.proofs.Order.{IsNoReadFault, all_in_order, then_fault, whole_none}
-use Rattle.command_words.specs.Command.{Meaning, Meaning.FreshRun, Meaning.FormatImage, Meaning.RunFiles, Meaning.RecoverImage, Meaning.DumpTables, Meaning.DriveLoad, Meaning.AuditRun}
+use Rattle.command_words.specs.Command.{Meaning, Meaning.FreshRun, Meaning.FormatImage, Meaning.RunFiles, Meaning.RecoverImage, Meaning.DumpTables, Meaning.DriveLoad, Meaning.AuditRun, Meaning.ShipFiles, Meaning.FollowFiles}
 use Rattle.command_edges.specs.declared.fault.Fault.{Fault}
 use Rattle.command_edges.specs.declared.fault.Fault.TheVariants.{Text}
 use Rattle.dude_program.specs.Opening.{command_files, judges_files}
@@ -69,6 +69,7 @@ one_place Requests f name r c s d visible a b =
     let bad : ◌≡◌ {A = Result (List Request) (ℕ × ℕ)} (Err (r, c)) (Err (s, d)) = sym a.1 ∙ (ap requests_of same ∙ b.1) in
     (ap row_of bad, ap field_of bad)
 one_place Printed f name r c s d visible a b = absurd a
+one_place Packets f name r c s d visible a b = absurd a
 
 -- there is one first bad file, and one place in it
 pub one_bad : (f : FilesSight) (names : List CommandFile) (n m r s c d : ℕ) → IsTrue f.is_visible → IsFirstBad names f n r c → IsFirstBad names f m s d
@@ -86,19 +87,26 @@ one_bad f names n m r s c d visible a b =
 
 -- ---- files of requests
 
-all_judged : (names : List (List ℕ)) → IsTrue (list_all (λ file. is_judged_first file.kind) (request_files names))
+pub all_judged : (names : List (List ℕ)) → IsTrue (list_all (λ file. is_judged_first file.kind) (request_files names))
 all_judged [] = refl
 all_judged (name ∷ names) = all_judged names
 
--- each command of today has its files judged first
-pub all_read : (meaning : Meaning) → IsTrue (judges_files meaning)
-all_read (FreshRun subscribers file) = refl
-all_read (FormatImage s c n k) = refl
-all_read (RunFiles frames locks files) = all_judged files
-all_read RecoverImage = refl
-all_read DumpTables = refl
-all_read (DriveLoad seed count number) = refl
-all_read (AuditRun printed files) = all_judged files
+all_packets : (names : List (List ℕ)) → All (λ file. file.kind ≡ Packets) (packet_files names)
+all_packets [] = All-nil (λ file. file.kind ≡ Packets)
+all_packets (name ∷ names) = All-cons (λ file. file.kind ≡ Packets) (record { name = name; kind = Packets }) (packet_files names) refl (all_packets names)
+
+-- a command of which a file is bad has its files judged first: packets are never bad there
+pub all_read : (meaning : Meaning) (f : FilesSight) (number row field : ℕ) → IsFirstBad (command_files meaning) f number row field → IsTrue (judges_files meaning)
+all_read (FreshRun subscribers file) f number row field first = refl
+all_read (FormatImage s c n k) f number row field first = refl
+all_read (RunFiles frames locks files) f number row field first = all_judged files
+all_read RecoverImage f number row field first = refl
+all_read DumpTables f number row field first = refl
+all_read (DriveLoad seed count files) f number row field first = refl
+all_read (AuditRun printed files) f number row field first = all_judged files
+all_read (ShipFiles files) f number row field first = all_judged files
+all_read (FollowFiles files) f number row field first =
+    absurd (subst (λ (kind : FileKind). IsBadAs kind f first.this.name row field) (this_of (λ file. file.kind ≡ Packets) (packet_files files) number (all_packets files) first) first.is_this)
 
 -- a text that isn't refused isn't too long
 not_long : {X E : Type 0} (b : Bool) (n : ℕ) (e : E) (rest : Result X E) (x : X) → nat_lt 16777216 n ≡ b → (if b then Err e else rest) ≡ Ok x → n ≤ 16777216
@@ -116,6 +124,7 @@ good_in_limit Requests f name good = λ visible text is.
     let same : good.1.0 ≡ text = some_one good.1.0 text (sym (good.1.2 visible) ∙ is) in
     subst (λ (t : List ℕ). length t ≤ 16777216) same (not_long (nat_lt 16777216 (length good.1.0)) (length good.1.0) (0, 0) _ good.0 refl good.1.1)
 good_in_limit Printed f name good = tt
+good_in_limit Packets f name good = tt
 
 files_in_limit : (f : FilesSight) (files : List CommandFile) → All (IsGoodFile f) files → All (IsInLimit f) files
 files_in_limit f files good = λ k d below. good_in_limit (get_or files k d).kind f (get_or files k d).name (good k d below)
@@ -124,6 +133,7 @@ files_in_limit f files good = λ k d below. good_in_limit (get_or files k d).kin
 there : (kind : FileKind) (f : FilesSight) (name : List ℕ) → IsTrue f.is_visible → IsGoodAs kind f name → IsSome (f.text name)
 there Requests f name visible good = subst IsSome (sym (good.1.2 visible)) refl
 there Printed f name visible good = good visible
+there Packets f name visible good = good visible
 
 gone : (o : Option (List ℕ)) → o ≡ None → IsSome o → ⊥
 gone None e h = cc h
@@ -153,6 +163,10 @@ fresh_files subscribers file {f} lists read reads = record { good = all_good f (
 pub run_files : (frames locks : Option ℕ) (names : List (List ℕ)) {f g : FilesSight} (lists : List (List Request)) → AllZip (OfFile f) names lists
     → ReadsInOrder (request_files names) None f g → FilesRead (RunFiles frames locks names) f g
 run_files frames locks names {f} lists read reads = record { good = all_good f names lists read; reads = reads }
+
+pub ship_files : (names : List (List ℕ)) {f g : FilesSight} (lists : List (List Request)) → AllZip (OfFile f) names lists
+    → ReadsInOrder (request_files names) None f g → FilesRead (ShipFiles names) f g
+ship_files names {f} lists read reads = record { good = all_good f names lists read; reads = reads }
 
 -- a command without files
 pub no_files : (meaning : Meaning) (f : FilesSight) → command_files meaning ≡ [] → FilesRead meaning f f

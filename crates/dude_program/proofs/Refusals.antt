@@ -4,12 +4,12 @@ use Rattle.std.specs.Prelude.{IsSomeAnd}
 use Rattle.std.specs.List.{AllZip}
 use Rattle.tatp_model.specs.declared.request.Request.{Request}
 use Rattle.dude_io.specs.Files.{FilesSight}
-use Rattle.command_words.specs.Command.{Meaning, Meaning.FreshRun, Meaning.FormatImage, Meaning.RunFiles, Meaning.RecoverImage, Meaning.DumpTables, Meaning.DriveLoad, Meaning.AuditRun}
+use Rattle.command_words.specs.Command.{Meaning, Meaning.FreshRun, Meaning.FormatImage, Meaning.RunFiles, Meaning.RecoverImage, Meaning.DumpTables, Meaning.DriveLoad, Meaning.AuditRun, Meaning.ShipFiles, Meaning.FollowFiles}
 use Rattle.command_edges.specs.Files.{OfFile}
 use Rattle.dude_engine.specs.Opening.{Opening}
 use Rattle.dude_engine.specs.Requests.{request_count}
 use Rattle.command_edges.specs.declared.fault.Fault.{Fault}
-use Rattle.command_edges.specs.declared.fault.Fault.TheVariants.{Usage, File, Text, Small, TooFew, Unformatted, Damaged, NotDb, ManyFiles, Frames, FewSubscribers, Numbers, Device, Output, Memory, Audit}
+use Rattle.command_edges.specs.declared.fault.Fault.TheVariants.{Usage, File, Text, Small, TooFew, Unformatted, Damaged, NotDb, ManyFiles, Frames, FewSubscribers, Numbers, Device, Output, Memory, Audit, Strange}
 use Rattle.dude_audit.specs.PrintedRun.{IsVerdict}
 use Rattle.dude_audit.specs.declared.verdict.Verdict.{Verdict}
 use Rattle.dude_audit.specs.declared.verdict.Verdict.TheVariants.{No}
@@ -74,6 +74,8 @@ one_no (RunFiles frames locks files) f opening a b visible one other = absurd on
 one_no RecoverImage f opening a b visible one other = absurd one
 one_no DumpTables f opening a b visible one other = absurd one
 one_no (DriveLoad seed count files) f opening a b visible one other = absurd one
+one_no (ShipFiles files) f opening a b visible one other = absurd one
+one_no (FollowFiles files) f opening a b visible one other = absurd one
 
 -- the command runs one list of lists of requests, where they are known
 pub one_requests : (meaning : Meaning) (f : FilesSight) (opening : Opening) (a b : List (List Request)) → KnowsRequests meaning f → RequestsAre meaning f opening a → RequestsAre meaning f opening b → a ≡ b
@@ -84,6 +86,8 @@ one_requests RecoverImage f opening a b known one other = one ∙ sym other
 one_requests DumpTables f opening a b known one other = one ∙ sym other
 one_requests (AuditRun printed files) f opening a b known one other = one ∙ sym other
 one_requests (DriveLoad seed count files) f opening a b known one other = one ∙ sym other
+one_requests (ShipFiles files) f opening a b visible one other = one_of_files f files a b visible one other
+one_requests (FollowFiles files) f opening a b known one other = one ∙ sym other
 
 -- the frames that are wanted are those that the words name
 one_frames : (meaning : Meaning) (v w pages : ℕ) → WantsFrames meaning v pages → WantsFrames meaning w pages → v ≡ w
@@ -95,6 +99,8 @@ one_frames RecoverImage v w pages one other = absurd one
 one_frames DumpTables v w pages one other = absurd one
 one_frames (DriveLoad seed count files) v w pages one other = absurd one
 one_frames (AuditRun printed files) v w pages one other = absurd one
+one_frames (ShipFiles files) v w pages one other = absurd one
+one_frames (FollowFiles files) v w pages one other = absurd one
 
 one_load : (meaning : Meaning) (subscribers v w : ℕ) → WantsSubscribers meaning subscribers v → WantsSubscribers meaning subscribers w → v ≡ w
 one_load (DriveLoad seed count files) subscribers v w one other = one.0 ∙ sym other.0
@@ -104,6 +110,8 @@ one_load (FormatImage s c n k) subscribers v w one other = absurd one
 one_load RecoverImage subscribers v w one other = absurd one
 one_load DumpTables subscribers v w one other = absurd one
 one_load (AuditRun printed files) subscribers v w one other = absurd one
+one_load (ShipFiles files) subscribers v w one other = absurd one
+one_load (FollowFiles files) subscribers v w one other = absurd one
 
 -- no command wants both
 never_both : (meaning : Meaning) (v w pages subscribers : ℕ) → WantsFrames meaning v pages → WantsSubscribers meaning subscribers w → ⊥
@@ -114,6 +122,8 @@ never_both (FormatImage s c n k) v w pages subscribers one other = absurd one
 never_both RecoverImage v w pages subscribers one other = absurd one
 never_both DumpTables v w pages subscribers one other = absurd one
 never_both (AuditRun printed files) v w pages subscribers one other = absurd one
+never_both (ShipFiles files) v w pages subscribers one other = absurd one
+never_both (FollowFiles files) v w pages subscribers one other = absurd one
 
 -- What an audit has none of.
 record IsAlone (meaning : Meaning) : Type 0 where
@@ -132,6 +142,8 @@ alone (RunFiles frames locks files) f opening line says = absurd says
 alone RecoverImage f opening line says = absurd says
 alone DumpTables f opening line says = absurd says
 alone (DriveLoad seed count files) f opening line says = absurd says
+alone (ShipFiles files) f opening line says = absurd says
+alone (FollowFiles files) f opening line says = absurd says
 
 pub never_no : (meaning : Meaning) (f : FilesSight) (opening : Opening) (line : ℕ) → only_reads meaning ≡ false → RefusesAudit meaning f opening line → ⊥
 never_no meaning f opening line writes says = let reads = (alone meaning f opening line says).reads in let never : ⊥ = cc in never
@@ -163,6 +175,7 @@ which meaning f opening Device r = absurd r
 which meaning f opening Output r = absurd r
 which meaning f opening Memory r = absurd r
 which meaning f opening (Audit line) r = said_no line refl r
+which meaning f opening (Strange a b) r = absurd r
 
 -- an opened image isn't refused where nothing refuses it
 pub passes_if : (meaning : Meaning) (f : FilesSight) (opening : Opening) → ((line : ℕ) → KnowsCause meaning f opening (Audit line) → RefusesAudit meaning f opening line → ⊥) → files_run meaning ≤ opening.sizes.rings → ((wanted : ℕ) → ¬ WantsFrames meaning wanted opening.sizes.pages)

@@ -18,14 +18,14 @@ use Rattle.image_format.specs.FormatCalls.{format_calls}
 use Rattle.image_opening.specs.Answers.{OpensSome, StillRecovers}
 use Rattle.image_opening.proofs.OpeningMoments.{opened_some, opens_calls}
 use Rattle.image_opening.proofs.SettledReads.{content_kept}
-use Rattle.command_words.specs.Command.{Meaning, Meaning.FreshRun, Meaning.FormatImage, Meaning.RunFiles, Meaning.RecoverImage, Meaning.DumpTables, Meaning.DriveLoad, Meaning.AuditRun}
+use Rattle.command_words.specs.Command.{Meaning, Meaning.FreshRun, Meaning.FormatImage, Meaning.RunFiles, Meaning.RecoverImage, Meaning.DumpTables, Meaning.DriveLoad, Meaning.AuditRun, Meaning.ShipFiles, Meaning.FollowFiles}
 use Rattle.command_edges.specs.Files.{HasFileFault, MissesFile}
 use Rattle.command_edges.specs.Files as read
 use Rattle.command_edges.specs.Reads.{ReadsInOrder}
 use Rattle.command_edges.proofs.Order.{IsNoReadFault, stopped_in_order, whole_none}
 use Rattle.dude_engine.specs.Opening.{Opening}
 use Rattle.command_edges.specs.declared.fault.Fault.{Fault}
-use Rattle.command_edges.specs.declared.fault.Fault.TheVariants.{Usage, File, Text, Small, TooFew, Unformatted, Damaged, NotDb, ManyFiles, Frames, FewSubscribers, Numbers, Device, Output, Memory, Audit}
+use Rattle.command_edges.specs.declared.fault.Fault.TheVariants.{Usage, File, Text, Small, TooFew, Unformatted, Damaged, NotDb, ManyFiles, Frames, FewSubscribers, Numbers, Device, Output, Memory, Audit, Strange}
 use Rattle.command_openings.specs.Opens.{FailsOpening, OpensPartly, ShowsOpening}
 use Rattle.command_openings.specs.Faults.{HasFormatFault, HasOpenFault}
 use Rattle.command_openings.specs.Openings.{IsOpeningOn, new_opening}
@@ -124,9 +124,9 @@ module _ (meaning : Meaning) {s : Sight} {f : FilesSight} {k : SinkSight} (prefi
       ends_uncalled (Text n r c) read (λ reads. has.0) (record {
         missing = λ visible misses. absurd (missing visible misses);
         bad = λ reads visible number row field bad. inl (one_bad f (command_files meaning) n number r row c field visible has.0 bad);
-        format = λ why refuses. inr (all_read meaning);
-        content = λ opens visible why refuses. inr (all_read meaning);
-        opening = λ opens visible opening starts why refuses. inr (all_read meaning);
+        format = λ why refuses. inr (all_read meaning f n r c has.0);
+        content = λ opens visible why refuses. inr (all_read meaning f n r c has.0);
+        opening = λ opens visible opening starts why refuses. inr (all_read meaning f n r c has.0);
       }) (λ good medium files output. absurd (good_none_bad f (command_files meaning) n r c good.files good.good has.0)) ((λ reads. refl), refl) (inl (refl, tt)) refl (λ e. let no : ⊥ = cc in no)
   ends_at_files Memory read has missing =
       ends_uncalled Memory read tt (order_unread Memory tt tt tt) (λ good medium files output. inr refl) tt (inl (refl, unopened meaning (makes_image meaning) s)) (inl (inl refl)) (λ e. let no : ⊥ = cc in no)
@@ -143,6 +143,7 @@ module _ (meaning : Meaning) {s : Sight} {f : FilesSight} {k : SinkSight} (prefi
   ends_at_files Device read has missing = absurd has
   ends_at_files Output read has missing = absurd has
   ends_at_files (Audit a) read has missing = absurd has
+  ends_at_files (Strange a b) read has missing = absurd has
 
 -- a medium that wasn't called
 prefix_new : (opening : Opening) (s : Sight) → OpensPartly true opening s s
@@ -163,6 +164,8 @@ prefix_at_rest RecoverImage s settled opening starts = prefix_old opening s sett
 prefix_at_rest DumpTables s settled opening starts = prefix_old opening s settled starts
 prefix_at_rest (DriveLoad seed count files) s settled opening starts = prefix_old opening s settled starts
 prefix_at_rest (AuditRun printed files) s settled opening starts = prefix_old opening s settled starts
+prefix_at_rest (ShipFiles files) s settled opening starts = prefix_old opening s settled starts
+prefix_at_rest (FollowFiles files) s settled opening starts = prefix_old opening s settled starts
 
 -- there was no memory for the words
 pub ends_at_words : (meaning : Meaning) (s : Sight) (f : FilesSight) (k : SinkSight) → (IsTrue s.is_visible → IsSettled s.len (state_now s))
@@ -269,6 +272,7 @@ module _ {meaning : Meaning} {sizes : Sizes} {s t : Sight} {f g : FilesSight} (m
   ends_at_format (Numbers a b) has = absurd has
   ends_at_format Output has = absurd has
   ends_at_format (Audit a) has = absurd has
+  ends_at_format (Strange a b) has = absurd has
 
 -- ---- where an image is opened
 
@@ -374,3 +378,4 @@ module _ {meaning : Meaning} {s t : Sight} {f g : FilesSight} (opener : IsOpener
   ends_at_open (Numbers a b) has = absurd has
   ends_at_open Output has = absurd has
   ends_at_open (Audit a) has = absurd has
+  ends_at_open (Strange a b) has = absurd has

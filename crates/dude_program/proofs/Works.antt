@@ -1,7 +1,7 @@
 -- A run over an opened image, as the command sees it; the requests of a load; and texts.
 use Rattle.std.proofs.Common.{◌≡◌, ◌⊎◌, ◌↔◌, Bool, true, false, IsTrue, ℕ, zero, suc, ◌+◌, ◌<◌, ◌≤◌, List, [], ◌∷◌, ◌++◌, length, map, refl, sym, ◌∙◌, ap, subst, inl, inr, arith, Some, None, Result, Ok, Err, Vec, Global, take, get_or}
 use Rattle.std.specs.Result.{result_err}
-use Rattle.std.specs.Prelude.{OnOk, IfErr}
+use Rattle.std.specs.Prelude.{OnOk, IfErr, ⊤}
 use Rattle.std.specs.List.{All, range_with_len}
 use Rattle.std.proofs.lemmas.List.{length-map, map_more, map-append}
 use Rattle.std.proofs.lemmas.List.Elements.{All-append, All-cons, All-head, All-nil, All-tail}
@@ -18,7 +18,10 @@ use Rattle.legal_order.proofs.Printing.{law_parts}
 use Rattle.dude_io.specs.Sink.{SinkSight, Took}
 use Rattle.back_store.specs.Back.{BackState, idle}
 use Rattle.back_store.specs.Operations.{MakesOperations}
-use Rattle.image_opening.specs.Opened.{HoldsOpened}
+use Rattle.pmem_trait.specs.declared.medium.Medium.{Ghosts}
+use Rattle.back_store.specs.BackView.{sight_of}
+use Rattle.image_opening.specs.declared.opened.Opened.{Opened}
+use Rattle.image_opening.specs.Opened.{HoldsOpened, IsOpened}
 use Rattle.run_threads.specs.Ends.{EndsWhole}
 use Rattle.command_openings.proofs.Images.{none_behind}
 use Rattle.command_edges.specs.Printing.{FailsIn}
@@ -29,11 +32,12 @@ use Rattle.dude_engine.specs.declared.ran.RanEnd.{RanEnd}
 use Rattle.dude_engine.specs.declared.ran.RanEnd.TheVariants.{Whole, NoMemory}
 use Rattle.dude_engine.specs.declared.ran.RanEnd.TheVariants as ran
 use Rattle.dude_engine.specs.Plain as plain
+use Rattle.dude_engine.proofs.LogOperations.{run_makes}
 use Rattle.dude_engine.proofs.Numbering.{greatest_all, greatest_from}
 use Rattle.command_edges.specs.declared.fault.Fault.{Fault}
 use Rattle.command_edges.specs.declared.fault.Fault.TheVariants.{Device, Memory}
 use Rattle.dude_program.specs.Causes.{FailsOnlyAtDevice}
-use Rattle.dude_program.specs.Work.{PrintsText, fault_of_end}
+use Rattle.dude_program.specs.Work.{PrintsText, RanOver, fault_of_end}
 
 pub whole_end : (end : RanEnd) → fault_of_end end ≡ None → end ≡ Whole
 whole_end Whole e = refl
@@ -111,6 +115,26 @@ ends_whole_at opening words requests done last s t whole = record {
 
 pub ran_end : (end : RanEnd) (s t : Sight) → plain.RanUnlessDevice end s t → FailsOnlyAtDevice (fault_of_end end) s t
 ran_end end s t r = (r.0, r.1, (λ failed. ap fault_of_end (r.2.0 failed), λ is. r.2.1 (device_end end is)))
+
+-- a run on one thread, from what its parts say
+module _ {M : Type 0} {ghosts : Ghosts M} (o : Opened M ghosts) (opened : IsOpened o) (files : List (Vec Request Global)) (done : List Done) (end : RanEnd) (last : ℕ) (t : Sight) (opening : Opening)
+    (own : plain.IsOpeningOf o opening) (answers : plain.AnswersFiles opening (requests_in files) done) (syncs : plain.TellsSyncs o.number done (sight_of o.back) t)
+    (moments : plain.RecoversOnTheRun opening o.words.items done (sight_of o.back) t) (ends : plain.EndsAs o (requests_in files) done end last t) where
+  pub ran_over_plain : RanOver false ⊤ (IsUpToLast opening) opening o.words.items (requests_in files) done last (fault_of_end end) (sight_of o.back) t
+  ran_over_plain = record {
+    numbers = numbers_of opening.number opening.sizes.calls opening.database (requests_in files) done answers.replies;
+    replies = λ known. answers.replies;
+    syncs_follow = syncs.follow;
+    syncs_from = λ i d below sync. omega (arith, syncs.from i d below sync, own.number);
+    syncs_told = λ visible i d below sync. inr (syncs.told visible i d below sync);
+    moments = moments;
+    whole = λ none. ends_whole_at opening o.words.items (requests_in files) done last (sight_of o.back) t (ends.whole (whole_end end none) opening own);
+    operates = λ none. run_makes (ends.calls (whole_end end none)) opened.idle own.sizes own.number;
+    few_lost = inr (lost_end end opening o.words.items done (sight_of o.back) t ends.ran (ends.few_lost opening own));
+    ran = ran_end end (sight_of o.back) t ends.ran;
+    cause = λ is. ends.cause (device_end end is);
+    only = only_ends end;
+  }
 
 -- ---- a text
 

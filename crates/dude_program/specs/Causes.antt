@@ -16,16 +16,17 @@ use Rattle.back_store.specs.Back.{idle}
 use Rattle.image_recovery.specs.Recovered.{IsNoDatabase, RecoversTo}
 use Rattle.image_format.specs.Causes.{FormatsSome}
 use Rattle.image_opening.specs.Answers.{OpensSome}
-use Rattle.command_words.specs.Command.{Meaning, Meaning.FreshRun, Meaning.FormatImage, Meaning.RunFiles, Meaning.RecoverImage, Meaning.DumpTables, Meaning.DriveLoad, Meaning.AuditRun}
+use Rattle.command_words.specs.Command.{Meaning, Meaning.FreshRun, Meaning.FormatImage, Meaning.RunFiles, Meaning.RecoverImage, Meaning.DumpTables, Meaning.DriveLoad, Meaning.AuditRun, Meaning.ShipFiles, Meaning.FollowFiles}
 use Rattle.command_edges.specs.Files.{HasReadFault, IsFirstBad, IsGoodFile, MissesFile}
 use Rattle.command_edges.specs.Reads.{ReadsInOrder}
 use Rattle.command_openings.specs.Opens.{FailsOpening, OpensByCalls}
 use Rattle.dude_engine.specs.Opening.{Opening, IsOpening}
 use Rattle.dude_engine.specs.Requests.{request_count}
 use Rattle.command_edges.specs.declared.fault.Fault.{Fault}
-use Rattle.command_edges.specs.declared.fault.Fault.TheVariants.{Usage, File, Text, Small, TooFew, Unformatted, Damaged, NotDb, ManyFiles, Frames, FewSubscribers, Numbers, Device, Output, Memory, Audit}
+use Rattle.command_edges.specs.declared.fault.Fault.TheVariants.{Usage, File, Text, Small, TooFew, Unformatted, Damaged, NotDb, ManyFiles, Frames, FewSubscribers, Numbers, Device, Output, Memory, Audit, Strange}
 use Rattle.command_edges.specs.CommandFile.{IsInLimit}
 use Rattle.dude_program.specs.Audit.{IsRefusedRun}
+use Rattle.dude_program.specs.Delivery.{IsRefusedDelivery}
 use Rattle.back_store.specs.Operations.{MakesOperations}
 use Rattle.dude_program.specs.Opening.{RequestsAre, Starts, command_files, ends_opened, fresh_sizes, judges_files, makes_image, only_reads}
 use Rattle.dude_program.specs.World.{World, IsSameWorld, SinkStays}
@@ -39,8 +40,10 @@ sizes_made RecoverImage = None
 sizes_made DumpTables = None
 sizes_made (DriveLoad seed count number) = None
 sizes_made (AuditRun printed files) = None
+sizes_made (ShipFiles files) = None
+sizes_made (FollowFiles files) = None
 
--- how many files the command runs: request files, or those of its load; an audit runs none
+-- how many files the command runs: request files, or those of its load; an audit runs none, nor does a follower
 abbrev pub files_run : Meaning → ℕ
 files_run (FreshRun subscribers file) = 1
 files_run (FormatImage subscribers calls rings cells) = 0
@@ -49,6 +52,8 @@ files_run RecoverImage = 0
 files_run DumpTables = 0
 files_run (DriveLoad seed count number) = number
 files_run (AuditRun printed files) = 0
+files_run (ShipFiles files) = length files
+files_run (FollowFiles files) = 0
 
 -- The frames asked for are out of their limits: more than the pages, or fewer than 32 and than the pages.
 abbrev pub WantsFrames : Meaning → ℕ → ℕ → Type 0
@@ -60,6 +65,8 @@ WantsFrames RecoverImage wanted pages = ⊥
 WantsFrames DumpTables wanted pages = ⊥
 WantsFrames (DriveLoad seed count number) wanted pages = ⊥
 WantsFrames (AuditRun printed files) wanted pages = ⊥
+WantsFrames (ShipFiles files) wanted pages = ⊥
+WantsFrames (FollowFiles files) wanted pages = ⊥
 
 -- the command is a load of more files than there are subscribers
 abbrev pub WantsSubscribers : Meaning → ℕ → ℕ → Type 0
@@ -70,6 +77,8 @@ WantsSubscribers RecoverImage subscribers wanted = ⊥
 WantsSubscribers DumpTables subscribers wanted = ⊥
 WantsSubscribers (DriveLoad seed count number) subscribers wanted = (wanted ≡ number) × (subscribers < number)
 WantsSubscribers (AuditRun printed files) subscribers wanted = ⊥
+WantsSubscribers (ShipFiles files) subscribers wanted = ⊥
+WantsSubscribers (FollowFiles files) subscribers wanted = ⊥
 
 -- whether the numbers of the command may run out
 abbrev pub DrawsNumbers : Meaning → Type 0
@@ -80,6 +89,8 @@ DrawsNumbers RecoverImage = ⊥
 DrawsNumbers DumpTables = ⊥
 DrawsNumbers (DriveLoad seed count number) = ⊤
 DrawsNumbers (AuditRun printed files) = ⊥
+DrawsNumbers (ShipFiles files) = ⊤
+DrawsNumbers (FollowFiles files) = ⊥
 
 -- the numbers from the opening one on may not be enough for so many requests
 abbrev pub WantsNumbers : Meaning → FilesSight → Opening → ℕ → Type 0
@@ -96,6 +107,20 @@ RefusesAudit RecoverImage files opening line = ⊥
 RefusesAudit DumpTables files opening line = ⊥
 RefusesAudit (DriveLoad seed count number) files opening line = ⊥
 RefusesAudit (AuditRun printed names) files opening line = IsRefusedRun printed names files opening line
+RefusesAudit (ShipFiles names) files opening line = ⊥
+RefusesAudit (FollowFiles names) files opening line = ⊥
+
+-- packets of the command's files are refused behind the opening, for this
+abbrev pub RefusesPackets : Meaning → FilesSight → Opening → Fault → Type 0
+RefusesPackets (FreshRun subscribers file) files opening why = ⊥
+RefusesPackets (FormatImage subscribers calls rings cells) files opening why = ⊥
+RefusesPackets (RunFiles frames locks names) files opening why = ⊥
+RefusesPackets RecoverImage files opening why = ⊥
+RefusesPackets DumpTables files opening why = ⊥
+RefusesPackets (DriveLoad seed count number) files opening why = ⊥
+RefusesPackets (AuditRun printed names) files opening why = ⊥
+RefusesPackets (ShipFiles names) files opening why = ⊥
+RefusesPackets (FollowFiles names) files opening why = IsRefusedDelivery names files opening why
 
 -- Why the opened image, or the one that was only read, is refused: the first of these that fits.
 abbrev pub RefusesOpening : Meaning → FilesSight → Opening → Fault → Type 0
@@ -121,6 +146,8 @@ KnowsRequests RecoverImage files = ⊤
 KnowsRequests DumpTables files = ⊤
 KnowsRequests (DriveLoad seed count number) files = ⊤
 KnowsRequests (AuditRun printed names) files = ⊤
+KnowsRequests (ShipFiles names) files = IsTrue files.is_visible
+KnowsRequests (FollowFiles names) files = ⊤
 
 -- What a refusal of the opened image rests on is known: for too few numbers the requests too; for an audit the files, which have
 -- one verdict at most; else the words and the image.
@@ -173,6 +200,14 @@ pub record RefusedBehind (meaning : Meaning) (old new : World) (fault : Fault) :
   -- it is left opened, or was only read
   pub left : IsLeft meaning opening old.medium new.medium
 
+-- Packets of the command's files are refused so, behind an opening of its own.
+pub record RefusedPackets (meaning : Meaning) (old : World) (fault : Fault) : Type 0 where
+  pub opening : Opening
+  pub opens : makes_image meaning ≡ false
+  pub starts : Starts meaning old.medium opening
+  pub lawful : IsOpening opening
+  pub why : RefusesPackets meaning old.files opening fault
+
 -- Why the command ended with this fault, if any. Want of memory is free.
 abbrev pub HasCause : Meaning → World → World → Option Fault → Type 0
 HasCause meaning old new None = ⊤
@@ -188,6 +223,7 @@ HasCause meaning old new (Some (Small has needs)) = RefusesFormat meaning old.me
 HasCause meaning old new (Some (TooFew rows calls)) = RefusesFormat meaning old.medium.len (TooFew rows calls)
 HasCause meaning old new (Some Device) = Risen old.medium.faults new.medium.faults
 HasCause meaning old new (Some Output) = Risen old.sink.faults new.sink.faults
+HasCause meaning old new (Some (Strange file packet)) = RefusedPackets meaning old (Strange file packet)
 HasCause meaning old new (Some fault) = RefusedBehind meaning old new fault
 
 -- The command ended in reading its files: one couldn't be read, or there was no memory.
@@ -220,14 +256,15 @@ pub record RefusesInOrder (meaning : Meaning) (old : World) (fault : Option Faul
       → Starts meaning old.medium opening → (why : Fault) → MustRefuse meaning old.files opening why
       → (fault ≡ Some why) ⊎ StoppedByOpening meaning fault
 
--- Nothing refuses the command: its files are there, and those of requests hold requests; the medium is long enough for an image that holds the
--- population, or its content recovers to an opening that isn't refused.
+-- Nothing refuses the command: its files are there, and those of requests hold requests; the medium is long enough for an
+-- image that holds the population, or its content recovers to an opening that isn't refused; and no packet is refused.
 pub record IsGood (meaning : Meaning) (old : World) : Type 0 where
   pub files : IsTrue old.files.is_visible
   pub good : All (IsGoodFile old.files) (command_files meaning)
   pub fits : (why : Fault) → ¬ RefusesFormat meaning old.medium.len why
   pub opens : makes_image meaning ≡ false → IsTrue old.medium.is_visible
       × ((opening : Opening) × Starts meaning old.medium opening × ((why : Fault) → ¬ RefusesOpening meaning old.files opening why))
+  pub delivered : (opening : Opening) → Starts meaning old.medium opening → (why : Fault) → ¬ RefusesPackets meaning old.files opening why
 
 -- Completeness: where nothing refuses the command and no count of faults rose, it ends well, or there was no memory.
 abbrev pub SucceedsIfGood : Meaning → World → World → Option Fault → Type 0
@@ -252,6 +289,7 @@ Untouched meaning (Some (Frames frames pages)) s t done = done ≡ []
 Untouched meaning (Some (FewSubscribers subscribers files)) s t done = done ≡ []
 Untouched meaning (Some (Numbers number requests)) s t done = done ≡ []
 Untouched meaning (Some (Audit line)) s t done = OnlyReads true s t × (done ≡ [])
+Untouched meaning (Some (Strange file packet)) s t done = done ≡ []
 Untouched meaning _ s t done = ⊤
 
 -- The command's files are judged first and visible, and refuse it: not each is there and good, or one is too long.

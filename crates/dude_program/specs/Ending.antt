@@ -1,9 +1,10 @@
 -- How a command ended: one that means something, and one that is given by its words.
-use Rattle.std.specs.Prelude.{◌≡◌, ℕ, IsTrue, Option, Some, None, List}
+use Rattle.std.specs.Prelude.{◌≡◌, ℕ, ⊤, IsTrue, Option, Some, None, List}
 use Rattle.tatp_model.specs.declared.done.Done.{Done}
 use Rattle.command_edges.specs.declared.fault.Fault.{Fault}
-use Rattle.command_words.specs.Command.{Meaning, meaning_of}
+use Rattle.command_words.specs.Command.{Meaning, Meaning.FollowFiles, meaning_of}
 use Rattle.dude_program.specs.World.{World}
+use Rattle.dude_program.specs.Follow.{FollowsFiles}
 use Rattle.dude_program.specs.Headline.{Headline}
 use Rattle.dude_program.specs.Opening.{has_headline}
 use Rattle.dude_program.specs.Causes.{Causes, RefusesWords}
@@ -12,6 +13,11 @@ use Rattle.dude_program.specs.Causes.{Causes, RefusesWords}
 pub record Ends (own : Meaning) (old new : World) (done : List Done) (fault : Option Fault) : Type 0 where
   pub headline : IsTrue (has_headline own) → Headline own old new done fault
   pub causes : Causes own old new done fault
+
+-- What a command promises in place of the headline, where it has a theorem of its own.
+abbrev pub HasOwnTheorem : Meaning → World → World → Option Fault → Type 0
+HasOwnTheorem (FollowFiles names) old new fault = FollowsFiles names old new fault
+HasOwnTheorem _ old new fault = ⊤
 
 -- Words that mean nothing are refused.
 abbrev pub RefusesNoCommand : List (List ℕ) → World → World → List Done → Option Fault → Type 0
@@ -25,3 +31,8 @@ HeadlineByWords words old new done fault =
 -- Where the words mean a command, each fault comes when the causes say, and what stays then is as they say.
 abbrev pub CausesByWords : List (List ℕ) → World → World → List Done → Option Fault → Type 0
 CausesByWords words old new done fault = (own : Meaning) → meaning_of words ≡ Some own → Causes own old new done fault
+
+-- Where the words mean `follow`, it does what it promises in place of the headline.
+abbrev pub FollowsByWords : List (List ℕ) → World → World → Option Fault → Type 0
+FollowsByWords words old new fault =
+    (names : List (List ℕ)) → meaning_of words ≡ Some (FollowFiles names) → FollowsFiles names old new fault

@@ -21,8 +21,9 @@ use Rattle.dude_engine.specs.Endings.{AreSyncsTold, End, LosesAtMost}
 use Rattle.dude_engine.specs.Plain.{most_lost_by}
 use Rattle.command_edges.specs.declared.fault.Fault.{Fault}
 use Rattle.command_edges.specs.declared.fault.Fault.TheVariants.{Device, Output, Memory}
-use Rattle.command_words.specs.Command.{Meaning, Meaning.FreshRun, Meaning.FormatImage, Meaning.RunFiles, Meaning.RecoverImage, Meaning.DumpTables, Meaning.DriveLoad, Meaning.AuditRun}
+use Rattle.command_words.specs.Command.{Meaning, Meaning.FreshRun, Meaning.FormatImage, Meaning.RunFiles, Meaning.RecoverImage, Meaning.DumpTables, Meaning.DriveLoad, Meaning.AuditRun, Meaning.ShipFiles, Meaning.FollowFiles}
 use Rattle.dude_program.specs.Audit.{IsRunFound}
+use Rattle.dude_program.specs.Ship.{ShipsContent}
 use Rattle.dude_program.specs.World.{World}
 use Rattle.command_openings.specs.Opens.{TellsAtMost}
 use Rattle.dude_program.specs.Opening.{makes_image, only_reads, runs_requests, runs_threads, Starts, RequestsAre, KnowsReplies, IsReachable, IsOutput, prints_early}
@@ -116,6 +117,12 @@ pub record SaidYes (printed : List ℕ) (names : List (List ℕ)) (old : World) 
   -- and the sink took this much of it
   pub bytes : Taken text
 
+-- All requests are done, and of the packets of their run the sink took this much. The array that these lead from is the one
+-- to which the content recovers.
+pub record ShippedAll (files : List (List ℕ)) (old new : World) (done : List Done) (Taken : List ℕ → Type 0) : Type 0 where
+  pub all : AllDone (ShipFiles files) old new done Taken
+  pub from : ShipsContent all.output old.medium
+
 -- What a command that came to its output has found or done: an audit has said yes, and each other one has done all.
 abbrev pub Completed : Meaning → World → World → List Done → (List ℕ → Type 0) → Type 0
 Completed (FreshRun subscribers file) old new done Taken = AllDone (FreshRun subscribers file) old new done Taken
@@ -125,6 +132,8 @@ Completed RecoverImage old new done Taken = AllDone RecoverImage old new done Ta
 Completed DumpTables old new done Taken = AllDone DumpTables old new done Taken
 Completed (DriveLoad seed count number) old new done Taken = AllDone (DriveLoad seed count number) old new done Taken
 Completed (AuditRun printed names) old new done Taken = SaidYes printed names old done Taken
+Completed (ShipFiles files) old new done Taken = ShippedAll files old new done Taken
+Completed (FollowFiles files) old new done Taken = AllDone (FollowFiles files) old new done Taken
 
 -- the sink took all of a text
 abbrev pub TookAll : SinkSight → SinkSight → List ℕ → Type 0

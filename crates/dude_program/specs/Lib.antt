@@ -1,8 +1,13 @@
 pub mod Audit
 pub mod Causes
+pub mod Delivery
 pub mod Ending
+pub mod Follow
 pub mod Headline
 pub mod Judging
 pub mod Opening
+pub mod Ship
+pub mod Shipping
+pub mod Taking
 pub mod Work
 pub mod World

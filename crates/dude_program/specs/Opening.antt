@@ -11,11 +11,12 @@ use Rattle.tatp_text.specs.Dump.{dump_text}
 use Rattle.tatp_text.specs.Load.{mixed}
 use Rattle.tatp_text.specs.Summary.{summary_of}
 use Rattle.dude_io.specs.Files.{FilesSight}
-use Rattle.command_words.specs.Command.{Meaning, Meaning.FreshRun, Meaning.FormatImage, Meaning.RunFiles, Meaning.RecoverImage, Meaning.DumpTables, Meaning.DriveLoad, Meaning.AuditRun}
+use Rattle.command_words.specs.Command.{Meaning, Meaning.FreshRun, Meaning.FormatImage, Meaning.RunFiles, Meaning.RecoverImage, Meaning.DumpTables, Meaning.DriveLoad, Meaning.AuditRun, Meaning.ShipFiles, Meaning.FollowFiles}
 use Rattle.command_edges.specs.Files.{OfFile}
 use Rattle.dude_engine.specs.Opening.{Opening, last_of}
 use Rattle.command_openings.specs.Openings.{IsOpeningOn, new_opening}
-use Rattle.command_edges.specs.CommandFile.{CommandFile, audit_files, is_judged_first, request_files}
+use Rattle.command_edges.specs.CommandFile.{CommandFile, audit_files, is_judged_first, packet_files, request_files}
+use Rattle.dude_program.specs.Ship.{IsShipment}
 
 -- the sizes of the image that `fresh` makes
 abbrev pub fresh_sizes : ℕ → Sizes
@@ -40,6 +41,8 @@ properties_of RecoverImage = record { makes_image = false; runs_requests = false
 properties_of DumpTables = record { makes_image = false; runs_requests = false; runs_threads = false; ends_opened = true; only_reads = false; prints_early = false; has_headline = true }
 properties_of (DriveLoad seed count number) = record { makes_image = false; runs_requests = true; runs_threads = true; ends_opened = false; only_reads = false; prints_early = false; has_headline = true }
 properties_of (AuditRun printed files) = record { makes_image = false; runs_requests = false; runs_threads = false; ends_opened = true; only_reads = true; prints_early = false; has_headline = true }
+properties_of (ShipFiles files) = record { makes_image = false; runs_requests = true; runs_threads = false; ends_opened = false; only_reads = false; prints_early = false; has_headline = true }
+properties_of (FollowFiles files) = record { makes_image = false; runs_requests = false; runs_threads = false; ends_opened = false; only_reads = false; prints_early = false; has_headline = false }
 
 -- whether the command makes its image anew
 abbrev pub makes_image : Meaning → Bool
@@ -79,6 +82,8 @@ Starts RecoverImage medium opening = IsOpeningOn medium opening
 Starts DumpTables medium opening = IsOpeningOn medium opening
 Starts (DriveLoad seed count number) medium opening = IsOpeningOn medium opening
 Starts (AuditRun printed files) medium opening = IsOpeningOn medium opening
+Starts (ShipFiles files) medium opening = IsOpeningOn medium opening
+Starts (FollowFiles files) medium opening = IsOpeningOn medium opening
 
 -- the load of so many files, one of each
 abbrev pub load_of : ℕ → ℕ → ℕ → ℕ → List (List Request)
@@ -93,6 +98,8 @@ command_files RecoverImage = []
 command_files DumpTables = []
 command_files (DriveLoad seed count number) = []
 command_files (AuditRun printed files) = audit_files printed files
+command_files (ShipFiles files) = request_files files
+command_files (FollowFiles files) = packet_files files
 
 -- Whether all that the command reads in files is judged before its medium is called. A command with other files says by
 -- itself when it judges them.
@@ -107,6 +114,8 @@ RequestsAre (RunFiles frames locks names) files opening requests = AllZip (OfFil
 RequestsAre RecoverImage files opening requests = requests ≡ []
 RequestsAre DumpTables files opening requests = requests ≡ []
 RequestsAre (AuditRun printed names) files opening requests = requests ≡ []
+RequestsAre (ShipFiles names) files opening requests = AllZip (OfFile files) names requests
+RequestsAre (FollowFiles names) files opening requests = requests ≡ []
 RequestsAre (DriveLoad seed count number) files opening requests = requests ≡ load_of opening.sizes.subscribers seed count number
 
 -- It is known what the command's requests read: all pages are in memory while they run, or the medium is visible.
@@ -119,8 +128,11 @@ KnowsReplies RecoverImage opening medium = ⊤
 KnowsReplies DumpTables opening medium = ⊤
 KnowsReplies (DriveLoad seed count number) opening medium = ⊤
 KnowsReplies (AuditRun printed files) opening medium = ⊤
+KnowsReplies (ShipFiles files) opening medium = ⊤
+KnowsReplies (FollowFiles files) opening medium = ⊤
 
--- The command may come to this number. Where threads may run, numbers may follow those of what is done.
+-- The command may come to this number. Where threads may run, numbers may follow those of what is done; `follow` comes to those
+-- of packets.
 abbrev pub IsReachable : Meaning → Opening → List Done → ℕ → Type 0
 IsReachable (FreshRun subscribers file) opening done n = n ≤ last_of opening.number done
 IsReachable (FormatImage subscribers calls rings cells) opening done n = n ≤ last_of opening.number done
@@ -129,8 +141,11 @@ IsReachable RecoverImage opening done n = n ≤ last_of opening.number done
 IsReachable DumpTables opening done n = n ≤ last_of opening.number done
 IsReachable (DriveLoad seed count number) opening done n = ⊤
 IsReachable (AuditRun printed files) opening done n = n ≤ last_of opening.number done
+IsReachable (ShipFiles files) opening done n = n ≤ last_of opening.number done
+IsReachable (FollowFiles files) opening done n = ⊤
 
--- This text is the output of the command. It is a relation, since what is done doesn't fix the output of each command.
+-- This text is the output of the command. It is a relation, since what is done doesn't fix the output of each command. What
+-- `follow` prints isn't said here: it does nothing of its own, and has a theorem of its own.
 abbrev pub IsOutput : Meaning → Opening → List Done → ℕ → List ℕ → Type 0
 IsOutput (FreshRun subscribers file) opening done last text = text ≡ output_of done last
 IsOutput (FormatImage subscribers calls rings cells) opening done last text = text ≡ last_line last
@@ -139,3 +154,5 @@ IsOutput RecoverImage opening done last text = text ≡ last_line last
 IsOutput DumpTables opening done last text = text ≡ dump_text opening.database last
 IsOutput (DriveLoad seed count number) opening done last text = text ≡ summary_of done
 IsOutput (AuditRun printed files) opening done last text = text ≡ codes "yes" ++ 10 ∷ []
+IsOutput (ShipFiles files) opening done last text = IsShipment opening done last text
+IsOutput (FollowFiles files) opening done last text = ⊤

@@ -8,9 +8,12 @@ mod audit;
 mod checks;
 mod commands;
 mod ended;
+mod follow;
 mod load;
 mod output;
 mod run_options;
+mod ship;
+mod shipping;
 mod top;
 mod worked;
 

@@ -5,14 +5,16 @@ ghost use Rattle.std.specs.Rc.{rc_str_bytes};
 ghost use Rattle.pmem_trait.specs.Sights.{IsAtRest};
 ghost use Rattle.command_words.specs.Command.{IsInLimits, meaning_of_command};
 ghost use Rattle.command_edges.specs.Fault.{status_of};
-ghost use Rattle.dude_program.specs.Ending.{CausesByWords, Ends, HeadlineByWords, RefusesNoCommand};
+ghost use Rattle.dude_program.specs.Ending.{CausesByWords, Ends, FollowsByWords, HasOwnTheorem, HeadlineByWords, RefusesNoCommand};
 ghost use Rattle.dude_program.specs.World.{world_of};
 
 use crate::audit::audit;
 use crate::commands::{ImageCounts, drive, dump, format, fresh, recover, run};
 use crate::ended::Ended;
+use crate::follow::follow;
 use crate::load::Load;
 use crate::run_options::RunOptions;
+use crate::ship::ship;
 use command_edges::Fault;
 use command_words::{Command, command_of};
 use dude_io::{Files, Sink};
@@ -37,6 +39,9 @@ fn carry_out<R: Threads + Sync, M: Medium + Send, F: Files, K: Sink>(
         (world_of (M.sight medium) (F.sight files.old) (K.sight out.old))
         (world_of (M.sight result.medium) (F.sight files.new) (K.sight out.new))
         result.done.items result.fault }
+    ensures own { HasOwnTheorem (meaning_of_command command.now)
+        (world_of (M.sight medium) (F.sight files.old) (K.sight out.old))
+        (world_of (M.sight result.medium) (F.sight files.new) (K.sight out.new)) result.fault }
 {
     match *command {
         Command::Fresh { subscribers, file } => {
@@ -78,13 +83,15 @@ fn carry_out<R: Threads + Sync, M: Medium + Send, F: Files, K: Sink>(
             printed,
             files: names,
         } => audit(alloc, printed, names, medium, files, out),
+        Command::Ship { files: names } => ship(alloc, names, medium, files, out),
+        Command::Follow { files: names } => follow(alloc, names, medium, files, out),
     }
 }
 
 /// Carries out a command. `run` and `drive` start a thread for each file, and join it.
 ///
 /// The words are the command and its arguments, without the image's name. `medium` is the image; `files` gives the
-/// request files and a printed run, and `out` gets the output. The medium is given back, also after a fault.
+/// request files, a printed run and packets, and `out` gets the output. The medium is given back, also after a fault.
 pub fn dude<R: Threads + Sync, M: Medium + Send, F: Files, K: Sink>(
     rt: &R,
     alloc: Global,
@@ -107,6 +114,9 @@ pub fn dude<R: Threads + Sync, M: Medium + Send, F: Files, K: Sink>(
         (world_of (M.sight medium) (F.sight files.old) (K.sight out.old))
         (world_of (M.sight result.medium) (F.sight files.new) (K.sight out.new))
         result.done.items result.fault }
+    ensures follows { FollowsByWords (map rc_str_bytes words.now)
+        (world_of (M.sight medium) (F.sight files.old) (K.sight out.old))
+        (world_of (M.sight result.medium) (F.sight files.new) (K.sight out.new)) result.fault }
 {
     match command_of(alloc, words) {
         Ok(Some(command)) => carry_out(rt, alloc, &command, medium, files, out),

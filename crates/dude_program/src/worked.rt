@@ -30,8 +30,8 @@ pub struct Worked<M> {
     pub fault: Option<Fault>,
 }
 
-// The fault that a run ended with, if any.
-fn fault_of(end: RanEnd) -> Option<Fault>
+/// The fault that a run ended with, if any.
+pub fn fault_of(end: RanEnd) -> Option<Fault>
     ensures { result ≡ fault_of_end end }
 {
     match end {

@@ -47,7 +47,7 @@ returns-in-Ok-make_load-clause-ends g c f =
     refl (λ known. inr c.over-run.ensures.frames) (λ order n any. tt) refl are
     (λ opens why refuses. drive_passes load.seed load.count load.files f opening (requests_in lists) are made.files made.subscribers (rw c.deref.ensures.value made.numbers) why refuses)
     c.work_on_threads.result.fault (c.work_on_threads.ensures opening (is_opening_of o opened)) in
-    rw (c.end_with_summary.ensures.medium, c.end_with_summary.ensures.done) (ends_printed _ _ _ came refl c.end_with_summary.ensures.printed)
+    rw (c.end_with_summary.ensures.medium, c.end_with_summary.ensures.done) (ends_printed _ _ _ came (λ whole. (refl, tt)) c.end_with_summary.ensures.printed)
 
 pub returns-in-Err-make_load-clause-ends : goal.returns-in-Err-make_load-clause-ends
 returns-in-Err-make_load-clause-ends g c f =

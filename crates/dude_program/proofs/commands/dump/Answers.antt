@@ -14,7 +14,7 @@ returns-in-Ok-clause-ends g c f =
     let is_open = c.in-Ok.ensures.is_open (opening_of o opened) (is_opening_of o opened) in
     let came = came_idle (no_files DumpTables f refl) (opened_old (dump_opens _) refl is_open.0 is_open.1) refl (λ opens why refuses. dump_passes f (opening_of o opened) why refuses) in
     rw (c.new-in-Ok.ensures.medium, c.new-in-Ok.ensures.done, c.new-in-Ok.ensures.fault, c.into_medium.ensures, c.new.ensures.items)
-    (ends_printed _ _ _ came refl (c.print_dump-fault.ensures opened.lawful.0 opened.lawful.1))
+    (ends_printed _ _ _ came (λ whole. (refl, tt)) (c.print_dump-fault.ensures opened.lawful.0 opened.lawful.1))
 
 pub returns-in-Err-clause-ends : goal.returns-in-Err-clause-ends
 returns-in-Err-clause-ends g c f =

@@ -46,7 +46,7 @@ returns-in-Ok-make_and_open-clause-ends g c =
     let came = came_ran (fresh_files c.args.subscribers c.args.file.now (requests_in c.deref.result.now) read c.in-Ok-read_files.ensures.reads) (opened_new maker e.fits e.is_open)
     refl (λ known. tt) (reachable (FreshRun c.args.subscribers c.args.file.now) (new_opening c.in-Ok.sizes)) refl read
     (λ opens. let no : ⊥ = cc in absurd no) c.work.result.fault (c.work.ensures _ e.opening) in
-    rw (c.end_with_lines.ensures.medium, c.end_with_lines.ensures.done) (ends_printed _ _ _ came refl c.end_with_lines.ensures.printed)
+    rw (c.end_with_lines.ensures.medium, c.end_with_lines.ensures.done) (ends_printed _ _ _ came (λ whole. (refl, tt)) c.end_with_lines.ensures.printed)
 
 pub returns-clause-ends : goal.returns-clause-ends
 returns-clause-ends g c =

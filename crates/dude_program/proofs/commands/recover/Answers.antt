@@ -14,7 +14,7 @@ returns-in-Ok-clause-ends g c f =
     let is_open = c.in-Ok.ensures.is_open (opening_of o opened) (is_opening_of o opened) in
     let came = came_idle (no_files RecoverImage f refl) (opened_old (recover_opens _) refl is_open.0 is_open.1) refl (λ opens why refuses. recover_passes f (opening_of o opened) why refuses) in
     rw (c.end_with_lines.ensures.medium, c.end_with_lines.ensures.done, c.idle.ensures.medium, c.idle.ensures.done)
-    (ends_printed _ _ _ came refl (idle_prints _ _ _ c.idle.ensures.done c.idle.ensures.last c.idle.ensures.fault c.end_with_lines.ensures.printed))
+    (ends_printed _ _ _ came (λ whole. (refl, tt)) (idle_prints _ _ _ c.idle.ensures.done c.idle.ensures.last c.idle.ensures.fault c.end_with_lines.ensures.printed))
 
 pub returns-in-Err-clause-ends : goal.returns-in-Err-clause-ends
 returns-in-Err-clause-ends g c f =

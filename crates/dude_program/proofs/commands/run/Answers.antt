@@ -64,7 +64,7 @@ returns-in-Ok-check_run-clause-ends g c =
     refl (run_knows c.args.options.frames locks names opening c.over-run.result _ c.over-run.ensures.frames) (λ order n any. tt) refl read
     (λ opens why refuses. run_passes c.args.options.frames locks names f (requests_in lists) read (length lists) as_many opening checked.rings (checked.frames locks names) checked.numbers why refuses)
     c.work_on_threads.result.fault (c.work_on_threads.ensures opening (is_opening_of o opened)) in
-    rw (c.end_with_lines.ensures.medium, c.end_with_lines.ensures.done) (ends_printed _ _ _ came refl c.end_with_lines.ensures.printed)
+    rw (c.end_with_lines.ensures.medium, c.end_with_lines.ensures.done) (ends_printed _ _ _ came (λ whole. (refl, tt)) c.end_with_lines.ensures.printed)
 
 pub returns-clause-ends : goal.returns-clause-ends
 returns-clause-ends g c =

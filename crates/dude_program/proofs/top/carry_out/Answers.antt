@@ -17,3 +17,15 @@ returns-in-Drive-clause-ends g c = rw c.in-Drive.is (c.drive.ensures.ends (g.F.F
 
 pub returns-in-Audit-clause-ends : goal.returns-in-Audit-clause-ends
 returns-in-Audit-clause-ends g c = rw c.in-Audit.is c.audit.ensures.ends
+
+pub returns-in-Ship-clause-ends : goal.returns-in-Ship-clause-ends
+returns-in-Ship-clause-ends g c = rw c.in-Ship.is c.ship.ensures.ends
+
+pub returns-in-Ship-clause-own : goal.returns-in-Ship-clause-own
+returns-in-Ship-clause-own g c = rw c.in-Ship.is tt
+
+pub returns-in-Follow-clause-ends : goal.returns-in-Follow-clause-ends
+returns-in-Follow-clause-ends g c = rw c.in-Follow.is c.follow.ensures.ends
+
+pub returns-in-Follow-clause-own : goal.returns-in-Follow-clause-own
+returns-in-Follow-clause-own g c = rw c.in-Follow.is c.follow.ensures.follows

@@ -1,0 +1,12 @@
+use Rattle.std.proofs.Common.{◌≡◌, ◌∙◌, sym}
+use Rattle.dude_program.proofs.Works.{ran_over_plain, whole_end}
+use Rattle.dude_program.proofs.shipping.work_and_ship.Goals as goal
+
+pub returns-clause-ran : goal.returns-clause-ran
+returns-clause-ran g c opening own =
+    let s = c.shipped-shipped in
+    rw c.fault_of.ensures (ran_over_plain c.args.opened c.requires.opened c.args.files.now s.result.ran.done.items s.result.ran.end s.result.ran.last (g.M.Medium.sight s.result.ran.medium)
+    opening own (s.ensures.replies opening own) s.ensures.syncs (s.ensures.moments opening own) s.ensures.end)
+
+pub returns-clause-whole : goal.returns-clause-whole
+returns-clause-whole g c none = c.shipped-shipped.ensures.whole (whole_end c.shipped-shipped.result.ran.end (sym c.fault_of.ensures ∙ none))
