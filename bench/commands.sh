@@ -86,10 +86,35 @@ try 10 '' 'audit line 3' copy.img audit right.txt good.csv good.csv good.csv goo
 try 2 '' 'usage' copy.img audit right.txt
 holds 'an audit leaves its image' cmp -s copy.img before.img
 
+# A follower of a shipped run: both packets in the other order, one alone, one cut off, and another leader's.
+"$program" lead.img format 8 96 2 16 > out 2> err < /dev/null
+cp lead.img follow.img
+cp lead.img other.img
+printf 'UPDATE_LOCATION,000000000000001,7\nSYNC\nUPDATE_LOCATION,000000000000001,8\n' > led.csv
+printf 'UPDATE_LOCATION,000000000000001,9\nUPDATE_LOCATION,000000000000002,9\n' > other.csv
+"$program" lead.img ship led.csv > both.bin 2> err < /dev/null
+holds 'two bundles of a write are 128 bytes' [ "$(stat -c %s both.bin)" = 128 ]
+holds 'a ship tells its last number' [ "$(tail -n 1 err)" = 'durable 2' ]
+head -c 64 both.bin > first.bin
+tail -c 64 both.bin > second.bin
+head -c 127 both.bin > cut.bin
+"$program" other.img ship other.csv > other.bin 2> err < /dev/null
+try 0 'last 0 waiting 1 dropped 0' 'durable 0' follow.img follow second.bin
+try 4 '' 'file 1 record 2 field 0' follow.img follow cut.bin
+try 0 'last 1 waiting 0 dropped 0' 'durable 1' follow.img follow first.bin
+try 11 '' 'strange packet 1 of file 2' follow.img follow first.bin other.bin
+try 0 'last 2 waiting 0 dropped 0' 'durable 2' follow.img follow second.bin first.bin second.bin
+"$program" lead.img dump > lead.dump 2> err < /dev/null
+"$program" follow.img dump > follow.dump 2> err < /dev/null
+holds 'a follower has the rows of its leader' cmp -s lead.dump follow.dump
+try 3 '' 'file 2' follow.img follow first.bin none.bin
+try 2 '' 'usage' follow.img follow
+try 2 '' 'usage' follow.img ship
+
 cp new.img before.img
 exec 9<> new.img
 flock 9
-for words in recover dump 'run good.csv' 'drive 1 5 2' 'format 8 96 2 16' 'fresh 8 good.csv' 'audit right.txt good.csv'; do
+for words in recover dump 'run good.csv' 'drive 1 5 2' 'format 8 96 2 16' 'fresh 8 good.csv' 'audit right.txt good.csv' 'ship good.csv' 'follow first.bin'; do
   try 6 '' 'device' new.img $words
 done
 exec 9>&-
