@@ -44,15 +44,23 @@ drive SEED COUNT FILES
 audit PRINTED FILE..
   Prints yes where PRINTED is what one thread could print that runs the files on
   IMAGE, which has to be a copy from before the run. Only reads IMAGE.
+ship FILE..
+  Opens IMAGE, carries out the requests of the files on one thread, at most one
+  file for each ring, writes what they change, and prints its log as packets.
+follow FILE..
+  Opens IMAGE, and applies to it the packets of the files, in the order of their
+  numbers whatever order they come in. IMAGE has to be a copy from before the
+  ship, or one that followed. Prints the number reached, how many packets wait
+  for others, and how many were dropped, being over 4096 that wait.
 
 fresh and run print each request's number and reply, and the last number. Each
 command but audit tells on standard error the numbers up to which all is
 durable. While a command runs, every other on its IMAGE ends with 6.
 
-status: 0 done, 2 usage, 3 a file couldn't be read, 4 a file is no request file,
-5 the image doesn't fit or can't be opened, 6 the image failed or is in use, 7
-the output failed, 8 no memory, 9 the numbers may not be enough, 10 PRINTED is
-no such run
+status: 0 done, 2 usage, 3 a file couldn't be read, 4 a file isn't of requests or
+packets, 5 the image doesn't fit or can't be opened, 6 the image failed or is in
+use, 7 the output failed, 8 no memory, 9 the numbers may not be enough, 10
+PRINTED is no such run, 11 a packet isn't of the leader of those before it
 ";
 
 /// What `--version` prints.
