@@ -111,6 +111,14 @@ try 3 '' 'file 2' follow.img follow first.bin none.bin
 try 2 '' 'usage' follow.img follow
 try 2 '' 'usage' follow.img ship
 
+# A load on a terminal: one line that is written anew, then the last number told, then the output.
+script -qec "'$program' new.img drive 7 2000 2" /dev/null > out 2> err < /dev/null
+holds 'a load on a terminal ends with 0' [ $? = 0 ]
+holds 'its progress ends with all requests' grep -q $'\r4,000 of 4,000 requests, durable [0-9,]*, [0-9,]* syncs a second *\r$' out
+holds 'of its numbers the last one is told in a line' [ "$(grep -c '^durable [0-9]*.$' out)" = 1 ]
+holds 'its output stands behind that line' [ "$(sed -n '/^durable/,$p' out | grep -c '^SYNC 2 ')" = 1 ]
+try 0 "$(sed -n 's/^durable \([0-9]*\).*/last \1/p' out)" "$(sed -n 's/^\(durable [0-9]*\).*/\1/p' out)" new.img recover
+
 cp new.img before.img
 exec 9<> new.img
 flock 9

@@ -1,13 +1,23 @@
 //! The program `dude`: durable TATP transactions over a memory image in a file.
 //!
 //! `dude IMAGE COMMAND ..` makes or opens the image, carries out the command's requests, prints its output, and announces on
-//! standard error each number up to which all is durable.
+//! standard error each number up to which all is durable. Where that is a terminal, a load shows its progress there instead.
 #![tactic(auto)]
 
 ghost use Rattle.std.specs.Prelude.{◌≡◌, ◌⊎◌, Some};
 ghost use Rattle.command_edges.specs.Fault.{status_of};
 
-use dude_io::{EdgeFault, FilePmem, RealFiles, RealSink};
+mod driving;
+mod grouped;
+mod opening;
+mod progress;
+mod progress_runtime;
+mod watched_pmem;
+mod watched_sink;
+
+use crate::driving::{drive_shown, progress_of};
+use crate::opening::fault_of;
+use dude_io::{FilePmem, RealFiles, RealSink};
 use dude_program::{Fault, fault_text};
 use std::process::ExitCode;
 use std::rc::RcStr;
@@ -55,7 +65,8 @@ follow FILE..
 
 fresh and run print each request's number and reply, and the last number. Each
 command but audit tells on standard error the numbers up to which all is
-durable. While a command runs, every other on its IMAGE ends with 6.
+durable; where that is a terminal, drive shows its progress there, and tells the
+last one. While a command runs, every other on its IMAGE ends with 6.
 
 status: 0 done, 2 usage, 3 a file couldn't be read, 4 a file isn't of requests or
 packets, 5 the image doesn't fit or can't be opened, 6 the image failed or is in
@@ -105,25 +116,37 @@ fn words_of(rt: &HostRuntime) -> Result<Vec<RcStr>, Fault> {
     Ok(words)
 }
 
-/// Carries out a command on the image of this name.
+/// Carries out a command on the image of this name, and gives the status. A load on a terminal shows its progress there.
 fn command_status<R: Threads + Sync>(
     threads: &R,
     rt: HostRuntime,
     name: &str,
     words: &[RcStr],
 ) -> u8 {
-    let medium = match FilePmem::open(rt, name) {
-        Ok(medium) => medium,
-        Err(EdgeFault::Failed) => return fault_status(rt, Fault::Device),
-        Err(EdgeFault::NoMemory) => return fault_status(rt, Fault::Memory),
+    let fault = match progress_of(rt, words) {
+        Some(progress) => drive_shown(threads, rt, name, words, &progress),
+        None => carry_out(threads, rt, name, words),
     };
-    let mut files = RealFiles::new(rt);
-    let mut out = RealSink::new(rt);
-    let ended = dude_program::dude(threads, rt.alloc(), words, medium, &mut files, &mut out);
-    match ended.fault {
+    match fault {
         None => 0,
         Some(fault) => fault_status(rt, fault),
     }
+}
+
+/// Carries out a command on the image of this name, and gives the fault that it ends with.
+fn carry_out<R: Threads + Sync>(
+    threads: &R,
+    rt: HostRuntime,
+    name: &str,
+    words: &[RcStr],
+) -> Option<Fault> {
+    let medium = match FilePmem::open(rt, name) {
+        Ok(medium) => medium,
+        Err(fault) => return Some(fault_of(fault)),
+    };
+    let mut files = RealFiles::new(rt);
+    let mut out = RealSink::new(rt);
+    dude_program::dude(threads, rt.alloc(), words, medium, &mut files, &mut out).fault
 }
 
 /// Prints a fault's line on standard error, and gives its status.

@@ -21,6 +21,7 @@ use command_openings::{make_and_open, open_and_announce};
 use dude_base::sizes::Sizes;
 use dude_io::{Files, Sink};
 use pmem_trait::Medium;
+use request_attempts::gate::Gate;
 use std::alloc::Global;
 use std::rc::RcStr;
 use std::thread::Threads;
@@ -94,7 +95,7 @@ pub fn format<M: Medium, K: Sink>(
 }
 
 /// Runs the requests of the files over the image, each file on a thread of its own.
-pub fn run<R: Threads + Sync, M: Medium + Send, F: Files, K: Sink>(
+pub fn run<R: Threads + Sync, M: Medium + Send, F: Files, K: Sink, G: Gate + Sync>(
     rt: &R,
     alloc: Global,
     options: RunOptions,
@@ -102,6 +103,7 @@ pub fn run<R: Threads + Sync, M: Medium + Send, F: Files, K: Sink>(
     medium: M,
     files: &mut F,
     out: &mut K,
+    gate: &G,
 ) -> Ended<M>
     requires settled { IsAtRest (M.sight medium) }
     requires locks { IfSome options.locks (IsBetween 1 MAX_LOCKS) }
@@ -123,7 +125,11 @@ pub fn run<R: Threads + Sync, M: Medium + Send, F: Files, K: Sink>(
     match check_run(&opened, options.frames, &lists) {
         Ok(()) => {
             let run = options.over(opened.sizes.pages);
-            end_with_lines(alloc, work_on_threads(rt, alloc, opened, &run, &lists), out)
+            end_with_lines(
+                alloc,
+                work_on_threads(rt, alloc, opened, &run, &lists, gate),
+                out,
+            )
         }
         Err(fault) => Ended::refused(alloc, fault, opened.back.into_medium()),
     }
@@ -163,12 +169,13 @@ pub fn dump<M: Medium, K: Sink>(alloc: Global, medium: M, out: &mut K) -> Ended<
 }
 
 /// Runs a load over the image, each file on a thread of its own: so many requests of each of so many files, made from a seed.
-pub fn drive<R: Threads + Sync, M: Medium + Send, K: Sink>(
+pub fn drive<R: Threads + Sync, M: Medium + Send, K: Sink, G: Gate + Sync>(
     rt: &R,
     alloc: Global,
     load: Load,
     medium: M,
     out: &mut K,
+    gate: &G,
 ) -> Ended<M>
     requires settled { IsAtRest (M.sight medium) }
     requires count { load.count ≤ 99_999 }
@@ -190,7 +197,11 @@ pub fn drive<R: Threads + Sync, M: Medium + Send, K: Sink>(
                 locks: None,
             };
             let run = options.over(opened.sizes.pages);
-            end_with_summary(alloc, work_on_threads(rt, alloc, opened, &run, &lists), out)
+            end_with_summary(
+                alloc,
+                work_on_threads(rt, alloc, opened, &run, &lists, gate),
+                out,
+            )
         }
         Err(fault) => Ended::refused(alloc, fault, opened.back.into_medium()),
     }

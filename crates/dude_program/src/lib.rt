@@ -1,7 +1,8 @@
 //! The commands of the program: their files, the work on the image, and the output.
 //!
 //! `dude` carries a command out, over any medium, any files and any sink. Its contract is the headline
-//! (`specs/Headline.antt`) with the cause of each fault beside it (`specs/Causes.antt`).
+//! (`specs/Headline.antt`) with the cause of each fault beside it (`specs/Causes.antt`). `dude_watched` does the same, and each
+//! transaction that a thread runs passes a gate of the caller's on its way.
 #![tactic(auto)]
 
 mod audit;
@@ -19,4 +20,4 @@ mod worked;
 
 pub use command_edges::{Fault, fault_text};
 pub use ended::Ended;
-pub use top::dude;
+pub use top::{dude, dude_watched};

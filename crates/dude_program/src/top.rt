@@ -19,18 +19,21 @@ use command_edges::Fault;
 use command_words::{Command, command_of};
 use dude_io::{Files, Sink};
 use pmem_trait::Medium;
+use request_attempts::gate::Gate;
+use request_attempts::open_gate::OpenGate;
 use std::alloc::Global;
 use std::rc::RcStr;
 use std::thread::Threads;
 
 /// Carries out a command, by its kind.
-fn carry_out<R: Threads + Sync, M: Medium + Send, F: Files, K: Sink>(
+fn carry_out<R: Threads + Sync, M: Medium + Send, F: Files, K: Sink, G: Gate + Sync>(
     rt: &R,
     alloc: Global,
     command: &Command,
     medium: M,
     files: &mut F,
     out: &mut K,
+    gate: &G,
 ) -> Ended<M>
     requires settled { IsAtRest (M.sight medium) }
     requires limits { IsInLimits command.now }
@@ -73,11 +76,13 @@ fn carry_out<R: Threads + Sync, M: Medium + Send, F: Files, K: Sink>(
             medium,
             files,
             out,
+            gate,
         ),
         Command::Recover => recover(alloc, medium, out),
         Command::Dump => dump(alloc, medium, out),
         Command::Drive { seed, count, files } => {
-            drive(rt, alloc, Load { seed, count, files }, medium, out)
+            let load = Load { seed, count, files };
+            drive(rt, alloc, load, medium, out, gate)
         }
         Command::Audit {
             printed,
@@ -118,8 +123,39 @@ pub fn dude<R: Threads + Sync, M: Medium + Send, F: Files, K: Sink>(
         (world_of (M.sight medium) (F.sight files.old) (K.sight out.old))
         (world_of (M.sight result.medium) (F.sight files.new) (K.sight out.new)) result.fault }
 {
+    dude_watched(rt, alloc, words, medium, files, out, &OpenGate)
+}
+
+/// Does what `dude` does. Each transaction of a `run` or a `drive` passes the gate between its last read and its commit.
+pub fn dude_watched<R: Threads + Sync, M: Medium + Send, F: Files, K: Sink, G: Gate + Sync>(
+    rt: &R,
+    alloc: Global,
+    words: &[RcStr],
+    medium: M,
+    files: &mut F,
+    out: &mut K,
+    gate: &G,
+) -> Ended<M>
+    requires settled { IsAtRest (M.sight medium) }
+    ensures status { result.status ≡ status_of result.fault }
+    ensures refused { RefusesNoCommand (map rc_str_bytes words.now)
+        (world_of (M.sight medium) (F.sight files.old) (K.sight out.old))
+        (world_of (M.sight result.medium) (F.sight files.new) (K.sight out.new))
+        result.done.items result.fault }
+    ensures headline { HeadlineByWords (map rc_str_bytes words.now)
+        (world_of (M.sight medium) (F.sight files.old) (K.sight out.old))
+        (world_of (M.sight result.medium) (F.sight files.new) (K.sight out.new))
+        result.done.items result.fault }
+    ensures causes { CausesByWords (map rc_str_bytes words.now)
+        (world_of (M.sight medium) (F.sight files.old) (K.sight out.old))
+        (world_of (M.sight result.medium) (F.sight files.new) (K.sight out.new))
+        result.done.items result.fault }
+    ensures follows { FollowsByWords (map rc_str_bytes words.now)
+        (world_of (M.sight medium) (F.sight files.old) (K.sight out.old))
+        (world_of (M.sight result.medium) (F.sight files.new) (K.sight out.new)) result.fault }
+{
     match command_of(alloc, words) {
-        Ok(Some(command)) => carry_out(rt, alloc, &command, medium, files, out),
+        Ok(Some(command)) => carry_out(rt, alloc, &command, medium, files, out, gate),
         Ok(None) => Ended::refused(alloc, Fault::Usage, medium),
         Err(_) => Ended::refused(alloc, Fault::Memory, medium),
     }

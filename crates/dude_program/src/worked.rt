@@ -14,7 +14,7 @@ use dude_base::run::Run;
 use dude_engine::{RanEnd, plain};
 use image_opening::Opened;
 use pmem_trait::Medium;
-use request_attempts::open_gate::OpenGate;
+use request_attempts::gate::Gate;
 use run_threads::threaded;
 use std::alloc::Global;
 use std::thread::Threads;
@@ -58,13 +58,14 @@ pub fn work<M: Medium>(alloc: Global, opened: Opened<M>, files: &[Vec<Request>])
     }
 }
 
-/// Runs the requests of files over an opened image, each file on a thread of its own.
-pub fn work_on_threads<R: Threads + Sync, M: Medium + Send>(
+/// Runs the requests of files over an opened image, each file on a thread of its own. Each transaction passes the gate.
+pub fn work_on_threads<R: Threads + Sync, M: Medium + Send, G: Gate + Sync>(
     rt: &R,
     alloc: Global,
     opened: Opened<M>,
     run: &Run,
     files: &[Vec<Request>],
+    gate: &G,
 ) -> Worked<M>
     requires opened { IsOpened opened }
     requires held { IsAsOpened opened }
@@ -75,7 +76,7 @@ pub fn work_on_threads<R: Threads + Sync, M: Medium + Send>(
     requires numbers { HasNumbersFor opened.number (requests_in files.now) }
     ensures { RanOnThreads M.sight opened run.now files.now result }
 {
-    let ran = threaded(rt, alloc, opened, run, files, &OpenGate);
+    let ran = threaded(rt, alloc, opened, run, files, gate);
     Worked {
         done: ran.done,
         medium: ran.medium,

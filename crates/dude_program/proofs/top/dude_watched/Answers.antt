@@ -2,7 +2,7 @@ use Rattle.std.proofs.Common.{rules}
 use Rattle.command_edges.specs.declared.fault.Fault.TheVariants.{Memory}
 use Rattle.dude_program.proofs.FollowEnds.{follows_at_rest}
 use Rattle.dude_program.proofs.Stops.{ends_at_words}
-use Rattle.dude_program.proofs.top.dude.Goals as goal
+use Rattle.dude_program.proofs.top.dude_watched.Goals as goal
 
 pub returns-in-Err-clause-headline : goal.returns-in-Err-clause-headline
 returns-in-Err-clause-headline g c own means has =
