@@ -1,8 +1,9 @@
 //! What is carried out over a medium: a command of the product, or the opening or the making of an image.
 
+use crate::followers::followed;
 use crate::found::found_text;
 use crate::outcome::Outcome;
-use crate::scene::{Scene, files_of, medium_of, sink_of};
+use crate::scene::{Scene, file_of, files_of, medium_of, sink_of};
 use crate::setup::changed;
 use crate::several::runs_several;
 use command_edges::{Fault, fault_text};
@@ -12,7 +13,7 @@ use dude_program::dude;
 use image_format::{format, make_image};
 use image_opening::open;
 use pmem_trait::Medium;
-use script_words::numbers_of;
+use script_words::{number_of, numbers_of};
 use std::alloc::{AllocError, Global};
 use std::rc::RcStr;
 use std::thread::Threads;
@@ -35,6 +36,10 @@ pub fn act<R: Threads + Sync>(
                 },
             ),
             None => not_called(alloc, scene),
+        },
+        ["follow", room, name] => match (number_of(room), file_of(scene, name)) {
+            (Some(room), Some(file)) => followed(alloc, scene, room, &file.bytes),
+            _ => not_called(alloc, scene),
         },
         [name, numbers @ ..] => match sizes_of(alloc, numbers)? {
             Some(sizes) if *name == "format" => formatted(alloc, scene, &sizes),

@@ -103,7 +103,7 @@ impl Bench {
                 [name] => self.image = stored_image(rt, name)?,
                 _ => return Ok(false),
             },
-            "dude" | "open" | "format" | "make" => {
+            "dude" | "open" | "follow" | "format" | "make" => {
                 self.outcome = self.carried_out(threads, rt, words)?;
             }
             "aside" => {

@@ -1,6 +1,7 @@
 //! What is printed of outcomes, words and calls.
 
 use crate::outcome::Outcome;
+use crate::packets::{are_packets, print_cells};
 use pmem_trait::{Call, Made};
 use std::io;
 
@@ -12,11 +13,14 @@ pub fn print_ending(rt: &HostRuntime, outcome: &Outcome) -> io::Result<()> {
 }
 
 /// Prints the lines of the output. Of lines that follow one another and are the same, only one stands, with their count. Of
-/// those that depend on the turns of threads it prints how many there are.
+/// those that depend on the turns of threads it prints how many there are. Of packets it prints the words.
 pub fn print_output(rt: &HostRuntime, outcome: &Outcome) -> io::Result<()> {
     let Some(printed) = &outcome.printed else {
         return Ok(());
     };
+    if are_packets(printed) {
+        return print_cells(rt, printed);
+    }
     let printed = str::from_utf8(printed).unwrap_or("(no text)");
     if outcome.depends_on_turns() && printed.contains("last ") {
         return println!(rt; "| {} lines", printed.lines().count());

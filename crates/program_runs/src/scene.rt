@@ -98,6 +98,15 @@ pub fn files_of(alloc: Global, scene: &Scene) -> Result<MemFiles, AllocError> {
     MemFiles::new(own, scene.settings.chunk.max(1), fail)
 }
 
+/// The file of this name, if there is one.
+pub fn file_of<'a>(scene: &Scene<'a>, name: &str) -> Option<&'a MemFile> {
+    scene
+        .files
+        .iter()
+        .rev()
+        .find(|file| file.name.as_str() == name)
+}
+
 /// A sink that took nothing yet.
 pub fn sink_of(alloc: Global, settings: &Settings) -> Result<MemSink, AllocError> {
     let fail = vec![in alloc; settings.failing_write]?;

@@ -2,6 +2,7 @@
 
 use crate::acts::command_of;
 use crate::outcome::{Outcome, crash_at};
+use crate::packets::packet_file;
 use crate::scene::{Scene, Settings};
 use dude_io::MemFile;
 use pmem_trait::{Call, Medium};
@@ -124,6 +125,9 @@ fn resized(
 /// other, with how often they stand there in the place of a `*`; empty lines where none is given, and lines of one byte where
 /// it is the number of a byte.
 pub fn next_file(alloc: Global, first: &str, rest: &[&str]) -> Result<Option<MemFile>, AllocError> {
+    if first == "packets" {
+        return packet_file(alloc, rest);
+    }
     let [name, behind @ ..] = rest else {
         return Ok(None);
     };

@@ -5,7 +5,7 @@ use command_edges::{Fault, fault_text};
 use std::alloc::AllocError;
 
 /// A fault of each kind, with numbers of its own.
-const FAULTS: [Fault; 16] = [
+const FAULTS: [Fault; 17] = [
     Fault::Usage,
     Fault::File { file: 2 },
     Fault::Text {
@@ -41,6 +41,7 @@ const FAULTS: [Fault; 16] = [
     Fault::Output,
     Fault::Memory,
     Fault::Audit { line: 3 },
+    Fault::Strange { file: 1, packet: 2 },
 ];
 
 /// The status of each fault, and its line.
