@@ -1,10 +1,10 @@
 -- How `follow` ends: its causes, and what it promises in place of the headline.
-use Rattle.std.proofs.Common.{◌≡◌, ◌⊎◌, ℕ, ◌+◌, ◌<◌, ◌≤◌, Bool, true, false, IsTrue, List, [], ◌∷◌, ◌++◌, length, refl, sym, ◌∙◌, ap, subst, inl, inr, arith, Option, Some, None}
+use Rattle.std.proofs.Common.{◌≡◌, ℕ, ◌<◌, true, false, IsTrue, List, [], ◌∷◌, length, refl, sym, subst, inl, inr, arith, Option, Some, None}
 use Rattle.std.specs.Prelude.{⊤}
 use Rattle.pmem_trait.specs.Words.{IsSettled}
 use Rattle.pmem_trait.specs.Sights.{AtEveryMoment, Risen, Sight, SomeCalls, state_now}
 use Rattle.pmem_trait.specs.Reads.{ContentHas}
-use Rattle.pmem_trait.proofs.Runs.{made_later, ran_here, risen_later}
+use Rattle.pmem_trait.proofs.Runs.{made_later, risen_later}
 use Rattle.dude_base.specs.declared.sizes.Sizes.{Sizes}
 use Rattle.back_store.specs.Back.{idle}
 use Rattle.back_store.specs.Operations.{MakesOperations}
@@ -22,8 +22,8 @@ use Rattle.command_edges.proofs.Order.{IsNoReadFault}
 use Rattle.command_openings.specs.Faults.{HasOpenFault}
 use Rattle.command_openings.specs.Openings.{IsOpeningOn}
 use Rattle.dude_engine.specs.Opening.{Opening, IsOpening}
-use Rattle.dude_program.specs.World.{SinkStays, World, world_of}
-use Rattle.dude_program.specs.Causes.{Causes, EndedWell, HasCause, MustRefuse, FailsOnlyAtDevice, SucceedsIfGood, Untouched}
+use Rattle.dude_program.specs.World.{SinkStays, world_of}
+use Rattle.dude_program.specs.Causes.{EndedWell, HasCause, MustRefuse, FailsOnlyAtDevice, SucceedsIfGood, Untouched}
 use Rattle.dude_program.specs.Delivery.{IsRefusedDelivery, TakesFiles, drops_of}
 use Rattle.dude_program.specs.Ending.{Ends}
 use Rattle.dude_program.specs.Follow.{AppliesInOrder, FollowedAll, FollowsFiles, RefusedDelivery, RunsFollower, followed_text}

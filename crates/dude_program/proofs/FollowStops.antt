@@ -1,5 +1,5 @@
 -- How `follow` ends behind its opening, by what became of the texts of its files.
-use Rattle.std.proofs.Common.{◌≡◌, ℕ, ◌+◌, ◌<◌, ◌≤◌, Bool, true, false, IsTrue, List, [], ◌∷◌, ◌++◌, length, refl, sym, ◌∙◌, ap, subst, Option, Some, None}
+use Rattle.std.proofs.Common.{◌≡◌, ℕ, ◌+◌, ◌<◌, ◌≤◌, Bool, true, IsTrue, List, [], length, refl, ◌∙◌, ap, subst, Option, Some, None}
 use Rattle.std.specs.List.{AllZip}
 use Rattle.dude_base.specs.declared.limits.TheConstants.{MAX_NUMBER}
 use Rattle.dude_base.specs.declared.sizes.Sizes.{Sizes}
@@ -32,7 +32,7 @@ use Rattle.dude_program.specs.World.{world_of}
 use Rattle.dude_program.specs.Delivery.{FOLLOWER_ROOM, follower_at, packets_in}
 use Rattle.dude_program.specs.Ending.{Ends}
 use Rattle.dude_program.specs.Follow.{AppliesInOrder, FollowsFiles, followed_text}
-use Rattle.dude_program.specs.Taking.{MeansPackets, StopsInText, StopsInTexts, TakesAll, TakesPackets}
+use Rattle.dude_program.specs.Taking.{MeansPackets, StopsInText, StopsInTexts, TakesAll}
 use Rattle.dude_program.specs.Work.{PrintsText}
 use Rattle.dude_program.proofs.ArrayMoments.{opened_along}
 use Rattle.dude_program.proofs.Came.{ImageOpens}

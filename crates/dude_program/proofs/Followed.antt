@@ -1,5 +1,5 @@
 -- What `follow` comes to, from what its follower took.
-use Rattle.std.proofs.Common.{◌≡◌, ◌⊎◌, ℕ, ◌+◌, ◌<◌, ◌≤◌, Bool, true, false, IsTrue, List, [], ◌∷◌, ◌++◌, length, append-nil, append_assoc, refl, sym, ◌∙◌, ap, subst, inl, inr, arith, Option, Some, None}
+use Rattle.std.proofs.Common.{◌≡◌, ℕ, ◌+◌, Bool, true, false, IsTrue, List, [], ◌∷◌, ◌++◌, length, append-nil, append_assoc, refl, sym, ◌∙◌, ap, subst, inl, inr, arith, None}
 use Rattle.std.specs.Prelude.{All}
 use Rattle.std.specs.List.{AllZip}
 use Rattle.std.proofs.lemmas.List.Elements.{All-cons, All-nil}
@@ -35,11 +35,11 @@ use Rattle.command_edges.specs.Texts.{IsTextOf}
 use Rattle.command_edges.specs.declared.fault.Fault.{Fault}
 use Rattle.command_edges.specs.declared.fault.Fault.TheVariants as fault
 use Rattle.command_edges.proofs.Told.{file_is_there, long_file, some_is}
-use Rattle.command_edges.proofs.Zips.{AllZip-firsts, AllZip-more, AllZip-then, AllZip-unmapped}
+use Rattle.command_edges.proofs.Zips.{AllZip-more, AllZip-then}
 use Rattle.command_words.specs.Command.{Meaning.FollowFiles}
 use Rattle.dude_program.specs.Delivery.{FOLLOWER_ROOM, HoldsBadPacket, HoldsPackets, IsFirstBadPacket, IsFirstStrange, TakesFiles, follower_at, packets_in}
 use Rattle.dude_program.specs.Follow.{AppliesInOrder, AreFirstPackets}
-use Rattle.dude_program.specs.Taking.{IsBadAsPackets, MeansPackets, StopsAtFailure, StopsAtStrange, StopsInText, StopsInTexts, TakesAll, TakesPackets}
+use Rattle.dude_program.specs.Taking.{IsBadAsPackets, MeansPackets, StopsInText, StopsInTexts, TakesAll, TakesPackets}
 use Rattle.dude_program.proofs.FilesRead.{FilesRead}
 use Rattle.dude_program.proofs.TakenPackets.{packets_more}
 use Rattle.dude_program.proofs.ArrayMoments.{one_array}

@@ -1,11 +1,11 @@
 -- A follower whose packets are a leader's: what every image recovers to, that none is strange, and how far it comes.
-use Rattle.std.proofs.Common.{◌≡◌, ◌≢◌, ℕ, ◌+◌, IsTrue, List, [], ◌∷◌, ◌++◌, length, append_assoc, refl, sym, ◌∙◌, ap, subst, inl, inr, Option, Some, None}
+use Rattle.std.proofs.Common.{◌≡◌, ◌≢◌, ℕ, ◌+◌, IsTrue, List, [], ◌∷◌, ◌++◌, length, append_assoc, refl, sym, ◌∙◌, subst, Option, Some}
 use Rattle.std.specs.Prelude.{All}
 use Rattle.std.specs.List.{AllZip, Contains}
 use Rattle.std.proofs.lemmas.List.Elements.{All-append, All-cons, All-head, All-nil, All-tail, Contains-append_left}
 use Rattle.dude_base.specs.declared.sizes.Sizes.{Sizes}
 use Rattle.dude_base.specs.Records.{RedoBundle, first_of, overwritten_by_all}
-use Rattle.pmem_trait.specs.Sights.{AtEveryMoment, Sight, state_now}
+use Rattle.pmem_trait.specs.Sights.{AtEveryMoment, state_now}
 use Rattle.pmem_trait.specs.Reads.{ContentHas}
 use Rattle.pmem_trait.proofs.Laws.{every_moment_weaker}
 use Rattle.redo_record.specs.Recovery.{AreConsecutive}
@@ -28,7 +28,7 @@ use Rattle.command_openings.proofs.OneOpening.{content_of}
 use Rattle.dude_engine.specs.Opening.{Opening}
 use Rattle.dude_program.specs.World.{World}
 use Rattle.dude_program.specs.Delivery.{FOLLOWER_ROOM, HoldsPackets, IsFirstStrange, follower_at, packets_in}
-use Rattle.dude_program.specs.Follow.{AppliesInOrder, DeliversOf, FollowedAll, FollowsFiles, LedBy, RefusedDelivery, RunsFollower}
+use Rattle.dude_program.specs.Follow.{AppliesInOrder, DeliversOf, FollowedAll, FollowsFiles, RefusedDelivery, RunsFollower}
 use Rattle.dude_program.specs.Headline.{TookAll}
 use Rattle.dude_program.proofs.TakenPackets.{follows_one, follows_then, packets_more}
 

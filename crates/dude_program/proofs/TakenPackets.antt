@@ -1,6 +1,6 @@
 -- Packets that a follower takes, one list behind another.
-use Rattle.std.proofs.Common.{◌≡◌, ◌⊎◌, ℕ, ◌+◌, ◌<◌, ◌≤◌, Bool, true, false, List, [], ◌∷◌, ◌++◌, length, append_assoc, append-nil, refl, sym, ◌∙◌, ap, subst, inl, inr, arith, add-one}
-use Rattle.std.specs.Prelude.{◌↔◌, All, IsErrOf, IsOk, IfOk, Result, Ok, Err, drop, get_or, not, if◌then◌else◌, sum_by, take}
+use Rattle.std.proofs.Common.{◌≡◌, ℕ, ◌+◌, ◌<◌, ◌≤◌, Bool, true, false, List, [], ◌∷◌, ◌++◌, length, append_assoc, append-nil, refl, sym, ◌∙◌, ap, subst, arith}
+use Rattle.std.specs.Prelude.{◌↔◌, IsErrOf, Result, Ok, Err, drop, get_or, if◌then◌else◌, take}
 use Rattle.std.specs.List.{AllZip}
 use Rattle.std.proofs.lemmas.List.{length-take-le, take-append-drop, take_more}
 use Rattle.std.proofs.lemmas.List.Concat.{flat_map-append}
@@ -9,7 +9,7 @@ use Rattle.std.proofs.lemmas.List.Sums.{sum_by-append, sum_by-cons}
 use Rattle.dude_base.specs.declared.sizes.Sizes.{Sizes}
 use Rattle.dude_base.specs.Records.{RedoBundle}
 use Rattle.pmem_trait.specs.declared.medium.Medium.{Ghosts}
-use Rattle.pmem_trait.specs.Sights.{Risen, SomeCalls}
+use Rattle.pmem_trait.specs.Sights.{Risen}
 use Rattle.pmem_trait.proofs.Runs.{made_later, ran_here, ran_then, risen_later}
 use Rattle.dude_io.specs.declared.file_text.FileText.{FileText}
 use Rattle.dude_follow.specs.declared.follow_fault.FollowFault.{FollowFault}
@@ -17,17 +17,16 @@ use Rattle.dude_follow.specs.declared.follow_fault.FollowFault.TheVariants.{Devi
 use Rattle.dude_follow.specs.declared.follower.Follower.{Follower}
 use Rattle.dude_follow.specs.declared.taken.Taken.{Taken}
 use Rattle.dude_follow.specs.declared.taken.Taken.TheVariants.{Old, Strange, Applied, Kept, Dropped}
-use Rattle.dude_follow.specs.Applying.{Applies}
-use Rattle.dude_follow.specs.Follower.{KeepsParts, TakesPacket, follower_back, follower_room, follower_sight, follower_sizes, follower_state}
+use Rattle.dude_follow.specs.Follower.{KeepsParts, TakesPacket, follower_back, follower_room, follower_sight, follower_state}
 use Rattle.dude_follow.specs.Following.{IsStrangeAnswer}
-use Rattle.dude_follow.specs.Taking.{FollowerState, Follows, Follows.none, Follows.next, StaysSo, Takes}
+use Rattle.dude_follow.specs.Taking.{FollowerState, Follows, Follows.none, Follows.next, Takes}
 use Rattle.dude_follow.proofs.Chains.{applies_then, through_then}
 use Rattle.dude_follow.proofs.TakenPackets.{applies_none, moments_none}
 use Rattle.command_edges.specs.declared.fault.Fault.{Fault}
 use Rattle.command_edges.specs.declared.fault.Fault.TheVariants as fault
 use Rattle.command_edges.proofs.Zips.{AllZip-more}
 use Rattle.dude_program.specs.Delivery.{NoneStrange, drops_of, is_drop, packets_in}
-use Rattle.dude_program.specs.Taking.{FollowerRests, IsPacketsFault, MeansPackets, StopsAtFailure, StopsAtStrange, StopsInPackets, StopsInText, StopsInTexts, TakesAll, TakesList, TakesPackets, TakesText}
+use Rattle.dude_program.specs.Taking.{FollowerRests, IsPacketsFault, MeansPackets, StopsAtFailure, StopsAtStrange, StopsInText, StopsInTexts, TakesAll, TakesList, TakesPackets, TakesText}
 
 -- ---- the rule
 

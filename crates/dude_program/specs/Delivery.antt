@@ -51,11 +51,12 @@ packets_in each = flat_map (λ packets. packets) each
 abbrev pub NoneStrange : List Taken → Type 0
 NoneStrange answers = All (λ answer. IsStrangeAnswer answer → ⊥) answers
 
--- how many answers say that a packet was dropped
+-- whether an answer says that a packet was dropped
 abbrev pub is_drop : Taken → Bool
 is_drop (Dropped kept) = true
 is_drop _ = false
 
+-- how many answers do
 abbrev pub drops_of : List Taken → ℕ
 drops_of answers = sum_by (λ answer. if is_drop answer then 1 else 0) answers
 

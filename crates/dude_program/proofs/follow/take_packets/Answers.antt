@@ -1,4 +1,4 @@
-use Rattle.std.proofs.Common.{◌≡◌, ◌+◌, ◌≤◌, List, Ok, arith, length, refl, subst}
+use Rattle.std.proofs.Common.{◌≤◌, List, Ok, arith, length, refl, subst}
 use Rattle.std.proofs.lemmas.List.{take_all}
 use Rattle.dude_base.specs.Records.{RedoBundle}
 use Rattle.dude_follow.specs.declared.taken.Taken.{Taken}

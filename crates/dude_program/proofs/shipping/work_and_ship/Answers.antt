@@ -1,4 +1,4 @@
-use Rattle.std.proofs.Common.{◌≡◌, ◌∙◌, sym}
+use Rattle.std.proofs.Common.{◌∙◌, sym}
 use Rattle.dude_program.proofs.Works.{ran_over_plain, whole_end}
 use Rattle.dude_program.proofs.shipping.work_and_ship.Goals as goal
 

@@ -1,7 +1,6 @@
 use Rattle.std.proofs.Common.{arith, sym, subst, ℕ}
 use Rattle.pmem_trait.specs.Sights.{Sight}
 use Rattle.back_store.specs.BackView.{sight_of}
-use Rattle.tatp_model.specs.Files.{requests_in}
 use Rattle.run_threads.specs.Answers.{AreSyncsDurable}
 use Rattle.dude_program.proofs.Works.{device_end, lost_on_threads, only_ends, operates_idle, ran_end, whole_end}
 use Rattle.dude_program.proofs.worked.work_on_threads.Goals as goal
