@@ -23,7 +23,7 @@ const PIECE: usize = 65_536;
 /// The most lines that are written at once.
 const RUN: usize = 1024;
 
-/// Up to so many lines are written by way of few bytes.
+/// Up to so many lines are written by way of few bytes, and a single line by way of its own.
 const SHORT_RUN: usize = 32;
 
 /// How many names are tried for a file that is being made.
@@ -140,10 +140,10 @@ fn write_run<F: FileExt>(file: &F, lines: &[Line]) -> io::Result<usize>
 {
     let count = run_length(lines);
     let run = &lines[..count];
-    if count <= SHORT_RUN {
-        write_through(file, run, &mut [0; SHORT_RUN * BYTES])?;
-    } else {
-        write_through(file, run, &mut [0; RUN * BYTES])?;
+    match count {
+        1 => write_through(file, run, &mut [0; BYTES])?,
+        2..=SHORT_RUN => write_through(file, run, &mut [0; SHORT_RUN * BYTES])?,
+        _ => write_through(file, run, &mut [0; RUN * BYTES])?,
     }
     Ok(count)
 }

@@ -62,6 +62,7 @@ pub fn reproduce<M: Medium>(back: &mut Back<M>, most: u64) -> Result<u64, BackFa
 }
 
 /// Gives a page of the home.
+#[inline(never)]
 pub fn read_page<M: Medium>(
     back: &mut Back<M>,
     page: u64,

@@ -11,9 +11,10 @@ use pmem_trait::{Failed, Medium, settle_group};
 use redo_record::AppendCalls;
 
 /// Makes the calls that append a record whose head is to stand in this slot: first all its words but the head's tag are
-/// made durable, and then the tag.
+/// made durable, and then the tag. `calls` has the room for them.
 pub fn append_record<M: Medium>(
     m: &mut M,
+    calls: &mut AppendCalls,
     place: &Place,
     ring: u64,
     head: u64,
@@ -26,7 +27,7 @@ pub fn append_record<M: Medium>(
     ensures len { (M.sight m.new).len ≡ (M.sight m.old).len }
     ensures made { AppendsAt place.now ring head b.now result (M.sight m.old) (M.sight m.new) }
 {
-    let calls = AppendCalls::of(place, ring, head, b);
+    calls.set(place, ring, head, b);
     settle_group(m, calls.body(), calls.body_lines())?;
     settle_group(m, calls.tag(), calls.tag_line())
 }

@@ -14,7 +14,7 @@ use crate::ring_fault::RingFault;
 use dude_base::bundle::Bundle;
 use dude_base::place::Place;
 use pmem_trait::{Failed, Medium};
-use redo_record::{cells_of, slot_after};
+use redo_record::{AppendCalls, cells_of, slot_after};
 use std::alloc::{AllocError, Global};
 use std::marker::Model;
 
@@ -26,6 +26,8 @@ pub struct Ring {
     records: Vec<Logged>,
     next: u64,
     released: u64,
+    /// Room for the calls of an append, which is written anew by each.
+    calls: AppendCalls,
 }
 
 impl Model for Ring {
@@ -53,6 +55,7 @@ impl Ring {
             ring,
             next: 0,
             released: 0,
+            calls: AppendCalls::room(),
         })
     }
 
@@ -119,7 +122,7 @@ impl Ring {
         if used + need > self.place.sizes().cells {
             return Err(RingFault::Full { used, need });
         }
-        match append_record(m, &self.place, self.ring, self.next, b) {
+        match append_record(m, &mut self.calls, &self.place, self.ring, self.next, b) {
             Ok(()) => {
                 self.note(b);
                 Ok(())

@@ -28,7 +28,8 @@ fn set_cell(
 )
     requires cell { cell < RECORD_CELLS }
     requires start { start + LINE ≤ 2 ^ 64 }
-    ensures { take (LINE * (cell + 1)) pairs.new
+    ensures size { length pairs.new ≡ 256 }
+    ensures pairs { take (LINE * (cell + 1)) pairs.new
         ≡ take (LINE * cell) pairs.old ++ enumerate_from start words.now }
 {
     for j in 0..LINE {
@@ -36,40 +37,45 @@ fn set_cell(
     }
 }
 
-// The words of the bundle's cells, each by its number and its value.
-fn pairs_of(place: &Place, ring: u64, head: u64, b: &Bundle) -> [(u64, u64); RECORD_WORDS]
+// Sets the pairs of the bundle's cells: their words, each by its number and its value.
+fn set_pairs(
+    pairs: &mut [(u64, u64); RECORD_WORDS],
+    place: &Place,
+    ring: u64,
+    head: u64,
+    b: &Bundle,
+)
     requires ring { ring < place.now.rings }
     requires head { head < place.now.cells }
     requires numbers { HasNumbers b.now }
-    ensures { take (LINE * cells_for (length b.now.writes)) result
+    ensures size { length pairs.new ≡ 256 }
+    ensures pairs { take (LINE * cells_for (length b.now.writes)) pairs.new
         ≡ record_writes place.now (cell_at ring head) b.now }
 {
-    let mut pairs = [(0, 0); RECORD_WORDS];
     let mut words = [0; LINE as usize];
     for cell in 0..cells_of(b) {
         encode(b, cell, &mut words);
-        set_cell(
-            &mut pairs,
-            cell,
-            start_after(place, ring, head, cell),
-            &words,
-        );
+        set_cell(pairs, cell, start_after(place, ring, head, cell), &words);
     }
-    pairs
 }
 
-// The lines of so many cells.
-fn lines_of(place: &Place, ring: u64, head: u64, cells: u64) -> [u64; RECORD_CELLS as usize]
+// Sets the lines of so many cells.
+fn set_lines(
+    lines: &mut [u64; RECORD_CELLS as usize],
+    place: &Place,
+    ring: u64,
+    head: u64,
+    cells: u64,
+)
     requires ring { ring < place.now.rings }
     requires head { head < place.now.cells }
     requires few { cells ≤ RECORD_CELLS }
-    ensures { take cells result ≡ lines_from place.now (cell_at ring head) cells }
+    ensures size { length lines.new ≡ 32 }
+    ensures lines { take cells lines.new ≡ lines_from place.now (cell_at ring head) cells }
 {
-    let mut lines = [0; RECORD_CELLS as usize];
     for cell in 0..cells {
         lines[cell as usize] = start_after(place, ring, head, cell) / LINE;
     }
-    lines
 }
 
 /// The calls that append a bundle to its ring, as a list: first all its words but the head's tag are made durable, and then
@@ -88,23 +94,31 @@ pub struct AppendCalls {
 impl AppendCalls {
     ghost use Rattle.redo_record.specs.CallLists.{append_list, body_lines_of, body_of, bundle_lines, tag_line_of, tag_of};
 
-    /// The calls that append a bundle whose head is to stand in this slot.
-    pub fn of(place: &Place, ring: u64, head: u64, b: &Bundle) -> AppendCalls
+    /// Room for the calls that append a bundle. Which ones it has is set later, and for each bundle anew.
+    pub fn room() -> AppendCalls {
+        AppendCalls {
+            pairs: [(0, 0); RECORD_WORDS],
+            lines: [0; RECORD_CELLS as usize],
+            cells: 1,
+        }
+    }
+
+    /// These become the calls that append a bundle whose head is to stand in this slot. Only what that bundle needs of the
+    /// room is written.
+    pub fn set(&mut self, place: &Place, ring: u64, head: u64, b: &Bundle)
         requires ring { ring < place.now.rings }
         requires head { head < place.now.cells }
         requires numbers { HasNumbers b.now }
-        ensures list { append_list result ≡ append_calls place.now (cell_at ring head) b.now }
-        ensures body { body_of result ≡ body_writes place.now (cell_at ring head) b.now }
-        ensures lines { body_lines_of result ≡ bundle_lines place.now (cell_at ring head) b.now }
-        ensures tag { tag_of result ≡ tag_write place.now (cell_at ring head) b.now }
-        ensures tag_line { tag_line_of result ≡ line_of place.now (cell_at ring head) ∷ [] }
+        ensures list { append_list self.new ≡ append_calls place.now (cell_at ring head) b.now }
+        ensures body { body_of self.new ≡ body_writes place.now (cell_at ring head) b.now }
+        ensures lines { body_lines_of self.new ≡ bundle_lines place.now (cell_at ring head) b.now }
+        ensures tag { tag_of self.new ≡ tag_write place.now (cell_at ring head) b.now }
+        ensures tag_line { tag_line_of self.new ≡ line_of place.now (cell_at ring head) ∷ [] }
     {
         let cells = cells_of(b);
-        AppendCalls {
-            pairs: pairs_of(place, ring, head, b),
-            lines: lines_of(place, ring, head, cells),
-            cells,
-        }
+        set_pairs(&mut self.pairs, place, ring, head, b);
+        set_lines(&mut self.lines, place, ring, head, cells);
+        self.cells = cells;
     }
 
     /// How many calls there are.

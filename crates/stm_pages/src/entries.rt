@@ -33,6 +33,7 @@ pub fn see_entry<M: Medium>(
 
 /// Makes a page absent for another one, unless its entry isn't `kept` any more, and gives the entry
 /// found.
+#[inline(never)]
 pub fn evict<M: Medium>(
     events: &Events<M>,
     seat: &mut SlotSeat<M>,

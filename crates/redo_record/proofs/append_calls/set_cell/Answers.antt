@@ -12,8 +12,8 @@ loop-j-preserved c =
       before = pair_more c.args.pairs.now c.loop-j.pairs c.args.words.now (8 * c.args.cell) c.args.start c.loop-j.j (omega arith) (omega arith) c.loop-j.invariant.before;
     }
 
-pub returns : goal.returns
-returns c =
+pub returns-clause-pairs : goal.returns-clause-pairs
+returns-clause-pairs c =
     let last : c.loop-j.j ≡ 8 = omega arith in
     subst (λ n. take n c.loop-j.pairs ≡ take (8 * c.args.cell) c.args.pairs.now ++ enumerate_from c.args.start c.args.words.now) (let e : 8 * c.args.cell + c.loop-j.j ≡ 8 * (c.args.cell + 1) = omega arith in e)
     (pair_all c.args.pairs.now c.loop-j.pairs c.args.words.now (8 * c.args.cell) c.args.start c.loop-j.j (omega arith) c.loop-j.invariant.before)

@@ -2,7 +2,7 @@ use Rattle.std.proofs.Common.{◌∙◌, arith}
 use Rattle.std.proofs.lemmas.List.{length-set}
 use Rattle.dude_base.specs.Image.{cell_at}
 use Rattle.redo_record.proofs.RecordPairs.{lines_more}
-use Rattle.redo_record.proofs.append_calls.lines_of.Goals as goal
+use Rattle.redo_record.proofs.append_calls.set_lines.Goals as goal
 
 pub loop-cell-preserved : goal.loop-cell-preserved
 loop-cell-preserved c = record {

@@ -2,7 +2,7 @@
 use Rattle.std.proofs.Common.{◌≡◌, length, take}
 use Rattle.dude_base.specs.Image.{cell_at}
 use Rattle.redo_record.specs.Calls.{lines_from}
-use Rattle.redo_record.proofs.append_calls.lines_of.Given as goal
+use Rattle.redo_record.proofs.append_calls.set_lines.Given as goal
 
 abbrev pub invariant-loop-cell : goal.invariant-loop-cell
 invariant-loop-cell l = record {
