@@ -53,8 +53,9 @@ pub record IsUnserved {X K : Type 0} (most : ℕ) (t : TableSight K) (p r : Pass
   pub draws : DrawsUpTo most p r
   pub durable : p.numbers.durable ≤ r.numbers.durable
 
--- It was given up: the pass was refused 64 times at least, or the count stands at its last value
+-- It was given up: it drew 64 numbers in vain, or was refused a million times; a number drawn in vain is a refusal, too
 pub record IsGivenUp {X K : Type 0} (t : TableSight K) (p r : PassSight X) : Type 0 where
+  pub cause : (r.numbers.left + 64 ≤ p.numbers.left) ⊎ RisesBy PATIENCE p.numbers.refused r.numbers.refused
   pub often : RisesBy 64 p.numbers.refused r.numbers.refused
   pub unserved : IsUnserved 64 t p r
 
