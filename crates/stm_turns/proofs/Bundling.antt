@@ -4,7 +4,7 @@ use Rattle.std.specs.Prelude.{Result, Ok, Err, IfOk}
 use Rattle.dude_base.specs.Records.{RedoBundle, first_of}
 use Rattle.pmem_trait.specs.Sights.{Sight}
 use Rattle.pmem_trait.specs.declared.medium.Medium.{Ghosts}
-use Rattle.back_store.specs.Back.{BackState}
+use Rattle.back_store.specs.Back.{BackState, ring_full}
 use Rattle.back_store.specs.declared.back_fault.BackFault.{BackFault}
 use Rattle.back_store.specs.declared.back_fault.BackFault.TheVariants.{RingFull}
 use Rattle.atomic_table.specs.declared.shared.Seat.{Seat}
@@ -21,7 +21,7 @@ use Rattle.stm_turns.proofs.Past.{rises_behind}
 use Rattle.stm_turns.proofs.Seats.{advanced, then_advanced, then_turn}
 
 -- what is known of a persist that found its ring full
-pub late_at : (ring : ℕ) (b : RedoBundle) (v w : BackState) (result : Result (Unit {0}) BackFault) (used need : ℕ) → result ≡ Err (RingFull used need) → IsLate result ring b v w → FoundFull ring b v w × (v.log.reproduced + 1 < first_of b)
+pub late_at : (ring : ℕ) (b : RedoBundle) (v w : BackState) (result : Result (Unit {0}) BackFault) (used need : ℕ) → result ≡ Err (RingFull used need) → IsLate result ring b v w → FoundFull ring b v w × (v.log.reproduced + 1 < first_of b) × (RingFull used need ≡ ring_full v ring b)
 late_at ring b v w result used need is late = subst (λ (r : Result (Unit {0}) BackFault). IsLate r ring b v w) is late
 
 -- where all was announced and reproduced before it was tried again

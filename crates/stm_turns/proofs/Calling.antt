@@ -64,12 +64,12 @@ pub record GoesOn (threads : ℕ) (v w : BackState) : Type 0 where
 ok_or_err : {X : Type 0} (r : Result X BackFault) (x : X) (e : BackFault) → r ≡ Ok x → r ≡ Err e → ⊥
 ok_or_err r x e ok err = cc
 
+pub not_true : (b : Bool) → (b ≡ true → ⊥) → b ≡ false
+not_true true none = absurd (none refl)
+not_true false none = refl
+
 pub alive_unless : {X : Type 0} (v : BackState) (r : Result X BackFault) (x : X) → r ≡ Ok x → (IsErrOf r Dead ↔ (v.dead ≡ true)) → v.dead ≡ false
-alive_unless v r x ok dead = by_case v.dead refl
-  where
-    by_case : (b : Bool) → v.dead ≡ b → v.dead ≡ false
-    by_case true e = absurd (ok_or_err r x Dead ok (dead.1 e))
-    by_case false e = e
+alive_unless v r x ok dead = not_true v.dead (λ e. ok_or_err r x Dead ok (dead.1 e))
 
 module _ (threads first : ℕ) (v : BackState) (rs : List RedoRecord) (lawful : LawfulLists first (lists v rs)) where
   goes_same : GoesOn threads v v

@@ -7,6 +7,8 @@ pub mod Calling
 pub mod WholeTurns
 pub mod Starting
 pub mod Past
+pub mod Faults
+pub mod Fronts
 pub mod Bundling
 pub mod NextRecords
 pub mod Settled

@@ -81,11 +81,18 @@ pub then_past : (u v w : BackState) (result : Result ℕ BackFault) → KeepsPas
 then_past u v w (Ok n) a b = λ thread low past. b thread low (a thread low past)
 then_past u v w (Err fault) a b = tt
 
-full_or_device : (used need : ℕ) → RingFull used need ≡ Device → ⊥
+pub full_or_device : (used need : ℕ) → RingFull used need ≡ Device → ⊥
 full_or_device used need e = cc
 
-full_or_dead : (used need : ℕ) → RingFull used need ≡ Dead → ⊥
+pub full_or_dead : (used need : ℕ) → RingFull used need ≡ Dead → ⊥
 full_or_dead used need e = cc
+
+-- a persist that answers a full ring tells both counts of cells
+pub full_counts : (v : BackState) (ring : ℕ) (b : RedoBundle) (result : Result (Unit {0}) BackFault) (used need : ℕ) → result ≡ Err (RingFull used need) → IfErr result (IsPersistFault v ring b) → RingFull used need ≡ ring_full v ring b
+full_counts v ring b result used need full only = ⊎_elim
+    (λ e. e)
+    (λ o. ⊎_elim (λ e. absurd (full_or_device used need e)) (λ e. absurd (full_or_dead used need e)) o)
+    (subst (λ (q : Result (Unit {0}) BackFault). IfErr q (IsPersistFault v ring b)) full only)
 
 -- it rises over what was past before calls that keep that
 pub rises_behind : (m thread : ℕ) (u v w : BackState) → KeepsPast u v → RisesTo m thread v w → RisesTo m thread u w
@@ -110,7 +117,7 @@ module _ (first : ℕ) (v : BackState) (rs : List RedoRecord) (lawful : LawfulLi
   -- a persist that found its ring full changed nothing, and came too late
   pub full_late : cells_for (length b.writes) ≤ v.log.sizes.cells → (result : Result (Unit {0}) BackFault) (used need : ℕ) → result ≡ Err (RingFull used need) → (w : BackState) → w ≡ after_persist result thread b v → IfErr result (IsPersistFault v thread b) → (IsErrOf result (ring_full v thread b) ↔ ((v.dead ≡ false) × IsRingFull v thread b)) → FoundFull thread b v w × (v.log.reproduced + 1 < first_of b)
   full_late fits result used need full w state only cause =
-      let is_full = (cause.0 (full ∙ ap (λ f. Err f) (⊎_elim (λ e. e) (λ o. ⊎_elim (λ e. absurd (full_or_device used need e)) (λ e. absurd (full_or_dead used need e)) o) (subst (λ (q : Result (Unit {0}) BackFault). IfErr q (IsPersistFault v thread b)) full only)))).1 in (
+      let is_full = (cause.0 (full ∙ ap (λ f. Err f) (full_counts v thread b result used need full only))).1 in (
         (subst (λ (q : Result (Unit {0}) BackFault). w ≡ after_persist q thread b v) full state, is_full),
         late first v rs lawful thread b inside is_full fits newest,
       )

@@ -1,5 +1,5 @@
 -- What a whole pass over the boxes leaves, and that it ends.
-use Rattle.std.proofs.Common.{◌≡◌, ℕ, ◌+◌, ◌<◌, ◌≤◌, Bool, true, false, List, [], ◌∷◌, get_or, refl, sym, ap, ◌∙◌, subst, ⊎_elim, arith}
+use Rattle.std.proofs.Common.{◌≡◌, ℕ, ◌+◌, ◌<◌, ◌≤◌, true, List, [], ◌∷◌, get_or, refl, sym, ap, ◌∙◌, subst, ⊎_elim, arith}
 use Rattle.std.specs.Prelude.{Option, Some, None}
 use Rattle.std.specs.List.{Contains}
 use Rattle.std.proofs.lemmas.Bool.{true≢false}
@@ -30,7 +30,7 @@ use Rattle.stm_turns.specs.Gathered.{BeginsWith, IsGathered}
 use Rattle.stm_turns.specs.Holding.{Held, boxes_held, hands_of}
 use Rattle.stm_turns.specs.Turns.{Advanced, EndsSettled, HandedBelow, InTurn, IsAnnounced, IsNoLess, IsOwn, IsPast, KeepsPast, RisesTo, Stepped, SteppedOn, found_in, raised_view, settled_view}
 use Rattle.stm_turns.specs.declared.gathering.Gathering.{Gathering}
-use Rattle.stm_turns.proofs.Calling.{lanes_of_threads}
+use Rattle.stm_turns.proofs.Calling.{lanes_of_threads, not_true}
 use Rattle.stm_turns.proofs.Gatherings.{gathered_one}
 use Rattle.stm_turns.proofs.Past.{past_small}
 use Rattle.stm_turns.proofs.Bundling.{then_advanced_bare, then_with, with_of}
@@ -41,10 +41,6 @@ next_lacks : (first : ℕ) (v : BackState) (rs : List RedoRecord) → LawfulList
 next_lacks first v rs lawful n a reproduced = lacks_from rs (n + 1) (λ h.
     let w = (lawful.live a.alive).logged (n + 1) h (omega arith) in let over = waits_over v.log lawful.log w.0 w.1 in let low = w.2.low in
     a.next w.0 w.1 (omega arith))
-
-not_true : (b : Bool) → (b ≡ true → ⊥) → b ≡ false
-not_true true none = absurd (none refl)
-not_true false none = refl
 
 -- the seat is of its thread still, where what steps of the turn leave of its view is the same
 pub own_still : {S : Type 0} (thread : ℕ) (old new : Seat S (Known Beside)) → raised_view new.me.0.view ≡ raised_view old.me.0.view → IsOwn thread old → IsOwn thread new

@@ -4,7 +4,7 @@ use Rattle.std.specs.List.{Contains}
 use Rattle.dude_base.specs.Records.{RedoBundle, RedoRecord, first_of}
 use Rattle.pmem_trait.specs.Sights.{Sight}
 use Rattle.pmem_trait.specs.declared.medium.Medium.{Ghosts}
-use Rattle.back_store.specs.Back.{BackState, IsRingFull}
+use Rattle.back_store.specs.Back.{BackState, IsRingFull, ring_full}
 use Rattle.back_store.specs.BackView.{state_of}
 use Rattle.back_store.specs.declared.back_fault.BackFault.{BackFault}
 use Rattle.back_store.specs.declared.back_fault.BackFault.TheVariants.{RingFull, Device, Dead}
@@ -31,20 +31,20 @@ use Rattle.stm_turns.specs.declared.gathering.Gathering.{Gathering}
 abbrev pub NextIsNotDrawn : {S : Type 0} → Seat S (Known Beside) → ℕ → Type 0
 NextIsNotDrawn seat n = has seat.me.0.view.drawn (n + 1) ≡ false
 
--- the back is alive unless the device failed
+-- the back, which was alive, is so still unless the device failed
 abbrev pub IsAliveUnless : Result (Unit {0}) BackFault → BackState → Type 0
 IsAliveUnless (Ok done) v = v.dead ≡ false
 IsAliveUnless (Err Device) v = v.dead ≡ true
-IsAliveUnless (Err Dead) v = v.dead ≡ true
+IsAliveUnless (Err Dead) v = ⊥
 IsAliveUnless (Err (RingFull used need)) v = v.dead ≡ false
 
 -- the ring had no room for the bundle, and nothing changed
 abbrev pub FoundFull : ℕ → RedoBundle → BackState → BackState → Type 0
 FoundFull ring b v w = (w ≡ v) × IsRingFull v ring b
 
--- where the ring was full nothing changed, and the first number of the bundle isn't the next one to reproduce
+-- where the ring was full nothing changed, the first number of the bundle isn't the next one to reproduce, and the fault has both counts of cells
 abbrev pub IsLate : Result (Unit {0}) BackFault → ℕ → RedoBundle → BackState → BackState → Type 0
-IsLate (Err (RingFull used need)) ring b v w = FoundFull ring b v w × (v.log.reproduced + 1 < first_of b)
+IsLate (Err (RingFull used need)) ring b v w = FoundFull ring b v w × (v.log.reproduced + 1 < first_of b) × (RingFull used need ≡ ring_full v ring b)
 IsLate (Ok done) ring b v w = Unit {0}
 IsLate (Err Device) ring b v w = Unit {0}
 IsLate (Err Dead) ring b v w = Unit {0}

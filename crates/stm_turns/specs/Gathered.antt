@@ -1,8 +1,8 @@
 -- Records in hand of consecutive numbers, and the bundle that joins them.
-use Rattle.std.specs.Prelude.{◌≡◌, ℕ, ◌+◌, ◌<◌, ◌≤◌, ◌*◌, List, [], ◌∷◌, All, length, slice_index, slice_set}
+use Rattle.std.specs.Prelude.{◌≡◌, ℕ, ◌+◌, ◌<◌, ◌≤◌, ◌*◌, ◌⊎◌, List, [], ◌∷◌, All, length, slice_index, slice_set}
 use Rattle.std.specs.List.{Contains}
 use Rattle.dude_base.specs.declared.limits.TheConstants.{MAX_NUMBER, MAX_SPAN, PAGE}
-use Rattle.dude_base.specs.Joins.{CanJoin}
+use Rattle.dude_base.specs.Joins.{CanJoin, places_of}
 use Rattle.dude_base.specs.Records.{RedoBundle, RedoRecord, bundle_of, first_of, with_next}
 use Rattle.redo_record.specs.Record.{cells_for}
 use Rattle.core_events.specs.Setups.{Setup}
@@ -31,6 +31,10 @@ pub record TakesNext (thread : ℕ) (r : RedoRecord) (cells boxes : ℕ) (g h : 
   pub threads : h.threads ≡ slice_set g.threads g.count thread
   pub count : h.count ≡ g.count + 1
   pub ahead : h.ahead ≡ slice_set g.ahead thread (place_after boxes (slice_index g.ahead thread))
+
+-- the record isn't taken: there are as many numbers as a bundle covers, a ring of so many cells is too short for the bundle then, or the bundle doesn't take it
+abbrev pub LeavesNext : RedoRecord → ℕ → Gathering → Type 0
+LeavesNext r cells g = (MAX_SPAN < g.count) ⊎ (cells < cells_for (places_of g.bundle r)) ⊎ (CanJoin g.bundle r → ⊥)
 
 -- ---- the records in hand
 -- their threads stand in the list from a place on, up to this many

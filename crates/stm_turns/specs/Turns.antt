@@ -1,5 +1,5 @@
 -- What contracts say of a seat that has the turn.
-use Rattle.std.specs.Prelude.{◌≡◌, ◌≢◌, ◌⊎◌, ℕ, ◌+◌, ◌-◌, ◌<◌, ltb, if◌then◌else◌, ◌≤◌, true, false, List, [], ◌∷◌, Option, Some, None, slice_index}
+use Rattle.std.specs.Prelude.{◌≡◌, ◌≢◌, ◌⊎◌, ℕ, ◌+◌, ◌-◌, ◌<◌, ltb, if◌then◌else◌, ◌≤◌, true, false, List, [], ◌∷◌, Option, Some, None, Result, Ok, Err, slice_index}
 use Rattle.std.specs.List.{Contains}
 use Rattle.dude_base.specs.Records.{RedoBundle, RedoRecord, first_of}
 use Rattle.pmem_trait.specs.Sights.{Sight}
@@ -7,6 +7,8 @@ use Rattle.pmem_trait.specs.declared.medium.Medium.{Ghosts}
 use Rattle.redo_record.specs.Waiting.{Waiting}
 use Rattle.back_store.specs.Back.{BackState, waiting_now, waiting_of_ring}
 use Rattle.back_store.specs.BackView.{state_of}
+use Rattle.back_store.specs.declared.back_fault.BackFault.{BackFault}
+use Rattle.back_store.specs.declared.back_fault.BackFault.TheVariants.{RingFull, Device, Dead}
 use Rattle.atomic_table.specs.Table.{rest}
 use Rattle.atomic_table.specs.declared.shared.Seat.{Seat}
 use Rattle.core_events.specs.Keyed.{has}
@@ -177,6 +179,18 @@ module _ {M : Type 0} {ghosts : Ghosts M} where
 pub record KeepsPlaces {M : Type 0} {ghosts : Ghosts M} (h h2 : TheHome M ghosts) : Type 0 where
   pub next : h2.next ≡ h.next
   pub sizes : (state_of h2.back).log.sizes ≡ (state_of h.back).log.sizes
+
+-- ---- which fault a call of the back answers
+-- the fault is Dead where the back was dead before, and Device where it was alive
+abbrev pub IsFaultOf : BackState → BackFault → Type 0
+IsFaultOf v Device = v.dead ≡ false
+IsFaultOf v Dead = v.dead ≡ true
+IsFaultOf v (RingFull used need) = ⊥
+
+-- the back was alive where the call succeeds, and the fault of a call that fails is that of the back
+abbrev pub FailsBy : {X : Type 0} → Result X BackFault → BackState → Type 0
+FailsBy (Ok x) v = v.dead ≡ false
+FailsBy (Err fault) v = IsFaultOf v fault
 
 -- ---- the numbers of a thread's records rise
 -- each number that was past in the ring of the thread was less than this one, which is past now

@@ -1,7 +1,10 @@
 //! The thread with the turn looks at boxes, takes records out of them, and puts one back.
 
 ghost use Rattle.std.specs.Prelude.{◌≡◌, ◌<◌, [], true, false};
+ghost use Rattle.core_events.specs.Events.{see_full};
+ghost use Rattle.core_table.specs.Steps.{IsAfter};
 ghost use Rattle.stm_turns.specs.Bundles.{FindsNumber, HasLast, MayLook, PutsLast};
+ghost use Rattle.stm_turns.specs.InFront.{FindsWhether};
 ghost use Rattle.stm_turns.specs.Turns.{HasHome, InTurn, LooksAtAll, Stepped, SteppedOn, found_in};
 
 use crate::slots::{SlotSeat, read_record};
@@ -52,6 +55,7 @@ pub fn look<M: Medium>(
     requires thread { thread < events.now.setup.threads }
     requires place { place < events.now.setup.boxes }
     ensures step { SteppedOn M.sight events.now seat.old seat.new home.now home.now }
+    ensures found { IsAfter events.now (see_full thread place) seat.old seat.new result }
 {
     let at = events.box_place(thread, place);
     events.load_by::<Brand, (u64, u64, &Home<M>)>(seat, at, &(thread, place, home))
@@ -71,6 +75,8 @@ pub fn look_for<M: Medium>(
         → FindsNumber M.sight events.now seat.old seat.new home.now thread place number }
     ensures missed { result ≡ false
         → SteppedOn M.sight events.now seat.old seat.new home.now home.now }
+    ensures saw { FindsWhether events.now.setup thread place number
+        seat.old.me.0.view seat.new.me.0.view result }
 {
     let at = events.box_place(thread, place);
     let about = (thread, place, number, home);

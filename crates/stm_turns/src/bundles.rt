@@ -4,7 +4,7 @@ ghost use Rattle.std.specs.Prelude.{◌≡◌, ◌+◌, ◌<◌, [], IfOk, OnOk,
 ghost use Rattle.back_store.specs.BackView.{state_of};
 ghost use Rattle.dude_base.specs.Records.{first_of};
 ghost use Rattle.stm_turns.specs.Bundles.{FoundFull, InTurnWith, IsAliveUnless, IsFullStill, IsLate, SteppedBy};
-ghost use Rattle.stm_turns.specs.Turns.{Advanced, RisesTo, Stepped};
+ghost use Rattle.stm_turns.specs.Turns.{Advanced, FailsBy, RisesTo, Stepped};
 
 use crate::calls::catch_up;
 use crate::gathering::Gathering;
@@ -65,6 +65,7 @@ fn persist_or_put_back<M: Medium>(
         → FoundFull gathering.now.ring gathering.now.bundle
         (state_of home.old.back) (state_of home.new.back)) }
     ensures err { OnErr result ((state_of home.new.back).dead ≡ true) }
+    ensures cause { FailsBy result (state_of home.old.back) }
 {
     match persist(events, seat, home, gathering) {
         Ok(()) => Ok(true),
@@ -73,7 +74,7 @@ fn persist_or_put_back<M: Medium>(
             Ok(false)
         }
         Err(BackFault::Device) => Err(BackFault::Device),
-        Err(BackFault::Dead) => Err(BackFault::Dead),
+        Err(BackFault::Dead) => unreachable!(),
     }
 }
 
@@ -96,6 +97,7 @@ fn retry<M: Medium>(
     ensures stays { IfOk result (λ done. done ≡ false
         → IsFullStill gathering.now.ring gathering.now.bundle (state_of home.new.back)) }
     ensures err { OnErr result ((state_of home.new.back).dead ≡ true) }
+    ensures cause { FailsBy result (state_of home.old.back) }
 {
     match catch_up(events, seat, home, durable) {
         Ok(_) => persist_or_put_back(events, seat, home, gathering),
@@ -131,6 +133,7 @@ pub fn persist_bundle<M: Medium>(
     ensures late { IfOk result (λ done. done ≡ false
         → (state_of home.old.back).log.reproduced + 1 < first_of gathering.now.bundle) }
     ensures err { OnErr result ((state_of home.new.back).dead ≡ true) }
+    ensures cause { FailsBy result (state_of home.old.back) }
 {
     match persist(events, seat, home, gathering) {
         Ok(()) => Ok(true),
@@ -138,6 +141,6 @@ pub fn persist_bundle<M: Medium>(
             retry(events, seat, home, gathering, durable)
         }
         Err(BackFault::Device) => Err(BackFault::Device),
-        Err(BackFault::Dead) => Err(BackFault::Dead),
+        Err(BackFault::Dead) => unreachable!(),
     }
 }

@@ -2,7 +2,7 @@
 
 ghost use Rattle.std.specs.Prelude.{◌≡◌, IfOk, OnErr, OnOk, true};
 ghost use Rattle.back_store.specs.BackView.{state_of};
-ghost use Rattle.stm_turns.specs.Turns.{AdvancedOn, EndsSettled, HasHome, IsAnnounced, KeepsPast, KeepsPlaces, SteppedOn, TellsDurable};
+ghost use Rattle.stm_turns.specs.Turns.{AdvancedOn, EndsSettled, FailsBy, HasHome, IsAnnounced, KeepsPast, KeepsPlaces, SteppedOn, TellsDurable};
 
 use crate::raises::{raise_durable, raise_reproduced};
 use crate::slots::SlotSeat;
@@ -26,6 +26,7 @@ pub fn announce<M: Medium>(
     ensures past { OnOk result (KeepsPast (state_of home.old.back) (state_of home.new.back)) }
     ensures places { KeepsPlaces home.old home.new }
     ensures err { OnErr result ((state_of home.new.back).dead ≡ true) }
+    ensures cause { FailsBy result (state_of home.old.back) }
 {
     let number = known_back::announce(&mut home.back)?;
     raise_durable(events, seat, home, number);
@@ -46,6 +47,7 @@ pub fn reproduce<M: Medium>(
     ensures past { OnOk result (KeepsPast (state_of home.old.back) (state_of home.new.back)) }
     ensures places { KeepsPlaces home.old home.new }
     ensures err { OnErr result ((state_of home.new.back).dead ≡ true) }
+    ensures cause { FailsBy result (state_of home.old.back) }
 {
     let durable = home.back.durable();
     let number = known_back::reproduce(&mut home.back, durable)?;
@@ -68,6 +70,7 @@ pub fn catch_up<M: Medium>(
     ensures past { OnOk result (KeepsPast (state_of home.old.back) (state_of home.new.back)) }
     ensures places { KeepsPlaces home.old home.new }
     ensures err { OnErr result ((state_of home.new.back).dead ≡ true) }
+    ensures cause { FailsBy result (state_of home.old.back) }
 {
     announce(events, seat, home, durable)?;
     reproduce(events, seat, home)

@@ -1,7 +1,7 @@
 //! Records in hand whose numbers follow one another, and the bundle that joins them.
 
 ghost use Rattle.std.specs.Prelude.{◌≡◌, ◌<◌, true, false, length, slice_index};
-ghost use Rattle.stm_turns.specs.Gathered.{BeginsWith, TakesNext};
+ghost use Rattle.stm_turns.specs.Gathered.{BeginsWith, LeavesNext, TakesNext};
 
 use crate::places::next_place;
 use dude_base::bundle::Bundle;
@@ -57,6 +57,7 @@ impl Gathering {
         requires place { slice_index self.old.ahead thread < boxes }
         ensures taken { result ≡ true → TakesNext thread redo.now cells boxes self.old self.new }
         ensures stays { result ≡ false → self.new ≡ self.old }
+        ensures refused { result ≡ false → LeavesNext redo.now cells self.old }
     {
         if self.count > MAX_SPAN || cells < cells_for(self.bundle.places_with(redo)) {
             return false;

@@ -1,8 +1,9 @@
 //! Records of consecutive numbers are taken out of the boxes of all threads.
 
-ghost use Rattle.std.specs.Prelude.{◌≡◌, ◌<◌, ◌≤◌, ℕ, IfSome, length, slice_index};
+ghost use Rattle.std.specs.Prelude.{◌≡◌, ◌<◌, ◌≤◌, ℕ, IfSome, IfNone, length, slice_index, slice_set};
 ghost use Rattle.stm_turns.specs.Bundles.{InTurnWith, SteppedWith};
 ghost use Rattle.stm_turns.specs.Gathered.{BeginsAlike};
+ghost use Rattle.stm_turns.specs.InFront.{AreFound, AreFoundAgain, FindsFront, FindsWhereNone, IsFirstWith, NoneHas};
 ghost use Rattle.stm_turns.specs.Turns.{HasHome, SteppedOn};
 
 use crate::boxes::{look, look_for, put_last};
@@ -32,6 +33,8 @@ pub fn look_at_all<M: Medium>(
     requires places { (u : ℕ) → u < events.now.setup.threads
         → slice_index places.now u < events.now.setup.boxes }
     ensures step { SteppedOn M.sight events.now seat.old seat.new home.now home.now }
+    ensures found { AreFound events.now.setup places.now result events.now.setup.threads
+        seat.old.me.0.view seat.new.me.0.view }
 {
     let mut fronts = [0; MAX_RINGS as usize];
     for thread in 0..events.threads() {
@@ -55,6 +58,8 @@ fn look_where_empty<M: Medium>(
     requires thread { thread < events.now.setup.threads }
     requires place { place < events.now.setup.boxes }
     ensures step { SteppedOn M.sight events.now seat.old seat.new home.now home.now }
+    ensures found { FindsWhereNone events.now.setup thread place above front
+        seat.old.me.0.view seat.new.me.0.view result }
 {
     if front != 0 {
         return front;
@@ -78,6 +83,8 @@ pub fn look_again<M: Medium>(
     requires places { (u : ℕ) → u < events.now.setup.threads
         → slice_index places.now u < events.now.setup.boxes }
     ensures step { SteppedOn M.sight events.now seat.old seat.new home.now home.now }
+    ensures found { AreFoundAgain events.now.setup places.now above fronts.old fronts.new
+        events.now.setup.threads seat.old.me.0.view seat.new.me.0.view }
 {
     for thread in 0..events.threads() {
         let (place, front) = (places[thread as usize], fronts[thread as usize]);
@@ -88,7 +95,8 @@ pub fn look_again<M: Medium>(
 /// The first of so many threads that has this number in front.
 fn thread_with(fronts: &Fronts, threads: u64, number: u64) -> Option<u64>
     requires { threads ≤ length fronts.now }
-    ensures { IfSome result (λ thread. thread < threads) }
+    ensures some { IfSome result (IsFirstWith fronts.now threads number) }
+    ensures none { IfNone result (NoneHas fronts.now threads number) }
 {
     for thread in 0..threads {
         if fronts[thread as usize] == number {
@@ -139,6 +147,10 @@ pub fn look_behind<M: Medium>(
     requires with { InTurnWith M.sight events.now seat.old home.now gathering.now }
     requires thread { thread < events.now.setup.threads }
     ensures step { SteppedOn M.sight events.now seat.old seat.new home.now home.now }
+    ensures found { FindsFront events.now.setup thread (slice_index gathering.now.ahead thread)
+        gathering.now.bundle.last seat.old.me.0.view seat.new.me.0.view
+        (slice_index fronts.new thread) }
+    ensures others { fronts.new ≡ slice_set fronts.old thread (slice_index fronts.new thread) }
 {
     let behind = gathering.ahead[thread as usize];
     let number = look(events, seat, home, thread, behind);

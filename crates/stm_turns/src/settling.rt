@@ -4,7 +4,8 @@ ghost use Rattle.std.specs.Prelude.{◌≡◌, ◌≤◌, ◌<◌, ℕ, [], IfOk
 ghost use Rattle.dude_base.specs.declared.limits.TheConstants.{MAX_RINGS};
 ghost use Rattle.back_store.specs.BackView.{state_of};
 ghost use Rattle.stm_turns.specs.Bundles.{NextIsNotDrawn};
-ghost use Rattle.stm_turns.specs.Turns.{Advanced, EndsSettled, InTurn, IsOwn, RisesTo};
+ghost use Rattle.stm_turns.specs.InFront.{AreLeft, IsLeast, NoneToTake};
+ghost use Rattle.stm_turns.specs.Turns.{Advanced, EndsSettled, FailsBy, InTurn, IsOwn, RisesTo};
 
 use crate::boxes::see_front;
 use crate::bundles::persist_bundle;
@@ -22,7 +23,8 @@ use stm_slots::slots_rule::Events;
 /// The thread with the least number in front, of so many.
 fn least(fronts: &Fronts, threads: u64) -> Option<u64>
     requires { threads ≤ MAX_RINGS }
-    ensures { IfSome result (λ thread. thread < threads) }
+    ensures some { IfSome result (IsLeast fronts.now threads) }
+    ensures none { IfNone result (NoneToTake fronts.now threads) }
 {
     let mut least = None;
     let mut number = LEFT;
@@ -37,7 +39,9 @@ fn least(fronts: &Fronts, threads: u64) -> Option<u64>
 }
 
 /// Nothing is taken any more from threads whose records stay in their boxes.
-fn leave(fronts: &mut Fronts, gathering: &Gathering, next: &Fronts) {
+fn leave(fronts: &mut Fronts, gathering: &Gathering, next: &Fronts)
+    ensures { AreLeft gathering.now.ahead next.now fronts.old fronts.new }
+{
     for thread in 0..MAX_RINGS as usize {
         if gathering.ahead[thread] != next[thread] {
             fronts[thread] = LEFT;
@@ -62,6 +66,7 @@ fn persist_from<M: Medium>(
         seat.old seat.new home.new [] }
     ensures ok { OnOk result ((state_of home.new.back).dead ≡ false) }
     ensures err { OnErr result ((state_of home.new.back).dead ≡ true) }
+    ensures cause { FailsBy result (state_of home.old.back) }
 {
     let Some(redo) = see_front(events, seat, home, thread) else {
         fronts[thread as usize] = 0;
@@ -89,6 +94,7 @@ fn persist_all<M: Medium>(
         seat.old seat.new home.new [] }
     ensures ok { OnOk result ((state_of home.new.back).dead ≡ false) }
     ensures err { OnErr result ((state_of home.new.back).dead ≡ true) }
+    ensures cause { FailsBy result (state_of home.old.back) }
 {
     let mut fronts = look_at_all(events, seat, home, &home.next);
     for _ in 0..events.box_count() {
@@ -123,6 +129,7 @@ fn persist_next<M: Medium>(
     ensures some { IfOk result (λ next. IfSome next (λ n. EndsSettled seat.new home.new n
         × ((m : ℕ) × RisesTo m own (state_of home.old.back) (state_of home.new.back)))) }
     ensures err { OnErr result ((state_of home.new.back).dead ≡ true) }
+    ensures cause { FailsBy result (state_of home.old.back) }
 {
     let Some(redo) = see_front(events, seat, home, own) else {
         return Ok(None);
@@ -158,6 +165,7 @@ fn persist_own<M: Medium>(
     ensures ok { IfOk result (λ n. EndsSettled seat.new home.new n) }
     ensures next { IfOk result (λ n. NextIsNotDrawn seat.new n) }
     ensures err { OnErr result ((state_of home.new.back).dead ≡ true) }
+    ensures cause { FailsBy result (state_of home.old.back) }
 {
     let mut number = settled;
     // Each bundle begins with a greater number than the one before.
@@ -188,6 +196,7 @@ pub fn settle<M: Medium>(
     ensures ok { IfOk result (λ n. EndsSettled seat.new home.new n) }
     ensures next { IfOk result (λ n. NextIsNotDrawn seat.new n) }
     ensures err { OnErr result ((state_of home.new.back).dead ≡ true) }
+    ensures cause { FailsBy result (state_of home.old.back) }
 {
     persist_all(events, seat, home, durable)?;
     let number = catch_up(events, seat, home, durable)?;

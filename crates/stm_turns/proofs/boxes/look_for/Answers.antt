@@ -1,6 +1,8 @@
+use Rattle.std.proofs.Common.{eq-eqb, eqb-true}
 use Rattle.core_events.specs.Events.{see_full}
 use Rattle.stm_slots.specs.Opening.{setup_of}
 use Rattle.stm_turns.specs.Told.{SawNext}
+use Rattle.stm_turns.proofs.Fronts.{after_on}
 use Rattle.stm_turns.proofs.HeldRecords.{others_held}
 use Rattle.stm_turns.proofs.Holdings.{look_acts_on}
 use Rattle.stm_turns.proofs.Seats.{may_in_turn, looked_found, looked_missed}
@@ -22,3 +24,12 @@ pub returns-clause-missed : goal.returns-clause-missed
 returns-clause-missed g c =
     let x = c.load_by in
     λ no hand i. looked_missed g.M.Medium.sight c.args.events.now c.args.seat.now x.new.seat x.result c.args.thread c.args.place c.args.number c.args.home.now x.ensures.seat.0 x.ensures.seat.1 x.ensures.then hand i no
+
+pub returns-clause-saw : goal.returns-clause-saw
+returns-clause-saw g c =
+    let t = c.args.events.now in let x = c.load_by in
+    record {
+      number = x.result;
+      after = after_on t.setup (setup_of g.M.Medium.sight t.key) c.requires.look.turn.setup (see_full c.args.thread c.args.place) c.args.seat.now.me.0.view x.new.seat.me.0.view x.result x.ensures.then.saw.view;
+      is = (eqb-true x.result c.args.number, eq-eqb x.result c.args.number);
+    }

@@ -11,7 +11,7 @@ use Rattle.known_back.specs.Lists.{lists}
 use Rattle.stm_slots.specs.Opening.{setup_of, since_of}
 use Rattle.stm_turns.specs.Turns.{RisesTo}
 use Rattle.stm_turns.proofs.Calling.{died_with, first_over, full_with, known_with, may_persist_with, newest_with, persisted_with, ring_lane}
-use Rattle.stm_turns.proofs.Past.{full_late, rises_with}
+use Rattle.stm_turns.proofs.Past.{full_counts, full_late, rises_with}
 use Rattle.stm_turns.proofs.bundles.persist.Goals as goal
 
 pub persist-requires : goal.persist-requires
@@ -53,6 +53,7 @@ returns-in-Ok-clause-rises g c =
 
 pub returns-in-Err-RingFull-clause-late : goal.returns-in-Err-RingFull-clause-late
 returns-in-Err-RingFull-clause-late g c =
-    let t = c.args.events.now in let sight = g.M.Medium.sight in let seat = c.args.seat.now in let h = c.args.home.now in let q = c.args.gathering.now in let w = c.requires.with in let z = setup_of sight t.key in let e = c.persist.ensures in let arm = c.in-Err-RingFull in
-    full_late z.first (state_of h.back) w.turn.holding.records w.turn.holding.known.lawful q.ring q.bundle (ring_lane sight t seat h q w) (first_over sight t seat h q w c.requires.alive) (newest_with sight t seat h q w c.requires.alive) w.gathered.short
-    c.persist.result arm.used arm.need (arm.is ∙ ap (λ f. Err f) arm.field-0-is) (state_of c.persist.new.back) e.state e.cause.only e.cause.full
+    let t = c.args.events.now in let sight = g.M.Medium.sight in let seat = c.args.seat.now in let h = c.args.home.now in let q = c.args.gathering.now in let w = c.requires.with in let z = setup_of sight t.key in let e = c.persist.ensures in let arm = c.in-Err-RingFull in let full = arm.is ∙ ap (λ f. Err f) arm.field-0-is in
+    let late = full_late z.first (state_of h.back) w.turn.holding.records w.turn.holding.known.lawful q.ring q.bundle (ring_lane sight t seat h q w) (first_over sight t seat h q w c.requires.alive) (newest_with sight t seat h q w c.requires.alive) w.gathered.short
+    c.persist.result arm.used arm.need full (state_of c.persist.new.back) e.state e.cause.only e.cause.full in
+    (late.0, late.1, full_counts (state_of h.back) q.ring q.bundle c.persist.result arm.used arm.need full e.cause.only)

@@ -1,9 +1,11 @@
-use Rattle.std.proofs.Common.{◌∙◌, [], ap}
+use Rattle.std.proofs.Common.{◌∙◌, [], ap, subst}
 use Rattle.std.specs.Prelude.{Err}
 use Rattle.back_store.specs.BackView.{state_of}
-use Rattle.back_store.specs.declared.back_fault.BackFault.TheVariants.{RingFull, Device, Dead}
+use Rattle.back_store.specs.declared.back_fault.BackFault.TheVariants.{RingFull, Device}
 use Rattle.dude_base.specs.Records.{first_of}
 use Rattle.stm_turns.proofs.Bundling.{late_at, late_from, rises_from, stepped_by, then_advanced_bare, with_of}
+use Rattle.stm_turns.specs.Turns.{FailsBy}
+use Rattle.stm_turns.proofs.Faults.{never_dead}
 use Rattle.stm_turns.proofs.Seats.{advanced}
 use Rattle.stm_turns.proofs.bundles.persist_bundle.Goals as goal
 
@@ -38,7 +40,10 @@ returns-in-Err-Device-clause-step g c =
     let t = c.args.events.now in let sight = g.M.Medium.sight in let seat = c.args.seat.now in let x = c.persist in let arm = c.in-Err-Device in
     advanced sight t c.args.durable.now seat x.new.seat x.new.home [] (stepped_by sight t seat x.new.seat x.new.home c.args.gathering.now x.result (Err Device) (arm.is ∙ ap (λ f. Err f) arm.field-0-is) x.ensures.step)
 
-pub returns-in-Err-Dead-clause-step : goal.returns-in-Err-Dead-clause-step
-returns-in-Err-Dead-clause-step g c =
-    let t = c.args.events.now in let sight = g.M.Medium.sight in let seat = c.args.seat.now in let x = c.persist in let arm = c.in-Err-Dead in
-    advanced sight t c.args.durable.now seat x.new.seat x.new.home [] (stepped_by sight t seat x.new.seat x.new.home c.args.gathering.now x.result (Err Dead) (arm.is ∙ ap (λ f. Err f) arm.field-0-is) x.ensures.step)
+pub unreachable-requires : goal.unreachable-requires
+unreachable-requires g c = let x = c.persist in let arm = c.in-Err-Dead in never_dead x.result (state_of x.new.home.back) (arm.is ∙ ap (λ f. Err f) arm.field-0-is) x.ensures.life
+
+pub returns-in-Err-RingFull-clause-cause : goal.returns-in-Err-RingFull-clause-cause
+returns-in-Err-RingFull-clause-cause g c =
+    let x = c.persist in let q = c.args.gathering.now in let arm = c.in-Err-RingFull in let y = c.retry in let v = state_of c.args.home.now.back in let w = state_of x.new.home.back in
+    subst (FailsBy y.result) (late_at q.ring q.bundle v w x.result arm.field-0-0 arm.field-0-1 (arm.is ∙ ap (λ f. Err f) arm.field-0-is) x.ensures.late).0.0 y.ensures.cause

@@ -1,9 +1,10 @@
 use Rattle.std.proofs.Common.{◌∙◌, ap}
 use Rattle.std.specs.Prelude.{Err}
 use Rattle.back_store.specs.BackView.{state_of}
-use Rattle.back_store.specs.declared.back_fault.BackFault.TheVariants.{RingFull, Device, Dead}
+use Rattle.back_store.specs.declared.back_fault.BackFault.TheVariants.{RingFull, Device}
 use Rattle.stm_turns.proofs.Bundling.{late_at, stepped_by, then_bare, with_of}
 use Rattle.stm_turns.proofs.Calling.{may_put_all}
+use Rattle.stm_turns.proofs.Faults.{never_dead}
 use Rattle.stm_turns.proofs.bundles.persist_or_put_back.Goals as goal
 
 pub returns-in-Ok-clause-step : goal.returns-in-Ok-clause-step
@@ -29,10 +30,8 @@ returns-in-Err-Device-clause-step g c =
     let x = c.persist in let arm = c.in-Err-Device in
     stepped_by g.M.Medium.sight c.args.events.now c.args.seat.now x.new.seat x.new.home c.args.gathering.now x.result (Err Device) (arm.is ∙ ap (λ f. Err f) arm.field-0-is) x.ensures.step
 
-pub returns-in-Err-Dead-clause-step : goal.returns-in-Err-Dead-clause-step
-returns-in-Err-Dead-clause-step g c =
-    let x = c.persist in let arm = c.in-Err-Dead in
-    stepped_by g.M.Medium.sight c.args.events.now c.args.seat.now x.new.seat x.new.home c.args.gathering.now x.result (Err Dead) (arm.is ∙ ap (λ f. Err f) arm.field-0-is) x.ensures.step
+pub unreachable-requires : goal.unreachable-requires
+unreachable-requires g c = let x = c.persist in let arm = c.in-Err-Dead in never_dead x.result (state_of x.new.home.back) (arm.is ∙ ap (λ f. Err f) arm.field-0-is) x.ensures.life
 
 pub returns-in-Err-RingFull-clause-stays : goal.returns-in-Err-RingFull-clause-stays
 returns-in-Err-RingFull-clause-stays g c =

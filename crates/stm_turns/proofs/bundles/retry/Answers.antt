@@ -3,6 +3,7 @@ use Rattle.back_store.specs.BackView.{state_of}
 use Rattle.dude_base.specs.Records.{first_of}
 use Rattle.stm_turns.proofs.Bundling.{full_still, rises_after}
 use Rattle.stm_turns.proofs.Calling.{may_put_all, with_on}
+use Rattle.stm_turns.proofs.Faults.{fails_still}
 use Rattle.stm_turns.proofs.Seats.{advanced, then_advanced}
 use Rattle.stm_turns.proofs.bundles.retry.Goals as goal
 
@@ -43,3 +44,8 @@ returns-in-Err-clause-step g c =
     let t = c.args.events.now in let sight = g.M.Medium.sight in let seat = c.args.seat.now in let x = c.catch_up in let q = c.args.gathering.now in let y = c.put_all_back in
     let w = c.requires.with in let d = x.new.durable in
     then_advanced sight t c.args.durable.now d d seat x.new.seat y.new.seat x.new.home x.new.home w.hand [] (x.ensures.step w.hand w.turn) (advanced sight t d x.new.seat y.new.seat x.new.home [] y.ensures.step)
+
+pub returns-in-Ok-clause-cause : goal.returns-in-Ok-clause-cause
+returns-in-Ok-clause-cause g c =
+    let x = c.catch_up in let y = c.persist_or_put_back in let ok = c.in-Ok.ensures in
+    fails_still y.result (state_of x.new.home.back) (state_of c.args.home.now.back) ok.ok.is.alive ok.cause y.ensures.cause

@@ -2,7 +2,8 @@ use Rattle.std.proofs.Common.{refl}
 use Rattle.back_store.specs.BackView.{state_of}
 use Rattle.stm_slots.specs.Opening.{setup_of, since_of}
 use Rattle.stm_turns.proofs.Past.{keeps_announced}
-use Rattle.stm_turns.proofs.Calling.{announce_goes, announced_ok, called_turn}
+use Rattle.stm_turns.proofs.Faults.{fails_by, hands_on}
+use Rattle.stm_turns.proofs.Calling.{alive_unless, announce_goes, announced_ok, called_turn}
 use Rattle.stm_turns.proofs.Seats.{advanced, same_turn}
 use Rattle.stm_turns.proofs.calls.announce.Goals as goal
 
@@ -58,3 +59,10 @@ pub returns-in_err-number-clause-places : goal.returns-in_err-number-clause-plac
 returns-in_err-number-clause-places g c =
     let t = c.args.events.now in let h = c.args.home.now in let a = c.announce in let b = a.new.back in let z = setup_of g.M.Medium.sight t.key in let i = c.requires.turn.1 in
     record { next = refl; sizes = (announce_goes z.threads z.first (state_of h.back) i.holding.records i.holding.known.lawful (state_of b) a.result a.ensures.answer a.ensures.state a.ensures.cause.dead).sizes }
+
+pub returns-in_err-number-clause-cause : goal.returns-in_err-number-clause-cause
+returns-in_err-number-clause-cause g c =
+    let h = c.args.home.now in hands_on c.from_residual.result c.in_err-number.field-0.0 (state_of h.back) c.from_residual.ensures.1 (fails_by _ h.back c.announce.new.back c.in_err-number.ensures.cause)
+
+pub returns-clause-cause : goal.returns-clause-cause
+returns-clause-cause g c = alive_unless (state_of c.args.home.now.back) c.announce.result c.in_ok-number.number c.in_ok-number.was c.announce.ensures.cause.dead

@@ -1,5 +1,6 @@
 use Rattle.std.proofs.Common.{◌∙◌}
 use Rattle.back_store.specs.BackView.{state_of}
+use Rattle.stm_turns.proofs.Faults.{fails_still}
 use Rattle.stm_turns.proofs.Past.{then_past}
 use Rattle.stm_turns.proofs.Seats.{advanced, then_advanced}
 use Rattle.stm_turns.proofs.calls.catch_up.Goals as goal
@@ -20,3 +21,8 @@ returns-clause-past g c =
 
 pub returns-clause-places : goal.returns-clause-places
 returns-clause-places g c = let a = c.announce.ensures.places in let r = c.reproduce.ensures.places in record { next = r.next ∙ a.next; sizes = r.sizes ∙ a.sizes }
+
+pub returns-clause-cause : goal.returns-clause-cause
+returns-clause-cause g c =
+    let a = c.announce in let ok = c.in_ok-announce.ensures in
+    fails_still c.reproduce.result (state_of a.new.home.back) (state_of c.args.home.now.back) ok.ok.is.alive ok.cause c.reproduce.ensures.cause

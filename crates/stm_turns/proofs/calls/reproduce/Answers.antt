@@ -5,6 +5,7 @@ use Rattle.stm_slots.specs.Opening.{setup_of, since_of}
 use Rattle.stm_turns.proofs.Calling.{reproduce_goes, reproduced_ok, stops_at_durable, lanes_of_threads, called_turn}
 use Rattle.back_store.specs.Back.{BackState}
 use Rattle.stm_turns.specs.Turns.{IsPast}
+use Rattle.stm_turns.proofs.Faults.{fails_by, hands_on}
 use Rattle.stm_turns.proofs.Past.{past_reproduced}
 use Rattle.std.proofs.Common.{sym}
 use Rattle.stm_turns.proofs.Seats.{same_turn}
@@ -72,3 +73,7 @@ pub returns-in_err-number-clause-places : goal.returns-in_err-number-clause-plac
 returns-in_err-number-clause-places g c =
     let t = c.args.events.now in let h = c.args.home.now in let seat = c.args.seat.now in let sight = g.M.Medium.sight in let a = c.reproduce in let b = a.new.back in let z = setup_of sight t.key in let hand = c.requires.turn.0 in let i = c.requires.turn.1 in
     record { next = refl; sizes = (reproduce_goes z.threads z.first (state_of h.back) i.holding.records i.holding.known.lawful (state_of b) c.durable-durable.result a.result a.ensures.answer a.ensures.state (lanes_of_threads sight t seat h hand i)).sizes }
+
+pub returns-in_err-number-clause-cause : goal.returns-in_err-number-clause-cause
+returns-in_err-number-clause-cause g c =
+    let h = c.args.home.now in hands_on c.from_residual.result c.in_err-number.field-0.0 (state_of h.back) c.from_residual.ensures.1 (fails_by _ h.back c.reproduce.new.back c.in_err-number.ensures.cause)

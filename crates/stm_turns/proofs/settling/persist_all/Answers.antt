@@ -1,5 +1,7 @@
 use Rattle.std.proofs.Common.{◌∙◌, [], ap, arith}
 use Rattle.core_events.specs.Setups.{Setup}
+use Rattle.back_store.specs.BackView.{state_of}
+use Rattle.stm_turns.proofs.Faults.{err_still}
 use Rattle.stm_turns.proofs.Seats.{advanced, then_advanced}
 use Rattle.stm_turns.proofs.settling.persist_all.Goals as goal
 
@@ -25,3 +27,7 @@ loop-preserved g c =
 pub least-requires : goal.least-requires
 least-requires g c =
     let wide = c.requires.turn.holding.wide in let e = c.threads.ensures ∙ ap (λ (y : Setup). y.threads) c.requires.turn.setup in omega arith
+
+pub returns-in_err-persist_from-clause-cause : goal.returns-in_err-persist_from-clause-cause
+returns-in_err-persist_from-clause-cause g c =
+    let l = c.loop in let x = c.persist_from in err_still x.result c.from_residual.result c.in_err-persist_from.field-0.0 (state_of l.home.back) (state_of c.args.home.now.back) c.in_err-persist_from.was c.from_residual.ensures.1 l.invariant.alive c.requires.alive x.ensures.cause

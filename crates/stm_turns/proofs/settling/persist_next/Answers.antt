@@ -3,6 +3,7 @@ use Rattle.core_events.specs.Setups.{Setup}
 use Rattle.back_store.specs.BackView.{state_of}
 use Rattle.stm_turns.proofs.Bundling.{then_bare, with_of}
 use Rattle.stm_turns.proofs.Calling.{may_put_all}
+use Rattle.stm_turns.proofs.Faults.{err_still}
 use Rattle.stm_turns.proofs.NextRecords.{ahead_inside, looked_with}
 use Rattle.stm_turns.proofs.Seats.{advanced, then_advanced}
 use Rattle.stm_turns.proofs.Settled.{begun, begun_steps, bundle_steps, not_drawn_none, not_drawn_on, not_drawn_some, rises_on, still_settled}
@@ -101,3 +102,8 @@ returns-clause-some g c =
             c.in_ok-catch_up.ensures.past,
       ),
     )
+
+pub returns-in_err-catch_up-clause-cause : goal.returns-in_err-catch_up-clause-cause
+returns-in_err-catch_up-clause-cause g c =
+    let y = c.persist_bundle in let d = c.catch_up in
+    let r = c.from_residual-in_err-catch_up in err_still d.result r.result c.in_err-catch_up.field-0.0 (state_of y.new.home.back) (state_of c.args.home.now.back) c.in_err-catch_up.was r.ensures.1 c.in_ok-persist_bundle.ensures.ok c.requires.settled.is.alive d.ensures.cause

@@ -2,6 +2,7 @@ use Rattle.std.proofs.Common.{ℕ, [], arith, inl, subst}
 use Rattle.std.specs.Prelude.{Option, IfSome}
 use Rattle.stm_turns.specs.Turns.{EndsSettled, RisesTo}
 use Rattle.back_store.specs.BackView.{state_of}
+use Rattle.stm_turns.proofs.Faults.{err_still}
 use Rattle.stm_turns.proofs.Settled.{none_over, own_still, past_more}
 use Rattle.stm_turns.proofs.Seats.{advanced, same_turn, then_advanced}
 use Rattle.stm_turns.proofs.settling.persist_own.Goals as goal
@@ -34,3 +35,8 @@ loop-look-preserved g c =
       settled = some.0;
       past = past_more c.args.own l._look (state_of l.home.back) (state_of x.new.home.back) l.invariant.past some.1;
     }
+
+pub returns-in_err-next-clause-cause : goal.returns-in_err-next-clause-cause
+returns-in_err-next-clause-cause g c =
+    let l = c.loop-look in let x = c.persist_next in
+    let r = c.from_residual in err_still x.result r.result c.in_err-next.field-0.0 (state_of l.home.back) (state_of c.args.home.now.back) c.in_err-next.was r.ensures.1 l.invariant.settled.is.alive c.requires.settled.is.alive x.ensures.cause

@@ -1,4 +1,6 @@
 use Rattle.std.proofs.Common.{[]}
+use Rattle.back_store.specs.BackView.{state_of}
+use Rattle.stm_turns.proofs.Faults.{err_still, fails_still}
 use Rattle.stm_turns.proofs.Settled.{own_still}
 use Rattle.stm_turns.proofs.Seats.{then_advanced}
 use Rattle.stm_turns.proofs.settling.settle.Goals as goal
@@ -25,3 +27,12 @@ returns-clause-step g c =
     let a = c.persist_all in let b = c.catch_up in let d = c.persist_own in
     let s = then_advanced g.M.Medium.sight c.args.events.now c.args.durable.now a.new.durable b.new.durable c.args.seat.now a.new.seat b.new.seat a.new.home b.new.home [] [] a.ensures.step (b.ensures.step [] a.ensures.step.turn) in
     then_advanced g.M.Medium.sight c.args.events.now c.args.durable.now b.new.durable d.new.durable c.args.seat.now b.new.seat d.new.seat b.new.home d.new.home [] [] s d.ensures.step
+
+pub returns-in_err-number-clause-cause : goal.returns-in_err-number-clause-cause
+returns-in_err-number-clause-cause g c =
+    let a = c.persist_all in let b = c.catch_up in
+    let r = c.from_residual-in_err-number in err_still b.result r.result c.in_err-number.field-0.0 (state_of a.new.home.back) (state_of c.args.home.now.back) c.in_err-number.was r.ensures.1 c.in_ok-persist_all.ensures.ok c.requires.alive b.ensures.cause
+
+pub returns-clause-cause : goal.returns-clause-cause
+returns-clause-cause g c =
+    let b = c.catch_up in let d = c.persist_own in fails_still d.result (state_of b.new.home.back) (state_of c.args.home.now.back) c.in_ok-number.ensures.ok.is.alive c.requires.alive d.ensures.cause
