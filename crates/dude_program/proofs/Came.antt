@@ -70,17 +70,9 @@ opened_old {meaning} {opening} {words} {s} {m} opener writes on is_open = record
 
 -- what is known of the replies stays so while no call changes whether the medium is visible
 known_behind : (meaning : Meaning) (opening : Opening) (s m : Sight) → m.is_visible ≡ s.is_visible → KnowsReplies meaning opening s → KnowsReplies meaning opening m
-known_behind (FreshRun subscribers file) opening s m same known = tt
-known_behind (FormatImage subscribers calls rings cells) opening s m same known = tt
-known_behind (RunFiles None locks files) opening s m same known = tt
 known_behind (RunFiles (Some frames) locks files) opening s m same (inl seen) = inl (same ∙ seen)
 known_behind (RunFiles (Some frames) locks files) opening s m same (inr all) = inr all
-known_behind RecoverImage opening s m same known = tt
-known_behind DumpTables opening s m same known = tt
-known_behind (DriveLoad seed count number) opening s m same known = tt
-known_behind (AuditRun printed files) opening s m same known = tt
-known_behind (ShipFiles files) opening s m same known = tt
-known_behind (FollowFiles files) opening s m same known = tt
+known_behind meaning opening s m same known = tt
 
 -- a command that carries requests out makes calls behind its opening
 runs_on : (meaning : Meaning) → runs_requests meaning ≡ true → ends_opened meaning ≡ false

@@ -84,21 +84,7 @@ which meaning s len (fault.TooFew rows calls) is r =
     let b : calls ≡ s.calls = r.4 ∙ ap (λ (z : Sizes). z.calls) same in
     let w : image_words s ≤ len = subst (λ (z : Sizes). image_words z ≤ len) same r.2 in
     few (let p = a in let q = b in cc) w (omega (arith, a, b, r.5))
-which meaning s len fault.Usage is r = absurd r
-which meaning s len (fault.File a) is r = absurd r
-which meaning s len (fault.Text a b c) is r = absurd r
-which meaning s len fault.Unformatted is r = absurd r
-which meaning s len (fault.Damaged a) is r = absurd r
-which meaning s len (fault.NotDb a) is r = absurd r
-which meaning s len (fault.ManyFiles a b) is r = absurd r
-which meaning s len (fault.Frames a b) is r = absurd r
-which meaning s len (fault.FewSubscribers a b) is r = absurd r
-which meaning s len (fault.Numbers a b) is r = absurd r
-which meaning s len fault.Device is r = absurd r
-which meaning s len fault.Output is r = absurd r
-which meaning s len fault.Memory is r = absurd r
-which meaning s len (fault.Audit a) is r = absurd r
-which meaning s len (fault.Strange a b) is r = absurd r
+which meaning s len why is r = absurd r
 
 pub one_format_fault : (meaning : Meaning) (s : Sizes) (len : ℕ) (a b : Fault) → sizes_made meaning ≡ Some s → RefusesFormat meaning len a → RefusesFormat meaning len b → a ≡ b
 one_format_fault meaning s len a b is one other = by (which meaning s len a is one) (which meaning s len b is other)

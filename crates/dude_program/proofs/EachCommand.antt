@@ -23,14 +23,14 @@ use Rattle.dude_engine.specs.Opening.{Opening}
 use Rattle.dude_engine.specs.Plain.{IsOpeningOf}
 use Rattle.dude_engine.specs.Requests.{request_count}
 use Rattle.command_edges.specs.declared.fault.Fault.{Fault}
-use Rattle.command_edges.specs.declared.fault.Fault.TheVariants.{Usage, File, Text, Small, TooFew, Unformatted, Damaged, NotDb, ManyFiles, Frames, FewSubscribers, Numbers, Device, Output, Memory, Audit, Strange}
+use Rattle.command_edges.specs.declared.fault.Fault.TheVariants.{ManyFiles, Frames, FewSubscribers, Numbers, Device, Memory, Audit}
 use Rattle.run_threads.specs.Answers.{KnowsReads}
 use Rattle.run_threads.specs.Ends.{IsAsOpened}
 use Rattle.command_openings.specs.Opens.{Opens}
 use Rattle.command_openings.specs.Openings.{new_opening}
 use Rattle.command_openings.proofs.OneOpening.{opening_with}
-use Rattle.dude_program.specs.Opening.{KnowsReplies, fresh_sizes, load_of}
-use Rattle.dude_program.specs.Causes.{IsLeftOpened, MustRefuse, RefusesOpening, WantsFrames}
+use Rattle.dude_program.specs.Opening.{KnowsReplies, fresh_sizes, load_of, makes_image}
+use Rattle.dude_program.specs.Causes.{IsLeftOpened, MustRefuse, RefusesAudit, RefusesOpening, WantsFrames}
 use Rattle.dude_program.specs.Work.{AllowsFrames, HasFewNumbers, HasFrames, PrintsText, RefusesLoad, RefusesRun}
 use Rattle.dude_program.proofs.FilesRead.{all_judged}
 use Rattle.dude_program.proofs.Refusals.{one_requests, passes_if}
@@ -88,6 +88,16 @@ is_opening_of o opened = record { number = refl; sizes = refl; stands = opened.l
 
 -- ---- which images are refused
 
+-- an opened image that refuses a command without an audit
+pub refused_by : (meaning : Meaning) (f : FilesSight) (opening : Opening) → makes_image meaning ≡ false → ((line : ℕ) → RefusesAudit meaning f opening line → ⊥) → (last : ℕ) (s t : Sight) → IsLeftOpened opening s t
+    → (why : Fault) → RefusesOpening meaning f opening why → CameBy meaning f opening [] last s t (Some why) × (◌≡◌ {A = Option Fault} (Some why) (Some Device) → ⊥)
+refused_by meaning f opening opens none last s t left (ManyFiles a b) r = ((opens, refl, r, left), λ e. let no : ⊥ = cc in no)
+refused_by meaning f opening opens none last s t left (Frames a b) r = ((opens, refl, r, left), λ e. let no : ⊥ = cc in no)
+refused_by meaning f opening opens none last s t left (FewSubscribers a b) r = ((opens, refl, r, left), λ e. let no : ⊥ = cc in no)
+refused_by meaning f opening opens none last s t left (Numbers a b) r = ((opens, refl, r, left), λ e. let no : ⊥ = cc in no)
+refused_by meaning f opening opens none last s t left (Audit line) r = absurd (none line r)
+refused_by meaning f opening opens none last s t left why r = absurd r
+
 pub recover_passes : (f : FilesSight) (opening : Opening) (why : Fault) → MustRefuse RecoverImage f opening why → ⊥
 recover_passes f opening why refuses = passes_if RecoverImage f opening (λ line known no. no) (omega arith) (λ w no. no) (λ w no. no) (λ known n no. no.0) why refuses
 
@@ -106,40 +116,11 @@ module _ (frames locks : Option ℕ) (names : List (List ℕ)) (f : FilesSight) 
   run_refuses opening (ManyFiles a b) r = (r.0 ∙ as_many, r.1, r.2, all_judged names)
   run_refuses opening (Frames a b) r = (omega (arith, as_many, r.0), r.1, r.2)
   run_refuses opening (Numbers a b) r = (omega (arith, as_many, r.0), r.1, (λ w no. no), r.2, (tt, (requests, read, r.3), r.4))
-  run_refuses opening (FewSubscribers a b) r = absurd r
-  run_refuses opening Usage r = absurd r
-  run_refuses opening (File a) r = absurd r
-  run_refuses opening (Text a b c) r = absurd r
-  run_refuses opening (Small a b) r = absurd r
-  run_refuses opening (TooFew a b) r = absurd r
-  run_refuses opening Unformatted r = absurd r
-  run_refuses opening (Damaged a) r = absurd r
-  run_refuses opening (NotDb a) r = absurd r
-  run_refuses opening Device r = absurd r
-  run_refuses opening Output r = absurd r
-  run_refuses opening Memory r = absurd r
-  run_refuses opening (Audit a) r = absurd r
-  run_refuses opening (Strange a b) r = absurd r
+  run_refuses opening why r = absurd r
 
   pub run_came : (opening : Opening) (last : ℕ) (s t : Sight) → IsLeftOpened opening s t → (why : Fault) → RefusesRun (RunFiles frames locks names) number opening.sizes opening.number requests why
       → CameBy (RunFiles frames locks names) f opening [] last s t (Some why) × (◌≡◌ {A = Option Fault} (Some why) (Some Device) → ⊥)
-  run_came opening last s t left (ManyFiles a b) r = ((refl, refl, run_refuses opening (ManyFiles a b) r, left), λ e. let no : ⊥ = cc in no)
-  run_came opening last s t left (Frames a b) r = ((refl, refl, run_refuses opening (Frames a b) r, left), λ e. let no : ⊥ = cc in no)
-  run_came opening last s t left (Numbers a b) r = ((refl, refl, run_refuses opening (Numbers a b) r, left), λ e. let no : ⊥ = cc in no)
-  run_came opening last s t left (FewSubscribers a b) r = absurd r
-  run_came opening last s t left Usage r = absurd r
-  run_came opening last s t left (File a) r = absurd r
-  run_came opening last s t left (Text a b c) r = absurd r
-  run_came opening last s t left (Small a b) r = absurd r
-  run_came opening last s t left (TooFew a b) r = absurd r
-  run_came opening last s t left Unformatted r = absurd r
-  run_came opening last s t left (Damaged a) r = absurd r
-  run_came opening last s t left (NotDb a) r = absurd r
-  run_came opening last s t left Device r = absurd r
-  run_came opening last s t left Output r = absurd r
-  run_came opening last s t left Memory r = absurd r
-  run_came opening last s t left (Audit a) r = absurd r
-  run_came opening last s t left (Strange a b) r = absurd r
+  run_came opening last s t left why r = refused_by (RunFiles frames locks names) f opening refl (λ line no. no) last s t left why (run_refuses opening why r)
 
 module _ (seed count files : ℕ) (f : FilesSight) (opening : Opening) (requests : List (List Request)) (is : requests ≡ load_of opening.sizes.subscribers seed count files) where
   pub drive_passes : files ≤ opening.sizes.rings → files ≤ opening.sizes.subscribers → opening.number + 65 * request_count requests ≤ MAX_NUMBER
@@ -153,45 +134,13 @@ module _ (seed count files : ℕ) (f : FilesSight) (opening : Opening) (requests
   drive_refuses (FewSubscribers a b) r = inr (r.0, r.1, (r.2, omega (arith, r.1, r.3)))
   drive_refuses (Numbers a b) r = inr (r.0, (λ w no. no), (λ w few. let low = few.1 in let up = r.1 in omega (arith, low, up)), r.2, (tt, (requests, is, r.3), r.4))
   drive_refuses Memory r = inl refl
-  drive_refuses (Frames a b) r = absurd r
-  drive_refuses Usage r = absurd r
-  drive_refuses (File a) r = absurd r
-  drive_refuses (Text a b c) r = absurd r
-  drive_refuses (Small a b) r = absurd r
-  drive_refuses (TooFew a b) r = absurd r
-  drive_refuses Unformatted r = absurd r
-  drive_refuses (Damaged a) r = absurd r
-  drive_refuses (NotDb a) r = absurd r
-  drive_refuses Device r = absurd r
-  drive_refuses Output r = absurd r
-  drive_refuses (Audit a) r = absurd r
-  drive_refuses (Strange a b) r = absurd r
-
-  by_refusal : (last : ℕ) (s t : Sight) → IsLeftOpened opening s t → (why : Fault) → RefusesOpening (DriveLoad seed count files) f opening why
-      → CameBy (DriveLoad seed count files) f opening [] last s t (Some why) × (◌≡◌ {A = Option Fault} (Some why) (Some Device) → ⊥)
-  by_refusal last s t left (ManyFiles a b) r = ((refl, refl, r, left), λ e. let no : ⊥ = cc in no)
-  by_refusal last s t left (FewSubscribers a b) r = ((refl, refl, r, left), λ e. let no : ⊥ = cc in no)
-  by_refusal last s t left (Numbers a b) r = ((refl, refl, r, left), λ e. let no : ⊥ = cc in no)
-  by_refusal last s t left (Frames a b) r = ((refl, refl, r, left), λ e. let no : ⊥ = cc in no)
-  by_refusal last s t left Memory r = absurd r
-  by_refusal last s t left Usage r = absurd r
-  by_refusal last s t left (File a) r = absurd r
-  by_refusal last s t left (Text a b c) r = absurd r
-  by_refusal last s t left (Small a b) r = absurd r
-  by_refusal last s t left (TooFew a b) r = absurd r
-  by_refusal last s t left Unformatted r = absurd r
-  by_refusal last s t left (Damaged a) r = absurd r
-  by_refusal last s t left (NotDb a) r = absurd r
-  by_refusal last s t left Device r = absurd r
-  by_refusal last s t left Output r = absurd r
-  by_refusal last s t left (Audit a) r = absurd r
-  by_refusal last s t left (Strange a b) r = absurd r
+  drive_refuses why r = absurd r
 
   pub drive_came : (last : ℕ) (s t : Sight) → IsLeftOpened opening s t → (why : Fault) → RefusesLoad files opening.sizes opening.number requests why
       → CameBy (DriveLoad seed count files) f opening [] last s t (Some why) × (◌≡◌ {A = Option Fault} (Some why) (Some Device) → ⊥)
   drive_came last s t left why r = elim (drive_refuses why r) [
     | inl e ↦ subst (λ (x : Fault). CameBy (DriveLoad seed count files) f opening [] last s t (Some x) × (◌≡◌ {A = Option Fault} (Some x) (Some Device) → ⊥)) (sym e) (tt, λ same. let no : ⊥ = cc in no)
-    | inr refuses ↦ by_refusal last s t left why refuses
+    | inr refuses ↦ refused_by (DriveLoad seed count files) f opening refl (λ line no. no) last s t left why refuses
   ]
 
 -- ---- what threads share

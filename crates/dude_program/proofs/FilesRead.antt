@@ -1,12 +1,14 @@
 -- What is known of files that were read.
-use Rattle.std.proofs.Common.{◌≡◌, ℕ, ◌+◌, ◌<◌, ◌≤◌, Bool, true, false, IsTrue, List, [], ◌∷◌, length, get_or, inl, inr, refl, sym, ap, ◌∙◌, subst, arith, Option, Some, None, IsSome, Result, Ok, Err}
+use Rattle.std.proofs.Common.{◌≡◌, ℕ, ◌+◌, ◌<◌, ◌≤◌, Bool, true, false, IsTrue, List, [], ◌∷◌, length, get_or, inl, inr, refl, sym, ap, ◌∙◌, subst, arith, Option, Some, None, IsSome, Result, Ok, Err, Vec, Global}
 use Rattle.std.specs.Prelude.{if◌then◌else◌, nat_lt}
 use Rattle.std.specs.List.{All, AllZip, list_all}
 use Rattle.std.proofs.lemmas.Bool.Decides.{nat_tests}
-use Rattle.std.proofs.lemmas.List.{length-append, get_or_append_left}
+use Rattle.std.proofs.lemmas.List.{length-append, length-map, get_or_append_left}
 use Rattle.std.proofs.lemmas.List.Elements.{All-cons, All-nil}
+use Rattle.std.proofs.lemmas.Slice.Zip.{AllZip-long}
 use Rattle.std.proofs.Math.Seq.{get_or-append_seam}
 use Rattle.tatp_model.specs.declared.request.Request.{Request}
+use Rattle.tatp_model.specs.Files.{requests_in}
 use Rattle.tatp_csv.specs.RequestFile.{requests_of}
 use Rattle.dude_io.specs.Files.{FilesSight}
 use Rattle.command_edges.specs.CommandFile.{CommandFile, IsInLimit, IsInLimitAs, is_judged_first, packet_files, request_file, request_files}
@@ -86,6 +88,10 @@ one_bad f names n m r s c d visible a b =
     cc
 
 -- ---- files of requests
+
+-- there are as many lists as files
+pub as_many_lists : (f : FilesSight) (names : List (List ℕ)) (lists : List (Vec Request Global)) → AllZip (OfFile f) names (requests_in lists) → length lists ≡ length names
+as_many_lists f names lists read = sym (length-map lists (λ (list : Vec Request Global). list.items)) ∙ AllZip-long (OfFile f) names (requests_in lists) read
 
 pub all_judged : (names : List (List ℕ)) → IsTrue (list_all (λ file. is_judged_first file.kind) (request_files names))
 all_judged [] = refl

@@ -26,7 +26,7 @@ use Rattle.dude_program.specs.World.{SinkStays, world_of}
 use Rattle.dude_program.specs.Causes.{EndedWell, HasCause, MustRefuse, FailsOnlyAtDevice, SucceedsIfGood, Untouched}
 use Rattle.dude_program.specs.Delivery.{IsRefusedDelivery, TakesFiles, drops_of}
 use Rattle.dude_program.specs.Ending.{Ends}
-use Rattle.dude_program.specs.Follow.{AppliesInOrder, FollowedAll, FollowsFiles, RefusedDelivery, RunsFollower, followed_text}
+use Rattle.dude_program.specs.Follow.{AppliesInOrder, FollowedAll, FollowsFiles, IsLeftApplied, IsLeftInFront, RefusedDelivery, RunsFollower, followed_text}
 use Rattle.dude_program.specs.Headline.{TookAll, TookPrefix}
 use Rattle.dude_program.specs.Opening.{judges_files}
 use Rattle.dude_program.specs.Work.{PrintsText}
@@ -100,9 +100,9 @@ pub follow_passes : (names : List (List ℕ)) (f : FilesSight) (opening : Openin
 follow_passes names f opening why refuses = passes_if (FollowFiles names) f opening (λ line known no. no) (omega arith) (λ w no. no) (λ w no. no) (λ known n no. no.0) why refuses
 
 -- packets are refused
-refused_well : (names : List (List ℕ)) (f : FilesSight) (opening : Opening) (s : Sight) (k : SinkSight) (fault : Fault) → IsOpeningOn s opening → IsOpening opening → IsRefusedDelivery names f opening fault
-    → RefusedDelivery names (world_of s f k) fault
-refused_well names f opening s k fault on lawful why = record { opening = opening; starts = on; lawful = lawful; why = why }
+refused_well : (names : List (List ℕ)) (f g : FilesSight) (opening : Opening) (s t : Sight) (k l : SinkSight) (fault : Fault) → IsOpeningOn s opening → IsOpening opening → (why : IsRefusedDelivery names f opening fault)
+    → IsLeftInFront names f opening fault why s t → RefusedDelivery names (world_of s f k) (world_of t g l) fault
+refused_well names f g opening s t k l fault on lawful why left = record { opening = opening; starts = on; lawful = lawful; why = why; left = left }
 
 module _ {names : List (List ℕ)} {f g : FilesSight} {opening : Opening} {words : List ℕ} {s m t : Sight} (files : FilesRead (FollowFiles names) f g)
     (opened : ImageOpens (FollowFiles names) opening words s m) where
@@ -154,31 +154,33 @@ module _ {names : List (List ℕ)} {f g : FilesSight} {opening : Opening} {words
         )
 
     -- a packet is bad
-    pub ends_bad : {k : SinkSight} (file row field : ℕ) → SomeCalls true m t → (IsTrue (judges_files (FollowFiles names)) → ⊥) → IsRefusedDelivery names f opening (Text file row field)
+    pub ends_bad : {k : SinkSight} (file row field : ℕ) → SomeCalls true m t → (IsTrue (judges_files (FollowFiles names)) → ⊥) → (why : IsRefusedDelivery names f opening (Text file row field))
+        → IsLeftInFront names f opening (Text file row field) why s t
         → Ends (FollowFiles names) (world_of s f k) (world_of t g k) [] (Some (Text file row field)) × FollowsFiles names (world_of s f k) (world_of t g k) (Some (Text file row field))
-    ends_bad file row field ran later why = (
+    ends_bad {k} file row field ran later why left = (
       follow_ends (Some (Text file row field)) (quiet_ran ran (λ e. let no : ⊥ = cc in no)) (λ well. absurd well) tt (λ judged. absurd (later judged))
           (λ good medium unread output. absurd (good.delivered opening opened.at.starts (Text file row field) why)) ((λ judged. absurd (later judged)), refl) sink_same,
-      promised (Some (Text file row field)) (refl, refused_well names f opening s _ (Text file row field) (opened.at.on refl) opened.at.lawful why),
+      promised (Some (Text file row field)) (refl, refused_well names f g opening s t k k (Text file row field) (opened.at.on refl) opened.at.lawful why left),
     )
 
     -- a packet is strange
-    pub ends_strange : {k : SinkSight} (file packet : ℕ) → SomeCalls true m t → IsRefusedDelivery names f opening (Strange file packet)
+    pub ends_strange : {k : SinkSight} (file packet : ℕ) → SomeCalls true m t → (why : IsRefusedDelivery names f opening (Strange file packet)) → IsLeftInFront names f opening (Strange file packet) why s t
         → Ends (FollowFiles names) (world_of s f k) (world_of t g k) [] (Some (Strange file packet)) × FollowsFiles names (world_of s f k) (world_of t g k) (Some (Strange file packet))
-    ends_strange file packet ran why = (
+    ends_strange {k} file packet ran why left = (
       follow_ends (Some (Strange file packet)) (quiet_ran ran (λ e. let no : ⊥ = cc in no)) (λ well. absurd well) tt
           (record { opening = opening; opens = refl; starts = opened.at.starts; lawful = opened.at.lawful; why = why })
           (λ good medium unread output. absurd (good.delivered opening opened.at.starts (Strange file packet) why)) refl sink_same,
-      promised (Some (Strange file packet)) (refl, refused_well names f opening s _ (Strange file packet) (opened.at.on refl) opened.at.lawful why),
+      promised (Some (Strange file packet)) (refl, refused_well names f g opening s t k k (Strange file packet) (opened.at.on refl) opened.at.lawful why left),
     )
 
     -- all was taken
-    module _ (ran : SomeCalls true m t) (operates : MakesOperations (idle opening.sizes opening.number) m t) (taken : TakesFiles opening.sizes opening.number f names) where
+    module _ (ran : SomeCalls true m t) (operates : MakesOperations (idle opening.sizes opening.number) m t) (taken : TakesFiles opening.sizes opening.number f names)
+        (left : IsLeftApplied opening taken.records taken.after.number s t) where
       abbrev text : List ℕ
       text = followed_text taken.after.number (length taken.after.kept) (drops_of taken.answers)
 
-      all_taken : {k : SinkSight} (Took : List ℕ → Type 0) → Took text → FollowedAll names (world_of s f k) Took
-      all_taken Took took = record { opening = opening; starts = opened.at.on refl; lawful = opened.at.lawful; taken = taken; bytes = took }
+      all_taken : {k l : SinkSight} (Took : List ℕ → Type 0) → Took text → FollowedAll names (world_of s f k) (world_of t g l) Took
+      all_taken Took took = record { opening = opening; starts = opened.at.on refl; lawful = opened.at.lawful; taken = taken; left = left; bytes = took }
 
       abbrev Both : SinkSight → SinkSight → Option Fault → Type 0
       Both k l fault = Ends (FollowFiles names) (world_of s f k) (world_of t g l) [] fault × FollowsFiles names (world_of s f k) (world_of t g l) fault

@@ -4,7 +4,7 @@ use Rattle.std.specs.Prelude.{All}
 use Rattle.std.specs.List.{AllZip}
 use Rattle.std.proofs.lemmas.List.Elements.{All-cons, All-nil}
 use Rattle.dude_base.specs.declared.sizes.Sizes.{Sizes}
-use Rattle.dude_base.specs.Records.{RedoBundle}
+use Rattle.dude_base.specs.Records.{RedoBundle, overwritten_by_all}
 use Rattle.pmem_trait.specs.declared.medium.Medium.{Ghosts}
 use Rattle.pmem_trait.specs.Words.{IsSettled}
 use Rattle.pmem_trait.specs.Sights.{AtEveryMoment, Sight, state_now}
@@ -16,6 +16,7 @@ use Rattle.back_store.specs.Answers.{announced}
 use Rattle.back_store.proofs.Operations.{one_announces, one_persists, one_reproduces, operates_then}
 use Rattle.log_numbered.specs.LogCalls.{SettledBy, settled}
 use Rattle.pmem_trait.specs.declared.call.Call.{Call}
+use Rattle.redo_record.specs.Recovery.{AreConsecutive, Recovers}
 use Rattle.dude_io.specs.Files.{FilesSight}
 use Rattle.dude_io.specs.declared.file_text.FileText.{FileText}
 use Rattle.dude_io.specs.declared.file_text.FileText.TheVariants.{Whole, TooLong}
@@ -27,6 +28,7 @@ use Rattle.dude_follow.specs.Applying.{AppliedBy, AppliedBy.none, AppliedBy.next
 use Rattle.dude_follow.specs.Follower.{follower_back, follower_room, follower_sight, follower_state}
 use Rattle.dude_follow.specs.Taking.{FollowerState, Follows, Follows.none, Takes}
 use Rattle.dude_follow.proofs.Chains.{along_more}
+use Rattle.dude_follow.proofs.TakenPackets.{moments_none}
 use Rattle.command_edges.specs.CommandFile.{packet_files}
 use Rattle.command_edges.specs.declared.file_kind.FileKind.TheVariants.{Packets}
 use Rattle.command_edges.specs.Files.{IsGoodFile}
@@ -38,7 +40,7 @@ use Rattle.command_edges.proofs.Told.{file_is_there, long_file, some_is}
 use Rattle.command_edges.proofs.Zips.{AllZip-more, AllZip-then}
 use Rattle.command_words.specs.Command.{Meaning.FollowFiles}
 use Rattle.dude_program.specs.Delivery.{FOLLOWER_ROOM, HoldsBadPacket, HoldsPackets, IsFirstBadPacket, IsFirstStrange, TakesFiles, follower_at, packets_in}
-use Rattle.dude_program.specs.Follow.{AppliesInOrder, AreFirstPackets}
+use Rattle.dude_program.specs.Follow.{AppliesInOrder, AreFirstPackets, ImagesRecover}
 use Rattle.dude_program.specs.Taking.{IsBadAsPackets, MeansPackets, StopsInText, StopsInTexts, TakesAll, TakesPackets}
 use Rattle.dude_program.proofs.FilesRead.{FilesRead}
 use Rattle.dude_program.proofs.TakenPackets.{packets_more}
@@ -46,12 +48,12 @@ use Rattle.dude_program.proofs.ArrayMoments.{one_array}
 
 -- ---- what texts say of their files
 
-holds_packets : (sizes : Sizes) (f : FilesSight) (name : List ℕ) (text : FileText) (packets : List RedoBundle) → IsTextOf f (record { name = name; kind = Packets }) text → MeansPackets sizes text packets
+pub holds_packets : (sizes : Sizes) (f : FilesSight) (name : List ℕ) (text : FileText) (packets : List RedoBundle) → IsTextOf f (record { name = name; kind = Packets }) text → MeansPackets sizes text packets
     → HoldsPackets sizes f name packets
 holds_packets sizes f name (Whole bytes) packets is means = record { text = bytes.items; are = means; short = is.1; of_file = λ visible. some_is (f.text name) bytes.items (is.0 visible) }
 holds_packets sizes f name TooLong packets is means = absurd means
 
-holds_bad : (sizes : Sizes) (f : FilesSight) (name : List ℕ) (text : FileText) (packet : ℕ) → IsTextOf f (record { name = name; kind = Packets }) text → IsBadAsPackets sizes text packet
+pub holds_bad : (sizes : Sizes) (f : FilesSight) (name : List ℕ) (text : FileText) (packet : ℕ) → IsTextOf f (record { name = name; kind = Packets }) text → IsBadAsPackets sizes text packet
     → HoldsBadPacket sizes f name packet
 holds_bad sizes f name (Whole bytes) packet is bad = record { text = bytes.items; bad = inr (is.1, bad); of_file = λ visible. some_is (f.text name) bytes.items (is.0 visible) }
 holds_bad sizes f name TooLong packet is bad =
@@ -70,16 +72,16 @@ pub packet_files_read : (names : List (List ℕ)) {f g : FilesSight} (texts : Li
 packet_files_read names {f} texts read reads = record { good = all_there f names texts read; reads = reads }
 
 -- Of two related lists one splits as the other.
-record Splits {A B : Type 0} (R : A → B → Type 0) (xs : List A) (ys : List B) (y : B) : Type 0 where
-  front : List A
-  this : A
-  rest : List A
-  parts : xs ≡ front ++ this ∷ rest
-  same_length : length front ≡ length ys
-  fronts : AllZip R front ys
-  both : R this y
+pub record Splits {A B : Type 0} (R : A → B → Type 0) (xs : List A) (ys : List B) (y : B) : Type 0 where
+  pub front : List A
+  pub this : A
+  pub rest : List A
+  pub parts : xs ≡ front ++ this ∷ rest
+  pub same_length : length front ≡ length ys
+  pub fronts : AllZip R front ys
+  pub both : R this y
 
-splits : {A B : Type 0} (R : A → B → Type 0) (xs : List A) (ys : List B) (y : B) (zs : List B) → AllZip R xs (ys ++ y ∷ zs) → Splits R xs ys y
+pub splits : {A B : Type 0} (R : A → B → Type 0) (xs : List A) (ys : List B) (y : B) (zs : List B) → AllZip R xs (ys ++ y ∷ zs) → Splits R xs ys y
 splits R [] [] y zs zip = absurd zip
 splits R (x ∷ xs) [] y zs zip = record { front = []; this = x; rest = xs; parts = refl; same_length = refl; fronts = tt; both = zip.0 }
 splits R [] (z ∷ ys) y zs zip = absurd zip
@@ -141,11 +143,11 @@ module _ {M : Type 0} {ghosts : Ghosts M} (sizes : Sizes) (number : ℕ) (names 
 
     -- or why not
     module _ (why : Fault) (stops : StopsInTexts sizes texts why start end) where
-      abbrev parts : Splits (λ name text. IsTextOf f (record { name = name; kind = Packets }) text) names stops.earlier stops.text
+      abbrev pub parts : Splits (λ name text. IsTextOf f (record { name = name; kind = Packets }) text) names stops.earlier stops.text
       parts = splits (λ name text. IsTextOf f (record { name = name; kind = Packets }) text) names stops.earlier stops.text stops.later
           (subst (λ (l : List FileText). AllZip (λ name text. IsTextOf f (record { name = name; kind = Packets }) text) names l) stops.split read)
 
-      held_front : AllZip (HoldsPackets sizes f) parts.front stops.each
+      pub held_front : AllZip (HoldsPackets sizes f) parts.front stops.each
       held_front = AllZip-then (λ name text. IsTextOf f (record { name = name; kind = Packets }) text) (MeansPackets sizes) (HoldsPackets sizes f) parts.front stops.earlier stops.each
           (λ name text packets is mean. holds_packets sizes f name text packets is mean) parts.fronts stops.read
 
@@ -174,7 +176,7 @@ module _ {M : Type 0} {ghosts : Ghosts M} (sizes : Sizes) (number : ℕ) (names 
         taken = takes;
       }
 
-      counted : (file : ℕ) → file ≡ length stops.earlier + 1 → file ≡ length parts.front + 1
+      pub counted : (file : ℕ) → file ≡ length stops.earlier + 1 → file ≡ length parts.front + 1
       counted file is = let long = parts.same_length in omega (arith, is, long)
 
       pub stopped_delivered : (why_is : Fault) → why ≡ why_is → StopsInText sizes (packets_in stops.each) stops.text (length stops.earlier + 1) why_is start end → Delivered sizes names f start end
@@ -182,13 +184,12 @@ module _ {M : Type 0} {ghosts : Ghosts M} (sizes : Sizes) (number : ℕ) (names 
       stopped_delivered fault.Memory is by = front_delivered by.0 by.1
       stopped_delivered (fault.Strange file packet) is by =
           let s = by.2.1 in
-          part_delivered by.0 (s.earlier ++ s.strange ∷ []) s.later true by.1 (s.split ∙ sym (append_assoc s.earlier (s.strange ∷ []) s.later))
-          (subst (λ (l : List RedoBundle). TakesPackets l true start end) (append_assoc (packets_in stops.each) s.earlier (s.strange ∷ [])) s.taken)
+          part_delivered by.0 s.earlier (s.strange ∷ s.later) true by.1 s.split s.taken.0
       stopped_delivered fault.Device is by = part_delivered by.0 by.2.earlier by.2.later false by.1 by.2.split by.2.taken
       stopped_delivered other is by = absurd by.2
 
       -- a bad packet, or a strange one
-      pub stopped_bad : (file row field : ℕ) → StopsInText sizes (packets_in stops.each) stops.text (length stops.earlier + 1) (fault.Text file row field) start end
+      abbrev pub stopped_bad : (file row field : ℕ) → StopsInText sizes (packets_in stops.each) stops.text (length stops.earlier + 1) (fault.Text file row field) start end
           → IsFirstBadPacket sizes number f names file row × (field ≡ 0)
       stopped_bad file row field by = (
         record {
@@ -205,7 +206,7 @@ module _ {M : Type 0} {ghosts : Ghosts M} (sizes : Sizes) (number : ℕ) (names 
         by.0.1,
       )
 
-      pub stopped_strange : (file packet : ℕ) → StopsInText sizes (packets_in stops.each) stops.text (length stops.earlier + 1) (fault.Strange file packet) start end
+      abbrev pub stopped_strange : (file packet : ℕ) → StopsInText sizes (packets_in stops.each) stops.text (length stops.earlier + 1) (fault.Strange file packet) start end
           → IsFirstStrange sizes number f names file packet
       stopped_strange file packet by =
           let s = by.2.1 in
@@ -222,12 +223,12 @@ module _ {M : Type 0} {ghosts : Ghosts M} (sizes : Sizes) (number : ℕ) (names 
             later = s.later;
             holds = holds_packets sizes f parts.this stops.text (s.earlier ++ s.strange ∷ s.later) parts.both (subst (MeansPackets sizes stops.text) s.split by.1);
             counted = s.counted;
-            answers = s.answers;
-            records = s.records;
-            after = s.after;
-            follows = from_start s.follows;
-            none_strange = s.none_strange;
-            is_strange = subst (λ (r : ℕ). Takes r s.after s.strange taken.Strange [] s.after) room s.is_strange;
+            answers = s.taken.0.answers;
+            records = s.taken.0.records;
+            after = s.taken.0.after;
+            follows = from_start s.taken.0.follows;
+            none_strange = s.taken.1;
+            is_strange = subst (λ (r : ℕ). Takes r s.taken.0.after s.strange taken.Strange [] s.taken.0.after) room s.is_strange;
           }
 
 -- ---- what every image recovers to
@@ -273,6 +274,28 @@ applies_as s t names f {sizes} {z} {number} {n} {words} {l} settled recovered ow
     subst (λ (z : Sizes). AppliesInOrder z number words names f s t) (sym same.2)
     (subst (λ (n : ℕ). AppliesInOrder z n words names f s t) (sym same.0)
     (subst (λ (l : List ℕ). AppliesInOrder z n l names f s t) (sym same.1) applies))
+
+-- an image that recovers along no packet
+along_none : {sizes : Sizes} {number : ℕ} {array : List ℕ} {before : ℕ} {told image : List ℕ} → RecoversAlong sizes number [] array before told image → RecoversArray sizes number array image
+along_none {number = number} {array = array} {image = image} along = record { recovered = by along.front along.split along.lead along.recovered; same_sizes = along.same_sizes }
+  where
+    by : (front : List RedoBundle) → ◌≡◌ {A = List RedoBundle} [] (front ++ along.rest) → AreConsecutive number front along.number → Recovers image along.number (overwritten_by_all front array)
+        → Recovers image number array
+    by [] split lead recovered = subst (λ (n : ℕ). Recovers image n array) (sym lead) recovered
+    by (b ∷ front) split lead recovered = absurd (let no : ⊥ = cc in no)
+
+-- where all was taken every image recovers at the end to what the packets applied make of the array
+pub ends_applied : {M : Type 0} {ghosts : Ghosts M} (sizes : Sizes) (number before : ℕ) (array : List ℕ) {packets : List RedoBundle} (start end : Follower M ghosts) → follower_back start ≡ idle sizes number
+    → HoldsArray before (follower_back start) array (follower_sight start) → (t : TakesPackets packets true start end) → IsTrue (follower_sight end).is_visible
+    → ImagesRecover sizes t.after.number (overwritten_by_all t.records array) (follower_sight end)
+ends_applied sizes number before array start end back holds t visible =
+    let made : List ℕ = overwritten_by_all t.records array in
+    let u : Sight = follower_sight end in
+    let here = moments_none (follower_back end) u (t.rests refl) end.replica.back.room before made ((t.applies refl).overwrites before array holds) in
+    let own : AtEveryMoment (RecoversAlong sizes t.after.number [] made before) u u =
+    subst (λ (n : ℕ). AtEveryMoment (RecoversAlong sizes n [] made before) u u) (ap (λ (x : FollowerState). x.number) (t.state refl))
+    (subst (λ (z : Sizes). AtEveryMoment (RecoversAlong z (follower_back end).log.reproduced [] made before) u u) (t.parts.sizes ∙ ap (λ (v : BackState). v.log.sizes) back) here) in
+    record { each = λ image is. along_none ((own.each visible u.now (omega arith) (omega arith)).each image is) }
 
 -- ---- the calls
 

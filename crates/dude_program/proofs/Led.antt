@@ -17,7 +17,7 @@ use Rattle.dude_follow.specs.declared.taken.Taken.TheVariants as taken
 use Rattle.dude_follow.specs.Following.{HasApplied, IsDropAnswer, IsReached, IsStrangeAnswer, Leader}
 use Rattle.dude_follow.specs.LeaderImages.{RecoversToLeader}
 use Rattle.dude_follow.specs.Taking.{FollowerState, Follows}
-use Rattle.dude_follow.proofs.FollowingLaws.{following, reaching}
+use Rattle.dude_follow.proofs.FollowingLaws.{arrays, following, reaching}
 use Rattle.dude_follow.proofs.LeaderImagesLaw.{images}
 use Rattle.dude_follow.proofs.Leading.{contains_first, contains_later}
 use Rattle.command_edges.specs.declared.fault.Fault.{Fault}
@@ -28,7 +28,7 @@ use Rattle.command_openings.proofs.OneOpening.{content_of}
 use Rattle.dude_engine.specs.Opening.{Opening}
 use Rattle.dude_program.specs.World.{World}
 use Rattle.dude_program.specs.Delivery.{FOLLOWER_ROOM, HoldsPackets, IsFirstStrange, follower_at, packets_in}
-use Rattle.dude_program.specs.Follow.{AppliesInOrder, DeliversOf, FollowedAll, FollowsFiles, RefusedDelivery, RunsFollower}
+use Rattle.dude_program.specs.Follow.{AppliesInOrder, DeliversOf, FollowedAll, FollowsFiles, IsLed, RefusedDelivery, RunsFollower}
 use Rattle.dude_program.specs.Headline.{TookAll}
 use Rattle.dude_program.proofs.TakenPackets.{follows_one, follows_then, packets_more}
 
@@ -99,7 +99,7 @@ module _ (l : Leader) (opening : List ℕ) (names : List (List ℕ)) (old new : 
       let law = following l FOLLOWER_ROOM d.front applies.packets applies.records applies.answers start applies.after applied own applies.follows in
       every_moment_weaker (λ told image long along. images l opening array d.front applies.records start applies.after d.sizes (length (state_now old.medium).told) told image applied law.1 refl along) applies.moments
 
-  never_strange : (file packet : ℕ) → RefusedDelivery names old (Strange file packet) → ⊥
+  never_strange : (file packet : ℕ) → RefusedDelivery names old new (Strange file packet) → ⊥
   never_strange file packet refused = by (same_opening refused.opening refused.starts)
     where
       by : (refused.opening.number ≡ d.number) × (refused.opening.sizes ≡ d.sizes) → ⊥
@@ -115,17 +115,38 @@ module _ (l : Leader) (opening : List ℕ) (names : List (List ℕ)) (old new : 
               let law = following l FOLLOWER_ROOM d.front ((packets_in is.each ++ is.earlier) ++ is.strange ∷ []) (is.records ++ []) (is.answers ++ taken.Strange ∷ []) start is.after applied own (follows_then is.follows (follows_one is.is_strange)) in
               all_last (λ answer. IsStrangeAnswer answer → ⊥) is.answers taken.Strange law.0 tt
 
-  led_reached : (f : FollowedAll names old (TookAll old.sink new.sink)) → All (λ answer. IsDropAnswer answer → ⊥) f.taken.answers → IsReached (packets_in f.taken.each) f.opening.number f.taken.after.number
-  led_reached f none =
-      let same = same_opening f.opening f.starts in
-      let read : AllZip (HoldsPackets d.sizes old.files) names f.taken.each = subst (λ (z : Sizes). AllZip (HoldsPackets z old.files) names f.taken.each) same.1 f.taken.read in
-      let own = theirs names f.taken.each (λ name is. is) read in
-      let follows : Follows FOLLOWER_ROOM start (packets_in f.taken.each) f.taken.answers f.taken.records f.taken.after = subst (λ (n : ℕ). Follows FOLLOWER_ROOM (follower_at n) (packets_in f.taken.each) f.taken.answers f.taken.records f.taken.after) same.0 f.taken.follows in
-      subst (λ (n : ℕ). IsReached (packets_in f.taken.each) n f.taken.after.number) (sym same.0)
-      (reaching l FOLLOWER_ROOM d.front (packets_in f.taken.each) f.taken.records f.taken.answers start f.taken.after applied refl own follows none)
+  -- where all was taken
+  module _ (f : FollowedAll names old new (TookAll old.sink new.sink)) where
+    same : (f.opening.number ≡ d.number) × (f.opening.sizes ≡ d.sizes)
+    same = same_opening f.opening f.starts
+
+    own : All (Contains l.packets) (packets_in f.taken.each)
+    own = theirs names f.taken.each (λ name is. is) (subst (λ (z : Sizes). AllZip (HoldsPackets z old.files) names f.taken.each) same.1 f.taken.read)
+
+    follows : Follows FOLLOWER_ROOM start (packets_in f.taken.each) f.taken.answers f.taken.records f.taken.after
+    follows = subst (λ (n : ℕ). Follows FOLLOWER_ROOM (follower_at n) (packets_in f.taken.each) f.taken.answers f.taken.records f.taken.after) same.0 f.taken.follows
+
+    recovers : ContentHas (RecoversArray f.opening.sizes f.opening.number array) old.medium
+    recovers =
+        subst (λ (z : Sizes). ContentHas (RecoversArray z f.opening.number array) old.medium) (sym same.1)
+        (subst (λ (n : ℕ). ContentHas (RecoversArray d.sizes n array) old.medium) (sym same.0) d.recovers)
+
+    all_led : IsLed l opening f.opening.sizes f.taken.after.number new.medium
+    all_led = record {
+      array = overwritten_by_all f.taken.records array;
+      is_leader =
+          let law = following l FOLLOWER_ROOM d.front (packets_in f.taken.each) f.taken.records f.taken.answers start f.taken.after applied own follows in
+          arrays l opening d.front f.taken.records start f.taken.after array applied law.1 refl;
+      images = f.left.images array d.visible recovers;
+    }
+
+    led_reached : All (λ answer. IsDropAnswer answer → ⊥) f.taken.answers → IsReached (packets_in f.taken.each) f.opening.number f.taken.after.number
+    led_reached none =
+        subst (λ (n : ℕ). IsReached (packets_in f.taken.each) n f.taken.after.number) (sym same.0)
+        (reaching l FOLLOWER_ROOM d.front (packets_in f.taken.each) f.taken.records f.taken.answers start f.taken.after applied refl own follows none)
 
 -- of a fault that says that a packet is strange
-strange_runs : (names : List (List ℕ)) (old new : World) (fault : Option Fault) (file packet : ℕ) → RunsFollower names old new fault → fault ≡ Some (Strange file packet) → RefusedDelivery names old (Strange file packet)
+strange_runs : (names : List (List ℕ)) (old new : World) (fault : Option Fault) (file packet : ℕ) → RunsFollower names old new fault → fault ≡ Some (Strange file packet) → RefusedDelivery names old new (Strange file packet)
 strange_runs names old new fault file packet runs is = (subst (RunsFollower names old new) is runs).1
 
 -- all that is promised follows from what runs and from what every image recovers to
@@ -138,6 +159,7 @@ follows_files names old new fault runs crash = record {
   leads = λ l opening d. record {
     moments = led_moments l opening names old new d (crash d.sizes d.number (overwritten_by_all d.front opening) d.visible d.recovers);
     none_strange = λ file packet is. never_strange l opening names old new d file packet (strange_runs names old new fault file packet runs is);
+    led = λ f. all_led l opening names old new d f;
     reached = λ f none. led_reached l opening names old new d f none;
   };
 }

@@ -1,5 +1,6 @@
 pub mod ArrayMoments
 pub mod Audits
+pub mod ByWords
 pub mod Came
 pub mod Contents
 pub mod Crashes

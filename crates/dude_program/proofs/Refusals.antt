@@ -1,5 +1,5 @@
 -- An opened image is refused for one reason.
-use Rattle.std.proofs.Common.{◌≡◌, ℕ, ◌<◌, ◌≤◌, List, [], ◌∷◌, true, false, Some, None, IsTrue, Option, length, inl, inr, refl, sym, ap, ◌∙◌, subst, arith}
+use Rattle.std.proofs.Common.{◌≡◌, ℕ, ◌<◌, ◌≤◌, List, [], ◌∷◌, true, false, Some, IsTrue, Option, length, inl, inr, refl, sym, ap, ◌∙◌, subst, arith}
 use Rattle.std.specs.Prelude.{IsSomeAnd}
 use Rattle.std.specs.List.{AllZip}
 use Rattle.tatp_model.specs.declared.request.Request.{Request}
@@ -9,7 +9,7 @@ use Rattle.command_edges.specs.Files.{OfFile}
 use Rattle.dude_engine.specs.Opening.{Opening}
 use Rattle.dude_engine.specs.Requests.{request_count}
 use Rattle.command_edges.specs.declared.fault.Fault.{Fault}
-use Rattle.command_edges.specs.declared.fault.Fault.TheVariants.{Usage, File, Text, Small, TooFew, Unformatted, Damaged, NotDb, ManyFiles, Frames, FewSubscribers, Numbers, Device, Output, Memory, Audit, Strange}
+use Rattle.command_edges.specs.declared.fault.Fault.TheVariants.{ManyFiles, Frames, FewSubscribers, Numbers, Audit}
 use Rattle.dude_audit.specs.PrintedRun.{IsVerdict}
 use Rattle.dude_audit.specs.declared.verdict.Verdict.{Verdict}
 use Rattle.dude_audit.specs.declared.verdict.Verdict.TheVariants.{No}
@@ -68,14 +68,7 @@ module _ (printed : List ℕ) (names : List (List ℕ)) (f : FilesSight) (openin
 -- so one line is named, whatever the command
 one_no : (meaning : Meaning) (f : FilesSight) (opening : Opening) (a b : ℕ) → IsTrue f.is_visible → RefusesAudit meaning f opening a → RefusesAudit meaning f opening b → a ≡ b
 one_no (AuditRun printed names) f opening a b visible one other = one_line printed names f opening visible a b one other
-one_no (FreshRun subscribers file) f opening a b visible one other = absurd one
-one_no (FormatImage s c n k) f opening a b visible one other = absurd one
-one_no (RunFiles frames locks files) f opening a b visible one other = absurd one
-one_no RecoverImage f opening a b visible one other = absurd one
-one_no DumpTables f opening a b visible one other = absurd one
-one_no (DriveLoad seed count files) f opening a b visible one other = absurd one
-one_no (ShipFiles files) f opening a b visible one other = absurd one
-one_no (FollowFiles files) f opening a b visible one other = absurd one
+one_no meaning f opening a b visible one other = absurd one
 
 -- the command runs one list of lists of requests, where they are known
 pub one_requests : (meaning : Meaning) (f : FilesSight) (opening : Opening) (a b : List (List Request)) → KnowsRequests meaning f → RequestsAre meaning f opening a → RequestsAre meaning f opening b → a ≡ b
@@ -92,38 +85,16 @@ one_requests (FollowFiles files) f opening a b known one other = one ∙ sym oth
 -- the frames that are wanted are those that the words name
 one_frames : (meaning : Meaning) (v w pages : ℕ) → WantsFrames meaning v pages → WantsFrames meaning w pages → v ≡ w
 one_frames (RunFiles (Some frames) locks files) v w pages one other = one.0 ∙ sym other.0
-one_frames (RunFiles None locks files) v w pages one other = absurd one
-one_frames (FreshRun subscribers file) v w pages one other = absurd one
-one_frames (FormatImage s c n k) v w pages one other = absurd one
-one_frames RecoverImage v w pages one other = absurd one
-one_frames DumpTables v w pages one other = absurd one
-one_frames (DriveLoad seed count files) v w pages one other = absurd one
-one_frames (AuditRun printed files) v w pages one other = absurd one
-one_frames (ShipFiles files) v w pages one other = absurd one
-one_frames (FollowFiles files) v w pages one other = absurd one
+one_frames meaning v w pages one other = absurd one
 
 one_load : (meaning : Meaning) (subscribers v w : ℕ) → WantsSubscribers meaning subscribers v → WantsSubscribers meaning subscribers w → v ≡ w
 one_load (DriveLoad seed count files) subscribers v w one other = one.0 ∙ sym other.0
-one_load (RunFiles frames locks files) subscribers v w one other = absurd one
-one_load (FreshRun s file) subscribers v w one other = absurd one
-one_load (FormatImage s c n k) subscribers v w one other = absurd one
-one_load RecoverImage subscribers v w one other = absurd one
-one_load DumpTables subscribers v w one other = absurd one
-one_load (AuditRun printed files) subscribers v w one other = absurd one
-one_load (ShipFiles files) subscribers v w one other = absurd one
-one_load (FollowFiles files) subscribers v w one other = absurd one
+one_load meaning subscribers v w one other = absurd one
 
 -- no command wants both
 never_both : (meaning : Meaning) (v w pages subscribers : ℕ) → WantsFrames meaning v pages → WantsSubscribers meaning subscribers w → ⊥
-never_both (DriveLoad seed count files) v w pages subscribers one other = absurd one
 never_both (RunFiles frames locks files) v w pages subscribers one other = absurd other
-never_both (FreshRun s file) v w pages subscribers one other = absurd one
-never_both (FormatImage s c n k) v w pages subscribers one other = absurd one
-never_both RecoverImage v w pages subscribers one other = absurd one
-never_both DumpTables v w pages subscribers one other = absurd one
-never_both (AuditRun printed files) v w pages subscribers one other = absurd one
-never_both (ShipFiles files) v w pages subscribers one other = absurd one
-never_both (FollowFiles files) v w pages subscribers one other = absurd one
+never_both meaning v w pages subscribers one other = absurd one
 
 -- What an audit has none of.
 record IsAlone (meaning : Meaning) : Type 0 where
@@ -136,14 +107,7 @@ record IsAlone (meaning : Meaning) : Type 0 where
 -- only an audit says no
 alone : (meaning : Meaning) (f : FilesSight) (opening : Opening) (line : ℕ) → RefusesAudit meaning f opening line → IsAlone meaning
 alone (AuditRun printed files) f opening line says = record { reads = refl; files = refl; frames = λ w p h. h; few = λ s w h. h; numbers = λ h. h }
-alone (FreshRun s file) f opening line says = absurd says
-alone (FormatImage s c n k) f opening line says = absurd says
-alone (RunFiles frames locks files) f opening line says = absurd says
-alone RecoverImage f opening line says = absurd says
-alone DumpTables f opening line says = absurd says
-alone (DriveLoad seed count files) f opening line says = absurd says
-alone (ShipFiles files) f opening line says = absurd says
-alone (FollowFiles files) f opening line says = absurd says
+alone meaning f opening line says = absurd says
 
 pub never_no : (meaning : Meaning) (f : FilesSight) (opening : Opening) (line : ℕ) → only_reads meaning ≡ false → RefusesAudit meaning f opening line → ⊥
 never_no meaning f opening line writes says = let reads = (alone meaning f opening line says).reads in let never : ⊥ = cc in never
@@ -163,19 +127,8 @@ which meaning f opening (ManyFiles wanted rings) r = many (let e = r.0 in let h 
 which meaning f opening (Frames wanted pages) r = frames wanted (ap (Frames wanted) r.1) r.0 (subst (WantsFrames meaning wanted) r.1 r.2)
 which meaning f opening (FewSubscribers subscribers wanted) r = few wanted (ap (λ (n : ℕ). FewSubscribers n wanted) r.1) r.0 (subst (λ (n : ℕ). WantsSubscribers meaning n wanted) r.1 r.2)
 which meaning f opening (Numbers number count) r = numbers count (ap (λ (n : ℕ). Numbers n count) r.3) r.0 r.1 r.2 r.4
-which meaning f opening Usage r = absurd r
-which meaning f opening (File a) r = absurd r
-which meaning f opening (Text a b c) r = absurd r
-which meaning f opening (Small a b) r = absurd r
-which meaning f opening (TooFew a b) r = absurd r
-which meaning f opening Unformatted r = absurd r
-which meaning f opening (Damaged a) r = absurd r
-which meaning f opening (NotDb a) r = absurd r
-which meaning f opening Device r = absurd r
-which meaning f opening Output r = absurd r
-which meaning f opening Memory r = absurd r
 which meaning f opening (Audit line) r = said_no line refl r
-which meaning f opening (Strange a b) r = absurd r
+which meaning f opening why r = absurd r
 
 -- an opened image isn't refused where nothing refuses it
 pub passes_if : (meaning : Meaning) (f : FilesSight) (opening : Opening) → ((line : ℕ) → KnowsCause meaning f opening (Audit line) → RefusesAudit meaning f opening line → ⊥) → files_run meaning ≤ opening.sizes.rings → ((wanted : ℕ) → ¬ WantsFrames meaning wanted opening.sizes.pages)

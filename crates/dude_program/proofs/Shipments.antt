@@ -12,7 +12,7 @@ use Rattle.log_numbered.specs.KeptBundles.{IsPacket}
 use Rattle.command_words.specs.Command.{Meaning.RunFiles, Meaning.ShipFiles}
 use Rattle.command_edges.specs.Files.{OfFile}
 use Rattle.command_edges.specs.declared.fault.Fault.{Fault}
-use Rattle.command_edges.specs.declared.fault.Fault.TheVariants.{Usage, File, Text, Small, TooFew, Unformatted, Damaged, NotDb, ManyFiles, Frames, FewSubscribers, Numbers, Device, Output, Memory, Audit, Strange}
+use Rattle.command_edges.specs.declared.fault.Fault.TheVariants.{ManyFiles, Frames, Numbers, Device}
 use Rattle.dude_engine.specs.Opening.{Opening}
 use Rattle.dude_engine.specs.Requests.{request_count}
 use Rattle.dude_program.specs.Causes.{IsLeftOpened, MustRefuse, RefusesOpening}
@@ -20,6 +20,7 @@ use Rattle.dude_program.specs.Work.{RefusesRun}
 use Rattle.dude_program.proofs.FilesRead.{all_judged}
 use Rattle.dude_program.proofs.Refusals.{one_requests, passes_if}
 use Rattle.dude_program.proofs.Endings.{CameBy}
+use Rattle.dude_program.proofs.EachCommand.{refused_by}
 
 -- packets of an image have numbers that transactions may have
 pub packets_numbers : (s : Sizes) (packets : List RedoBundle) → All (IsPacket s) packets → All HasNumbers packets
@@ -38,37 +39,8 @@ module _ (names : List (List ℕ)) (f : FilesSight) (requests : List (List Reque
   ship_refuses opening (ManyFiles a b) r = (r.0 ∙ as_many, r.1, r.2, all_judged names)
   ship_refuses opening (Frames a b) r = absurd r.2
   ship_refuses opening (Numbers a b) r = (omega (arith, as_many, r.0), (λ w no. no), (λ w no. no), r.2, (tt, (requests, read, r.3), r.4))
-  ship_refuses opening (FewSubscribers a b) r = absurd r
-  ship_refuses opening Usage r = absurd r
-  ship_refuses opening (File a) r = absurd r
-  ship_refuses opening (Text a b c) r = absurd r
-  ship_refuses opening (Small a b) r = absurd r
-  ship_refuses opening (TooFew a b) r = absurd r
-  ship_refuses opening Unformatted r = absurd r
-  ship_refuses opening (Damaged a) r = absurd r
-  ship_refuses opening (NotDb a) r = absurd r
-  ship_refuses opening Device r = absurd r
-  ship_refuses opening Output r = absurd r
-  ship_refuses opening Memory r = absurd r
-  ship_refuses opening (Audit a) r = absurd r
-  ship_refuses opening (Strange a b) r = absurd r
+  ship_refuses opening why r = absurd r
 
   pub ship_came : (opening : Opening) (last : ℕ) (s t : Sight) → IsLeftOpened opening s t → (why : Fault) → RefusesRun (RunFiles None None names) number opening.sizes opening.number requests why
       → CameBy (ShipFiles names) f opening [] last s t (Some why) × (◌≡◌ {A = Option Fault} (Some why) (Some Device) → ⊥)
-  ship_came opening last s t left (ManyFiles a b) r = ((refl, refl, ship_refuses opening (ManyFiles a b) r, left), λ e. let no : ⊥ = cc in no)
-  ship_came opening last s t left (Numbers a b) r = ((refl, refl, ship_refuses opening (Numbers a b) r, left), λ e. let no : ⊥ = cc in no)
-  ship_came opening last s t left (Frames a b) r = absurd r.2
-  ship_came opening last s t left (FewSubscribers a b) r = absurd r
-  ship_came opening last s t left Usage r = absurd r
-  ship_came opening last s t left (File a) r = absurd r
-  ship_came opening last s t left (Text a b c) r = absurd r
-  ship_came opening last s t left (Small a b) r = absurd r
-  ship_came opening last s t left (TooFew a b) r = absurd r
-  ship_came opening last s t left Unformatted r = absurd r
-  ship_came opening last s t left (Damaged a) r = absurd r
-  ship_came opening last s t left (NotDb a) r = absurd r
-  ship_came opening last s t left Device r = absurd r
-  ship_came opening last s t left Output r = absurd r
-  ship_came opening last s t left Memory r = absurd r
-  ship_came opening last s t left (Audit a) r = absurd r
-  ship_came opening last s t left (Strange a b) r = absurd r
+  ship_came opening last s t left why r = refused_by (ShipFiles names) f opening refl (λ line no. no) last s t left why (ship_refuses opening why r)

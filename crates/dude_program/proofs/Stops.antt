@@ -25,7 +25,7 @@ use Rattle.command_edges.specs.Reads.{ReadsInOrder}
 use Rattle.command_edges.proofs.Order.{IsNoReadFault, stopped_in_order, whole_none}
 use Rattle.dude_engine.specs.Opening.{Opening}
 use Rattle.command_edges.specs.declared.fault.Fault.{Fault}
-use Rattle.command_edges.specs.declared.fault.Fault.TheVariants.{Usage, File, Text, Small, TooFew, Unformatted, Damaged, NotDb, ManyFiles, Frames, FewSubscribers, Numbers, Device, Output, Memory, Audit, Strange}
+use Rattle.command_edges.specs.declared.fault.Fault.TheVariants.{File, Text, Small, TooFew, Unformatted, Damaged, NotDb, Device, Memory}
 use Rattle.command_openings.specs.Opens.{FailsOpening, OpensPartly, ShowsOpening}
 use Rattle.command_openings.specs.Faults.{HasFormatFault, HasOpenFault}
 use Rattle.command_openings.specs.Openings.{IsOpeningOn, new_opening}
@@ -130,20 +130,7 @@ module _ (meaning : Meaning) {s : Sight} {f : FilesSight} {k : SinkSight} (prefi
       }) (λ good medium files output. absurd (good_none_bad f (command_files meaning) n r c good.files good.good has.0)) ((λ reads. refl), refl) (inl (refl, tt)) refl (λ e. let no : ⊥ = cc in no)
   ends_at_files Memory read has missing =
       ends_uncalled Memory read tt (order_unread Memory tt tt tt) (λ good medium files output. inr refl) tt (inl (refl, unopened meaning (makes_image meaning) s)) (inl (inl refl)) (λ e. let no : ⊥ = cc in no)
-  ends_at_files Usage read has missing = absurd has
-  ends_at_files (Small a b) read has missing = absurd has
-  ends_at_files (TooFew a b) read has missing = absurd has
-  ends_at_files Unformatted read has missing = absurd has
-  ends_at_files (Damaged a) read has missing = absurd has
-  ends_at_files (NotDb a) read has missing = absurd has
-  ends_at_files (ManyFiles a b) read has missing = absurd has
-  ends_at_files (Frames a b) read has missing = absurd has
-  ends_at_files (FewSubscribers a b) read has missing = absurd has
-  ends_at_files (Numbers a b) read has missing = absurd has
-  ends_at_files Device read has missing = absurd has
-  ends_at_files Output read has missing = absurd has
-  ends_at_files (Audit a) read has missing = absurd has
-  ends_at_files (Strange a b) read has missing = absurd has
+  ends_at_files why read has missing = absurd has
 
 -- a medium that wasn't called
 prefix_new : (opening : Opening) (s : Sight) → OpensPartly true opening s s
@@ -260,19 +247,7 @@ module _ {meaning : Meaning} {sizes : Sizes} {s t : Sight} {f g : FilesSight} (m
       sink = sink_same;
     };
   }
-  ends_at_format Usage has = absurd has
-  ends_at_format (File a) has = absurd has
-  ends_at_format (Text a b c) has = absurd has
-  ends_at_format Unformatted has = absurd has
-  ends_at_format (Damaged a) has = absurd has
-  ends_at_format (NotDb a) has = absurd has
-  ends_at_format (ManyFiles a b) has = absurd has
-  ends_at_format (Frames a b) has = absurd has
-  ends_at_format (FewSubscribers a b) has = absurd has
-  ends_at_format (Numbers a b) has = absurd has
-  ends_at_format Output has = absurd has
-  ends_at_format (Audit a) has = absurd has
-  ends_at_format (Strange a b) has = absurd has
+  ends_at_format why has = absurd has
 
 -- ---- where an image is opened
 
@@ -367,15 +342,4 @@ module _ {meaning : Meaning} {s t : Sight} {f g : FilesSight} (opener : IsOpener
       sink = sink_same;
     };
   }
-  ends_at_open Usage has = absurd has
-  ends_at_open (File a) has = absurd has
-  ends_at_open (Text a b c) has = absurd has
-  ends_at_open (Small a b) has = absurd has
-  ends_at_open (TooFew a b) has = absurd has
-  ends_at_open (ManyFiles a b) has = absurd has
-  ends_at_open (Frames a b) has = absurd has
-  ends_at_open (FewSubscribers a b) has = absurd has
-  ends_at_open (Numbers a b) has = absurd has
-  ends_at_open Output has = absurd has
-  ends_at_open (Audit a) has = absurd has
-  ends_at_open (Strange a b) has = absurd has
+  ends_at_open why has = absurd has

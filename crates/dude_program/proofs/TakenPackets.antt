@@ -9,15 +9,17 @@ use Rattle.std.proofs.lemmas.List.Sums.{sum_by-append, sum_by-cons}
 use Rattle.dude_base.specs.declared.sizes.Sizes.{Sizes}
 use Rattle.dude_base.specs.Records.{RedoBundle}
 use Rattle.pmem_trait.specs.declared.medium.Medium.{Ghosts}
-use Rattle.pmem_trait.specs.Sights.{Risen}
+use Rattle.pmem_trait.specs.Sights.{Risen, Sight, SomeCalls}
 use Rattle.pmem_trait.proofs.Runs.{made_later, ran_here, ran_then, risen_later}
+use Rattle.back_store.specs.Back.{BackState}
 use Rattle.dude_io.specs.declared.file_text.FileText.{FileText}
 use Rattle.dude_follow.specs.declared.follow_fault.FollowFault.{FollowFault}
 use Rattle.dude_follow.specs.declared.follow_fault.FollowFault.TheVariants.{Device, Dead}
 use Rattle.dude_follow.specs.declared.follower.Follower.{Follower}
 use Rattle.dude_follow.specs.declared.taken.Taken.{Taken}
 use Rattle.dude_follow.specs.declared.taken.Taken.TheVariants.{Old, Strange, Applied, Kept, Dropped}
-use Rattle.dude_follow.specs.Follower.{KeepsParts, TakesPacket, follower_back, follower_room, follower_sight, follower_state}
+use Rattle.dude_follow.specs.Applying.{Applies, IsAtRest, RecoversThrough}
+use Rattle.dude_follow.specs.Follower.{KeepsParts, MakesNoCall, TakesPacket, follower_back, follower_room, follower_sight, follower_state}
 use Rattle.dude_follow.specs.Following.{IsStrangeAnswer}
 use Rattle.dude_follow.specs.Taking.{FollowerState, Follows, Follows.none, Follows.next, Takes}
 use Rattle.dude_follow.proofs.Chains.{applies_then, through_then}
@@ -85,7 +87,7 @@ module _ {M : Type 0} {ghosts : Ghosts M} where
     cause = λ failed. risen_later (follower_sight f).faults (follower_sight m).faults (follower_sight g).faults (follower_sight g).faults (made_later t.ran.1).faults (u.cause failed) (omega arith);
   }
 
-  pub all_then : (ps qs : List RedoBundle) (d e : ℕ) (f m g : Follower M ghosts) → TakesAll ps d f m → TakesAll qs e m g → TakesAll (ps ++ qs) (d + e) f g
+  abbrev pub all_then : (ps qs : List RedoBundle) (d e : ℕ) (f m g : Follower M ghosts) → TakesAll ps d f m → TakesAll qs e m g → TakesAll (ps ++ qs) (d + e) f g
   all_then ps qs d e f m g t u = (
     takes_then ps qs f m g t.0 u.0,
     none_strange_then t.0.answers u.0.answers t.1 u.1,
@@ -136,27 +138,44 @@ module _ {M : Type 0} {ghosts : Ghosts M} where
     let all = sum_by-cons (λ answer. if is_drop answer then 1 else 0) taken [] in omega (arith, counted, all),
   )
 
+  -- the same of a follower that made no further call
+  abbrev pub stays_taken : (ps : List RedoBundle) (f m g : Follower M ghosts) → MakesNoCall m g → follower_state g ≡ follower_state m → KeepsParts m g → TakesPackets ps true f m → TakesPackets ps true f g
+  stays_taken ps f m g quiet state parts t =
+      let sight : follower_sight g ≡ follower_sight m = ap (λ (x : M). ghosts.sight x) quiet.medium in
+      record {
+        answers = t.answers;
+        records = t.records;
+        after = t.after;
+        follows = t.follows;
+        state = λ good. state ∙ t.state good;
+        applies = λ good.
+            subst (λ (u : Sight). Applies t.records (follower_back f) (follower_sight f) (follower_back g) u) (sym sight)
+            (subst (λ (v : BackState). Applies t.records (follower_back f) (follower_sight f) v (follower_sight m)) (sym quiet.back) (t.applies good));
+        moments = subst (λ (u : Sight). RecoversThrough t.records (follower_back f) (follower_sight f) u) (sym sight) t.moments;
+        dead = ap (λ (v : BackState). v.dead) quiet.back ∙ t.dead;
+        rests = λ good. subst (λ (v : BackState). IsAtRest v) (sym quiet.back) (t.rests good);
+        parts = record { room = parts.room ∙ t.parts.room; sizes = parts.sizes ∙ t.parts.sizes };
+        ran = subst (λ (u : Sight). SomeCalls true (follower_sight f) u) (sym sight) t.ran;
+        cause = λ failed. absurd (well_or_failed failed);
+      }
+
   -- up to a strange one
   pub stops_strange : (before packets earlier later : List RedoBundle) (b : RedoBundle) (place dropped : ℕ) (f m g : Follower M ghosts) → packets ≡ earlier ++ b ∷ later → place ≡ length earlier + 1
       → TakesAll (before ++ earlier) dropped f m → TakesPacket b (Ok Strange) m g → KeepsParts m g → StopsAtStrange before packets place f g
-  stops_strange before packets earlier later b place dropped f m g split counted t is parts = record {
-    earlier = earlier;
-    strange = b;
-    later = later;
-    split = split;
-    counted = counted;
-    answers = t.0.answers;
-    records = t.0.records;
-    after = t.0.after;
-    follows = t.0.follows;
-    none_strange = t.1;
-    is_strange =
-        let takes = subst (λ (answer : Taken). Takes (follower_room m) (follower_state m) b answer is.packets is.after) (sym is.ok.0) is.takes in
-        strange_stays (follower_room f) t.0.after b is.packets is.after
-        (subst (λ (s : FollowerState). Takes (follower_room f) s b Strange is.packets is.after) (t.0.state refl)
-        (subst (λ (room : ℕ). Takes room (follower_state m) b Strange is.packets is.after) t.0.parts.room takes));
-    taken = takes_then (before ++ earlier) (b ∷ []) f m g t.0 (takes_one b Strange m g is parts);
-  }
+  stops_strange before packets earlier later b place dropped f m g split counted t is parts =
+      let takes = subst (λ (answer : Taken). Takes (follower_room m) (follower_state m) b answer is.packets is.after) (sym is.ok.0) is.takes in
+      record {
+        earlier = earlier;
+        strange = b;
+        later = later;
+        split = split;
+        counted = counted;
+        dropped = dropped;
+        taken = (stays_taken (before ++ earlier) f m g (is.quiet takes.2.none).1 (is.ok.1 ∙ takes.2.same) parts t.0, t.1, t.2);
+        is_strange = strange_stays (follower_room f) t.0.after b is.packets is.after
+            (subst (λ (s : FollowerState). Takes (follower_room f) s b Strange is.packets is.after) (t.0.state refl)
+            (subst (λ (room : ℕ). Takes room (follower_state m) b Strange is.packets is.after) t.0.parts.room takes));
+      }
 
   -- the same behind more packets
   pub strange_then : (ps packets : List RedoBundle) (place dropped : ℕ) (f m g : Follower M ghosts) → TakesAll ps dropped f m → StopsAtStrange [] packets place m g → StopsAtStrange ps packets place f g
@@ -166,16 +185,9 @@ module _ {M : Type 0} {ghosts : Ghosts M} where
     later = u.later;
     split = u.split;
     counted = u.counted;
-    answers = t.0.answers ++ u.answers;
-    records = t.0.records ++ u.records;
-    after = u.after;
-    follows = follows_then t.0.follows
-        (subst (λ (s : FollowerState). Follows (follower_room f) s u.earlier u.answers u.records u.after) (t.0.state refl)
-        (subst (λ (room : ℕ). Follows room (follower_state m) u.earlier u.answers u.records u.after) t.0.parts.room u.follows));
-    none_strange = none_strange_then t.0.answers u.answers t.1 u.none_strange;
-    is_strange = subst (λ (room : ℕ). Takes room u.after u.strange Strange [] u.after) t.0.parts.room u.is_strange;
-    taken = subst (λ (l : List RedoBundle). TakesPackets l true f g) (sym (append_assoc ps u.earlier (u.strange ∷ [])))
-        (takes_then ps (u.earlier ++ u.strange ∷ []) f m g t.0 u.taken);
+    dropped = dropped + u.dropped;
+    taken = all_then ps u.earlier dropped u.dropped f m g t u.taken;
+    is_strange = subst (λ (room : ℕ). Takes room u.taken.0.after u.strange Strange [] u.taken.0.after) t.0.parts.room u.is_strange;
   }
 
   pub failure_then : (ps packets : List RedoBundle) (f m g : Follower M ghosts) → TakesPackets ps true f m → StopsAtFailure [] packets m g → StopsAtFailure ps packets f g

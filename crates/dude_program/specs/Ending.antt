@@ -36,3 +36,10 @@ CausesByWords words old new done fault = (own : Meaning) → meaning_of words �
 abbrev pub FollowsByWords : List (List ℕ) → World → World → Option Fault → Type 0
 FollowsByWords words old new fault =
     (names : List (List ℕ)) → meaning_of words ≡ Some (FollowFiles names) → FollowsFiles names old new fault
+
+-- What holds of a command that is given by its words.
+pub record EndsByWords (words : List (List ℕ)) (old new : World) (done : List Done) (fault : Option Fault) : Type 0 where
+  pub refused : RefusesNoCommand words old new done fault
+  pub headline : HeadlineByWords words old new done fault
+  pub causes : CausesByWords words old new done fault
+  pub follows : FollowsByWords words old new fault

@@ -1,9 +1,10 @@
 -- What `follow` promises in place of the headline: which packets it takes and what it prints, and to what every image of its
 -- medium recovers, over every list of packets and over those of a leader.
-use Rattle.std.specs.Prelude.{◌≡◌, ◌⊎◌, ℕ, Option, Some, None, IsTrue, List, [], ◌∷◌, ◌++◌, All, codes, decimal, length}
+use Rattle.std.specs.Prelude.{◌≡◌, ◌⊎◌, ℕ, Option, Some, None, IsTrue, List, [], ◌∷◌, ◌++◌, All, codes, decimal, length, map}
 use Rattle.std.specs.List.{AllZip, Contains}
 use Rattle.dude_base.specs.declared.sizes.Sizes.{Sizes}
 use Rattle.dude_base.specs.Records.{RedoBundle, overwritten_by_all}
+use Rattle.pmem_trait.specs.Words.{EveryImage}
 use Rattle.pmem_trait.specs.Sights.{AtEveryMoment, Sight, state_now}
 use Rattle.pmem_trait.specs.Reads.{ContentHas}
 use Rattle.redo_record.specs.Recovery.{AreConsecutive}
@@ -11,7 +12,7 @@ use Rattle.dude_io.specs.Files.{FilesSight}
 use Rattle.image_recovery.specs.Recovered.{RecoversArray}
 use Rattle.dude_follow.specs.declared.taken.Taken.{Taken}
 use Rattle.dude_follow.specs.Applying.{RecoversAlong}
-use Rattle.dude_follow.specs.Following.{IsDropAnswer, IsReached, Leader}
+use Rattle.dude_follow.specs.Following.{IsDropAnswer, IsLeaderArray, IsReached, Leader}
 use Rattle.dude_follow.specs.LeaderImages.{RecoversToLeader}
 use Rattle.dude_follow.specs.Taking.{FollowerState, Follows}
 use Rattle.command_edges.specs.declared.fault.Fault.{Fault}
@@ -29,32 +30,53 @@ followed_text number waiting dropped =
 
 -- ---- which packets are taken, and what is printed
 
--- All packets of the files were taken from an opening of the command on, and none is strange; of the output the sink took this
--- much.
-pub record FollowedAll (names : List (List ℕ)) (old : World) (Took : List ℕ → Type 0) : Type 0 where
+-- at the last moment every image recovers to this number and this array
+abbrev pub ImagesRecover : Sizes → ℕ → List ℕ → Sight → Type 0
+ImagesRecover sizes number array t = EveryImage t.len (λ told image. RecoversArray sizes number array image) (state_now t)
+
+-- From an opening on these packets were applied, up to this number: just the opening's number and their last ones were told;
+-- and at the end every image recovers to the array to which the content recovered, overwritten by them.
+pub record IsLeftApplied (opening : Opening) (records : List RedoBundle) (number : ℕ) (s t : Sight) : Type 0 where
+  pub told : IsTrue s.is_visible → (state_now t).told ≡ (state_now s).told ++ opening.number ∷ map (λ b. b.last) records
+  pub images : (array : List ℕ) → IsTrue s.is_visible → ContentHas (RecoversArray opening.sizes opening.number array) s
+      → ImagesRecover opening.sizes number (overwritten_by_all records array) t
+
+-- All packets of the files were taken from an opening of the command on, and none is strange; those that the rule applies were
+-- applied; and of the output the sink took this much.
+pub record FollowedAll (names : List (List ℕ)) (old new : World) (Took : List ℕ → Type 0) : Type 0 where
   pub opening : Opening
   pub starts : IsOpeningOn old.medium opening
   pub lawful : IsOpening opening
   pub taken : TakesFiles opening.sizes opening.number old.files names
+  pub left : IsLeftApplied opening taken.records taken.after.number old.medium new.medium
   pub bytes : Took (followed_text taken.after.number (length taken.after.kept) (drops_of taken.answers))
 
--- Behind an opening of the command packets are refused so: those in front of them were taken.
-pub record RefusedDelivery (names : List (List ℕ)) (old : World) (fault : Fault) : Type 0 where
+-- of the packets in front of those that are refused, those that the rule applies were applied
+abbrev pub IsLeftInFront : (names : List (List ℕ)) (files : FilesSight) (opening : Opening) (fault : Fault)
+    → IsRefusedDelivery names files opening fault → Sight → Sight → Type 0
+IsLeftInFront names files opening (Text file row field) why s t =
+    IsLeftApplied opening why.0.behind.taken.records why.0.behind.taken.after.number s t
+IsLeftInFront names files opening (Strange file packet) why s t = IsLeftApplied opening why.records why.after.number s t
+IsLeftInFront names files opening _ why s t = ⊥
+
+-- Behind an opening of the command packets are refused so: those in front of them were taken, and applied by the rule.
+pub record RefusedDelivery (names : List (List ℕ)) (old new : World) (fault : Fault) : Type 0 where
   pub opening : Opening
   pub starts : IsOpeningOn old.medium opening
   pub lawful : IsOpening opening
   pub why : IsRefusedDelivery names old.files opening fault
+  pub left : IsLeftInFront names old.files opening fault why old.medium new.medium
 
 -- By the fault: all was taken and printed; or a prefix was printed; or packets are refused, and nothing was printed. For
 -- another fault its cause says why it came.
 abbrev pub RunsFollower : List (List ℕ) → World → World → Option Fault → Type 0
-RunsFollower names old new None = FollowedAll names old (TookAll old.sink new.sink)
-RunsFollower names old new (Some Output) = FollowedAll names old (TookPrefix old.sink new.sink)
-RunsFollower names old new (Some Memory) = (new.sink ≡ old.sink) ⊎ FollowedAll names old (TookPrefix old.sink new.sink)
+RunsFollower names old new None = FollowedAll names old new (TookAll old.sink new.sink)
+RunsFollower names old new (Some Output) = FollowedAll names old new (TookPrefix old.sink new.sink)
+RunsFollower names old new (Some Memory) = (new.sink ≡ old.sink) ⊎ FollowedAll names old new (TookPrefix old.sink new.sink)
 RunsFollower names old new (Some (Text file row field)) =
-    (new.sink ≡ old.sink) × RefusedDelivery names old (Text file row field)
+    (new.sink ≡ old.sink) × RefusedDelivery names old new (Text file row field)
 RunsFollower names old new (Some (Strange file packet)) =
-    (new.sink ≡ old.sink) × RefusedDelivery names old (Strange file packet)
+    (new.sink ≡ old.sink) × RefusedDelivery names old new (Strange file packet)
 RunsFollower names old new (Some _) = new.sink ≡ old.sink
 
 -- ---- images, over every list of packets
@@ -99,14 +121,22 @@ pub record DeliversOf (l : Leader) (opening : List ℕ) (names : List (List ℕ)
   pub delivered : (name : List ℕ) (packets : List RedoBundle) → Contains names name → HoldsPackets sizes old.files name packets
       → All (Contains l.packets) packets
 
+-- At the end every image recovers to this number and to the leader's array there.
+pub record IsLed (l : Leader) (opening : List ℕ) (sizes : Sizes) (number : ℕ) (t : Sight) : Type 0 where
+  pub array : List ℕ
+  pub is_leader : IsLeaderArray l opening number array
+  pub images : ImagesRecover sizes number array t
+
 -- What holds over a leader's packets.
 pub record LedBy (l : Leader) (opening : List ℕ) (names : List (List ℕ)) (old new : World) (fault : Option Fault) : Type 0 where
   -- at every moment every image recovers to the leader's array at the end of one of its packets
   pub moments : AtEveryMoment (RecoversToLeader l opening (length (state_now old.medium).told)) old.medium new.medium
   -- no packet is strange
   pub none_strange : (file packet : ℕ) → fault ≡ Some (Strange file packet) → ⊥
-  -- where all was taken and none dropped, the number is the greatest up to which the packets cover each
-  pub reached : (f : FollowedAll names old (TookAll old.sink new.sink)) → All (λ answer. IsDropAnswer answer → ⊥) f.taken.answers
+  -- where all was taken, every image recovers at the end to the leader's array at the number that was printed
+  pub led : (f : FollowedAll names old new (TookAll old.sink new.sink)) → IsLed l opening f.opening.sizes f.taken.after.number new.medium
+  -- and where none was dropped, that is the greatest number up to which the packets cover each
+  pub reached : (f : FollowedAll names old new (TookAll old.sink new.sink)) → All (λ answer. IsDropAnswer answer → ⊥) f.taken.answers
       → IsReached (packets_in f.taken.each) f.opening.number f.taken.after.number
 
 -- What `follow` promises.

@@ -48,20 +48,17 @@ pub record TakesPackets {M : Type 0} {ghosts : Ghosts M} (packets : List RedoBun
 abbrev pub TakesAll : {M : Type 0} {ghosts : Ghosts M} → List RedoBundle → ℕ → Follower M ghosts → Follower M ghosts → Type 0
 TakesAll packets dropped f g = (t : TakesPackets packets true f g) × NoneStrange t.answers × (dropped ≡ drops_of t.answers)
 
--- Behind packets taken before, these were taken up to a strange one, which has this number among them, from 1.
+-- Behind packets taken before, these were taken up to a strange one, which has this number among them, from 1, and changes
+-- nothing.
 pub record StopsAtStrange {M : Type 0} {ghosts : Ghosts M} (before packets : List RedoBundle) (packet : ℕ) (f g : Follower M ghosts) : Type 0 where
   pub earlier : List RedoBundle
   pub strange : RedoBundle
   pub later : List RedoBundle
   pub split : packets ≡ earlier ++ strange ∷ later
   pub counted : packet ≡ length earlier + 1
-  pub answers : List Taken
-  pub records : List RedoBundle
-  pub after : FollowerState
-  pub follows : Follows (follower_room f) (follower_state f) (before ++ earlier) answers records after
-  pub none_strange : NoneStrange answers
-  pub is_strange : Takes (follower_room f) after strange Strange [] after
-  pub taken : TakesPackets ((before ++ earlier) ++ strange ∷ []) true f g
+  pub dropped : ℕ
+  pub taken : TakesAll (before ++ earlier) dropped f g
+  pub is_strange : Takes (follower_room f) taken.0.after strange Strange [] taken.0.after
 
 -- Behind packets taken before, these were taken up to one at which a call failed.
 pub record StopsAtFailure {M : Type 0} {ghosts : Ghosts M} (before packets : List RedoBundle) (f g : Follower M ghosts) : Type 0 where

@@ -5,7 +5,7 @@ ghost use Rattle.std.specs.Rc.{rc_str_bytes};
 ghost use Rattle.pmem_trait.specs.Sights.{IsAtRest};
 ghost use Rattle.command_words.specs.Command.{IsInLimits, meaning_of_command};
 ghost use Rattle.command_edges.specs.Fault.{status_of};
-ghost use Rattle.dude_program.specs.Ending.{CausesByWords, Ends, FollowsByWords, HasOwnTheorem, HeadlineByWords, RefusesNoCommand};
+ghost use Rattle.dude_program.specs.Ending.{CausesByWords, Ends, EndsByWords, FollowsByWords, HasOwnTheorem, HeadlineByWords, RefusesNoCommand};
 ghost use Rattle.dude_program.specs.World.{world_of};
 
 use crate::audit::audit;
@@ -138,21 +138,10 @@ pub fn dude_watched<R: Threads + Sync, M: Medium + Send, F: Files, K: Sink, G: G
 ) -> Ended<M>
     requires settled { IsAtRest (M.sight medium) }
     ensures status { result.status ≡ status_of result.fault }
-    ensures refused { RefusesNoCommand (map rc_str_bytes words.now)
+    ensures ends { EndsByWords (map rc_str_bytes words.now)
         (world_of (M.sight medium) (F.sight files.old) (K.sight out.old))
         (world_of (M.sight result.medium) (F.sight files.new) (K.sight out.new))
         result.done.items result.fault }
-    ensures headline { HeadlineByWords (map rc_str_bytes words.now)
-        (world_of (M.sight medium) (F.sight files.old) (K.sight out.old))
-        (world_of (M.sight result.medium) (F.sight files.new) (K.sight out.new))
-        result.done.items result.fault }
-    ensures causes { CausesByWords (map rc_str_bytes words.now)
-        (world_of (M.sight medium) (F.sight files.old) (K.sight out.old))
-        (world_of (M.sight result.medium) (F.sight files.new) (K.sight out.new))
-        result.done.items result.fault }
-    ensures follows { FollowsByWords (map rc_str_bytes words.now)
-        (world_of (M.sight medium) (F.sight files.old) (K.sight out.old))
-        (world_of (M.sight result.medium) (F.sight files.new) (K.sight out.new)) result.fault }
 {
     match command_of(alloc, words) {
         Ok(Some(command)) => carry_out(rt, alloc, &command, medium, files, out, gate),

@@ -1,15 +1,13 @@
-use Rattle.std.proofs.Common.{◌≡◌, ◌∙◌, ◌≤◌, length, refl, sym, ap, arith, Vec, Global, [], ◌∷◌}
+use Rattle.std.proofs.Common.{◌≡◌, ◌∙◌, ◌≤◌, length, refl, sym, ap, arith, [], ◌∷◌}
 use Rattle.std.specs.List.{AllZip}
-use Rattle.std.proofs.lemmas.List.{length-map}
 use Rattle.std.proofs.lemmas.Slice.Zip.{AllZip-long}
 use Rattle.dude_base.specs.declared.sizes.Sizes.{Sizes}
-use Rattle.tatp_model.specs.declared.request.Request.{Request}
 use Rattle.command_words.specs.Command.{Meaning.FreshRun}
 use Rattle.tatp_model.specs.Files.{requests_in}
 use Rattle.command_edges.specs.Files.{OfFile}
 use Rattle.command_openings.specs.Openings.{new_opening}
 use Rattle.dude_engine.specs.Requests.{request_count}
-use Rattle.dude_program.proofs.FilesRead.{fresh_files}
+use Rattle.dude_program.proofs.FilesRead.{as_many_lists, fresh_files}
 use Rattle.dude_program.proofs.Endings.{ends_printed}
 use Rattle.dude_program.proofs.Stops.{ends_at_files, ends_at_format, prefix_at_rest}
 use Rattle.dude_program.proofs.Came.{opened_new, came_ran}
@@ -26,10 +24,9 @@ returns-in-Err-clause-ends g c =
 
 pub work-requires-clause-rings : goal.work-requires-clause-rings
 work-requires-clause-rings g c =
-    let one : length (requests_in c.in-Ok-read_files.lists.items) ≡ 1 = AllZip-long (OfFile (g.F.Files.sight c.args.files.now)) (c.args.file.now ∷ []) (requests_in c.in-Ok-read_files.lists.items) c.in-Ok-read_files.ensures.read in
-    let long : length (requests_in c.in-Ok-read_files.lists.items) ≡ length c.in-Ok-read_files.lists.items = length-map c.in-Ok-read_files.lists.items (λ (list : Vec Request Global). list.items) in
+    let one : length c.in-Ok-read_files.lists.items ≡ 1 = as_many_lists (g.F.Files.sight c.args.files.now) (c.args.file.now ∷ []) c.in-Ok-read_files.lists.items c.in-Ok-read_files.ensures.read in
     let rings : 1 ≡ c.in-Ok-make_and_open.opened.sizes.rings = sym (ap (λ (z : Sizes). z.rings) c.in-Ok.ensures.ok.0) ∙ ap (λ (z : Sizes). z.rings) c.in-Ok-make_and_open.ensures.opening.sizes in
-    rw c.deref.ensures.value (omega (arith, one, long, rings))
+    rw c.deref.ensures.value (omega (arith, one, rings))
 
 pub work-requires-clause-numbers : goal.work-requires-clause-numbers
 work-requires-clause-numbers g c =

@@ -1,14 +1,11 @@
-use Rattle.std.proofs.Common.{◌≡◌, ◌∙◌, length, map, refl, sym, Vec, Global, None}
+use Rattle.std.proofs.Common.{◌≡◌, ◌∙◌, length, map, refl, sym, None}
 use Rattle.std.specs.List.{AllZip}
 use Rattle.std.specs.Rc.{rc_str_bytes}
-use Rattle.std.proofs.lemmas.List.{length-map}
-use Rattle.std.proofs.lemmas.Slice.Zip.{AllZip-long}
-use Rattle.tatp_model.specs.declared.request.Request.{Request}
 use Rattle.back_store.specs.BackView.{medium_of}
 use Rattle.command_words.specs.Command.{Meaning.ShipFiles}
 use Rattle.tatp_model.specs.Files.{requests_in}
 use Rattle.command_edges.specs.Files.{OfFile}
-use Rattle.dude_program.proofs.FilesRead.{ship_files}
+use Rattle.dude_program.proofs.FilesRead.{as_many_lists, ship_files}
 use Rattle.dude_program.proofs.Endings.{ends_faulted, ends_printed}
 use Rattle.dude_program.proofs.Stops.{ends_at_files, ends_at_open, prefix_at_rest, unless_opened}
 use Rattle.dude_program.proofs.Crashes.{left_opened, reachable}
@@ -47,7 +44,7 @@ returns-in-Ok-check_run-clause-ends g c =
     let own = is_opening_of o opened in
     let is_open = c.in-Ok-open_and_announce.ensures.is_open opening own in
     let read : AllZip (OfFile f) names (requests_in lists) = rw c.deref-in-Ok-check_run.ensures.value c.in-Ok.ensures.read in
-    let as_many : length lists ≡ length names = sym (length-map lists (λ (list : Vec Request Global). list.items)) ∙ AllZip-long (OfFile f) names (requests_in lists) read in
+    let as_many = as_many_lists f names lists read in
     let same : c.deref.result.now ≡ lists = c.deref.ensures.value ∙ sym c.deref-in-Ok-check_run.ensures.value in
     let checked = rw same at c.in-Ok-check_run.ensures in
     let came = came_ran (ship_files names (requests_in lists) read c.in-Ok.ensures.reads) (opened_old (ship_opens names _) refl is_open.0 is_open.1)
@@ -76,7 +73,7 @@ returns-clause-ends g c =
     let opening = opening_of o opened in
     let is_open = c.in-Ok-open_and_announce.ensures.is_open opening (is_opening_of o opened) in
     let read : AllZip (OfFile f) names (requests_in lists) = rw c.deref.ensures.value c.in-Ok.ensures.read in
-    let as_many : length lists ≡ length names = sym (length-map lists (λ (list : Vec Request Global). list.items)) ∙ AllZip-long (OfFile f) names (requests_in lists) read in
+    let as_many = as_many_lists f names lists read in
     let why = ship_came names f (requests_in lists) read (length lists) as_many opening 0 (g.M.Medium.sight c.args.medium) (g.M.Medium.sight (medium_of o.back)) (left_opened _ _ _ _ is_open.1) c.in-Err-check_run.fault (c.in-Err-check_run.ensures.err None names) in
     let came = came_refused (ship_files names (requests_in lists) read c.in-Ok.ensures.reads) (opened_old (ship_opens names _) refl is_open.0 is_open.1) 0 c.in-Err-check_run.fault why.1 why.0 in
     rw (c.refused-in-Err-check_run.ensures.medium, c.refused-in-Err-check_run.ensures.done, c.refused-in-Err-check_run.ensures.fault, c.into_medium.ensures) (ends_faulted c.in-Err-check_run.fault came)

@@ -1,29 +1,21 @@
-use Rattle.std.proofs.Common.{rules}
-use Rattle.command_edges.specs.declared.fault.Fault.TheVariants.{Memory}
-use Rattle.dude_program.proofs.FollowEnds.{follows_at_rest}
-use Rattle.dude_program.proofs.Stops.{ends_at_words}
+use Rattle.std.proofs.Common.{map, sym}
+use Rattle.std.specs.Rc.{rc_str_bytes}
+use Rattle.command_words.specs.Command.{meaning_of_command}
+use Rattle.dude_program.proofs.ByWords.{words_meant, words_refused, words_unread}
 use Rattle.dude_program.proofs.top.dude_watched.Goals as goal
 
-pub returns-in-Err-clause-headline : goal.returns-in-Err-clause-headline
-returns-in-Err-clause-headline g c own means has =
+pub returns-in-Ok-Some-clause-ends : goal.returns-in-Ok-Some-clause-ends
+returns-in-Ok-Some-clause-ends g c =
+    let means = rw c.in-Ok-Some.field-0-is at c.in-Ok-Some.ensures.meaning in
+    words_meant (map rc_str_bytes c.args.words.now) (meaning_of_command c.in-Ok-Some.command) (sym means) c.carry_out.ensures.ends c.carry_out.ensures.own
+
+pub returns-in-Ok-None-clause-ends : goal.returns-in-Ok-None-clause-ends
+returns-in-Ok-None-clause-ends g c =
+    let means = rw c.in-Ok-None.field-0-is at c.in-Ok-None.ensures.meaning in
+    rw (c.refused.ensures.medium, c.refused.ensures.done, c.refused.ensures.fault)
+    (words_refused (map rc_str_bytes c.args.words.now) (g.M.Medium.sight c.args.medium) (g.F.Files.sight c.args.files.now) (g.K.Sink.sight c.args.out.now) (sym means))
+
+pub returns-in-Err-clause-ends : goal.returns-in-Err-clause-ends
+returns-in-Err-clause-ends g c =
     rw (c.refused-in-Err.ensures.medium, c.refused-in-Err.ensures.done, c.refused-in-Err.ensures.fault)
-    ((ends_at_words own (g.M.Medium.sight c.args.medium) (g.F.Files.sight c.args.files.now) (g.K.Sink.sight c.args.out.now) c.requires.settled).headline has)
-
-pub returns-in-Err-clause-causes : goal.returns-in-Err-clause-causes
-returns-in-Err-clause-causes g c own means =
-    rw (c.refused-in-Err.ensures.medium, c.refused-in-Err.ensures.done, c.refused-in-Err.ensures.fault)
-    (ends_at_words own (g.M.Medium.sight c.args.medium) (g.F.Files.sight c.args.files.now) (g.K.Sink.sight c.args.out.now) c.requires.settled).causes
-
-pub returns-in-Ok-Some-clause-headline : goal.returns-in-Ok-Some-clause-headline
-returns-in-Ok-Some-clause-headline g c own means has = search rules
-
-pub returns-in-Ok-Some-clause-causes : goal.returns-in-Ok-Some-clause-causes
-returns-in-Ok-Some-clause-causes g c own means = search rules
-
-pub returns-in-Err-clause-follows : goal.returns-in-Err-clause-follows
-returns-in-Err-clause-follows g c names means =
-    rw (c.refused-in-Err.ensures.medium, c.refused-in-Err.ensures.fault)
-    (follows_at_rest names (g.M.Medium.sight c.args.medium) c.requires.settled (g.F.Files.sight c.args.files.now) (g.F.Files.sight c.args.files.now) (g.K.Sink.sight c.args.out.now) Memory tt)
-
-pub returns-in-Ok-Some-clause-follows : goal.returns-in-Ok-Some-clause-follows
-returns-in-Ok-Some-clause-follows g c names means = search rules
+    (words_unread (map rc_str_bytes c.args.words.now) (g.M.Medium.sight c.args.medium) (g.F.Files.sight c.args.files.now) (g.K.Sink.sight c.args.out.now) c.requires.settled)
