@@ -1,11 +1,14 @@
-//! Calls on words: reads and writes, and those of a pool of three records and of a table of two buckets over it.
+//! Calls on words: reads and writes, those of a pool of three records and of a table of two buckets over it, and those of a tree.
 
 ghost use Rattle.home_runs.specs.declared.calls.TheConstants.{TABLE};
+ghost use Rattle.home_runs.specs.declared.trees.TheConstants.{TREE};
 ghost use Rattle.home_runs.specs.Stoppings.{stopping_sight};
 ghost use Rattle.hash_table.specs.Table.{FitsTable};
+ghost use Rattle.tree_index.specs.Tree.{FitsTree};
 
 use crate::page::Page;
 use crate::stopping::Stopping;
+use crate::trees::take_tree_call;
 use hash_table::put::Put;
 use hash_table::table::Table;
 use record_heap::pool::Pool;
@@ -24,14 +27,14 @@ const TABLE: Table = Table {
     },
 };
 
-/// How many words the table takes.
+/// How many words the table takes, and the tree.
 const TABLE_WORDS: u64 = 32;
 
 /// What a call answered: a text, and a number where there is one.
 pub type Answer = (&'static str, Option<u64>);
 
 /// Makes a call, if the words have its places.
-#[tactic(auto, using(hash_table::proofs::Fits::table_fits))]
+#[tactic(auto, using(hash_table::proofs::Fits::table_fits, tree_index::proofs::Fits::tree_fits))]
 pub fn take_call(words: &mut Stopping, name: &str, numbers: &[u64]) -> Result<Answer, Stop> {
     match (name, numbers) {
         ("read", [at]) => Ok(("value", Some(read(words, *at)?))),
@@ -40,6 +43,9 @@ pub fn take_call(words: &mut Stopping, name: &str, numbers: &[u64]) -> Result<An
             Ok(("written", None))
         }
         ("exchange", [first, second]) => exchange(words, *first, *second),
+        ("put" | "drop" | "next", [key]) if words.len() == TABLE_WORDS => {
+            take_tree_call(words, name, *key)
+        }
         _ if words.len() == TABLE_WORDS => take_pool_call(words, name, numbers),
         _ => Ok(("no command", None)),
     }

@@ -14,6 +14,7 @@ mod rows;
 mod runs;
 mod stopping;
 mod stops;
+mod trees;
 mod words;
 
 use page::Page;

@@ -10,6 +10,7 @@ use crate::rows::say_records;
 use crate::runs::{Files, say_in_files};
 use crate::stopping::Stopping;
 use crate::stops::say_stops;
+use crate::trees::say_tree_calls;
 use crate::words::{changed, say_words};
 use script_words::{is_remark, numbers_of, words_of};
 use std::alloc::Global;
@@ -82,6 +83,7 @@ impl Play {
             ("locations", &[first, last]) => self.files.append_updates(first, last, false, page),
             ("subscribers", &[first, last]) => self.files.append_updates(first, last, true, page),
             ("order", done) => say_in_files(alloc, done, page),
+            ("tree", &[leaves, seed, calls]) => say_tree_calls(alloc, leaves, seed, calls, page),
             _ => self.take_on_words(alloc, name, numbers, page),
         }
     }

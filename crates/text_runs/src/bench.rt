@@ -8,6 +8,7 @@ use crate::page::{page_of, push_count};
 use crate::replies::done_of;
 use crate::requests::read;
 use crate::stop::Stop;
+use crate::streams::{lane, stream};
 use crate::text::{numbers_among, text_of};
 use crate::words::words;
 use command_edges::{Fault, fault_text, print_lines, print_text};
@@ -96,6 +97,8 @@ impl Bench {
             "text" => self.print_text(words, out),
             "printed" => self.take_printed(words, out),
             "audit" => self.audit(words, numbers, out),
+            "lane" => lane(words, out),
+            "stream" => self.stream(words, out),
             _ => Err(Stop::NoCommand),
         }
     }
@@ -166,6 +169,12 @@ impl Bench {
     /// Hands the sink a text.
     fn print_text(&mut self, words: &[&str], out: &mut Vec<u8>) -> Result<(), Stop> {
         let printed = print_text(&text_of(self.alloc, words)?, &mut self.sink);
+        Ok(self.push_printed(printed, out)?)
+    }
+
+    /// Hands the sink what a streamed run prints.
+    fn stream(&mut self, words: &[&str], out: &mut Vec<u8>) -> Result<(), Stop> {
+        let printed = stream(self.alloc, words, &mut self.sink)?;
         Ok(self.push_printed(printed, out)?)
     }
 

@@ -12,6 +12,7 @@ mod population;
 mod replies;
 mod requests;
 mod stop;
+mod streams;
 mod text;
 mod words;
 

@@ -1,0 +1,245 @@
+-- What `remove` found and did, in a lawful tree.
+use Rattle.std.proofs.Common.{◌≡◌, ◌≢◌, ℕ, ◌+◌, ◌<◌, inl, inr, List, [], ◌∷◌, ◌++◌, length, Contains, Some, None, slice_index, slice_set, refl, sym, ap, ◌∙◌, subst, arith, eqb, get_or-set_same}
+use Rattle.std.proofs.lemmas.List.Elements.{Contains-append_left, Contains-append_right}
+use Rattle.std.proofs.lemmas.List.Sorted.{Contains-permutation, IsPermutation-refl, IsPermutation-append_right, IsPermutation-cons, IsPermutation-middle, IsPermutation-sym, IsPermutation-trans, length_permutation}
+use Rattle.std.proofs.lemmas.Map.Keys.{IsDistinct-tail, IsDistinct-IsPermutation}
+use Rattle.std.specs.List.{IsDistinct}
+use Rattle.std.specs.List.Sorted.{IsPermutation}
+use Rattle.record_heap.specs.declared.pool.Pool.{Pool}
+use Rattle.record_heap.specs.Changes.{ChangesOnly}
+use Rattle.record_heap.specs.Pool.{Gives, IsPool, IsRecord}
+use Rattle.record_heap.proofs.Arrays.{changes_more, changes_none}
+use Rattle.record_heap.proofs.Frames.{IsOutsidePool, pool_stays, same_pool}
+use Rattle.record_heap.proofs.Records.{none_twice}
+use Rattle.tree_index.specs.declared.tree.Tree.{Tree}
+use Rattle.tree_index.specs.Shape.{Shape, Leaf, Fork, Holds, IsRadix, forks_of, keys_of, leaves_of, link_of}
+use Rattle.tree_index.specs.Tree.{Drops, FitsTree, IsTree, StaysOutside}
+use Rattle.tree_index.specs.Path.{Frame, OnZeros, OnOnes, GoesBy, HasLeafMore, plug, slot_of}
+use Rattle.tree_index.proofs.Apart.{IsOwn, along_same, holds_same, of_more, own_more, own_not_outside, own_outside_inner, own_outside_leaves, rest_apart, slot_own}
+use Rattle.tree_index.proofs.Found.{taken_record}
+use Rattle.tree_index.proofs.Paths.{Along, closed, distinct_behind, flips, forks_along, keys_along, leaves_along, opened, plug_forks, plug_keys, plug_leaves, radix_plug}
+use Rattle.tree_index.proofs.Shapes.{follows, first_among, other_among, radix_inside, radix_more}
+
+-- a record given back is the first free one, and the others stay taken
+pub pool_given : {pool : Pool} {old middle new free : List ℕ} (taken after : List ℕ) (at : ℕ) → IsPool pool old free taken → IsPermutation taken (at ∷ after) → Gives pool at free taken middle new → IsPool pool new (at ∷ free) after
+pool_given {pool} {free = free} taken after at lawful moved gives = record {
+  links = gives.lawful.links;
+  live = gives.lawful.live ∙ omega (arith, length_permutation taken (at ∷ gives.others) gives.were, length_permutation taken (at ∷ after) moved);
+  once = IsPermutation-trans _ _ _ lawful.once (IsPermutation-trans _ _ _ (IsPermutation-append_right free taken (at ∷ after) moved) (IsPermutation-middle free at after));
+}
+
+-- A leaf and the inner record over it are given back, and what stands beside the leaf is linked in its position. Here the leaf
+-- is at `at`, the inner record at `over`, `beside` on its other side, and the rest of the path is `path`.
+module _ {tree : Tree} {n : ℕ} (fits : FitsTree tree n) (old linked middle new : List ℕ) (path : List Frame) (whole beside : Shape) (free_leaves free_inner : List ℕ) (at over slot : ℕ)
+    (lawful : IsTree tree old (Some whole) free_leaves free_inner) (size : length old ≡ n)
+    (leaves_are : IsPermutation (leaves_of whole) (at ∷ (leaves_of beside ++ leaves_along path)))
+    (forks_are : IsPermutation (forks_of whole) (over ∷ (forks_of beside ++ forks_along path)))
+    (slot_is : slot ≡ slot_of tree.root path)
+    (relink : linked ≡ slice_set old slot (link_of beside))
+    (gives_inner : Gives tree.inner over free_inner (forks_of whole) linked middle)
+    (gives_leaf : Gives tree.leaves at free_leaves (leaves_of whole) middle new) where
+  parts_leaf : (x : ℕ) → Contains (leaves_of beside ++ leaves_along path) x → IsRecord tree.leaves x
+  parts_leaf x c = taken_record lawful.leaves x (Contains-permutation (at ∷ (leaves_of beside ++ leaves_along path)) (leaves_of whole) x (IsPermutation-sym _ _ leaves_are) (other_among x at (leaves_of beside ++ leaves_along path) c))
+
+  parts_fork : (x : ℕ) → Contains (forks_of beside ++ forks_along path) x → IsRecord tree.inner x
+  parts_fork x c = taken_record lawful.inner x (Contains-permutation (over ∷ (forks_of beside ++ forks_along path)) (forks_of whole) x (IsPermutation-sym _ _ forks_are) (other_among x over (forks_of beside ++ forks_along path) c))
+
+  at_is : IsRecord tree.leaves at
+  at_is = taken_record lawful.leaves at (Contains-permutation (at ∷ (leaves_of beside ++ leaves_along path)) (leaves_of whole) at (IsPermutation-sym _ _ leaves_are) (first_among at (leaves_of beside ++ leaves_along path)))
+
+  over_is : IsRecord tree.inner over
+  over_is = taken_record lawful.inner over (Contains-permutation (over ∷ (forks_of beside ++ forks_along path)) (forks_of whole) over (IsPermutation-sym _ _ forks_are) (first_among over (forks_of beside ++ forks_along path)))
+
+  parts_distinct : IsDistinct eqb (forks_of beside ++ forks_along path)
+  parts_distinct = IsDistinct-tail eqb over (forks_of beside ++ forks_along path) (IsDistinct-IsPermutation eqb flips (forks_of whole) (over ∷ (forks_of beside ++ forks_along path)) forks_are
+      (distinct_behind free_inner (forks_of whole) (none_twice tree.inner (free_inner ++ forks_of whole) lawful.inner.once (omega (arith, fits.inner_size)))))
+
+  path_own : (i : ℕ) → IsOwn tree.root (leaves_along path) (forks_along path) i → IsOwn tree.root (leaves_of beside ++ leaves_along path) (forks_of beside ++ forks_along path) i
+  path_own i own = own_more tree.root i (leaves_along path) (forks_along path) (leaves_of beside ++ leaves_along path) (forks_of beside ++ forks_along path) (λ x c. Contains-append_right (leaves_of beside) (leaves_along path) x c) (λ x c. Contains-append_right (forks_of beside) (forks_along path) x c) own
+
+  slot_among : IsOwn tree.root (leaves_of beside ++ leaves_along path) (forks_of beside ++ forks_along path) slot
+  slot_among = path_own slot (subst (IsOwn tree.root (leaves_along path) (forks_along path)) (sym slot_is) (slot_own tree.root path))
+
+  outside_leaves : (i : ℕ) → IsOwn tree.root (leaves_of beside ++ leaves_along path) (forks_of beside ++ forks_along path) i → IsOutsidePool tree.leaves i
+  outside_leaves i own = own_outside_leaves fits (leaves_of beside ++ leaves_along path) (forks_of beside ++ forks_along path) i parts_leaf parts_fork own
+
+  outside_inner : (i : ℕ) → IsOwn tree.root (leaves_of beside ++ leaves_along path) (forks_of beside ++ forks_along path) i → IsOutsidePool tree.inner i
+  outside_inner i own = own_outside_inner fits (leaves_of beside ++ leaves_along path) (forks_of beside ++ forks_along path) i parts_leaf parts_fork own
+
+  slot_below : slot < n
+  slot_below = own_below slot slot_among
+    where
+      own_below : (i : ℕ) → IsOwn tree.root (leaves_of beside ++ leaves_along path) (forks_of beside ++ forks_along path) i → i < n
+      own_below i (inl is) = omega (arith, fits.root, is)
+      own_below i (inr (inl c)) = omega (arith, fits.leaves.inside i (parts_leaf i c), fits.leaf_size)
+      own_below i (inr (inr f)) = omega (arith, fits.inner.inside f.0 (parts_fork f.0 f.1), fits.inner_size, f.4, f.5)
+
+  link_changes : ChangesOnly (slot ∷ []) old linked
+  link_changes = subst (λ x. ChangesOnly (slot ∷ []) old x) (sym relink) (changes_more slot (link_of beside) changes_none)
+
+  -- a word that the rest of the tree reads stays behind the link
+  given_keep : (i : ℕ) → IsOwn tree.root (leaves_of beside ++ leaves_along path) (forks_of beside ++ forks_along path) i → slice_index new i ≡ slice_index linked i
+  given_keep i own =
+      let of_leaves = outside_leaves i own in
+      let of_inner = outside_inner i own in
+      gives_leaf.changes.others i (of_leaves.links at at_is, (of_leaves.first, (of_leaves.live, tt))) ∙ gives_inner.changes.others i (of_inner.links over over_is, (of_inner.first, (of_inner.live, tt)))
+
+  keep : (i : ℕ) → IsOwn tree.root (leaves_of beside ++ leaves_along path) (forks_of beside ++ forks_along path) i → i ≢ slot → slice_index new i ≡ slice_index old i
+  keep i own ne = given_keep i own ∙ link_changes.others i (ne, tt)
+
+  slot_word : slice_index new slot ≡ link_of beside
+  slot_word = given_keep slot slot_among ∙ ap (λ x. slice_index x slot) relink ∙ get_or-set_same old slot (link_of beside) 0 (omega (arith, slot_below, size))
+
+  -- each word of the other pool's give is outside
+  leaf_word_outside : (j : ℕ) → j < 2 → IsOutsidePool tree.inner (at + j)
+  leaf_word_outside j small = record {
+    first = omega (arith, fits.headers.records at at_is, fits.leaf_size, small);
+    live = omega (arith, fits.headers.records at at_is, fits.leaf_size, small);
+    links = λ x r. omega (arith, (fits.records x r).records at at_is, fits.leaf_size, fits.inner_size, small);
+  }
+
+  leaf_header_outside : (j : ℕ) → j < 2 → IsOutsidePool tree.inner (tree.leaves.base + j)
+  leaf_header_outside j small = record {
+    first = omega (arith, fits.headers.header, small);
+    live = omega (arith, fits.headers.header, small);
+    links = λ x r. omega (arith, (fits.records x r).header, fits.inner_size, small);
+  }
+
+  over_word_outside : (j : ℕ) → j < 2 → IsOutsidePool tree.leaves (over + j)
+  over_word_outside j small = record {
+    first = omega (arith, (fits.records over over_is).header, fits.inner_size, small);
+    live = omega (arith, (fits.records over over_is).header, fits.inner_size, small);
+    links = λ x r. omega (arith, (fits.records over over_is).records x r, fits.leaf_size, fits.inner_size, small);
+  }
+
+  inner_header_outside : (j : ℕ) → j < 2 → IsOutsidePool tree.leaves (tree.inner.base + j)
+  inner_header_outside j small = record {
+    first = omega (arith, fits.headers.header, small);
+    live = omega (arith, fits.headers.header, small);
+    links = λ x r. omega (arith, fits.headers.records x r, fits.leaf_size, small);
+  }
+
+  new_leaves : IsPool tree.leaves new (at ∷ free_leaves) (leaves_of beside ++ leaves_along path)
+  new_leaves = pool_given (leaves_of whole) (leaves_of beside ++ leaves_along path) at lawful.leaves leaves_are gives_leaf
+
+  new_inner : IsPool tree.inner new (over ∷ free_inner) (forks_of beside ++ forks_along path)
+  new_inner = pool_stays (same_pool {words = (at + 1) ∷ tree.leaves.base ∷ (tree.leaves.base + 1) ∷ []}
+      (leaf_word_outside 1 (omega arith), (subst (IsOutsidePool tree.inner) (let sum : tree.leaves.base + 0 ≡ tree.leaves.base = omega arith in sum) (leaf_header_outside 0 (omega arith)), (leaf_header_outside 1 (omega arith), tt))) gives_leaf.changes)
+      (pool_given (forks_of whole) (forks_of beside ++ forks_along path) over lawful.inner forks_are gives_inner)
+
+  outside : StaysOutside tree old new
+  outside = record {
+    size = gives_leaf.changes.size ∙ gives_inner.changes.size ∙ link_changes.size;
+    others = λ i out.
+        gives_leaf.changes.others i (omega (arith, out.leaves.records at at_is, fits.leaf_size), (omega (arith, out.leaves.header), (omega (arith, out.leaves.header), tt)))
+        ∙ gives_inner.changes.others i (omega (arith, out.inner.records over over_is, fits.inner_size), (omega (arith, out.inner.header), (omega (arith, out.inner.header), tt)))
+        ∙ link_changes.others i (own_not_outside fits (leaves_of beside ++ leaves_along path) (forks_of beside ++ forks_along path) i slot parts_leaf parts_fork slot_among out, tt);
+  }
+
+  pub drops : (key : ℕ) → Along old tree.root path → Holds old beside → IsRadix 64 (plug path beside) → IsPermutation (keys_of whole) (key ∷ (keys_of beside ++ keys_along path)) → HasLeafMore key at over (plug path beside) whole → Drops tree key (Some whole) free_leaves free_inner old new
+  drops key along holds radix keys_are more =
+      let along_new = along_same fits old new path (λ x c. parts_leaf x (Contains-append_right (leaves_of beside) (leaves_along path) x c)) (λ x c. parts_fork x (Contains-append_right (forks_of beside) (forks_along path) x c)) (distinct_behind (forks_of beside) (forks_along path) parts_distinct)
+      (λ i own ne. keep i (path_own i own) (λ e. ne (e ∙ slot_is))) along in
+      let holds_new = holds_same old new beside (λ i own.
+      keep i (inr (of_more i (leaves_of beside) (forks_of beside) (leaves_of beside ++ leaves_along path) (forks_of beside ++ forks_along path) (λ x c. Contains-append_left (leaves_of beside) (leaves_along path) x c) (λ x c. Contains-append_left (forks_of beside) (forks_along path) x c) own))
+      (λ e. rest_apart fits path beside i (λ x c. parts_leaf x (Contains-append_left (leaves_of beside) (leaves_along path) x c)) parts_fork parts_distinct own (e ∙ slot_is))) holds in
+      let shut = closed new tree.root path beside along_new (ap (λ x. slice_index new x) (sym slot_is) ∙ slot_word) holds_new in
+      record {
+        before = whole;
+        was = refl;
+        leaf = at;
+        left_inner = over ∷ free_inner;
+        after = Some (plug path beside);
+        grows = (over, refl, more);
+        keys = IsPermutation-trans _ _ _ keys_are (IsPermutation-cons key _ _ (IsPermutation-sym _ _ (plug_keys path beside)));
+        lawful = record {
+          leaves = pool_after (leaves_of beside ++ leaves_along path) (leaves_of (plug path beside)) (IsPermutation-sym _ _ (plug_leaves path beside)) new_leaves;
+          inner = pool_after (forks_of beside ++ forks_along path) (forks_of (plug path beside)) (IsPermutation-sym _ _ (plug_forks path beside)) new_inner;
+          rooted = (shut.0, shut.1, radix);
+        };
+        others = outside;
+      }
+    where
+      pool_after : {pool : Pool} {array free : List ℕ} (taken other : List ℕ) → IsPermutation taken other → IsPool pool array free taken → IsPool pool array free other
+      pool_after {pool} {array} {free} taken other moved given = record {
+        links = given.links;
+        live = given.live ∙ sym (length_permutation taken other moved);
+        once = IsPermutation-trans _ _ _ given.once (IsPermutation-append_right free taken other moved);
+      }
+
+-- ---- the two cases of the last inner record
+
+module _ {tree : Tree} {n : ℕ} (fits : FitsTree tree n) (old middle new : List ℕ) (path : List Frame) (free_leaves free_inner : List ℕ) (key at over bit : ℕ) (beside : Shape) (size : length old ≡ n) where
+  pub drops_zeros : IsTree tree old (Some (plug (OnZeros over bit beside ∷ path) (Leaf at key))) free_leaves free_inner → GoesBy key 0 (OnZeros over bit beside ∷ path)
+      → Gives tree.inner over free_inner (forks_of (plug (OnZeros over bit beside ∷ path) (Leaf at key))) (slice_set old (slot_of tree.root path) (link_of beside)) middle
+      → Gives tree.leaves at free_leaves (leaves_of (plug (OnZeros over bit beside ∷ path) (Leaf at key))) middle new
+      → Drops tree key (Some (plug (OnZeros over bit beside ∷ path) (Leaf at key))) free_leaves free_inner old new
+  drops_zeros lawful goes gives_inner gives_leaf =
+      let open_up = opened old tree.root (OnZeros over bit beside ∷ path) (Leaf at key) lawful.rooted.0 lawful.rooted.1 in
+      let radix = lawful.rooted.2 in
+      let inner = radix_inside 64 path (Fork over bit (Leaf at key) beside) radix in
+      drops fits old (slice_set old (slot_of tree.root path) (link_of beside)) middle new path (plug (OnZeros over bit beside ∷ path) (Leaf at key)) beside free_leaves free_inner at over (slot_of tree.root path) lawful size
+      (plug_leaves (OnZeros over bit beside ∷ path) (Leaf at key)) (plug_forks (OnZeros over bit beside ∷ path) (Leaf at key)) refl refl gives_inner gives_leaf
+      key open_up.0.4 open_up.0.2
+      (radix_plug key 0 64 path (Fork over bit (Leaf at key) beside) beside
+      (follows key 0 key 64 path (Fork over bit (Leaf at key) beside) radix goes.2 (first_among key (keys_of beside)) refl) goes.2 (omega arith)
+      (λ y c. inr (other_among y key (keys_of beside) c)) (λ m le r. radix_more bit m beside (omega (arith, r.0)) r.3) radix)
+      (plug_keys (OnZeros over bit beside ∷ path) (Leaf at key)) (record { path = path; part = beside; bit = bit; without = refl; with_leaf = inl refl })
+
+  pub drops_ones : IsTree tree old (Some (plug (OnOnes over bit beside ∷ path) (Leaf at key))) free_leaves free_inner → GoesBy key 0 (OnOnes over bit beside ∷ path)
+      → Gives tree.inner over free_inner (forks_of (plug (OnOnes over bit beside ∷ path) (Leaf at key))) (slice_set old (slot_of tree.root path) (link_of beside)) middle
+      → Gives tree.leaves at free_leaves (leaves_of (plug (OnOnes over bit beside ∷ path) (Leaf at key))) middle new
+      → Drops tree key (Some (plug (OnOnes over bit beside ∷ path) (Leaf at key))) free_leaves free_inner old new
+  drops_ones lawful goes gives_inner gives_leaf =
+      let open_up = opened old tree.root (OnOnes over bit beside ∷ path) (Leaf at key) lawful.rooted.0 lawful.rooted.1 in
+      let radix = lawful.rooted.2 in
+      drops fits old (slice_set old (slot_of tree.root path) (link_of beside)) middle new path (plug (OnOnes over bit beside ∷ path) (Leaf at key)) beside free_leaves free_inner at over (slot_of tree.root path) lawful size
+      (plug_leaves (OnOnes over bit beside ∷ path) (Leaf at key)) (plug_forks (OnOnes over bit beside ∷ path) (Leaf at key)) refl refl gives_inner gives_leaf
+      key open_up.0.4 open_up.0.2
+      (radix_plug key 0 64 path (Fork over bit beside (Leaf at key)) beside
+      (follows key 0 key 64 path (Fork over bit beside (Leaf at key)) radix goes.2 (Contains-append_right (keys_of beside) (key ∷ []) key (first_among key [])) refl) goes.2 (omega arith)
+      (λ y c. inr (Contains-append_left (keys_of beside) (key ∷ []) y c)) (λ m le r. radix_more bit m beside (omega (arith, r.0)) r.2) radix)
+      (plug_keys (OnOnes over bit beside ∷ path) (Leaf at key)) (record { path = path; part = beside; bit = bit; without = refl; with_leaf = inr refl })
+
+-- without an inner record the tree is emptied
+pub drops_last : {tree : Tree} {n : ℕ} → FitsTree tree n → (old middle new free_leaves free_inner : List ℕ) (key at : ℕ) → length old ≡ n → IsTree tree old (Some (Leaf at key)) free_leaves free_inner → middle ≡ slice_set old tree.root 0 → Gives tree.leaves at free_leaves (at ∷ []) middle new → Drops tree key (Some (Leaf at key)) free_leaves free_inner old new
+drops_last {tree} {n} fits old middle new free_leaves free_inner key at size lawful emptied gives =
+    let at_is = taken_record lawful.leaves at (first_among at []) in
+    let leafs : (x : ℕ) → Contains [] x → IsRecord tree.leaves x = λ x c. absurd (omega (arith, c.1)) in
+    let forks : (x : ℕ) → Contains [] x → IsRecord tree.inner x = λ x c. absurd (omega (arith, c.1)) in
+    let root_own : IsOwn tree.root [] [] tree.root = inl refl in
+    let changes : ChangesOnly (tree.root ∷ []) old middle = subst (λ x. ChangesOnly (tree.root ∷ []) old x) (sym emptied) (changes_more tree.root 0 changes_none) in
+    let of_leaves = own_outside_leaves fits [] [] tree.root leafs forks root_own in
+    let of_inner = own_outside_inner fits [] [] tree.root leafs forks root_own in
+    let header : (j : ℕ) → j < 2 → IsOutsidePool tree.inner (tree.leaves.base + j) = λ j small. record {
+      first = omega (arith, fits.headers.header, small);
+      live = omega (arith, fits.headers.header, small);
+      links = λ x r. omega (arith, (fits.records x r).header, fits.inner_size, small);
+    } in
+    let leaf_link : IsOutsidePool tree.inner (at + 1) = record {
+      first = omega (arith, fits.headers.records at at_is, fits.leaf_size);
+      live = omega (arith, fits.headers.records at at_is, fits.leaf_size);
+      links = λ x r. omega (arith, (fits.records x r).records at at_is, fits.leaf_size, fits.inner_size);
+    } in
+    record {
+      before = Leaf at key;
+      was = refl;
+      leaf = at;
+      left_inner = free_inner;
+      after = None;
+      grows = (refl, refl);
+      keys = IsPermutation-refl (key ∷ []);
+      lawful = record {
+        leaves = pool_given (at ∷ []) [] at lawful.leaves (IsPermutation-refl (at ∷ [])) gives;
+        inner = pool_stays (same_pool {words = (at + 1) ∷ tree.leaves.base ∷ (tree.leaves.base + 1) ∷ []}
+            (leaf_link, (subst (IsOutsidePool tree.inner) (let sum : tree.leaves.base + 0 ≡ tree.leaves.base = omega arith in sum) (header 0 (omega arith)), (header 1 (omega arith), tt))) gives.changes)
+            (pool_stays (same_pool {words = tree.root ∷ []} (of_inner, tt) changes) lawful.inner);
+        rooted = gives.changes.others tree.root (of_leaves.links at at_is, (of_leaves.first, (of_leaves.live, tt))) ∙ ap (λ x. slice_index x tree.root) emptied ∙ get_or-set_same old tree.root 0 0 (omega (arith, fits.root, size));
+      };
+      others = record {
+        size = gives.changes.size ∙ changes.size;
+        others = λ i out.
+            gives.changes.others i (omega (arith, out.leaves.records at at_is, fits.leaf_size), (omega (arith, out.leaves.header), (omega (arith, out.leaves.header), tt)))
+            ∙ changes.others i (out.root, tt);
+      };
+    }

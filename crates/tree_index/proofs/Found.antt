@@ -1,0 +1,169 @@
+-- What the walks of `next` found, in a lawful tree.
+use Rattle.std.proofs.Common.{◌≡◌, ◌≢◌, ℕ, ◌+◌, ◌/◌, ◌^◌, ◌<◌, inl, inr, List, [], ◌∷◌, ◌++◌, Contains, Option, Some, None, unwrap_or, slice_index, refl, sym, ap, ◌∙◌, subst, arith}
+use Rattle.std.proofs.lemmas.Bool.{cases_order}
+use Rattle.std.proofs.lemmas.List.Elements.{All-contains, All-from_recursion, All-nil, Contains-append_left, Contains-append_right}
+use Rattle.record_heap.specs.Pool.{IsPool, IsRecord}
+use Rattle.record_heap.proofs.Records.{each_is_record}
+use Rattle.tree_index.specs.declared.tree.NearestLeaf.{NearestLeaf}
+use Rattle.tree_index.specs.declared.tree.TreePosition.{TreePosition}
+use Rattle.tree_index.specs.declared.tree.Tree.{Tree}
+use Rattle.tree_index.specs.Shape.{Shape, Leaf, Fork, IsRadix, forks_of, keys_in, keys_of, leaves_of, least_of, link_of}
+use Rattle.tree_index.specs.Tree.{FindsNext, FitsTree, IsNext, IsTree}
+use Rattle.tree_index.specs.Path.{Frame, OnZeros, OnOnes, plug, over_of, slot_of, turn_of}
+use Rattle.tree_index.specs.Walk.{EndsBelow, FindsLeast, HasRecords, IsHeld, IsIn, LeadsTo, Reaches, StaysAtRoot, WalksTo}
+use Rattle.tree_index.proofs.Frees.{none_is_not}
+use Rattle.tree_index.proofs.Nexts.{next_above, next_below, next_here, turn_key}
+use Rattle.tree_index.proofs.Shapes.{first_among, other_among, radix_inside, radix_more, reached_key, reach_along}
+
+-- ---- the records of a lawful tree
+
+has_records : (tree : Tree) (shape : Shape) → ((at : ℕ) → Contains (leaves_of shape) at → IsRecord tree.leaves at) → ((at : ℕ) → Contains (forks_of shape) at → IsRecord tree.inner at) → HasRecords tree shape
+has_records tree (Leaf at key) leaf inner = leaf at (first_among at [])
+has_records tree (Fork at bit zeros ones) leaf inner = (
+  inner at (first_among at (forks_of zeros ++ forks_of ones)),
+  has_records tree zeros (λ x c. leaf x (Contains-append_left (leaves_of zeros) (leaves_of ones) x c)) (λ x c. inner x (other_among x at (forks_of zeros ++ forks_of ones) (Contains-append_left (forks_of zeros) (forks_of ones) x c))),
+  has_records tree ones (λ x c. leaf x (Contains-append_right (leaves_of zeros) (leaves_of ones) x c)) (λ x c. inner x (other_among x at (forks_of zeros ++ forks_of ones) (Contains-append_right (forks_of zeros) (forks_of ones) x c))),
+)
+
+-- a taken record is one
+pub taken_record : {pool : _} {words free taken : List ℕ} → IsPool pool words free taken → (at : ℕ) → Contains taken at → IsRecord pool at
+taken_record {pool} {words} {free} {taken} lawful at c = All-contains (IsRecord pool) (free ++ taken) at (All-from_recursion (IsRecord pool) (free ++ taken) (each_is_record pool (free ++ taken) lawful.once)) (Contains-append_right free taken at c)
+
+pub tree_in : {tree : Tree} {words free_leaves free_inner : List ℕ} (shape : Shape) → IsTree tree words (Some shape) free_leaves free_inner → IsIn tree words shape
+tree_in {tree} shape lawful = record {
+  link = lawful.rooted.0;
+  held = record { records = has_records tree shape (taken_record lawful.leaves) (taken_record lawful.inner); words = lawful.rooted.1 };
+  radix = lawful.rooted.2;
+}
+
+-- ---- the first walk
+
+leaf_of : (tree : Tree) (words : List ℕ) (key : ℕ) (position : TreePosition) (path : List Frame) (shape : Shape) → position ≡ record { slot = slot_of tree.root path; link = link_of shape; over = over_of tree.root path; turn = turn_of path } → IsHeld tree words shape → EndsBelow 0 shape → IsRecord tree.leaves position.link × (slice_index words position.link ≡ reached_key key shape)
+leaf_of tree words key position path (Leaf at k) here held ends = (
+  subst (IsRecord tree.leaves) (sym (ap (λ (p : TreePosition). p.link) here)) held.records,
+  ap (λ x. slice_index words x) (ap (λ (p : TreePosition). p.link) here) ∙ held.words,
+)
+leaf_of tree words key position path (Fork at bit zeros ones) here held ends = absurd (omega (arith, ends))
+
+-- it is the leaf to which the key leads
+pub near_leaf : (tree : Tree) (words : List ℕ) (key : ℕ) (shape : Shape) (position : TreePosition) → Reaches tree key 0 words shape position → IsRecord tree.leaves position.link × (slice_index words position.link ≡ reached_key key shape)
+near_leaf tree words key shape position r =
+    let leaf = leaf_of tree words key position r.path r.part r.at r.held r.ends in
+    (leaf.0, leaf.1 ∙ sym (reach_along key 0 r.path r.part r.steps) ∙ ap (λ s. reached_key key s) (sym r.is))
+
+-- a walk that led to no leaf found no tree
+pub no_tree : {tree : Tree} {words : List ℕ} {key : ℕ} {position : TreePosition} → WalksTo tree key 0 words position → (IsRecord tree.leaves position.link → ⊥) → (whole : Shape) → ¬ IsIn tree words whole
+no_tree {tree} {words} {key} {position} walk none whole there = none (near_leaf tree words key whole position (walk whole there)).0
+
+-- one that led to a leaf didn't stay at an empty root
+pub some_tree : {tree : Tree} {n : ℕ} (words : List ℕ) {position : TreePosition} → FitsTree tree n → StaysAtRoot tree words position → IsRecord tree.leaves position.link → slice_index words tree.root ≢ 0
+some_tree {tree} words fits empty leaf none = omega (arith, fits.leaves.not_at_zero 0 (subst (IsRecord tree.leaves) (ap (λ (p : TreePosition). p.link) (empty none)) leaf))
+
+-- the key found is the one to which the bits of the key lead
+pub near_key : {tree : Tree} {words : List ℕ} {key : ℕ} {near : NearestLeaf} (shape : Shape) → IsIn tree words shape → LeadsTo tree key words near → near.key ≡ reached_key key shape
+near_key {tree} {words} {key} {near} shape there leads = leads.read ∙ (near_leaf tree words key shape near.position (leads.walk shape there)).1
+
+-- where a walk found no tree there is no key
+pub no_shape : {tree : Tree} {words free_leaves free_inner : List ℕ} (shape : Option Shape) → IsTree tree words shape free_leaves free_inner → ((whole : Shape) → ¬ IsIn tree words whole) → shape ≡ None
+no_shape None lawful none = refl
+no_shape (Some shape) lawful none = absurd (none shape (tree_in shape lawful))
+
+pub next_none : {tree : Tree} {words : List ℕ} {key : ℕ} → ((whole : Shape) → ¬ IsIn tree words whole) → FindsNext tree key words None
+next_none {key = key} none = λ shape free_leaves free_inner lawful. subst (λ s. IsNext (keys_in s) key None) (sym (no_shape shape lawful none)) (All-nil (λ y. y < key))
+
+pub next_equal : {tree : Tree} {words : List ℕ} {key : ℕ} {near : NearestLeaf} → LeadsTo tree key words near → near.key ≡ key → FindsNext tree key words (Some near.key)
+next_equal {tree} {words} {key} {near} leads same = λ shape free_leaves free_inner lawful. here shape lawful
+  where
+    here : {free_leaves free_inner : List ℕ} (shape : Option Shape) → IsTree tree words shape free_leaves free_inner → IsNext (keys_in shape) key (Some near.key)
+    here None lawful = absurd (leads.some lawful.rooted)
+    here (Some shape) lawful = subst (λ y. IsNext (keys_of shape) key (Some y)) (sym same) (next_here key shape (sym (near_key shape (tree_in shape lawful) leads) ∙ same))
+
+-- ---- the second walk
+
+no_turn : (path : List Frame) → turn_of path ≡ None → turn_key path ≡ None
+no_turn [] none = refl
+no_turn (OnZeros at bit ones ∷ path) none = absurd (none_is_not none)
+no_turn (OnOnes at bit zeros ∷ path) none = no_turn path none
+
+held_inside : (tree : Tree) (words : List ℕ) (path : List Frame) (shape : Shape) → IsHeld tree words (plug path shape) → IsHeld tree words shape
+held_inside tree words [] shape held = held
+held_inside tree words (OnZeros at bit ones ∷ path) shape held = let inner = held_inside tree words path (Fork at bit shape ones) held in record { records = inner.records.1; words = inner.words.3 }
+held_inside tree words (OnOnes at bit zeros ∷ path) shape held = let inner = held_inside tree words path (Fork at bit zeros shape) held in record { records = inner.records.2; words = inner.words.4 }
+
+-- what stands behind the last turn to the zeros
+record Turned (tree : Tree) (words : List ℕ) (word : ℕ) (path : List Frame) : Type 0 where
+  ones : Shape
+  is : turn_key path ≡ Some (least_of ones)
+  link : slice_index words word ≡ link_of ones
+  held : IsHeld tree words ones
+  radix : IsRadix 64 ones
+
+turned_at : (tree : Tree) (words : List ℕ) (word : ℕ) (path : List Frame) (shape : Shape) → turn_of path ≡ Some word → IsHeld tree words (plug path shape) → IsRadix 64 (plug path shape) → Turned tree words word path
+turned_at tree words word [] shape turns held radix = absurd (none_is_not (sym turns))
+turned_at tree words word (OnZeros at bit ones ∷ path) shape turns held radix =
+    let inner = held_inside tree words path (Fork at bit shape ones) held in
+    let bits = radix_inside 64 path (Fork at bit shape ones) radix in
+    record {
+      ones = ones;
+      is = refl;
+      link = ap (λ x. slice_index words x) (sym (ap (λ o. unwrap_or o 0) turns)) ∙ inner.words.2;
+      held = record { records = inner.records.2; words = inner.words.4 };
+      radix = radix_more bit 64 ones (omega (arith, bits.0)) bits.3;
+    }
+turned_at tree words word (OnOnes at bit zeros ∷ path) shape turns held radix =
+    let rest = turned_at tree words word path (Fork at bit zeros shape) turns held radix in
+    record { ones = rest.ones; is = rest.is; link = rest.link; held = rest.held; radix = rest.radix }
+
+module _ {tree : Tree} {words : List ℕ} {key : ℕ} {near : NearestLeaf} (d : ℕ) (leads : LeadsTo tree key words near)
+    (above : key / 2 ^ (d + 1) ≡ near.key / 2 ^ (d + 1)) (here : key / 2 ^ d ≢ near.key / 2 ^ d) (again : TreePosition)
+    (walk : WalksTo tree key (d + 1) words again) where
+  -- the leaf to which the key leads is in what the second walk reached
+  same_leaf : (shape : Shape) → IsIn tree words shape → (r : Reaches tree key (d + 1) words shape again) → near.key ≡ reached_key key r.part
+  same_leaf shape there r = near_key shape there leads ∙ ap (λ s. reached_key key s) r.is ∙ reach_along key (d + 1) r.path r.part r.steps
+
+  less_in : {free_leaves free_inner : List ℕ} (shape : Option Shape) → IsTree tree words shape free_leaves free_inner → key < near.key → (r : Option ℕ) → FindsLeast tree again.link words r → IsNext (keys_in shape) key r
+  less_in None lawful less r finds = absurd (leads.some lawful.rooted)
+  less_in (Some shape) lawful less r finds =
+      let there = tree_in shape lawful in
+      let reached = walk shape there in
+      let same = same_leaf shape there reached in
+      let radix = subst (IsRadix 64) reached.is there.radix in
+      subst (λ o. IsNext (keys_of shape) key o) (sym (finds reached.part reached.held (radix_inside 64 reached.path reached.part radix) (ap (λ (p : TreePosition). p.link) reached.at)))
+      (subst (λ s. IsNext (keys_of s) key (Some (least_of reached.part))) (sym reached.is)
+      (next_below key d 64 reached.path reached.part radix reached.steps reached.ends (above ∙ ap (λ y. y / 2 ^ (d + 1)) same) (λ e. here (e ∙ ap (λ y. y / 2 ^ d) (sym same))) (subst (λ y. key < y) same less)))
+
+  -- the key is less than the one that it leads to
+  pub next_less : key < near.key → (r : Option ℕ) → FindsLeast tree again.link words r → FindsNext tree key words r
+  next_less less r finds = λ shape free_leaves free_inner lawful. less_in shape lawful less r finds
+
+  more_turns : (shape : Shape) → IsIn tree words shape → (key < near.key → ⊥) → (reached : Reaches tree key (d + 1) words shape again) → IsNext (keys_of shape) key (turn_key reached.path)
+  more_turns shape there more reached =
+      let same = same_leaf shape there reached in
+      let less : near.key < key = elim (cases_order key near.key) [ inl e ↦ absurd (here (ap (λ y. y / 2 ^ d) e)) | inr o ↦ elim o [ inl lt ↦ absurd (more lt) | inr gt ↦ gt ] ] in
+      subst (λ s. IsNext (keys_of s) key (turn_key reached.path)) (sym reached.is)
+      (next_above key d 64 reached.path reached.part (subst (IsRadix 64) reached.is there.radix) reached.steps reached.ends (above ∙ ap (λ y. y / 2 ^ (d + 1)) same) (λ e. here (e ∙ ap (λ y. y / 2 ^ d) (sym same))) (subst (λ y. y < key) same less))
+
+  no_turn_in : {free_leaves free_inner : List ℕ} (shape : Option Shape) → IsTree tree words shape free_leaves free_inner → (key < near.key → ⊥) → again.turn ≡ None → IsNext (keys_in shape) key None
+  no_turn_in None lawful more none = absurd (leads.some lawful.rooted)
+  no_turn_in (Some shape) lawful more none =
+      let there = tree_in shape lawful in
+      let reached = walk shape there in
+      subst (λ o. IsNext (keys_of shape) key o) (no_turn reached.path (sym (ap (λ (p : TreePosition). p.turn) reached.at) ∙ none)) (more_turns shape there more reached)
+
+  -- it is greater, and the walk made no turn to the zeros
+  pub next_no_turn : (key < near.key → ⊥) → again.turn ≡ None → FindsNext tree key words None
+  next_no_turn more none = λ shape free_leaves free_inner lawful. no_turn_in shape lawful more none
+
+  turn_in : {free_leaves free_inner : List ℕ} (shape : Option Shape) → IsTree tree words shape free_leaves free_inner → (key < near.key → ⊥) → (word : ℕ) → again.turn ≡ Some word → (link : ℕ) → link ≡ slice_index words word → (r : Option ℕ) → FindsLeast tree link words r → IsNext (keys_in shape) key r
+  turn_in None lawful more word turns link read r finds = absurd (leads.some lawful.rooted)
+  turn_in (Some shape) lawful more word turns link read r finds =
+      let there = tree_in shape lawful in
+      let reached = walk shape there in
+      let whole : IsHeld tree words (plug reached.path reached.part) = subst (IsHeld tree words) reached.is there.held in
+      let radix = subst (IsRadix 64) reached.is there.radix in
+      let turned = turned_at tree words word reached.path reached.part (sym (ap (λ (p : TreePosition). p.turn) reached.at) ∙ turns) whole radix in
+      subst (λ o. IsNext (keys_of shape) key o) (turned.is ∙ sym (finds turned.ones turned.held turned.radix (read ∙ turned.link))) (more_turns shape there more reached)
+
+  -- or it made one
+  pub next_turn : (key < near.key → ⊥) → (word : ℕ) → again.turn ≡ Some word → (link : ℕ) → link ≡ slice_index words word → (r : Option ℕ) → FindsLeast tree link words r → FindsNext tree key words r
+  next_turn more word turns link read r finds = λ shape free_leaves free_inner lawful. turn_in shape lawful more word turns link read r finds

@@ -1,0 +1,15 @@
+pub mod Apart
+pub mod Dropped
+pub mod EmptyTree
+pub mod Fits
+pub mod Found
+pub mod Frames
+pub mod Frees
+pub mod Inserted
+pub mod Nexts
+pub mod Numbers
+pub mod Paths
+pub mod Removed
+pub mod Shapes
+pub mod Stored
+pub mod Walks

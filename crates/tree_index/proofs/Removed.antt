@@ -1,0 +1,153 @@
+-- What the parts of `remove` did, put together.
+use Rattle.std.proofs.Common.{◌≡◌, ◌≢◌, ℕ, ◌+◌, ◌-◌, ◌<◌, inl, inr, List, [], ◌∷◌, ◌++◌, length, Contains, true, false, Option, Some, None, slice_index, slice_set, refl, sym, ap, ◌∙◌, subst, arith, eqb}
+use Rattle.std.proofs.lemmas.List.Elements.{Contains-append_cases, Contains-append_left, Contains-append_right}
+use Rattle.std.proofs.lemmas.List.Sorted.{Contains-permutation, IsPermutation-sym}
+use Rattle.std.proofs.lemmas.Map.Keys.{IsDistinct-tail}
+use Rattle.std.specs.List.{IsDistinct}
+use Rattle.record_heap.specs.declared.pool.Pool.{Pool}
+use Rattle.record_heap.specs.Pool.{Gives, IsPool, IsRecord}
+use Rattle.record_heap.proofs.Arrays.{changes_more, changes_none}
+use Rattle.record_heap.proofs.Frames.{IsOutsidePool, pool_stays, same_pool}
+use Rattle.record_heap.proofs.Records.{none_twice}
+use Rattle.tree_index.specs.declared.tree.NearestLeaf.{NearestLeaf}
+use Rattle.tree_index.specs.declared.tree.TreePosition.{TreePosition}
+use Rattle.tree_index.specs.declared.tree.Tree.{Tree}
+use Rattle.tree_index.specs.Linking.{Unlinks}
+use Rattle.tree_index.specs.Shape.{Shape, Leaf, Fork, forks_of, keys_in, leaves_of, link_of}
+use Rattle.tree_index.specs.Tree.{Drops, FitsTree, IsTree, RemovesAll}
+use Rattle.tree_index.specs.Path.{Frame, OnZeros, OnOnes, GoesBy, over_of, plug, slot_of}
+use Rattle.tree_index.specs.Walk.{EndsBelow, IsIn, LeadsTo}
+use Rattle.tree_index.proofs.Apart.{IsOwn, own_more, own_outside_inner, own_outside_leaves, slot_own}
+use Rattle.tree_index.proofs.Dropped.{drops_last, drops_ones, drops_zeros}
+use Rattle.tree_index.proofs.Found.{near_key, no_shape, taken_record, tree_in}
+use Rattle.tree_index.proofs.Paths.{first_differs, forks_along, leaves_along, opened, plug_forks, plug_leaves}
+use Rattle.tree_index.proofs.Shapes.{first_among, only_key, reached_key, reach_along, reach_there}
+
+differ_across : (x y : ℕ) (xs ys : List ℕ) → IsDistinct eqb (xs ++ ys) → Contains xs x → Contains ys y → x ≢ y
+differ_across x y [] ys distinct cx cy = absurd (omega (arith, cx.1))
+differ_across x y (z ∷ zs) ys distinct cx cy =
+    elim (Contains-append_cases (z ∷ []) zs x cx) [
+      | inl first ↦ λ same. first_differs z (zs ++ ys) distinct y (Contains-append_right zs ys y cy) (sym same ∙ only_key x z first)
+      | inr other ↦ differ_across x y zs ys (IsDistinct-tail eqb z (zs ++ ys) distinct) other cy
+    ]
+
+-- a taken record is not free
+not_free : {pool : Pool} {array : List ℕ} (free taken : List ℕ) → 0 < pool.size → IsPool pool array free taken → (x : ℕ) → Contains taken x → ¬ Contains free x
+not_free {pool} free taken wide lawful x there kept = differ_across x x free taken (none_twice pool (free ++ taken) lawful.once wide) kept there refl
+
+module _ {tree : Tree} {n : ℕ} (fits : FitsTree tree n) (old : List ℕ) (free_leaves free_inner : List ℕ) (path : List Frame) (rest : Shape) (lawful : IsTree tree old (Some (plug path rest)) free_leaves free_inner) where
+  old_leafs : (x : ℕ) → Contains (leaves_of (plug path rest)) x → IsRecord tree.leaves x
+  old_leafs = taken_record lawful.leaves
+
+  old_forks : (x : ℕ) → Contains (forks_of (plug path rest)) x → IsRecord tree.inner x
+  old_forks = taken_record lawful.inner
+
+  among_leaves : (x : ℕ) → Contains (leaves_of rest ++ leaves_along path) x → Contains (leaves_of (plug path rest)) x
+  among_leaves x c = Contains-permutation (leaves_of rest ++ leaves_along path) (leaves_of (plug path rest)) x (IsPermutation-sym _ _ (plug_leaves path rest)) c
+
+  among_forks : (x : ℕ) → Contains (forks_of rest ++ forks_along path) x → Contains (forks_of (plug path rest)) x
+  among_forks x c = Contains-permutation (forks_of rest ++ forks_along path) (forks_of (plug path rest)) x (IsPermutation-sym _ _ (plug_forks path rest)) c
+
+  -- a word that links something of the path
+  of_path : (i : ℕ) → IsOwn tree.root (leaves_along path) (forks_along path) i → IsOutsidePool tree.leaves i × IsOutsidePool tree.inner i
+  of_path i own =
+      let whole = own_more tree.root i (leaves_along path) (forks_along path) (leaves_of (plug path rest)) (forks_of (plug path rest)) (λ x c. among_leaves x (Contains-append_right (leaves_of rest) (leaves_along path) x c)) (λ x c. among_forks x (Contains-append_right (forks_of rest) (forks_along path) x c)) own in
+      (own_outside_leaves fits (leaves_of (plug path rest)) (forks_of (plug path rest)) i old_leafs old_forks whole, own_outside_inner fits (leaves_of (plug path rest)) (forks_of (plug path rest)) i old_leafs old_forks whole)
+
+  fork_among : (x : ℕ) → Contains (forks_along path) x → Contains (forks_of (plug path rest)) x
+  fork_among x c = among_forks x (Contains-append_right (forks_of rest) (forks_along path) x c)
+
+  leaf_among : (x : ℕ) → Contains (leaves_of rest) x → Contains (leaves_of (plug path rest)) x
+  leaf_among x c = among_leaves x (Contains-append_left (leaves_of rest) (leaves_along path) x c)
+
+  -- one word of the path is written
+  pools_stay : (i v : ℕ) → IsOwn tree.root (leaves_along path) (forks_along path) i → IsPool tree.leaves (slice_set old i v) free_leaves (leaves_of (plug path rest)) × IsPool tree.inner (slice_set old i v) free_inner (forks_of (plug path rest))
+  pools_stay i v own =
+      let out = of_path i own in
+      (pool_stays (same_pool {words = i ∷ []} (out.0, tt) (changes_more i v changes_none)) lawful.leaves, pool_stays (same_pool {words = i ∷ []} (out.1, tt) (changes_more i v changes_none)) lawful.inner)
+
+-- giving an inner record back leaves the leaves as they were
+leaves_given : {tree : Tree} {n : ℕ} → FitsTree tree n → (over : ℕ) (free taken free_leaves leaves linked middle : List ℕ) → IsRecord tree.inner over → Gives tree.inner over free taken linked middle → IsPool tree.leaves linked free_leaves leaves → IsPool tree.leaves middle free_leaves leaves
+leaves_given {tree} fits over free taken free_leaves leaves linked middle over_is gives lawful =
+    let over_word : IsOutsidePool tree.leaves (over + 1) = record {
+      first = omega (arith, (fits.records over over_is).header, fits.inner_size);
+      live = omega (arith, (fits.records over over_is).header, fits.inner_size);
+      links = λ x r. omega (arith, (fits.records over over_is).records x r, fits.leaf_size, fits.inner_size);
+    } in
+    let header : (j : ℕ) → j < 2 → IsOutsidePool tree.leaves (tree.inner.base + j) = λ j small. record {
+      first = omega (arith, fits.headers.header, small);
+      live = omega (arith, fits.headers.header, small);
+      links = λ x r. omega (arith, fits.headers.records x r, fits.leaf_size, small);
+    } in
+    pool_stays (same_pool {words = (over + 1) ∷ tree.inner.base ∷ (tree.inner.base + 1) ∷ []} (over_word, (subst (IsOutsidePool tree.leaves) (let sum : tree.inner.base + 0 ≡ tree.inner.base = omega arith in sum) (header 0 (omega arith)), (header 1 (omega arith), tt))) gives.changes) lawful
+
+-- what `give` of the leaf does
+abbrev pub GivesLeaf : Tree → ℕ → List ℕ → List ℕ → Type 0
+GivesLeaf tree at middle new = (free taken : List ℕ) → IsPool tree.leaves middle free taken → ¬ Contains free at → Gives tree.leaves at free taken middle new
+
+dropped_leaf : {tree : Tree} {n : ℕ} → FitsTree tree n → (old middle new free_leaves free_inner : List ℕ) (key at : ℕ) → length old ≡ n → (path : List Frame) → IsTree tree old (Some (plug path (Leaf at key))) free_leaves free_inner → GoesBy key 0 path → Unlinks tree (over_of tree.root path) old middle tt → GivesLeaf tree at middle new → Drops tree key (Some (plug path (Leaf at key))) free_leaves free_inner old new
+dropped_leaf {tree} {n} fits old middle new free_leaves free_inner key at size [] lawful goes cuts gives =
+    let pools = pools_stay fits old free_leaves free_inner [] (Leaf at key) lawful tree.root 0 (inl refl) in
+    drops_last fits old middle new free_leaves free_inner key at size lawful cuts
+    (gives free_leaves (at ∷ []) (subst (λ x. IsPool tree.leaves x free_leaves (at ∷ [])) (sym cuts) pools.0) (not_free free_leaves (at ∷ []) (omega (arith, fits.leaf_size)) lawful.leaves at (first_among at [])))
+dropped_leaf {tree} {n} fits old middle new free_leaves free_inner key at size (OnZeros over bit beside ∷ path) lawful goes cuts gives =
+    let whole = plug (OnZeros over bit beside ∷ path) (Leaf at key) in
+    let open_up = opened old tree.root (OnZeros over bit beside ∷ path) (Leaf at key) lawful.rooted.0 lawful.rooted.1 in
+    let slot = slot_of tree.root path in
+    let own = own_more tree.root slot (leaves_along path) (forks_along path) (leaves_of beside ++ leaves_along path) (over ∷ (forks_of beside ++ forks_along path)) (λ x c. Contains-append_right (leaves_of beside) (leaves_along path) x c) (λ x c. Contains-append_right (over ∷ forks_of beside) (forks_along path) x c) (slot_own tree.root path) in
+    let pools = pools_stay fits old free_leaves free_inner (OnZeros over bit beside ∷ path) (Leaf at key) lawful slot (link_of beside) own in
+    let over_in = fork_among fits old free_leaves free_inner (OnZeros over bit beside ∷ path) (Leaf at key) lawful over (first_among over (forks_of beside ++ forks_along path)) in
+    let at_in = leaf_among fits old free_leaves free_inner (OnZeros over bit beside ∷ path) (Leaf at key) lawful at (first_among at []) in
+    let linked : slice_set old slot (slice_index old (over + 3 - 0)) ≡ slice_set old slot (link_of beside) = ap (λ v. slice_set old slot v) (ap (λ x. slice_index old x) (let sum : over + 3 - 0 ≡ over + 3 = omega arith in sum) ∙ open_up.0.1) in
+    let inner_gives : Gives tree.inner over free_inner (forks_of whole) (slice_set old slot (link_of beside)) middle =
+    subst (λ x. Gives tree.inner over free_inner (forks_of whole) x middle) linked
+    (cuts free_inner (forks_of whole) (subst (λ x. IsPool tree.inner x free_inner (forks_of whole)) (sym linked) pools.1) (not_free free_inner (forks_of whole) (omega (arith, fits.inner_size)) lawful.inner over over_in)) in
+    drops_zeros fits old middle new path free_leaves free_inner key at over bit beside size lawful goes inner_gives
+    (gives free_leaves (leaves_of whole) (leaves_given fits over free_inner (forks_of whole) free_leaves (leaves_of whole) (slice_set old slot (link_of beside)) middle (taken_record lawful.inner over over_in) inner_gives pools.0) (not_free free_leaves (leaves_of whole) (omega (arith, fits.leaf_size)) lawful.leaves at at_in))
+dropped_leaf {tree} {n} fits old middle new free_leaves free_inner key at size (OnOnes over bit beside ∷ path) lawful goes cuts gives =
+    let whole = plug (OnOnes over bit beside ∷ path) (Leaf at key) in
+    let open_up = opened old tree.root (OnOnes over bit beside ∷ path) (Leaf at key) lawful.rooted.0 lawful.rooted.1 in
+    let slot = slot_of tree.root path in
+    let own = own_more tree.root slot (leaves_along path) (forks_along path) (leaves_of beside ++ leaves_along path) (over ∷ (forks_of beside ++ forks_along path)) (λ x c. Contains-append_right (leaves_of beside) (leaves_along path) x c) (λ x c. Contains-append_right (over ∷ forks_of beside) (forks_along path) x c) (slot_own tree.root path) in
+    let pools = pools_stay fits old free_leaves free_inner (OnOnes over bit beside ∷ path) (Leaf at key) lawful slot (link_of beside) own in
+    let over_in = fork_among fits old free_leaves free_inner (OnOnes over bit beside ∷ path) (Leaf at key) lawful over (first_among over (forks_of beside ++ forks_along path)) in
+    let at_in = leaf_among fits old free_leaves free_inner (OnOnes over bit beside ∷ path) (Leaf at key) lawful at (first_among at []) in
+    let linked : slice_set old slot (slice_index old (over + 3 - 1)) ≡ slice_set old slot (link_of beside) = ap (λ v. slice_set old slot v) (ap (λ x. slice_index old x) (let sum : over + 3 - 1 ≡ over + 2 = omega arith in sum) ∙ open_up.0.1) in
+    let inner_gives : Gives tree.inner over free_inner (forks_of whole) (slice_set old slot (link_of beside)) middle =
+    subst (λ x. Gives tree.inner over free_inner (forks_of whole) x middle) linked
+    (cuts free_inner (forks_of whole) (subst (λ x. IsPool tree.inner x free_inner (forks_of whole)) (sym linked) pools.1) (not_free free_inner (forks_of whole) (omega (arith, fits.inner_size)) lawful.inner over over_in)) in
+    drops_ones fits old middle new path free_leaves free_inner key at over bit beside size lawful goes inner_gives
+    (gives free_leaves (leaves_of whole) (leaves_given fits over free_inner (forks_of whole) free_leaves (leaves_of whole) (slice_set old slot (link_of beside)) middle (taken_record lawful.inner over over_in) inner_gives pools.0) (not_free free_leaves (leaves_of whole) (omega (arith, fits.leaf_size)) lawful.leaves at at_in))
+
+dropped : {tree : Tree} {n : ℕ} → FitsTree tree n → (old middle new free_leaves free_inner : List ℕ) (key : ℕ) → length old ≡ n → (path : List Frame) (rest : Shape) → EndsBelow 0 rest → IsTree tree old (Some (plug path rest)) free_leaves free_inner → GoesBy key 0 path → reached_key key rest ≡ key → Unlinks tree (over_of tree.root path) old middle tt → GivesLeaf tree (link_of rest) middle new → Drops tree key (Some (plug path rest)) free_leaves free_inner old new
+dropped fits old middle new free_leaves free_inner key size path (Fork at bit zeros ones) ends lawful goes same cuts gives = absurd (omega (arith, ends))
+dropped {tree} fits old middle new free_leaves free_inner key size path (Leaf at k) ends lawful goes same cuts gives =
+    subst (λ x. Drops tree key (Some (plug path (Leaf at x))) free_leaves free_inner old new) (sym same)
+    (dropped_leaf fits old middle new free_leaves free_inner key at size path (subst (λ x. IsTree tree old (Some (plug path (Leaf at x))) free_leaves free_inner) same lawful) goes cuts gives)
+
+-- what `unlink` and `give` did
+there_in : {tree : Tree} {n : ℕ} {key : ℕ} {near : NearestLeaf} {old middle new : List ℕ} → FitsTree tree n → length old ≡ n → LeadsTo tree key old near → near.key ≡ key → Unlinks tree near.position.over old middle tt → GivesLeaf tree near.position.link middle new → (shape : Option Shape) (free_leaves free_inner : List ℕ) → IsTree tree old shape free_leaves free_inner → Drops tree key shape free_leaves free_inner old new
+there_in fits size leads same unlinks gives None free_leaves free_inner lawful = absurd (leads.some lawful.rooted)
+there_in {tree} {n} {key} {near} {old} {middle} {new} fits size leads same unlinks gives (Some shape) free_leaves free_inner lawful =
+    let there = tree_in shape lawful in
+    let reached = leads.walk shape there in
+    let itself : reached_key key reached.part ≡ key = sym (near_key shape there leads ∙ ap (λ s. reached_key key s) reached.is ∙ reach_along key 0 reached.path reached.part reached.steps) ∙ same in
+    subst (λ s. Drops tree key (Some s) free_leaves free_inner old new) (sym reached.is)
+    (dropped fits old middle new free_leaves free_inner key size reached.path reached.part reached.ends (subst (λ s. IsTree tree old (Some s) free_leaves free_inner) reached.is lawful) reached.steps itself
+    (subst (λ o. Unlinks tree o old middle tt) (ap (λ (p : TreePosition). p.over) reached.at) unlinks) (subst (λ x. GivesLeaf tree x middle new) (ap (λ (p : TreePosition). p.link) reached.at) gives))
+
+-- the key was there
+pub removes_there : {tree : Tree} {n : ℕ} {key : ℕ} {near : NearestLeaf} {old middle new : List ℕ} → FitsTree tree n → length old ≡ n → LeadsTo tree key old near → near.key ≡ key → Unlinks tree near.position.over old middle tt → GivesLeaf tree near.position.link middle new → RemovesAll tree key old new true
+removes_there fits size leads same unlinks gives = λ shape free_leaves free_inner lawful. there_in fits size leads same unlinks gives shape free_leaves free_inner lawful
+
+-- where a walk found no tree there is no key
+pub removes_none : {tree : Tree} {words : List ℕ} {key : ℕ} → ((whole : Shape) → ¬ IsIn tree words whole) → RemovesAll tree key words words false
+removes_none {key = key} none = λ shape free_leaves free_inner lawful. (subst (λ s. ¬ Contains (keys_in s) key) (sym (no_shape shape lawful none)) (λ c. omega (arith, c.1)), refl)
+
+other_in : {tree : Tree} {words free_leaves free_inner : List ℕ} {key : ℕ} {near : NearestLeaf} → LeadsTo tree key words near → (near.key ≡ key → ⊥) → (shape : Option Shape) → IsTree tree words shape free_leaves free_inner → ¬ Contains (keys_in shape) key
+other_in leads differ None lawful c = omega (arith, c.1)
+other_in {key = key} leads differ (Some shape) lawful c = differ (near_key shape (tree_in shape lawful) leads ∙ reach_there key 64 shape lawful.rooted.2 c)
+
+-- the bits of the key lead to another one
+pub removes_other : {tree : Tree} {words : List ℕ} {key : ℕ} {near : NearestLeaf} → LeadsTo tree key words near → (near.key ≡ key → ⊥) → RemovesAll tree key words words false
+removes_other leads differ = λ shape free_leaves free_inner lawful. (other_in leads differ shape lawful, refl)
