@@ -12,9 +12,8 @@
 # or whether a thread set the rest of its file aside after many refusals. So further short runs are made under valgrind's
 # callgrind, which counts calls, by the names of functions that stand in the program: of the one that reads a page to bring it
 # in (`read_page`, but for the pages that are read when the threads are through), and of the one that runs behind the threads
-# what they set aside (`plain`; it is called once a run, so runs are counted there and not files). A page that leaves its
-# frame can't be counted so in most builds, since the function that takes its frame (`evict`) stands inside its caller there;
-# but all frames are taken from the start, so each page that is brought in has put another one out. Where a build has no
+# what they set aside (`plain`; it is called once a run, so runs are counted there and not files), and of the one that takes a
+# frame from a page (`evict`; another thread may have pinned it meanwhile, so it is counted how often it is tried). Where a build has no
 # function of a name, it is said that this can't be seen. Under callgrind one thread runs at a time, so these counts say that
 # such things happen and are audited well, not how often they do. A request is set aside only after 64 numbers drawn in vain or
 # a million refusals, which comes seldom by itself: so in a last run one sync takes a minute (faults/failing.c), and the other
