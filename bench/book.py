@@ -16,7 +16,7 @@ import sys
 import textwrap
 
 sys.dont_write_bytecode = True
-from contracts import FIELD, TOP, WORD, Book, Definition, cited_in, clause_text, read_lines
+from contracts import FIELD, TOP, WORD, Book, Definition, bounds_of, cited_in, clause_text, keepers_among, may_keep, parameters_of, read_lines
 
 OUT = f"{TOP}/out/book"
 
@@ -79,7 +79,7 @@ search();
 
 
 def page(name, title, body):
-    top = '<nav><a href="index.html">Contract book</a><a href="headline.html">The headline</a><a href="promises.html">Promises</a><a href="words.html">All words</a></nav>'
+    top = '<nav><a href="index.html">Contract book</a><a href="headline.html">The headline</a><a href="promises.html">Promises</a><a href="safe.html">Safe and total</a><a href="words.html">All words</a></nav>'
     with open(f"{OUT}/{name}", "w", encoding="utf-8") as it:
         it.write(
             f'<!doctype html><html lang="en"><head><meta charset="utf-8"><meta name="viewport" content="width=device-width, initial-scale=1">'
@@ -261,6 +261,27 @@ def write_promises(book):
     page("promises.html", "Promises", f"{body}<table><tr><th>Promise</th><th>Public call</th><th>Clause</th></tr>{rows}</table>")
 
 
+def write_safety(book):
+    """What each public call may take: memory, through which of its arguments, and handles."""
+    fields, keeping = keepers_among(book.sources)
+    rows, none = "", 0
+    for crate, calls in book.calls.items():
+        for call in calls:
+            through = [name for name, kinds in parameters_of(call) if any(may_keep(it, fields, keeping) for it in kinds)]
+            handles = sorted(bounds_of(call) & {"Threads", "Wait", "Net", "Processes"})
+            none += not through
+            returns = "unless it waits" if "Wait" in handles else "once its threads have" if handles else "always"
+            memory = ", ".join(f"<code>{it}</code>" for it in through) or "none"
+            rows += f'<tr><td><a href="{call.link()}">{html.escape(call.shown())}</a></td><td>{crate}</td><td>{memory}</td><td>{", ".join(handles) or "none"}</td><td>{returns}</td></tr>'
+    body = (
+        "<p>Every function is proved safe: no index out of range, no sum that wraps, no cast that loses bits, no zero divisor, no use after free. "
+        "And it returns. No call has the handle to wait, so none waits but for the threads that it started.</p>"
+        f"<p>A call takes memory only through an argument that is, or keeps, an allocator; these are named, and {none} calls have none. "
+        "What an argument of a type parameter does, as a medium or a sink, is its own. Want of memory is an answer, never an end.</p>"
+    )
+    page("safe.html", "What each call takes", f"{body}<table><tr><th>Public call</th><th>Crate</th><th>Memory through</th><th>Handles</th><th>Returns</th></tr>{rows}</table>")
+
+
 def clause_link(call, name):
     """The place of a clause; where it has no name, that of its call."""
     clause = name.split(".")[0]
@@ -301,6 +322,7 @@ def write(book):
         write_crate(book, crate)
     write_headline(book)
     write_promises(book)
+    write_safety(book)
     front = (
         "<p>Each public call, with what it asks and what it gives; each definition that a clause cites, with its sentence and its text, down to the bottom. "
         "All of it is made from the sources.</p>"

@@ -278,6 +278,74 @@ class Source:
         return call
 
 
+# Types of the libraries that keep no allocator, and words of the language in types.
+PLAIN = set("Option Some None Result Ok Err Self Ordering AtomicU64 AtomicBool Range Duration PhantomData Fn FnMut Sized Copy Clone".split())
+
+
+def keepers_among(sources):
+    """The types that hold an allocator, or something that may keep one, in any field, also of the types of their fields: each
+    type of a library counts that isn't known to keep none. A type is its crate and its name."""
+    fields = {}
+    for source in sources:
+        text, names = "\n".join(it for it in source.lines if not it.strip().startswith(("//", "ghost ", "#"))), source.code_names()
+        named = re.findall(r"^(?:pub(?:\(crate\))? )?(?:struct|enum|type) (\w+)([^{;]*?(?:\{.*?^\}|\([^;]*\);|\{\}|=[^;]*;|;))", text, re.M | re.S)
+        for name, body in named:
+            cases = re.findall(r"^    (\w+)(?=[ ({,])", body, re.M)
+            fields[source.crate, name] = {kind_of(it, names) for it in kinds_in(body) if it not in cases}
+        for name in re.findall(r"^(?:pub(?:\(crate\))? )?trait (\w+)", text, re.M):
+            fields.setdefault((source.crate, name), set())
+    keeping, before = set(), -1
+    while before < len(keeping):
+        before = len(keeping)
+        keeping |= {one for one, kinds in fields.items() if any(may_keep(it, fields, keeping) for it in kinds)}
+    return fields, keeping
+
+
+def kind_of(name, names):
+    """A type by its crate and its name, by what a file's names stand for."""
+    return (names[name][0], names[name][2]) if name in names else ("", name)
+
+
+def may_keep(kind, fields, keeping):
+    """Whether a type holds an allocator, or may; one that a crate hands on counts by its name."""
+    if kind in fields:
+        return kind in keeping
+    same = [it for it in fields if it[1] == kind[1]]
+    return not same or any(it in keeping for it in same)
+
+
+def kinds_in(text):
+    """The types that a text names, but for type parameters and what is known to keep nothing."""
+    return {it for it in WORD.findall(text) if it[0].isupper() and len(it) > 1 and not it.isupper()} - PLAIN
+
+
+def parameters_of(call):
+    """The parameters of a call, each with the words of its type; `self` has its owner's."""
+    text = " ".join(it.strip() for it in call.signature).partition("fn ")[2]
+    text = text[len(call.name) :]
+    inside = text[len(text) - len(without_parameters(text)) :] if text.startswith("<") else text
+    depth, parts = 0, [""]
+    for k, c in enumerate(inside):
+        depth += (c in "(<[") - (c in ")]" or c == ">" and inside[k - 1] not in "-=")
+        if not depth:
+            break
+        parts[-1] += c
+        if c == "," and depth == 1:
+            parts.append("")
+    for part in parts:
+        name, colon, kind = part.strip("(, ").partition(":")
+        if name.split() and name.split()[-1] == "self" and not colon:
+            yield "self", {(call.crate, call.owner)}
+        elif colon:
+            yield name.split()[-1], {kind_of(it, call.imports) for it in kinds_in(kind)}
+
+
+def bounds_of(call):
+    """The words of a call's bounds."""
+    text = " ".join(it.strip() for it in call.signature).partition("fn ")[2][len(call.name) :]
+    return set(WORD.findall(text[: len(text) - len(without_parameters(text))])) if text.startswith("<") else set()
+
+
 def owner_of(block):
     """Whose calls an impl or a trait has, the trait that they are of, and whether each of them is one by it."""
     trait = re.match(r"pub trait (\w+)", block)

@@ -1,6 +1,6 @@
 //! A transaction begins.
 
-ghost use Rattle.std.specs.Prelude.{◌≡◌, IfOk, IfErr};
+ghost use Rattle.std.specs.Prelude.{◌≡◌, ◌<◌, IfOk, IfErr};
 ghost use Rattle.std.specs.Borrow.{sem, RestsIfErr};
 ghost use Rattle.stm_passes.specs.Passes.{IsRefused, IsResting};
 ghost use Rattle.stm_passes.specs.contracts.pass.Pass.{the_row};
@@ -22,6 +22,7 @@ pub fn begin_in<'a, S, X, K, P: TransactionRule<S, X, K>>(
     requires rests { IsResting stm.now.events p.old }
     ensures* refused { sem 𝓛 (RestsIfErr (the_row X.row) p.entry (λ t. t.pass.ghost_name) result
         (λ n. IfErr result (λ e. IsRefused stm.now.events e.seen p.old n))) }
+    ensures full { IfErr result (λ e. 0 < e.seen) }
     ensures same { IfOk result (λ t. t.pass.ghost_name ≡ p.entry.ghost_name) }
     ensures begun { IfOk result (HasBegun stm.now.events p.old) }
 {

@@ -7,7 +7,7 @@ use stm_passes::box_full::BoxFull;
 use stm_transactions::begin::begin_in;
 
 impl<M: Medium> Stm<M> {
-    ghost use Rattle.std.specs.Prelude.{◌≡◌, IfOk};
+    ghost use Rattle.std.specs.Prelude.{◌≡◌, ◌<◌, IfErr, IfOk};
     ghost use Rattle.stm_passes.specs.Passes.{IsResting};
     ghost use Rattle.stm_transactions.specs.Transactions.{HasBegun};
     ghost use Rattle.tiny_stm.specs.Tables.{table_of};
@@ -16,6 +16,7 @@ impl<M: Medium> Stm<M> {
     /// was full is told by `begin_in`.
     pub fn begin<'a>(&'a self, p: &'a mut Pass, alloc: Global) -> Result<Tx<'a, M>, BoxFull>
         requires { IsResting (table_of self.now) p.old }
+        ensures full { IfErr result (λ e. 0 < e.seen) }
         ensures same { IfOk result (λ t. t.pass.ghost_name ≡ p.entry.ghost_name) }
         ensures begun { IfOk result (HasBegun (table_of self.now) p.old) }
     {

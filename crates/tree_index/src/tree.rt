@@ -203,7 +203,8 @@ impl Tree {
     fn nearest<W: Words>(&self, w: &mut W, key: u64) -> Result<Option<NearestLeaf>, Stop>
         requires fits { FitsTree self.now (W.sight w.old).count }
         ensures uses { UsesWords W.sight W.turns_into 130 0 result w.old w.new }
-        ensures position { IfOk result (λ r. IfSome r (λ near. FitsPosition self.now (W.sight w.old).count near.position)) }
+        ensures position { IfOk result (λ r. IfSome r (λ near.
+            FitsPosition self.now (W.sight w.old).count near.position)) }
         ensures leaf { IfOk result (λ r. IfSome r (λ near. IsRecord self.now.leaves near.position.link)) }
         ensures nearest { AnswersSeen W.sight result w.old w.new (FindsNearest self.now key) }
     {
