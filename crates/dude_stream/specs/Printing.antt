@@ -27,7 +27,7 @@ pub record GaveMore (taken : List Done) (a b : Outlet) : Type 0 where
   pub received : received_by b.drain ≡ received_by a.drain ++ taken ++ more
   pub left : length taken + b.left ≡ a.left
 
--- a reply was received, or none
+-- a reply was received and its line stands behind the text; or there was none
 abbrev pub GaveNext : Bool → Outlet → Outlet → List ℕ → List ℕ → Type 0
 GaveNext true a b old new = (done : Done) × Gave (done ∷ []) a b × (new ≡ old ++ lane_line done)
 GaveNext false a b old new = Gave [] a b × (new ≡ old) × IsDrained b

@@ -77,19 +77,19 @@ Streams true false done last s t = (text : List ℕ) × IsStreamText done last t
 Streams false false done last s t = (text : List ℕ) × IsStreamText done last text × TookLess text s t
 Streams whole true done last s t = (text : List ℕ) × IsStreamText done last text × TookPart text s t
 
--- what was printed while all requests were done, and the rest behind it
+-- lines that were printed while the run went on, and the whole rest behind them: a whole text
 abbrev pub LawOfWholeStreams : Type 0
 LawOfWholeStreams = (files : List (List Request)) (done : List Done) (lines : List Taken) (last : ℕ) (s t u : SinkSight) → AllAreDone files done → AreFirst lines done
     → Took (lines_text lines) s t → Took (rest_text (count_in lines) done last) t u → Streams true false done last s u
 
--- the rest isn't printed whole
+-- such lines, and a rest that isn't printed whole: less of a text, or the sink failed in it
 abbrev pub LawOfStoppedRests : Type 0
 LawOfStoppedRests = (files : List (List Request)) (done : List Done) (lines : List Taken) (last : ℕ) (s t u : SinkSight) → AllAreDone files done → AreFirst lines done
     → Took (lines_text lines) s t
     → (TookLess (rest_text (count_in lines) done last) t u → Streams false false done last s u)
     × (TookPart (rest_text (count_in lines) done last) t u → (whole : Bool) → Streams whole true done last s u)
 
--- no rest is printed
+-- such lines, and nothing behind them: the same
 abbrev pub LawOfStoppedStreams : Type 0
 LawOfStoppedStreams = (files : List (List Request)) (done : List Done) (lines : List Taken) (last : ℕ) (s t : SinkSight) → AllAreDone files done → AreFirst lines done
     → (Took (lines_text lines) s t → Streams false false done last s t)
