@@ -1,5 +1,5 @@
 -- The first pass of a table may be shared among files.
-use Rattle.std.proofs.Common.{◌≡◌, ◌+◌, ◌*◌, ◌<◌, ◌≤◌, List, length, ap, arith}
+use Rattle.std.proofs.Common.{◌+◌, ◌*◌, ◌<◌, ◌≤◌, List, length, ap, arith}
 use Rattle.dude_base.specs.declared.limits.TheConstants.{MAX_NUMBER}
 use Rattle.tatp_model.specs.declared.request.Request.{Request}
 use Rattle.core_events.specs.Views.{View}

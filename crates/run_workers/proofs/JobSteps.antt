@@ -44,3 +44,11 @@ module _ {X K : Type 0} (t : TableSight K) (s : Sizes) (requests : List Request)
   -- and the place is kept
   pub place_turned : (first : Job X) → KeepsPlace first old → new ≡ record old { pass = new.pass } → HasTurned t old.pass new.pass → KeepsPlace first new
   place_turned first k is h = subst (λ (j : Job X). KeepsPlace first j) (sym is) (record { file = k.file; part = h.keeps.part ∙ k.part })
+
+  -- replies were sent
+  pub at_sent : new ≡ record old { outbox = new.outbox } → IsAt t s requests index new
+  at_sent is = subst (λ (j : Job X). IsAt t s requests index j) (sym is) (record { has_done = at.has_done; at = at.at; no_fault = at.no_fault; draws = at.draws; room = at.room })
+
+-- the place is kept by a request and by what is sent
+pub place_sent : {X : Type 0} (first job one two : Job X) → KeepsPlace first job → KeepsPlace job one → two ≡ record one { outbox = two.outbox } → KeepsPlace first two
+place_sent {X} first job one two a b is = subst (λ (j : Job X). KeepsPlace first j) (sym is) (record { file = b.file ∙ a.file; part = b.part ∙ a.part })

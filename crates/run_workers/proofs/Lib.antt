@@ -5,3 +5,4 @@ pub mod PassesJoined
 pub mod JobsRun
 pub mod JobsJoined
 pub mod FilesServed
+pub mod Sending

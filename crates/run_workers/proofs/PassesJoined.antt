@@ -1,13 +1,14 @@
 -- Passes are split off one, are joined, and come back.
-use Rattle.std.proofs.Common.{◌≡◌, ℕ, zero, suc, ◌+◌, ◌-◌, ◌*◌, ◌<◌, ◌≤◌, Bool, true, false, List, [], ◌∷◌, ◌++◌, length, get_or, take, map, Option, Some, refl, ap, ap₂, sym, ◌∙◌, subst, arith, ⊎_elim, length-append}
+use Rattle.std.proofs.Common.{◌≡◌, ℕ, zero, suc, ◌+◌, ◌-◌, ◌*◌, ◌<◌, ◌≤◌, Bool, true, false, List, [], ◌∷◌, ◌++◌, length, get_or, take, map, Option, Some, refl, ap, ap₂, sym, ◌∙◌, subst, arith, ⊎_elim, append_assoc, length-append}
 use Rattle.std.specs.Prelude.{Any, max, ◌||◌}
-use Rattle.std.specs.List.{range_with_len, sum_by}
+use Rattle.std.specs.List.{All, range_with_len, sum_by}
 use Rattle.std.specs.Vec.{vec_capacity}
 use Rattle.std.proofs.lemmas.Bool.{cases_Bool, true≢false}
 use Rattle.std.proofs.lemmas.List.{append-nil, get_or-map, map_push, take-map, take_more}
-use Rattle.std.proofs.lemmas.List.Elements.{All-nil, All-cons, All-push, All-weaker}
+use Rattle.std.proofs.lemmas.List.Elements.{All-nil, All-cons, All-head, All-push, All-weaker}
 use Rattle.std.proofs.lemmas.List.Sums.{sum_by-cons, sum_by-drop_more, sum_by-take-le, sum_by_push}
 use Rattle.tatp_model.specs.declared.request.Request.{Request}
+use Rattle.run_order.proofs.Pairs.{all_before, all_behind}
 use Rattle.core_events.specs.Keyed.{one_if}
 use Rattle.core_events.specs.Views.{Entry, View}
 use Rattle.core_events.specs.Partings.{both_of, thread_list}
@@ -108,6 +109,19 @@ module _ {X K : Type 0} (t : TableSight K) where
       back (zero, x, within, is, met) = or_left job.pass.numbers.met_fault q.numbers.met_fault (ap (λ (y : Job X). y.pass.numbers.met_fault) is ∙ met)
       back (suc n, x, within, is, met) = or_right job.pass.numbers.met_fault q.numbers.met_fault (h.met_fault.1 (n, x, (omega arith), is, met))
 
+  -- the last job was popped, and its pass took in the others
+  pub took_popped : (jobs left popped all : List (Job X)) (job : Job X) (p q : PassSight X) → jobs ≡ left ++ job ∷ [] → All (λ j. IsResting t j.pass) jobs → jobs ++ popped ≡ all → TookIn t popped p → IsJoined t job.pass p q
+      → All (λ j. IsResting t j.pass) left × ((more : List (Job X)) × (left ++ more ≡ all) × TookIn t more q)
+  took_popped jobs left popped all job p q parts rests whole h j =
+      let each = subst (λ (l : List (Job X)). All (λ x. IsResting t x.pass) l) parts rests in (
+        all_before (λ (x : Job X). IsResting t x.pass) left (job ∷ []) each,
+        (
+          job ∷ popped,
+          sym (append_assoc left (job ∷ []) popped) ∙ ap (λ (l : List (Job X)). l ++ popped) (sym parts) ∙ whole,
+          took_next job popped p q (All-head (λ (x : Job X). IsResting t x.pass) job [] (all_behind (λ (x : Job X). IsResting t x.pass) left (job ∷ []) each)) h j,
+        ),
+      )
+
   -- ---- taken back
   pub back_next : (job : Job X) (popped : List (Job X)) (p q r : PassSight X) → IsResting t p → t.setup.first ≤ p.numbers.durable → IsNewcomer t job.pass → HasTakenBack t popped p q → IsJoined t q job.pass r → HasTakenBack t (job ∷ popped) p r
   back_next job popped p q r rests from newcomer h j =
@@ -134,6 +148,19 @@ module _ {X K : Type 0} (t : TableSight K) where
           ∙ ap (λ (d : ℕ). mixed p.numbers.last d (p.numbers.met_fault || false)) durable ∙ ap (λ (b : Bool). mixed p.numbers.last p.numbers.durable b) met in
           let again : mixed p.numbers.last p.numbers.durable p.numbers.met_fault ≡ record p.numbers { left = r.numbers.left; splits = r.numbers.splits } = ap (λ (x : PassNumbers). let y : PassNumbers = record p.numbers { left = x.left; splits = x.splits } in y) (sym one) in
           one ∙ again
+
+  -- the last job was popped, and its pass came back
+  pub back_popped : (jobs left popped all : List (Job X)) (job : Job X) (p q r : PassSight X) → IsResting t p → t.setup.first ≤ p.numbers.durable → jobs ≡ left ++ job ∷ [] → All (λ j. IsNewcomer t j.pass) jobs → jobs ++ popped ≡ all → HasTakenBack t popped p q
+      → IsJoined t q job.pass r → All (λ j. IsNewcomer t j.pass) left × ((more : List (Job X)) × (left ++ more ≡ all) × HasTakenBack t more p r)
+  back_popped jobs left popped all job p q r rests from parts newcomers whole h j =
+      let each = subst (λ (l : List (Job X)). All (λ x. IsNewcomer t x.pass) l) parts newcomers in (
+        all_before (λ (x : Job X). IsNewcomer t x.pass) left (job ∷ []) each,
+        (
+          job ∷ popped,
+          sym (append_assoc left (job ∷ []) popped) ∙ ap (λ (l : List (Job X)). l ++ popped) (sym parts) ∙ whole,
+          back_next job popped p q r rests from (All-head (λ (x : Job X). IsNewcomer t x.pass) job [] (all_behind (λ (x : Job X). IsNewcomer t x.pass) left (job ∷ []) each)) h j,
+        ),
+      )
 
   -- ---- split off
   module _ (file : ℕ) (requests : List Request) (p q r : PassSight X) (jobs : List (Job X)) (job : Job X) (draws : 65 * length requests ≤ q.numbers.left) (part : IsPartOf t file requests q r job) where

@@ -1,6 +1,7 @@
 //! What one worker has to do, and what it did.
 
 use crate::work_end::WorkEnd;
+use dude_stream::Outbox;
 use stm_passes::pass::Pass;
 use tatp_model::done::Done;
 
@@ -14,6 +15,25 @@ pub struct Job<X> {
     pub done: Vec<Done>,
     /// How it ended. Before its work all requests are set aside.
     pub end: WorkEnd,
+    /// Its end of a lane, where it sends replies while it works.
+    pub outbox: Option<Outbox>,
     /// Nothing: so what two workers write lies on cache lines of their own.
     pub apart: [u64; 16],
+}
+
+impl<X> Job<X> {
+    ghost use Rattle.std.specs.Prelude.{◌≡◌};
+    ghost use Rattle.run_workers.specs.Sending.{IsSameLane, SendsFirst};
+
+    /// Sends as many of the requests done, in their order, as its lane takes.
+    pub fn send(&mut self)
+        requires sent { SendsFirst self.old }
+        ensures same { self.new ≡ record self.old { outbox = self.new.outbox } }
+        ensures lane { IsSameLane self.old.outbox self.new.outbox }
+        ensures sent { SendsFirst self.new }
+    {
+        if let Some(outbox) = &mut self.outbox {
+            outbox.send_from(&self.done);
+        }
+    }
 }

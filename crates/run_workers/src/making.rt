@@ -31,6 +31,7 @@ pub fn make_jobs<S, X, K, P: TransactionRule<S, X, K>>(
     ensures ok { IfOk result (λ jobs.
         AreFresh stm.now.events (map (λ f. f.items) files.now) jobs.each.items) }
     ensures room { IfOk result (HasRoom (map (λ f. f.items) files.now)) }
+    ensures none { IfOk result (λ jobs. All (λ job. job.outbox ≡ None) jobs.each.items) }
     ensures err { IfErr result (λ e. IsBack stm.now.events pass e.pass) }
 {
     let Some(mut jobs) = room_for_all(alloc, files) else {
@@ -49,6 +50,7 @@ pub fn make_jobs<S, X, K, P: TransactionRule<S, X, K>>(
         pass: first,
         done,
         end: WorkEnd::SetAside,
+        outbox: None,
         apart: [0; 16],
     };
     let Ok(()) = jobs.each.insert(0, job) else {
@@ -106,6 +108,7 @@ fn split_jobs<S, X, K, P: TransactionRule<S, X, K>>(
     ensures parted { HasParted stm.now.events first.old first.new jobs.new.items }
     ensures shared { OnSome result (AreShared stm.now.events (map (λ f. f.items) files.now)
         (length files.now) first.new jobs.new.items) }
+    ensures none { All (λ job. job.outbox ≡ None) jobs.new.items }
     ensures capacity { vec_capacity jobs.new ≡ vec_capacity jobs.old }
 {
     for file in 1..files.len() {
@@ -127,6 +130,7 @@ fn split_job<S, X, K, P: TransactionRule<S, X, K>>(
     requires draws { 65 * length requests.now ≤ first.old.numbers.left }
     ensures some { IfSome result
         (IsPartOf stm.now.events file requests.now first.old first.new) }
+    ensures outbox { IfSome result (λ job. job.outbox ≡ None) }
     ensures none { IfNone result (first.new ≡ first.old) }
 {
     let_transact(stm);
@@ -137,6 +141,7 @@ fn split_job<S, X, K, P: TransactionRule<S, X, K>>(
         pass,
         done,
         end: WorkEnd::SetAside,
+        outbox: None,
         apart: [0; 16],
     })
 }

@@ -12,6 +12,7 @@ use crate::running::run_jobs;
 use request_attempts::gate::Gate;
 use request_attempts::turns::Turns;
 use std::alloc::Global;
+use std::sync::atomic::AtomicU64;
 use std::thread::Threads;
 use stm_boxes::box_rule::BoxRule;
 use stm_passes::pass::Pass;
@@ -46,6 +47,17 @@ pub fn serve_files<
     ensures err { IfErr result (λ e. IsBack stm.now.events pass e.pass) }
 {
     let mut jobs = make_jobs(alloc, stm, files, pass)?;
-    run_jobs(rt, alloc, stm, turns, lay, files, gate, &mut jobs.each);
+    let ended = AtomicU64::new(0);
+    run_jobs(
+        rt,
+        alloc,
+        stm,
+        turns,
+        lay,
+        files,
+        gate,
+        &ended,
+        &mut jobs.each,
+    );
     Ok(join_jobs(stm, jobs))
 }

@@ -5,6 +5,7 @@ ghost use Rattle.stm_passes.specs.Passes.{IsResting};
 ghost use Rattle.request_attempts.specs.Turns.{HasFailed};
 ghost use Rattle.run_workers.specs.declared.work_end.WorkEnd.TheVariants.{Device as DeviceEnd};
 ghost use Rattle.run_workers.specs.Job.{HasWorked, IsFresh, KeepsPlace};
+ghost use Rattle.run_workers.specs.Sending.{DoesMore, IsSameLane, SendsFirst};
 ghost use Rattle.run_workers.specs.Steps.{EndsAt, HasTurned, IsAt};
 ghost use Rattle.run_workers.specs.Working.{MayWork};
 
@@ -15,6 +16,7 @@ use request_attempts::serve::serve_one;
 use request_attempts::turn_fault::TurnFault;
 use request_attempts::turns::Turns;
 use std::alloc::Global;
+use std::sync::atomic::{AtomicU64, Ordering};
 use stm_boxes::box_rule::BoxRule;
 use stm_passes::pass::Pass;
 use stm_steps::stm::Stm;
@@ -26,7 +28,8 @@ use tatp_model::request::Request;
 const REQUESTS_A_TURN: usize = 8;
 
 /// Serves the requests of a file in their order. Where one isn't served, that one and those behind it are left, and no
-/// further call is made. After every eighth request it takes a turn.
+/// further call is made. After every eighth request it takes a turn. Replies are sent as the lane takes them, and at the end
+/// the count of ended workers rises.
 pub fn work<S, X, K, P: TransactionRule<S, X, K> + BoxRule<S, X, K>, T: Turns<S, X, K, P>, G: Gate>(
     alloc: Global,
     stm: &Stm<S, X, K, P>,
@@ -34,17 +37,23 @@ pub fn work<S, X, K, P: TransactionRule<S, X, K> + BoxRule<S, X, K>, T: Turns<S,
     lay: &Layout,
     requests: &[Request],
     gate: &G,
+    ended: &AtomicU64,
     job: &mut Job<X>,
 )
     requires may { MayWork stm.now.events lay.now requests.now }
     requires fresh { IsFresh stm.now.events requests.now job.old }
+    requires sent { SendsFirst job.old }
     ensures place { KeepsPlace job.old job.new }
     ensures worked { HasWorked stm.now.events lay.now requests.now job.new }
+    ensures lane { IsSameLane job.old.outbox job.new.outbox }
+    ensures sent { SendsFirst job.new }
 {
     job.end = match serve_all(alloc, stm, turns, lay, requests, gate, job) {
         Ok(()) => WorkEnd::Whole,
         Err(end) => end,
     };
+    job.send();
+    let _before = ended.fetch_add(1, Ordering::SeqCst);
 }
 
 // Serves the requests up to the first one that isn't served.
@@ -66,7 +75,10 @@ fn serve_all<
 ) -> Result<(), WorkEnd>
     requires may { MayWork stm.now.events lay.now requests.now }
     requires fresh { IsFresh stm.now.events requests.now job.old }
+    requires sent { SendsFirst job.old }
     ensures place { KeepsPlace job.old job.new }
+    ensures lane { IsSameLane job.old.outbox job.new.outbox }
+    ensures sent { SendsFirst job.new }
     ensures ok { OnOk result
         (IsAt stm.now.events lay.now requests.now (length requests.now) job.new) }
     ensures err { IfErr result (λ end.
@@ -74,6 +86,7 @@ fn serve_all<
 {
     for index in 0..requests.len() {
         serve_next(alloc, stm, turns, lay, requests, index, gate, job)?;
+        job.send();
         take_turn_after(index + 1, stm, turns, &mut job.pass)?;
     }
     Ok(())
@@ -101,6 +114,8 @@ fn serve_next<
     requires at { IsAt stm.now.events lay.now requests.now index job.old }
     requires there { index < length requests.now }
     ensures place { KeepsPlace job.old job.new }
+    ensures outbox { job.new.outbox ≡ job.old.outbox }
+    ensures behind { DoesMore job.old job.new }
     ensures ok { OnOk result (IsAt stm.now.events lay.now requests.now (index + 1) job.new) }
     ensures err { IfErr result (λ end.
         EndsAt stm.now.events lay.now requests.now end job.new) }

@@ -1,10 +1,10 @@
-use Rattle.std.proofs.Common.{[], ◌∷◌, ◌++◌, List, sym, ap, ◌∙◌, subst, append_assoc}
+use Rattle.std.proofs.Common.{[], ◌∷◌, List, sym, subst}
 use Rattle.std.specs.List.{All}
 use Rattle.std.proofs.lemmas.List.Elements.{All-head}
 use Rattle.run_order.proofs.Pairs.{all_before, all_behind}
 use Rattle.stm_passes.specs.Passes.{IsResting}
 use Rattle.run_workers.specs.declared.job.Job.{Job}
-use Rattle.run_workers.proofs.PassesJoined.{took_one, took_next}
+use Rattle.run_workers.proofs.PassesJoined.{took_one, took_popped}
 use Rattle.run_workers.proofs.joining.join_passes.Goals as goal
 
 pub loop-job-init : goal.loop-job-init
@@ -27,16 +27,12 @@ join-requires-clause-rests g c =
 
 pub loop-job-preserved : goal.loop-job-preserved
 loop-job-preserved g c =
-    let t = c.args.stm.now.events in
-    let job = c.in-Some-pop.job in
-    let left = c.pop-in-loop-job.new.self.items in
-    let rests = subst (λ (l : List (Job _)). All (λ j. IsResting t j.pass) l) c.in-Some-pop.ensures.items c.loop-job.invariant.rests in
-    let h = c.loop-job.invariant.joined in
-    record {
-      rests = all_before (λ (j : Job _). IsResting t j.pass) left (job ∷ []) rests;
-      joined = (
-        job ∷ h.0,
-        sym (append_assoc left (job ∷ []) h.0) ∙ ap (λ (l : List (Job _)). l ++ h.0) (sym c.in-Some-pop.ensures.items) ∙ h.1,
-        took_next t job h.0 c.loop-job.pass c.join.new.self (All-head (λ (j : Job _). IsResting t j.pass) job [] (all_behind (λ (j : Job _). IsResting t j.pass) left (job ∷ []) rests)) h.2 c.join.ensures.joined,
-      );
-    }
+    let h = c.loop-job.invariant in
+    let next = took_popped c.args.stm.now.events c.loop-job.jobs.items c.pop-in-loop-job.new.self.items h.joined.0 c.args.jobs.items c.in-Some-pop.job c.loop-job.pass c.join.new.self c.in-Some-pop.ensures.items h.rests h.joined.1 h.joined.2 c.join.ensures.joined in
+    record { rests = next.0; joined = next.1 }
+
+pub loop-job-preserved-in-Some-pop : goal.loop-job-preserved-in-Some-pop
+loop-job-preserved-in-Some-pop g c =
+    let h = c.loop-job.invariant in
+    let next = took_popped c.args.stm.now.events c.loop-job.jobs.items c.pop-in-loop-job.new.self.items h.joined.0 c.args.jobs.items c.in-Some-pop.job c.loop-job.pass c.join.new.self c.in-Some-pop.ensures.items h.rests h.joined.1 h.joined.2 c.join.ensures.joined in
+    record { rests = next.0; joined = next.1 }

@@ -1,5 +1,7 @@
 use Rattle.std.proofs.Common.{◌-◌, ◌<◌, ◌≤◌, length, map, refl, replicate, sym, ap, subst, arith}
+use Rattle.std.specs.Prelude.{List, All, None, ◌≡◌}
 use Rattle.std.specs.Vec.{vec_capacity}
+use Rattle.std.proofs.lemmas.List.Elements.{All-cons}
 use Rattle.std.proofs.lemmas.List.{length-map}
 use Rattle.std.proofs.lemmas.List.FromFn.{length-range_with_len}
 use Rattle.run_workers.specs.declared.job.Job.{Job}
@@ -34,7 +36,12 @@ returns-clause-ok g c =
     let q = c.split_jobs.new.first in
     let done = c.in-Some-room_for.done in
     let jobs = c.split_jobs.new.jobs.items in
-    let job : Job _ = record { file = 0; pass = q; done = done; end = SetAside; apart = replicate 16 0 } in
+    let job : Job _ = record { file = 0; pass = q; done = done; end = SetAside; outbox = None; apart = replicate 16 0 } in
     let shared = subst (λ n. AreShared t files n q jobs) (sym long) c.in-Some-split_jobs.ensures.shared in
     let room : length (requests_of files 0) ≤ vec_capacity done = (let a = ap length is in let b = c.len.ensures in let d = c.in-Some-room_for.ensures.room in omega (arith, c.index-files-0.result.ok.0)) in
     subst (λ l. AreFresh t files l) (sym c.in-Ok.ensures.items) (all_shared t files c.args.pass q job jobs c.requires c.split_jobs.ensures.parted shared refl refl c.in-Some-room_for.ensures.none room)
+
+pub returns-clause-none : goal.returns-clause-none
+returns-clause-none g c =
+    let job : Job _ = record { file = 0; pass = c.split_jobs.new.first; done = c.in-Some-room_for.done; end = SetAside; outbox = None; apart = replicate 16 0 } in
+    subst (λ (l : List (Job _)). All (λ j. j.outbox ≡ None) l) (sym c.in-Ok.ensures.items) (All-cons (λ (j : Job _). j.outbox ≡ None) job c.split_jobs.new.jobs.items refl c.split_jobs.ensures.none)

@@ -1,5 +1,7 @@
 use Rattle.std.proofs.Common.{◌≡◌, ◌<◌, ◌+◌, List, length, map, sym, ◌∙◌, subst, arith}
+use Rattle.std.specs.Prelude.{All, None}
 use Rattle.std.proofs.lemmas.List.{length-map}
+use Rattle.std.proofs.lemmas.List.Elements.{All-push}
 use Rattle.run_workers.specs.declared.job.Job.{Job}
 use Rattle.run_workers.specs.Partings.{AreShared, HasParted}
 use Rattle.run_workers.proofs.PassesJoined.{draws_here, file_at, parted_next, shared_next}
@@ -36,6 +38,7 @@ loop-file-preserved g c =
       parted = subst (λ (l : List (Job _)). HasParted t c.args.first.now r l) items (parted_next t k c.deref.result.now c.args.first.now q r jobs job draws part h.parted);
       shared = subst (λ (l : List (Job _)). AreShared t files (k + 1) r l) items (shared_next t k c.deref.result.now c.args.first.now q r jobs job draws part files there c.loop-file.auto.file is h.parted.rests h.shared);
       count = (let a = c.push_reserved.ensures.len in let b = h.count in omega arith);
+      none = subst (λ (l : List (Job _)). All (λ j. j.outbox ≡ None) l) items (All-push (λ (j : Job _). j.outbox ≡ None) jobs job h.none c.in_ok-job.ensures.outbox);
       capacity = c.push_reserved.ensures.capacity ∙ h.capacity;
     }
 

@@ -1,4 +1,5 @@
 use Rattle.std.proofs.Common.{◌≡◌, ◌+◌, map, vec_capacity, vec_len}
+use Rattle.std.specs.Prelude.{All, None}
 use Rattle.run_workers.specs.Partings.{AreShared, HasParted}
 use Rattle.run_workers.proofs.making.split_jobs.Given as goal
 
@@ -8,5 +9,6 @@ invariant-loop-file g l = record {
   parted : HasParted l.stm.events l.initial.first l.first l.jobs.items;
   shared : AreShared l.stm.events (map (λ f. f.items) l.files) l.file l.first l.jobs.items;
   count : vec_len l.jobs + 1 ≡ l.file;
+  none : All (λ job. job.outbox ≡ None) l.jobs.items;
   capacity : vec_capacity l.jobs ≡ vec_capacity l.initial.jobs;
 }

@@ -15,7 +15,7 @@ join_jobs-requires g c =
     let long = ap length c.deref_mut.ensures.value in
     let same = c.run_jobs.auto.jobs in
     let len : length new ≡ old.each.len = omega (arith, old.each.ok.0) in
-    let worked = subst (λ l. HaveWorked t s files l) (sym (with_items_is old.each new len)) c.run_jobs.ensures in
+    let worked = subst (λ l. HaveWorked t s files l) (sym (with_items_is old.each new len)) c.run_jobs.ensures.worked in
     may_join t s files (record { each = with_items old.each new; done = old.done; counts = old.counts }) old c.requires.pass.some worked c.in_ok-jobs.ensures.room refl refl
 
 pub returns-clause-ok : goal.returns-clause-ok
@@ -28,5 +28,5 @@ returns-clause-ok g c =
     let long = ap length c.deref_mut.ensures.value in
     let same = c.run_jobs.auto.jobs in
     let len : length new ≡ old.each.len = omega (arith, old.each.ok.0) in
-    let worked = subst (λ l. HaveWorked t s files l) (sym (with_items_is old.each new len)) c.run_jobs.ensures in
+    let worked = subst (λ l. HaveWorked t s files l) (sym (with_items_is old.each new len)) c.run_jobs.ensures.worked in
     law_jobs t s files (with_items old.each new).items c.join_jobs.result worked c.join_jobs.ensures

@@ -1,4 +1,5 @@
 use Rattle.run_workers.specs.Job.{KeepsPlace}
+use Rattle.run_workers.specs.Sending.{IsSameLane, SendsFirst}
 use Rattle.run_workers.specs.Steps.{IsAt}
 use Rattle.run_workers.proofs.working.serve_all.Given as goal
 
@@ -6,5 +7,7 @@ use Rattle.run_workers.proofs.working.serve_all.Given as goal
 abbrev pub invariant-loop-index : goal.invariant-loop-index
 invariant-loop-index g l = record {
   place : KeepsPlace l.initial.job l.job;
+  lane : IsSameLane l.initial.job.outbox l.job.outbox;
+  sent : SendsFirst l.job;
   at : IsAt l.stm.events l.lay l.requests l.index l.job;
 }
