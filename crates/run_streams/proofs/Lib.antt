@@ -1,0 +1,3 @@
+mod FirstLines
+mod Places
+mod JobsStreamed

@@ -1,0 +1,3 @@
+pub mod Lanes
+pub mod Printed
+pub mod Streamed
