@@ -1,7 +1,7 @@
 -- Jobs, their lanes, and what was printed of what they did.
-use Rattle.std.proofs.Common.{◌≡◌, ℕ, suc, ◌+◌, ◌<◌, ◌≤◌, List, [], ◌∷◌, ◌++◌, length, take, map, get_or, refl, sym, ap, ap₂, ◌∙◌, arith, subst}
-use Rattle.std.specs.Prelude.{All, Option, None, Some, IfSome, slice_index}
-use Rattle.std.specs.List.{enumerate_from, flat_map, sum_by}
+use Rattle.std.proofs.Common.{◌≡◌, ℕ, suc, ◌+◌, ◌<◌, List, [], ◌∷◌, length, take, map, get_or, refl, sym, ap, ap₂, ◌∙◌, arith, subst}
+use Rattle.std.specs.Prelude.{All, Option, None, Some, IfSome}
+use Rattle.std.specs.List.{enumerate_from, sum_by}
 use Rattle.std.proofs.lemmas.List.{get_or-map, length-map}
 use Rattle.std.proofs.lemmas.List.Elements.{All-cons, All-nil}
 use Rattle.std.proofs.lemmas.List.FromFn.{get_or-range_with_len, length-range_with_len}
@@ -13,13 +13,11 @@ use Rattle.tatp_model.specs.OneThread.{IndexedRequest, indexed_request_of}
 use Rattle.core_table.specs.Layout.{TableSight}
 use Rattle.stm_passes.specs.Passes.{pass_view}
 use Rattle.dude_io.specs.Sink.{SinkSight}
-use Rattle.dude_stream.specs.declared.drain.Drain.{Drain}
 use Rattle.dude_stream.specs.declared.outbox.Outbox.{Outbox}
 use Rattle.dude_stream.specs.declared.outlet.Outlet.{Outlet}
 use Rattle.dude_stream.specs.declared.print_fault.PrintFault.{PrintFault}
-use Rattle.dude_stream.specs.Lanes.{HasReceived, IsSameDrain, received_by, sent_by}
+use Rattle.dude_stream.specs.Lanes.{HasReceived, IsSameDrain, received_by}
 use Rattle.dude_stream.specs.Outboxes.{HasSent}
-use Rattle.dude_stream.specs.Printing.{ReceivedMore, Taken}
 use Rattle.dude_stream.specs.Streams.{AreFirst}
 use Rattle.run_workers.specs.declared.job.Job.{Job}
 use Rattle.run_workers.specs.declared.joined.Joined.{Joined}
@@ -27,8 +25,7 @@ use Rattle.run_workers.specs.Job.{HasWorked, IsFresh, requests_of, thread_count}
 use Rattle.run_workers.specs.Jobs.{AreFresh, AreJobs, HaveWorked}
 use Rattle.run_workers.specs.Joined.{AreJoined}
 use Rattle.run_workers.specs.Sending.{IsSameLane, KeepLanes, SendFirst}
-use Rattle.run_workers.specs.Working.{AreOfFile}
-use Rattle.run_streams.specs.Lanes.{AreLanes, AreOpen, AreOpenLanes, HasReceivedOf, HaveBoxes, HaveReceived, HaveSameWork, IsLaneOf, IsOpenLane, IsSameWork, OpensTo}
+use Rattle.run_streams.specs.Lanes.{AreLanes, AreOpen, AreOpenLanes, HasReceivedOf, HaveBoxes, HaveReceived, HaveSameWork, IsLaneOf, OpensTo}
 use Rattle.run_streams.specs.Printed.{ArePrinted, IsPrinted, LeaveFew}
 use Rattle.run_streams.specs.Streamed.{HasStreamed}
 use Rattle.run_streams.proofs.FirstLines.{AreOfFiles, first_lines, first_of_done}
