@@ -132,19 +132,24 @@ module _ {X : Type 0} (p m : PassSight X) (small : up_to_last p.numbers.refused 
   rises_of : (k : ℕ) → m.numbers.refused ≡ up_to_last (p.numbers.refused + k) → p.numbers.refused ≤ m.numbers.refused
   rises_of k is = omega arith
 
-  -- only refusals are new
-  refused_bare : (k : ℕ) → (pass_view m).part ≡ (pass_view p).part → (pass_view m).entries ≡ (pass_view p).entries → m.numbers ≡ with_refusals k p.numbers → IsBare 0 k p m
-  refused_bare k part entries is = let n = ap (λ (x : PassNumbers). x.refused) is in record {
+  -- at most one number was drawn, and so many refusals are new
+  drew_bare : (used k : ℕ) (f : PassNumbers) → used ≤ 1 → (pass_view m).part ≡ (pass_view p).part → (pass_view m).entries ≡ (pass_view p).entries → m.numbers ≡ f
+      → f.last ≡ p.numbers.last → f.met_fault ≡ p.numbers.met_fault → f.left + used ≡ p.numbers.left → f.durable ≡ p.numbers.durable → f.refused ≡ up_to_last (p.numbers.refused + k) → IsBare used k p m
+  drew_bare used k f few part entries is last no_fault left durable refused = let n = ap (λ (x : PassNumbers). x.refused) is ∙ refused in record {
     part = part;
     entries = entries;
-    last = ap (λ (x : PassNumbers). x.last) is;
-    no_fault = ap (λ (x : PassNumbers). x.met_fault) is;
-    draws = (let l = ap (λ (x : PassNumbers). x.left) is in omega arith);
-    few = omega arith;
+    last = ap (λ (x : PassNumbers). x.last) is ∙ last;
+    no_fault = ap (λ (x : PassNumbers). x.met_fault) is ∙ no_fault;
+    draws = ap (λ (x : PassNumbers). x.left + used) is ∙ left;
+    few = few;
     rises = rises_of k n;
-    durable = ap (λ (x : PassNumbers). x.durable) is;
+    durable = ap (λ (x : PassNumbers). x.durable) is ∙ durable;
     counts = counts_of k n;
   }
+
+  -- only refusals are new
+  refused_bare : (k : ℕ) → (pass_view m).part ≡ (pass_view p).part → (pass_view m).entries ≡ (pass_view p).entries → m.numbers ≡ with_refusals k p.numbers → IsBare 0 k p m
+  refused_bare k part entries is = drew_bare 0 k (with_refusals k p.numbers) (omega arith) part entries is refl refl (omega arith) refl refl
 
 -- ---- a full box
 module _ {X K : Type 0} (t : TableSight K) (seen : ℕ) (p m : PassSight X) (small : up_to_last p.numbers.refused ≡ p.numbers.refused) (h : IsRefused t seen p m) where
@@ -220,37 +225,14 @@ module _ {X K : Type 0} (t : TableSight K) (e : Stop) (p m : PassSight X) (small
 -- ---- a commit that was lost
 module _ {X K : Type 0} (t : TableSight K) (p m : PassSight X) (small : up_to_last p.numbers.refused ≡ p.numbers.refused) (left : 0 < p.numbers.left) where
   -- the commit counts one
-  lost_refused : (k : ℕ) (f : PassNumbers) → m.numbers ≡ with_refusals k (with_refusals 1 f) → f.refused ≡ p.numbers.refused → m.numbers.refused ≡ up_to_last (p.numbers.refused + (1 + k))
-  lost_refused k f is same = ap (λ (x : PassNumbers). x.refused) is ∙ (ap (λ (n : ℕ). up_to_last (up_to_last (n + 1) + k)) same ∙ twice)
-    where
-      twice : up_to_last (up_to_last (p.numbers.refused + 1) + k) ≡ up_to_last (p.numbers.refused + (1 + k))
-      twice = omega arith
+  one_and : (k : ℕ) → up_to_last (up_to_last (p.numbers.refused + 1) + k) ≡ up_to_last (p.numbers.refused + (1 + k))
+  one_and k = omega arith
 
   lost_page : (k : ℕ) → m.numbers ≡ with_refusals k (with_refusals 1 p.numbers) → (pass_view m).part ≡ (pass_view p).part → (pass_view m).entries ≡ (pass_view p).entries → IsBare 0 1 p m
-  lost_page k is part entries = let n = lost_refused k p.numbers is refl in fewer t p m m 0 (1 + k) 1 (omega arith) (record {
-    part = part;
-    entries = entries;
-    last = ap (λ (x : PassNumbers). x.last) is;
-    no_fault = ap (λ (x : PassNumbers). x.met_fault) is;
-    draws = (let l = ap (λ (x : PassNumbers). x.left) is in omega arith);
-    few = omega arith;
-    rises = rises_of p m small (1 + k) n;
-    durable = ap (λ (x : PassNumbers). x.durable) is;
-    counts = counts_of p m small (1 + k) n;
-  })
+  lost_page k is part entries = fewer t p m m 0 (1 + k) 1 (omega arith) (drew_bare p m small 0 (1 + k) (with_refusals k (with_refusals 1 p.numbers)) (omega arith) part entries is refl refl (omega arith) refl (one_and k))
 
   lost_number : (k number : ℕ) → m.numbers ≡ with_refusals k (with_refusals 1 (after_draw number t.setup.boxes p.numbers)) → (pass_view m).part ≡ (pass_view p).part → (pass_view m).entries ≡ (pass_view p).entries → IsBare 1 1 p m
-  lost_number k number is part entries = let n = lost_refused k (after_draw number t.setup.boxes p.numbers) is refl in fewer t p m m 1 (1 + k) 1 (omega arith) (record {
-    part = part;
-    entries = entries;
-    last = ap (λ (x : PassNumbers). x.last) is;
-    no_fault = ap (λ (x : PassNumbers). x.met_fault) is;
-    draws = (let l = ap (λ (x : PassNumbers). x.left) is in omega arith);
-    few = omega arith;
-    rises = rises_of p m small (1 + k) n;
-    durable = ap (λ (x : PassNumbers). x.durable) is;
-    counts = counts_of p m small (1 + k) n;
-  })
+  lost_number k number is part entries = fewer t p m m 1 (1 + k) 1 (omega arith) (drew_bare p m small 1 (1 + k) (with_refusals k (with_refusals 1 (after_draw number t.setup.boxes p.numbers))) (omega arith) part entries is refl refl (omega arith) refl (one_and k))
 
   pub lost_try : (l : Lost) (s : Sizes) (file index : ℕ) (q : Request) (x : Tried) (r : PassSight X) → WasLost t l p m → AfterLost t l x m r → AfterTry t s file index q x p r
   lost_try (lost.Out page) s file index q x r h a = out_try t page p m (lost_page h.refusals h.numbers h.part h.entries) s file index q x r a

@@ -1,9 +1,9 @@
 //! Requests are served by transactions, each tried until a try is good.
 #![tactic(auto)]
 
+pub mod attempts;
 pub mod gate;
 pub mod once;
-mod one_try;
 pub mod open_gate;
 pub mod serve;
 pub mod tried;

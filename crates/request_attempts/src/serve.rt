@@ -7,9 +7,9 @@ ghost use Rattle.request_attempts.specs.Counting.{IsUnder, PATIENCE, RisesBy};
 ghost use Rattle.request_attempts.specs.Tries.{IsGivenUp, IsServing, IsUnserved};
 ghost use Rattle.request_attempts.specs.declared.unserved.Unserved.TheVariants.{Refused as RefusedOf, Device as DeviceOf};
 
+use crate::attempts::Attempts;
 use crate::gate::Gate;
 use crate::tried::Tried;
-use crate::trying::try_once;
 use crate::turns::Turns;
 use crate::unserved::Unserved;
 use std::alloc::Global;
@@ -67,10 +67,17 @@ pub fn serve_one<
     ensures refused { IsErrOf result RefusedOf → IsGivenUp stm.now.events p.old p.new }
     ensures device { IsErrOf result DeviceOf ↔ (p.new.numbers.met_fault ≡ true) }
 {
+    let attempts = Attempts {
+        stm,
+        alloc,
+        lay,
+        gate,
+        turns,
+    };
     let before = p.refused();
     let room = p.left();
     for _ in 0..2_000_001u64 {
-        match try_once(stm, turns, p, alloc, lay, file, index, q, gate) {
+        match attempts.try_once(p, file, index, q) {
             Tried::Done(done) => return Ok(done),
             Tried::Device => return Err(Unserved::Device),
             Tried::NoMemory => return Err(Unserved::NoMemory),

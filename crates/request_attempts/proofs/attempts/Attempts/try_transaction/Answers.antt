@@ -1,0 +1,14 @@
+use Rattle.request_attempts.proofs.TriesMade.{full_try, stop_try, lost_try, done_try}
+use Rattle.request_attempts.proofs.attempts.Attempts.try_transaction.Goals as goal
+
+pub returns-in-Done : goal.returns-in-Done
+returns-in-Done g c = done_try c.args.self.now.stm.now.events c.args.self.now.lay.now c.args.file c.args.index c.args.q.now c.in-Done.done c.args.p.now c.run_once.new.p c.requires.no_sync c.requires.may.draws c.in-Done.ensures
+
+pub returns-in-Full : goal.returns-in-Full
+returns-in-Full g c = full_try c.args.self.now.stm.now.events c.in-Full.field-0 c.args.p.now c.run_once.new.p c.requires.may.rests.numbers.few c.in-Full.ensures c.args.self.now.lay.now c.args.file c.args.index c.args.q.now c.after_full.result c.after_full.new.p c.after_full.ensures
+
+pub returns-in-Stopped : goal.returns-in-Stopped
+returns-in-Stopped g c = stop_try c.args.self.now.stm.now.events c.in-Stopped.stop c.args.p.now c.run_once.new.p c.requires.may.rests.numbers.few c.in-Stopped.ensures c.args.self.now.lay.now c.args.file c.args.index c.args.q.now c.after_stop.result c.after_stop.new.p c.after_stop.ensures
+
+pub returns-in-Lost : goal.returns-in-Lost
+returns-in-Lost g c = lost_try c.args.self.now.stm.now.events c.args.p.now c.run_once.new.p c.requires.may.rests.numbers.few c.requires.may.draws c.in-Lost.lost c.args.self.now.lay.now c.args.file c.args.index c.args.q.now c.after_lost.result c.after_lost.new.p c.in-Lost.ensures c.after_lost.ensures
