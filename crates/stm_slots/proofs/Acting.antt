@@ -36,7 +36,7 @@ use Rattle.stm_slots.specs.Queues.{back_slot, place_at}
 use Rattle.stm_slots.specs.Lists.{ListsKept}
 use Rattle.stm_slots.specs.Opening.{setup_of}
 use Rattle.stm_slots.specs.Rule.{IsHome, SlotsKept, SlotsKeptBy}
-use Rattle.stm_slots.specs.Turns.{TookTurn, Took, GaveTurn, SawFull, SawNumber, SawRecord, WentOn, Follows, Leaves}
+use Rattle.stm_slots.specs.Turns.{TookTurn, Took, GaveTurn, SawFull, SawNumber, WentOn, Follows, Leaves}
 use Rattle.stm_slots.specs.declared.home.Home.{Home as TheHome}
 use Rattle.stm_slots.specs.declared.slot.Slot.{Slot}
 use Rattle.stm_slots.specs.declared.slot.Slot.TheVariants.{Empty, Record, Home}

@@ -30,6 +30,8 @@ use Rattle.stm_slots.specs.Rule.{SlotsKeptBy}
 use Rattle.stm_slots.specs.declared.slot.Slot.{Slot}
 use Rattle.stm_slots.specs.declared.slot.Slot.TheVariants.{Empty, Record}
 use Rattle.stm_slots.specs.declared.opening.Opening.{Opening}
+use Rattle.stm_slots.proofs.Listing.{lists_taken}
+use Rattle.stm_slots.proofs.Wording.{mapped_on, held_by}
 use Rattle.stm_slots.proofs.Taken.{contains_here, contains_more, contains_either}
 use Rattle.stm_slots.proofs.Queueing.{place_on, place_here, way_to, queue_left, queue_other, word_left, word_other}
 
@@ -50,14 +52,6 @@ module _ {M : Type 0} {ghosts : Ghosts M} (sight : M → Sight) (o : Opening M g
 
   module _ (s : Stage) (xs : List Beside) (homes : Slots) (hands : Hands) (k : SlotsKeptBy sight o s xs homes hands) (long : length s.boxes ≡ back_slot z) (id : ℕ) (v : Owner) (x : Beside) (at_v : get_elem? s.owners id ≡ some v) (at_x : get_elem? xs id ≡ some x)
       (alone : (j : ℕ) (p : Owner) → get_elem? s.owners j ≡ some p → p.has_turn ≡ true → j ≡ id) (turn : 0 < s.turn) where
-    -- the one view with the turn keeps other hands
-    held_by : (os : List Owner) (after : Hands) → ((j : ℕ) (p : Owner) → get_elem? os j ≡ some p → p.has_turn ≡ true → j ≡ id)
-        → (j : ℕ) (w : Owner) (u : Beside) → get_elem? os j ≡ some w → get_elem? (set xs id (record x { turn = Some after })) j ≡ some u → w.has_turn ≡ true → u.turn ≡ Some after
-    held_by os after only j w u at at_u has =
-        let y : Beside = record x { turn = Some after } in
-        let here : get_elem? (set xs id y) j ≡ some y = ap (get_elem? (set xs id y)) (only j w at has) ∙ set_here xs id y (there xs id x at_x) in
-        ap (λ (a : Beside). a.turn) (sym (some-injective y u (sym here ∙ at_u)))
-
     -- ---- the lists follow the calls of the back
     module _ (of_thread : (j u : ℕ) (p : Owner) → get_elem? s.owners j ≡ some p → p.thread ≡ Some u → u < z.threads) (once : Once s) (apart : OpenApart s) (m : BackLists) (f : Follows z hands.next hands.boxes hands.lists m) where
       abbrev l : BackLists
@@ -167,7 +161,7 @@ module _ {M : Type 0} {ghosts : Ghosts M} (sight : M → Sight) (o : Opening M g
         boxes = k.boxes;
         shown = k.shown;
         home = λ e. absurd (omega arith);
-        held = held_by s.owners (record hands { lists = m }) alone;
+        held = held_by sight o xs id x at_x s.owners alone (record hands { lists = m });
       }
 
     -- ---- a record is taken out of its box
@@ -186,18 +180,7 @@ module _ {M : Type 0} {ghosts : Ghosts M} (sight : M → Sight) (o : Opening M g
             seats = length-set xs id y ∙ k.seats;
             count = k.count;
             queues = k.queues;
-            lists = record {
-              lawful = k.lists.lawful;
-              rings = k.lists.rings;
-              pages = k.lists.pages;
-              durable = k.lists.durable;
-              reproduced = k.lists.reproduced;
-              fault = k.lists.fault;
-              persisted = k.lists.persisted;
-              handed = k.lists.handed;
-              in_hand = λ alive j m at_m pos_m has. let q = k.lists.in_hand alive j m at_m pos_m has in (q.0, contains_more (i, r) hands.boxes (j, q.0) q.1);
-              ordered = k.lists.ordered;
-            };
+            lists = lists_taken z s hands.lists hands.boxes ((i, r) ∷ hands.boxes) k.lists (λ alive j m at_m pos_m has. let q = k.lists.in_hand alive j m at_m pos_m has in (q.0, contains_more (i, r) hands.boxes (j, q.0) q.1));
             pages = k.pages;
             boxes = record {
               full = λ j m at_m pos_m. dite (ℕ_discrete j i)
@@ -219,7 +202,7 @@ module _ {M : Type 0} {ghosts : Ghosts M} (sight : M → Sight) (o : Opening M g
             };
             shown = k.shown;
             home = λ e. absurd (omega arith);
-            held = held_by s.owners (record hands { boxes = (i, r) ∷ hands.boxes }) alone;
+            held = held_by sight o xs id x at_x s.owners alone (record hands { boxes = (i, r) ∷ hands.boxes });
           },
         ))
         (k.boxes.full i n at pos)
@@ -234,21 +217,10 @@ module _ {M : Type 0} {ghosts : Ghosts M} (sight : M → Sight) (o : Opening M g
           seats = length-set xs id y ∙ k.seats;
           count = k.count;
           queues = k.queues;
-          lists = record {
-            lawful = k.lists.lawful;
-            rings = k.lists.rings;
-            pages = k.lists.pages;
-            durable = k.lists.durable;
-            reproduced = k.lists.reproduced;
-            fault = k.lists.fault;
-            persisted = k.lists.persisted;
-            handed = k.lists.handed;
-            in_hand = λ alive j m at_m pos_m has. let q = k.lists.in_hand alive j m at_m pos_m has in ⊎_elim
-                (λ a. absurd (let m_is : m ≡ r.number = some-injective m r.number (sym at_m ∙ (ap (get_elem? s.boxes) a ∙ h.0.0)) in not_both hands.lists.records r.number (subst (HasRecord hands.lists.records) m_is has) (lacks alive)))
-                (λ stays. (q.0, stays))
-                (leaves.stays j q.0 q.1);
-            ordered = k.lists.ordered;
-          };
+          lists = lists_taken z s hands.lists hands.boxes left k.lists (λ alive j m at_m pos_m has. let q = k.lists.in_hand alive j m at_m pos_m has in ⊎_elim
+              (λ a. absurd (let m_is : m ≡ r.number = some-injective m r.number (sym at_m ∙ (ap (get_elem? s.boxes) a ∙ h.0.0)) in not_both hands.lists.records r.number (subst (HasRecord hands.lists.records) m_is has) (lacks alive)))
+              (λ stays. (q.0, stays))
+              (leaves.stays j q.0 q.1));
           pages = k.pages;
           boxes = record {
             full = λ j m at_m pos_m. dite (ℕ_discrete j i)
@@ -266,7 +238,7 @@ module _ {M : Type 0} {ghosts : Ghosts M} (sight : M → Sight) (o : Opening M g
           };
           shown = k.shown;
           home = λ e. absurd (omega arith);
-          held = held_by s.owners (record hands { boxes = left }) alone;
+          held = held_by sight o xs id x at_x s.owners alone (record hands { boxes = left });
         }
 
     -- ---- its box is emptied, where it was handed over
@@ -382,7 +354,7 @@ module _ {M : Type 0} {ghosts : Ghosts M} (sight : M → Sight) (o : Opening M g
             count = count2;
             queues = queues2;
             lists = lists2;
-            pages = record { pages = k.pages.pages; frames = k.pages.frames; one_to_one = k.pages.one_to_one; shows = k.pages.shows; shown = k.pages.shown; all = k.pages.all };
+            pages = mapped_on z s s2 hands.map k.pages;
             boxes = record {
               full = λ m n at pos. let b = box_else m n at pos in ⊎_elim
                   (λ q. ⊎_elim (λ e. absurd (b.0 e)) (λ stays. inl (q.0, stays)) (leaves.stays m q.0 q.1))
@@ -401,5 +373,5 @@ module _ {M : Type 0} {ghosts : Ghosts M} (sight : M → Sight) (o : Opening M g
             };
             shown = k.shown;
             home = λ e. absurd (omega arith);
-            held = held_by s.owners hands2 alone;
+            held = held_by sight o xs id x at_x s.owners alone hands2;
           }

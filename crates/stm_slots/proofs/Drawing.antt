@@ -1,5 +1,5 @@
 -- A number is drawn, and with it the slot of its thread's next box goes out; it is posted, and its record comes into that slot.
-use Rattle.std.proofs.Common.{◌≡◌, ◌≢◌, ℕ, ◌+◌, ◌%◌, ◌<◌, ◌≤◌, false, List, length, get_or, set, refl, sym, ap, ◌∙◌, subst, inl, inr, ⊎_elim, arith, length-set}
+use Rattle.std.proofs.Common.{◌≡◌, ◌≢◌, ℕ, ◌+◌, ◌%◌, ◌<◌, ◌≤◌, true, false, List, length, get_or, set, refl, sym, ap, ◌∙◌, subst, inl, inr, ⊎_elim, arith, length-set}
 use Rattle.std.specs.Prelude.{Some, None}
 use Rattle.std.specs.List.{Contains}
 use mathlib.Core.Option.{Option as Maybe, none, some, some-injective}
@@ -25,6 +25,8 @@ use Rattle.stm_slots.specs.Rule.{BoxSlots, SlotsKeptBy}
 use Rattle.stm_slots.specs.declared.slot.Slot.{Slot}
 use Rattle.stm_slots.specs.declared.slot.Slot.TheVariants.{Empty, Record}
 use Rattle.stm_slots.specs.declared.opening.Opening.{Opening}
+use Rattle.stm_slots.proofs.Listing.{lists_owned}
+use Rattle.stm_slots.proofs.Wording.{mapped_on, held_on}
 use Rattle.stm_slots.proofs.Queueing.{place_more, not_all, queue_longer, queue_beside, word_beside}
 
 module _ {M : Type 0} {ghosts : Ghosts M} (sight : M → Sight) (o : Opening M ghosts) where
@@ -53,6 +55,13 @@ module _ {M : Type 0} {ghosts : Ghosts M} (sight : M → Sight) (o : Opening M g
 
     is_v : (j : ℕ) (p : Owner) → get_elem? s.owners j ≡ some p → j ≡ id → p ≡ v
     is_v j p at e = some-injective p v (sym at ∙ (ap (get_elem? s.owners) e ∙ at_v))
+
+    -- faults are as before, where the view's owner changes in something else
+    faults_in : (w : Owner) → w.met_fault ≡ v.met_fault → (j : ℕ) (p : Owner) → get_elem? (set s.owners id w) j ≡ some p → p.met_fault ≡ true → hands.lists.state.dead ≡ true
+    faults_in w same j p at met = ⊎_elim
+        (λ e. k.lists.fault id v at_v (sym same ∙ (ap (λ (a : Owner). a.met_fault) e.1 ∙ met)))
+        (λ e. k.lists.fault j p e.1 met)
+        (at_set s.owners id j w p at)
 
     not_back : back_slot z ≢ box
     not_back e = let lt = box_below in omega arith
@@ -111,32 +120,17 @@ module _ {M : Type 0} {ghosts : Ghosts M} (sight : M → Sight) (o : Opening M g
               (at_set s.owners id j w p at);
           unused = k.queues.unused;
         };
-        lists = record {
-          lawful = k.lists.lawful;
-          rings = k.lists.rings;
-          pages = k.lists.pages;
-          durable = k.lists.durable;
-          reproduced = k.lists.reproduced;
-          fault = λ j p at met. ⊎_elim (λ e. k.lists.fault id v at_v (ap (λ (a : Owner). a.met_fault) e.1 ∙ met)) (λ e. k.lists.fault j p e.1 met) (at_set s.owners id j w p at);
-          persisted = k.lists.persisted;
-          handed = k.lists.handed;
-          in_hand = k.lists.in_hand;
-          ordered = λ alive. let r = k.lists.ordered alive in record {
-            boxed = r.boxed;
-            opened = λ j u p q at of_u pos_p among. ⊎_elim
-                (λ e. let u_is = same_thread u (ap (λ (a : Owner). a.thread) e.1 ∙ of_u) in let num = ap (λ (a : Owner). a.number) e.1 in let lt = newest alive q (subst (λ (d : ℕ). Contains (waiting_of_ring hands.lists.state d) q) u_is among) in omega arith)
-                (λ e. r.opened j u p q e.1 of_u pos_p among)
-                (at_set s.owners id j w p at);
-          };
-        };
-        pages = record { pages = k.pages.pages; frames = k.pages.frames; one_to_one = k.pages.one_to_one; shows = k.pages.shows; shown = k.pages.shown; all = k.pages.all };
+        lists = lists_owned z s s1 hands.lists hands.boxes k.lists k.lists.durable k.lists.reproduced
+            (faults_in w refl)
+            (λ alive j u p q at of_u pos_p among. ⊎_elim
+            (λ e. let u_is = same_thread u (ap (λ (a : Owner). a.thread) e.1 ∙ of_u) in let num = ap (λ (a : Owner). a.number) e.1 in let lt = newest alive q (subst (λ (d : ℕ). Contains (waiting_of_ring hands.lists.state d) q) u_is among) in omega arith)
+            (λ e. (k.lists.ordered alive).opened j u p q e.1 of_u pos_p among)
+            (at_set s.owners id j w p at));
+        pages = mapped_on z s s1 hands.map k.pages;
         boxes = drawn_boxes;
         shown = k.shown;
         home = λ e. let h = k.home e in (h.0, h.1, set_else homes box (back_slot z) none not_back ∙ h.2);
-        held = λ j p x at at_x has. ⊎_elim
-            (λ e. k.held id v x at_v (subst (λ i. get_elem? xs i ≡ some x) e.0 at_x) (ap (λ (a : Owner). a.has_turn) e.1 ∙ has))
-            (λ e. k.held j p x e.1 at_x has)
-            (at_set s.owners id j w p at);
+        held = held_on sight o s xs homes hands k id v w at_v refl;
       }
 
     -- ---- its record is posted
@@ -242,7 +236,7 @@ module _ {M : Type 0} {ghosts : Ghosts M} (sight : M → Sight) (o : Opening M g
         pages = k.lists.pages;
         durable = k.lists.durable;
         reproduced = k.lists.reproduced;
-        fault = λ j p at met. ⊎_elim (λ e. k.lists.fault id v at_v (ap (λ (a : Owner). a.met_fault) e.1 ∙ met)) (λ e. k.lists.fault j p e.1 met) (at_set s.owners id j w2 p at);
+        fault = faults_in w2 refl;
         persisted = k.lists.persisted;
         handed = λ n has. ⊎_elim inl (λ b. inr (b.0, still_boxed b.0 (record { number = n; writes = writes_in hands.lists.records n }) (not_here b.0 n b.1.0 (some_numbers n has)) b.1)) (k.lists.handed n has);
         in_hand = λ alive i m at pos_m has. ⊎_elim
@@ -292,12 +286,9 @@ module _ {M : Type 0} {ghosts : Ghosts M} (sight : M → Sight) (o : Opening M g
           unused = λ u le. let old = k.queues.unused u le in (old.0, ⊎_elim (λ h. absurd (let lt = drawn_thread in let e = h.0 in omega arith)) (λ n. n.1 ∙ old.1) (at_change k.count t (k.count t + 1) u));
         };
         lists = posted_lists;
-        pages = record { pages = k.pages.pages; frames = k.pages.frames; one_to_one = k.pages.one_to_one; shows = k.pages.shows; shown = k.pages.shown; all = k.pages.all };
+        pages = mapped_on z s s2 hands.map k.pages;
         boxes = posted_boxes;
         shown = k.shown;
         home = λ e. let h = k.home e in (h.0, h.1, set_else homes box (back_slot z) (some (Record r)) not_back ∙ h.2);
-        held = λ j p x at at_x has. ⊎_elim
-            (λ e. k.held id v x at_v (subst (λ i. get_elem? xs i ≡ some x) e.0 at_x) (ap (λ (a : Owner). a.has_turn) e.1 ∙ has))
-            (λ e. k.held j p x e.1 at_x has)
-            (at_set s.owners id j w2 p at);
+        held = held_on sight o s xs homes hands k id v w2 at_v refl;
       }

@@ -1,6 +1,7 @@
 pub mod Alike
 pub mod Queueing
 pub mod Listing
+pub mod Wording
 pub mod Staged
 pub mod Turning
 pub mod Taken

@@ -2,7 +2,7 @@
 use Rattle.std.proofs.Common.{◌≡◌, ◌≢◌, ℕ, ◌<◌, ◌⊎◌, true, List, length, get_or, set, sym, ap, ◌∙◌, subst, ⊎_elim, arith, length-set, get_or-set_same, get_or-set_other}
 use Rattle.std.specs.Prelude.{Option, Some, None, slice_get}
 use Rattle.std.proofs.lemmas.Option.{slice_get_within}
-use mathlib.Core.Option.{Option as Maybe, some, some-injective}
+use mathlib.Core.Option.{Option as Maybe, some}
 use mathlib.Core.Logic.{dite}
 use native.Mathlib.Decide.{ℕ_discrete}
 use lib.ListN.{get_elem?}
@@ -10,7 +10,6 @@ use Rattle.pmem_trait.specs.Sights.{Sight}
 use Rattle.pmem_trait.specs.declared.medium.Medium.{Ghosts}
 use Rattle.core_events.specs.Setups.{Setup, frame_in, entry_with}
 use Rattle.core_events.proofs.Filled.{entry_positive, frame_of_entry}
-use Rattle.core_events.proofs.Lists.{there, set_here}
 use Rattle.shadow_pages.specs.PageMap.{PageMap, Holds, IsOneToOne, map_with}
 use Rattle.shadow_pages.proofs.Elements.{set_same, set_other}
 use Rattle.shadow_pages.proofs.Pagers.{same_value, set_has, unset_has}
@@ -21,6 +20,7 @@ use Rattle.stm_slots.specs.Pages.{IsMapped}
 use Rattle.stm_slots.specs.Rule.{SlotsKeptBy}
 use Rattle.stm_slots.specs.declared.slot.Slot.{Slot}
 use Rattle.stm_slots.specs.declared.opening.Opening.{Opening}
+use Rattle.stm_slots.proofs.Wording.{reworded_by}
 
 -- only the hand moved
 pub map_turned : (z : Setup) (s : Stage) (m w : PageMap) → IsMapped z s m → w.pages ≡ m.pages → w.frames ≡ m.frames → (IsOneToOne m → IsOneToOne w) → IsMapped z s w
@@ -122,27 +122,4 @@ module _ {M : Type 0} {ghosts : Ghosts M} (sight : M → Sight) (o : Opening M g
   pub remapped : (s : Stage) (xs : List Beside) (homes : List (Maybe (Slot M ghosts))) (hands : Hands) → SlotsKeptBy sight o s xs homes hands → (id : ℕ) (x : Beside) → get_elem? xs id ≡ some x
       → ((j : ℕ) (p : Owner) → get_elem? s.owners j ≡ some p → p.has_turn ≡ true → j ≡ id) → 0 < s.turn → (entries : List ℕ) (m : PageMap) → IsMapped z (record s { entries = entries }) m
       → SlotsKeptBy sight o (record s { entries = entries }) (set xs id (record x { turn = Some (record hands { map = m }) })) homes (record hands { map = m })
-  remapped s xs homes hands k id x at_x alone turn entries m mapped = let y : Beside = record x { turn = Some (record hands { map = m }) } in record {
-    sized = k.sized;
-    seats = length-set xs id y ∙ k.seats;
-    count = k.count;
-    queues = record { wide = k.queues.wide; each = k.queues.each; owners = k.queues.owners; unused = k.queues.unused };
-    lists = record {
-      lawful = k.lists.lawful;
-      rings = k.lists.rings;
-      pages = k.lists.pages;
-      durable = k.lists.durable;
-      reproduced = k.lists.reproduced;
-      fault = k.lists.fault;
-      persisted = k.lists.persisted;
-      handed = k.lists.handed;
-      in_hand = k.lists.in_hand;
-      ordered = λ alive. let r = k.lists.ordered alive in record { boxed = r.boxed; opened = r.opened };
-    };
-    pages = mapped;
-    boxes = record { full = k.boxes.full; hand = k.boxes.hand; free = k.boxes.free; opened = k.boxes.opened };
-    shown = k.shown;
-    home = λ e. absurd (omega arith);
-    held = λ j p u at_p at_u has. let here : get_elem? (set xs id y) j ≡ some y = ap (get_elem? (set xs id y)) (alone j p at_p has) ∙ set_here xs id y (there xs id x at_x) in
-        ap (λ (a : Beside). a.turn) (sym (some-injective y u (sym here ∙ at_u)));
-  }
+  remapped s xs homes hands k id x at_x alone turn entries m mapped = reworded_by sight o s xs homes hands k (record s { entries = entries }) (record hands { map = m }) k.lists.durable k.lists.reproduced k.shown mapped id x at_x alone turn

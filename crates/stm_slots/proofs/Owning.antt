@@ -17,6 +17,8 @@ use Rattle.stm_slots.specs.Opening.{setup_of}
 use Rattle.stm_slots.specs.Rule.{SlotsKeptBy}
 use Rattle.stm_slots.specs.declared.slot.Slot.{Slot}
 use Rattle.stm_slots.specs.declared.opening.Opening.{Opening}
+use Rattle.stm_slots.proofs.Listing.{lists_owned}
+use Rattle.stm_slots.proofs.Wording.{mapped_on, held_on}
 
 -- the owner w has the open number and the turn as v has them; its box is the same where it has an open number
 pub record IsLike (w v : Owner) : Type 0 where
@@ -56,7 +58,10 @@ module _ {M : Type 0} {ghosts : Ghosts M} (sight : M → Sight) (o : Opening M g
               )
           by_place (inr other) = (j, t, p, set_else s.owners id j w other ∙ at, pos, of_t, is)
 
-      pub changed : SlotsKeptBy sight o (record s { threads = threads; owners = set s.owners id w }) xs homes hands
+      abbrev s1 : Stage
+      s1 = record s { threads = threads; owners = set s.owners id w }
+
+      pub changed : SlotsKeptBy sight o s1 xs homes hands
       changed = record {
         sized = k.sized;
         seats = k.seats ∙ sym (length-set s.owners id w);
@@ -67,26 +72,14 @@ module _ {M : Type 0} {ghosts : Ghosts M} (sight : M → Sight) (o : Opening M g
           owners = λ j p at. new_owner (OwnsQueue z s.boxes hands.next k.count) owns j p at (k.queues.owners j p);
           unused = λ t le. k.queues.unused t (omega arith);
         };
-        lists = record {
-          lawful = k.lists.lawful;
-          rings = k.lists.rings;
-          pages = k.lists.pages;
-          durable = k.lists.durable;
-          reproduced = k.lists.reproduced;
-          fault = λ j p at. new_owner (λ q. q.met_fault ≡ true → hands.lists.state.dead ≡ true) fault j p at (k.lists.fault j p);
-          persisted = k.lists.persisted;
-          handed = k.lists.handed;
-          in_hand = k.lists.in_hand;
-          ordered = λ alive. let r = k.lists.ordered alive in record {
-            boxed = r.boxed;
-            opened = λ j t p q at of_t pos among. ⊎_elim
-                (λ e. let n = ap (λ (a : Owner). a.number) e.1 in let m = like.number in let pos_v : 0 < v.number = omega arith in
-                let lt = r.opened id t v q at_v (sym (like.thread pos_v) ∙ (ap (λ (a : Owner). a.thread) e.1 ∙ of_t)) pos_v among in omega arith)
-                (λ e. r.opened j t p q e.1 of_t pos among)
-                (at_set s.owners id j w p at);
-          };
-        };
-        pages = record { pages = k.pages.pages; frames = k.pages.frames; one_to_one = k.pages.one_to_one; shows = k.pages.shows; shown = k.pages.shown; all = k.pages.all };
+        lists = lists_owned z s s1 hands.lists hands.boxes k.lists k.lists.durable k.lists.reproduced
+            (λ j p at. new_owner (λ q. q.met_fault ≡ true → hands.lists.state.dead ≡ true) fault j p at (k.lists.fault j p))
+            (λ alive j t p q at of_t pos among. let r = k.lists.ordered alive in ⊎_elim
+            (λ e. let n = ap (λ (a : Owner). a.number) e.1 in let m = like.number in let pos_v : 0 < v.number = omega arith in
+            let lt = r.opened id t v q at_v (sym (like.thread pos_v) ∙ (ap (λ (a : Owner). a.thread) e.1 ∙ of_t)) pos_v among in omega arith)
+            (λ e. r.opened j t p q e.1 of_t pos among)
+            (at_set s.owners id j w p at));
+        pages = mapped_on z s s1 hands.map k.pages;
         boxes = record {
           full = k.boxes.full;
           hand = k.boxes.hand;
@@ -100,10 +93,7 @@ module _ {M : Type 0} {ghosts : Ghosts M} (sight : M → Sight) (o : Opening M g
         };
         shown = k.shown;
         home = k.home;
-        held = λ j p x at at_x has. ⊎_elim
-            (λ e. k.held id v x at_v (subst (λ i. get_elem? xs i ≡ some x) e.0 at_x) (sym like.turn ∙ (ap (λ (a : Owner). a.has_turn) e.1 ∙ has)))
-            (λ e. k.held j p x e.1 at_x has)
-            (at_set s.owners id j w p at);
+        held = held_on sight o s xs homes hands k id v w at_v like.turn;
       }
 
     -- what a seat keeps doesn't matter where its view hasn't the turn
@@ -124,8 +114,11 @@ module _ {M : Type 0} {ghosts : Ghosts M} (sight : M → Sight) (o : Opening M g
           (at_set xs id j x y at_y);
     }
 
+    abbrev s2 : Stage
+    s2 = record s { owners = s.owners ++ idler ∷ [] }
+
     -- a view is added that did nothing
-    pub added : SlotsKeptBy sight o (record s { owners = s.owners ++ idler ∷ [] }) (xs ++ nothing_beside ∷ []) homes hands
+    pub added : SlotsKeptBy sight o s2 (xs ++ nothing_beside ∷ []) homes hands
     added = record {
       sized = k.sized;
       seats = length-append xs (nothing_beside ∷ []) ∙ (ap (λ (n : ℕ). n + 1) k.seats ∙ sym (length-append s.owners (idler ∷ [])));
@@ -138,22 +131,10 @@ module _ {M : Type 0} {ghosts : Ghosts M} (sight : M → Sight) (o : Opening M g
             (at_snoc s.owners idler p j at);
         unused = k.queues.unused;
       };
-      lists = record {
-        lawful = k.lists.lawful;
-        rings = k.lists.rings;
-        pages = k.lists.pages;
-        durable = k.lists.durable;
-        reproduced = k.lists.reproduced;
-        fault = λ j p at met. ⊎_elim (λ old. k.lists.fault j p old met) (λ e. absurd (true≢false (sym met ∙ sym (ap (λ (a : Owner). a.met_fault) e.0)))) (at_snoc s.owners idler p j at);
-        persisted = k.lists.persisted;
-        handed = k.lists.handed;
-        in_hand = k.lists.in_hand;
-        ordered = λ alive. let r = k.lists.ordered alive in record {
-          boxed = r.boxed;
-          opened = λ j t p q at of_t pos among. ⊎_elim (λ old. r.opened j t p q old of_t pos among) (λ e. absurd (let n = ap (λ (a : Owner). a.number) e.0 in omega arith)) (at_snoc s.owners idler p j at);
-        };
-      };
-      pages = record { pages = k.pages.pages; frames = k.pages.frames; one_to_one = k.pages.one_to_one; shows = k.pages.shows; shown = k.pages.shown; all = k.pages.all };
+      lists = lists_owned z s s2 hands.lists hands.boxes k.lists k.lists.durable k.lists.reproduced
+          (λ j p at met. ⊎_elim (λ old. k.lists.fault j p old met) (λ e. absurd (true≢false (sym met ∙ sym (ap (λ (a : Owner). a.met_fault) e.0)))) (at_snoc s.owners idler p j at))
+          (λ alive j t p q at of_t pos among. ⊎_elim (λ old. (k.lists.ordered alive).opened j t p q old of_t pos among) (λ e. absurd (let n = ap (λ (a : Owner). a.number) e.0 in omega arith)) (at_snoc s.owners idler p j at));
+      pages = mapped_on z s s2 hands.map k.pages;
       boxes = record {
         full = k.boxes.full;
         hand = k.boxes.hand;

@@ -28,6 +28,7 @@ use Rattle.stm_slots.specs.Pages.{IsMapped}
 use Rattle.stm_slots.specs.Rule.{SlotsKept}
 use Rattle.stm_slots.specs.declared.slot.Slot.{Slot}
 use Rattle.stm_slots.specs.declared.opening.Opening.{Opening}
+use Rattle.stm_slots.proofs.Wording.{reworded}
 
 -- two entries are both 0, or name the same frame
 pub record NamesSame (a b : ℕ) : Type 0 where
@@ -71,29 +72,7 @@ module _ {M : Type 0} {ghosts : Ghosts M} (sight : M → Sight) (o : Opening M g
   kept_same : (s : Stage) (entries : List ℕ) (xs : List Beside) (homes : List (Maybe (Slot M ghosts))) → NameSame z s.entries entries → SlotsKept sight o s xs homes → SlotsKept sight o (record s { entries = entries }) xs homes
   kept_same s entries xs homes same f = let k = f.kept in record {
     hands = f.hands;
-    kept = record {
-      sized = k.sized;
-      seats = k.seats;
-      count = k.count;
-      queues = record { wide = k.queues.wide; each = k.queues.each; owners = k.queues.owners; unused = k.queues.unused };
-      lists = record {
-        lawful = k.lists.lawful;
-        rings = k.lists.rings;
-        pages = k.lists.pages;
-        durable = k.lists.durable;
-        reproduced = k.lists.reproduced;
-        fault = k.lists.fault;
-        persisted = k.lists.persisted;
-        handed = k.lists.handed;
-        in_hand = k.lists.in_hand;
-        ordered = λ alive. let r = k.lists.ordered alive in record { boxed = r.boxed; opened = r.opened };
-      };
-      pages = mapped_same z s entries f.hands.map same k.pages;
-      boxes = record { full = k.boxes.full; hand = k.boxes.hand; free = k.boxes.free; opened = k.boxes.opened };
-      shown = k.shown;
-      home = k.home;
-      held = k.held;
-    };
+    kept = reworded sight o s xs homes f.hands k (record s { entries = entries }) xs f.hands k.lists.durable k.lists.reproduced k.shown (mapped_same z s entries f.hands.map same k.pages) refl k.home k.held;
   }
 
   -- an event that leaves each page in its frame, and what is read of the view

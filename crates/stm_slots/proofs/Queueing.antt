@@ -76,6 +76,16 @@ module _ (z : Setup) where
       (λ before. (j + z.boxes - p, omega arith, round p (j + z.boxes - p) (omega arith) ∙ omega arith))
       (λ behind. (j - p, omega arith, near p (j - p) (omega arith) ∙ omega arith))
 
+  -- a queue in other boxes, with the same words
+  queue_on : (boxes now : List ℕ) (u p n : ℕ) → ((i : ℕ) → i < z.boxes → word_at z now u p i ≡ word_at z boxes u p i) → IsQueue z boxes u p n → IsQueue z now u p n
+  queue_on boxes now u p n same w = record {
+    few = w.few;
+    start = w.start;
+    full = λ i lt. let few = w.few in subst (λ m. 0 < m) (sym (same i (omega arith))) (w.full i lt);
+    free = λ i le lt. same i lt ∙ w.free i le lt;
+    rising = λ i j lt lj. let few = w.few in let a = same i (omega arith) in let b = same j (omega arith) in let r = w.rising i j lt lj in omega arith;
+  }
+
   module _ (boxes : List ℕ) (t place count : ℕ) (inside : t < z.threads) (all : length boxes ≡ z.threads * z.boxes) (q : IsQueue z boxes t place count) (some_full : 0 < count) where
     abbrev front : ℕ
     front = box_of z t place
@@ -119,13 +129,7 @@ module _ (z : Setup) where
 
     -- the queue of another thread stays
     pub queue_other : (u p n : ℕ) → u ≢ t → IsQueue z boxes u p n → IsQueue z boxes2 u p n
-    queue_other u p n other w = record {
-      few = w.few;
-      start = w.start;
-      full = λ i lt. let few = w.few in subst (λ m. 0 < m) (sym (word_other u p i other w.start (omega arith))) (w.full i lt);
-      free = λ i le lt. word_other u p i other w.start (omega arith) ∙ w.free i le lt;
-      rising = λ i j lt lj. let few = w.few in let a = word_other u p i other w.start (omega arith) in let b = word_other u p j other w.start (omega arith) in let r = w.rising i j lt lj in omega arith;
-    }
+    queue_other u p n other w = queue_on boxes boxes2 u p n (λ i lt. word_other u p i other w.start (omega arith)) w
 
   -- ---- a number over all others comes into the box behind the queue, which is empty
   module _ (boxes : List ℕ) (t place count n : ℕ) (inside : t < z.threads) (all : length boxes ≡ z.threads * z.boxes) (q : IsQueue z boxes t place count) (empty : get_or boxes (box_of z t (place_at z place count)) 0 ≡ 0) (pos : 0 < n) (greatest : (i : ℕ) → i < count → word_at z boxes t place i < n) where
@@ -171,10 +175,4 @@ module _ (z : Setup) where
 
     -- the queue of another thread stays
     pub queue_beside : (u p c : ℕ) → u ≢ t → IsQueue z boxes u p c → IsQueue z boxes3 u p c
-    queue_beside u p c other w = record {
-      few = w.few;
-      start = w.start;
-      full = λ i lt. let few = w.few in subst (λ m. 0 < m) (sym (word_beside u p i other w.start (omega arith))) (w.full i lt);
-      free = λ i le lt. word_beside u p i other w.start (omega arith) ∙ w.free i le lt;
-      rising = λ i j lt lj. let few = w.few in let a = word_beside u p i other w.start (omega arith) in let b = word_beside u p j other w.start (omega arith) in let r = w.rising i j lt lj in omega arith;
-    }
+    queue_beside u p c other w = queue_on boxes boxes3 u p c (λ i lt. word_beside u p i other w.start (omega arith)) w

@@ -23,6 +23,7 @@ use Rattle.stm_slots.specs.declared.slot.Slot.TheVariants.{Home}
 use Rattle.stm_slots.specs.declared.opening.Opening.{Opening}
 use Rattle.stm_slots.proofs.Alike.{IsAlike, alike_set, queued_alike}
 use Rattle.stm_slots.proofs.Listing.{lists_alike}
+use Rattle.stm_slots.proofs.Wording.{mapped_on, reworded, reworded_by}
 
 module _ {M : Type 0} {ghosts : Ghosts M} (sight : M → Sight) (o : Opening M ghosts) where
   abbrev z : Setup
@@ -77,7 +78,7 @@ module _ {M : Type 0} {ghosts : Ghosts M} (sight : M → Sight) (o : Opening M g
       count = k.count;
       queues = queued_alike z s (set s.owners id took) hands.next k.count (alike_set s.owners id v took at_v same) k.queues turn s.durable s.reproduced s.entries;
       lists = lists_alike z s (set s.owners id took) hands.lists hands.boxes (alike_set s.owners id v took at_v same) (λ j p e met. ⊎_elim (λ t. k.lists.fault id v at_v (ap (λ (a : Owner). a.met_fault) t.1 ∙ met)) (λ t. k.lists.fault j p t.1 met) (at_set s.owners id j took p e)) k.lists turn s.durable s.reproduced s.entries k.lists.durable k.lists.reproduced;
-      pages = record { pages = k.pages.pages; frames = k.pages.frames; one_to_one = k.pages.one_to_one; shows = k.pages.shows; shown = k.pages.shown; all = k.pages.all };
+      pages = mapped_on z s (record s { turn = turn; owners = set s.owners id took }) hands.map k.pages;
       boxes = boxes_alike s hands.boxes homes none id v took long at_v same k.boxes turn s.durable s.reproduced s.entries;
       shown = k.shown;
       home = λ e. absurd (omega arith);
@@ -99,7 +100,7 @@ module _ {M : Type 0} {ghosts : Ghosts M} (sight : M → Sight) (o : Opening M g
           count = k.count;
           queues = rw next (queued_alike z s (set s.owners id gave) hands.next k.count (alike_set s.owners id v gave at_v same) k.queues 0 s.durable s.reproduced s.entries);
           lists = lists_alike z s (set s.owners id gave) after.lists after.boxes (alike_set s.owners id v gave at_v same) (λ j p e m. ⊎_elim (λ t. fault (ap (λ (a : Owner). a.met_fault) t.1 ∙ m)) (λ t. lists.fault j p t.1 m) (at_set s.owners id j gave p e)) lists 0 s.durable s.reproduced s.entries lists.durable lists.reproduced;
-          pages = rw map (record { pages = k.pages.pages; frames = k.pages.frames; one_to_one = k.pages.one_to_one; shows = k.pages.shows; shown = k.pages.shown; all = k.pages.all });
+          pages = rw map (mapped_on z s (record s { turn = 0; owners = set s.owners id gave }) hands.map k.pages);
           boxes = rw boxes (boxes_alike s hands.boxes homes (some (Home h)) id v gave long at_v same k.boxes 0 s.durable s.reproduced s.entries);
           shown = k.shown ∙ sym shown;
           home = λ e. (h, is, set_here homes (back_slot z) (some (Home h)) (let n = k.sized in omega arith));
@@ -111,52 +112,7 @@ module _ {M : Type 0} {ghosts : Ghosts M} (sight : M → Sight) (o : Opening M g
 
     -- ---- the durable or the reproduced word is raised
     pub raised_durable : (d : ℕ) → d ≤ hands.lists.state.log.durable → SlotsKeptBy sight o (record s { durable = d }) xs homes hands
-    raised_durable d le = record {
-      sized = k.sized;
-      seats = k.seats;
-      count = k.count;
-      queues = record { wide = k.queues.wide; each = k.queues.each; owners = k.queues.owners; unused = k.queues.unused };
-      lists = record {
-        lawful = k.lists.lawful;
-        rings = k.lists.rings;
-        pages = k.lists.pages;
-        durable = le;
-        reproduced = k.lists.reproduced;
-        fault = k.lists.fault;
-        persisted = k.lists.persisted;
-        handed = k.lists.handed;
-        in_hand = k.lists.in_hand;
-        ordered = λ alive. let r = k.lists.ordered alive in record { boxed = r.boxed; opened = r.opened };
-      };
-      pages = record { pages = k.pages.pages; frames = k.pages.frames; one_to_one = k.pages.one_to_one; shows = k.pages.shows; shown = k.pages.shown; all = k.pages.all };
-      boxes = record { full = k.boxes.full; hand = k.boxes.hand; free = k.boxes.free; opened = k.boxes.opened };
-      shown = k.shown;
-      home = k.home;
-      held = k.held;
-    }
+    raised_durable d le = reworded sight o s xs homes hands k (record s { durable = d }) xs hands le k.lists.reproduced k.shown (mapped_on z s (record s { durable = d }) hands.map k.pages) refl k.home k.held
 
     pub raised_reproduced : (d : ℕ) → d ≤ hands.lists.state.log.reproduced → 0 < s.turn → ((j : ℕ) (p : Owner) → get_elem? s.owners j ≡ some p → p.has_turn ≡ true → j ≡ id) → SlotsKeptBy sight o (record s { reproduced = d }) (set xs id (record x { turn = Some (record hands { shown = d }) })) homes (record hands { shown = d })
-    raised_reproduced d le turn alone = let y : Beside = record x { turn = Some (record hands { shown = d }) } in record {
-      sized = k.sized;
-      seats = length-set xs id y ∙ k.seats;
-      count = k.count;
-      queues = record { wide = k.queues.wide; each = k.queues.each; owners = k.queues.owners; unused = k.queues.unused };
-      lists = record {
-        lawful = k.lists.lawful;
-        rings = k.lists.rings;
-        pages = k.lists.pages;
-        durable = k.lists.durable;
-        reproduced = le;
-        fault = k.lists.fault;
-        persisted = k.lists.persisted;
-        handed = k.lists.handed;
-        in_hand = k.lists.in_hand;
-        ordered = λ alive. let r = k.lists.ordered alive in record { boxed = r.boxed; opened = r.opened };
-      };
-      pages = record { pages = k.pages.pages; frames = k.pages.frames; one_to_one = k.pages.one_to_one; shows = k.pages.shows; shown = k.pages.shown; all = k.pages.all };
-      boxes = record { full = k.boxes.full; hand = k.boxes.hand; free = k.boxes.free; opened = k.boxes.opened };
-      shown = refl;
-      home = λ e. absurd (omega arith);
-      held = λ j p u at_p at_u has. let here : get_elem? (set xs id y) j ≡ some y = ap (get_elem? (set xs id y)) (alone j p at_p has) ∙ set_here xs id y (there xs id x at_x) in
-          ap (λ (a : Beside). a.turn) (sym (some-injective y u (sym here ∙ at_u)));
-    }
+    raised_reproduced d le turn alone = reworded_by sight o s xs homes hands k (record s { reproduced = d }) (record hands { shown = d }) k.lists.durable le refl (mapped_on z s (record s { reproduced = d }) hands.map k.pages) id x at_x alone turn
