@@ -22,6 +22,21 @@ use Rattle.tx_reading.specs.Seats.{IsLive}
 use Rattle.tx_reading.proofs.Pins.{still_live}
 use Rattle.tx_reading.proofs.Pairs.{found_some, find_pairs, absent_first, distinct_rest, without_last, drop_next, distinct_drop, drop_all, among}
 
+-- ---- of a list that goes by one after the other, its k-th element
+module _ (l : List Write) (list : IsWriteList l) (k : ℕ) (x : Write) (is : slice_get l k ≡ Some x) where
+  next : drop k l ≡ x ∷ drop (k + 1) l
+  next = drop_next l k x is
+
+  apart : HasDistinctPlaces (x ∷ drop (k + 1) l)
+  apart = subst HasDistinctPlaces next (distinct_drop l k list.distinct)
+
+  next_there : find (pairs_of (drop k l)) x.at ≡ Some x.value
+  next_there = ap (λ (m : List Write). find (pairs_of m) x.at) next ∙ (find_pairs (x ∷ drop (k + 1) l) apart x.at ∙ rw (eq-eqb x.at x.at refl) refl)
+
+  next_gone : without (pairs_of (drop k l)) x.at ≡ pairs_of (drop (k + 1) l)
+  next_gone = ap (λ (m : List Write). without (pairs_of m) x.at) next
+      ∙ without_last (pairs_of (drop (k + 1) l)) x.at x.value (find_pairs (drop (k + 1) l) (distinct_rest x (drop (k + 1) l) apart) x.at ∙ absent_first x (drop (k + 1) l) apart)
+
 -- ---- the stores
 pub record Stores (k : ℕ) (ws : List Write) (v w : View) : Type 0 where
   pub rest : w ≡ record v { tx = record v.tx { hand = record v.tx.hand { stored = w.tx.hand.stored } } }
@@ -77,21 +92,18 @@ module _ (z : Setup) (ws frames : List Write) (v : View) (s : IsStoring z ws fra
     }
 
 -- ---- locks are given back
+-- the view that had the locks from the k-th on has given that one back
+lock_gone : (held : List Write) (v : View) → IsWriteList held → (k : ℕ) (w : View) → w ≡ record v { tx = record v.tx { owned = pairs_of (drop k held) } } → (x : Write) → slice_get held k ≡ Some x
+    → record w { tx = record w.tx { owned = without w.tx.owned x.at } } ≡ record v { tx = record v.tx { owned = pairs_of (drop (k + 1) held) } }
+lock_gone held v list k w now x is = ap (λ (u : View). record u { tx = record u.tx { owned = without u.tx.owned x.at } }) now ∙ ap (λ (l : List (ℕ × ℕ)). record v { tx = record v.tx { owned = l } }) (next_gone held list k x is)
+
 module _ (z : Setup) (number : ℕ) (held : List Write) (v : View) (s : IsReleasing number held v) (list : IsWriteList held) where
   pub release_start : v ≡ record v { tx = record v.tx { owned = pairs_of (drop 0 held) } }
   release_start = ap (λ (l : List (ℕ × ℕ)). record v { tx = record v.tx { owned = l } }) s.owned_are
 
   module _ (k : ℕ) (w : View) (now : w ≡ record v { tx = record v.tx { owned = pairs_of (drop k held) } }) (x : Write) (is : slice_get held k ≡ Some x) where
-    next : drop k held ≡ x ∷ drop (k + 1) held
-    next = drop_next held k x is
-
-    apart : HasDistinctPlaces (x ∷ drop (k + 1) held)
-    apart = subst HasDistinctPlaces next (distinct_drop held k list.distinct)
-
     owned_x : find w.tx.owned x.at ≡ Some x.value
-    owned_x =
-        ap (λ (u : View). find u.tx.owned x.at) now ∙ (ap (λ (l : List Write). find (pairs_of l) x.at) next
-        ∙ (find_pairs (x ∷ drop (k + 1) held) apart x.at ∙ rw (eq-eqb x.at x.at refl) refl))
+    owned_x = ap (λ (u : View). find u.tx.owned x.at) now ∙ next_there held list k x is
 
     pub release_number : w.tx.hand.number ≡ number
     release_number = ap (λ (u : View). u.tx.hand.number) now ∙ s.number_is
@@ -111,11 +123,7 @@ module _ (z : Setup) (number : ℕ) (held : List Write) (v : View) (s : IsReleas
     }
 
     pub release_more : (y : View) → y ≡ view_after z (release x.at) w 0 → y ≡ record v { tx = record v.tx { owned = pairs_of (drop (k + 1) held) } }
-    release_more y e =
-        let gone : without w.tx.owned x.at ≡ pairs_of (drop (k + 1) held) =
-        ap (λ (u : View). without u.tx.owned x.at) now ∙ (ap (λ (l : List Write). without (pairs_of l) x.at) next
-        ∙ without_last (pairs_of (drop (k + 1) held)) x.at x.value (find_pairs (drop (k + 1) held) (distinct_rest x (drop (k + 1) held) apart) x.at ∙ absent_first x (drop (k + 1) held) apart)) in
-        e ∙ (ap (λ (u : View). record u { tx = record u.tx { owned = without w.tx.owned x.at } }) now ∙ ap (λ (l : List (ℕ × ℕ)). record v { tx = record v.tx { owned = l } }) gone)
+    release_more y e = e ∙ lock_gone held v list k w now x is
 
   pub release_end : (k : ℕ) (w : View) → w ≡ record v { tx = record v.tx { owned = pairs_of (drop k held) } } → length held ≤ k → w ≡ record v { tx = record v.tx { owned = [] } }
   release_end k w now le = now ∙ ap (λ (l : List Write). record v { tx = record v.tx { owned = pairs_of l } }) (drop_all held k le)
@@ -169,16 +177,8 @@ module _ (z : Setup) (frames : List Write) (v : View) (s : IsLeaving frames v) (
   unpin_start = ap (λ (l : List (ℕ × ℕ)). record v { paging = record v.paging { pins = l } }) s.pins_are
 
   module _ (k : ℕ) (w : View) (now : w ≡ record v { paging = record v.paging { pins = pairs_of (drop k frames) } }) (x : Write) (is : slice_get frames k ≡ Some x) (lt : k < length frames) where
-    next_frame : drop k frames ≡ x ∷ drop (k + 1) frames
-    next_frame = drop_next frames k x is
-
-    frames_apart : HasDistinctPlaces (x ∷ drop (k + 1) frames)
-    frames_apart = subst HasDistinctPlaces next_frame (distinct_drop frames k list.distinct)
-
     pin_of : find w.paging.pins x.at ≡ Some x.value
-    pin_of =
-        ap (λ (u : View). find u.paging.pins x.at) now ∙ (ap (λ (l : List Write). find (pairs_of l) x.at) next_frame
-        ∙ (find_pairs (x ∷ drop (k + 1) frames) frames_apart x.at ∙ rw (eq-eqb x.at x.at refl) refl))
+    pin_of = ap (λ (u : View). find u.paging.pins x.at) now ∙ next_there frames list k x is
 
     pub unpin_may : IsSeated z w → May z (unpin x.at) w
     unpin_may seated = record {
@@ -201,10 +201,7 @@ module _ (z : Setup) (frames : List Write) (v : View) (s : IsLeaving frames v) (
 
     pub unpin_more : (n : ℕ) (y : View) → y ≡ view_after z (unpin x.at) w n → y ≡ record v { paging = record v.paging { pins = pairs_of (drop (k + 1) frames) } }
     unpin_more n y e =
-        let gone : without w.paging.pins x.at ≡ pairs_of (drop (k + 1) frames) =
-        ap (λ (u : View). without u.paging.pins x.at) now ∙ (ap (λ (l : List Write). without (pairs_of l) x.at) next_frame
-        ∙ without_last (pairs_of (drop (k + 1) frames)) x.at x.value (find_pairs (drop (k + 1) frames) (distinct_rest x (drop (k + 1) frames) frames_apart) x.at ∙ absent_first x (drop (k + 1) frames) frames_apart)) in
-        e ∙ (ap (λ (u : View). record u { paging = record u.paging { pins = without w.paging.pins x.at } }) now ∙ ap (λ (l : List (ℕ × ℕ)). record v { paging = record v.paging { pins = l } }) gone)
+        e ∙ (ap (λ (u : View). record u { paging = record u.paging { pins = without u.paging.pins x.at } }) now ∙ ap (λ (l : List (ℕ × ℕ)). record v { paging = record v.paging { pins = l } }) (next_gone frames list k x is))
 
   pub unpin_end : (k : ℕ) (w : View) → w ≡ record v { paging = record v.paging { pins = pairs_of (drop k frames) } } → length frames ≤ k → w ≡ record v { paging = record v.paging { pins = [] } }
   unpin_end k w now le = now ∙ ap (λ (l : List Write). record v { paging = record v.paging { pins = pairs_of l } }) (drop_all frames k le)
@@ -215,16 +212,8 @@ module _ (z : Setup) (held : List Write) (v : View) (s : IsUndone held v) (list 
   restore_start = ap (λ (l : List (ℕ × ℕ)). record v { tx = record v.tx { owned = l } }) s.owned_are
 
   module _ (k : ℕ) (w : View) (now : w ≡ record v { tx = record v.tx { owned = pairs_of (drop k held) } }) (x : Write) (is : slice_get held k ≡ Some x) where
-    next_lock : drop k held ≡ x ∷ drop (k + 1) held
-    next_lock = drop_next held k x is
-
-    locks_apart : HasDistinctPlaces (x ∷ drop (k + 1) held)
-    locks_apart = subst HasDistinctPlaces next_lock (distinct_drop held k list.distinct)
-
     pub restore_old : find w.tx.owned x.at ≡ Some x.value
-    restore_old =
-        ap (λ (u : View). find u.tx.owned x.at) now ∙ (ap (λ (l : List Write). find (pairs_of l) x.at) next_lock
-        ∙ (find_pairs (x ∷ drop (k + 1) held) locks_apart x.at ∙ rw (eq-eqb x.at x.at refl) refl))
+    restore_old = ap (λ (u : View). find u.tx.owned x.at) now ∙ next_there held list k x is
 
     pub restore_may : IsSeated z w → May z (restore x.at) w
     restore_may seated = record {
@@ -235,11 +224,7 @@ module _ (z : Setup) (held : List Write) (v : View) (s : IsUndone held v) (list 
     }
 
     pub restore_more : (y : View) → y ≡ view_after z (restore x.at) w 0 → y ≡ record v { tx = record v.tx { owned = pairs_of (drop (k + 1) held) } }
-    restore_more y e =
-        let gone : without w.tx.owned x.at ≡ pairs_of (drop (k + 1) held) =
-        ap (λ (u : View). without u.tx.owned x.at) now ∙ (ap (λ (l : List Write). without (pairs_of l) x.at) next_lock
-        ∙ without_last (pairs_of (drop (k + 1) held)) x.at x.value (find_pairs (drop (k + 1) held) (distinct_rest x (drop (k + 1) held) locks_apart) x.at ∙ absent_first x (drop (k + 1) held) locks_apart)) in
-        e ∙ (ap (λ (u : View). record u { tx = record u.tx { owned = without w.tx.owned x.at } }) now ∙ ap (λ (l : List (ℕ × ℕ)). record v { tx = record v.tx { owned = l } }) gone)
+    restore_more y e = e ∙ lock_gone held v list k w now x is
 
   pub restore_end : (k : ℕ) (w : View) → w ≡ record v { tx = record v.tx { owned = pairs_of (drop k held) } } → length held ≤ k → w ≡ record v { tx = record v.tx { owned = [] } }
   restore_end k w now le = now ∙ ap (λ (l : List Write). record v { tx = record v.tx { owned = pairs_of l } }) (drop_all held k le)
