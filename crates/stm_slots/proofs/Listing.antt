@@ -42,15 +42,4 @@ module _ (z : Setup) where
   -- with other records that left their boxes with the turn
   pub lists_taken : (s : Stage) (l : BackLists) (taken now : List (ℕ × RedoRecord)) → ListsKept z s l taken
       → (l.state.dead ≡ false → (b n : ℕ) → get_elem? s.boxes b ≡ some n → 0 < n → HasRecord l.records n → (r : RedoRecord) × Contains now (b, r)) → ListsKept z s l now
-  lists_taken s l taken now k in_hand = record {
-    lawful = k.lawful;
-    rings = k.rings;
-    pages = k.pages;
-    durable = k.durable;
-    reproduced = k.reproduced;
-    fault = k.fault;
-    persisted = k.persisted;
-    handed = k.handed;
-    in_hand = in_hand;
-    ordered = k.ordered;
-  }
+  lists_taken s l taken now k in_hand = record { lawful = k.lawful; rings = k.rings; pages = k.pages; durable = k.durable; reproduced = k.reproduced; fault = k.fault; persisted = k.persisted; handed = k.handed; in_hand = in_hand; ordered = k.ordered }

@@ -18,7 +18,7 @@ use Rattle.stm_slots.specs.Rule.{SlotsKeptBy}
 use Rattle.stm_slots.specs.declared.slot.Slot.{Slot}
 use Rattle.stm_slots.specs.declared.opening.Opening.{Opening}
 use Rattle.stm_slots.proofs.Listing.{lists_owned}
-use Rattle.stm_slots.proofs.Wording.{mapped_on, held_on}
+use Rattle.stm_slots.proofs.Wording.{mapped_on, held_on, reworded}
 
 -- the owner w has the open number and the turn as v has them; its box is the same where it has an open number
 pub record IsLike (w v : Owner) : Type 0 where
@@ -98,21 +98,11 @@ module _ {M : Type 0} {ghosts : Ghosts M} (sight : M → Sight) (o : Opening M g
 
     -- what a seat keeps doesn't matter where its view hasn't the turn
     pub beside_changed : (id : ℕ) (v : Owner) (x : Beside) → get_elem? s.owners id ≡ some v → v.has_turn ≡ false → SlotsKeptBy sight o s (set xs id x) homes hands
-    beside_changed id v x at_v none_has = record {
-      sized = k.sized;
-      seats = length-set xs id x ∙ k.seats;
-      count = k.count;
-      queues = k.queues;
-      lists = k.lists;
-      pages = k.pages;
-      boxes = k.boxes;
-      shown = k.shown;
-      home = k.home;
-      held = λ j p y at at_y has. ⊎_elim
-          (λ e. absurd (true≢false (sym has ∙ (ap (λ (a : Owner). a.has_turn) (some-injective p v (sym at ∙ (ap (get_elem? s.owners) e.0 ∙ at_v))) ∙ none_has))))
-          (λ e. k.held j p y at e.1 has)
-          (at_set xs id j x y at_y);
-    }
+    beside_changed id v x at_v none_has = reworded sight o s xs homes hands k s (set xs id x) hands k.lists.durable k.lists.reproduced k.shown k.pages (length-set xs id x) k.home
+        (λ j p y at at_y has. ⊎_elim
+        (λ e. absurd (true≢false (sym has ∙ (ap (λ (a : Owner). a.has_turn) (some-injective p v (sym at ∙ (ap (get_elem? s.owners) e.0 ∙ at_v))) ∙ none_has))))
+        (λ e. k.held j p y at e.1 has)
+        (at_set xs id j x y at_y))
 
     abbrev s2 : Stage
     s2 = record s { owners = s.owners ++ idler ∷ [] }
