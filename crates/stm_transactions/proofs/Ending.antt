@@ -1,5 +1,5 @@
 -- What a pass is after its transaction.
-use Rattle.std.proofs.Common.{◌≡◌, ℕ, suc, ◌+◌, ◌<◌, ◌≤◌, ◌==◌, ◌||◌, Bool, true, false, List, [], ◌∷◌, ◌++◌, ◌%◌, append-nil, refl, sym, ap, ◌∙◌, eq-eqb, arith}
+use Rattle.std.proofs.Common.{◌≡◌, ℕ, suc, ◌+◌, ◌-◌, ◌<◌, ◌≤◌, ◌==◌, ◌||◌, Bool, true, false, List, [], ◌∷◌, ◌++◌, ◌%◌, append-nil, refl, sym, ap, ◌∙◌, eq-eqb, arith}
 use Rattle.std.specs.Prelude.{Result, Ok, Err, IfOk, IfErr, MatchResult}
 use Rattle.std.specs.List.{All}
 use Rattle.atomic_table.specs.declared.shared.Seat.{Seat}
@@ -54,59 +54,47 @@ of_on : (thread : ℕ) (v w : View) → w.part ≡ v.part → IsOf thread v → 
 of_on thread v w same o = record { live = ap (λ (p : Part). p.is_spent) same ∙ o.live; its = ap (λ (p : Part). p.thread) same ∙ o.its }
 
 module _ (z : Setup) (f : PassNumbers) (v : View) (t : Describes z f v) where
-  pub describes_ended : (w : View) → HasEnded v w → Describes z f w
-  describes_ended w e = record {
-    of = of_on f.thread v w e.part t.of;
-    next = ap (λ b. b.next) e.box ∙ t.next;
-    last = t.last ∙ ap (λ (l : List Entry). greatest z.first (entry_numbers l)) (sym e.entries);
-    drawn = t.drawn ∙ ap (λ (l : List ℕ). greatest 0 l) (sym e.drawn);
-    left = e.draws ∙ t.left;
-    splits = ap (λ (p : Part). p.splits) e.part ∙ t.splits;
-    durable = ap (λ (u : Turn). u.durable) e.turn ∙ t.durable;
-    met_fault = ap (λ (u : Turn). u.met_fault) e.turn ∙ t.met_fault;
+  -- other numbers of its own, the next box and the draws that are left: its part, and what it knows of the turn, are as before
+  describes_on : (next last drawn left : ℕ) (had_turn : Bool) (w : View) → w.part ≡ v.part → w.turn ≡ v.turn → w.box.next ≡ next → last ≡ greatest z.first (entry_numbers w.entries) → drawn ≡ greatest 0 w.drawn → w.draws ≡ left
+      → Describes z (record f { next = next; last = last; drawn = drawn; left = left; had_turn = had_turn }) w
+  describes_on next last drawn left had_turn w part turn next_is last_is drawn_is left_is = record {
+    of = of_on f.thread v w part t.of;
+    next = next_is;
+    last = last_is;
+    drawn = drawn_is;
+    left = left_is;
+    splits = ap (λ (p : Part). p.splits) part ∙ t.splits;
+    durable = ap (λ (u : Turn). u.durable) turn ∙ t.durable;
+    met_fault = ap (λ (u : Turn). u.met_fault) turn ∙ t.met_fault;
     few = t.few;
     opening = t.opening;
   }
+
+  -- no entry, or no number, is new
+  last_still : (w : View) → w.entries ≡ v.entries → f.last ≡ greatest z.first (entry_numbers w.entries)
+  last_still w same = t.last ∙ ap (λ (l : List Entry). greatest z.first (entry_numbers l)) (sym same)
+
+  drawn_still : (w : View) → w.drawn ≡ v.drawn → f.drawn ≡ greatest 0 w.drawn
+  drawn_still w same = t.drawn ∙ ap (λ (l : List ℕ). greatest 0 l) (sym same)
+
+  pub describes_ended : (w : View) → HasEnded v w → Describes z f w
+  describes_ended w e = describes_on f.next f.last f.drawn f.left f.had_turn w e.part e.turn (ap (λ b. b.next) e.box ∙ t.next) (last_still w e.entries) (drawn_still w e.drawn) (e.draws ∙ t.left)
 
   pub describes_entered : (n : ℕ) (a : About) (reads : List (ℕ × ℕ)) (ws : List Write) (w : View) → HasEntered z n a reads ws v w → Describes z (after_commit (has_writes ws) (Ok n) z.boxes f) w
-  describes_entered n a reads [] w e = record {
-    of = of_on f.thread v w e.part t.of;
-    next = e.next ∙ t.next;
-    last = sym (ap (λ (l : List Entry). greatest z.first (entry_numbers l)) e.entries ∙ greatest_entry z.first v.entries _ e.from e.upto);
-    drawn = t.drawn ∙ ap (λ (l : List ℕ). greatest 0 l) (sym (e.drawn ∙ append-nil v.drawn));
-    left = (let d = e.draws in let l = t.left in omega arith);
-    splits = ap (λ (p : Part). p.splits) e.part ∙ t.splits;
-    durable = ap (λ (u : Turn). u.durable) e.turn ∙ t.durable;
-    met_fault = ap (λ (u : Turn). u.met_fault) e.turn ∙ t.met_fault;
-    few = t.few;
-    opening = t.opening;
-  }
-  describes_entered n a reads (x ∷ ws) w e = record {
-    of = of_on f.thread v w e.part t.of;
-    next = e.next ∙ ap (λ (k : ℕ). (k + 1) % z.boxes) t.next;
-    last = sym (ap (λ (l : List Entry). greatest z.first (entry_numbers l)) e.entries ∙ greatest_entry z.first v.entries _ e.from e.upto);
-    drawn = sym (ap (λ (l : List ℕ). greatest 0 l) e.drawn ∙ greatest_push 0 v.drawn n (omega arith) (e.newest (omega arith)));
-    left = (let d = e.draws in let l = t.left in omega arith);
-    splits = ap (λ (p : Part). p.splits) e.part ∙ t.splits;
-    durable = ap (λ (u : Turn). u.durable) e.turn ∙ t.durable;
-    met_fault = ap (λ (u : Turn). u.met_fault) e.turn ∙ t.met_fault;
-    few = t.few;
-    opening = t.opening;
-  }
+  describes_entered n a reads [] w e = describes_on f.next n f.drawn f.left f.had_turn w e.part e.turn (e.next ∙ t.next)
+      (sym (ap (λ (l : List Entry). greatest z.first (entry_numbers l)) e.entries ∙ greatest_entry z.first v.entries _ e.from e.upto))
+      (drawn_still w (e.drawn ∙ append-nil v.drawn))
+      (let d = e.draws in let l = t.left in omega arith)
+  describes_entered n a reads (x ∷ ws) w e = describes_on ((f.next + 1) % z.boxes) n n (f.left - 1) false w e.part e.turn (e.next ∙ ap (λ (k : ℕ). (k + 1) % z.boxes) t.next)
+      (sym (ap (λ (l : List Entry). greatest z.first (entry_numbers l)) e.entries ∙ greatest_entry z.first v.entries _ e.from e.upto))
+      (sym (ap (λ (l : List ℕ). greatest 0 l) e.drawn ∙ greatest_push 0 v.drawn n (omega arith) (e.newest (omega arith))))
+      (let d = e.draws in let l = t.left in omega arith)
 
   describes_drew : (snapshot : ℕ) (reads : List (ℕ × ℕ)) (lock seen n : ℕ) (w : View) → HasLost z f.thread snapshot reads lock seen n v w → Describes z (after_draw n z.boxes f) w
-  describes_drew snapshot reads lock seen n w e = record {
-    of = of_on f.thread v w e.part t.of;
-    next = e.next ∙ ap (λ (k : ℕ). (k + 1) % z.boxes) t.next;
-    last = t.last ∙ ap (λ (l : List Entry). greatest z.first (entry_numbers l)) (sym e.entries);
-    drawn = sym (ap (λ (l : List ℕ). greatest 0 l) e.drawn ∙ greatest_push 0 v.drawn n (omega arith) e.newest);
-    left = (let d = e.draws in let l = t.left in omega arith);
-    splits = ap (λ (p : Part). p.splits) e.part ∙ t.splits;
-    durable = ap (λ (u : Turn). u.durable) e.turn ∙ t.durable;
-    met_fault = ap (λ (u : Turn). u.met_fault) e.turn ∙ t.met_fault;
-    few = t.few;
-    opening = t.opening;
-  }
+  describes_drew snapshot reads lock seen n w e = describes_on ((f.next + 1) % z.boxes) f.last n (f.left - 1) false w e.part e.turn (e.next ∙ ap (λ (k : ℕ). (k + 1) % z.boxes) t.next)
+      (last_still w e.entries)
+      (sym (ap (λ (l : List ℕ). greatest 0 l) e.drawn ∙ greatest_push 0 v.drawn n (omega arith) e.newest))
+      (let d = e.draws in let l = t.left in omega arith)
 
 -- what all ends leave
 pub record LeavesIdle (v w : View) : Type 0 where
