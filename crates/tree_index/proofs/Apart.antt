@@ -56,6 +56,17 @@ slot_own root [] = inl refl
 slot_own root (OnZeros at bit ones ∷ path) = own_fork root (leaves_of ones ++ leaves_along path) (at ∷ (forks_of ones ++ forks_along path)) at 2 (at + 2) (first_among at (forks_of ones ++ forks_along path)) (omega arith) (omega arith) refl
 slot_own root (OnOnes at bit zeros ∷ path) = own_fork root (leaves_of zeros ++ leaves_along path) (at ∷ (forks_of zeros ++ forks_along path)) at 3 (at + 3) (first_among at (forks_of zeros ++ forks_along path)) (omega arith) (omega arith) refl
 
+-- What stays of an inner record of a path and of the path behind it: the record's bit, its link to the shape beside the path, that
+-- shape, and all words behind; with what is known of the records behind
+record StaysBeside (tree : Tree) (old new : List ℕ) (at o : ℕ) (beside : Shape) (path : List Frame) : Type 0 where
+  bit : slice_index new at ≡ slice_index old at
+  link : slice_index new (at + o) ≡ slice_index old (at + o)
+  holds : Holds old beside → Holds new beside
+  behind : (i : ℕ) → IsOwn tree.root (leaves_along path) (forks_along path) i → slice_index new i ≡ slice_index old i
+  leaves : (x : ℕ) → Contains (leaves_along path) x → IsRecord tree.leaves x
+  forks : (x : ℕ) → Contains (forks_along path) x → IsRecord tree.inner x
+  distinct : IsDistinct eqb (forks_along path)
+
 -- Where a tree fits:
 module _ {tree : Tree} {n : ℕ} (fits : FitsTree tree n) where
   -- words of other inner records, of leaves and of the root are none of an inner record's
@@ -64,37 +75,32 @@ module _ {tree : Tree} {n : ℕ} (fits : FitsTree tree n) where
   own_apart ls fs at k i there small leaf inner differ (inr (inl c)) = λ same. omega (arith, (fits.records at there).records i (leaf i c), fits.leaf_size, fits.inner_size, small, same)
   own_apart ls fs at k i there small leaf inner differ (inr (inr fork)) = λ same. omega (arith, records_apart (inner fork.0 fork.1) there (differ fork.0 fork.1), fits.inner_size, small, fork.4, fork.5, same)
 
-  -- what holds of the path stays where its words do, all but the one that links what was reached
+  -- an inner record, what stands beside the path there, and the words behind it stay where all do but the one that links what was reached
+  stays_beside : (old new : List ℕ) (at k o : ℕ) (beside : Shape) (path : List Frame) → o + k ≡ 5 → 1 < o → 1 < k → ((x : ℕ) → Contains (leaves_of beside ++ leaves_along path) x → IsRecord tree.leaves x) → ((x : ℕ) → Contains (at ∷ (forks_of beside ++ forks_along path)) x → IsRecord tree.inner x) → IsDistinct eqb (at ∷ (forks_of beside ++ forks_along path)) → ((i : ℕ) → IsOwn tree.root (leaves_of beside ++ leaves_along path) (at ∷ (forks_of beside ++ forks_along path)) i → i ≢ at + k → slice_index new i ≡ slice_index old i) → StaysBeside tree old new at o beside path
+  stays_beside old new at k o beside path sum o_high k_high leaf inner distinct same =
+      let forks = forks_of beside ++ forks_along path in
+      let leaves = leaves_of beside ++ leaves_along path in
+      let apart : (i : ℕ) → IsOwn tree.root leaves forks i → i ≢ at + k = λ i own. own_apart leaves forks at k i (inner at (first_among at forks)) (omega (arith, sum, o_high)) leaf (λ x c. inner x (other_among x at forks c)) (first_differs at forks distinct) own in
+      let keep : (i : ℕ) → IsOwn tree.root leaves forks i → slice_index new i ≡ slice_index old i = λ i own. same i (own_more tree.root i leaves forks leaves (at ∷ forks) (λ x c. c) (λ x c. other_among x at forks c) own) (apart i own) in
+      record {
+        bit = same at (own_fork tree.root leaves (at ∷ forks) at 0 at (first_among at forks) (omega arith) (omega arith) (omega arith)) (omega (arith, k_high));
+        link = same (at + o) (own_fork tree.root leaves (at ∷ forks) at o (at + o) (first_among at forks) (omega (arith, o_high)) (omega (arith, sum, k_high)) refl) (omega (arith, sum));
+        holds = holds_same old new beside (λ i own. keep i (inr (of_more i (leaves_of beside) (forks_of beside) leaves forks (λ x c. Contains-append_left (leaves_of beside) (leaves_along path) x c) (λ x c. Contains-append_left (forks_of beside) (forks_along path) x c) own)));
+        behind = λ i own. keep i (own_more tree.root i (leaves_along path) (forks_along path) leaves forks (λ x c. Contains-append_right (leaves_of beside) (leaves_along path) x c) (λ x c. Contains-append_right (forks_of beside) (forks_along path) x c) own);
+        leaves = λ x c. leaf x (Contains-append_right (leaves_of beside) (leaves_along path) x c);
+        forks = λ x c. inner x (other_among x at forks (Contains-append_right (forks_of beside) (forks_along path) x c));
+        distinct = distinct_behind (forks_of beside) (forks_along path) (IsDistinct-tail eqb at forks distinct);
+      }
+
+  -- what holds of the path stays where its words do, all but that one
   pub along_same : (old new : List ℕ) (path : List Frame) → ((x : ℕ) → Contains (leaves_along path) x → IsRecord tree.leaves x) → ((x : ℕ) → Contains (forks_along path) x → IsRecord tree.inner x) → IsDistinct eqb (forks_along path) → ((i : ℕ) → IsOwn tree.root (leaves_along path) (forks_along path) i → i ≢ slot_of tree.root path → slice_index new i ≡ slice_index old i) → Along old tree.root path → Along new tree.root path
   along_same old new [] leaf inner distinct same along = tt
   along_same old new (OnZeros at bit ones ∷ path) leaf inner distinct same along =
-      let forks = forks_of ones ++ forks_along path in
-      let leaves = leaves_of ones ++ leaves_along path in
-      let there = inner at (first_among at forks) in
-      let apart : (i : ℕ) → IsOwn tree.root leaves forks i → i ≢ at + 2 = λ i own. own_apart leaves forks at 2 i there (omega arith) leaf (λ x c. inner x (other_among x at forks c)) (first_differs at forks distinct) own in
-      let keep : (i : ℕ) → IsOwn tree.root leaves forks i → slice_index new i ≡ slice_index old i = λ i own. same i (own_more tree.root i leaves forks leaves (at ∷ forks) (λ x c. c) (λ x c. other_among x at forks c) own) (apart i own) in
-      let behind : (i : ℕ) → IsOwn tree.root (leaves_along path) (forks_along path) i → slice_index new i ≡ slice_index old i = λ i own. keep i (own_more tree.root i (leaves_along path) (forks_along path) leaves forks (λ x c. Contains-append_right (leaves_of ones) (leaves_along path) x c) (λ x c. Contains-append_right (forks_of ones) (forks_along path) x c) own) in (
-        same at (own_fork tree.root leaves (at ∷ forks) at 0 at (first_among at forks) (omega arith) (omega arith) (omega arith)) (omega arith) ∙ along.0,
-        same (at + 3) (own_fork tree.root leaves (at ∷ forks) at 3 (at + 3) (first_among at forks) (omega arith) (omega arith) refl) (omega arith) ∙ along.1,
-        holds_same old new ones (λ i own. keep i (inr (of_more i (leaves_of ones) (forks_of ones) leaves forks (λ x c. Contains-append_left (leaves_of ones) (leaves_along path) x c) (λ x c. Contains-append_left (forks_of ones) (forks_along path) x c) own))) along.2,
-        behind (slot_of tree.root path) (slot_own tree.root path) ∙ along.3,
-        along_same old new path (λ x c. leaf x (Contains-append_right (leaves_of ones) (leaves_along path) x c)) (λ x c. inner x (other_among x at forks (Contains-append_right (forks_of ones) (forks_along path) x c)))
-            (distinct_behind (forks_of ones) (forks_along path) (IsDistinct-tail eqb at forks distinct)) (λ i own ne. behind i own) along.4,
-      )
+      let stays = stays_beside old new at 2 3 ones path (omega arith) (omega arith) (omega arith) leaf inner distinct same in
+      (stays.bit ∙ along.0, stays.link ∙ along.1, stays.holds along.2, stays.behind (slot_of tree.root path) (slot_own tree.root path) ∙ along.3, along_same old new path stays.leaves stays.forks stays.distinct (λ i own ne. stays.behind i own) along.4)
   along_same old new (OnOnes at bit zeros ∷ path) leaf inner distinct same along =
-      let forks = forks_of zeros ++ forks_along path in
-      let leaves = leaves_of zeros ++ leaves_along path in
-      let there = inner at (first_among at forks) in
-      let apart : (i : ℕ) → IsOwn tree.root leaves forks i → i ≢ at + 3 = λ i own. own_apart leaves forks at 3 i there (omega arith) leaf (λ x c. inner x (other_among x at forks c)) (first_differs at forks distinct) own in
-      let keep : (i : ℕ) → IsOwn tree.root leaves forks i → slice_index new i ≡ slice_index old i = λ i own. same i (own_more tree.root i leaves forks leaves (at ∷ forks) (λ x c. c) (λ x c. other_among x at forks c) own) (apart i own) in
-      let behind : (i : ℕ) → IsOwn tree.root (leaves_along path) (forks_along path) i → slice_index new i ≡ slice_index old i = λ i own. keep i (own_more tree.root i (leaves_along path) (forks_along path) leaves forks (λ x c. Contains-append_right (leaves_of zeros) (leaves_along path) x c) (λ x c. Contains-append_right (forks_of zeros) (forks_along path) x c) own) in (
-        same at (own_fork tree.root leaves (at ∷ forks) at 0 at (first_among at forks) (omega arith) (omega arith) (omega arith)) (omega arith) ∙ along.0,
-        same (at + 2) (own_fork tree.root leaves (at ∷ forks) at 2 (at + 2) (first_among at forks) (omega arith) (omega arith) refl) (omega arith) ∙ along.1,
-        holds_same old new zeros (λ i own. keep i (inr (of_more i (leaves_of zeros) (forks_of zeros) leaves forks (λ x c. Contains-append_left (leaves_of zeros) (leaves_along path) x c) (λ x c. Contains-append_left (forks_of zeros) (forks_along path) x c) own))) along.2,
-        behind (slot_of tree.root path) (slot_own tree.root path) ∙ along.3,
-        along_same old new path (λ x c. leaf x (Contains-append_right (leaves_of zeros) (leaves_along path) x c)) (λ x c. inner x (other_among x at forks (Contains-append_right (forks_of zeros) (forks_along path) x c)))
-            (distinct_behind (forks_of zeros) (forks_along path) (IsDistinct-tail eqb at forks distinct)) (λ i own ne. behind i own) along.4,
-      )
+      let stays = stays_beside old new at 3 2 zeros path (omega arith) (omega arith) (omega arith) leaf inner distinct same in
+      (stays.bit ∙ along.0, stays.link ∙ along.1, stays.holds along.2, stays.behind (slot_of tree.root path) (slot_own tree.root path) ∙ along.3, along_same old new path stays.leaves stays.forks stays.distinct (λ i own ne. stays.behind i own) along.4)
 
   -- nor are they a leaf that is none of these
   pub own_apart_leaf : (ls fs : List ℕ) (at i : ℕ) → IsRecord tree.leaves at → ((x : ℕ) → Contains fs x → IsRecord tree.inner x) → ((x : ℕ) → Contains ls x → x ≢ at) → IsOwn tree.root ls fs i → i ≢ at

@@ -170,10 +170,15 @@ module _ {tree : Tree} {n : ℕ} (fits : FitsTree tree n) (old linked middle new
 -- ---- the two cases of the last inner record
 
 module _ {tree : Tree} {n : ℕ} (fits : FitsTree tree n) (old middle new : List ℕ) (path : List Frame) (free_leaves free_inner : List ℕ) (key at over bit : ℕ) (beside : Shape) (size : length old ≡ n) where
-  pub drops_zeros : IsTree tree old (Some (plug (OnZeros over bit beside ∷ path) (Leaf at key))) free_leaves free_inner → GoesBy key 0 (OnZeros over bit beside ∷ path)
-      → Gives tree.inner over free_inner (forks_of (plug (OnZeros over bit beside ∷ path) (Leaf at key))) (slice_set old (slot_of tree.root path) (link_of beside)) middle
-      → Gives tree.leaves at free_leaves (leaves_of (plug (OnZeros over bit beside ∷ path) (Leaf at key))) middle new
-      → Drops tree key (Some (plug (OnZeros over bit beside ∷ path) (Leaf at key))) free_leaves free_inner old new
+  -- what is to be shown, where the last inner record is this one
+  abbrev pub DropsBy : Frame → Type 0
+  DropsBy frame =
+      IsTree tree old (Some (plug (frame ∷ path) (Leaf at key))) free_leaves free_inner → GoesBy key 0 (frame ∷ path)
+      → Gives tree.inner over free_inner (forks_of (plug (frame ∷ path) (Leaf at key))) (slice_set old (slot_of tree.root path) (link_of beside)) middle
+      → Gives tree.leaves at free_leaves (leaves_of (plug (frame ∷ path) (Leaf at key))) middle new
+      → Drops tree key (Some (plug (frame ∷ path) (Leaf at key))) free_leaves free_inner old new
+
+  pub drops_zeros : DropsBy (OnZeros over bit beside)
   drops_zeros lawful goes gives_inner gives_leaf =
       let open_up = opened old tree.root (OnZeros over bit beside ∷ path) (Leaf at key) lawful.rooted.0 lawful.rooted.1 in
       let radix = lawful.rooted.2 in
@@ -186,10 +191,7 @@ module _ {tree : Tree} {n : ℕ} (fits : FitsTree tree n) (old middle new : List
       (λ y c. inr (other_among y key (keys_of beside) c)) (λ m le r. radix_more bit m beside (omega (arith, r.0)) r.3) radix)
       (plug_keys (OnZeros over bit beside ∷ path) (Leaf at key)) (record { path = path; part = beside; bit = bit; without = refl; with_leaf = inl refl })
 
-  pub drops_ones : IsTree tree old (Some (plug (OnOnes over bit beside ∷ path) (Leaf at key))) free_leaves free_inner → GoesBy key 0 (OnOnes over bit beside ∷ path)
-      → Gives tree.inner over free_inner (forks_of (plug (OnOnes over bit beside ∷ path) (Leaf at key))) (slice_set old (slot_of tree.root path) (link_of beside)) middle
-      → Gives tree.leaves at free_leaves (leaves_of (plug (OnOnes over bit beside ∷ path) (Leaf at key))) middle new
-      → Drops tree key (Some (plug (OnOnes over bit beside ∷ path) (Leaf at key))) free_leaves free_inner old new
+  pub drops_ones : DropsBy (OnOnes over bit beside)
   drops_ones lawful goes gives_inner gives_leaf =
       let open_up = opened old tree.root (OnOnes over bit beside ∷ path) (Leaf at key) lawful.rooted.0 lawful.rooted.1 in
       let radix = lawful.rooted.2 in

@@ -85,39 +85,48 @@ leaves_given {tree} fits over free taken free_leaves leaves linked middle over_i
 abbrev pub GivesLeaf : Tree → ℕ → List ℕ → List ℕ → Type 0
 GivesLeaf tree at middle new = (free taken : List ℕ) → IsPool tree.leaves middle free taken → ¬ Contains free at → Gives tree.leaves at free taken middle new
 
+-- what both did, where the last inner record passed is that of this frame, with `beside` on its other side
+both_given : {tree : Tree} {n : ℕ} → FitsTree tree n → (old middle new free_leaves free_inner : List ℕ) (key at over side : ℕ) (frame : Frame) (path : List Frame) (beside : Shape)
+    → leaves_along (frame ∷ path) ≡ leaves_of beside ++ leaves_along path → forks_along (frame ∷ path) ≡ over ∷ (forks_of beside ++ forks_along path)
+    → IsTree tree old (Some (plug (frame ∷ path) (Leaf at key))) free_leaves free_inner → slice_index old (over + 3 - side) ≡ link_of beside
+    → Unlinks tree (Some (record { at = over; slot = slot_of tree.root path; side = side })) old middle tt → GivesLeaf tree at middle new
+    → Gives tree.inner over free_inner (forks_of (plug (frame ∷ path) (Leaf at key))) (slice_set old (slot_of tree.root path) (link_of beside)) middle
+    × Gives tree.leaves at free_leaves (leaves_of (plug (frame ∷ path) (Leaf at key))) middle new
+both_given {tree} fits old middle new free_leaves free_inner key at over side frame path beside leaves_are forks_are lawful link cuts gives =
+    let whole = plug (frame ∷ path) (Leaf at key) in
+    let slot = slot_of tree.root path in
+    let own =
+    own_more tree.root slot (leaves_along path) (forks_along path) (leaves_along (frame ∷ path)) (forks_along (frame ∷ path))
+    (λ x c. subst (λ (l : List ℕ). Contains l x) (sym leaves_are) (Contains-append_right (leaves_of beside) (leaves_along path) x c))
+    (λ x c. subst (λ (l : List ℕ). Contains l x) (sym forks_are) (Contains-append_right (over ∷ forks_of beside) (forks_along path) x c)) (slot_own tree.root path) in
+    let pools = pools_stay fits old free_leaves free_inner (frame ∷ path) (Leaf at key) lawful slot (link_of beside) own in
+    let over_in = fork_among fits old free_leaves free_inner (frame ∷ path) (Leaf at key) lawful over (subst (λ (l : List ℕ). Contains l over) (sym forks_are) (first_among over (forks_of beside ++ forks_along path))) in
+    let at_in = leaf_among fits old free_leaves free_inner (frame ∷ path) (Leaf at key) lawful at (first_among at []) in
+    let linked : slice_set old slot (slice_index old (over + 3 - side)) ≡ slice_set old slot (link_of beside) = ap (λ v. slice_set old slot v) link in
+    let inner_gives : Gives tree.inner over free_inner (forks_of whole) (slice_set old slot (link_of beside)) middle =
+    subst (λ x. Gives tree.inner over free_inner (forks_of whole) x middle) linked
+    (cuts free_inner (forks_of whole) (subst (λ x. IsPool tree.inner x free_inner (forks_of whole)) (sym linked) pools.1) (not_free free_inner (forks_of whole) (omega (arith, fits.inner_size)) lawful.inner over over_in)) in (
+      inner_gives,
+      gives free_leaves (leaves_of whole)
+          (leaves_given fits over free_inner (forks_of whole) free_leaves (leaves_of whole) (slice_set old slot (link_of beside)) middle (taken_record lawful.inner over over_in) inner_gives pools.0)
+          (not_free free_leaves (leaves_of whole) (omega (arith, fits.leaf_size)) lawful.leaves at at_in),
+    )
+
 dropped_leaf : {tree : Tree} {n : ℕ} → FitsTree tree n → (old middle new free_leaves free_inner : List ℕ) (key at : ℕ) → length old ≡ n → (path : List Frame) → IsTree tree old (Some (plug path (Leaf at key))) free_leaves free_inner → GoesBy key 0 path → Unlinks tree (over_of tree.root path) old middle tt → GivesLeaf tree at middle new → Drops tree key (Some (plug path (Leaf at key))) free_leaves free_inner old new
 dropped_leaf {tree} {n} fits old middle new free_leaves free_inner key at size [] lawful goes cuts gives =
     let pools = pools_stay fits old free_leaves free_inner [] (Leaf at key) lawful tree.root 0 (inl refl) in
     drops_last fits old middle new free_leaves free_inner key at size lawful cuts
     (gives free_leaves (at ∷ []) (subst (λ x. IsPool tree.leaves x free_leaves (at ∷ [])) (sym cuts) pools.0) (not_free free_leaves (at ∷ []) (omega (arith, fits.leaf_size)) lawful.leaves at (first_among at [])))
 dropped_leaf {tree} {n} fits old middle new free_leaves free_inner key at size (OnZeros over bit beside ∷ path) lawful goes cuts gives =
-    let whole = plug (OnZeros over bit beside ∷ path) (Leaf at key) in
     let open_up = opened old tree.root (OnZeros over bit beside ∷ path) (Leaf at key) lawful.rooted.0 lawful.rooted.1 in
-    let slot = slot_of tree.root path in
-    let own = own_more tree.root slot (leaves_along path) (forks_along path) (leaves_of beside ++ leaves_along path) (over ∷ (forks_of beside ++ forks_along path)) (λ x c. Contains-append_right (leaves_of beside) (leaves_along path) x c) (λ x c. Contains-append_right (over ∷ forks_of beside) (forks_along path) x c) (slot_own tree.root path) in
-    let pools = pools_stay fits old free_leaves free_inner (OnZeros over bit beside ∷ path) (Leaf at key) lawful slot (link_of beside) own in
-    let over_in = fork_among fits old free_leaves free_inner (OnZeros over bit beside ∷ path) (Leaf at key) lawful over (first_among over (forks_of beside ++ forks_along path)) in
-    let at_in = leaf_among fits old free_leaves free_inner (OnZeros over bit beside ∷ path) (Leaf at key) lawful at (first_among at []) in
-    let linked : slice_set old slot (slice_index old (over + 3 - 0)) ≡ slice_set old slot (link_of beside) = ap (λ v. slice_set old slot v) (ap (λ x. slice_index old x) (let sum : over + 3 - 0 ≡ over + 3 = omega arith in sum) ∙ open_up.0.1) in
-    let inner_gives : Gives tree.inner over free_inner (forks_of whole) (slice_set old slot (link_of beside)) middle =
-    subst (λ x. Gives tree.inner over free_inner (forks_of whole) x middle) linked
-    (cuts free_inner (forks_of whole) (subst (λ x. IsPool tree.inner x free_inner (forks_of whole)) (sym linked) pools.1) (not_free free_inner (forks_of whole) (omega (arith, fits.inner_size)) lawful.inner over over_in)) in
-    drops_zeros fits old middle new path free_leaves free_inner key at over bit beside size lawful goes inner_gives
-    (gives free_leaves (leaves_of whole) (leaves_given fits over free_inner (forks_of whole) free_leaves (leaves_of whole) (slice_set old slot (link_of beside)) middle (taken_record lawful.inner over over_in) inner_gives pools.0) (not_free free_leaves (leaves_of whole) (omega (arith, fits.leaf_size)) lawful.leaves at at_in))
+    let link = ap (λ x. slice_index old x) (let sum : over + 3 - 0 ≡ over + 3 = omega arith in sum) ∙ open_up.0.1 in
+    let both = both_given fits old middle new free_leaves free_inner key at over 0 (OnZeros over bit beside) path beside refl refl lawful link cuts gives in
+    drops_zeros fits old middle new path free_leaves free_inner key at over bit beside size lawful goes both.0 both.1
 dropped_leaf {tree} {n} fits old middle new free_leaves free_inner key at size (OnOnes over bit beside ∷ path) lawful goes cuts gives =
-    let whole = plug (OnOnes over bit beside ∷ path) (Leaf at key) in
     let open_up = opened old tree.root (OnOnes over bit beside ∷ path) (Leaf at key) lawful.rooted.0 lawful.rooted.1 in
-    let slot = slot_of tree.root path in
-    let own = own_more tree.root slot (leaves_along path) (forks_along path) (leaves_of beside ++ leaves_along path) (over ∷ (forks_of beside ++ forks_along path)) (λ x c. Contains-append_right (leaves_of beside) (leaves_along path) x c) (λ x c. Contains-append_right (over ∷ forks_of beside) (forks_along path) x c) (slot_own tree.root path) in
-    let pools = pools_stay fits old free_leaves free_inner (OnOnes over bit beside ∷ path) (Leaf at key) lawful slot (link_of beside) own in
-    let over_in = fork_among fits old free_leaves free_inner (OnOnes over bit beside ∷ path) (Leaf at key) lawful over (first_among over (forks_of beside ++ forks_along path)) in
-    let at_in = leaf_among fits old free_leaves free_inner (OnOnes over bit beside ∷ path) (Leaf at key) lawful at (first_among at []) in
-    let linked : slice_set old slot (slice_index old (over + 3 - 1)) ≡ slice_set old slot (link_of beside) = ap (λ v. slice_set old slot v) (ap (λ x. slice_index old x) (let sum : over + 3 - 1 ≡ over + 2 = omega arith in sum) ∙ open_up.0.1) in
-    let inner_gives : Gives tree.inner over free_inner (forks_of whole) (slice_set old slot (link_of beside)) middle =
-    subst (λ x. Gives tree.inner over free_inner (forks_of whole) x middle) linked
-    (cuts free_inner (forks_of whole) (subst (λ x. IsPool tree.inner x free_inner (forks_of whole)) (sym linked) pools.1) (not_free free_inner (forks_of whole) (omega (arith, fits.inner_size)) lawful.inner over over_in)) in
-    drops_ones fits old middle new path free_leaves free_inner key at over bit beside size lawful goes inner_gives
-    (gives free_leaves (leaves_of whole) (leaves_given fits over free_inner (forks_of whole) free_leaves (leaves_of whole) (slice_set old slot (link_of beside)) middle (taken_record lawful.inner over over_in) inner_gives pools.0) (not_free free_leaves (leaves_of whole) (omega (arith, fits.leaf_size)) lawful.leaves at at_in))
+    let link = ap (λ x. slice_index old x) (let sum : over + 3 - 1 ≡ over + 2 = omega arith in sum) ∙ open_up.0.1 in
+    let both = both_given fits old middle new free_leaves free_inner key at over 1 (OnOnes over bit beside) path beside refl refl lawful link cuts gives in
+    drops_ones fits old middle new path free_leaves free_inner key at over bit beside size lawful goes both.0 both.1
 
 dropped : {tree : Tree} {n : ℕ} → FitsTree tree n → (old middle new free_leaves free_inner : List ℕ) (key : ℕ) → length old ≡ n → (path : List Frame) (rest : Shape) → EndsBelow 0 rest → IsTree tree old (Some (plug path rest)) free_leaves free_inner → GoesBy key 0 path → reached_key key rest ≡ key → Unlinks tree (over_of tree.root path) old middle tt → GivesLeaf tree (link_of rest) middle new → Drops tree key (Some (plug path rest)) free_leaves free_inner old new
 dropped fits old middle new free_leaves free_inner key size path (Fork at bit zeros ones) ends lawful goes same cuts gives = absurd (omega (arith, ends))

@@ -157,48 +157,52 @@ module _ {tree : Tree} {n : ℕ} (fits : FitsTree tree n) (old second new : List
 
   -- ---- what they hold afterwards
 
+  -- the array after each write but the last
+  abbrev with_key : List ℕ
+  with_key = slice_set second leaf key
+
+  abbrev with_bit : List ℕ
+  with_bit = slice_set with_key fork d
+
+  abbrev with_leaf : List ℕ
+  with_leaf = slice_set with_bit (fork + k) leaf
+
+  abbrev with_link : List ℕ
+  with_link = slice_set with_leaf (fork + l) link
+
+  bit_size : length with_bit ≡ n
+  bit_size = length-set with_key fork d ∙ length-set second leaf key ∙ size
+
+  leaf_size : length with_leaf ≡ n
+  leaf_size = length-set with_bit (fork + k) leaf ∙ bit_size
+
   slot_word : slice_index new slot ≡ fork
-  slot_word = ap (λ x. slice_index x slot) wrote ∙ get_or-set_same (slice_set (slice_set (slice_set (slice_set second leaf key) fork d) (fork + k) leaf) (fork + l) link) slot fork 0 (omega (
-    arith,
-    slot_below,
-    size,
-    length-set (slice_set (slice_set (slice_set second leaf key) fork d) (fork + k) leaf) (fork + l) link,
-    length-set (slice_set (slice_set second leaf key) fork d) (fork + k) leaf,
-    length-set (slice_set second leaf key) fork d,
-    length-set second leaf key,
-  ))
+  slot_word = ap (λ x. slice_index x slot) wrote ∙ get_or-set_same with_link slot fork 0 (omega (arith, slot_below, length-set with_leaf (fork + l) link, leaf_size))
 
   other_word : slice_index new (fork + l) ≡ link
   other_word = ap (λ x. slice_index x (fork + l)) wrote
-      ∙ get_or-set_other (slice_set (slice_set (slice_set (slice_set second leaf key) fork d) (fork + k) leaf) (fork + l) link) slot (fork + l) fork 0 (λ e. from_fork slot l l_high slot_among (sym e))
-      ∙ get_or-set_same (slice_set (slice_set (slice_set second leaf key) fork d) (fork + k) leaf) (fork + l) link 0 (omega (
-        arith,
-        fork_below l l_high,
-        size,
-        length-set (slice_set (slice_set second leaf key) fork d) (fork + k) leaf,
-        length-set (slice_set second leaf key) fork d,
-        length-set second leaf key,
-      ))
+      ∙ get_or-set_other with_link slot (fork + l) fork 0 (λ e. from_fork slot l l_high slot_among (sym e))
+      ∙ get_or-set_same with_leaf (fork + l) link 0 (omega (arith, fork_below l l_high, leaf_size))
 
   leaf_link : slice_index new (fork + k) ≡ leaf
   leaf_link = ap (λ x. slice_index x (fork + k)) wrote
-      ∙ get_or-set_other (slice_set (slice_set (slice_set (slice_set second leaf key) fork d) (fork + k) leaf) (fork + l) link) slot (fork + k) fork 0 (λ e. from_fork slot k k_high slot_among (sym e))
-      ∙ get_or-set_other (slice_set (slice_set (slice_set second leaf key) fork d) (fork + k) leaf) (fork + l) (fork + k) link 0 (λ e. apart (omega (arith, e)))
-      ∙ get_or-set_same (slice_set (slice_set second leaf key) fork d) (fork + k) leaf 0 (omega (arith, fork_below k k_high, size, length-set (slice_set second leaf key) fork d, length-set second leaf key))
+      ∙ get_or-set_other with_link slot (fork + k) fork 0 (λ e. from_fork slot k k_high slot_among (sym e))
+      ∙ get_or-set_other with_leaf (fork + l) (fork + k) link 0 (λ e. apart (omega (arith, e)))
+      ∙ get_or-set_same with_bit (fork + k) leaf 0 (omega (arith, fork_below k k_high, bit_size))
 
   bit_word : slice_index new fork ≡ d
   bit_word = ap (λ x. slice_index x fork) wrote
-      ∙ get_or-set_other (slice_set (slice_set (slice_set (slice_set second leaf key) fork d) (fork + k) leaf) (fork + l) link) slot fork fork 0 (λ e. from_fork slot 0 (omega arith) slot_among (omega (arith, e)))
-      ∙ get_or-set_other (slice_set (slice_set (slice_set second leaf key) fork d) (fork + k) leaf) (fork + l) fork link 0 (λ e. omega (arith, e, l_low))
-      ∙ get_or-set_other (slice_set (slice_set second leaf key) fork d) (fork + k) fork leaf 0 (λ e. omega (arith, e, k_low))
-      ∙ get_or-set_same (slice_set second leaf key) fork d 0 (omega (arith, fork_below 0 (omega arith), size, length-set second leaf key))
+      ∙ get_or-set_other with_link slot fork fork 0 (λ e. from_fork slot 0 (omega arith) slot_among (omega (arith, e)))
+      ∙ get_or-set_other with_leaf (fork + l) fork link 0 (λ e. omega (arith, e, l_low))
+      ∙ get_or-set_other with_bit (fork + k) fork leaf 0 (λ e. omega (arith, e, k_low))
+      ∙ get_or-set_same with_key fork d 0 (omega (arith, fork_below 0 (omega arith), size, length-set second leaf key))
 
   key_word : slice_index new leaf ≡ key
   key_word = ap (λ x. slice_index x leaf) wrote
-      ∙ get_or-set_other (slice_set (slice_set (slice_set (slice_set second leaf key) fork d) (fork + k) leaf) (fork + l) link) slot leaf fork 0 (λ e. from_leaf slot slot_among (sym e))
-      ∙ get_or-set_other (slice_set (slice_set (slice_set second leaf key) fork d) (fork + k) leaf) (fork + l) leaf link 0 (leaf_fork l l_high)
-      ∙ get_or-set_other (slice_set (slice_set second leaf key) fork d) (fork + k) leaf leaf 0 (leaf_fork k k_high)
-      ∙ get_or-set_other (slice_set second leaf key) fork leaf d 0 (λ e. leaf_fork 0 (omega arith) (omega (arith, e)))
+      ∙ get_or-set_other with_link slot leaf fork 0 (λ e. from_leaf slot slot_among (sym e))
+      ∙ get_or-set_other with_leaf (fork + l) leaf link 0 (leaf_fork l l_high)
+      ∙ get_or-set_other with_bit (fork + k) leaf leaf 0 (leaf_fork k k_high)
+      ∙ get_or-set_other with_key fork leaf d 0 (λ e. leaf_fork 0 (omega arith) (omega (arith, e)))
       ∙ get_or-set_same second leaf key 0 (omega (arith, leaf_below, size))
 
   rest_holds : Holds new rest

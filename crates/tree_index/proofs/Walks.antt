@@ -121,17 +121,20 @@ ends_step tree key floor words position none (Leaf at k) link held = tt
 ends_step tree key floor words position none (Fork at bit zeros ones) link held =
     omega (arith, none (subst (IsRecord tree.inner) (sym link) held.records.0), ap (λ x. slice_index words x) link, held.words.0)
 
--- where there is no further step
-pub stands_end : {tree : Tree} {key floor n : ℕ} {words : List ℕ} {whole : Shape} {position : TreePosition} → IsStep tree key floor position words None → Stands tree key floor words whole n position → Reaches tree key floor words whole position
-stands_end {tree} {key} {floor} {n} {words} {whole} {position} none s = record {
+reaches : {tree : Tree} {key floor n : ℕ} {words : List ℕ} {whole : Shape} {position : TreePosition} → (s : Stands tree key floor words whole n position) → EndsBelow floor s.shape → Reaches tree key floor words whole position
+reaches s ends = record {
   path = s.path;
   part = s.shape;
   is = s.is;
   at = s.at;
   steps = s.steps;
   held = s.held;
-  ends = ends_step tree key floor words position none s.shape (ap (λ (p : TreePosition). p.link) s.at) s.held;
+  ends = ends;
 }
+
+-- where there is no further step
+pub stands_end : {tree : Tree} {key floor n : ℕ} {words : List ℕ} {whole : Shape} {position : TreePosition} → IsStep tree key floor position words None → Stands tree key floor words whole n position → Reaches tree key floor words whole position
+stands_end {tree} {key} {floor} {n} {words} {whole} {position} none s = reaches s (ends_step tree key floor words position none s.shape (ap (λ (p : TreePosition). p.link) s.at) s.held)
 
 ends_out : (floor : ℕ) (shape : Shape) → IsRadix 0 shape → EndsBelow floor shape
 ends_out floor (Leaf at k) radix = tt
@@ -139,15 +142,7 @@ ends_out floor (Fork at bit zeros ones) radix = absurd (omega (arith, radix.0))
 
 -- or after 64 steps
 pub stands_out : {tree : Tree} {key floor n : ℕ} {words : List ℕ} {whole : Shape} {position : TreePosition} → 64 ≤ n → Stands tree key floor words whole n position → Reaches tree key floor words whole position
-stands_out {tree} {key} {floor} {n} {words} {whole} {position} all s = record {
-  path = s.path;
-  part = s.shape;
-  is = s.is;
-  at = s.at;
-  steps = s.steps;
-  held = s.held;
-  ends = ends_out floor s.shape (radix_more (64 - n) 0 s.shape (omega (arith, all)) s.radix);
-}
+stands_out {tree} {key} {floor} {n} {words} {whole} {position} all s = reaches s (ends_out floor s.shape (radix_more (64 - n) 0 s.shape (omega (arith, all)) s.radix))
 
 -- a step that was made is one by the bit that was read
 pub steps_on : (tree : Tree) (words : List ℕ) (key floor : ℕ) (position : TreePosition) (bit side link : ℕ) (turn : Option ℕ) → IsRecord tree.inner position.link → bit ≡ slice_index words position.link → floor ≤ bit → side ≡ bit_of key bit → link ≡ slice_index words (position.link + 2 + side) → turn ≡ turn_by side position.link position.turn
