@@ -51,6 +51,7 @@ fn get_subscriber(row: &ByteRecord) -> Result<Request, u64>
     Ok(Request::GetSubscriber { s_id })
 }
 
+#[tactic(auto, using(crate::proofs::Fields::fields_five))]
 fn get_destination(row: &ByteRecord) -> Result<Request, u64>
     ensures { result ≡ get_destination_of (drop 1 (fields_of row.now)) }
 {
@@ -80,6 +81,7 @@ fn get_access(row: &ByteRecord) -> Result<Request, u64>
     Ok(Request::GetAccess { s_id, ai_type })
 }
 
+#[tactic(auto, using(crate::proofs::Fields::fields_five))]
 fn update_subscriber(row: &ByteRecord) -> Result<Request, u64>
     ensures { result ≡ update_subscriber_of (drop 1 (fields_of row.now)) }
 {
@@ -109,6 +111,7 @@ fn update_location(row: &ByteRecord) -> Result<Request, u64>
     Ok(Request::UpdateLocation { sub_nbr, vlr })
 }
 
+#[tactic(auto, using(crate::proofs::Fields::fields_six))]
 fn insert_call(row: &ByteRecord) -> Result<Request, u64>
     ensures { result ≡ insert_call_of (drop 1 (fields_of row.now)) }
 {
