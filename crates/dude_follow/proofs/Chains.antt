@@ -11,7 +11,8 @@ use Rattle.redo_record.specs.Recovery.{AreConsecutive, Recovers}
 use Rattle.redo_record.proofs.Reproducing.{overwritten-append}
 use Rattle.back_store.specs.Back.{BackState}
 use Rattle.log_numbered.proofs.LoggedCalls.{settled_back, settled_by}
-use Rattle.dude_follow.specs.Applying.{AnnouncesAlone, Applies, AppliedBy, AppliedBy.none, AppliedBy.next, GoesOn, HoldsArray, Overwrites, PersistsAlone, RecoversAlong, RecoversThrough, ReproducesAlone, Tells}
+use Rattle.dude_follow.specs.Applying.{AnnouncesAlone, Applies, AppliedBy, AppliedBy.none, AppliedBy.next, GoesOn, HoldsArray, Overwrites, PersistsAlone, RecoversAlong, RecoversThrough, ReproducesAlone, Tells, WaitsAlone}
+use Rattle.dude_follow.proofs.Applying.{announced_waits}
 use Rattle.dude_follow.proofs.Leading.{consecutive_append}
 
 -- an image that recovers along the first of the packets recovers along all
@@ -92,7 +93,18 @@ applies_then xs ys v w x s t u later one other = record {
   calls = (one.calls.0 ++ other.calls.0, applied_then one.calls.1 other.calls.1, made_then one.calls.2 other.calls.2);
 }
 
--- one packet, by its three steps
+-- ---- one packet, by its three steps
+
+pub goes_through : {ok : Bool} (v w x y : BackState) (s t u r : Sight) → GoesOn true v s w t → GoesOn true w t x u → GoesOn ok x u y r → GoesOn ok v s y r
+goes_through v w x y s t u r one other last = goes_then v w y s t r one (goes_then w x y t u r other last)
+
+pub through_one : (b : RedoBundle) (v w x : BackState) (s t u r : Sight) → GoesOn true v s w t → GoesOn true w t x u → PersistsAlone b v s w t → ((c : RedoBundle) → WaitsAlone c w → AnnouncesAlone c w t x u)
+    → RecoversThrough (b ∷ []) v s t → ((c : RedoBundle) → WaitsAlone c w → RecoversThrough (c ∷ []) w t u) → ((c : RedoBundle) → WaitsAlone c x → RecoversThrough (c ∷ []) x u r) → RecoversThrough (b ∷ []) v s r
+through_one b v w x s t u r goes onward one announces moments middle last =
+    let other = announces b one.waits in
+    through_same v w s t r (b ∷ []) goes.sizes one.number one.overwrites moments
+    (through_same w x t u r (b ∷ []) onward.sizes (ap (λ (y : BackState). y.log.reproduced) other.back) other.overwrites (middle b one.waits) (last b (announced_waits w x b one.waits other.back)))
+
 pub applies_one : (b : RedoBundle) (v w x y : BackState) (s t u r : Sight) → GoesOn true v s w t → GoesOn true w t x u → first_of b ≡ v.log.reproduced + 1
     → PersistsAlone b v s w t → AnnouncesAlone b w t x u → ReproducesAlone b x u y r → Applies (b ∷ []) v s y r
 applies_one b v w x y s t u r goes onward first one other last = record {

@@ -1,5 +1,5 @@
 -- What a follower does with a packet, by what the rule says.
-use Rattle.std.proofs.Common.{◌≡◌, ℕ, ◌+◌, ◌≤◌, false, true, List, [], ◌∷◌, All, filter, nat_lt, is_ok, Result, Ok, Err, append-nil, refl, sym, ap, ◌∙◌, subst}
+use Rattle.std.proofs.Common.{◌≡◌, ℕ, ◌+◌, ◌≤◌, Bool, false, true, List, [], ◌∷◌, All, filter, nat_lt, is_ok, Result, Ok, Err, append-nil, refl, sym, ap, ◌∙◌, subst}
 use Rattle.std.specs.Prelude.{IfOk, OnOk}
 use Rattle.std.proofs.lemmas.List.Elements.{All-filter}
 use Rattle.dude_base.specs.declared.limits.TheConstants.{MAX_NUMBER}
@@ -97,6 +97,16 @@ module _ {M : Type 0} {ghosts : Ghosts M} (b : RedoBundle) (f g : Follower M gho
   reached : ℕ → FollowerState
   reached number = record { number = number; kept = filter (λ c. nat_lt number c.last) (follower_state f).kept }
 
+  takes_chain : {ok : Bool} → IsNew (follower_state f) b → first_of b ≡ (follower_state f).number + 1 → (chain : AppliesChain (follower_state f).kept b ok (follower_back f) (follower_sight f) (follower_back g) (follower_sight g))
+      → Takes (follower_room f) (follower_state f) b (Applied chain.end) (b ∷ chain.more) (reached chain.end)
+  unfolding reached
+  takes_chain new first chain = (
+    new,
+    first,
+    record { more = chain.more; records_are = refl; from_kept = chain.from_kept; lead = chain.lead; none_next = chain.none_next; kept = refl },
+    refl,
+  )
+
   pub takes_next : (result : Result Taken FollowFault) → IsNew (follower_state f) b → first_of b ≡ (follower_state f).number + 1
       → GoesOn (is_ok result) (follower_back f) (follower_sight f) (follower_back g) (follower_sight g)
       → AppliesChain (follower_state f).kept b (is_ok result) (follower_back f) (follower_sight f) (follower_back g) (follower_sight g)
@@ -107,12 +117,7 @@ module _ {M : Type 0} {ghosts : Ghosts M} (b : RedoBundle) (f g : Follower M gho
     answer = Applied chain.end;
     packets = b ∷ chain.more;
     after = reached chain.end;
-    takes = (
-      new,
-      first,
-      record { more = chain.more; records_are = refl; from_kept = chain.from_kept; lead = chain.lead; none_next = chain.none_next; kept = refl },
-      refl,
-    );
+    takes = takes_chain new first chain;
     ok = (is ∙ ap (λ n. Applied n) (chain.number refl), state_with (follower_state g).number (follower_state g).kept (filter (λ c. nat_lt (follower_state g).number c.last) (follower_state f).kept) kept ∙ ap reached (chain.number refl));
     applies = chain.whole refl;
     ran = goes.ran;
@@ -126,12 +131,7 @@ module _ {M : Type 0} {ghosts : Ghosts M} (b : RedoBundle) (f g : Follower M gho
     answer = Applied chain.end;
     packets = b ∷ chain.more;
     after = reached chain.end;
-    takes = (
-      new,
-      first,
-      record { more = chain.more; records_are = refl; from_kept = chain.from_kept; lead = chain.lead; none_next = chain.none_next; kept = refl },
-      refl,
-    );
+    takes = takes_chain new first chain;
     ok = tt;
     applies = tt;
     ran = goes.ran;

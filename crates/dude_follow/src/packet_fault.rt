@@ -1,5 +1,8 @@
 //! Why bytes aren't read as packets.
 
+ghost use Rattle.std.specs.Prelude.{◌≡◌};
+ghost use Rattle.dude_follow.specs.declared.packet_fault.PacketFault.TheVariants.{NoMemory};
+
 use std::alloc::AllocError;
 
 /// Why bytes aren't read as packets.
@@ -12,9 +15,6 @@ pub enum PacketFault {
 }
 
 impl From<AllocError> for PacketFault {
-    ghost use Rattle.std.specs.Prelude.{◌≡◌};
-    ghost use Rattle.dude_follow.specs.declared.packet_fault.PacketFault.TheVariants.{NoMemory};
-
     ghost from_gives = { λ _ fault. fault ≡ NoMemory };
 
     fn from(_error: AllocError) -> PacketFault {

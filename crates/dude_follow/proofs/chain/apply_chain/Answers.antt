@@ -20,8 +20,7 @@ pub loop-k-preserved : goal.loop-k-preserved
 loop-k-preserved g c =
     let kept = c.args.buffer.now.kept.items in
     let one = c.index.result.now in
-    let found = c.in-Some.ensures.some in
-    let next = next_at kept c.in-Some.k c.number.result (replica_back c.loop-k.replica).log.reproduced one found.0 found.1 c.number.ensures.number (search (rules, c.index.ensures)) in
+    let next = next_at kept c.in-Some.k c.number.result (replica_back c.loop-k.replica).log.reproduced one c.in-Some.ensures.some.0 c.in-Some.ensures.some.1 c.number.ensures.number (search (rules, c.index.ensures)) in
     goes_further kept c.args.b.now one (replica_back c.args.replica.now) (replica_back c.loop-k.replica) (replica_back c.apply-in-Some.new.self) (replica_sight c.args.replica.now) (replica_sight c.loop-k.replica) (replica_sight c.apply-in-Some.new.self)
     c.loop-k.invariant next.0 c.in_ok-apply-2.ensures.goes_on c.in_ok-apply-2.ensures.applies c.in_ok-apply-2.ensures.moments
 
@@ -29,8 +28,7 @@ pub loop-k-smaller : goal.loop-k-smaller
 loop-k-smaller g c =
     let kept = c.args.buffer.now.kept.items in
     let one = c.index.result.now in
-    let found = c.in-Some.ensures.some in
-    let next = next_at kept c.in-Some.k c.number.result (replica_back c.loop-k.replica).log.reproduced one found.0 found.1 c.number.ensures.number (search (rules, c.index.ensures)) in
+    let next = next_at kept c.in-Some.k c.number.result (replica_back c.loop-k.replica).log.reproduced one c.in-Some.ensures.some.0 c.in-Some.ensures.some.1 c.number.ensures.number (search (rules, c.index.ensures)) in
     nearer (replica_back c.loop-k.replica).log.reproduced (replica_back c.apply-in-Some.new.self).log.reproduced one c.in_ok-apply-2.ensures.applies.lead
     (All-contains (IsPacket (replica_back c.args.replica.now).log.sizes) kept one c.requires.packets next.0).numbers.high
 
@@ -44,8 +42,7 @@ pub returns-in_err-apply-2-clause-chain : goal.returns-in_err-apply-2-clause-cha
 returns-in_err-apply-2-clause-chain g c =
     let kept = c.args.buffer.now.kept.items in
     let one = c.index.result.now in
-    let found = c.in-Some.ensures.some in
-    let next = next_at kept c.in-Some.k c.number.result (replica_back c.loop-k.replica).log.reproduced one found.0 found.1 c.number.ensures.number (search (rules, c.index.ensures)) in
+    let next = next_at kept c.in-Some.k c.number.result (replica_back c.loop-k.replica).log.reproduced one c.in-Some.ensures.some.0 c.in-Some.ensures.some.1 c.number.ensures.number (search (rules, c.index.ensures)) in
     let err : is_ok c.from_residual-in_err-apply-2.result ≡ false = search rules in
     rw err (chain_stopped (replica_back c.args.replica.now).log.sizes kept c.requires.packets c.args.b.now one (replica_back c.args.replica.now) (replica_back c.loop-k.replica) (replica_back c.apply-in-Some.new.self) (replica_sight c.args.replica.now) (replica_sight c.loop-k.replica) (replica_sight c.apply-in-Some.new.self)
     c.loop-k.invariant next.0 next.1 c.in_err-apply-2.ensures.number c.in_err-apply-2.ensures.moments)

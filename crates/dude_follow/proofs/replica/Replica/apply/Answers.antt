@@ -1,10 +1,9 @@
 use Rattle.std.proofs.Common.{◌≡◌, [], ◌∷◌, ap, false, is_ok, rules}
-use Rattle.pmem_trait.specs.Sights.{Sight}
 use Rattle.back_store.specs.Back.{BackState}
 use Rattle.back_store.specs.BackView.{sight_of, state_of}
 use Rattle.dude_follow.specs.Replica.{replica_back, replica_sight}
 use Rattle.dude_follow.proofs.Applying.{announced_waits, rests_behind}
-use Rattle.dude_follow.proofs.Chains.{applies_one, goes_then, through_same}
+use Rattle.dude_follow.proofs.Chains.{applies_one, goes_then, goes_through, through_one, through_same}
 use Rattle.dude_follow.proofs.replica.Replica.apply.Goals as goal
 
 pub persist-requires-clause-rests : goal.persist-requires-clause-rests
@@ -23,24 +22,13 @@ returns-in_err-announce-clause-goes_on g c =
 
 pub returns-in_err-reproduce_all-clause-goes_on : goal.returns-in_err-reproduce_all-clause-goes_on
 returns-in_err-reproduce_all-clause-goes_on g c =
-    let w : BackState = state_of c.persist.new.back in
-    let x : BackState = state_of c.announce.new.back in
-    let y : BackState = state_of c.reproduce_all.new.back in
-    let t : Sight = sight_of c.persist.new.back in
-    let u : Sight = sight_of c.announce.new.back in
-    let r : Sight = sight_of c.reproduce_all.new.back in
     let err : is_ok c.from_residual-in_err-reproduce_all.result ≡ false = search rules in
-    rw err (goes_then (replica_back c.args.self.now) w y (replica_sight c.args.self.now) t r c.in_ok-persist.ensures.goes_on (goes_then w x y t u r c.in_ok-announce.ensures.goes_on c.in_err-reproduce_all.ensures.goes_on))
+    rw err (goes_through (replica_back c.args.self.now) (state_of c.persist.new.back) (state_of c.announce.new.back) (state_of c.reproduce_all.new.back) (replica_sight c.args.self.now) (sight_of c.persist.new.back) (sight_of c.announce.new.back) (sight_of c.reproduce_all.new.back)
+    c.in_ok-persist.ensures.goes_on c.in_ok-announce.ensures.goes_on c.in_err-reproduce_all.ensures.goes_on)
 
 pub returns-clause-goes_on : goal.returns-clause-goes_on
-returns-clause-goes_on g c =
-    let w : BackState = state_of c.persist.new.back in
-    let x : BackState = state_of c.announce.new.back in
-    let y : BackState = state_of c.reproduce_all.new.back in
-    let t : Sight = sight_of c.persist.new.back in
-    let u : Sight = sight_of c.announce.new.back in
-    let r : Sight = sight_of c.reproduce_all.new.back in
-    goes_then (replica_back c.args.self.now) w y (replica_sight c.args.self.now) t r c.in_ok-persist.ensures.goes_on (goes_then w x y t u r c.in_ok-announce.ensures.goes_on c.in_ok-reproduce_all.ensures.goes_on)
+returns-clause-goes_on g c = goes_through (replica_back c.args.self.now) (state_of c.persist.new.back) (state_of c.announce.new.back) (state_of c.reproduce_all.new.back) (replica_sight c.args.self.now) (sight_of c.persist.new.back) (sight_of c.announce.new.back) (sight_of c.reproduce_all.new.back)
+    c.in_ok-persist.ensures.goes_on c.in_ok-announce.ensures.goes_on c.in_ok-reproduce_all.ensures.goes_on
 
 pub returns-in_err-announce-clause-moments : goal.returns-in_err-announce-clause-moments
 returns-in_err-announce-clause-moments g c =
@@ -59,20 +47,8 @@ invariant_of-self-2 g c =
     record { announced = λ alive. (rests alive).durable; none_waits = λ alive. (rests alive).none_waits }
 
 pub returns-in_err-reproduce_all-clause-moments : goal.returns-in_err-reproduce_all-clause-moments
-returns-in_err-reproduce_all-clause-moments g c =
-    let w : BackState = state_of c.persist.new.back in
-    let x : BackState = state_of c.announce.new.back in
-    let s : Sight = replica_sight c.args.self.now in
-    let t : Sight = sight_of c.persist.new.back in
-    let u : Sight = sight_of c.announce.new.back in
-    let r : Sight = sight_of c.reproduce_all.new.back in
-    let b = c.args.b.now in
-    let one = c.in_ok-persist.ensures in
-    let two = c.in_ok-announce.ensures in
-    let other = two.announces b one.persists.waits in
-    through_same (replica_back c.args.self.now) w s t r (b ∷ []) one.goes_on.sizes one.persists.number one.persists.overwrites one.moments
-    (through_same w x t u r (b ∷ []) two.goes_on.sizes (ap (λ (y : BackState). y.log.reproduced) other.back) other.overwrites (two.moments b one.persists.waits)
-    (c.in_err-reproduce_all.ensures.moments b (announced_waits w x b one.persists.waits other.back)))
+returns-in_err-reproduce_all-clause-moments g c = through_one c.args.b.now (replica_back c.args.self.now) (state_of c.persist.new.back) (state_of c.announce.new.back) (replica_sight c.args.self.now) (sight_of c.persist.new.back) (sight_of c.announce.new.back) (sight_of c.reproduce_all.new.back)
+    c.in_ok-persist.ensures.goes_on c.in_ok-announce.ensures.goes_on c.in_ok-persist.ensures.persists c.in_ok-announce.ensures.announces c.in_ok-persist.ensures.moments c.in_ok-announce.ensures.moments c.in_err-reproduce_all.ensures.moments
 
 pub returns-clause-applies : goal.returns-clause-applies
 returns-clause-applies g c =
@@ -87,17 +63,5 @@ returns-clause-applies g c =
     (c.in_ok-reproduce_all.ensures.reproduces b (announced_waits w x b one.persists.waits other.back) (ap (λ (y : BackState). y.log.durable) other.back))
 
 pub returns-clause-moments : goal.returns-clause-moments
-returns-clause-moments g c =
-    let w : BackState = state_of c.persist.new.back in
-    let x : BackState = state_of c.announce.new.back in
-    let s : Sight = replica_sight c.args.self.now in
-    let t : Sight = sight_of c.persist.new.back in
-    let u : Sight = sight_of c.announce.new.back in
-    let r : Sight = sight_of c.reproduce_all.new.back in
-    let b = c.args.b.now in
-    let one = c.in_ok-persist.ensures in
-    let two = c.in_ok-announce.ensures in
-    let other = two.announces b one.persists.waits in
-    through_same (replica_back c.args.self.now) w s t r (b ∷ []) one.goes_on.sizes one.persists.number one.persists.overwrites one.moments
-    (through_same w x t u r (b ∷ []) two.goes_on.sizes (ap (λ (y : BackState). y.log.reproduced) other.back) other.overwrites (two.moments b one.persists.waits)
-    (c.in_ok-reproduce_all.ensures.moments b (announced_waits w x b one.persists.waits other.back)))
+returns-clause-moments g c = through_one c.args.b.now (replica_back c.args.self.now) (state_of c.persist.new.back) (state_of c.announce.new.back) (replica_sight c.args.self.now) (sight_of c.persist.new.back) (sight_of c.announce.new.back) (sight_of c.reproduce_all.new.back)
+    c.in_ok-persist.ensures.goes_on c.in_ok-announce.ensures.goes_on c.in_ok-persist.ensures.persists c.in_ok-announce.ensures.announces c.in_ok-persist.ensures.moments c.in_ok-announce.ensures.moments c.in_ok-reproduce_all.ensures.moments
