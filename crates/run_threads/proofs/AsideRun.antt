@@ -18,6 +18,7 @@ use Rattle.tatp_model.specs.Database.{Database}
 use Rattle.tatp_model.specs.Request.{IsInRange}
 use Rattle.tatp_model.specs.OneThread.{HoldsPrefixes, PrecedesInFiles}
 use Rattle.run_order.specs.Runs.{StandApart}
+use Rattle.run_order.proofs.FileOrder.{in_files_from_holding}
 use Rattle.run_order.proofs.Pairs.{all_behind}
 use Rattle.legal_order.specs.Rests.{IsUnion, files_of, firsts_of, rests_of, shifted}
 use Rattle.image_opening.specs.declared.opened.Opened.{Opened}
@@ -49,14 +50,16 @@ use Rattle.run_threads.specs.Parts.{AreInParts, AreParts, AreRests, IsCounted}
 use Rattle.run_threads.specs.Ran.{RanFrom, Start, StandsAt, opening_of}
 use Rattle.run_threads.specs.SetAside.{HasSetAside}
 use Rattle.run_threads.specs.Starts.{start_of}
+use Rattle.run_threads.specs.Streamed.{StandFirst}
 use Rattle.run_threads.proofs.Answering as answering
 use Rattle.run_threads.proofs.Closing.{has_run, told_where}
 use Rattle.run_threads.proofs.Finishing.{unless_whole}
 use Rattle.run_threads.proofs.Parting.{as_many, count_done, count_held, count_parts}
 use Rattle.run_threads.proofs.Reopening.{ran_behind}
 use Rattle.run_threads.proofs.RestsRun.{ran_rests}
+use Rattle.run_threads.proofs.Standing.{stand_first}
 use Rattle.run_threads.proofs.ToldOnTheWay.{floor_before, told_in}
-use Rattle.run_threads.proofs.Uniting.{apart, counted}
+use Rattle.run_threads.proofs.Uniting.{all_shifted, apart, counted, under_firsts}
 
 -- ---- operations leave the sizes of the image
 reproduced_sizes : (b : Bool) (v w : BackState) → w.log.sizes ≡ v.log.sizes → (if b then v else w).log.sizes ≡ v.log.sizes
@@ -232,3 +235,10 @@ module _ {M : Type 0} {ghosts : Ghosts M} (o : Opening M ghosts) (sizes : Sizes)
           (raised new.number number new.back home.ended) counts h.view.draws h.rests new.words.items home.words.values collected all union ends last u behind
           (holds new.number number new.back home.ended new.words.items (λ first before. reopened o h.view first before home))
           (λ whole. operates new.number number new.back home.ended u (behind.operates whole))
+
+      -- what threads did stands first in it
+      pub first_of_all : (all : List Done) → IsPermutation (done ++ map (shifted (slice_index counts)) collected) all → (AllPairs StandApart (done ++ map (shifted (slice_index counts)) collected) → AllPairs PrecedesInFiles all) → StandFirst done all
+      first_of_all all same sorted =
+          let union : IsUnion (slice_index counts) done collected all = record { same = same; sorted = sorted (apart (slice_index counts) parts done collected h.rests.lengths h.rests.all held) } in
+          stand_first (slice_index counts) done collected all (in_files_from_holding (firsts_of parts) done h.rests.all) (under_firsts (slice_index counts) (firsts_of parts) done h.rests.lengths h.rests.all)
+          (all_shifted (slice_index counts) collected) (in_files_from_holding held.0 collected held.2) union

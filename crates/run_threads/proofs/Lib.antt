@@ -13,4 +13,6 @@ pub mod RestsRun
 pub mod Reopening
 pub mod Parting
 pub mod Uniting
+pub mod Standing
 pub mod AsideRun
+pub mod StreamedRun

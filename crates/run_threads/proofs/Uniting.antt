@@ -51,7 +51,7 @@ under_counts : (counts : ℕ → ℕ) (file : ℕ) (files : List (List Request))
 under_counts counts file [] lengths = tt
 under_counts counts file (f ∷ files) lengths = ((let l = lengths.0 in omega arith), under_counts counts (file + 1) files lengths.1)
 
-all_shifted : (counts : ℕ → ℕ) (done : List Done) → All (λ d. counts d.file ≤ d.index) (map (shifted counts) done)
+pub all_shifted : (counts : ℕ → ℕ) (done : List Done) → All (λ d. counts d.file ≤ d.index) (map (shifted counts) done)
 all_shifted counts [] = All-nil (λ (d : Done). counts d.file ≤ d.index)
 all_shifted counts (d ∷ done) = All-cons (λ (e : Done). counts e.file ≤ e.index) (shifted counts d) (map (shifted counts) done) (omega arith) (all_shifted counts done)
 
@@ -65,12 +65,17 @@ apart_shifted counts d e before file index = let same = ap counts file in
 apart_across : (counts : ℕ → ℕ) (d e : Done) → d.index < counts d.file → counts e.file ≤ e.index → StandApart d e
 apart_across counts d e under over file index = let same = ap counts file in absurd (omega arith)
 
+-- the first requests of files stand at indices under their counts
+pub under_firsts : (counts : ℕ → ℕ) (files : List (List Request)) (done : List Done) → LengthsAre counts 0 files → AllAreDone files done → All (λ d. d.index < counts d.file) done
+under_firsts counts files done lengths all =
+    All-weaker (λ (d : Done). (d.file < length files) × (d.index < counts d.file)) (λ d. d.index < counts d.file) (λ d h. h.1) done (done_under counts files done (under_counts counts 0 files lengths) all)
+
 -- the first requests of files, and behind them some of the rests
 pub apart : (counts : ℕ → ℕ) (parts : List (List Request × List Request)) (threads collected : List Done) → LengthsAre counts 0 (firsts_of parts) → AllAreDone (firsts_of parts) threads → HoldsPrefixes (rests_of parts) collected → AllPairs StandApart (threads ++ map (shifted counts) collected)
 apart counts parts threads collected lengths all held =
     let firsts = firsts_of parts in
     pairs_append StandApart (λ d. d.index < counts d.file) (λ d. counts d.file ≤ d.index) (apart_across counts) threads (map (shifted counts) collected)
-    (All-weaker (λ (d : Done). (d.file < length firsts) × (d.index < counts d.file)) (λ d. d.index < counts d.file) (λ d h. h.1) threads (done_under counts firsts threads (under_counts counts 0 firsts lengths) all))
+    (under_firsts counts firsts threads lengths all)
     (all_shifted counts collected)
     (pairs_weaker PrecedesInFiles StandApart threads apart_in_files (in_files_from_holding firsts threads all))
     (pairs_mapped StandApart (shifted counts) collected (pairs_weaker PrecedesInFiles (λ d e. StandApart (shifted counts d) (shifted counts e)) collected (apart_shifted counts) (in_files_from_holding held.0 collected held.2)))
@@ -108,3 +113,20 @@ counted files counts parts collected are small held =
 pub small_files : (files : List (Vec Request Global)) → All (λ f. length f < 2 ^ 64) (map (λ f. f.items) files)
 small_files [] = All-nil (λ (f : List Request). length f < 2 ^ 64)
 small_files (v ∷ files) = All-cons (λ (f : List Request). length f < 2 ^ 64) v.items (map (λ f. f.items) files) (let a = v.ok.0 in let b = v.ok.1 in let d = v.small in omega arith) (small_files files)
+
+-- ---- of which files
+one_in : (file count n : ℕ) (requests : List Request) → file < count → All (λ r. r.file < count) (map (indexed file) (enumerate_from n requests))
+one_in file count n [] there = All-nil (λ (r : IndexedRequest). r.file < count)
+one_in file count n (q ∷ requests) there = All-cons (λ (r : IndexedRequest). r.file < count) (indexed file (n, q)) (map (indexed file) (enumerate_from (n + 1) requests)) there (one_in file count (n + 1) requests there)
+
+all_in : (file count : ℕ) (files : List (List Request)) → file + length files ≤ count → All (λ r. r.file < count) (indexed_requests_from file files)
+all_in file count [] few = All-nil (λ (r : IndexedRequest). r.file < count)
+all_in file count (f ∷ files) few =
+    All-append (λ (r : IndexedRequest). r.file < count) (map (indexed file) (enumerate_from 0 f)) (indexed_requests_from (file + 1) files)
+    (one_in file count 0 f (omega arith)) (all_in (file + 1) count files (omega arith))
+
+-- each request done is of one of the files
+pub files_under : (files : List (List Request)) (done : List Done) → HoldsPrefixes files done → All (λ d. d.file < length files) done
+files_under files done held =
+    let many = same_length IsPrefixOf held.0 files held.1 in
+    of_places (λ (r : IndexedRequest). r.file < length files) done (subst (λ (l : List IndexedRequest). All (λ r. r.file < length files) l) (sym held.2) (all_in 0 (length files) held.0 (omega arith)))

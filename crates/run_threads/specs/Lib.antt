@@ -2,6 +2,7 @@ pub mod Answers
 pub mod Ends
 pub mod HasRun
 pub mod Ran
+pub mod Streamed
 pub mod Starts
 pub mod HasRests
 pub mod Served

@@ -1,9 +1,12 @@
 //! What threads left is made durable, and what they set aside is run behind them.
 
-ghost use Rattle.std.specs.Prelude.{◌≡◌, ◌≤◌, length, map};
+ghost use Rattle.std.specs.Prelude.{◌≡◌, ◌≢◌, ◌≤◌, length, map};
 ghost use Rattle.back_store.specs.BackView.{medium_of, state_of};
+ghost use Rattle.dude_engine.specs.declared.ran.RanEnd.TheVariants.{Whole as WholeRun};
 ghost use Rattle.dude_engine.specs.Requests.{AreInRange};
+ghost use Rattle.run_workers.specs.declared.work_end.WorkEnd.TheVariants.{NoMemory as NoMemoryEnd};
 ghost use Rattle.run_threads.specs.Served.{RunsOn, WasServed};
+ghost use Rattle.run_threads.specs.Streamed.{StandFirst};
 
 use crate::rests::run_rests;
 use crate::served::Served;
@@ -28,7 +31,9 @@ pub(crate) fn finish<M: Medium>(
     requires served { WasServed M.sight lay frames (map (λ f. f.items) files.now) served }
     requires rings { length files.now ≤ lay.rings }
     requires in_range { AreInRange (map (λ f. f.items) files.now) }
-    ensures { RunsOn M.sight lay frames (map (λ f. f.items) files.now) served result }
+    ensures ran { RunsOn M.sight lay frames (map (λ f. f.items) files.now) served result }
+    ensures first { StandFirst served.done.items result.done.items }
+    ensures memory { served.end ≡ NoMemoryEnd → result.end ≢ WholeRun }
 {
     let Served {
         mut closed,

@@ -3,6 +3,7 @@
 ghost use Rattle.std.specs.Prelude.{◌≤◌, length, map};
 ghost use Rattle.dude_engine.specs.Requests.{AreInRange};
 ghost use Rattle.run_threads.specs.SetAside.{RunsBehind, WasSetAside};
+ghost use Rattle.run_threads.specs.Streamed.{StandFirst};
 
 use crate::ending::end_with;
 use crate::rest_files::{left_of_files, reserve};
@@ -29,8 +30,9 @@ pub(crate) fn run_rests<M: Medium>(
         done.items counts.items }
     requires rings { length files.now ≤ lay.rings }
     requires in_range { AreInRange (map (λ f. f.items) files.now) }
-    ensures { RunsBehind M.sight lay frames (map (λ f. f.items) files.now) closed done.items
+    ensures ran { RunsBehind M.sight lay frames (map (λ f. f.items) files.now) closed done.items
         counts.items result }
+    ensures first { StandFirst done.items result.done.items }
 {
     let Ok(rests) = left_of_files(alloc, files, counts.as_slice()) else {
         return end_with(done, closed, RanEnd::NoMemory);

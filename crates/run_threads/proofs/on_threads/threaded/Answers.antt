@@ -18,7 +18,7 @@ returns-in-Ok g c =
     let o = c.args.opened in let run = c.args.run.now in let threads = length c.args.files.now in let opened = c.requires.opened in let held = c.requires.may.held in
     let files = map (λ f. f.items) c.args.files.now in let r = c.finish.result in let t = table_of c.in-Ok.stm in let u = g.M.Medium.sight r.medium in
     let started = c.in-Ok.ensures.ok in
-    let ran = ran_over o run threads opened t c.in-Ok.pass started held files r.done.items r.end r.last u (c.finish.ensures t.key (frames_are o run threads opened t c.in-Ok.pass started) c.serve-served.ensures) in
+    let ran = ran_over o run threads opened t c.in-Ok.pass started held files r.done.items r.end r.last u (c.finish.ensures.ran t.key (frames_are o run threads opened t c.in-Ok.pass started) c.serve-served.ensures) in
     record {
       replies = answers o run threads opened held files r.done.items r.end r.last u ran;
       syncs = syncs o run threads opened held files r.done.items r.end r.last u ran;

@@ -11,13 +11,14 @@ use Rattle.dude_engine.specs.declared.ran.RanEnd.TheVariants.{Device, NoMemory}
 use Rattle.dude_engine.specs.Requests.{AreInRange, HasNumberEach, request_count}
 use Rattle.run_threads.specs.Parts.{AreRests, IsCounted}
 use Rattle.run_threads.specs.Starts.{start_of}
-use Rattle.run_threads.proofs.AsideRun.{all_counted, as_long, cut_off, few, fits, in_range, may_read, no_memory, numbers, ran_all, room, size}
+use Rattle.run_threads.proofs.AsideRun.{all_counted, as_long, cut_off, few, first_of_all, fits, in_range, may_read, no_memory, numbers, ran_all, room, size}
 use Rattle.run_threads.proofs.Finishing.{ran_same}
+use Rattle.run_threads.proofs.Standing.{none_behind}
 use Rattle.run_threads.proofs.Uniting.{small_files}
 use Rattle.run_threads.proofs.rests.run_rests.Goals as goal
 
-pub returns-in_default : goal.returns-in_default
-returns-in_default g c = λ o h.
+pub returns-in_default-clause-ran : goal.returns-in_default-clause-ran
+returns-in_default-clause-ran g c = λ o h.
     let sight = g.M.Medium.sight in let a = c.args in let files = map (λ f. f.items) a.files.now in let e = c.end_with in
     ran_same (start_of sight o a.lay) files a.done.items e.result.done.items NoMemory e.result.end a.closed.number e.result.last (sight (medium_of a.closed.back)) (sight e.result.medium)
     e.ensures.done e.ensures.end (e.ensures.last ∙ h.ended.ended.durable) (ap sight e.ensures.medium)
@@ -31,8 +32,8 @@ reserve-requires g c =
     let same = ap (λ l. request_count (map (λ f. f.items) l)) c.as_slice-2.ensures.value in
     omega arith
 
-pub returns-in_default-reserve : goal.returns-in_default-reserve
-returns-in_default-reserve g c = λ o h.
+pub returns-in_default-reserve-clause-ran : goal.returns-in_default-reserve-clause-ran
+returns-in_default-reserve-clause-ran g c = λ o h.
     let sight = g.M.Medium.sight in let a = c.args in let files = map (λ f. f.items) a.files.now in let e = c.end_with-in_default-reserve in
     ran_same (start_of sight o a.lay) files a.done.items e.result.done.items NoMemory e.result.end a.closed.number e.result.last (sight (medium_of a.closed.back)) (sight e.result.medium)
     (e.ensures.done ∙ c.reserve.ensures.items) e.ensures.end (e.ensures.last ∙ h.ended.ended.durable) (ap sight e.ensures.medium)
@@ -43,8 +44,8 @@ read_home-requires g c =
     let a = c.args in let files = map (λ f. f.items) a.files.now in
     record { may = may_read c.requires.aside.0 a.lay a.frames files a.closed a.done.items a.counts.items c.requires.aside.1 }
 
-pub returns-in_default-read_home : goal.returns-in_default-read_home
-returns-in_default-read_home g c = λ o h.
+pub returns-in_default-read_home-clause-ran : goal.returns-in_default-read_home-clause-ran
+returns-in_default-read_home-clause-ran g c = λ o h.
     let sight = g.M.Medium.sight in let a = c.args in let files = map (λ f. f.items) a.files.now in let e = c.end_with-in_default-read_home in let new = c.read_home.new.closed in
     ran_same (start_of sight o a.lay) files a.done.items e.result.done.items Device e.result.end (state_of new.back).log.durable e.result.last (sight (medium_of new.back)) (sight e.result.medium)
     (e.ensures.done ∙ c.reserve.ensures.items) e.ensures.end e.ensures.last (ap sight e.ensures.medium)
@@ -109,8 +110,8 @@ unite-requires-clause-counted g c =
     subst (λ (l : List ℕ). All (IsCounted l) c.as_slice-in-Ok-reopen-2.result.now) (sym c.as_slice-in-Ok-reopen-3.ensures.value)
     (subst (λ (l : List Done). All (IsCounted a.counts.items) l) (sym c.as_slice-in-Ok-reopen-2.ensures.value) counted)
 
-pub returns-in-Ok-reopen : goal.returns-in-Ok-reopen
-returns-in-Ok-reopen g c = λ o h.
+pub returns-in-Ok-reopen-clause-ran : goal.returns-in-Ok-reopen-clause-ran
+returns-in-Ok-reopen-clause-ran g c = λ o h.
     let a = c.args in let files = map (λ f. f.items) a.files.now in
     let rests = map (λ f. f.items) c.as_slice-in-Ok-reopen.result.now in
     let are : AreRests files a.counts.items rests = subst (λ (l : List ℕ). AreRests files l rests) c.as_slice.ensures.value (subst (λ l. AreRests files c.as_slice.result.now (map (λ f. f.items) l)) (sym c.as_slice-in-Ok-reopen.ensures.value) c.in-Ok.ensures) in
@@ -123,10 +124,36 @@ returns-in-Ok-reopen g c = λ o h.
     ran.result.done.items ran.result.end ran.result.last (sight ran.result.medium) does.replies does.syncs does.moments does.end
     c.unite.new.done.items (subst (λ (l : List Done). IsPermutation l c.unite.new.done.items) all c.unite.ensures.same) (subst (λ (l : List Done). AllPairs StandApart l → AllPairs PrecedesInFiles c.unite.new.done.items) all c.unite.ensures.sorted)
 
-pub returns : goal.returns
-returns g c = λ o h.
+pub returns-clause-ran : goal.returns-clause-ran
+returns-clause-ran g c = λ o h.
     let sight = g.M.Medium.sight in let a = c.args in let files = map (λ f. f.items) a.files.now in let new = c.read_home.new.closed in
     let home = c.in-Ok-read_home.ensures.ok o h.view h.ended in
     ran_same (start_of sight o a.lay) files a.done.items c.reserve.new.done.items NoMemory NoMemory new.number new.number (sight (medium_of new.back)) (sight c.in-Err.medium)
     c.reserve.ensures.items refl refl (ap sight c.in-Err.ensures.medium)
     (no_memory o a.lay a.frames files a.closed a.done.items a.counts.items h new.number c.read_home.ensures.number new.back home.ended)
+
+pub returns-in_default-clause-first : goal.returns-in_default-clause-first
+returns-in_default-clause-first g c = none_behind c.args.done.items c.end_with.result.done.items c.end_with.ensures.done
+
+pub returns-in_default-reserve-clause-first : goal.returns-in_default-reserve-clause-first
+returns-in_default-reserve-clause-first g c = let e = c.end_with-in_default-reserve in none_behind c.args.done.items e.result.done.items (e.ensures.done ∙ c.reserve.ensures.items)
+
+pub returns-in_default-read_home-clause-first : goal.returns-in_default-read_home-clause-first
+returns-in_default-read_home-clause-first g c = let e = c.end_with-in_default-read_home in none_behind c.args.done.items e.result.done.items (e.ensures.done ∙ c.reserve.ensures.items)
+
+pub returns-in-Ok-reopen-clause-first : goal.returns-in-Ok-reopen-clause-first
+returns-in-Ok-reopen-clause-first g c =
+    let a = c.args in let files = map (λ f. f.items) a.files.now in let o = c.requires.aside.0 in let h = c.requires.aside.1 in
+    let rests = map (λ f. f.items) c.as_slice-in-Ok-reopen.result.now in
+    let are : AreRests files a.counts.items rests = subst (λ (l : List ℕ). AreRests files l rests) c.as_slice.ensures.value (subst (λ l. AreRests files c.as_slice.result.now (map (λ f. f.items) l)) (sym c.as_slice-in-Ok-reopen.ensures.value) c.in-Ok.ensures) in
+    let r = c.in-Ok-reopen in let ran = c.plain-behind in let does = ran.ensures in let sight = g.M.Medium.sight in
+    let them : List Done → List ℕ → List Done = λ l n. a.done.items ++ map (shifted (slice_index n)) l in
+    let all : c.reserve.new.done.items ++ map (shifted (slice_index c.as_slice-in-Ok-reopen-3.result.now)) c.as_slice-in-Ok-reopen-2.result.now ≡ them ran.result.done.items a.counts.items =
+    ap (λ (l : List Done). l ++ map (shifted (slice_index c.as_slice-in-Ok-reopen-3.result.now)) c.as_slice-in-Ok-reopen-2.result.now) c.reserve.ensures.items
+    ∙ ap (λ (l : List Done). them l c.as_slice-in-Ok-reopen-3.result.now) c.as_slice-in-Ok-reopen-2.ensures.value ∙ ap (λ (n : List ℕ). them ran.result.done.items n) c.as_slice-in-Ok-reopen-3.ensures.value in
+    first_of_all o a.lay a.frames files a.closed a.done.items a.counts.items h rests are c.read_home.new.closed c.read_home.ensures.number (c.in-Ok-read_home.ensures.ok o h.view h.ended) r.opened r.ensures.opened r.ensures.medium r.ensures.holds
+    ran.result.done.items ran.result.end ran.result.last (sight ran.result.medium) does.replies does.syncs does.moments does.end
+    c.unite.new.done.items (subst (λ (l : List Done). IsPermutation l c.unite.new.done.items) all c.unite.ensures.same) (subst (λ (l : List Done). AllPairs StandApart l → AllPairs PrecedesInFiles c.unite.new.done.items) all c.unite.ensures.sorted)
+
+pub returns-clause-first : goal.returns-clause-first
+returns-clause-first g c = none_behind c.args.done.items c.reserve.new.done.items c.reserve.ensures.items

@@ -1,0 +1,90 @@
+//! The requests of files, run on threads, of which the lines are printed meanwhile.
+
+ghost use Rattle.std.specs.Prelude.{◌≡◌, length, map};
+ghost use Rattle.back_store.specs.BackView.{sight_of};
+ghost use Rattle.dude_engine.specs.Opening.{Opening};
+ghost use Rattle.dude_engine.specs.Plain.{IsOpeningOf};
+ghost use Rattle.dude_stream.specs.Streams.{Streams};
+ghost use Rattle.image_opening.specs.Opened.{IsOpened};
+ghost use Rattle.run_threads.specs.Answers.{AnswersOnThreads, TellsSyncsOnThreads};
+ghost use Rattle.run_threads.specs.Ends.{EndsOnThreads, MayRunOn, RecoversOnThreads};
+ghost use Rattle.run_threads.specs.Streamed.{is_whole};
+
+use crate::beginning::begin;
+use crate::ending::finish;
+use crate::rest_lines::print_behind;
+use crate::stream_serving::serve_streaming;
+use crate::streamed_run::Streamed;
+use dude_base::run::Run;
+use dude_engine::{Ran, RanEnd};
+use dude_io::Sink;
+use dude_stream::law_of_streams;
+use image_opening::Opened;
+use pmem_trait::Medium;
+use request_attempts::gate::Gate;
+use std::alloc::Global;
+use std::thread::Threads;
+use tatp_model::Request;
+
+/// Runs the requests of files as `threaded` does, while a printer hands the sink a line of each reply. Lines that aren't printed
+/// when all threads are joined, and the last number, are printed behind a whole run. Where there is no memory for one of
+/// these the run ends with `NoMemory`. Where the sink fails the run goes on, and nothing more is printed.
+pub fn streamed<R: Threads + Sync, M: Medium + Send, G: Gate + Sync, K: Sink + Send>(
+    rt: &R,
+    alloc: Global,
+    opened: Opened<M>,
+    run: &Run,
+    files: &[Vec<Request>],
+    gate: &G,
+    out: &mut K,
+) -> Streamed<M>
+    requires opened { IsOpened opened }
+    requires may { MayRunOn opened run.now (length files.now) (map (λ f. f.items) files.now) }
+    ensures replies { (opening : Opening) → IsOpeningOf opened opening
+        → AnswersOnThreads run.now opening (map (λ f. f.items) files.now) result.ran.done.items
+        (sight_of opened.back) }
+    ensures syncs { TellsSyncsOnThreads opened.number result.ran.done.items
+        (sight_of opened.back) (M.sight result.ran.medium) }
+    ensures moments { (opening : Opening) → IsOpeningOf opened opening
+        → RecoversOnThreads opening opened.words.items result.ran.done.items
+        (sight_of opened.back) (M.sight result.ran.medium) }
+    ensures end { EndsOnThreads opened (map (λ f. f.items) files.now) result.ran.done.items
+        result.ran.end result.ran.last (M.sight result.ran.medium) }
+    ensures printed { Streams (is_whole result.ran.end) result.sink_failed
+        result.ran.done.items result.ran.last (K.sight out.old) (K.sight out.new) }
+{
+    let Opened {
+        back,
+        lay,
+        sizes: _,
+        words,
+        number,
+    } = opened;
+    law_of_streams();
+    match begin(alloc, back, words, number, run, files.len() as u64) {
+        Ok((stm, pass)) => {
+            let (served, printing) = serve_streaming(rt, alloc, stm, pass, &lay, files, gate, out);
+            let ran = finish(alloc, served, lay, run.frames, files);
+            match printing {
+                Some(printing) => print_behind(alloc, ran, printing, out),
+                None => Streamed {
+                    ran,
+                    sink_failed: false,
+                },
+            }
+        }
+        Err(back) => {
+            known_back::start(&back);
+            let ran = Ran {
+                done: Vec::new(alloc),
+                medium: back.into_medium(),
+                end: RanEnd::NoMemory,
+                last: number,
+            };
+            Streamed {
+                ran,
+                sink_failed: false,
+            }
+        }
+    }
+}
