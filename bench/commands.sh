@@ -86,6 +86,30 @@ try 10 '' 'audit line 3' copy.img audit right.txt good.csv good.csv good.csv goo
 try 2 '' 'usage' copy.img audit right.txt
 holds 'an audit leaves its image' cmp -s copy.img before.img
 
+# A stream: each reply stands behind the number of its file. It refuses what a run refuses, and where the output fails all is done.
+"$program" streamed.img format 8 96 2 16 > out 2> err < /dev/null
+try 0 $'1 1 OK\n1 1 DURABLE\nlast 1' 'durable 1' streamed.img stream good.csv
+try 0 $'1 2 OK\n1 2 DURABLE\nlast 2' 'durable 2' streamed.img stream --locks 1 good.csv
+try 2 '' 'usage' streamed.img stream
+try 2 '' 'usage' streamed.img stream --locks 0 good.csv
+try 2 '' 'usage' streamed.img stream --locks 1 --locks 1 good.csv
+try 2 '' 'usage' streamed.img stream --frames=15 good.csv
+try 2 '' 'usage' streamed.img stream good.csv --locks 1
+try 3 '' 'file 2' streamed.img stream good.csv none.csv
+try 4 '' 'file 1 record 2 field 0' streamed.img stream bad.csv
+try 5 '' 'too many files: 3 files, 2 rings' streamed.img stream good.csv good.csv good.csv
+try 5 '' 'frames 14, pages 15' streamed.img stream --frames 14 good.csv
+"$program" streamed.img stream good.csv > /dev/full 2> err
+holds 'a stream into a full output ends with 7' [ $? = 7 ]
+holds 'what a stream into a full output did is durable' [ "$(head -n -1 err | tail -n 1)" = 'durable 3' ]
+"$program" streamed.img stream good.csv 2> err | true
+holds 'a stream into a closed pipe ends with 7' [ "${PIPESTATUS[0]}" = 7 ]
+try 0 'last 4' 'durable 4' streamed.img recover
+"$program" streamed.img stream good.csv good.csv > out 2> err < /dev/null
+holds 'a stream of a file twice ends with 0' [ $? = 0 ]
+holds 'each line of a stream begins with the number of its file' [ "$(cut -d ' ' -f 1 out | sort | tr '\n' ' ')" = '1 1 2 2 last ' ]
+holds 'the last number of a stream stands last' [ "$(tail -n 1 out)" = 'last 6' ]
+
 # A follower of a shipped run: both packets in the other order, one alone, one cut off, and another leader's.
 "$program" lead.img format 8 96 2 16 > out 2> err < /dev/null
 cp lead.img follow.img
@@ -122,7 +146,7 @@ try 0 "$(sed -n 's/^durable \([0-9]*\).*/last \1/p' out)" "$(sed -n 's/^\(durabl
 cp new.img before.img
 exec 9<> new.img
 flock 9
-for words in recover dump 'run good.csv' 'drive 1 5 2' 'format 8 96 2 16' 'fresh 8 good.csv' 'audit right.txt good.csv' 'ship good.csv' 'follow first.bin'; do
+for words in recover dump 'run good.csv' 'stream good.csv' 'drive 1 5 2' 'format 8 96 2 16' 'fresh 8 good.csv' 'audit right.txt good.csv' 'ship good.csv' 'follow first.bin'; do
   try 6 '' 'device' new.img $words
 done
 exec 9>&-

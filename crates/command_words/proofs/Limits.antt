@@ -11,7 +11,7 @@ use Rattle.dude_base.specs.declared.limits.TheConstants.{MAX_RINGS}
 use Rattle.tatp_text.specs.Number.{is_decimal}
 use Rattle.command_words.specs.declared.command.Command.{Command}
 use Rattle.command_words.specs.declared.command.Command.TheVariants as command
-use Rattle.command_words.specs.Command.{Meaning, FreshRun, FormatImage, RunFiles, RecoverImage, DumpTables, DriveLoad, AuditRun, ShipFiles, FollowFiles, IsBetween, IsInLimits, alone, are_file_names, audit_of, drive_of, drive_with, follow_of, format_of, format_with, fresh_of, is_file_name, meaning_of_command, optional_number, run_of, run_with, run_words, ship_of, word_number}
+use Rattle.command_words.specs.Command.{Meaning, FreshRun, FormatImage, RunFiles, StreamFiles, RunArguments, RecoverImage, DumpTables, DriveLoad, AuditRun, ShipFiles, FollowFiles, IsBetween, IsInLimits, alone, are_file_names, audit_of, drive_of, drive_with, follow_of, format_of, format_with, fresh_of, is_file_name, meaning_of_command, optional_number, run_arguments, run_of, run_with, run_words, ship_of, stream_of, word_number}
 
 -- `IsInLimits`, of a meaning
 abbrev pub IsLawful : Meaning → Type 0
@@ -19,6 +19,7 @@ IsLawful (FreshRun subscribers file) = IsBetween 1 10_000 subscribers
 IsLawful (FormatImage subscribers calls rings cells) =
     IsBetween 1 10_000 subscribers × IsBetween 1 120_000 calls × IsBetween 1 MAX_RINGS rings × IsBetween 16 4_096 cells
 IsLawful (RunFiles frames locks files) = IfSome frames (IsBetween 1 32_768) × IfSome locks (IsBetween 1 65_536) × (0 < length files)
+IsLawful (StreamFiles frames locks files) = IfSome frames (IsBetween 1 32_768) × IfSome locks (IsBetween 1 65_536) × (0 < length files)
 IsLawful RecoverImage = ⊤
 IsLawful DumpTables = ⊤
 IsLawful (DriveLoad seed count files) = (seed < 2 ^ 64) × (count ≤ 99_999) × IsBetween 1 MAX_RINGS files
@@ -88,20 +89,39 @@ optional-between : (low high : ℕ) (word : Option (List ℕ)) → IfSome (optio
 optional-between low high None = tt
 optional-between low high (Some word) = optional-mapped low high (word_number low high word) (word-between low high word)
 
+-- what `run` and `stream` are given
+abbrev AreArguments : RunArguments → Type 0
+AreArguments given = IfSome given.frames (IsBetween 1 32_768) × IfSome given.locks (IsBetween 1 65_536) × (0 < length given.files)
+
+either-arguments : (b : Bool) (x : RunArguments) → AreArguments x → IfSome (if b then Some x else None) AreArguments
+either-arguments true x p = p
+either-arguments false x p = tt
+
 run-with : (frames locks : Option (Option ℕ)) (files : List (List ℕ))
     → IfSome frames (λ given. IfSome given (IsBetween 1 32_768)) → IfSome locks (λ given. IfSome given (IsBetween 1 65_536))
-    → AreLawful (run_with frames locks files)
+    → IfSome (run_with frames locks files) AreArguments
 run-with None locks files p q = tt
 run-with (Some f) None files p q = tt
 run-with (Some f) (Some l) [] p q = tt
 run-with (Some f) (Some l) (file ∷ files) p q =
-    either-lawful (are_file_names (file ∷ files)) (Some (RunFiles f l (file ∷ files))) None (p, q, omega arith) tt
+    either-arguments (are_file_names (file ∷ files)) (record { frames = f; locks = l; files = file ∷ files }) (p, q, omega arith)
 
-pub run-lawful : (words : List (List ℕ)) → AreLawful (run_of words)
-run-lawful words =
+arguments-lawful : (words : List (List ℕ)) → IfSome (run_arguments words) AreArguments
+arguments-lawful words =
     let given = run_words words in
     run-with (optional_number 1 32_768 given.frames) (optional_number 1 65_536 given.locks) given.files
     (optional-between 1 32_768 given.frames) (optional-between 1 65_536 given.locks)
+
+mapped-lawful : (meaning : RunArguments → Meaning) (given : Option RunArguments) → ((x : RunArguments) → AreArguments x → IsLawful (meaning x)) → IfSome given AreArguments
+    → AreLawful (option_map meaning given)
+mapped-lawful meaning (Some x) lawful h = lawful x h
+mapped-lawful meaning None lawful h = tt
+
+pub run-lawful : (words : List (List ℕ)) → AreLawful (run_of words)
+run-lawful words = mapped-lawful (λ given. RunFiles given.frames given.locks given.files) (run_arguments words) (λ x h. h) (arguments-lawful words)
+
+pub stream-lawful : (words : List (List ℕ)) → AreLawful (stream_of words)
+stream-lawful words = mapped-lawful (λ given. StreamFiles given.frames given.locks given.files) (run_arguments words) (λ x h. h) (arguments-lawful words)
 
 drive-with : (s c n : Option ℕ) → IfSome s (IsBetween 0 (2 ^ 64 - 1)) → IfSome c (IsBetween 0 99_999) → IfSome n (IsBetween 1 MAX_RINGS)
     → AreLawful (drive_with s c n)
@@ -150,6 +170,10 @@ in-limits (command.Run frames locks files) h =
     let same = length-map files.now rc_str_bytes in
     let some = h.2 in
     (h.0, h.1, omega arith)
+in-limits (command.Stream frames locks files) h =
+    let same = length-map files.now rc_str_bytes in
+    let some = h.2 in
+    (h.0, h.1, omega arith)
 in-limits command.Recover h = tt
 in-limits command.Dump h = tt
 in-limits (command.Drive s c n) h = h
@@ -174,4 +198,4 @@ limits-if-ok (Ok c) m h e = limits-in c m h e
 limits-if-ok (Err e) m h x = tt
 
 -- the numbers of each command are in their limits
-pub ruleset lawful = (limits-if-ok, limits-in, fresh-lawful, format-lawful, run-lawful, drive-lawful, audit-lawful, ship-lawful, follow-lawful, alone-lawful)
+pub ruleset lawful = (limits-if-ok, limits-in, fresh-lawful, format-lawful, run-lawful, stream-lawful, drive-lawful, audit-lawful, ship-lawful, follow-lawful, alone-lawful)

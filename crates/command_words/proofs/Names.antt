@@ -10,6 +10,7 @@ pub record IsOther (name : List ℕ) : Type 0 where
   pub fresh : name ≡ codes "fresh" → ⊥
   pub format : name ≡ codes "format" → ⊥
   pub run : name ≡ codes "run" → ⊥
+  pub stream : name ≡ codes "stream" → ⊥
   pub recover : name ≡ codes "recover" → ⊥
   pub dump : name ≡ codes "dump" → ⊥
   pub drive : name ≡ codes "drive" → ⊥
@@ -26,6 +27,7 @@ meaning_of-other name words other =
       different name (codes "fresh") other.fresh,
       different name (codes "format") other.format,
       different name (codes "run") other.run,
+      different name (codes "stream") other.stream,
       different name (codes "recover") other.recover,
       different name (codes "dump") other.dump,
       different name (codes "drive") other.drive,

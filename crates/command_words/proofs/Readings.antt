@@ -14,7 +14,7 @@ use Rattle.command_words.specs.Command.{Meaning, meaning_of_command}
 use Rattle.command_words.specs.Clap.{IsReading}
 
 -- words that `clap` takes mean what is read of its matches, and words that it refuses mean nothing
-pub record Reads (app : App) (words : List Text) (meaning : Option Meaning) (reading : List Row → Option Meaning) : Type 0 where
+pub record Reads {X : Type 0} (app : App) (words : List Text) (meaning : Option X) (reading : List Row → Option X) : Type 0 where
   pub taken : fault_of app words ≡ [] → meaning ≡ reading (matches_of app words)
   pub refused : (fault_of app words ≡ [] → ⊥) → meaning ≡ None
 
@@ -22,7 +22,7 @@ pub record Reads (app : App) (words : List Text) (meaning : Option Meaning) (rea
 abbrev pub failing_unless : Bool → Kinds
 failing_unless passes = if passes then [] else ValueValidation ∷ []
 
-pub reads-by : (app : App) (words : List Text) (meaning : Option Meaning) (reading : List Row → Option Meaning) (passes : Bool) (rows : List Row)
+pub reads-by : {X : Type 0} (app : App) (words : List Text) (meaning : Option X) (reading : List Row → Option X) (passes : Bool) (rows : List Row)
     → fault_of app words ≡ failing_unless passes → matches_of app words ≡ rows → meaning ≡ (if passes then reading rows else None)
     → Reads app words meaning reading
 reads-by app words meaning reading true rows fault matches means = record {
@@ -40,23 +40,23 @@ pub read-as : {E : Type 0} (app known : App) (words : List Text) (r : Result (Op
 read-as app known words r same read = subst (λ (a : App). IfOk r (IsReading a words)) same read
 
 -- matches that were made of the words
-pub taken-in : (app known : App) (words : List Text) (found : Option ArgMatches) (m : ArgMatches) (meaning : Option Meaning) (reading : List Row → Option Meaning)
+pub taken-in : {X : Type 0} (app known : App) (words : List Text) (found : Option ArgMatches) (m : ArgMatches) (meaning : Option X) (reading : List Row → Option X)
     → app ≡ known → found ≡ Some m → IsReading app words found → Reads known words meaning reading → meaning ≡ reading (rows_of (found_of m))
 taken-in app known words found m meaning reading same some read reads =
     let facts = rw (some, same) at read in
     reads.taken facts.0 ∙ ap reading (sym facts.1)
 
 -- words of which none were made
-pub refused-in : (app known : App) (words : List Text) (found : Option ArgMatches) (meaning : Option Meaning) (reading : List Row → Option Meaning)
+pub refused-in : {X : Type 0} (app known : App) (words : List Text) (found : Option ArgMatches) (meaning : Option X) (reading : List Row → Option X)
     → app ≡ known → found ≡ None → IsReading app words found → Reads known words meaning reading → meaning ≡ None
 refused-in app known words found meaning reading same none read reads = reads.refused (rw (none, same) at read)
 
 -- the same, where what is read is what the words mean
-pub read-taken : (app : App) (words : List Text) (reading : List Row → Option Meaning) {found : Option ArgMatches} {m : ArgMatches} {meaning : Option Meaning}
+pub read-taken : {X : Type 0} (app : App) (words : List Text) (reading : List Row → Option X) {found : Option ArgMatches} {m : ArgMatches} {meaning : Option X}
     → found ≡ Some m → IsReading app words found → Reads app words meaning reading → reading (rows_of (found_of m)) ≡ meaning
 read-taken app words reading {found} {m} {meaning} some read reads = sym (taken-in app app words found m meaning reading refl some read reads)
 
-pub read-refused : (app : App) (words : List Text) (reading : List Row → Option Meaning) {found : Option ArgMatches} {meaning : Option Meaning}
+pub read-refused : {X : Type 0} (app : App) (words : List Text) (reading : List Row → Option X) {found : Option ArgMatches} {meaning : Option X}
     → found ≡ None → IsReading app words found → Reads app words meaning reading → None ≡ meaning
 read-refused app words reading {found} {meaning} none read reads = sym (refused-in app app words found meaning reading refl none read reads)
 

@@ -1,4 +1,4 @@
--- The words of `run`.
+-- The words of `run` and `stream`.
 use Rattle.std.proofs.Common.{inl, inr, ℕ, ◌≡◌, ◌∙◌, ◌<◌, ◌^◌, Bool, true, false, List, [], ◌∷◌, Option, Some, None, length, refl, sym, arith, codes, drop, ◌≤◌, map}
 use Rattle.std.specs.Option.{option_map}
 use Rattle.std.specs.Prelude.{◌==◌, ◌&&◌, if◌then◌else◌}
@@ -12,7 +12,7 @@ use Rattle.clap.specs.Matches.{found_of}
 use Rattle.clap.specs.declared.parser.matches.ArgMatches.{ArgMatches}
 use Rattle.clap.specs.ValueTests.{accepts}
 use Rattle.clap.specs.declared.builder.value_parser.ValueParser.TheVariants as vp
-use Rattle.command_words.specs.Command.{RunFiles, RunWords, are_file_names, behind_frames, behind_locks, optional_number, run_given, run_of, run_with, run_words}
+use Rattle.command_words.specs.Command.{RunArguments, RunWords, are_file_names, behind_frames, behind_locks, optional_number, run_arguments, run_given, run_with, run_words}
 use Rattle.command_words.specs.Clap.{IsReading, has_run_form, is_number, is_number_or_absent, number_of, parsed_number, run_app, run_in}
 use Rattle.command_words.proofs.NumberWords.{both, first-digit, parsed_number-passes, word_number-parsed}
 use Rattle.command_words.proofs.Readings.{Reads, reads-by, refused-in, taken-in}
@@ -26,7 +26,7 @@ abbrev pick : RunOption → Option Text → Option Text → Option Text
 pick of_frames v w = v
 pick of_locks v w = w
 
--- what `run` is given, where the option has this number word and the other one that
+-- what stands behind the name, where the option has this number word and the other one that
 abbrev given_by : RunOption → Option Text → Option Text → List Text → RunWords
 given_by o v w files = record { frames = pick o v w; locks = pick (other o) v w; files = files }
 
@@ -44,7 +44,7 @@ optional_number-parsed low high word fits form =
 
 -- an option that is refused, or the other one, refuses the run
 with-both : (p q : Bool) (f l : Option ℕ) (files : List Text) → are_file_names files ≡ true
-    → run_with (if p then Some f else None) (if q then Some l else None) files ≡ (if p && q then Some (RunFiles f l files) else None)
+    → run_with (if p then Some f else None) (if q then Some l else None) files ≡ (if p && q then Some (record { frames = f; locks = l; files = files }) else None)
 with-both true true f l files names = rw names refl
 with-both true false f l files names = refl
 with-both false q f l files names = refl
@@ -120,7 +120,7 @@ arrangement (option ∷ number ∷ more) = elim (cases_Bool (bytes_eq option (co
 
 -- ---- what `clap` makes of them
 
--- what words mean that give this to `run`
+-- what `clap` makes of words that give this
 abbrev RunReads : Text → List Text → RunWords → Type 0
 RunReads name words given = Reads run_app (name ∷ words) (run_given given) (run_in given.files)
 
@@ -192,7 +192,7 @@ arranged name words given (two-options o v w (file ∷ files)) h few =
 
 -- words of the form, behind a name
 pub run-reads : (words : List Text) → 1 ≤ length words → length words ≤ usize_max → has_run_form (run_words (drop 1 words)) ≡ true
-    → Reads run_app words (run_of (drop 1 words)) (run_in (run_words (drop 1 words)).files)
+    → Reads run_app words (run_arguments (drop 1 words)) (run_in (run_words (drop 1 words)).files)
 run-reads [] some few h = absurd (omega arith)
 run-reads (name ∷ words) some few h = arranged name words (run_words words) (arrangement words) h (omega arith)
 
@@ -201,16 +201,16 @@ pub run-taken : (app : App) (words : List Text) (given : RunWords) (found : Opti
     → app ≡ run_app → 1 ≤ length words → length words ≤ usize_max → given ≡ run_words (drop 1 words) → has_run_form given ≡ true
     → found ≡ Some m → IsReading app words found
     → frames ≡ number_of (codes "frames") (rows_of (found_of m)) → locks ≡ number_of (codes "locks") (rows_of (found_of m))
-    → Some (RunFiles frames locks given.files) ≡ run_of (drop 1 words)
+    → ◌≡◌ {A = Option RunArguments} (Some (record { frames = frames; locks = locks; files = given.files })) (run_arguments (drop 1 words))
 run-taken app words given found m frames locks same some few is form met read first second =
     rw (first, second, is)
-    (sym (taken-in app run_app words found m (run_of (drop 1 words)) (run_in (run_words (drop 1 words)).files) same met read (run-reads words some few (rw is at form))))
+    (sym (taken-in app run_app words found m (run_arguments (drop 1 words)) (run_in (run_words (drop 1 words)).files) same met read (run-reads words some few (rw is at form))))
 
 pub run-refused : (app : App) (words : List Text) (given : RunWords) (found : Option ArgMatches)
     → app ≡ run_app → 1 ≤ length words → length words ≤ usize_max → given ≡ run_words (drop 1 words) → has_run_form given ≡ true
-    → found ≡ None → IsReading app words found → run_of (drop 1 words) ≡ None
+    → found ≡ None → IsReading app words found → run_arguments (drop 1 words) ≡ None
 run-refused app words given found same some few is form met read =
-    refused-in app run_app words found (run_of (drop 1 words)) (run_in (run_words (drop 1 words)).files) same met read (run-reads words some few (rw is at form))
+    refused-in app run_app words found (run_arguments (drop 1 words)) (run_in (run_words (drop 1 words)).files) same met read (run-reads words some few (rw is at form))
 
 -- words without the form
 passing : (low high : ℕ) (word : Option Text) → is_number_or_absent word ≡ false → optional_number low high word ≡ None

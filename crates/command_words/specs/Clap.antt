@@ -11,7 +11,7 @@ use Rattle.clap.specs.Words.{fault_of, found_of, matches_of, rows_of}
 use Rattle.clap.specs.declared.builder.value_parser.ValueParser.TheVariants as vp
 use Rattle.clap.specs.declared.parser.matches.ArgMatches.{ArgMatches}
 use Rattle.tatp_text.specs.Number.{is_decimal}
-use Rattle.command_words.specs.Command.{Meaning, FreshRun, RunFiles, RunWords, are_file_names, drive_with, format_with, is_file_name}
+use Rattle.command_words.specs.Command.{Meaning, FreshRun, RunArguments, RunWords, are_file_names, drive_with, format_with, is_file_name}
 
 -- ---- the arguments
 
@@ -49,7 +49,7 @@ format_app =
     (number_rule (codes "rings") 1 MAX_RINGS))
     (number_rule (codes "cells") 16 4_096)
 
--- `run`: an option for the frames, one for the locks, and one or more files
+-- `run` and `stream`: an option for the frames, one for the locks, and one or more files
 abbrev pub run_app : App
 run_app =
     with_rule (with_rule (with_rule (new_app (codes "run")) (option_rule (codes "frames") 1 32_768)) (option_rule (codes "locks") 1 65_536)) files_rule
@@ -89,7 +89,7 @@ abbrev pub has_drive_form : List Text → Bool
 has_drive_form (name ∷ seed ∷ count ∷ files ∷ []) = is_number seed && is_number count && is_number files
 has_drive_form _ = false
 
--- the words of `run`: a number behind each option that is there, and one or more file names
+-- the words of `run` and `stream`: a number behind each option that is there, and one or more file names
 abbrev pub has_run_form : RunWords → Bool
 has_run_form given = is_number_or_absent given.frames && is_number_or_absent given.locks && are_file_names given.files
 
@@ -129,9 +129,9 @@ abbrev pub format_in : List Row → Option Meaning
 format_in rows =
     format_with (number_of (codes "subscribers") rows) (number_of (codes "calls") rows) (number_of (codes "rings") rows) (number_of (codes "cells") rows)
 
--- what the matches of `run` mean, with these files
-abbrev pub run_in : List Text → List Row → Option Meaning
-run_in files rows = Some (RunFiles (number_of (codes "frames") rows) (number_of (codes "locks") rows) files)
+-- what the matches of `run` and `stream` give, with these files
+abbrev pub run_in : List Text → List Row → Option RunArguments
+run_in files rows = Some (record { frames = number_of (codes "frames") rows; locks = number_of (codes "locks") rows; files = files })
 
 -- what the matches of `drive` mean
 abbrev pub drive_in : List Row → Option Meaning

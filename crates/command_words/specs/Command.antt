@@ -7,7 +7,7 @@ use Rattle.std.specs.Str.{bytes_eq}
 use Rattle.dude_base.specs.declared.limits.TheConstants.{MAX_RINGS}
 use Rattle.tatp_text.specs.Number.{number_in}
 use Rattle.command_words.specs.declared.command.Command.{Command}
-use Rattle.command_words.specs.declared.command.Command.TheVariants.{Fresh, Format, Run, Recover, Dump, Drive, Audit, Ship, Follow}
+use Rattle.command_words.specs.declared.command.Command.TheVariants.{Fresh, Format, Run, Stream, Recover, Dump, Drive, Audit, Ship, Follow}
 
 -- the command that words mean, with its numbers and the names of its files
 pub data Meaning : Type 0 where
@@ -17,6 +17,8 @@ pub data Meaning : Type 0 where
   FormatImage : (subscribers calls rings cells : ℕ) → Meaning
   -- run these files, over so many frames and locks where they are said
   RunFiles : (frames locks : Option ℕ) (files : List (List ℕ)) → Meaning
+  -- do the same, and print each reply while others are still to come
+  StreamFiles : (frames locks : Option ℕ) (files : List (List ℕ)) → Meaning
   -- recover the image
   RecoverImage : Meaning
   -- print the tables of the image
@@ -65,7 +67,7 @@ format_of (subscribers ∷ calls ∷ rings ∷ cells ∷ []) =
     format_with (word_number 1 10_000 subscribers) (word_number 1 120_000 calls) (word_number 1 MAX_RINGS rings) (word_number 16 4_096 cells)
 format_of _ = None
 
--- what `run` is given: the words of its options' numbers, where they stand, and its files
+-- what stands behind `run` and `stream`: the words of the options' numbers, where they are there, and the files
 pub record RunWords : Type 0 where
   pub frames : Option (List ℕ)
   pub locks : Option (List ℕ)
@@ -97,18 +99,32 @@ abbrev pub optional_number : ℕ → ℕ → Option (List ℕ) → Option (Optio
 optional_number least greatest None = Some None
 optional_number least greatest (Some word) = option_map Some (word_number least greatest word)
 
--- a run of these files, where the options' numbers are lawful and the files are names, of which there is at least one
-abbrev pub run_with : (frames locks : Option (Option ℕ)) → List (List ℕ) → Option Meaning
-run_with (Some frames) (Some locks) files = if are_file_names files then Some (RunFiles frames locks files) else None
+-- what `run` and `stream` are given: the numbers of the options that stand there, and the files
+pub record RunArguments : Type 0 where
+  pub frames : Option ℕ
+  pub locks : Option ℕ
+  pub files : List (List ℕ)
+
+-- these arguments, where the options' numbers are lawful and the files are names, of which there is at least one
+abbrev pub run_with : (frames locks : Option (Option ℕ)) → List (List ℕ) → Option RunArguments
+run_with (Some frames) (Some locks) files = if are_file_names files then Some (record { frames = frames; locks = locks; files = files }) else None
 run_with _ _ files = None
 
--- a run of what `run` is given: 1 to 32,768 frames and 1 to 65,536 locks
-abbrev pub run_given : RunWords → Option Meaning
+-- the arguments that these words are: 1 to 32,768 frames and 1 to 65,536 locks
+abbrev pub run_given : RunWords → Option RunArguments
 run_given given = run_with (optional_number 1 32_768 given.frames) (optional_number 1 65_536 given.locks) given.files
 
--- `run`, then `--frames F` and `--locks L` each at most once in either order, then one or more FILE
+-- `--frames F` and `--locks L` each at most once in either order, then one or more FILE
+abbrev pub run_arguments : List (List ℕ) → Option RunArguments
+run_arguments words = run_given (run_words words)
+
+-- `run` with its arguments
 abbrev pub run_of : List (List ℕ) → Option Meaning
-run_of words = run_given (run_words words)
+run_of words = option_map (λ given. RunFiles given.frames given.locks given.files) (run_arguments words)
+
+-- `stream` with the same
+abbrev pub stream_of : List (List ℕ) → Option Meaning
+stream_of words = option_map (λ given. StreamFiles given.frames given.locks given.files) (run_arguments words)
 
 -- a command with no word behind its name
 abbrev pub alone : Meaning → List (List ℕ) → Option Meaning
@@ -148,19 +164,21 @@ meaning_of (name ∷ words) =
     if bytes_eq name (codes "fresh") then fresh_of words
     else (if bytes_eq name (codes "format") then format_of words
     else (if bytes_eq name (codes "run") then run_of words
+    else (if bytes_eq name (codes "stream") then stream_of words
     else (if bytes_eq name (codes "recover") then alone RecoverImage words
     else (if bytes_eq name (codes "dump") then alone DumpTables words
     else (if bytes_eq name (codes "drive") then drive_of words
     else (if bytes_eq name (codes "audit") then audit_of words
     else (if bytes_eq name (codes "ship") then ship_of words
     else (if bytes_eq name (codes "follow") then follow_of words
-    else None))))))))
+    else None)))))))))
 
 -- what a command of the code says
 abbrev pub meaning_of_command : Command → Meaning
 meaning_of_command (Fresh subscribers file) = FreshRun subscribers file.now
 meaning_of_command (Format subscribers calls rings cells) = FormatImage subscribers calls rings cells
 meaning_of_command (Run frames locks files) = RunFiles frames locks (map rc_str_bytes files.now)
+meaning_of_command (Stream frames locks files) = StreamFiles frames locks (map rc_str_bytes files.now)
 meaning_of_command Recover = RecoverImage
 meaning_of_command Dump = DumpTables
 meaning_of_command (Drive seed count files) = DriveLoad seed count files
@@ -184,12 +202,14 @@ IsAlone words command result = HasMeaning (behind_name (alone (meaning_of_comman
 abbrev pub IsBetween : ℕ → ℕ → ℕ → Type 0
 IsBetween least greatest number = (least ≤ number) × (number ≤ greatest)
 
--- the numbers of a command are in their limits, and `run`, `audit`, `ship` and `follow` have a file
+-- the numbers of a command are in their limits, and `run`, `stream`, `audit`, `ship` and `follow` have a file
 abbrev pub IsInLimits : Command → Type 0
 IsInLimits (Fresh subscribers file) = IsBetween 1 10_000 subscribers
 IsInLimits (Format subscribers calls rings cells) =
     IsBetween 1 10_000 subscribers × IsBetween 1 120_000 calls × IsBetween 1 MAX_RINGS rings × IsBetween 16 4_096 cells
 IsInLimits (Run frames locks files) =
+    IfSome frames (IsBetween 1 32_768) × IfSome locks (IsBetween 1 65_536) × (0 < length files.now)
+IsInLimits (Stream frames locks files) =
     IfSome frames (IsBetween 1 32_768) × IfSome locks (IsBetween 1 65_536) × (0 < length files.now)
 IsInLimits Recover = ⊤
 IsInLimits Dump = ⊤

@@ -1,10 +1,11 @@
--- The words of `run` in the code.
-use Rattle.std.specs.Prelude.{ℕ, List, Option, map}
+-- The words of `run` and `stream` in the code.
+use Rattle.std.specs.Prelude.{◌≡◌, ℕ, List, Option, drop, map}
 use Rattle.std.specs.Borrow.{Bor}
 use Rattle.std.specs.Option.{option_map}
 use Rattle.std.specs.Rc.{rc_str_bytes}
-use Rattle.command_words.specs.Command.{RunWords}
+use Rattle.command_words.specs.Command.{RunArguments, RunWords, run_arguments}
 use Rattle.command_words.specs.declared.run.RunWords.{RunWords as RunWordsOfCode}
+use Rattle.command_words.specs.declared.run_arguments.RunArguments.{RunArguments as RunArgumentsOfCode}
 
 -- the bytes of a word that may be left out
 abbrev pub text_of : {X : Type 0} → (X → List ℕ) → Option (Bor X) → Option (List ℕ)
@@ -17,3 +18,11 @@ as_words given = record {
   locks = text_of rc_str_bytes given.locks;
   files = map rc_str_bytes given.files.now;
 }
+
+-- what the code's arguments say
+abbrev pub as_arguments : RunArgumentsOfCode → RunArguments
+as_arguments given = record { frames = given.frames; locks = given.locks; files = map rc_str_bytes given.files.now }
+
+-- arguments of the code, or none, are those behind the first word
+abbrev pub AreGiven : List (List ℕ) → Option RunArgumentsOfCode → Type 0
+AreGiven words given = option_map as_arguments given ≡ run_arguments (drop 1 words)

@@ -9,7 +9,7 @@ use crate::drive::drive_of;
 use crate::follow::follow_of;
 use crate::format::format_of;
 use crate::fresh::fresh_of;
-use crate::run::run_of;
+use crate::run::{run_of, stream_of};
 use crate::ship::ship_of;
 use std::alloc::{AllocError, Global};
 use std::rc::RcStr;
@@ -34,6 +34,12 @@ pub enum Command<'a> {
     /// Run the requests of the files, of which there is at least one, over so
     /// many frames and locks.
     Run {
+        frames: Option<u64>,
+        locks: Option<u64>,
+        files: &'a [RcStr],
+    },
+    /// Do the same, and print each reply while others are still to come.
+    Stream {
         frames: Option<u64>,
         locks: Option<u64>,
         files: &'a [RcStr],
@@ -79,6 +85,7 @@ pub fn command_of(alloc: Global, words: &[RcStr]) -> Result<Option<Command<'_>>,
         "fresh" => fresh_of(alloc, words),
         "format" => format_of(alloc, words),
         "run" => run_of(alloc, words),
+        "stream" => stream_of(alloc, words),
         "recover" => Ok(alone(words, Command::Recover)),
         "dump" => Ok(alone(words, Command::Dump)),
         "drive" => drive_of(alloc, words),

@@ -14,6 +14,7 @@ mod fresh;
 mod matches;
 mod numbers;
 mod run;
+mod run_arguments;
 mod ship;
 
 pub use command::{Command, command_of};

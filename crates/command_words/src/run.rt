@@ -1,15 +1,16 @@
-//! `run`, with its two options and one or more files.
+//! `run` and `stream`, with their two options and one or more files.
 
 ghost use Rattle.std.specs.Prelude.{◌≡◌, false, map, IfOk};
 ghost use Rattle.std.specs.Rc.{rc_str_bytes};
 ghost use Rattle.clap.specs.Words.{app_of, rule_of};
-ghost use Rattle.command_words.specs.Command.{HasMeaning, behind_name, in_front, run_of, run_words};
+ghost use Rattle.command_words.specs.Command.{HasMeaning, behind_name, in_front, run_of, run_words, stream_of};
 ghost use Rattle.command_words.specs.Clap.{files_rule, has_run_form, option_rule, run_app};
-ghost use Rattle.command_words.specs.Run.{as_words, text_of};
+ghost use Rattle.command_words.specs.Run.{AreGiven, as_words, text_of};
 
 use crate::command::Command;
 use crate::form::{are_file_names, is_number_or_absent};
 use crate::matches::{matches_in, number_at};
+use crate::run_arguments::RunArguments;
 use clap::Arg;
 use clap::builder::ValueParser;
 use dude_base::limits::MAX_LOCKS;
@@ -19,7 +20,7 @@ use std::rc::RcStr;
 /// The most frames that the words may ask for.
 const MAX_FRAMES: u64 = 32_768;
 
-// What `run` is given: the words of its options' numbers, where they stand, and its files.
+// What stands behind the name: the words of the options' numbers, where they are there, and the files.
 #[derive(Clone, Copy)]
 struct RunWords<'a> {
     frames: Option<&'a RcStr>,
@@ -31,6 +32,34 @@ struct RunWords<'a> {
 pub fn run_of(alloc: Global, words: &[RcStr]) -> Result<Option<Command<'_>>, AllocError>
     ensures { IfOk result (HasMeaning (behind_name run_of (map rc_str_bytes words.now))) }
 {
+    match arguments_of(alloc, words)? {
+        Some(given) => Ok(Some(Command::Run {
+            frames: given.frames,
+            locks: given.locks,
+            files: given.files,
+        })),
+        None => Ok(None),
+    }
+}
+
+/// The command that the words behind the name `stream` mean.
+pub fn stream_of(alloc: Global, words: &[RcStr]) -> Result<Option<Command<'_>>, AllocError>
+    ensures { IfOk result (HasMeaning (behind_name stream_of (map rc_str_bytes words.now))) }
+{
+    match arguments_of(alloc, words)? {
+        Some(given) => Ok(Some(Command::Stream {
+            frames: given.frames,
+            locks: given.locks,
+            files: given.files,
+        })),
+        None => Ok(None),
+    }
+}
+
+// What the words behind the name give; none where they are refused.
+fn arguments_of(alloc: Global, words: &[RcStr]) -> Result<Option<RunArguments<'_>>, AllocError>
+    ensures { IfOk result (AreGiven (map rc_str_bytes words.now)) }
+{
     let Some((_, behind)) = words.split_first() else {
         return Ok(None);
     };
@@ -41,7 +70,7 @@ pub fn run_of(alloc: Global, words: &[RcStr]) -> Result<Option<Command<'_>>, All
     let Some(matches) = matches_in(run_command(alloc)?, words)? else {
         return Ok(None);
     };
-    Ok(Some(Command::Run {
+    Ok(Some(RunArguments {
         frames: number_at(&matches, "frames"),
         locks: number_at(&matches, "locks"),
         files: given.files,

@@ -42,6 +42,10 @@ run [--frames F] [--locks L] FILE..
   are in memory at a time, from 32, or from IMAGE's pages where there are fewer,
   to its pages, as many as where it isn't said. L locks keep the threads apart,
   from 1 to 65536, and 1024 where it isn't said.
+stream [--frames F] [--locks L] FILE..
+  Does what run does, but prints each reply while others are still to come, and
+  so before it is durable. In front of it stands the number of its file, from 1.
+  The replies of a file come in their order, and the last number behind all.
 recover
   Opens IMAGE, which writes what it recovers to, and prints its last number.
 dump
@@ -63,10 +67,10 @@ follow FILE..
   ship, or one that followed. Prints the number reached, how many packets wait
   for others, and how many were dropped, being over 4096 that wait.
 
-fresh and run print each request's number and reply, and the last number. Each
-command but audit tells on standard error the numbers up to which all is
-durable; where that is a terminal, drive shows its progress there, and tells the
-last one. While a command runs, every other on its IMAGE ends with 6.
+fresh, run and stream print each request's number and reply, and the last
+number. Each command but audit tells on standard error the numbers up to which
+all is durable; where that is a terminal, drive shows its progress there, and
+tells the last one. While a command runs, every other on its IMAGE ends with 6.
 
 status: 0 done, 2 usage, 3 a file couldn't be read, 4 a file isn't of requests or
 packets, 5 the image doesn't fit or can't be opened, 6 the image failed or is in

@@ -15,7 +15,7 @@ use Rattle.run_order.proofs.Performed.{performs_start}
 use Rattle.dude_io.specs.Files.{FilesSight}
 use Rattle.back_store.specs.Back.{idle}
 use Rattle.image_format.specs.Causes.{FitsImage}
-use Rattle.command_words.specs.Command.{Meaning, Meaning.FreshRun, Meaning.FormatImage, Meaning.RunFiles, Meaning.RecoverImage, Meaning.DumpTables, Meaning.DriveLoad, Meaning.AuditRun, Meaning.ShipFiles, Meaning.FollowFiles}
+use Rattle.command_words.specs.Command.{Meaning, Meaning.FreshRun, Meaning.FormatImage, Meaning.RunFiles, Meaning.StreamFiles, Meaning.RecoverImage, Meaning.DumpTables, Meaning.DriveLoad, Meaning.AuditRun, Meaning.ShipFiles, Meaning.FollowFiles}
 use Rattle.dude_engine.specs.Opening.{Opening}
 use Rattle.dude_engine.specs.Plain.{LosesFew, most_lost_by}
 use Rattle.command_edges.specs.declared.fault.Fault.{Fault}
@@ -72,6 +72,8 @@ opened_old {meaning} {opening} {words} {s} {m} opener writes on is_open = record
 known_behind : (meaning : Meaning) (opening : Opening) (s m : Sight) → m.is_visible ≡ s.is_visible → KnowsReplies meaning opening s → KnowsReplies meaning opening m
 known_behind (RunFiles (Some frames) locks files) opening s m same (inl seen) = inl (same ∙ seen)
 known_behind (RunFiles (Some frames) locks files) opening s m same (inr all) = inr all
+known_behind (StreamFiles (Some frames) locks files) opening s m same (inl seen) = inl (same ∙ seen)
+known_behind (StreamFiles (Some frames) locks files) opening s m same (inr all) = inr all
 known_behind meaning opening s m same known = tt
 
 -- a command that carries requests out makes calls behind its opening
@@ -79,6 +81,7 @@ runs_on : (meaning : Meaning) → runs_requests meaning ≡ true → ends_opened
 runs_on (FreshRun subscribers file) runs = refl
 runs_on (FormatImage s c n k) runs = cc runs
 runs_on (RunFiles frames locks files) runs = refl
+runs_on (StreamFiles frames locks files) runs = refl
 runs_on RecoverImage runs = cc runs
 runs_on DumpTables runs = cc runs
 runs_on (DriveLoad seed count number) runs = refl

@@ -17,7 +17,7 @@ use Rattle.tatp_text.specs.Output.{output_of, last_line}
 use Rattle.back_store.specs.BackView.{sight_of}
 use Rattle.image_opening.specs.declared.opened.Opened.{Opened}
 use Rattle.image_opening.specs.Opened.{IsOpened}
-use Rattle.command_words.specs.Command.{IsBetween, Meaning, Meaning.FreshRun, Meaning.FormatImage, Meaning.RunFiles, Meaning.RecoverImage, Meaning.DumpTables, Meaning.DriveLoad, Meaning.AuditRun, Meaning.ShipFiles, Meaning.FollowFiles}
+use Rattle.command_words.specs.Command.{IsBetween, Meaning, Meaning.FreshRun, Meaning.FormatImage, Meaning.RunFiles, Meaning.StreamFiles, Meaning.RecoverImage, Meaning.DumpTables, Meaning.DriveLoad, Meaning.AuditRun, Meaning.ShipFiles, Meaning.FollowFiles}
 use Rattle.command_edges.specs.Files.{OfFile}
 use Rattle.dude_engine.specs.Opening.{Opening}
 use Rattle.dude_engine.specs.Plain.{IsOpeningOf}
@@ -29,7 +29,7 @@ use Rattle.run_threads.specs.Ends.{IsAsOpened}
 use Rattle.command_openings.specs.Opens.{Opens}
 use Rattle.command_openings.specs.Openings.{new_opening}
 use Rattle.command_openings.proofs.OneOpening.{opening_with}
-use Rattle.dude_program.specs.Opening.{KnowsReplies, fresh_sizes, load_of, makes_image}
+use Rattle.dude_program.specs.Opening.{KnowsReadsOver, fresh_sizes, load_of, makes_image}
 use Rattle.dude_program.specs.Causes.{IsLeftOpened, MustRefuse, RefusesAudit, RefusesOpening, WantsFrames}
 use Rattle.dude_program.specs.Work.{AllowsFrames, HasFewNumbers, HasFrames, PrintsText, RefusesLoad, RefusesRun}
 use Rattle.dude_program.proofs.FilesRead.{all_judged}
@@ -60,6 +60,9 @@ format_makes subscribers calls rings cells sizes s is = record {
 
 pub run_opens : (frames locks : Option ℕ) (files : List (List ℕ)) (s : Sight) → IsOpener (RunFiles frames locks files) s
 run_opens frames locks files s = record { opens = refl; sized = refl; on = λ opening starts. starts; starts = λ opening on. on }
+
+pub stream_opens : (frames locks : Option ℕ) (files : List (List ℕ)) (s : Sight) → IsOpener (StreamFiles frames locks files) s
+stream_opens frames locks files s = record { opens = refl; sized = refl; on = λ opening starts. starts; starts = λ opening on. on }
 
 pub recover_opens : (s : Sight) → IsOpener RecoverImage s
 recover_opens s = record { opens = refl; sized = refl; on = λ opening starts. starts; starts = λ opening on. on }
@@ -112,7 +115,7 @@ module _ (frames locks : Option ℕ) (names : List (List ℕ)) (f : FilesSight) 
       (λ visible count few. let same : count ≡ request_count requests = few.1.2 ∙ ap request_count (one_requests (RunFiles frames locks names) f opening few.1.0 requests visible few.1.1 read) in
       let over = few.2 in omega (arith, same, over, enough)) why refuses
 
-  run_refuses : (opening : Opening) (why : Fault) → RefusesRun (RunFiles frames locks names) number opening.sizes opening.number requests why → RefusesOpening (RunFiles frames locks names) f opening why
+  pub run_refuses : (opening : Opening) (why : Fault) → RefusesRun (RunFiles frames locks names) number opening.sizes opening.number requests why → RefusesOpening (RunFiles frames locks names) f opening why
   run_refuses opening (ManyFiles a b) r = (r.0 ∙ as_many, r.1, r.2, all_judged names)
   run_refuses opening (Frames a b) r = (omega (arith, as_many, r.0), r.1, r.2)
   run_refuses opening (Numbers a b) r = (omega (arith, as_many, r.0), r.1, (λ w no. no), r.2, (tt, (requests, read, r.3), r.4))
@@ -165,11 +168,11 @@ locks_within None n between has = record { low = omega (arith, has); high = omeg
 locks_within (Some locks) n between has = record { low = omega (arith, has, between.0); high = omega (arith, has, between.1) }
 
 -- where a run's replies are known it is known what its threads read
-pub run_knows : (frames locks : Option ℕ) (names : List (List ℕ)) (opening : Opening) (run : Run) (m : Sight) → HasFrames frames opening.sizes.pages run → KnowsReplies (RunFiles frames locks names) opening m
+pub run_knows : (frames : Option ℕ) (opening : Opening) (run : Run) (m : Sight) → HasFrames frames opening.sizes.pages run → KnowsReadsOver frames opening m
     → KnowsReads opening.sizes run m
-run_knows None locks names opening run m has known = inr has
-run_knows (Some frames) locks names opening run m has (inl seen) = inl seen
-run_knows (Some frames) locks names opening run m has (inr all) = inr (has ∙ all)
+run_knows None opening run m has known = inr has
+run_knows (Some frames) opening run m has (inl seen) = inl seen
+run_knows (Some frames) opening run m has (inr all) = inr (has ∙ all)
 
 -- an image that was opened is as an opening leaves it
 pub held_as_opened : {M : Type 0} {ghosts : Ghosts M} (o : Opened M ghosts) (opened : IsOpened o) (s : Sight) → Opens false (opening_of o opened) o.words.items s (sight_of o.back) → IsAsOpened o

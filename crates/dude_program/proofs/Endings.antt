@@ -11,7 +11,7 @@ use Rattle.tatp_model.specs.declared.done.Done.{Done}
 use Rattle.tatp_model.specs.OneThread.{AllAreDone}
 use Rattle.dude_io.specs.Files.{FilesSight}
 use Rattle.dude_io.specs.Sink.{SinkSight, Took}
-use Rattle.command_words.specs.Command.{Meaning, Meaning.FreshRun, Meaning.FormatImage, Meaning.RunFiles, Meaning.RecoverImage, Meaning.DumpTables, Meaning.DriveLoad, Meaning.AuditRun, Meaning.ShipFiles, Meaning.FollowFiles}
+use Rattle.command_words.specs.Command.{Meaning, Meaning.FreshRun, Meaning.FormatImage, Meaning.RunFiles, Meaning.StreamFiles, Meaning.RecoverImage, Meaning.DumpTables, Meaning.DriveLoad, Meaning.AuditRun, Meaning.ShipFiles, Meaning.FollowFiles}
 use Rattle.dude_engine.specs.Endings.{End}
 use Rattle.dude_engine.specs.Opening.{Opening, IsOpening}
 use Rattle.command_edges.specs.declared.fault.Fault.{Fault}
@@ -22,7 +22,7 @@ use Rattle.command_openings.specs.Openings.{IsOpeningOn}
 use Rattle.dude_program.specs.World.{SinkStays, World, world_of}
 use Rattle.dude_program.specs.Ship.{ShipsContent}
 use Rattle.dude_program.specs.Opening.{IsOutput, IsReachable, Starts, ends_opened, makes_image, only_reads}
-use Rattle.dude_program.specs.Headline.{AllDone, Completed, Crash, Headline, MustOnlyRead, Printed, Replies, Sync, TookAll, TookPrefix}
+use Rattle.dude_program.specs.Headline.{AllDone, Completed, Crash, Headline, MustOnlyRead, Printed, Replies, StopsPrinting, Sync, TookAll, TookPrefix}
 use Rattle.dude_program.specs.Causes.{Causes, FailsOnlyAtDevice, HasCause, IsGood, IsLeft, IsLeftOpened, MustRefuse, OpensOnce, OpensOnceBy, RefusesFormat, RefusesOpening, StoppedByOpening, Untouched}
 use Rattle.dude_program.specs.Ending.{Ends}
 use Rattle.dude_program.specs.Work.{PrintsText}
@@ -170,6 +170,7 @@ completed : (meaning : Meaning) (old new : World) (done : List Done) (Taken : Li
 completed (FreshRun subscribers file) old new done Taken writes all from = all
 completed (FormatImage s c n k) old new done Taken writes all from = all
 completed (RunFiles frames locks files) old new done Taken writes all from = all
+completed (StreamFiles frames locks files) old new done Taken writes all from = all
 completed RecoverImage old new done Taken writes all from = all
 completed DumpTables old new done Taken writes all from = all
 completed (DriveLoad seed count number) old new done Taken writes all from = all
@@ -191,17 +192,25 @@ ends_behind {meaning} {f} {g} {opening} {done} {s = s} {t = t} {k = k} why came 
       untouched came.ran came.once sink_same;
 }
 
+-- The medium failed, or there was no memory; and some may be printed, by a command that prints while it runs.
+module _ {meaning : Meaning} {f g : FilesSight} {opening : Opening} {done : List Done} {last : ℕ} {s t : Sight} {k l : SinkSight} (printed : StopsPrinting meaning (world_of s f k) (world_of t g l) done) (sink : SinkStays k l) where
+  pub ends_at_device : Came meaning f g opening done last (Some Device) s t → Ends meaning (world_of s f k) (world_of t g l) done (Some Device)
+  ends_at_device came = record {
+    headline = λ has. headline_of came (Some Device) printed;
+    causes = causes_of came (Some Device) tt came.cause (λ opens visible why refuses. inr tt) (λ good medium output. absurd (medium came.cause)) tt came.ran came.once sink;
+  }
+
+  pub ends_at_memory : Came meaning f g opening done last (Some Memory) s t → Ends meaning (world_of s f k) (world_of t g l) done (Some Memory)
+  ends_at_memory came = record {
+    headline = λ has. headline_of came (Some Memory) (inl printed);
+    causes = causes_of came (Some Memory) tt tt (λ opens visible why refuses. inr tt) (λ good medium output. inr refl) tt came.ran came.once sink;
+  }
+
 -- A fault came before the output.
 pub ends_faulted : {meaning : Meaning} {f g : FilesSight} {opening : Opening} {done : List Done} {last : ℕ} {s t : Sight} {k : SinkSight} (fault : Fault) → Came meaning f g opening done last (Some fault) s t
     → Ends meaning (world_of s f k) (world_of t g k) done (Some fault)
-ends_faulted Device came = record {
-  headline = λ has. headline_of came (Some Device) (inl refl);
-  causes = causes_of came (Some Device) tt came.cause (λ opens visible why refuses. inr tt) (λ good medium output. absurd (medium came.cause)) tt came.ran came.once sink_same;
-}
-ends_faulted Memory came = record {
-  headline = λ has. headline_of came (Some Memory) (inl (inl refl));
-  causes = causes_of came (Some Memory) tt tt (λ opens visible why refuses. inr tt) (λ good medium output. inr refl) tt came.ran came.once sink_same;
-}
+ends_faulted Device came = ends_at_device (inl refl) sink_same came
+ends_faulted Memory came = ends_at_memory (inl refl) sink_same came
 ends_faulted {meaning} {opening = opening} {s = s} {t = t} (ManyFiles a b) came =
     ends_behind (ManyFiles a b) came came.cause.0 came.cause.2 tt (record { opening = opening; opens = came.cause.0; starts = came.at.starts; lawful = came.at.lawful; why = came.cause.2; left = is_left meaning opening s t came.at.writes came.cause.3 }) refl came.cause.1
 ends_faulted {meaning} {opening = opening} {s = s} {t = t} (Frames a b) came =

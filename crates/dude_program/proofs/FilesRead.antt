@@ -18,7 +18,7 @@ use Rattle.command_edges.specs.Files.{IsBadAs, IsBadAt, IsFirst, IsFirstBad, IsG
 use Rattle.command_edges.specs.Reads.{ReadsInOrder}
 use Rattle.command_edges.proofs.Told.{all_good, not_both}
 use Rattle.command_edges.proofs.Order.{IsNoReadFault, all_in_order, then_fault, whole_none}
-use Rattle.command_words.specs.Command.{Meaning, Meaning.FreshRun, Meaning.FormatImage, Meaning.RunFiles, Meaning.RecoverImage, Meaning.DumpTables, Meaning.DriveLoad, Meaning.AuditRun, Meaning.ShipFiles, Meaning.FollowFiles}
+use Rattle.command_words.specs.Command.{Meaning, Meaning.FreshRun, Meaning.FormatImage, Meaning.RunFiles, Meaning.StreamFiles, Meaning.RecoverImage, Meaning.DumpTables, Meaning.DriveLoad, Meaning.AuditRun, Meaning.ShipFiles, Meaning.FollowFiles}
 use Rattle.command_edges.specs.declared.fault.Fault.{Fault}
 use Rattle.command_edges.specs.declared.fault.Fault.TheVariants.{Text}
 use Rattle.dude_program.specs.Opening.{command_files, judges_files}
@@ -106,6 +106,7 @@ pub all_read : (meaning : Meaning) (f : FilesSight) (number row field : ℕ) →
 all_read (FreshRun subscribers file) f number row field first = refl
 all_read (FormatImage s c n k) f number row field first = refl
 all_read (RunFiles frames locks files) f number row field first = all_judged files
+all_read (StreamFiles frames locks files) f number row field first = all_judged files
 all_read RecoverImage f number row field first = refl
 all_read DumpTables f number row field first = refl
 all_read (DriveLoad seed count files) f number row field first = refl
@@ -161,7 +162,7 @@ module _ {meaning : Meaning} {f g : FilesSight} (files : FilesRead meaning f g) 
   pub read_fits : FilesRefuse meaning f → ⊥
   read_fits refuse = elim refuse.why [ inl bad ↦ bad files.good | inr long ↦ long (files_in_limit f (command_files meaning) files.good) ]
 
--- the request files of `fresh` and `run`
+-- the request files of `fresh`, `run` and `stream`
 pub fresh_files : (subscribers : ℕ) (file : List ℕ) {f g : FilesSight} (lists : List (List Request)) → AllZip (OfFile f) (file ∷ []) lists
     → ReadsInOrder (request_files (file ∷ [])) None f g → FilesRead (FreshRun subscribers file) f g
 fresh_files subscribers file {f} lists read reads = record { good = all_good f (file ∷ []) lists read; reads = reads }
@@ -169,6 +170,10 @@ fresh_files subscribers file {f} lists read reads = record { good = all_good f (
 pub run_files : (frames locks : Option ℕ) (names : List (List ℕ)) {f g : FilesSight} (lists : List (List Request)) → AllZip (OfFile f) names lists
     → ReadsInOrder (request_files names) None f g → FilesRead (RunFiles frames locks names) f g
 run_files frames locks names {f} lists read reads = record { good = all_good f names lists read; reads = reads }
+
+pub stream_files : (frames locks : Option ℕ) (names : List (List ℕ)) {f g : FilesSight} (lists : List (List Request)) → AllZip (OfFile f) names lists
+    → ReadsInOrder (request_files names) None f g → FilesRead (StreamFiles frames locks names) f g
+stream_files frames locks names {f} lists read reads = record { good = all_good f names lists read; reads = reads }
 
 pub ship_files : (names : List (List ℕ)) {f g : FilesSight} (lists : List (List Request)) → AllZip (OfFile f) names lists
     → ReadsInOrder (request_files names) None f g → FilesRead (ShipFiles names) f g

@@ -15,5 +15,7 @@ pub mod PacketsRead
 pub mod Refusals
 pub mod Shipments
 pub mod Stops
+pub mod StreamEnds
+pub mod Streams
 pub mod TakenPackets
 pub mod Works

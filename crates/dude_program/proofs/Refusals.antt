@@ -4,7 +4,7 @@ use Rattle.std.specs.Prelude.{IsSomeAnd}
 use Rattle.std.specs.List.{AllZip}
 use Rattle.tatp_model.specs.declared.request.Request.{Request}
 use Rattle.dude_io.specs.Files.{FilesSight}
-use Rattle.command_words.specs.Command.{Meaning, Meaning.FreshRun, Meaning.FormatImage, Meaning.RunFiles, Meaning.RecoverImage, Meaning.DumpTables, Meaning.DriveLoad, Meaning.AuditRun, Meaning.ShipFiles, Meaning.FollowFiles}
+use Rattle.command_words.specs.Command.{Meaning, Meaning.FreshRun, Meaning.FormatImage, Meaning.RunFiles, Meaning.StreamFiles, Meaning.RecoverImage, Meaning.DumpTables, Meaning.DriveLoad, Meaning.AuditRun, Meaning.ShipFiles, Meaning.FollowFiles}
 use Rattle.command_edges.specs.Files.{OfFile}
 use Rattle.dude_engine.specs.Opening.{Opening}
 use Rattle.dude_engine.specs.Requests.{request_count}
@@ -75,6 +75,7 @@ pub one_requests : (meaning : Meaning) (f : FilesSight) (opening : Opening) (a b
 one_requests (FreshRun subscribers file) f opening a b visible one other = one_of_files f (file ∷ []) a b visible one other
 one_requests (FormatImage s c n k) f opening a b known one other = one ∙ sym other
 one_requests (RunFiles frames locks files) f opening a b visible one other = one_of_files f files a b visible one other
+one_requests (StreamFiles frames locks files) f opening a b visible one other = one_of_files f files a b visible one other
 one_requests RecoverImage f opening a b known one other = one ∙ sym other
 one_requests DumpTables f opening a b known one other = one ∙ sym other
 one_requests (AuditRun printed files) f opening a b known one other = one ∙ sym other
@@ -85,6 +86,7 @@ one_requests (FollowFiles files) f opening a b known one other = one ∙ sym oth
 -- the frames that are wanted are those that the words name
 one_frames : (meaning : Meaning) (v w pages : ℕ) → WantsFrames meaning v pages → WantsFrames meaning w pages → v ≡ w
 one_frames (RunFiles (Some frames) locks files) v w pages one other = one.0 ∙ sym other.0
+one_frames (StreamFiles (Some frames) locks files) v w pages one other = one.0 ∙ sym other.0
 one_frames meaning v w pages one other = absurd one
 
 one_load : (meaning : Meaning) (subscribers v w : ℕ) → WantsSubscribers meaning subscribers v → WantsSubscribers meaning subscribers w → v ≡ w
@@ -94,6 +96,7 @@ one_load meaning subscribers v w one other = absurd one
 -- no command wants both
 never_both : (meaning : Meaning) (v w pages subscribers : ℕ) → WantsFrames meaning v pages → WantsSubscribers meaning subscribers w → ⊥
 never_both (RunFiles frames locks files) v w pages subscribers one other = absurd other
+never_both (StreamFiles frames locks files) v w pages subscribers one other = absurd other
 never_both meaning v w pages subscribers one other = absurd one
 
 -- What an audit has none of.

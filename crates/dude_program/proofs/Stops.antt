@@ -18,7 +18,7 @@ use Rattle.image_format.specs.FormatCalls.{format_calls}
 use Rattle.image_opening.specs.Answers.{OpensSome, StillRecovers}
 use Rattle.image_opening.proofs.OpeningMoments.{opened_some, opens_calls}
 use Rattle.image_opening.proofs.SettledReads.{content_kept}
-use Rattle.command_words.specs.Command.{Meaning, Meaning.FreshRun, Meaning.FormatImage, Meaning.RunFiles, Meaning.RecoverImage, Meaning.DumpTables, Meaning.DriveLoad, Meaning.AuditRun, Meaning.ShipFiles, Meaning.FollowFiles}
+use Rattle.command_words.specs.Command.{Meaning, Meaning.FreshRun, Meaning.FormatImage, Meaning.RunFiles, Meaning.StreamFiles, Meaning.RecoverImage, Meaning.DumpTables, Meaning.DriveLoad, Meaning.AuditRun, Meaning.ShipFiles, Meaning.FollowFiles}
 use Rattle.command_edges.specs.Files.{HasFileFault, MissesFile}
 use Rattle.command_edges.specs.Files as read
 use Rattle.command_edges.specs.Reads.{ReadsInOrder}
@@ -147,6 +147,7 @@ pub prefix_at_rest : (meaning : Meaning) (s : Sight) â†’ (IsTrue s.is_visible â†
 prefix_at_rest (FreshRun subscribers file) s settled opening starts = prefix_new opening s
 prefix_at_rest (FormatImage a b c d) s settled opening starts = prefix_new opening s
 prefix_at_rest (RunFiles frames locks files) s settled opening starts = prefix_old opening s settled starts
+prefix_at_rest (StreamFiles frames locks files) s settled opening starts = prefix_old opening s settled starts
 prefix_at_rest RecoverImage s settled opening starts = prefix_old opening s settled starts
 prefix_at_rest DumpTables s settled opening starts = prefix_old opening s settled starts
 prefix_at_rest (DriveLoad seed count files) s settled opening starts = prefix_old opening s settled starts

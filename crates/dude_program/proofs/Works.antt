@@ -1,5 +1,6 @@
 -- A run over an opened image, as the command sees it; the requests of a load; and texts.
 use Rattle.std.proofs.Common.{◌≡◌, ◌⊎◌, ◌↔◌, Bool, true, false, IsTrue, ℕ, zero, suc, ◌+◌, ◌<◌, ◌≤◌, List, [], ◌∷◌, ◌++◌, length, map, refl, sym, ◌∙◌, ap, subst, inl, inr, arith, Some, None, Result, Ok, Err, Vec, Global, take, get_or}
+use Rattle.std.specs.Option.{is_none}
 use Rattle.std.specs.Result.{result_err}
 use Rattle.std.specs.Prelude.{OnOk, IfErr, ⊤}
 use Rattle.std.specs.List.{All, range_with_len}
@@ -7,6 +8,7 @@ use Rattle.std.proofs.lemmas.List.{length-map, map_more, map-append}
 use Rattle.std.proofs.lemmas.List.Elements.{All-append, All-cons, All-head, All-nil, All-tail}
 use Rattle.std.proofs.lemmas.List.FromFn.{length-map-range_with_len}
 use Rattle.std.proofs.lemmas.List.Sums.{fold-append}
+use Rattle.dude_base.specs.declared.run.Run.{Run}
 use Rattle.dude_base.specs.declared.sizes.Sizes.{Sizes}
 use Rattle.pmem_trait.specs.Sights.{Sight, SomeCalls, state_now}
 use Rattle.tatp_model.specs.declared.done.Done.{Done}
@@ -22,7 +24,9 @@ use Rattle.pmem_trait.specs.declared.medium.Medium.{Ghosts}
 use Rattle.back_store.specs.BackView.{sight_of}
 use Rattle.image_opening.specs.declared.opened.Opened.{Opened}
 use Rattle.image_opening.specs.Opened.{HoldsOpened, IsOpened}
-use Rattle.run_threads.specs.Ends.{EndsWhole}
+use Rattle.run_threads.specs.Answers.{AnswersOnThreads, AreSyncsDurable, KnowsReads, TellsSyncsOnThreads}
+use Rattle.run_threads.specs.Ends.{AnyNumber, EndsOnThreads, EndsWhole, RecoversOnThreads}
+use Rattle.run_threads.specs.Streamed.{is_whole}
 use Rattle.command_openings.proofs.Images.{none_behind}
 use Rattle.command_edges.specs.Printing.{FailsIn}
 use Rattle.tatp_model.specs.Files.{requests_in}
@@ -135,6 +139,32 @@ module _ {M : Type 0} {ghosts : Ghosts M} (o : Opened M ghosts) (opened : IsOpen
     cause = λ is. ends.cause (device_end end is);
     only = only_ends end;
   }
+
+-- a run on threads, from what its parts say
+module _ {M : Type 0} {ghosts : Ghosts M} (o : Opened M ghosts) (opened : IsOpened o) (run : Run) (files : List (Vec Request Global)) (done : List Done) (end : RanEnd) (last : ℕ) (t : Sight) (opening : Opening)
+    (own : plain.IsOpeningOf o opening) (answers : AnswersOnThreads run opening (requests_in files) done (sight_of o.back)) (syncs : TellsSyncsOnThreads o.number done (sight_of o.back) t)
+    (moments : RecoversOnThreads opening o.words.items done (sight_of o.back) t) (ends : EndsOnThreads o (requests_in files) done end last t) where
+  pub ran_over_threads : RanOver true (KnowsReads opening.sizes run (sight_of o.back)) AnyNumber opening o.words.items (requests_in files) done last (fault_of_end end) (sight_of o.back) t
+  ran_over_threads = record {
+    numbers = answers.numbers;
+    replies = answers.replies;
+    syncs_follow = syncs.follow;
+    syncs_from = λ i d below sync. omega (arith, syncs.from i d below sync, own.number);
+    syncs_told = λ visible. subst (λ (n : ℕ). AreSyncsDurable n done (sight_of o.back) t) (sym own.number) (syncs.told visible);
+    moments = moments;
+    whole = λ none. ends.whole (whole_end end none) opening own;
+    operates = λ none. operates_idle opening (sight_of o.back) t opened.idle own.sizes own.number (ends.operates (whole_end end none));
+    few_lost = lost_on_threads end opening o.words.items done (sight_of o.back) t ends.ran (λ well. ends.few_lost well opening own);
+    ran = ran_end end (sight_of o.back) t ends.ran;
+    cause = λ is. ends.cause (device_end end is);
+    only = only_ends end;
+  }
+
+-- a run is whole where it ended with no fault
+pub whole_none : (end : RanEnd) → is_none (fault_of_end end) ≡ is_whole end
+whole_none Whole = refl
+whole_none ran.Device = refl
+whole_none NoMemory = refl
 
 -- ---- a text
 

@@ -16,7 +16,7 @@ use Rattle.back_store.specs.Back.{idle}
 use Rattle.image_recovery.specs.Recovered.{IsNoDatabase, RecoversTo}
 use Rattle.image_format.specs.Causes.{FormatsSome}
 use Rattle.image_opening.specs.Answers.{OpensSome}
-use Rattle.command_words.specs.Command.{Meaning, Meaning.FreshRun, Meaning.FormatImage, Meaning.RunFiles, Meaning.RecoverImage, Meaning.DumpTables, Meaning.DriveLoad, Meaning.AuditRun, Meaning.ShipFiles, Meaning.FollowFiles}
+use Rattle.command_words.specs.Command.{Meaning, Meaning.FreshRun, Meaning.FormatImage, Meaning.RunFiles, Meaning.StreamFiles, Meaning.RecoverImage, Meaning.DumpTables, Meaning.DriveLoad, Meaning.AuditRun, Meaning.ShipFiles, Meaning.FollowFiles}
 use Rattle.command_edges.specs.Files.{HasReadFault, IsFirstBad, IsGoodFile, MissesFile}
 use Rattle.command_edges.specs.Reads.{ReadsInOrder}
 use Rattle.command_openings.specs.Opens.{FailsOpening, OpensByCalls}
@@ -36,6 +36,7 @@ abbrev pub sizes_made : Meaning → Option Sizes
 sizes_made (FreshRun subscribers file) = Some (fresh_sizes subscribers)
 sizes_made (FormatImage subscribers calls rings cells) = Some (sizes_for subscribers calls rings cells)
 sizes_made (RunFiles frames locks files) = None
+sizes_made (StreamFiles frames locks files) = None
 sizes_made RecoverImage = None
 sizes_made DumpTables = None
 sizes_made (DriveLoad seed count number) = None
@@ -48,6 +49,7 @@ abbrev pub files_run : Meaning → ℕ
 files_run (FreshRun subscribers file) = 1
 files_run (FormatImage subscribers calls rings cells) = 0
 files_run (RunFiles frames locks files) = length files
+files_run (StreamFiles frames locks files) = length files
 files_run RecoverImage = 0
 files_run DumpTables = 0
 files_run (DriveLoad seed count number) = number
@@ -55,12 +57,17 @@ files_run (AuditRun printed files) = 0
 files_run (ShipFiles files) = length files
 files_run (FollowFiles files) = 0
 
--- The frames asked for are out of their limits: more than the pages, or fewer than 32 and than the pages.
+-- These frames are said, and out of their limits: more than the pages, or fewer than 32 and than the pages.
+abbrev pub AreOutOfLimits : Option ℕ → ℕ → ℕ → Type 0
+AreOutOfLimits None wanted pages = ⊥
+AreOutOfLimits (Some frames) wanted pages = (wanted ≡ frames) × ¬ IsFrom (min MIN_FRAMES pages) pages frames
+
+-- The frames asked for are out of their limits.
 abbrev pub WantsFrames : Meaning → ℕ → ℕ → Type 0
 WantsFrames (FreshRun subscribers file) wanted pages = ⊥
 WantsFrames (FormatImage subscribers calls rings cells) wanted pages = ⊥
-WantsFrames (RunFiles None locks files) wanted pages = ⊥
-WantsFrames (RunFiles (Some frames) locks files) wanted pages = (wanted ≡ frames) × ¬ IsFrom (min MIN_FRAMES pages) pages frames
+WantsFrames (RunFiles frames locks files) wanted pages = AreOutOfLimits frames wanted pages
+WantsFrames (StreamFiles frames locks files) wanted pages = AreOutOfLimits frames wanted pages
 WantsFrames RecoverImage wanted pages = ⊥
 WantsFrames DumpTables wanted pages = ⊥
 WantsFrames (DriveLoad seed count number) wanted pages = ⊥
@@ -73,6 +80,7 @@ abbrev pub WantsSubscribers : Meaning → ℕ → ℕ → Type 0
 WantsSubscribers (FreshRun made file) subscribers wanted = ⊥
 WantsSubscribers (FormatImage made calls rings cells) subscribers wanted = ⊥
 WantsSubscribers (RunFiles frames locks files) subscribers wanted = ⊥
+WantsSubscribers (StreamFiles frames locks files) subscribers wanted = ⊥
 WantsSubscribers RecoverImage subscribers wanted = ⊥
 WantsSubscribers DumpTables subscribers wanted = ⊥
 WantsSubscribers (DriveLoad seed count number) subscribers wanted = (wanted ≡ number) × (subscribers < number)
@@ -85,6 +93,7 @@ abbrev pub DrawsNumbers : Meaning → Type 0
 DrawsNumbers (FreshRun subscribers file) = ⊥
 DrawsNumbers (FormatImage subscribers calls rings cells) = ⊥
 DrawsNumbers (RunFiles frames locks files) = ⊤
+DrawsNumbers (StreamFiles frames locks files) = ⊤
 DrawsNumbers RecoverImage = ⊥
 DrawsNumbers DumpTables = ⊥
 DrawsNumbers (DriveLoad seed count number) = ⊤
@@ -103,6 +112,7 @@ abbrev pub RefusesAudit : Meaning → FilesSight → Opening → ℕ → Type 0
 RefusesAudit (FreshRun subscribers file) files opening line = ⊥
 RefusesAudit (FormatImage subscribers calls rings cells) files opening line = ⊥
 RefusesAudit (RunFiles frames locks names) files opening line = ⊥
+RefusesAudit (StreamFiles frames locks names) files opening line = ⊥
 RefusesAudit RecoverImage files opening line = ⊥
 RefusesAudit DumpTables files opening line = ⊥
 RefusesAudit (DriveLoad seed count number) files opening line = ⊥
@@ -115,6 +125,7 @@ abbrev pub RefusesPackets : Meaning → FilesSight → Opening → Fault → Typ
 RefusesPackets (FreshRun subscribers file) files opening why = ⊥
 RefusesPackets (FormatImage subscribers calls rings cells) files opening why = ⊥
 RefusesPackets (RunFiles frames locks names) files opening why = ⊥
+RefusesPackets (StreamFiles frames locks names) files opening why = ⊥
 RefusesPackets RecoverImage files opening why = ⊥
 RefusesPackets DumpTables files opening why = ⊥
 RefusesPackets (DriveLoad seed count number) files opening why = ⊥
@@ -142,6 +153,7 @@ abbrev pub KnowsRequests : Meaning → FilesSight → Type 0
 KnowsRequests (FreshRun subscribers file) files = IsTrue files.is_visible
 KnowsRequests (FormatImage subscribers calls rings cells) files = ⊤
 KnowsRequests (RunFiles frames locks names) files = IsTrue files.is_visible
+KnowsRequests (StreamFiles frames locks names) files = IsTrue files.is_visible
 KnowsRequests RecoverImage files = ⊤
 KnowsRequests DumpTables files = ⊤
 KnowsRequests (DriveLoad seed count number) files = ⊤

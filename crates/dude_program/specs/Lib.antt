@@ -8,6 +8,7 @@ pub mod Judging
 pub mod Opening
 pub mod Ship
 pub mod Shipping
+pub mod Streaming
 pub mod Taking
 pub mod Work
 pub mod World

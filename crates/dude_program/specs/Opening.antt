@@ -1,5 +1,5 @@
 -- What a command starts from, and what it runs: the cases, a command each, below the headline.
-use Rattle.std.specs.Prelude.{◌≡◌, ◌⊎◌, ℕ, ◌*◌, ◌≤◌, ⊤, Bool, true, false, Some, None, IsTrue, List, [], ◌∷◌, ◌++◌, codes, map}
+use Rattle.std.specs.Prelude.{◌≡◌, ◌⊎◌, ℕ, ◌*◌, ◌≤◌, ⊤, Bool, true, false, Option, Some, None, IsTrue, List, [], ◌∷◌, ◌++◌, codes, map}
 use Rattle.std.specs.List.{AllZip, list_all, range_with_len}
 use Rattle.dude_base.specs.declared.sizes.Sizes.{Sizes}
 use Rattle.dude_base.specs.Sizes.{sizes_for}
@@ -11,7 +11,8 @@ use Rattle.tatp_text.specs.Dump.{dump_text}
 use Rattle.tatp_text.specs.Load.{mixed}
 use Rattle.tatp_text.specs.Summary.{summary_of}
 use Rattle.dude_io.specs.Files.{FilesSight}
-use Rattle.command_words.specs.Command.{Meaning, Meaning.FreshRun, Meaning.FormatImage, Meaning.RunFiles, Meaning.RecoverImage, Meaning.DumpTables, Meaning.DriveLoad, Meaning.AuditRun, Meaning.ShipFiles, Meaning.FollowFiles}
+use Rattle.dude_stream.specs.Streams.{IsStreamText}
+use Rattle.command_words.specs.Command.{Meaning, Meaning.FreshRun, Meaning.FormatImage, Meaning.RunFiles, Meaning.StreamFiles, Meaning.RecoverImage, Meaning.DumpTables, Meaning.DriveLoad, Meaning.AuditRun, Meaning.ShipFiles, Meaning.FollowFiles}
 use Rattle.command_edges.specs.Files.{OfFile}
 use Rattle.dude_engine.specs.Opening.{Opening, last_of}
 use Rattle.command_openings.specs.Openings.{IsOpeningOn, new_opening}
@@ -37,6 +38,7 @@ abbrev pub properties_of : Meaning → Properties
 properties_of (FreshRun subscribers file) = record { makes_image = true; runs_requests = true; runs_threads = false; ends_opened = false; only_reads = false; prints_early = false; has_headline = true }
 properties_of (FormatImage subscribers calls rings cells) = record { makes_image = true; runs_requests = false; runs_threads = false; ends_opened = true; only_reads = false; prints_early = false; has_headline = true }
 properties_of (RunFiles frames locks files) = record { makes_image = false; runs_requests = true; runs_threads = true; ends_opened = false; only_reads = false; prints_early = false; has_headline = true }
+properties_of (StreamFiles frames locks files) = record { makes_image = false; runs_requests = true; runs_threads = true; ends_opened = false; only_reads = false; prints_early = true; has_headline = true }
 properties_of RecoverImage = record { makes_image = false; runs_requests = false; runs_threads = false; ends_opened = true; only_reads = false; prints_early = false; has_headline = true }
 properties_of DumpTables = record { makes_image = false; runs_requests = false; runs_threads = false; ends_opened = true; only_reads = false; prints_early = false; has_headline = true }
 properties_of (DriveLoad seed count number) = record { makes_image = false; runs_requests = true; runs_threads = true; ends_opened = false; only_reads = false; prints_early = false; has_headline = true }
@@ -78,6 +80,7 @@ abbrev pub Starts : Meaning → Sight → Opening → Type 0
 Starts (FreshRun subscribers file) medium opening = opening ≡ new_opening (fresh_sizes subscribers)
 Starts (FormatImage subscribers calls rings cells) medium opening = opening ≡ new_opening (sizes_for subscribers calls rings cells)
 Starts (RunFiles frames locks files) medium opening = IsOpeningOn medium opening
+Starts (StreamFiles frames locks files) medium opening = IsOpeningOn medium opening
 Starts RecoverImage medium opening = IsOpeningOn medium opening
 Starts DumpTables medium opening = IsOpeningOn medium opening
 Starts (DriveLoad seed count number) medium opening = IsOpeningOn medium opening
@@ -94,6 +97,7 @@ abbrev pub command_files : Meaning → List CommandFile
 command_files (FreshRun subscribers file) = request_files (file ∷ [])
 command_files (FormatImage subscribers calls rings cells) = []
 command_files (RunFiles frames locks files) = request_files files
+command_files (StreamFiles frames locks files) = request_files files
 command_files RecoverImage = []
 command_files DumpTables = []
 command_files (DriveLoad seed count number) = []
@@ -111,6 +115,7 @@ abbrev pub RequestsAre : Meaning → FilesSight → Opening → List (List Reque
 RequestsAre (FreshRun subscribers file) files opening requests = AllZip (OfFile files) (file ∷ []) requests
 RequestsAre (FormatImage subscribers calls rings cells) files opening requests = requests ≡ []
 RequestsAre (RunFiles frames locks names) files opening requests = AllZip (OfFile files) names requests
+RequestsAre (StreamFiles frames locks names) files opening requests = AllZip (OfFile files) names requests
 RequestsAre RecoverImage files opening requests = requests ≡ []
 RequestsAre DumpTables files opening requests = requests ≡ []
 RequestsAre (AuditRun printed names) files opening requests = requests ≡ []
@@ -118,12 +123,18 @@ RequestsAre (ShipFiles names) files opening requests = AllZip (OfFile files) nam
 RequestsAre (FollowFiles names) files opening requests = requests ≡ []
 RequestsAre (DriveLoad seed count number) files opening requests = requests ≡ load_of opening.sizes.subscribers seed count number
 
+-- It is known what threads over so many frames read: all pages are in memory, or the medium is visible. Where no frames are
+-- said each page has one.
+abbrev pub KnowsReadsOver : Option ℕ → Opening → Sight → Type 0
+KnowsReadsOver None opening medium = ⊤
+KnowsReadsOver (Some frames) opening medium = IsTrue medium.is_visible ⊎ (frames ≡ opening.sizes.pages)
+
 -- It is known what the command's requests read: all pages are in memory while they run, or the medium is visible.
 abbrev pub KnowsReplies : Meaning → Opening → Sight → Type 0
 KnowsReplies (FreshRun subscribers file) opening medium = ⊤
 KnowsReplies (FormatImage subscribers calls rings cells) opening medium = ⊤
-KnowsReplies (RunFiles None locks files) opening medium = ⊤
-KnowsReplies (RunFiles (Some frames) locks files) opening medium = IsTrue medium.is_visible ⊎ (frames ≡ opening.sizes.pages)
+KnowsReplies (RunFiles frames locks files) opening medium = KnowsReadsOver frames opening medium
+KnowsReplies (StreamFiles frames locks files) opening medium = KnowsReadsOver frames opening medium
 KnowsReplies RecoverImage opening medium = ⊤
 KnowsReplies DumpTables opening medium = ⊤
 KnowsReplies (DriveLoad seed count number) opening medium = ⊤
@@ -137,6 +148,7 @@ abbrev pub IsReachable : Meaning → Opening → List Done → ℕ → Type 0
 IsReachable (FreshRun subscribers file) opening done n = n ≤ last_of opening.number done
 IsReachable (FormatImage subscribers calls rings cells) opening done n = n ≤ last_of opening.number done
 IsReachable (RunFiles frames locks files) opening done n = ⊤
+IsReachable (StreamFiles frames locks files) opening done n = ⊤
 IsReachable RecoverImage opening done n = n ≤ last_of opening.number done
 IsReachable DumpTables opening done n = n ≤ last_of opening.number done
 IsReachable (DriveLoad seed count number) opening done n = ⊤
@@ -150,6 +162,7 @@ abbrev pub IsOutput : Meaning → Opening → List Done → ℕ → List ℕ →
 IsOutput (FreshRun subscribers file) opening done last text = text ≡ output_of done last
 IsOutput (FormatImage subscribers calls rings cells) opening done last text = text ≡ last_line last
 IsOutput (RunFiles frames locks files) opening done last text = text ≡ output_of done last
+IsOutput (StreamFiles frames locks files) opening done last text = IsStreamText done last text
 IsOutput RecoverImage opening done last text = text ≡ last_line last
 IsOutput DumpTables opening done last text = text ≡ dump_text opening.database last
 IsOutput (DriveLoad seed count number) opening done last text = text ≡ summary_of done

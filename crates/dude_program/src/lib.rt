@@ -15,6 +15,8 @@ mod output;
 mod run_options;
 mod ship;
 mod shipping;
+mod stream;
+mod streaming;
 mod top;
 mod worked;
 

@@ -15,6 +15,7 @@ use crate::follow::follow;
 use crate::load::Load;
 use crate::run_options::RunOptions;
 use crate::ship::ship;
+use crate::stream::stream;
 use command_edges::Fault;
 use command_words::{Command, command_of};
 use dude_io::{Files, Sink};
@@ -26,7 +27,7 @@ use std::rc::RcStr;
 use std::thread::Threads;
 
 /// Carries out a command, by its kind.
-fn carry_out<R: Threads + Sync, M: Medium + Send, F: Files, K: Sink, G: Gate + Sync>(
+fn carry_out<R: Threads + Sync, M: Medium + Send, F: Files, K: Sink + Send, G: Gate + Sync>(
     rt: &R,
     alloc: Global,
     command: &Command,
@@ -78,6 +79,20 @@ fn carry_out<R: Threads + Sync, M: Medium + Send, F: Files, K: Sink, G: Gate + S
             out,
             gate,
         ),
+        Command::Stream {
+            frames,
+            locks,
+            files: names,
+        } => stream(
+            rt,
+            alloc,
+            RunOptions { frames, locks },
+            names,
+            medium,
+            files,
+            out,
+            gate,
+        ),
         Command::Recover => recover(alloc, medium, out),
         Command::Dump => dump(alloc, medium, out),
         Command::Drive { seed, count, files } => {
@@ -93,11 +108,12 @@ fn carry_out<R: Threads + Sync, M: Medium + Send, F: Files, K: Sink, G: Gate + S
     }
 }
 
-/// Carries out a command. `run` and `drive` start a thread for each file, and join it.
+/// Carries out a command. `run`, `stream` and `drive` start a thread for each file, `stream` one more that prints, and join
+/// them.
 ///
 /// The words are the command and its arguments, without the image's name. `medium` is the image; `files` gives the
 /// request files, a printed run and packets, and `out` gets the output. The medium is given back, also after a fault.
-pub fn dude<R: Threads + Sync, M: Medium + Send, F: Files, K: Sink>(
+pub fn dude<R: Threads + Sync, M: Medium + Send, F: Files, K: Sink + Send>(
     rt: &R,
     alloc: Global,
     words: &[RcStr],
@@ -126,8 +142,15 @@ pub fn dude<R: Threads + Sync, M: Medium + Send, F: Files, K: Sink>(
     dude_watched(rt, alloc, words, medium, files, out, &OpenGate)
 }
 
-/// Does what `dude` does. Each transaction of a `run` or a `drive` passes the gate between its last read and its commit.
-pub fn dude_watched<R: Threads + Sync, M: Medium + Send, F: Files, K: Sink, G: Gate + Sync>(
+/// Does what `dude` does. Each transaction of a `run`, a `stream` or a `drive` passes the gate between its last read and its
+/// commit.
+pub fn dude_watched<
+    R: Threads + Sync,
+    M: Medium + Send,
+    F: Files,
+    K: Sink + Send,
+    G: Gate + Sync,
+>(
     rt: &R,
     alloc: Global,
     words: &[RcStr],

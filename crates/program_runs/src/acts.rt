@@ -80,6 +80,7 @@ pub fn command_of<R: Threads + Sync>(
         done: ended.done,
         printed: Some(printed),
         runs_several: runs_several(command),
+        streams: matches!(command, ["stream", ..]),
         next_fail: files.read("f", 0, &mut [0; 8]).is_err() && sink.write(b"last 0\n").is_err(),
     })
 }

@@ -5,6 +5,7 @@ use crate::outcome::Outcome;
 use crate::printing::print_ending;
 use crate::scene::{Scene, Settings};
 use crate::several::behind_options;
+use crate::streams::in_files;
 use dude_io::MemFile;
 use std::alloc::{AllocError, Global};
 use std::io;
@@ -13,8 +14,9 @@ use std::thread::Threads;
 /// The name of the file that has what a run printed.
 const PRINTED: &str = "run.out";
 
-/// Audits what a run of the product printed, where it ended well, and prints how that ended unless the answer is yes; where
-/// numbers depend on the turns of threads, also where it is.
+/// Audits what a run or a stream of the product printed, where it ended well, and prints how that ended unless the answer is
+/// yes; where numbers or the order of lines depend on the turns of threads, also where it is. Of a stream the lines of each file
+/// are put together, and their file's number is cut off.
 pub fn audit_run<R: Threads + Sync>(
     threads: &R,
     rt: &HostRuntime,
@@ -25,17 +27,22 @@ pub fn audit_run<R: Threads + Sync>(
     let Some(printed) = &outcome.printed else {
         return Ok(());
     };
-    let ["dude" | "aside", "run", rest @ ..] = words else {
+    let ["dude" | "aside", "run" | "stream", rest @ ..] = words else {
         return Ok(());
     };
     if outcome.answer.as_str() != "status 0\n" {
         return Ok(());
     }
     let names = behind_options(rest);
-    let audited = audited(threads, rt.alloc(), scene, names, printed)?;
+    let printed = if outcome.streams {
+        in_files(rt.alloc(), printed, names.len() as u64)?
+    } else {
+        printed.to_vec(rt.alloc())?
+    };
+    let audited = audited(threads, rt.alloc(), scene, names, &printed)?;
     match &audited.printed {
         Some(text) if text.as_slice() == b"yes\n".as_slice() => {
-            if outcome.depends_on_turns() {
+            if outcome.depends_on_turns() || outcome.mixes_lines() {
                 rt.println("an audit of this run says yes")?;
             }
             Ok(())

@@ -15,6 +15,7 @@ mod scene;
 mod setup;
 mod several;
 mod stored;
+mod streams;
 mod turns;
 
 use bench::Bench;

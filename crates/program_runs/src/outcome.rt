@@ -19,6 +19,8 @@ pub struct Outcome {
     pub printed: Option<Vec<u8>>,
     /// Whether several files were run, each on a thread of its own.
     pub runs_several: bool,
+    /// Whether replies were printed while others were still to come.
+    pub streams: bool,
     /// Whether the next read of file `f` and the next write of the sink fail.
     pub next_fail: bool,
 }
@@ -38,6 +40,7 @@ impl Outcome {
             done: Vec::new(alloc),
             printed: None,
             runs_several: false,
+            streams: false,
             next_fail: false,
         })
     }
@@ -54,6 +57,11 @@ impl Outcome {
     /// Whether the numbers of what was done depend on the turns of threads. Where none wrote they don't.
     pub fn depends_on_turns(&self) -> bool {
         self.runs_several && self.wrote_some()
+    }
+
+    /// Whether the order of the lines printed depends on the turns of threads.
+    pub fn mixes_lines(&self) -> bool {
+        self.streams && self.runs_several
     }
 
     /// Whether a request wrote.

@@ -13,7 +13,8 @@ pub fn print_ending(rt: &HostRuntime, outcome: &Outcome) -> io::Result<()> {
 }
 
 /// Prints the lines of the output. Of lines that follow one another and are the same, only one stands, with their count. Of
-/// those that depend on the turns of threads it prints how many there are. Of packets it prints the words.
+/// those that depend on the turns of threads, or whose order does, it prints how many there are. Of packets it prints the
+/// words.
 pub fn print_output(rt: &HostRuntime, outcome: &Outcome) -> io::Result<()> {
     let Some(printed) = &outcome.printed else {
         return Ok(());
@@ -22,7 +23,8 @@ pub fn print_output(rt: &HostRuntime, outcome: &Outcome) -> io::Result<()> {
         return print_cells(rt, printed);
     }
     let printed = str::from_utf8(printed).unwrap_or("(no text)");
-    if outcome.depends_on_turns() && printed.contains("last ") {
+    let varies = outcome.depends_on_turns() || outcome.mixes_lines();
+    if varies && printed.contains("last ") {
         return println!(rt; "| {} lines", printed.lines().count());
     }
     let mut lines = Vec::new(rt.alloc());

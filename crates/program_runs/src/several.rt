@@ -5,7 +5,7 @@ use script_words::number_of;
 /// Whether a command runs several files. Then its numbers, and its calls on the medium, depend on the turns of the threads.
 pub fn runs_several(command: &[&str]) -> bool {
     match command {
-        ["run", rest @ ..] => behind_options(rest).len() > 1,
+        ["run" | "stream", rest @ ..] => behind_options(rest).len() > 1,
         ["drive", _, _, files] => number_of(files).unwrap_or(0) > 1,
         _ => false,
     }

@@ -133,6 +133,8 @@ fn output_line(turn: &str, whole: &Outcome, outcome: &Outcome, call: u64) -> &'s
     let is_up_to_call = printed.len() as u64 == call.saturating_sub(1);
     if turn == "write" && is_up_to_call && whole.starts_with(printed) {
         "printed the bytes before this write\n"
+    } else if turn != "write" && outcome.streams && whole.starts_with(printed) {
+        "printed no more than the first bytes\n"
     } else if printed.is_empty() {
         "printed nothing\n"
     } else if printed == whole {

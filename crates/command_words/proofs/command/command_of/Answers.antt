@@ -1,6 +1,6 @@
 use Rattle.std.proofs.Common.{◌∙◌, codes, refl, sym}
 use Rattle.std.specs.Rc.{rc_str_bytes}
-use Rattle.command_words.specs.Command.{RecoverImage, DumpTables, alone, audit_of, drive_of, follow_of, format_of, fresh_of, run_of, ship_of}
+use Rattle.command_words.specs.Command.{RecoverImage, DumpTables, alone, audit_of, drive_of, follow_of, format_of, fresh_of, run_of, ship_of, stream_of}
 use Rattle.command_words.proofs.Names.{first-named, first-other}
 use Rattle.command_words.proofs.Readings.{means-if-ok}
 use Rattle.command_words.proofs.command.command_of.Goals as goal
@@ -25,6 +25,13 @@ returns-in-run-clause-meaning c =
     means-if-ok c.run_of.result _ _
     (first-named rc_str_bytes c.args.words.now c.in-Some.name.now (codes "run") run_of (λ words. refl) item.3.0 item.1 (sym c.as_str.ensures.value ∙ c.in-run.is))
     c.run_of.ensures
+
+pub returns-in-stream-clause-meaning : goal.returns-in-stream-clause-meaning
+returns-in-stream-clause-meaning c =
+    let item = c.in-Some.ensures.item in
+    means-if-ok c.stream_of.result _ _
+    (first-named rc_str_bytes c.args.words.now c.in-Some.name.now (codes "stream") stream_of (λ words. refl) item.3.0 item.1 (sym c.as_str.ensures.value ∙ c.in-stream.is))
+    c.stream_of.ensures
 
 pub returns-in-drive-clause-meaning : goal.returns-in-drive-clause-meaning
 returns-in-drive-clause-meaning c =
@@ -72,6 +79,7 @@ returns-in_default-as_str-clause-meaning c =
       fresh = λ e. arm.not-fresh (text ∙ e);
       format = λ e. arm.not-format (text ∙ e);
       run = λ e. arm.not-run (text ∙ e);
+      stream = λ e. arm.not-stream (text ∙ e);
       recover = λ e. arm.not-recover (text ∙ e);
       dump = λ e. arm.not-dump (text ∙ e);
       drive = λ e. arm.not-drive (text ∙ e);

@@ -57,7 +57,7 @@ returns-in-Ok-check_run-clause-ends g c =
     let same : c.deref.result.now ≡ lists = c.deref.ensures.value ∙ sym c.deref-in-Ok-check_run.ensures.value in
     let checked = rw same at c.in-Ok-check_run.ensures in
     let came = came_ran (run_files c.args.options.frames locks names (requests_in lists) read c.in-Ok.ensures.reads) (opened_old (run_opens c.args.options.frames locks names _) refl is_open.0 is_open.1)
-    refl (run_knows c.args.options.frames locks names opening c.over-run.result _ c.over-run.ensures.frames) (λ order n any. tt) refl read
+    refl (run_knows c.args.options.frames opening c.over-run.result _ c.over-run.ensures.frames) (λ order n any. tt) refl read
     (λ opens why refuses. run_passes c.args.options.frames locks names f (requests_in lists) read (length lists) as_many opening checked.rings (checked.frames locks names) checked.numbers why refuses)
     c.work_on_threads.result.fault (c.work_on_threads.ensures opening (is_opening_of o opened)) in
     rw (c.end_with_lines.ensures.medium, c.end_with_lines.ensures.done) (ends_printed _ _ _ came (λ whole. (refl, tt)) c.end_with_lines.ensures.printed)

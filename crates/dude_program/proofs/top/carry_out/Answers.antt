@@ -6,6 +6,9 @@ returns-in-Format-clause-ends g c = rw c.in-Format.is (c.format.ensures.ends (g.
 pub returns-in-Run-clause-ends : goal.returns-in-Run-clause-ends
 returns-in-Run-clause-ends g c = rw c.in-Run.is c.run.ensures.ends
 
+pub returns-in-Stream-clause-ends : goal.returns-in-Stream-clause-ends
+returns-in-Stream-clause-ends g c = rw c.in-Stream.is c.stream.ensures.ends
+
 pub returns-in-Recover-clause-ends : goal.returns-in-Recover-clause-ends
 returns-in-Recover-clause-ends g c = rw c.in-Recover.is (c.recover.ensures.ends (g.F.Files.sight c.args.files.now))
 

@@ -6,7 +6,7 @@ use Rattle.command_words.specs.Command.{run_given, run_words}
 use Rattle.command_words.specs.Run.{as_words}
 use Rattle.command_words.proofs.RunWalk.{simple-run}
 use Rattle.command_words.proofs.RunWords.{behind-first, run-refused, run-taken, run-unformed}
-use Rattle.command_words.proofs.run.run_of.Goals as goal
+use Rattle.command_words.proofs.run.arguments_of.Goals as goal
 
 pub matches_in-requires : goal.matches_in-requires
 matches_in-requires c = ap is_simple_and_free c.in_ok-run_command.ensures ∙ simple-run
