@@ -1,9 +1,10 @@
 //! The lines that ask for something.
 
-use crate::found::{Wanted, found_text, recovered};
+use crate::found::{found_text, recovered};
 use crate::outcome::Outcome;
 use crate::printing::{print_calls, print_words};
 use crate::setup::changed;
+use crate::wanted::Wanted;
 use dude_base::field::Field;
 use image_format::FormatFault;
 use pmem_trait::{Call, Medium};
@@ -118,8 +119,7 @@ fn print_fences(rt: &HostRuntime, outcome: &Outcome, least: u64, most: u64) -> i
 
 /// Prints whether both images of each moment are right.
 fn print_moments(rt: &HostRuntime, outcome: &Outcome, most: u64) -> io::Result<()> {
-    let began = recovered(rt.alloc(), &outcome.before);
-    let wanted = Wanted { began, most };
+    let wanted = Wanted::counted(rt.alloc(), &outcome.before, most);
     match wanted.first_wrong(rt.alloc(), &outcome.medium)? {
         None => rt.println("both images of each moment are right"),
         Some((moment, later)) => {

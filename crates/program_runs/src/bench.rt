@@ -8,7 +8,7 @@ use crate::printing::{print_ending, print_output};
 use crate::scene::{Scene, Settings, medium_of};
 use crate::setup::{add_line, next_file, next_image};
 use crate::stored::stored_image;
-use crate::turns::{after, each};
+use crate::turns::{after, behind, each};
 use dude_io::MemFile;
 use script_words::{is_remark, number_of, words_of};
 use std::alloc::{AllocError, Global};
@@ -110,6 +110,7 @@ impl Bench {
                 self.carried_out(threads, rt, words)?;
             }
             "each" => return each(threads, rt, &self.scene(), rest),
+            "behind" => return behind(threads, rt, &self.scene(), rest),
             "after" => match after(threads, rt, &self.scene(), &self.outcome, rest)? {
                 Some(outcome) => self.outcome = outcome,
                 None => return Ok(false),

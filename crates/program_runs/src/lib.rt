@@ -8,6 +8,7 @@ mod audits;
 mod bench;
 mod followers;
 mod found;
+mod homes;
 mod outcome;
 mod packets;
 mod printing;
@@ -17,6 +18,7 @@ mod several;
 mod stored;
 mod streams;
 mod turns;
+mod wanted;
 
 use bench::Bench;
 use std::io;

@@ -45,15 +45,6 @@ impl Outcome {
         })
     }
 
-    /// The greatest number of a request done.
-    pub fn last_done(&self) -> Option<u64> {
-        let mut last = None;
-        for done in &self.done {
-            last = Some(done.number.max(last.unwrap_or(0)));
-        }
-        last
-    }
-
     /// Whether the numbers of what was done depend on the turns of threads. Where none wrote they don't.
     pub fn depends_on_turns(&self) -> bool {
         self.runs_several && self.wrote_some()
@@ -72,6 +63,17 @@ impl Outcome {
             }
         }
         false
+    }
+
+    /// How many calls on the medium were made up to the first one that told a number, with it.
+    pub fn first_told(&self) -> Option<u64> {
+        let made = self.medium.made();
+        for at in 0..made.len() {
+            if matches!(made[at].call, Call::Tell(_)) {
+                return Some(at as u64 + 1);
+            }
+        }
+        None
     }
 
     /// How many calls on the medium were made up to this one, with it.
@@ -110,7 +112,7 @@ impl Outcome {
         match self.medium.told() {
             None => String::from_str(alloc, "told nothing"),
             Some(number) if self.depends_on_turns() => {
-                let covers = number >= self.last_done().unwrap_or(0);
+                let covers = number >= last_of(&self.done).unwrap_or(0);
                 String::from_str(alloc, if covers { "all told" } else { "not all told" })
             }
             Some(number) => format!(in alloc; "told {number}"),
@@ -135,6 +137,15 @@ impl Outcome {
             "the same words, but not after a crash"
         })
     }
+}
+
+/// The greatest number of these requests done.
+pub fn last_of(done: &[Done]) -> Option<u64> {
+    let mut last = None;
+    for one in done {
+        last = Some(one.number.max(last.unwrap_or(0)));
+    }
+    last
 }
 
 /// Whether all these calls are reads.

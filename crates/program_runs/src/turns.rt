@@ -1,10 +1,10 @@
 //! Commands of which each call fails in turn.
 
 use crate::acts::act;
-use crate::found::{Wanted, recovered};
 use crate::outcome::Outcome;
 use crate::printing::print_ending;
 use crate::scene::Scene;
+use crate::wanted::Wanted;
 use pmem_trait::{Call, Medium};
 use script_words::number_of;
 use std::alloc::{AllocError, Global};
@@ -27,23 +27,93 @@ pub fn each<R: Threads + Sync>(
     };
     let whole = act(threads, rt.alloc(), scene, words)?;
     print_ending(rt, &whole)?;
-    let began = recovered(rt.alloc(), scene.image);
-    let wanted = Wanted { began, most };
+    let wanted = Wanted::counted(rt.alloc(), scene.image, most);
     let calls = match *turn {
         "read" | "write" => most,
         _ => whole.medium.now(),
     };
-    let mut last = String::new(rt.alloc());
-    for call in 1..=calls {
-        let outcome = failed(threads, rt.alloc(), scene, turn, words, call)?;
-        let report = report(threads, rt.alloc(), turn, &whole, &wanted, &outcome, call)?;
-        // Of those that follow one another and are the same, only the first stands.
-        if report.as_str() != last.as_str() {
-            print!(rt; "from call {call} on:\n{report}")?;
-            last = report;
-        }
-    }
+    let sweep = Sweep {
+        turn,
+        words,
+        whole: &whole,
+        wanted: &wanted,
+    };
+    sweep.print(threads, rt, scene, 1, calls)?;
     Ok(true)
+}
+
+/// `behind TURN COUNT MOST COMMAND`: the same as `each` with at most so many calls behind the first one that told a number.
+/// A home of a greater number is that of this number in an image of the whole command, or as the requests done leave it.
+pub fn behind<R: Threads + Sync>(
+    threads: &R,
+    rt: &HostRuntime,
+    scene: &Scene,
+    rest: &[&str],
+) -> io::Result<bool> {
+    let [turn, count, most, words @ ..] = rest else {
+        return Ok(false);
+    };
+    let (Some(count), Some(most)) = (number_of(count), number_of(most)) else {
+        return Ok(false);
+    };
+    let whole = act(threads, rt.alloc(), scene, words)?;
+    print_ending(rt, &whole)?;
+    let Some(first) = whole.first_told() else {
+        return Ok(false);
+    };
+    let wanted = Wanted::seen(rt.alloc(), scene.image, most, &whole, first)?;
+    let last = whole.medium.now().min(first.saturating_add(count));
+    let sweep = Sweep {
+        turn,
+        words,
+        whole: &whole,
+        wanted: &wanted,
+    };
+    sweep.print(threads, rt, scene, first.saturating_add(1), last)?;
+    Ok(true)
+}
+
+/// A command that is carried out again and again, each time with another call that fails.
+#[derive(Clone, Copy)]
+struct Sweep<'a> {
+    turn: &'a str,
+    words: &'a [&'a str],
+    /// What the command leaves where no call fails.
+    whole: &'a Outcome,
+    wanted: &'a Wanted,
+}
+
+impl Sweep<'_> {
+    /// Carries the command out once for each call from the first to the last, and prints how it ended. Of endings that follow
+    /// one another and are the same, only the first stands.
+    fn print<R: Threads + Sync>(
+        &self,
+        threads: &R,
+        rt: &HostRuntime,
+        scene: &Scene,
+        first: u64,
+        last: u64,
+    ) -> io::Result<()> {
+        let mut before = String::new(rt.alloc());
+        for call in first..=last {
+            let outcome = failed(threads, rt.alloc(), scene, self.turn, self.words, call)?;
+            let wanted = self.wanted;
+            let report = report(
+                threads,
+                rt.alloc(),
+                self.turn,
+                self.whole,
+                wanted,
+                &outcome,
+                call,
+            )?;
+            if report.as_str() != before.as_str() {
+                print!(rt; "from call {call} on:\n{report}")?;
+                before = report;
+            }
+        }
+        Ok(())
+    }
 }
 
 /// `after NUMBER MOST COMMAND`: carries out a command where the call fails behind the one by which the last command told
@@ -64,8 +134,7 @@ pub fn after<R: Threads + Sync>(
     let Some(calls) = whole.calls_to(Call::Tell(number)) else {
         return Ok(None);
     };
-    let began = recovered(rt.alloc(), scene.image);
-    let wanted = Wanted { began, most };
+    let wanted = Wanted::counted(rt.alloc(), scene.image, most);
     let call = calls.saturating_add(1);
     let outcome = failed(threads, rt.alloc(), scene, "early", words, call)?;
     let told = outcome.told(rt.alloc())?;
