@@ -32,9 +32,9 @@ stops_in {text} part = record {
 }
 
 -- a run that isn't whole printed some of a text
-some_of : (done : List Done) (last : ℕ) (failed : Bool) {k l : SinkSight} → Streams false failed done last k l → (text : List ℕ) × IsStreamText done last text × TookPrefix k l text
-some_of done last false streams = (streams.0, streams.1, λ visible. (streams.2.n, streams.2.less, streams.2.took.taken visible))
-some_of done last true streams = (streams.0, streams.1, λ visible. (streams.2.n, streams.2.less, streams.2.took.taken visible))
+some_of : (done : List Done) (last : ℕ) (failed : Bool) (k l : SinkSight) → Streams false failed done last k l → (text : List ℕ) × IsStreamText done last text × TookPrefix k l text
+some_of done last false k l streams = (streams.0, streams.1, λ visible. (streams.2.n, streams.2.less, streams.2.took.taken visible))
+some_of done last true k l streams = (streams.0, streams.1, λ visible. (streams.2.n, streams.2.less, streams.2.took.taken visible))
 
 sink_stays : (done : List Done) (last : ℕ) (failed : Bool) {k l : SinkSight} → Streams false failed done last k l → SinkStays k l
 sink_stays done last false streams = sink_took streams.2.took
@@ -44,7 +44,7 @@ module _ {meaning : Meaning} {f g : FilesSight} {opening : Opening} {done : List
     (outputs : (text : List ℕ) → IsStreamText done last text → Outputs meaning opening done last text s) where
   printed_some : (failed : Bool) {fault : Option Fault} → Came meaning f g opening done last fault s t → Streams false failed done last k l → StopsPrinting meaning (world_of s f k) (world_of t g l) done
   printed_some failed came streams =
-      let some = some_of done last failed streams in
+      let some = some_of done last failed k l streams in
       inr (record {
         early = early;
         opening = opening;
