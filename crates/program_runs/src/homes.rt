@@ -6,12 +6,15 @@ use pmem_trait::Medium;
 use std::alloc::{AllocError, Global};
 use tatp_model::{Done, Request};
 
+/// The location of subscriber 1 in a new image of eight subscribers.
+const FIRST_LOCATION: u64 = 1_000_001;
+
 /// Which home an image has whose number is another one than that on which the command began.
 #[derive(Drop)]
 pub enum Homes {
     /// One where subscriber 1 is where so many updates to 1, 2 and so on leave it.
     Counted,
-    /// One where subscriber 1 is where the request done with this number moved it.
+    /// One where subscriber 1 is where the requests done up to this number leave it.
     Done,
     /// That of an image of the whole command. Here stands each behind its number.
     Seen(Vec<(u64, Vec<u64>)>),
@@ -40,8 +43,8 @@ impl Homes {
     pub fn has(&self, number: u64, home: &[u64], done: &[Done]) -> bool {
         let location = word_at(home, LOCATION);
         match self {
-            Homes::Counted => location == if number == 0 { 1_000_001 } else { number },
-            Homes::Done => moves_to(done, number, location),
+            Homes::Counted => location == if number == 0 { FIRST_LOCATION } else { number },
+            Homes::Done => location == location_at(done, number),
             Homes::Seen(seen) => is_among(seen, number, home),
         }
     }
@@ -67,15 +70,19 @@ fn is_among(seen: &[(u64, Vec<u64>)], number: u64, home: &[u64]) -> bool {
     false
 }
 
-/// Whether the request done with this number is an update to this location.
-fn moves_to(done: &[Done], number: u64, location: u64) -> bool {
+/// The location of subscriber 1 that these requests done leave at this number.
+fn location_at(done: &[Done], number: u64) -> u64 {
+    let mut location = FIRST_LOCATION;
+    let mut last = 0;
     for one in done {
-        if one.wrote && one.number == number {
-            return match one.request {
-                Request::UpdateLocation { vlr, .. } => vlr == location,
-                _ => false,
-            };
+        if one.wrote
+            && last <= one.number
+            && one.number <= number
+            && let Request::UpdateLocation { sub_nbr: 1, vlr } = one.request
+        {
+            location = vlr;
+            last = one.number;
         }
     }
-    false
+    location
 }
