@@ -12,7 +12,7 @@ use Rattle.back_store.specs.Answers.{Announces, CallsAnswered, announced}
 use Rattle.back_store.specs.Images.{HomeStays, HoldsStore, StillHoldsStore, RecoversOnTheWay}
 use Rattle.back_store.specs.declared.back_fault.BackFault.{BackFault}
 use Rattle.back_store.specs.declared.back_fault.BackFault.TheVariants.{RingFull, Device, Dead}
-use Rattle.image_opening.specs.Opened.{HoldsOpened}
+use Rattle.dude_recover.specs.Opened.{HoldsOpened}
 use Rattle.dude_engine.specs.Opening.{Opening}
 use Rattle.command_openings.specs.Opens.{ShowsOpening, TellsAtMost}
 use Rattle.command_openings.proofs.Images.{idle_end, idle_ends, idle_shows}

@@ -14,21 +14,21 @@ use Rattle.image_recovery.specs.Recovered.{IsRecovered, RecoversArray, RecoversT
 use Rattle.image_recovery.specs.declared.open_fault.OpenFault.{OpenFault}
 use Rattle.image_recovery.specs.declared.open_fault.OpenFault.TheVariants as opening
 use Rattle.image_recovery.proofs.Accepted.{never_out}
-use Rattle.image_format.specs.Causes.{FormatCallsMade, FormatsSome, HasFormatCause}
-use Rattle.image_format.specs.FormatCalls.{format_calls}
-use Rattle.image_format.specs.NewImages.{IsNewImage, RecoversOnceTold}
+use Rattle.dude_recover.specs.Causes.{FormatCallsMade, FormatsSome, HasFormatCause}
+use Rattle.dude_recover.specs.FormatCalls.{format_calls}
+use Rattle.dude_recover.specs.NewImages.{IsNewImage, RecoversOnceTold}
 use Rattle.back_store.specs.Images.{IsIdleMedium}
 use Rattle.tatp_model.specs.Population.{population}
-use Rattle.image_format.specs.declared.format_fault.FormatFault.{FormatFault}
-use Rattle.image_format.specs.declared.format_fault.FormatFault.TheVariants as format
-use Rattle.image_opening.specs.Answers as answers
-use Rattle.image_opening.specs.Answers.{LeftBy, StillRecovers}
+use Rattle.dude_recover.specs.declared.format_fault.FormatFault.{FormatFault}
+use Rattle.dude_recover.specs.declared.format_fault.FormatFault.TheVariants as format
+use Rattle.dude_recover.specs.Answers as answers
+use Rattle.dude_recover.specs.Answers.{LeftBy, StillRecovers}
 use Rattle.dude_engine.specs.Opening.{Opening}
 use Rattle.dude_engine.specs.Plain.{IsOpeningOf}
 use Rattle.pmem_trait.specs.declared.medium.Medium.{Ghosts}
 use Rattle.pmem_trait.proofs.Runs.{risen_later}
-use Rattle.image_opening.specs.declared.opened.Opened.{Opened}
-use Rattle.image_opening.specs.Opened.{HasToldNoMore, HoldsOpened, IsOpened}
+use Rattle.dude_recover.specs.declared.opened.Opened.{Opened}
+use Rattle.dude_recover.specs.Opened.{HasToldNoMore, HoldsOpened, IsOpened}
 use Rattle.command_openings.proofs.OneOpening.{one_opening, opening_with}
 use Rattle.command_edges.specs.declared.fault.Fault.{Fault}
 use Rattle.command_edges.specs.declared.fault.Fault.TheVariants.{Device}

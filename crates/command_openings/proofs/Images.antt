@@ -19,10 +19,10 @@ use Rattle.log_waiting.specs.Backlog.{log_of}
 use Rattle.log_waiting.proofs.EmptyLanes.{none_waiting}
 use Rattle.back_store.specs.Back.{IsEnd, idle, waiting_now}
 use Rattle.image_recovery.specs.Recovered.{RecoversTo}
-use Rattle.image_opening.specs.Answers.{StillRecovers}
-use Rattle.image_opening.specs.declared.opened.Opened.{Opened}
-use Rattle.image_opening.specs.Opened.{IsOpened}
-use Rattle.image_format.specs.NewImages.{RecoversOnceTold}
+use Rattle.dude_recover.specs.Answers.{StillRecovers}
+use Rattle.dude_recover.specs.declared.opened.Opened.{Opened}
+use Rattle.dude_recover.specs.Opened.{IsOpened}
+use Rattle.dude_recover.specs.NewImages.{RecoversOnceTold}
 use Rattle.dude_engine.specs.Opening.{Opening, IsOpening}
 use Rattle.dude_engine.specs.Plain.{IsOpeningOf}
 use Rattle.command_openings.specs.Opens.{ShowsOpening}

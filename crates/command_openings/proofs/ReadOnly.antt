@@ -12,8 +12,8 @@ use Rattle.image_recovery.specs.Faults.{IsFaultOn, ReadsMade}
 use Rattle.image_recovery.specs.Recovered.{IsRecovered, RecoversArray}
 use Rattle.image_recovery.specs.declared.open_fault.OpenFault.{OpenFault}
 use Rattle.image_recovery.specs.declared.open_fault.OpenFault.TheVariants as opening
-use Rattle.image_opening.specs.Answers.{StillRecovers}
-use Rattle.image_opening.proofs.SettledReads.{content_kept, reads_keep}
+use Rattle.dude_recover.specs.Answers.{StillRecovers}
+use Rattle.dude_recover.proofs.SettledReads.{content_kept, reads_keep}
 use Rattle.dude_engine.specs.Opening.{Opening, IsOpening}
 use Rattle.command_openings.specs.Faults.{fault_of_opening}
 use Rattle.command_openings.specs.ImageRead.{FailsReading}

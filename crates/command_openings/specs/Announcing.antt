@@ -4,8 +4,8 @@ use Rattle.pmem_trait.specs.declared.medium.Medium.{Ghosts}
 use Rattle.pmem_trait.specs.declared.call.Call.TheVariants.{Tell}
 use Rattle.pmem_trait.specs.Sights.{Sight, state_now, AtEveryMoment, CallsMade, Risen}
 use Rattle.back_store.specs.BackView.{medium_of}
-use Rattle.image_opening.specs.Opened.{HoldsOpened}
-use Rattle.image_opening.specs.declared.opened.Opened.{Opened}
+use Rattle.dude_recover.specs.Opened.{HoldsOpened}
+use Rattle.dude_recover.specs.declared.opened.Opened.{Opened}
 use Rattle.command_edges.specs.declared.fault.Fault.{Fault}
 use Rattle.command_edges.specs.declared.fault.Fault.TheVariants.{Device}
 use Rattle.dude_engine.specs.Opening.{Opening}

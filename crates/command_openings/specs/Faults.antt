@@ -9,10 +9,10 @@ use Rattle.redo_record.specs.Recovery.{IsFormatted, IsDamaged}
 use Rattle.image_recovery.specs.Recovered.{IsNoDatabase}
 use Rattle.image_recovery.specs.declared.open_fault.OpenFault.{OpenFault}
 use Rattle.image_recovery.specs.declared.open_fault.OpenFault.TheVariants as opening
-use Rattle.image_opening.specs.Answers.{OpensSome}
-use Rattle.image_format.specs.Causes.{FitsImage, FormatsSome}
-use Rattle.image_format.specs.declared.format_fault.FormatFault.{FormatFault}
-use Rattle.image_format.specs.declared.format_fault.FormatFault.TheVariants as format
+use Rattle.dude_recover.specs.Answers.{OpensSome}
+use Rattle.dude_recover.specs.Causes.{FitsImage, FormatsSome}
+use Rattle.dude_recover.specs.declared.format_fault.FormatFault.{FormatFault}
+use Rattle.dude_recover.specs.declared.format_fault.FormatFault.TheVariants as format
 use Rattle.command_openings.specs.Opens.{FailsOpening}
 use Rattle.command_edges.specs.declared.fault.Fault.{Fault}
 use Rattle.command_edges.specs.declared.fault.Fault.TheVariants.{Small, TooFew, Unformatted, Damaged, NotDb, Device, Memory}

@@ -8,10 +8,10 @@ use Rattle.pmem_trait.specs.Sights.{Sight, state_now, AtEveryMoment, CallsMade, 
 use Rattle.pmem_trait.specs.Reads.{ContentHas, OnlyReads}
 use Rattle.back_store.specs.BackView.{medium_of}
 use Rattle.image_recovery.specs.Recovered.{RecoversArray, RecoversTo}
-use Rattle.image_format.specs.Causes.{FormatsSome}
-use Rattle.image_opening.specs.Answers as answers
-use Rattle.image_opening.specs.Opened.{HoldsOpened}
-use Rattle.image_opening.specs.declared.opened.Opened.{Opened}
+use Rattle.dude_recover.specs.Causes.{FormatsSome}
+use Rattle.dude_recover.specs.Answers as answers
+use Rattle.dude_recover.specs.Opened.{HoldsOpened}
+use Rattle.dude_recover.specs.declared.opened.Opened.{Opened}
 use Rattle.command_edges.specs.declared.fault.Fault.{Fault}
 use Rattle.dude_engine.specs.Opening.{Opening, IsOpening}
 use Rattle.dude_engine.specs.Plain.{IsOpeningOf}

@@ -3,8 +3,8 @@
 ghost use Rattle.std.specs.Prelude.{true, IfOk, IfErr};
 ghost use Rattle.dude_base.specs.Sizes.{IsAccepted};
 ghost use Rattle.pmem_trait.specs.Sights.{IsAtRest};
-ghost use Rattle.image_format.specs.Causes.{FitsImage};
-ghost use Rattle.image_opening.specs.Opened.{IsOpened};
+ghost use Rattle.dude_recover.specs.Causes.{FitsImage};
+ghost use Rattle.dude_recover.specs.Opened.{IsOpened};
 ghost use Rattle.dude_engine.specs.Plain.{IsOpeningOf};
 ghost use Rattle.command_openings.specs.Opens.{OpensImage, OpensImagePartly};
 ghost use Rattle.command_openings.specs.Faults.{IsFaultOfFormat, IsFormatRefusal, IsSized};
@@ -12,8 +12,7 @@ ghost use Rattle.command_openings.specs.Openings.{new_opening};
 
 use command_edges::Fault;
 use dude_base::sizes::Sizes;
-use image_format::{FormatFault, make_image};
-use image_opening::Opened;
+use dude_recover::{FormatFault, Opened, make_image};
 use pmem_trait::Medium;
 use std::alloc::Global;
 use tatp_layout::Layout;

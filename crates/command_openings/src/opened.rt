@@ -2,14 +2,14 @@
 
 ghost use Rattle.std.specs.Prelude.{IfOk, IfErr};
 ghost use Rattle.pmem_trait.specs.Sights.{IsAtRest};
-ghost use Rattle.image_opening.specs.Opened.{IsOpened};
+ghost use Rattle.dude_recover.specs.Opened.{IsOpened};
 ghost use Rattle.command_openings.specs.Announcing.{FailsTelling, IsAnnounced, IsSameImage, RanTelling, RisesFaults, ShowsWhileTelling};
 ghost use Rattle.command_openings.specs.Opens.{OpensOwn, OpensOwnPartly, OnlyReadsUnopened, RecoversOwn};
 ghost use Rattle.command_openings.specs.Faults.{IsOpenRefusal};
 
 use crate::fault::fault_of;
 use command_edges::Fault;
-use image_opening::{Opened, open};
+use dude_recover::{Opened, open};
 use pmem_trait::Medium;
 use std::alloc::Global;
 

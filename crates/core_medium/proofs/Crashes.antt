@@ -19,9 +19,9 @@ use Rattle.core_events.specs.Setups.{Setup}
 use Rattle.core_events.specs.Words.{State}
 use Rattle.core_events.specs.Ghosts.{Ghost}
 use Rattle.core_events.specs.Kept.{LayersKept}
-use Rattle.log_history.specs.KeptLog.{LogIn}
-use Rattle.log_history.specs.BoxBundles.{bundle_in}
-use Rattle.log_history.proofs.LogCalls.{array_law}
+use Rattle.core_medium.specs.KeptLog.{LogIn}
+use Rattle.core_medium.specs.BoxBundles.{bundle_in}
+use Rattle.core_medium.proofs.LogCalls.{array_law}
 use Rattle.core_medium.specs.Stores.{Store, medium_of}
 use Rattle.core_medium.specs.BackCalls.{BackCall, persisting, announcing, reproducing, reading, MayCall, calls_of}
 use Rattle.core_medium.specs.KeptStore.{StoreKept}

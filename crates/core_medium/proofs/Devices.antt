@@ -38,10 +38,10 @@ use Rattle.core_events.specs.Entries.{value}
 use Rattle.core_events.specs.Ghosts.{Ghost}
 use Rattle.core_events.specs.Kept.{LayersKept}
 use Rattle.core_events.proofs.Lists.{at_change}
-use Rattle.log_history.specs.KeptLog.{IsOnMedium, LogIn}
-use Rattle.log_history.specs.BoxBundles.{bundle_in}
-use Rattle.log_history.proofs.Gathered.{Gathered, gathered, inside_home, last_upto}
-use Rattle.log_history.proofs.LogCalls.{persist_stands, more_on, reproduce_stands, later_on, reproduced_values}
+use Rattle.core_medium.specs.KeptLog.{IsOnMedium, LogIn}
+use Rattle.core_medium.specs.BoxBundles.{bundle_in}
+use Rattle.core_medium.proofs.Gathered.{Gathered, gathered, inside_home, last_upto}
+use Rattle.core_medium.proofs.LogCalls.{persist_stands, more_on, reproduce_stands, later_on, reproduced_values}
 use Rattle.core_medium.specs.Stores.{Store, medium_of}
 use Rattle.core_medium.specs.BackCalls.{BackCall, persisting, announcing, reproducing, reading, MayPersist, MayReproduce, MayCall, calls_of, adding, waiting_as, persisted_log, reproduced_log, left_by, device_after}
 use Rattle.core_medium.specs.KeptStore.{ToldKept, StoreKept}

@@ -30,8 +30,8 @@ use Rattle.core_events.specs.Words.{State}
 use Rattle.core_events.specs.Ghosts.{Ghost}
 use Rattle.core_events.specs.Kept.{LayersKept}
 use Rattle.core_events.proofs.EntriesAll.{value_is}
-use Rattle.log_history.specs.BoxBundles.{bundle_in}
-use Rattle.log_history.proofs.Gathered.{Gathered, gathered}
+use Rattle.core_medium.specs.BoxBundles.{bundle_in}
+use Rattle.core_medium.proofs.Gathered.{Gathered, gathered}
 use Rattle.core_medium.specs.Stores.{Store, medium_of}
 use Rattle.core_medium.specs.BackCalls.{BackCall, persisting, announcing, reproducing, reading, MayPersist, MayReproduce, MayCall, calls_of, waiting_as}
 use Rattle.core_medium.specs.KeptStore.{StoreKept}

@@ -30,8 +30,8 @@ use Rattle.core_events.proofs.OrderKept.{order_keep, order_split_keep, order_joi
 use Rattle.core_events.proofs.ValuesKept.{values_keep, values_split_keep, values_join_keep}
 use Rattle.core_medium.specs.Stores.{Store}
 use Rattle.core_medium.specs.BackCalls.{BackCall}
-use Rattle.log_history.specs.KeptLog.{IsOnMedium}
-use Rattle.log_history.proofs.Posted.{posted_upto}
+use Rattle.core_medium.specs.KeptLog.{IsOnMedium}
+use Rattle.core_medium.proofs.Posted.{posted_upto}
 use Rattle.core_medium.specs.KeptStore.{StoreKept, MachineKept}
 use Rattle.core_medium.specs.Machines.{Machine, Meets, IsMet, machine_after, MayDevice, with_device, MachineStep, on_words, device, MachineLeads, AllMachineLead, words_of}
 use Rattle.core_medium.proofs.StoreEvents.{store_keep, store_split_keep, store_join_keep}

@@ -11,3 +11,12 @@ pub mod Start
 pub mod Openings
 pub mod Combined
 pub mod DurableCommit
+pub mod Arrays
+pub mod LogOn
+pub mod Posted
+pub mod Gathered
+pub mod GatheredOn
+pub mod LogEvents
+pub mod LogPartings
+pub mod LogCalls
+pub mod Databases

@@ -20,7 +20,7 @@ use Rattle.core_events.specs.Partings.{newcomer, start, AllLead}
 use Rattle.core_events.specs.Kept.{Kept}
 use Rattle.core_events.specs.Keyed.{or_else}
 use Rattle.core_events.proofs.Start.{start_keeps}
-use Rattle.log_history.specs.KeptLog.{Drawer, drawer_of}
+use Rattle.core_medium.specs.KeptLog.{Drawer, drawer_of}
 use Rattle.core_medium.specs.KeptStore.{StoreKept, MachineKept, start_machine, IsStart}
 use Rattle.core_medium.specs.Machines.{Machine, MachineStep, words_of}
 use Rattle.core_medium.specs.MachineLaws.{IsReached}

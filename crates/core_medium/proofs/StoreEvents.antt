@@ -8,11 +8,11 @@ use Rattle.core_events.specs.Conditions.{IsAllowed, IsFilled, after}
 use Rattle.core_events.specs.Partings.{MaySplit, MayJoin, split, join}
 use Rattle.core_events.specs.Ghosts.{Ghost, ghost_after, ghost_joined}
 use Rattle.core_events.specs.Kept.{LayersKept}
-use Rattle.log_history.specs.HistoryLaws.{EmptiesPersisted}
-use Rattle.log_history.proofs.Posted.{history_on}
-use Rattle.log_history.proofs.GatheredOn.{gathers_on}
-use Rattle.log_history.proofs.LogEvents.{log_keep}
-use Rattle.log_history.proofs.LogPartings.{log_split_keep, log_join_keep}
+use Rattle.core_medium.specs.HistoryLaws.{EmptiesPersisted}
+use Rattle.core_medium.proofs.Posted.{history_on}
+use Rattle.core_medium.proofs.GatheredOn.{gathers_on}
+use Rattle.core_medium.proofs.LogEvents.{log_keep}
+use Rattle.core_medium.proofs.LogPartings.{log_split_keep, log_join_keep}
 use Rattle.core_medium.specs.Stores.{Store}
 use Rattle.core_medium.specs.KeptStore.{ToldKept, StoreKept}
 use Rattle.core_medium.specs.Machines.{Meets, store_after}

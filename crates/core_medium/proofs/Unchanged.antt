@@ -11,9 +11,9 @@ use Rattle.core_events.specs.Conditions.{IsFilled}
 use Rattle.core_events.specs.Ghosts.{Ghost}
 use Rattle.core_events.specs.KeptNumbers.{numbers_of}
 use Rattle.core_events.proofs.Filled.{unfilled_in}
-use Rattle.log_history.specs.KeptLog.{IsPosted, drawer_of, LogIn}
-use Rattle.log_history.specs.BoxBundles.{bundle_in, MayGather}
-use Rattle.log_history.proofs.LogOn.{value_on}
+use Rattle.core_medium.specs.KeptLog.{IsPosted, drawer_of, LogIn}
+use Rattle.core_medium.specs.BoxBundles.{bundle_in, MayGather}
+use Rattle.core_medium.proofs.LogOn.{value_on}
 use Rattle.core_medium.specs.Stores.{Store}
 use Rattle.core_medium.specs.BackCalls.{BackCall, persisting, announcing, reproducing, reading, MayCall, calls_of}
 use Rattle.core_medium.specs.KeptStore.{ToldKept, IsUnderWay, StoreKept}

@@ -20,7 +20,7 @@ use Rattle.redo_record.specs.LogState.{RingRecords, LogState}
 use Rattle.redo_record.specs.Waiting.{Waiting, Lead, IsContiguousEnd}
 use Rattle.core_events.specs.Setups.{Setup}
 use Rattle.core_events.specs.Keyed.{change}
-use Rattle.log_history.specs.BoxBundles.{bundle_in, MayGather}
+use Rattle.core_medium.specs.BoxBundles.{bundle_in, MayGather}
 use Rattle.core_medium.specs.Stores.{Store, medium_of}
 
 -- a call of the back

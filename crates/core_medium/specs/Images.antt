@@ -17,8 +17,8 @@ use Rattle.redo_record.specs.Waiting.{Waiting}
 use Rattle.core_events.specs.Setups.{Setup}
 use Rattle.core_events.specs.Entries.{value_at, all_entries}
 use Rattle.core_events.specs.KeptNumbers.{numbers_of}
-use Rattle.log_history.specs.KeptLog.{IsPosted}
-use Rattle.log_history.specs.BoxBundles.{bundle_in}
+use Rattle.core_medium.specs.KeptLog.{IsPosted}
+use Rattle.core_medium.specs.BoxBundles.{bundle_in}
 use Rattle.core_medium.specs.Stores.{medium_of}
 use Rattle.core_medium.specs.BackCalls.{MayReproduce, waiting_as}
 use Rattle.core_medium.specs.Machines.{Machine}

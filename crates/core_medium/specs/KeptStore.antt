@@ -20,7 +20,7 @@ use Rattle.core_events.specs.Partings.{start}
 use Rattle.core_events.specs.Ghosts.{Ghost}
 use Rattle.core_events.specs.KeptValues.{ValuesKept}
 use Rattle.core_events.specs.Kept.{LayersKept}
-use Rattle.log_history.specs.KeptLog.{IsOnMedium, LogIn}
+use Rattle.core_medium.specs.KeptLog.{IsOnMedium, LogIn}
 use Rattle.core_medium.specs.Stores.{Store}
 use Rattle.core_medium.specs.BackCalls.{BackCall, MayCall, calls_of}
 use Rattle.core_medium.specs.Machines.{Machine}

@@ -6,3 +6,7 @@ pub mod Crash
 pub mod Images
 pub mod MachineLaws
 pub mod DurableCommit
+pub mod KeptLog
+pub mod BoxBundles
+pub mod HistoryLaws
+pub mod Databases

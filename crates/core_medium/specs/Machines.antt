@@ -11,7 +11,7 @@ use Rattle.core_events.specs.Words.{State}
 use Rattle.core_events.specs.Events.{Event, take_turn, give_turn, empty_box, raise_durable, raise_reproduced, evict, fill, show, kept_entry, unfilled}
 use Rattle.core_events.specs.Conditions.{HasThread, IsFree, May, after}
 use Rattle.core_events.specs.Partings.{MaySplit, MayJoin, split, join, Step, event, parting, joining}
-use Rattle.log_history.specs.KeptLog.{IsOnMedium}
+use Rattle.core_medium.specs.KeptLog.{IsOnMedium}
 use Rattle.core_medium.specs.Stores.{Store}
 use Rattle.core_medium.specs.BackCalls.{BackCall, MayCall, calls_of, device_after}
 

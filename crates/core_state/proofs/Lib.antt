@@ -5,3 +5,4 @@ pub mod PartedViews
 pub mod Refused
 pub mod Started
 pub mod Walked
+pub mod Held

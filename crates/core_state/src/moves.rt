@@ -10,7 +10,7 @@ ghost use Rattle.core_state.specs.Views.{OfView, IsNameAt, IsFoundAt, HasAdvance
 
 use crate::state::State;
 use crate::words::load;
-use core_steps::{advance, may, name, word_after};
+use crate::{advance, may, name, word_after};
 use core_view::deed::{Deed, PageDeed, TurnDeed};
 use core_view::setup::Setup;
 use core_view::view::View;

@@ -5,8 +5,8 @@ use Rattle.tatp_model.specs.declared.reply.Reply.{Reply}
 use Rattle.tatp_model.specs.Database.{Database}
 use Rattle.tatp_model.specs.Transaction.{reply_to, after_request}
 use Rattle.tatp_text.specs.Reply.{reply_text}
-use Rattle.printed_lines.specs.declared.claim.Claim.{Claim}
-use Rattle.printed_lines.specs.Claim.{text_of}
+use Rattle.dude_audit.specs.declared.claim.Claim.{Claim}
+use Rattle.dude_audit.specs.Claim.{text_of}
 use Rattle.dude_audit.specs.Walk.{after_claims, TextsAlong, IsFirstWrong}
 
 after_push : (limit : ℕ) (db : Database) (order : List Claim) (c : Claim) → after_claims limit db (order ++ c ∷ []) ≡ after_request limit (after_claims limit db order) c.request

@@ -9,21 +9,21 @@ use Rattle.tatp_model.specs.Request.{IsInRange}
 use Rattle.tatp_model.specs.OneThread.{IndexedRequest, indexed_requests_from, PrecedesInFiles}
 use Rattle.run_order.proofs.Pairs.{pairs_unmapped, pairs_weaker}
 use Rattle.run_order.proofs.FileOrder.{in_files_from_holding}
-use Rattle.printed_lines.specs.declared.claim.Claim.{Claim}
+use Rattle.dude_audit.specs.declared.claim.Claim.{Claim}
 use Rattle.dude_audit.specs.Order.{done_of, AreApart, AreOfRun}
-use Rattle.printed_lines.specs.Claim.{claimed_request_of, claims_sync, IsWithin}
+use Rattle.dude_audit.specs.Claim.{claimed_request_of, claims_sync, IsWithin}
 use Rattle.dude_audit.proofs.Passing.{requests_same}
 use Rattle.dude_audit.proofs.Replies.{may_no_sync}
-use Rattle.printed_lines.specs.Reading.{IsReadLine, AreLines, IsReading}
-use Rattle.printed_lines.specs.declared.reading.Reading.{Reading}
-use Rattle.printed_lines.specs.declared.reading.Reading.TheVariants.{Lines, Misformed}
+use Rattle.dude_audit.specs.Reading.{IsReadLine, AreLines, IsReading}
+use Rattle.dude_audit.specs.declared.reading.Reading.{Reading}
+use Rattle.dude_audit.specs.declared.reading.Reading.TheVariants.{Lines, Misformed}
 use Rattle.std.specs.Global.{Vec}
 use Rattle.std.specs.Prelude.{Result, Ok, Err, IfOk}
 use Rattle.tatp_model.specs.Database.{Database}
 use Rattle.dude_audit.specs.declared.verdict.Verdict.{Verdict}
 use Rattle.dude_audit.specs.declared.verdict.Verdict.TheVariants.{Yes, No}
 use Rattle.dude_audit.specs.Verdict.{HasVerdict}
-use Rattle.printed_lines.specs.Blanks.{AreBlanks}
+use Rattle.dude_audit.specs.Blanks.{AreBlanks}
 use Rattle.dude_audit.specs.PrintedRun.{IsVerdict}
 
 pub all_unmapped : {X Y : Type 0} (P : Y → Type 0) (f : X → Y) (xs : List X) → All P (map f xs) → All (λ x. P (f x)) xs

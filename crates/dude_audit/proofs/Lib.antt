@@ -12,3 +12,9 @@ mod Replies
 mod Ruled
 mod Shown
 mod Sorted
+mod Blank
+mod Claimed
+pub mod Lined
+pub mod Numerals
+pub mod Texts
+mod Whole

@@ -20,8 +20,8 @@ use Rattle.run_order.proofs.Pairs.{pairs_nil, pairs_head, pairs_tail, pairs_mapp
 use Rattle.run_order.proofs.Elements.{contains_filter}
 use Rattle.run_order.proofs.FileOrder.{in_files_from_holding}
 use Rattle.tatp_text.specs.Reply.{reply_text}
-use Rattle.printed_lines.specs.declared.claim.Claim.{Claim}
-use Rattle.printed_lines.specs.Claim.{text_of, claims_sync, SaysWrote}
+use Rattle.dude_audit.specs.declared.claim.Claim.{Claim}
+use Rattle.dude_audit.specs.Claim.{text_of, claims_sync, SaysWrote}
 use Rattle.dude_audit.specs.Order.{done_of, ClaimPrecedes, IsClaimOrder}
 use Rattle.dude_audit.specs.Walk.{TextsAlong, after_claims}
 use Rattle.dude_audit.specs.Rules.{IsFollowedBy, AreRuled}

@@ -4,8 +4,8 @@ use Rattle.std.proofs.lemmas.Bool.{cases_lt}
 use Rattle.tatp_model.specs.Database.{Database}
 use Rattle.tatp_model.specs.Transaction.{reply_to, after_request}
 use Rattle.tatp_text.specs.Reply.{reply_text}
-use Rattle.printed_lines.specs.declared.claim.Claim.{Claim}
-use Rattle.printed_lines.specs.Claim.{text_of}
+use Rattle.dude_audit.specs.declared.claim.Claim.{Claim}
+use Rattle.dude_audit.specs.Claim.{text_of}
 use Rattle.dude_audit.specs.Rules.{AreRuled}
 use Rattle.dude_audit.specs.Walk.{TextsAlong, after_claims, IsFirstWrong}
 use Rattle.dude_audit.specs.Verdict.{BreaksRule, IsWrongLine, HasVerdict}

@@ -7,8 +7,8 @@ use Rattle.tatp_model.specs.Database.{Database}
 use Rattle.tatp_model.specs.OneThread.{is_sync, indexed_request_of, indexed_requests_from, AllAreDone, RepliesOfOneThread}
 use Rattle.run_order.specs.Runs.{SyncsFollow}
 use Rattle.tatp_text.specs.Reply.{reply_text}
-use Rattle.printed_lines.specs.declared.claim.Claim.{Claim}
-use Rattle.printed_lines.specs.Claim.{text_of, claimed_request_of, claims_sync, SaysWrote}
+use Rattle.dude_audit.specs.declared.claim.Claim.{Claim}
+use Rattle.dude_audit.specs.Claim.{text_of, claimed_request_of, claims_sync, SaysWrote}
 
 -- These are the lines of the requests of the files, one for each in order of file and index. A line says `DURABLE` exactly
 -- where its request is a `SYNC`.

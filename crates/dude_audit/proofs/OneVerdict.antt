@@ -10,12 +10,12 @@ use Rattle.tatp_model.specs.declared.request.Request.{Request}
 use Rattle.tatp_model.specs.Database.{Database}
 use Rattle.tatp_model.specs.OneThread.{IndexedRequest, indexed_requests_from}
 use Rattle.tatp_text.specs.Output.{last_line}
-use Rattle.printed_lines.specs.declared.claim.Claim.{Claim}
-use Rattle.printed_lines.specs.Blanks.{AreBlanks}
-use Rattle.printed_lines.specs.Claim.{text_of, claimed_request_of, may_write}
-use Rattle.printed_lines.specs.Reading.{BeginsFor, BeginsLast, IsReadLine, claim_bytes, StandUpTo, AreLines, IsMisformed}
-use Rattle.printed_lines.proofs.Lined.{line_unique}
-use Rattle.printed_lines.proofs.Texts.{text_size}
+use Rattle.dude_audit.specs.declared.claim.Claim.{Claim}
+use Rattle.dude_audit.specs.Blanks.{AreBlanks}
+use Rattle.dude_audit.specs.Claim.{text_of, claimed_request_of, may_write}
+use Rattle.dude_audit.specs.Reading.{BeginsFor, BeginsLast, IsReadLine, claim_bytes, StandUpTo, AreLines, IsMisformed}
+use Rattle.dude_audit.proofs.Lined.{line_unique}
+use Rattle.dude_audit.proofs.Texts.{text_size}
 use Rattle.dude_audit.specs.declared.verdict.Verdict.{Verdict}
 use Rattle.dude_audit.specs.declared.verdict.Verdict.TheVariants.{Yes, No}
 use Rattle.dude_audit.specs.Verdict.{HasVerdict}

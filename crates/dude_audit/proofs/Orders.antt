@@ -3,8 +3,8 @@ use Rattle.std.proofs.Common.{List, not}
 use Rattle.std.specs.List.{All, filter}
 use Rattle.std.proofs.lemmas.List.Elements.{All-filter}
 use Rattle.std.proofs.lemmas.List.Sorted.{All-permutation}
-use Rattle.printed_lines.specs.declared.claim.Claim.{Claim}
-use Rattle.printed_lines.specs.Claim.{claims_sync}
+use Rattle.dude_audit.specs.declared.claim.Claim.{Claim}
+use Rattle.dude_audit.specs.Claim.{claims_sync}
 use Rattle.dude_audit.specs.Order.{IsClaimOrder}
 
 pub all_order : (P : Claim → Type 0) (claims order : List Claim) → IsClaimOrder claims order → All P claims → All P order

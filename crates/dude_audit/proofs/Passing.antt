@@ -19,8 +19,8 @@ use Rattle.run_order.proofs.Pairs.{pairs_head, pairs_tail, pairs_mapped, pairs_u
 use Rattle.run_order.proofs.Elements.{filter_contains, contains_filter}
 use Rattle.run_order.proofs.FileOrder.{in_files_from_holding}
 use Rattle.tatp_text.specs.Reply.{reply_text}
-use Rattle.printed_lines.specs.declared.claim.Claim.{Claim}
-use Rattle.printed_lines.specs.Claim.{text_of, claimed_request_of, claims_sync, SaysWrote}
+use Rattle.dude_audit.specs.declared.claim.Claim.{Claim}
+use Rattle.dude_audit.specs.Claim.{text_of, claimed_request_of, claims_sync, SaysWrote}
 use Rattle.dude_audit.specs.Order.{done_of, AreApart, ClaimPrecedes}
 use Rattle.dude_audit.specs.Walk.{TextsAlong}
 use Rattle.dude_audit.specs.Rules.{IsFollowedBy, KeepsRule, AreRuled}

@@ -23,15 +23,15 @@ use Rattle.tatp_model.proofs.InOrder.{KeepsOrder, KeepsOrder-after_request}
 use Rattle.run_order.proofs.Elements.{contains_filter}
 use Rattle.tatp_text.specs.Reply.{reply_text}
 use Rattle.tatp_text.specs.Output.{output_line, last_line}
-use Rattle.printed_lines.specs.declared.claim.Claim.{Claim}
-use Rattle.printed_lines.specs.Claim.{text_of, claimed_request_of, claims_sync, SaysWrote}
+use Rattle.dude_audit.specs.declared.claim.Claim.{Claim}
+use Rattle.dude_audit.specs.Claim.{text_of, claimed_request_of, claims_sync, SaysWrote}
 use Rattle.dude_audit.proofs.OneThreadRuns.{AreClaims, IsLineOf, IsOneThreadRun}
-use Rattle.printed_lines.specs.Bytes.{HasNo}
-use Rattle.printed_lines.specs.Line.{line_bytes}
-use Rattle.printed_lines.specs.Reading.{Fits, IsReadLine, claim_bytes, BeginsWithLines, MissesLine, MissesEnd, HasSurplus, AreLines}
-use Rattle.printed_lines.proofs.Numerals.{one_split}
-use Rattle.printed_lines.proofs.Lined.{line_unique, last_whole, last_split}
-use Rattle.printed_lines.specs.Blanks.{AreBlanks}
+use Rattle.dude_audit.specs.Bytes.{HasNo}
+use Rattle.dude_audit.specs.Line.{line_bytes}
+use Rattle.dude_audit.specs.Reading.{Fits, IsReadLine, claim_bytes, BeginsWithLines, MissesLine, MissesEnd, HasSurplus, AreLines}
+use Rattle.dude_audit.proofs.Numerals.{one_split}
+use Rattle.dude_audit.proofs.Lined.{line_unique, last_whole, last_split}
+use Rattle.dude_audit.specs.Blanks.{AreBlanks}
 use Rattle.dude_audit.specs.PrintedRun.{IsPrintedRun}
 use Rattle.dude_audit.proofs.Files.{all_unmapped, all_indexed}
 use Rattle.dude_audit.proofs.Necessary.{any_claim}

@@ -15,7 +15,7 @@ use Rattle.tatp_model.specs.declared.numbers.Numbers.{Numbers}
 use Rattle.tatp_model.specs.Transaction.{Outcome, answers, changes, outcome_of, insert_call, reply_to, is_subscriber, is_access}
 use Rattle.tatp_model.specs.OneThread.{is_changed, is_sync}
 use Rattle.tatp_text.specs.Reply.{reply_text}
-use Rattle.printed_lines.specs.Claim.{may_write}
+use Rattle.dude_audit.specs.Claim.{may_write}
 
 -- a reply without fields, and not that of a `SYNC`
 abbrev pub is_plain : Reply → Bool

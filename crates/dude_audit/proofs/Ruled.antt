@@ -5,8 +5,8 @@ use Rattle.std.specs.List.{All, AllPairs, Contains}
 use Rattle.std.proofs.lemmas.Bool.{both_ways, cases_Bool, cases_lt, ltb-true, ltb-false, leb-true, leb-false, eqb-true, eq-eqb, and_parts, and_cases, and_from, or_cases, or_left, or_right}
 use Rattle.std.proofs.lemmas.List.{take_more, get_or_default, get_or-take, length-take}
 use Rattle.std.proofs.lemmas.List.Elements.{All-nil, All-push, All-weaker, All-contains, All-contains_itself, Contains-push, Contains-push_cases, Contains-append_left}
-use Rattle.printed_lines.specs.declared.claim.Claim.{Claim}
-use Rattle.printed_lines.specs.Claim.{claims_sync}
+use Rattle.dude_audit.specs.declared.claim.Claim.{Claim}
+use Rattle.dude_audit.specs.Claim.{claims_sync}
 use Rattle.dude_audit.specs.Rules.{within_bounds, IsFollowedBy, KeepsRule, IsFirstBroken}
 
 -- the greatest number, from the first one on, of those of these lines that are of the file and pass the test

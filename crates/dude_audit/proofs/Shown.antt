@@ -21,10 +21,10 @@ use Rattle.tatp_model.proofs.Rows.{All-find}
 use Rattle.tatp_text.specs.Number.{phone_text}
 use Rattle.tatp_text.proofs.NumbersReadBack.{list_all-decimal}
 use Rattle.tatp_text.specs.Reply.{row_fields, access_fields, found_text, reply_text}
-use Rattle.printed_lines.specs.Claim.{may_write}
+use Rattle.dude_audit.specs.Claim.{may_write}
 use Rattle.dude_audit.proofs.Replies.{fits_request, is_plain, fits}
-use Rattle.printed_lines.specs.Bytes.{HasNo}
-use Rattle.printed_lines.proofs.Numerals.{not_a_digit}
+use Rattle.dude_audit.specs.Bytes.{HasNo}
+use Rattle.dude_audit.proofs.Numerals.{not_a_digit}
 
 pub record Shown (r : Reply) : Type 0 where
   pub whole : HasNo 10 (reply_text r)

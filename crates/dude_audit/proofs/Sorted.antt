@@ -11,7 +11,7 @@ use Rattle.std.proofs.lemmas.Bool.Decides.{nat_tests}
 use Rattle.std.proofs.lemmas.Cmp.{nat_cmp_total, on_total, then_total}
 use Rattle.std.proofs.lemmas.List.Sorted.{sorted_far, ranks_by}
 use Rattle.run_order.proofs.Pairs.{pairs_weaker, pairs_permuted}
-use Rattle.printed_lines.specs.declared.claim.Claim.{Claim}
+use Rattle.dude_audit.specs.declared.claim.Claim.{Claim}
 use Rattle.dude_audit.specs.Order.{AreApart, ClaimPrecedes}
 
 -- whether two lines belong to one request

@@ -3,3 +3,10 @@ pub mod Rules
 pub mod Walk
 pub mod Verdict
 pub mod PrintedRun
+pub mod Claim
+pub mod Blanks
+pub mod Bytes
+pub mod Head
+pub mod Line
+pub mod Last
+pub mod Reading

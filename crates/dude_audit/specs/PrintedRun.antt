@@ -10,10 +10,10 @@ use Rattle.tatp_model.specs.Request.{IsInRange}
 use Rattle.tatp_model.specs.OneThread.{is_sync, AllAreDone, RepliesOfOneThread}
 use Rattle.run_order.specs.Runs.{SyncsFollow}
 use Rattle.tatp_text.specs.Output.{output_of}
-use Rattle.printed_lines.specs.declared.claim.Claim.{Claim}
+use Rattle.dude_audit.specs.declared.claim.Claim.{Claim}
 use Rattle.tatp_model.specs.Files.{requests_in}
-use Rattle.printed_lines.specs.Blanks.{AreBlanks}
-use Rattle.printed_lines.specs.Reading.{AreLines, IsMisformed}
+use Rattle.dude_audit.specs.Blanks.{AreBlanks}
+use Rattle.dude_audit.specs.Reading.{AreLines, IsMisformed}
 use Rattle.dude_audit.specs.declared.verdict.Verdict.{Verdict}
 use Rattle.dude_audit.specs.declared.verdict.Verdict.TheVariants.{Yes, No}
 use Rattle.dude_audit.specs.Verdict.{HasVerdict}

@@ -1,7 +1,7 @@
 -- The rules that the numbers of a printed run keep, line by line.
 use Rattle.std.specs.Prelude.{ℕ, ◌≡◌, ◌≤◌, ◌<◌, Bool, true, false, nat_le, nat_lt, nat_eq, ◌&&◌, ◌||◌, if◌then◌else◌, List, take, length, slice_index_or, All}
-use Rattle.printed_lines.specs.declared.claim.Claim.{Claim}
-use Rattle.printed_lines.specs.Claim.{claims_sync}
+use Rattle.dude_audit.specs.declared.claim.Claim.{Claim}
+use Rattle.dude_audit.specs.Claim.{claims_sync}
 
 -- of one file, an earlier line's number isn't over a later one's, and under it where the later one wrote
 pub record IsFollowedBy (e c : Claim) : Type 0 where

@@ -1,7 +1,7 @@
 -- The verdict on the lines of a printed run: whether their numbers and texts are those of one thread.
 use Rattle.std.specs.Prelude.{ℕ, ◌≡◌, ◌⊎◌, ◌≤◌, ◌+◌, List, length, slice_index_or, All}
 use Rattle.tatp_model.specs.Database.{Database}
-use Rattle.printed_lines.specs.declared.claim.Claim.{Claim}
+use Rattle.dude_audit.specs.declared.claim.Claim.{Claim}
 use Rattle.dude_audit.specs.declared.verdict.Verdict.{Verdict}
 use Rattle.dude_audit.specs.declared.verdict.Verdict.TheVariants.{Yes, No}
 use Rattle.dude_audit.specs.Order.{IsClaimOrder}

@@ -3,8 +3,8 @@ use Rattle.std.specs.Prelude.{ℕ, ◌≡◌, ◌<◌, List, [], ◌∷◌, map,
 use Rattle.tatp_model.specs.Database.{Database}
 use Rattle.tatp_model.specs.Transaction.{reply_to, after_request}
 use Rattle.tatp_text.specs.Reply.{reply_text}
-use Rattle.printed_lines.specs.declared.claim.Claim.{Claim}
-use Rattle.printed_lines.specs.Claim.{text_of}
+use Rattle.dude_audit.specs.declared.claim.Claim.{Claim}
+use Rattle.dude_audit.specs.Claim.{text_of}
 
 -- the database after the requests of these lines
 abbrev pub after_claims : ℕ → Database → List Claim → Database

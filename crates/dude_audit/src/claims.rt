@@ -3,17 +3,17 @@
 ghost use Rattle.std.specs.Prelude.{◌≡◌, ◌≤◌, ◌↔◌, All, AllPairs, IfOk, IfSome, IfNone, IsTrue, not, filter, length};
 ghost use Rattle.tatp_model.specs.Database.{database_of, IsInOrder};
 ghost use Rattle.tatp_model.specs.Request.{IsInRange};
-ghost use Rattle.printed_lines.specs.Claim.{IsWithin, claims_sync};
+ghost use Rattle.dude_audit.specs.Claim.{IsWithin, claims_sync};
 ghost use Rattle.dude_audit.specs.Order.{AreApart, AreOfRun, IsClaimOrder};
 ghost use Rattle.dude_audit.specs.Walk.{TextsAlong};
 ghost use Rattle.dude_audit.specs.Verdict.{IsLastOf, IsWrongLine, HasVerdict};
 
+use crate::Claim;
 use crate::copy::copied;
 use crate::order::put_in_printed_order;
 use crate::rules::first_broken;
 use crate::verdict::Verdict;
 use crate::walk::first_wrong;
-use printed_lines::Claim;
 use std::alloc::{AllocError, Global};
 use tatp_model::Tables;
 

@@ -9,7 +9,7 @@ ghost use Rattle.dude_audit.specs.PrintedRun.{IsRunOf, IsVerdictOn};
 
 use crate::claims::audit_claims;
 use crate::verdict::Verdict;
-use printed_lines::{Reading, blank_claims, read_claims};
+use crate::{Reading, blank_claims, read_claims};
 use std::alloc::{AllocError, Global};
 use tatp_model::{Request, Tables};
 

@@ -3,7 +3,7 @@
 ghost use Rattle.std.specs.Prelude.{AllPairs, IsPermutation};
 ghost use Rattle.dude_audit.specs.Order.{AreApart, ClaimPrecedes};
 
-use printed_lines::Claim;
+use crate::Claim;
 
 /// Puts lines in the order in which their requests are printed by number. It takes no memory.
 pub(crate) fn put_in_printed_order(claims: &mut Vec<Claim>)

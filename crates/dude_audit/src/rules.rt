@@ -2,10 +2,10 @@
 
 ghost use Rattle.std.specs.Prelude.{◌≡◌, ◌≤◌, All, AllPairs, IfOk, OnOk, IfSome, IfNone, true, false, not, nat_eq, if◌then◌else◌};
 ghost use Rattle.std.specs.HashSet.{contains};
-ghost use Rattle.printed_lines.specs.Claim.{claims_sync};
+ghost use Rattle.dude_audit.specs.Claim.{claims_sync};
 ghost use Rattle.dude_audit.specs.Rules.{within_bounds, repeats, LearnsFrom, AreRuled, IsFirstBroken};
 
-use printed_lines::Claim;
+use crate::Claim;
 use std::alloc::{AllocError, Global};
 use std::collections::HashSet;
 

@@ -3,10 +3,10 @@
 ghost use Rattle.std.specs.Prelude.{◌≡◌, ◌≤◌, ◌↔◌, IsTrue, All, IfOk, IfSome, IfNone, length};
 ghost use Rattle.tatp_model.specs.Database.{database_of, IsInOrder};
 ghost use Rattle.tatp_model.specs.Request.{IsInRange};
-ghost use Rattle.printed_lines.specs.Claim.{IsWithin, text_of};
+ghost use Rattle.dude_audit.specs.Claim.{IsWithin, text_of};
 ghost use Rattle.dude_audit.specs.Walk.{TextsAlong, IsFirstWrong};
 
-use printed_lines::Claim;
+use crate::Claim;
 use std::alloc::{AllocError, Global};
 use tatp_model::Tables;
 use tatp_model::step::step;

@@ -11,7 +11,7 @@ use Rattle.redo_record.proofs.WaitingRecords.{consecutive_up}
 use Rattle.tatp_model.specs.declared.done.Done.{Done}
 use Rattle.tatp_layout.specs.StandsFor.{StandsFor}
 use Rattle.word_space.specs.Flats.{words_of}
-use Rattle.image_opening.specs.Opened.{HoldsOpened}
+use Rattle.dude_recover.specs.Opened.{HoldsOpened}
 use Rattle.log_numbered.specs.declared.kept_bundles.KeptBundles.{KeptBundles}
 use Rattle.log_numbered.specs.declared.run_log.RunLog.{RunLog}
 use Rattle.log_numbered.specs.Arrays.{RunArrays, RecoversIn, array_at, last_number}

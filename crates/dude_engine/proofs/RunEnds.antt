@@ -22,8 +22,8 @@ use Rattle.dude_base.specs.declared.sizes.Sizes.{Sizes}
 use Rattle.dude_base.specs.Image.{image_words}
 use Rattle.back_store.specs.Back.{BackState}
 use Rattle.back_store.specs.BackView.{state_of}
-use Rattle.image_opening.specs.declared.opened.Opened.{Opened}
-use Rattle.image_opening.specs.Opened.{HoldsOpened, IsOpened}
+use Rattle.dude_recover.specs.declared.opened.Opened.{Opened}
+use Rattle.dude_recover.specs.Opened.{HoldsOpened, IsOpened}
 use Rattle.log_numbered.specs.declared.run_log.RunLog.{RunLog}
 use Rattle.back_store.specs.Told.{WereTold}
 use Rattle.log_numbered.specs.Arrays.{RecoversIn}

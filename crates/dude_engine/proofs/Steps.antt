@@ -22,7 +22,7 @@ use Rattle.tatp_model.specs.OneThread.{is_changed, is_sync}
 use Rattle.tatp_layout.specs.StandsFor.{StandsFor}
 use Rattle.tatp_core.specs.Serves.{Serves}
 use Rattle.word_space.specs.Flats.{words_of, flat_sight, fresh}
-use Rattle.image_opening.specs.Opened.{HoldsOpened}
+use Rattle.dude_recover.specs.Opened.{HoldsOpened}
 use Rattle.log_numbered.specs.declared.run_log.RunLog.{RunLog}
 use Rattle.log_numbered.specs.Arrays.{RunArrays, RecoversIn, array_at, last_number, with_writes}
 use Rattle.back_store.specs.Told.{WereTold}

@@ -5,7 +5,7 @@ use Rattle.pmem_trait.specs.Words.{EveryImage}
 use Rattle.pmem_trait.specs.Sights.{Sight, state_now}
 use Rattle.word_space.specs.Flats.{words_of}
 use Rattle.tatp_model.specs.declared.done.Done.{Done}
-use Rattle.image_opening.specs.Opened.{HoldsOpened}
+use Rattle.dude_recover.specs.Opened.{HoldsOpened}
 use Rattle.log_numbered.specs.Arrays.{RunArrays}
 use Rattle.log_numbered.specs.KeptBundles.{LeadThrough, are_kept, kept_bundles}
 use Rattle.log_numbered.specs.Keeping.{KeepsAll}

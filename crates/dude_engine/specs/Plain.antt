@@ -8,8 +8,8 @@ use Rattle.tatp_model.specs.OneThread.{AllAreDone, IsPrintedOrder, RepliesOfOneT
 use Rattle.tatp_layout.specs.StandsFor.{StandsFor}
 use Rattle.pmem_trait.specs.declared.medium.Medium.{Ghosts}
 use Rattle.run_order.specs.Runs.{AreFirstInRounds, Collects, Performs, SyncsFollow}
-use Rattle.image_opening.specs.declared.opened.Opened.{Opened}
-use Rattle.image_opening.specs.Opened.{HoldsOpened}
+use Rattle.dude_recover.specs.declared.opened.Opened.{Opened}
+use Rattle.dude_recover.specs.Opened.{HoldsOpened}
 use Rattle.back_store.specs.BackView.{sight_of, state_of}
 use Rattle.back_store.specs.Told.{WereTold}
 use Rattle.dude_engine.specs.declared.ran.RanEnd.{RanEnd}

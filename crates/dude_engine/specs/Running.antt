@@ -14,7 +14,7 @@ use Rattle.tatp_model.specs.Database.{Database}
 use Rattle.tatp_model.specs.OneThread.{AllAreDone, PrecedesInFiles, RepliesAlong, after_number, after_requests, is_sync}
 use Rattle.tatp_layout.specs.StandsFor.{StandsFor}
 use Rattle.run_order.specs.Runs.{AreFirstInRounds, Collects, IsNumberedFrom, PrecedesInRounds}
-use Rattle.image_opening.specs.Opened.{HoldsOpened}
+use Rattle.dude_recover.specs.Opened.{HoldsOpened}
 use Rattle.log_numbered.specs.declared.run_log.RunLog.{RunLog}
 use Rattle.log_numbered.specs.Arrays.{RunArrays, array_at, last_number}
 use Rattle.back_store.specs.Operations.{Makes}

@@ -7,7 +7,7 @@ use Rattle.redo_record.specs.Recovery.{AreConsecutive, overwritten_by_all}
 use Rattle.tatp_model.specs.declared.done.Done.{Done}
 use Rattle.tatp_model.specs.OneThread.{IsPrintedOrder, after_number}
 use Rattle.tatp_layout.specs.StandsFor.{StandsFor}
-use Rattle.image_opening.specs.Opened.{HoldsOpened}
+use Rattle.dude_recover.specs.Opened.{HoldsOpened}
 use Rattle.log_numbered.specs.KeptBundles.{IsPacket}
 use Rattle.dude_engine.specs.Opening.{Opening, RecoversAt}
 

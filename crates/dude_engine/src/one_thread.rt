@@ -2,7 +2,7 @@
 
 ghost use Rattle.std.specs.Prelude.{◌≡◌, ◌≤◌, [], IsTrue, length, map};
 ghost use Rattle.back_store.specs.BackView.{sight_of};
-ghost use Rattle.image_opening.specs.Opened.{IsOpened};
+ghost use Rattle.dude_recover.specs.Opened.{IsOpened};
 ghost use Rattle.redo_record.specs.Recovery.{AreConsecutive};
 ghost use Rattle.log_numbered.specs.KeptBundles.{are_kept, kept_bundles};
 ghost use Rattle.dude_engine.specs.declared.ran.RanEnd.TheVariants.{Whole};
@@ -16,7 +16,7 @@ use crate::ran::{Ran, RanEnd};
 use crate::run::Run;
 use crate::run_fault::RunFault;
 use crate::shipping::Shipped;
-use image_opening::Opened;
+use dude_recover::Opened;
 use log_numbered::{KeptBundles, RunLog};
 use pmem_trait::Medium;
 use run_order::put_in_files;

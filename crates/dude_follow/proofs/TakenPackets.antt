@@ -15,7 +15,7 @@ use Rattle.redo_record.specs.Recovery.{Recovers}
 use Rattle.log_waiting.proofs.EmptyLanes.{none_waiting}
 use Rattle.back_store.specs.Back.{BackState, idle}
 use Rattle.back_store.proofs.KeptLogs.{images_here}
-use Rattle.image_opening.specs.Opened.{HoldsOpened}
+use Rattle.dude_recover.specs.Opened.{HoldsOpened}
 use Rattle.log_numbered.proofs.HeldArrays.{array_alone}
 use Rattle.log_numbered.proofs.LedLogs.{leads_idle}
 use Rattle.dude_follow.specs.declared.follow_fault.FollowFault.{FollowFault}

@@ -6,7 +6,7 @@ use Rattle.pmem_trait.specs.declared.medium.Medium.{Ghosts}
 use Rattle.pmem_trait.specs.Sights.{Sight, SomeCalls}
 use Rattle.back_store.specs.Back.{BackState, idle}
 use Rattle.back_store.specs.BackView.{medium_of}
-use Rattle.image_opening.specs.declared.opened.Opened.{Opened}
+use Rattle.dude_recover.specs.declared.opened.Opened.{Opened}
 use Rattle.dude_follow.specs.declared.follow_fault.FollowFault.{FollowFault}
 use Rattle.dude_follow.specs.declared.follower.Follower.{Follower}
 use Rattle.dude_follow.specs.declared.taken.Taken.{Taken}

@@ -17,7 +17,7 @@ use crate::replica::Replica;
 use crate::taken::Taken;
 use crate::verdict::Verdict;
 use dude_base::bundle::Bundle;
-use image_opening::Opened;
+use dude_recover::Opened;
 use pmem_trait::{Failed, Medium};
 use std::alloc::{AllocError, Global};
 
@@ -32,7 +32,7 @@ pub struct Follower<M: Medium> {
 
 impl<M: Medium> Follower<M> {
     ghost use Rattle.back_store.specs.BackView.{sight_of};
-    ghost use Rattle.image_opening.specs.Opened.{HoldsOpened, IsOpened};
+    ghost use Rattle.dude_recover.specs.Opened.{HoldsOpened, IsOpened};
     ghost use Rattle.dude_follow.specs.Follower.{AdvancesBy, KeepsParts, StartsOn, StaysSame, TakesPacket, follower_back, follower_medium, follower_room, follower_sight, follower_sizes, follower_state};
 
     /// A follower over an opened image, with room to keep so many packets. On want of memory the image is given back.

@@ -8,3 +8,10 @@ pub mod MemFile
 pub mod MemFiles
 pub mod MemSink
 pub mod Silent
+pub mod Bytes
+pub mod Clock
+pub mod FilePmem
+pub mod FileWords
+pub mod Line
+pub mod Spill
+pub mod WriteCache

@@ -10,11 +10,18 @@
 //! stands at its last value. What the system reads, writes and syncs is trusted.
 #![tactic(auto)]
 
+mod clock;
+mod edge_fault;
 mod fail_plan;
 mod file_fault;
+mod file_pmem;
 mod file_text;
+mod file_words;
 mod files;
+mod image_file;
+mod line;
 mod listed_read;
+mod lock;
 mod mem_file;
 mod mem_files;
 mod mem_sink;
@@ -23,13 +30,17 @@ mod reading;
 mod real_files;
 mod real_sink;
 mod sink;
+mod spill;
+mod write_cache;
 mod writing;
 
+pub use edge_fault::EdgeFault;
 pub use file_fault::FileFault;
-pub use file_pmem::{EdgeFault, FilePmem, Lock};
+pub use file_pmem::FilePmem;
 pub use file_text::FileText;
 pub use files::Files;
 pub use listed_read::ListedRead;
+pub use lock::Lock;
 pub use mem_file::MemFile;
 pub use mem_files::MemFiles;
 pub use mem_sink::MemSink;

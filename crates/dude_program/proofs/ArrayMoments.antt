@@ -12,11 +12,11 @@ use Rattle.pmem_trait.proofs.Runs.{made_later}
 use Rattle.redo_record.specs.Images.{version_of}
 use Rattle.image_recovery.specs.Recovered.{RecoversArray}
 use Rattle.image_recovery.proofs.OneRecovery.{same_replay}
-use Rattle.image_opening.specs.Answers as answers
-use Rattle.image_opening.specs.OpeningCalls.{opening_calls, stale_lines}
-use Rattle.image_opening.specs.OpeningLaw.{StillRecoversArray}
-use Rattle.image_opening.proofs.OpeningStates.{opening_law}
-use Rattle.image_opening.proofs.SettledReads.{image_content, reads_keep}
+use Rattle.dude_recover.specs.Answers as answers
+use Rattle.dude_recover.specs.OpeningCalls.{opening_calls, stale_lines}
+use Rattle.dude_recover.specs.OpeningLaw.{StillRecoversArray}
+use Rattle.dude_recover.proofs.OpeningStates.{opening_law}
+use Rattle.dude_recover.proofs.SettledReads.{image_content, reads_keep}
 use Rattle.dude_follow.specs.Applying.{RecoversAlong}
 use Rattle.command_edges.specs.declared.fault.Fault.{Fault}
 use Rattle.command_edges.specs.declared.fault.Fault.TheVariants.{Damaged, Device, Memory, NotDb, Unformatted}

@@ -7,7 +7,7 @@ use Rattle.pmem_trait.specs.Sights.{Sight, state_now}
 use Rattle.pmem_trait.specs.Reads.{ContentHas}
 use Rattle.tatp_model.specs.Population.{population_calls}
 use Rattle.image_recovery.specs.Recovered.{Recovery, Unformatted, Damaged, NotDb, Recovered, Gives}
-use Rattle.image_format.specs.Causes.{FitsImage}
+use Rattle.dude_recover.specs.Causes.{FitsImage}
 use Rattle.command_words.specs.Command.{Meaning}
 use Rattle.dude_engine.specs.Opening.{Opening}
 use Rattle.command_edges.specs.declared.fault.Fault.{Fault}

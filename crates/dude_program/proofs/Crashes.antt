@@ -17,7 +17,7 @@ use Rattle.tatp_model.specs.declared.request.Request.{Request}
 use Rattle.tatp_model.specs.Database.{Database}
 use Rattle.tatp_model.specs.OneThread.{IsPrintedOrder, after_number, after_requests, is_sync}
 use Rattle.run_order.specs.Runs.{SyncsFollow}
-use Rattle.legal_order.specs.Printed.{NumbersOfOneThread}
+use Rattle.run_order.specs.Printed.{NumbersOfOneThread}
 use Rattle.run_threads.specs.Answers.{AreSyncsDurable}
 use Rattle.image_recovery.specs.Recovered.{RecoversTo}
 use Rattle.command_words.specs.Command.{Meaning, Meaning.FreshRun, Meaning.FormatImage, Meaning.RunFiles, Meaning.StreamFiles, Meaning.RecoverImage, Meaning.DumpTables, Meaning.DriveLoad, Meaning.AuditRun, Meaning.ShipFiles, Meaning.FollowFiles}

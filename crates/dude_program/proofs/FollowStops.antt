@@ -13,8 +13,8 @@ use Rattle.back_store.specs.Operations.{MakesOperations}
 use Rattle.dude_io.specs.Files.{FilesSight}
 use Rattle.dude_io.specs.Sink.{SinkSight}
 use Rattle.dude_io.specs.declared.file_text.FileText.{FileText}
-use Rattle.image_opening.specs.declared.opened.Opened.{Opened}
-use Rattle.image_opening.specs.Opened.{HoldsOpened, IsOpened}
+use Rattle.dude_recover.specs.declared.opened.Opened.{Opened}
+use Rattle.dude_recover.specs.Opened.{HoldsOpened, IsOpened}
 use Rattle.image_recovery.specs.Recovered.{RecoversArray}
 use Rattle.dude_follow.specs.declared.follower.Follower.{Follower}
 use Rattle.dude_follow.specs.Applying.{HoldsArray, RecoversAlong, Tells}

@@ -13,11 +13,11 @@ use Rattle.pmem_trait.proofs.ReadRuns.{reads_here}
 use Rattle.tatp_model.specs.declared.done.Done.{Done}
 use Rattle.dude_io.specs.Files.{FilesSight}
 use Rattle.dude_io.specs.Sink.{SinkSight}
-use Rattle.image_format.specs.Causes.{FormatsSome}
-use Rattle.image_format.specs.FormatCalls.{format_calls}
-use Rattle.image_opening.specs.Answers.{OpensSome, StillRecovers}
-use Rattle.image_opening.proofs.OpeningMoments.{opened_some, opens_calls}
-use Rattle.image_opening.proofs.SettledReads.{content_kept}
+use Rattle.dude_recover.specs.Causes.{FormatsSome}
+use Rattle.dude_recover.specs.FormatCalls.{format_calls}
+use Rattle.dude_recover.specs.Answers.{OpensSome, StillRecovers}
+use Rattle.dude_recover.proofs.OpeningMoments.{opened_some, opens_calls}
+use Rattle.dude_recover.proofs.SettledReads.{content_kept}
 use Rattle.command_words.specs.Command.{Meaning, Meaning.FreshRun, Meaning.FormatImage, Meaning.RunFiles, Meaning.StreamFiles, Meaning.RecoverImage, Meaning.DumpTables, Meaning.DriveLoad, Meaning.AuditRun, Meaning.ShipFiles, Meaning.FollowFiles}
 use Rattle.command_edges.specs.Files.{HasFileFault, MissesFile}
 use Rattle.command_edges.specs.Files as read

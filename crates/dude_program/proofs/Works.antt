@@ -15,15 +15,15 @@ use Rattle.tatp_model.specs.declared.done.Done.{Done}
 use Rattle.tatp_model.specs.declared.request.Request.{Request}
 use Rattle.tatp_model.specs.Database.{Database}
 use Rattle.tatp_model.specs.OneThread.{RepliesOfOneThread}
-use Rattle.legal_order.specs.Printed.{NumbersOfOneThread}
-use Rattle.legal_order.proofs.Printing.{law_parts}
+use Rattle.run_order.specs.Printed.{NumbersOfOneThread}
+use Rattle.run_order.proofs.NumbersPrinted.{law_parts}
 use Rattle.dude_io.specs.Sink.{SinkSight, Took}
 use Rattle.back_store.specs.Back.{BackState, idle}
 use Rattle.back_store.specs.Operations.{MakesOperations}
 use Rattle.pmem_trait.specs.declared.medium.Medium.{Ghosts}
 use Rattle.back_store.specs.BackView.{sight_of}
-use Rattle.image_opening.specs.declared.opened.Opened.{Opened}
-use Rattle.image_opening.specs.Opened.{HoldsOpened, IsOpened}
+use Rattle.dude_recover.specs.declared.opened.Opened.{Opened}
+use Rattle.dude_recover.specs.Opened.{HoldsOpened, IsOpened}
 use Rattle.run_threads.specs.Answers.{AnswersOnThreads, AreSyncsDurable, KnowsReads, TellsSyncsOnThreads}
 use Rattle.run_threads.specs.Ends.{AnyNumber, EndsOnThreads, EndsWhole, RecoversOnThreads}
 use Rattle.run_threads.specs.Streamed.{is_whole}

@@ -14,8 +14,8 @@ use Rattle.dude_io.specs.Files.{FilesSight}
 use Rattle.redo_record.specs.Recovery.{IsFormatted, IsDamaged}
 use Rattle.back_store.specs.Back.{idle}
 use Rattle.image_recovery.specs.Recovered.{IsNoDatabase, RecoversTo}
-use Rattle.image_format.specs.Causes.{FormatsSome}
-use Rattle.image_opening.specs.Answers.{OpensSome}
+use Rattle.dude_recover.specs.Causes.{FormatsSome}
+use Rattle.dude_recover.specs.Answers.{OpensSome}
 use Rattle.command_words.specs.Command.{Meaning, Meaning.FreshRun, Meaning.FormatImage, Meaning.RunFiles, Meaning.StreamFiles, Meaning.RecoverImage, Meaning.DumpTables, Meaning.DriveLoad, Meaning.AuditRun, Meaning.ShipFiles, Meaning.FollowFiles}
 use Rattle.command_edges.specs.Files.{HasReadFault, IsFirstBad, IsGoodFile, MissesFile}
 use Rattle.command_edges.specs.Reads.{ReadsInOrder}

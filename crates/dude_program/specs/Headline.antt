@@ -15,7 +15,7 @@ use Rattle.tatp_model.specs.OneThread.{is_sync, IsPrintedOrder, AllAreDone, Repl
 use Rattle.dude_io.specs.Files.{FilesSight}
 use Rattle.dude_io.specs.Sink.{SinkSight}
 use Rattle.run_order.specs.Runs.{SyncsFollow}
-use Rattle.legal_order.specs.Printed.{NumbersOfOneThread}
+use Rattle.run_order.specs.Printed.{NumbersOfOneThread}
 use Rattle.dude_engine.specs.Opening.{Opening, IsOpening, RecoversAt}
 use Rattle.dude_engine.specs.Endings.{AreSyncsTold, End, LosesAtMost}
 use Rattle.dude_engine.specs.Plain.{most_lost_by}

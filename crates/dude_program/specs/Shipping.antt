@@ -1,6 +1,6 @@
 -- A run whose bundles are kept, as the command sees it.
 use Rattle.pmem_trait.specs.declared.medium.Medium.{Ghosts}
-use Rattle.image_opening.specs.declared.opened.Opened.{Opened}
+use Rattle.dude_recover.specs.declared.opened.Opened.{Opened}
 use Rattle.dude_engine.specs.Opening.{Opening}
 use Rattle.dude_engine.specs.Plain.{IsOpeningOf}
 use Rattle.dude_engine.specs.Shipping.{Ships}

@@ -8,7 +8,7 @@ use Rattle.pmem_trait.specs.declared.medium.Medium.{Ghosts}
 use Rattle.pmem_trait.specs.Sights.{Sight, Risen, SomeCalls}
 use Rattle.back_store.specs.Back.{idle}
 use Rattle.back_store.specs.BackView.{medium_of}
-use Rattle.image_opening.specs.declared.opened.Opened.{Opened}
+use Rattle.dude_recover.specs.declared.opened.Opened.{Opened}
 use Rattle.tatp_model.specs.declared.done.Done.{Done}
 use Rattle.tatp_model.specs.declared.request.Request.{Request}
 use Rattle.tatp_model.specs.OneThread.{is_sync, RepliesOfOneThread}
@@ -16,7 +16,7 @@ use Rattle.tatp_text.specs.Output.{output_of}
 use Rattle.tatp_text.specs.Summary.{summary_of}
 use Rattle.dude_io.specs.Sink.{SinkSight, Took}
 use Rattle.run_order.specs.Runs.{SyncsFollow}
-use Rattle.legal_order.specs.Printed.{NumbersOfOneThread}
+use Rattle.run_order.specs.Printed.{NumbersOfOneThread}
 use Rattle.run_threads.specs.Answers.{AreSyncsDurable, KnowsReads}
 use Rattle.run_threads.specs.Ends.{AnyNumber, EndsWhole}
 use Rattle.dude_engine.specs.declared.ran.RanEnd.{RanEnd}

@@ -2,14 +2,14 @@
 
 ghost use Rattle.std.specs.Prelude.{◌≡◌, ◌≤◌, length, OnOk, IfErr};
 ghost use Rattle.dude_base.specs.declared.limits.TheConstants.{MAX_NUMBER};
-ghost use Rattle.image_opening.specs.Opened.{IsOpened};
+ghost use Rattle.dude_recover.specs.Opened.{IsOpened};
 ghost use Rattle.tatp_model.specs.Files.{requests_in};
 ghost use Rattle.dude_engine.specs.Requests.{HasNumbersFor, request_count};
 ghost use Rattle.dude_program.specs.Work.{AllowsFrames, EachIsFew, HasFewNumbers, HasManyFiles, RefusesFiles, RefusesFrames};
 
 use command_edges::Fault;
 use dude_base::limits::{MAX_NUMBER, MIN_FRAMES};
-use image_opening::Opened;
+use dude_recover::Opened;
 use pmem_trait::Medium;
 use tatp_model::Request;
 

@@ -5,7 +5,7 @@ ghost use Rattle.tatp_layout.specs.StandsFor.{StandsFor};
 ghost use Rattle.tatp_model.specs.Database.{Database, IsInOrder, database_of};
 ghost use Rattle.tatp_text.specs.Dump.{dump_text};
 ghost use Rattle.tatp_text.specs.Summary.{summary_of};
-ghost use Rattle.image_opening.specs.Opened.{IsOpened};
+ghost use Rattle.dude_recover.specs.Opened.{IsOpened};
 ghost use Rattle.command_edges.specs.Fault.{status_of};
 ghost use Rattle.dude_program.specs.Work.{EndsBy, lines_of, totals_of};
 
@@ -13,7 +13,7 @@ use crate::ended::Ended;
 use crate::worked::Worked;
 use command_edges::{Fault, print_lines, print_text};
 use dude_io::Sink;
-use image_opening::Opened;
+use dude_recover::Opened;
 use pmem_trait::Medium;
 use std::alloc::Global;
 use tatp_check::tables_of;

@@ -2,7 +2,7 @@
 
 ghost use Rattle.std.specs.Prelude.{◌≡◌, ◌≤◌, None, length};
 ghost use Rattle.redo_record.specs.Recovery.{AreConsecutive};
-ghost use Rattle.image_opening.specs.Opened.{IsOpened};
+ghost use Rattle.dude_recover.specs.Opened.{IsOpened};
 ghost use Rattle.tatp_model.specs.Files.{requests_in};
 ghost use Rattle.dude_engine.specs.Requests.{AreInRange, HasNumbersFor};
 ghost use Rattle.dude_program.specs.Shipping.{ShipsOpened};
@@ -11,7 +11,7 @@ ghost use Rattle.dude_program.specs.Work.{RanOverOpened};
 use crate::worked::{Worked, fault_of};
 use dude_base::bundle::Bundle;
 use dude_engine::shipped;
-use image_opening::Opened;
+use dude_recover::Opened;
 use pmem_trait::Medium;
 use std::alloc::Global;
 use tatp_model::Request;

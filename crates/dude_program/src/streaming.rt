@@ -2,20 +2,20 @@
 
 ghost use Rattle.std.specs.Prelude.{◌<◌, ◌≤◌, length};
 ghost use Rattle.dude_base.specs.Run.{IsRunWithin};
-ghost use Rattle.image_opening.specs.Opened.{IsOpened};
+ghost use Rattle.dude_recover.specs.Opened.{IsOpened};
 ghost use Rattle.tatp_model.specs.Files.{requests_in};
 ghost use Rattle.dude_engine.specs.Requests.{AreInRange, HasNumbersFor};
 ghost use Rattle.run_threads.specs.Ends.{IsAsOpened};
 ghost use Rattle.dude_program.specs.Streaming.{StreamsReplies};
 ghost use Rattle.dude_program.specs.Work.{RanOnThreads};
 
-use run_threads::streamed;
 use crate::worked::{Worked, fault_of};
 use dude_base::run::Run;
 use dude_io::Sink;
-use image_opening::Opened;
+use dude_recover::Opened;
 use pmem_trait::Medium;
 use request_attempts::gate::Gate;
+use run_threads::streamed;
 use std::alloc::Global;
 use std::thread::Threads;
 use tatp_model::Request;

@@ -144,13 +144,7 @@ pub fn dude<R: Threads + Sync, M: Medium + Send, F: Files, K: Sink + Send>(
 
 /// Does what `dude` does. Each transaction of a `run`, a `stream` or a `drive` passes the gate between its last read and its
 /// commit.
-pub fn dude_watched<
-    R: Threads + Sync,
-    M: Medium + Send,
-    F: Files,
-    K: Sink + Send,
-    G: Gate + Sync,
->(
+pub fn dude_watched<R: Threads + Sync, M: Medium + Send, F: Files, K: Sink + Send, G: Gate + Sync>(
     rt: &R,
     alloc: Global,
     words: &[RcStr],

@@ -3,7 +3,7 @@
 ghost use Rattle.std.specs.Prelude.{◌≡◌, ◌<◌, ◌≤◌, [], None, length};
 ghost use Rattle.dude_base.specs.Run.{IsRunWithin};
 ghost use Rattle.back_store.specs.BackView.{medium_of};
-ghost use Rattle.image_opening.specs.Opened.{IsOpened};
+ghost use Rattle.dude_recover.specs.Opened.{IsOpened};
 ghost use Rattle.tatp_model.specs.Files.{requests_in};
 ghost use Rattle.dude_engine.specs.Requests.{AreInRange, HasNumbersFor};
 ghost use Rattle.run_threads.specs.Ends.{IsAsOpened};
@@ -12,7 +12,7 @@ ghost use Rattle.dude_program.specs.Work.{RanOnThreads, RanOverOpened, fault_of_
 use command_edges::Fault;
 use dude_base::run::Run;
 use dude_engine::{RanEnd, plain};
-use image_opening::Opened;
+use dude_recover::Opened;
 use pmem_trait::Medium;
 use request_attempts::gate::Gate;
 use run_threads::threaded;

@@ -8,7 +8,7 @@ use crate::home::LOCATION;
 use crate::page::Page;
 use dude_base::limits::{HEADER, MAGIC, MARK, VERSION_WORD};
 use dude_base::place::Place;
-use image_opening::open;
+use dude_recover::open;
 use image_recovery::{OpenFault, image_of};
 use pmem_fake::MemPmem;
 use pmem_trait::Medium;

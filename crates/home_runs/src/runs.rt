@@ -2,7 +2,7 @@
 
 ghost use Rattle.std.specs.Prelude.{◌≤◌, All, length, map};
 ghost use Rattle.tatp_model.specs.Request.{IsInRange};
-ghost use Rattle.image_opening.specs.Opened.{IsOpened};
+ghost use Rattle.dude_recover.specs.Opened.{IsOpened};
 ghost use Rattle.dude_engine.specs.Requests.{AreInRange, HasNumbersFor};
 
 use crate::home::{LOCATION, done_at};
@@ -10,7 +10,7 @@ use crate::images::{image_with, medium_of, say_heads};
 use crate::page::Page;
 use dude_base::limits::VERSION;
 use dude_engine::{Ran, RanEnd, plain};
-use image_opening::{Opened, open};
+use dude_recover::{Opened, open};
 use image_recovery::image_of;
 use pmem_fake::MemPmem;
 use pmem_trait::Medium;

@@ -12,8 +12,8 @@ use Rattle.tatp_model.specs.OneThread.{is_sync, PrecedesInFiles}
 use Rattle.run_order.proofs.Pairs.{pairs_among, one_or_other}
 use Rattle.run_order.proofs.FileOrder.{in_files_from_holding}
 use Rattle.core_events.specs.Views.{Entry}
-use Rattle.legal_order.specs.Numbers.{HaveSameWriters, AreDatabases, IsAnswered, AreAnswered, Differ, IsNumbered, AreNumbered}
-use Rattle.legal_order.proofs.Databases.{with_writers}
+use Rattle.run_order.specs.Numbers.{HaveSameWriters, AreDatabases, IsAnswered, AreAnswered, Differ, IsNumbered, AreNumbered}
+use Rattle.run_order.proofs.Databases.{with_writers}
 use Rattle.legal_entries.specs.Served.{done_of, LeadsThrough, AreDoneBy, LawOfDone, LawOfNumbering}
 use Rattle.legal_entries.proofs.Law.{each_numbered}
 use Rattle.legal_entries.proofs.Writers.{differ_all}

@@ -18,8 +18,8 @@ use Rattle.tatp_layout.specs.StandsFor.{StandsFor}
 use Rattle.tatp_core.specs.Serves.{Serves}
 use Rattle.core_events.specs.Views.{Entry}
 use Rattle.core_events.specs.Entries.{value_at, read_at, HaveNumbers, IsLegal}
-use Rattle.legal_order.specs.Numbers.{WroteAt, AreDatabases, answered_at, IsAnswered, IsNumbered}
-use Rattle.legal_order.proofs.Members.{contains_map, map_contains}
+use Rattle.run_order.specs.Numbers.{WroteAt, AreDatabases, answered_at, IsAnswered, IsNumbered}
+use Rattle.run_order.proofs.Members.{contains_map, map_contains}
 use Rattle.legal_entries.specs.Served.{done_of, IsServed, array_at, LeadsThrough, LawOfEntries}
 use Rattle.legal_entries.proofs.Serving.{wrote_changed}
 use Rattle.legal_entries.proofs.Writers.{differ_all, writer, writes_in, writes_are, Writes, writer_is, writer_only, none_or_writer, IsInside, written_inside, length_at, word_at}

@@ -13,7 +13,7 @@ use Rattle.tatp_layout.specs.StandsFor.{StandsFor}
 use Rattle.tatp_core.specs.Serves.{Answers}
 use Rattle.core_events.specs.Views.{Entry}
 use Rattle.core_events.specs.Entries.{writes_of, value_at, HaveNumbers, IsLegal}
-use Rattle.legal_order.specs.Numbers.{AreDatabases, IsAnswered, AreAnswered, Differ, FilesFollow, IsNumbered, AreNumbered}
+use Rattle.run_order.specs.Numbers.{AreDatabases, IsAnswered, AreAnswered, Differ, FilesFollow, IsNumbered, AreNumbered}
 
 -- what is done by the transaction of an entry
 abbrev pub done_of : Entry → Done

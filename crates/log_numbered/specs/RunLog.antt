@@ -10,7 +10,7 @@ use Rattle.redo_record.specs.Record.{cells_for}
 use Rattle.back_store.specs.Back.{BackState, IsRingFull, home_now}
 use Rattle.back_store.specs.declared.back.Back.{Back}
 use Rattle.back_store.specs.BackView.{medium_of, sight_of, state_of}
-use Rattle.image_opening.specs.Opened.{HoldsOpened}
+use Rattle.dude_recover.specs.Opened.{HoldsOpened}
 use Rattle.log_numbered.specs.declared.open_bundle.OpenBundle.{OpenBundle}
 use Rattle.log_numbered.specs.declared.run_log.RunLog.{RunLog}
 use Rattle.log_numbered.specs.Arrays.{LeadsToLast, RecoversIn, RunArrays, array_at, last_number, with_writes}

@@ -6,7 +6,7 @@ use crate::printing::{print_calls, print_words};
 use crate::setup::changed;
 use crate::wanted::Wanted;
 use dude_base::field::Field;
-use image_format::FormatFault;
+use dude_recover::FormatFault;
 use pmem_trait::{Call, Medium};
 use script_words::{number_of, numbers_of};
 use std::io;

@@ -1,7 +1,7 @@
 //! A follower with room for few packets.
 
 ghost use Rattle.std.specs.Prelude.{All};
-ghost use Rattle.image_opening.specs.Opened.{IsOpened};
+ghost use Rattle.dude_recover.specs.Opened.{IsOpened};
 ghost use Rattle.dude_follow.specs.Follower.{follower_sizes};
 ghost use Rattle.dude_follow.specs.Packets.{IsPacket};
 
@@ -9,7 +9,7 @@ use crate::outcome::Outcome;
 use crate::scene::{Scene, medium_of};
 use dude_base::bundle::Bundle;
 use dude_follow::{FollowFault, Follower, MAX_KEPT, PacketFault, Taken, read_packets};
-use image_opening::{Opened, open};
+use dude_recover::{Opened, open};
 use pmem_fake::MemPmem;
 use std::alloc::{AllocError, Global};
 

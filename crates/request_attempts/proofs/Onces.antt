@@ -16,13 +16,13 @@ use Rattle.tatp_core.specs.Serves.{Answers}
 use Rattle.core_events.specs.Setups.{Setup, page_of}
 use Rattle.core_events.specs.Views.{View, Entry}
 use Rattle.core_table.specs.Layout.{TableSight}
-use Rattle.tx_reading.proofs.Pairs.{among}
-use Rattle.tx_commit.specs.declared.lost.Lost.{Lost}
-use Rattle.tx_commit.specs.declared.lost.Lost.TheVariants as lost
-use Rattle.tx_commit.specs.Ends.{IsLost, HasMissed, has_writes}
-use Rattle.stm_passes.specs.declared.pass_numbers.PassNumbers.{PassNumbers}
-use Rattle.stm_passes.specs.Numbers.{with_refusals}
-use Rattle.stm_passes.specs.Passes.{PassSight, IsResting, pass_view}
+use Rattle.stm_transactions.proofs.Pairs.{among}
+use Rattle.stm_transactions.specs.declared.lost.Lost.{Lost}
+use Rattle.stm_transactions.specs.declared.lost.Lost.TheVariants as lost
+use Rattle.stm_transactions.specs.CommitEnds.{IsLost, HasMissed, has_writes}
+use Rattle.stm_transactions.specs.declared.pass_numbers.PassNumbers.{PassNumbers}
+use Rattle.stm_transactions.specs.Numbers.{with_refusals}
+use Rattle.stm_transactions.specs.Passes.{PassSight, IsResting, pass_view}
 use Rattle.stm_transactions.specs.declared.tx.TxOver.{TxOver}
 use Rattle.stm_transactions.specs.declared.reads.ReadList.{Ghosts}
 use Rattle.stm_transactions.specs.Counts.{after_commit}

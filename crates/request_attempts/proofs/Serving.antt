@@ -6,8 +6,8 @@ use Rattle.tatp_model.specs.declared.done.Done.{Done}
 use Rattle.tatp_model.specs.OneThread.{is_sync}
 use Rattle.core_events.specs.Views.{Entry}
 use Rattle.core_table.specs.Layout.{TableSight}
-use Rattle.stm_passes.specs.Numbers.{bit}
-use Rattle.stm_passes.specs.Passes.{PassSight, IsResting}
+use Rattle.stm_transactions.specs.Numbers.{bit}
+use Rattle.stm_transactions.specs.Passes.{PassSight, IsResting}
 use Rattle.request_attempts.specs.Counting.{IsUnder, PATIENCE, RisesBy}
 use Rattle.request_attempts.specs.MayTry.{MayServe, MayTry}
 use Rattle.request_attempts.specs.Tries.{IsServing, IsUnserved, IsAgain, HasTried, AnswersBy}

@@ -11,11 +11,11 @@ use Rattle.tatp_model.specs.OneThread.{is_sync}
 use Rattle.tatp_model.specs.declared.done.Done.{Done as DoneOf}
 use Rattle.core_events.specs.Views.{View}
 use Rattle.core_table.specs.Layout.{TableSight}
-use Rattle.tx_commit.specs.declared.lost.Lost.{Lost}
-use Rattle.tx_commit.specs.declared.lost.Lost.TheVariants as lost
-use Rattle.stm_passes.specs.declared.pass_numbers.PassNumbers.{PassNumbers}
-use Rattle.stm_passes.specs.Numbers.{after_draw, bit, with_refusals}
-use Rattle.stm_passes.specs.Passes.{PassSight, IsResting, IsRefused, pass_view}
+use Rattle.stm_transactions.specs.declared.lost.Lost.{Lost}
+use Rattle.stm_transactions.specs.declared.lost.Lost.TheVariants as lost
+use Rattle.stm_transactions.specs.declared.pass_numbers.PassNumbers.{PassNumbers}
+use Rattle.stm_transactions.specs.Numbers.{after_draw, bit, with_refusals}
+use Rattle.stm_transactions.specs.Passes.{PassSight, IsResting, IsRefused, pass_view}
 use Rattle.stm_transactions.specs.Counts.{after_commit}
 use Rattle.stm_transactions.specs.Stops.{counts}
 use Rattle.request_attempts.specs.declared.tried.Tried.{Tried}

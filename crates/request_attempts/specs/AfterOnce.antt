@@ -5,10 +5,10 @@ use Rattle.word_space.specs.declared.stop.Stop.{Stop}
 use Rattle.word_space.specs.declared.stop.Stop.TheVariants as stop
 use Rattle.tatp_model.specs.declared.request.Request.{Request}
 use Rattle.core_table.specs.Layout.{TableSight}
-use Rattle.tx_commit.specs.declared.lost.Lost.{Lost as LostOf}
-use Rattle.tx_commit.specs.declared.lost.Lost.TheVariants as lost
-use Rattle.stm_passes.specs.Numbers.{with_refusals}
-use Rattle.stm_passes.specs.Passes.{PassSight, IsResting, IsRefused, pass_view}
+use Rattle.stm_transactions.specs.declared.lost.Lost.{Lost as LostOf}
+use Rattle.stm_transactions.specs.declared.lost.Lost.TheVariants as lost
+use Rattle.stm_transactions.specs.Numbers.{with_refusals}
+use Rattle.stm_transactions.specs.Passes.{PassSight, IsResting, IsRefused, pass_view}
 use Rattle.stm_transactions.specs.Counts.{after_commit}
 use Rattle.stm_transactions.specs.Stops.{counts}
 use Rattle.request_attempts.specs.declared.once.Once.{Once}

@@ -4,7 +4,7 @@ use Rattle.dude_base.specs.declared.sizes.Sizes.{Sizes}
 use Rattle.tatp_model.specs.declared.request.Request.{Request}
 use Rattle.tatp_model.specs.Request.{IsInRange}
 use Rattle.core_table.specs.Layout.{TableSight}
-use Rattle.stm_passes.specs.Passes.{PassSight, IsResting}
+use Rattle.stm_transactions.specs.Passes.{PassSight, IsResting}
 
 -- The pass rests and may draw a number, the home is the table's, and the request is in range
 pub record MayTry {X K : Type 0} (t : TableSight K) (s : Sizes) (q : Request) (p : PassSight X) : Type 0 where

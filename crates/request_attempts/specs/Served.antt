@@ -5,7 +5,7 @@ use Rattle.tatp_model.specs.declared.request.Request.{Request}
 use Rattle.tatp_model.specs.declared.done.Done.{Done}
 use Rattle.core_events.specs.Views.{Entry}
 use Rattle.core_table.specs.Layout.{TableSight}
-use Rattle.stm_passes.specs.Passes.{PassSight, IsResting, pass_view}
+use Rattle.stm_transactions.specs.Passes.{PassSight, IsResting, pass_view}
 use Rattle.legal_entries.specs.Served.{IsServed, done_of}
 
 -- The pass is whose it was and has one entry more, of what is done; its reply and writes are those of one thread on every array that agrees with its reads

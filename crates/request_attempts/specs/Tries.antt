@@ -3,15 +3,15 @@ use Rattle.std.specs.Prelude.{◌≡◌, ℕ, ◌+◌, ◌*◌, ◌<◌, ◌≤�
 use Rattle.dude_base.specs.declared.sizes.Sizes.{Sizes}
 use Rattle.word_space.specs.declared.stop.Stop.{Stop}
 use Rattle.word_space.specs.declared.stop.Stop.TheVariants as stop
-use Rattle.tx_commit.specs.declared.lost.Lost.{Lost}
-use Rattle.tx_commit.specs.declared.lost.Lost.TheVariants as lost
+use Rattle.stm_transactions.specs.declared.lost.Lost.{Lost}
+use Rattle.stm_transactions.specs.declared.lost.Lost.TheVariants as lost
 use Rattle.tatp_model.specs.declared.request.Request.{Request}
 use Rattle.tatp_model.specs.declared.reply.Reply.TheVariants.{Durable}
 use Rattle.tatp_model.specs.declared.done.Done.{Done as DoneOf}
 use Rattle.tatp_model.specs.OneThread.{is_sync}
 use Rattle.core_table.specs.Layout.{TableSight}
-use Rattle.stm_passes.specs.Numbers.{bit}
-use Rattle.stm_passes.specs.Passes.{PassSight, IsResting, pass_view}
+use Rattle.stm_transactions.specs.Numbers.{bit}
+use Rattle.stm_transactions.specs.Passes.{PassSight, IsResting, pass_view}
 use Rattle.request_attempts.specs.declared.tried.Tried.{Tried}
 use Rattle.request_attempts.specs.declared.tried.Tried.TheVariants.{Done, Again, Device, NoMemory}
 use Rattle.request_attempts.specs.Counting.{LAST_COUNT, PATIENCE, RisesBy}

@@ -3,7 +3,7 @@ use Rattle.std.specs.Prelude.{◌≡◌, ℕ, ◌+◌, ◌≤◌, ◌⊎◌, tru
 use Rattle.pmem_trait.specs.Faults.{up_to_last}
 use Rattle.core_events.specs.Conditions.{KeepsFrame}
 use Rattle.core_table.specs.Layout.{TableSight}
-use Rattle.stm_passes.specs.Passes.{PassSight, IsResting, pass_view}
+use Rattle.stm_transactions.specs.Passes.{PassSight, IsResting, pass_view}
 use Rattle.request_attempts.specs.declared.turn_fault.TurnFault.{TurnFault}
 use Rattle.request_attempts.specs.declared.turn_fault.TurnFault.TheVariants.{Refused, Fault}
 

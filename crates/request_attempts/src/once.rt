@@ -1,7 +1,7 @@
 //! How one transaction for a request ended.
 
+use stm_transactions::lost::Lost;
 use tatp_model::done::Done;
-use tx_commit::lost::Lost;
 use word_space::stop::Stop;
 
 /// How one transaction for a request ended.

@@ -1,7 +1,7 @@
 //! A request is served: it is tried until a try is good.
 
 ghost use Rattle.std.specs.Prelude.{◌≡◌, ◌+◌, ◌<◌, ◌≤◌, ◌↔◌, true, IfOk, IfErr, IsErrOf, MatchBool};
-ghost use Rattle.stm_passes.specs.Passes.{IsResting};
+ghost use Rattle.stm_transactions.specs.Passes.{IsResting};
 ghost use Rattle.request_attempts.specs.MayTry.{MayServe};
 ghost use Rattle.request_attempts.specs.Counting.{IsUnder, PATIENCE, RisesBy};
 ghost use Rattle.request_attempts.specs.Tries.{IsGivenUp, IsServing, IsUnserved};
@@ -14,9 +14,9 @@ use crate::turns::Turns;
 use crate::unserved::Unserved;
 use std::alloc::Global;
 use std::hint::spin_loop;
-use stm_boxes::box_rule::BoxRule;
-use stm_passes::pass::Pass;
 use stm_steps::stm::Stm;
+use stm_transactions::box_rule::BoxRule;
+use stm_transactions::pass::Pass;
 use stm_transactions::rule::TransactionRule;
 use tatp_layout::Layout;
 use tatp_model::done::Done;

@@ -2,7 +2,7 @@
 
 ghost use Rattle.std.specs.Prelude.{◌≡◌, ◌<◌, ℕ, true, false};
 ghost use Rattle.tatp_model.specs.OneThread.{is_sync};
-ghost use Rattle.stm_passes.specs.Passes.{IsResting};
+ghost use Rattle.stm_transactions.specs.Passes.{IsResting};
 ghost use Rattle.request_attempts.specs.AfterOnce.{AfterOnce};
 ghost use Rattle.request_attempts.specs.MayTry.{MayTry};
 ghost use Rattle.request_attempts.specs.Tries.{AfterFull, AfterLost, AfterOut, AfterStop, AfterTry};
@@ -13,16 +13,16 @@ use crate::once::Once;
 use crate::tried::Tried;
 use crate::turn_fault::TurnFault;
 use crate::turns::Turns;
-use stm_boxes::box_rule::BoxRule;
-use stm_passes::box_full::BoxFull;
-use stm_passes::pass::Pass;
 use stm_transactions::begin::begin_in;
+use stm_transactions::box_full::BoxFull;
+use stm_transactions::box_rule::BoxRule;
+use stm_transactions::lost::Lost;
+use stm_transactions::pass::Pass;
 use stm_transactions::rule::TransactionRule;
 use tatp_core::run_request;
 use tatp_model::done::Done;
 use tatp_model::reply::Reply;
 use tatp_model::request::Request;
-use tx_commit::lost::Lost;
 use word_space::stop::Stop;
 
 fn is_sync_request(q: &Request) -> bool

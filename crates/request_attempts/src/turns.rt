@@ -1,12 +1,12 @@
 //! The turns that a worker takes.
 
 ghost use Rattle.std.specs.Prelude.{◌<◌, IfOk, IfErr, OnOk};
-ghost use Rattle.stm_passes.specs.Passes.{IsResting};
+ghost use Rattle.stm_transactions.specs.Passes.{IsResting};
 ghost use Rattle.request_attempts.specs.Turns.{HasPumped, HasFetched, LeavesFault};
 
 use crate::turn_fault::TurnFault;
-use stm_passes::pass::Pass;
 use stm_steps::stm::Stm;
+use stm_transactions::pass::Pass;
 use stm_transactions::rule::TransactionRule;
 
 /// What a worker calls where a transaction can't get on.

@@ -9,3 +9,10 @@ pub mod Precedence
 pub mod Printing
 pub mod Rounds
 pub mod WorkedRun
+pub mod Members
+pub mod Sorting
+pub mod Databases
+pub mod NumbersPrinted
+pub mod Performing
+pub mod Together
+pub mod WorkedNumbers

@@ -11,14 +11,14 @@ use Rattle.tatp_model.specs.declared.request.Request.{Request}
 use Rattle.tatp_model.specs.Database.{Database}
 use Rattle.tatp_model.specs.OneThread.{RepliesOfOneThread, is_sync}
 use Rattle.tatp_layout.specs.StandsFor.{StandsFor}
-use Rattle.image_opening.specs.Opened.{HoldsOpened}
+use Rattle.dude_recover.specs.Opened.{HoldsOpened}
 use Rattle.back_store.specs.Told.{WereTold}
 use Rattle.core_events.specs.Setups.{Setup}
 use Rattle.core_events.specs.Views.{Entry}
-use Rattle.legal_order.specs.Numbers.{AreAnswered, AreDatabases, AreNumbered}
-use Rattle.legal_order.specs.Printed.{NumbersOfOneThread, PrintsAt}
-use Rattle.legal_order.proofs.Members.{map_contains}
-use Rattle.legal_order.proofs.Printing.{law_databases, law_printed, law_replies}
+use Rattle.run_order.specs.Numbers.{AreAnswered, AreDatabases, AreNumbered}
+use Rattle.run_order.specs.Printed.{NumbersOfOneThread, PrintsAt}
+use Rattle.run_order.proofs.Members.{map_contains}
+use Rattle.run_order.proofs.NumbersPrinted.{law_databases, law_printed, law_replies}
 use Rattle.legal_entries.specs.Served.{LeadsThrough, done_of}
 use Rattle.legal_entries.proofs.Carrying.{law_done, law_numbered}
 use Rattle.legal_entries.proofs.Law.{law}

@@ -20,9 +20,9 @@ use Rattle.tatp_model.specs.OneThread.{HoldsPrefixes, PrecedesInFiles}
 use Rattle.run_order.specs.Runs.{StandApart}
 use Rattle.run_order.proofs.FileOrder.{in_files_from_holding}
 use Rattle.run_order.proofs.Pairs.{all_behind}
-use Rattle.legal_order.specs.Rests.{IsUnion, files_of, firsts_of, rests_of, shifted}
-use Rattle.image_opening.specs.declared.opened.Opened.{Opened}
-use Rattle.image_opening.specs.Opened.{HasParts, HoldsOpened, IsOpened}
+use Rattle.run_order.specs.Rests.{IsUnion, files_of, firsts_of, rests_of, shifted}
+use Rattle.dude_recover.specs.declared.opened.Opened.{Opened}
+use Rattle.dude_recover.specs.Opened.{HasParts, HoldsOpened, IsOpened}
 use Rattle.back_store.specs.declared.back.Back.{Back}
 use Rattle.log_waiting.specs.Backlog.{without_records_to}
 use Rattle.back_store.specs.Back.{BackState, idle}
@@ -35,9 +35,9 @@ use Rattle.stm_slots.specs.Opening.{setup_of, start_sight}
 use Rattle.stm_slots.specs.declared.opening.Opening.{Opening}
 use Rattle.tiny_stm.specs.Ended.{IsKeptEnd}
 use Rattle.tiny_stm.specs.declared.closed.Closed.{Closed}
-use Rattle.run_ending.specs.Ended.{IsCutOff, IsEnded}
-use Rattle.run_ending.specs.Home.{IsHome, MayReadHome}
-use Rattle.run_ending.specs.Reopened.{HoldsReopened}
+use Rattle.run_threads.specs.Ended.{IsCutOff, IsEnded}
+use Rattle.run_threads.specs.Home.{IsHome, MayReadHome}
+use Rattle.run_threads.specs.Reopened.{HoldsReopened}
 use Rattle.dude_engine.specs.declared.ran.RanEnd.{RanEnd}
 use Rattle.dude_engine.specs.declared.ran.RanEnd.TheVariants as end
 use Rattle.dude_engine.specs.Opening.{Opening as RunOpening}
@@ -55,7 +55,7 @@ use Rattle.run_threads.proofs.Answering as answering
 use Rattle.run_threads.proofs.Closing.{has_run, told_where}
 use Rattle.run_threads.proofs.Finishing.{unless_whole}
 use Rattle.run_threads.proofs.Parting.{as_many, count_done, count_held, count_parts}
-use Rattle.run_threads.proofs.Reopening.{ran_behind}
+use Rattle.run_threads.proofs.ReopenedRun.{ran_behind}
 use Rattle.run_threads.proofs.RestsRun.{ran_rests}
 use Rattle.run_threads.proofs.Standing.{stand_first}
 use Rattle.run_threads.proofs.ToldOnTheWay.{floor_before, told_in}

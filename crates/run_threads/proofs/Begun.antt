@@ -9,13 +9,13 @@ use Rattle.back_store.specs.declared.back.Back.{Back}
 use Rattle.back_store.specs.BackView.{sight_of}
 use Rattle.core_events.specs.Setups.{Setup}
 use Rattle.core_table.specs.Layout.{TableSight}
-use Rattle.known_back.specs.Calls.{StartsKnown}
-use Rattle.stm_passes.specs.Passes.{PassSight}
+use Rattle.stm_slots.specs.Calls.{StartsKnown}
+use Rattle.stm_transactions.specs.Passes.{PassSight}
 use Rattle.stm_slots.specs.Beside.{Beside}
 use Rattle.stm_slots.specs.declared.opening.Opening.{Opening}
 use Rattle.tiny_stm.specs.Started.{IsStarted}
-use Rattle.image_opening.specs.declared.opened.Opened.{Opened}
-use Rattle.image_opening.specs.Opened.{IsOpened}
+use Rattle.dude_recover.specs.declared.opened.Opened.{Opened}
+use Rattle.dude_recover.specs.Opened.{IsOpened}
 use Rattle.dude_engine.specs.declared.ran.RanEnd.{RanEnd}
 use Rattle.dude_engine.specs.declared.ran.RanEnd.TheVariants.{NoMemory}
 use Rattle.run_threads.specs.Ends.{IsAsOpened}

@@ -11,11 +11,11 @@ use Rattle.tatp_model.specs.OneThread.{IsPrintedOrder, after_number, indexed_req
 use Rattle.run_order.specs.Runs.{Collects, Performs}
 use Rattle.run_order.proofs.FileOrder.{in_files_from_holding}
 use Rattle.run_order.proofs.Pairs.{pairs_nil}
-use Rattle.legal_order.specs.Numbers.{AreDatabases, AreNumbered, Differ, FollowsInFile, IsNumbered}
-use Rattle.legal_order.specs.Rests.{AreAnsweredOn, LengthsAre, NumbersRests, PerformsRests, files_of, firsts_of, rests_of, shifted}
-use Rattle.legal_order.proofs.Members.{contains_map, map_contains}
-use Rattle.legal_order.proofs.Printing.{along_order}
-use Rattle.legal_order.proofs.Together.{law_rest_numbers, law_rests}
+use Rattle.run_order.specs.Numbers.{AreDatabases, AreNumbered, Differ, FollowsInFile, IsNumbered}
+use Rattle.run_order.specs.Rests.{AreAnsweredOn, LengthsAre, NumbersRests, PerformsRests, files_of, firsts_of, rests_of, shifted}
+use Rattle.run_order.proofs.Members.{contains_map, map_contains}
+use Rattle.run_order.proofs.NumbersPrinted.{along_order}
+use Rattle.run_order.proofs.Together.{law_rest_numbers, law_rests}
 use Rattle.run_threads.proofs.NothingDone.{none_held}
 
 -- ---- one thread's part alone

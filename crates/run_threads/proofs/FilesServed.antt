@@ -11,7 +11,7 @@ use Rattle.tatp_model.specs.OneThread.{AllAreDone, is_sync}
 use Rattle.core_events.specs.Setups.{Setup}
 use Rattle.core_events.specs.Views.{Entry}
 use Rattle.core_table.specs.Layout.{TableSight}
-use Rattle.stm_passes.specs.Passes.{PassSight, pass_view}
+use Rattle.stm_transactions.specs.Passes.{PassSight, pass_view}
 use Rattle.stm_slots.specs.Beside.{Beside}
 use Rattle.stm_slots.specs.Opening.{setup_of}
 use Rattle.stm_slots.specs.declared.opening.Opening.{Opening}

@@ -7,7 +7,7 @@ use Rattle.tatp_model.specs.declared.reply.Reply.TheVariants.{Durable}
 use Rattle.tatp_model.specs.declared.request.Request.{Request}
 use Rattle.tatp_model.specs.OneThread.{HoldsPrefixes, IsPrefixOf, indexed_requests_from, is_sync}
 use Rattle.run_order.proofs.Pairs.{pairs_nil}
-use Rattle.legal_order.specs.Numbers.{FollowsInFile}
+use Rattle.run_order.specs.Numbers.{FollowsInFile}
 use Rattle.legal_entries.specs.Served.{IsServed}
 use Rattle.run_threads.specs.HasRun.{AreEntriesDone}
 

@@ -22,14 +22,14 @@ use Rattle.back_store.proofs.ToldNumbers.{tells_none}
 use Rattle.core_events.specs.Entries.{HaveNumbers, read_at}
 use Rattle.core_events.specs.Setups.{Setup}
 use Rattle.core_events.specs.Views.{Entry}
-use Rattle.known_back.specs.Calls.{IsKnownBy, StartsKnown}
-use Rattle.known_back.specs.Known.{Since}
-use Rattle.known_back.specs.Records.{HasRecord, IsReached}
+use Rattle.stm_slots.specs.Calls.{IsKnownBy, StartsKnown}
+use Rattle.stm_slots.specs.Known.{Since}
+use Rattle.stm_slots.specs.Records.{HasRecord, IsReached}
 use Rattle.stm_slots.specs.declared.opening.Opening.{Opening}
 use Rattle.tiny_stm.specs.Ended.{RecoversUpTo}
 use Rattle.tiny_stm.specs.Started.{IsAtRest, terms_of}
-use Rattle.image_opening.specs.declared.opened.Opened.{Opened}
-use Rattle.image_opening.specs.Opened.{IsOpened}
+use Rattle.dude_recover.specs.declared.opened.Opened.{Opened}
+use Rattle.dude_recover.specs.Opened.{IsOpened}
 use Rattle.dude_engine.specs.declared.ran.RanEnd.{RanEnd}
 use Rattle.dude_engine.specs.declared.ran.RanEnd.TheVariants.{NoMemory}
 use Rattle.dude_engine.specs.Opening.{Opening as RunOpening, last_of}

@@ -9,7 +9,7 @@ use Rattle.tatp_model.specs.declared.request.Request.{Request}
 use Rattle.tatp_model.specs.OneThread.{AllAreDone, HoldsPrefixes, IsPrefixOf, indexed_request_of, indexed_requests_from}
 use Rattle.std.specs.List.{AllZip, enumerate_from}
 use Rattle.run_order.proofs.FileOrder.{indexed}
-use Rattle.legal_order.specs.Rests.{LengthsAre, files_of, firsts_of, rests_of}
+use Rattle.run_order.specs.Rests.{LengthsAre, files_of, firsts_of, rests_of}
 use Rattle.dude_engine.specs.Requests.{request_count}
 
 -- ---- one file after another

@@ -16,18 +16,18 @@ use Rattle.tatp_model.specs.Database.{Database}
 use Rattle.tatp_model.specs.OneThread.{AllAreDone, IsPrintedOrder, RepliesOfOneThread, is_sync}
 use Rattle.tatp_layout.specs.StandsFor.{StandsFor}
 use Rattle.image_recovery.proofs.OneRecovery.{same_replay}
-use Rattle.image_opening.specs.Opened.{HoldsOpened}
+use Rattle.dude_recover.specs.Opened.{HoldsOpened}
 use Rattle.run_order.specs.Runs.{SyncsFollow}
 use Rattle.back_store.specs.Told.{WereTold}
 use Rattle.back_store.specs.Operations.{MakesOperations}
 use Rattle.back_store.proofs.ToldNumbers.{tells_then}
 use Rattle.core_events.specs.Views.{Entry}
-use Rattle.legal_order.specs.Numbers.{AreAnswered, AreDatabases, AreNumbered}
-use Rattle.legal_order.specs.Printed.{NumbersOfOneThread, PrintsAt}
-use Rattle.legal_order.specs.Rests.{AreAnsweredOn, IsUnion, NumbersRests, PerformsRests, files_of, firsts_of, rests_of, shifted}
-use Rattle.legal_order.proofs.Members.{map_contains}
-use Rattle.legal_order.proofs.Printing.{law_databases, law_printed, law_replies}
-use Rattle.legal_order.proofs.Together.{all_together, law_rest_numbers, law_syncs}
+use Rattle.run_order.specs.Numbers.{AreAnswered, AreDatabases, AreNumbered}
+use Rattle.run_order.specs.Printed.{NumbersOfOneThread, PrintsAt}
+use Rattle.run_order.specs.Rests.{AreAnsweredOn, IsUnion, NumbersRests, PerformsRests, files_of, firsts_of, rests_of, shifted}
+use Rattle.run_order.proofs.Members.{map_contains}
+use Rattle.run_order.proofs.NumbersPrinted.{law_databases, law_printed, law_replies}
+use Rattle.run_order.proofs.Together.{all_together, law_rest_numbers, law_syncs}
 use Rattle.legal_entries.specs.Served.{LeadsThrough}
 use Rattle.tiny_stm.specs.Ended.{HasValuesAt, RecoversUpTo}
 use Rattle.dude_engine.specs.declared.ran.RanEnd.{RanEnd}

@@ -12,7 +12,7 @@ use Rattle.stm_slots.specs.Opening.{setup_of, start_sight}
 use Rattle.stm_slots.specs.declared.opening.Opening.{Opening}
 use Rattle.tiny_stm.specs.Ended.{IsKeptEnd}
 use Rattle.tiny_stm.specs.declared.closed.Closed.{Closed}
-use Rattle.run_ending.specs.Ended.{IsCutOff, IsEnded, KeepsClosed}
+use Rattle.run_threads.specs.Ended.{IsCutOff, IsEnded, KeepsClosed}
 use Rattle.run_workers.specs.declared.work_end.WorkEnd.TheVariants.{Whole, SetAside, Device}
 use Rattle.dude_engine.specs.declared.ran.RanEnd.TheVariants as end
 use Rattle.dude_engine.specs.Endings.{WasToldLast}

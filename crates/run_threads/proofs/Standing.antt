@@ -12,7 +12,7 @@ use Rattle.tatp_model.specs.OneThread.{PrecedesInFiles}
 use Rattle.tatp_model.proofs.PrintedOrder.{same_from_order}
 use Rattle.run_order.proofs.Elements.{contains_filter, filter_contains}
 use Rattle.run_order.proofs.Pairs.{pairs_append, pairs_mapped, pairs_weaker}
-use Rattle.legal_order.specs.Rests.{IsUnion, shifted}
+use Rattle.run_order.specs.Rests.{IsUnion, shifted}
 use Rattle.dude_stream.specs.Streams.{of_file}
 use Rattle.run_threads.specs.Streamed.{StandFirst}
 

@@ -18,7 +18,7 @@ use Rattle.dude_stream.specs.Streams.{AreFirst, LawOfStoppedRests, LawOfStoppedS
 use Rattle.dude_engine.specs.declared.ran.Ran.{Ran}
 use Rattle.dude_engine.specs.declared.ran.RanEnd.{RanEnd}
 use Rattle.dude_engine.specs.declared.ran.RanEnd.TheVariants as end
-use Rattle.run_streams.specs.Streamed.{HasStreamed}
+use Rattle.run_workers.specs.Streamed.{HasStreamed}
 use Rattle.run_threads.specs.Ran.{RanFrom, Start}
 use Rattle.run_threads.specs.Streamed.{IsSameRan, StandFirst, is_whole}
 use Rattle.run_threads.proofs.Finishing.{ran_same}

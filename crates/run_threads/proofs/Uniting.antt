@@ -10,7 +10,7 @@ use Rattle.tatp_model.specs.OneThread.{AllAreDone, HoldsPrefixes, IndexedRequest
 use Rattle.run_order.specs.Runs.{StandApart}
 use Rattle.run_order.proofs.FileOrder.{in_files_from_holding, indexed}
 use Rattle.run_order.proofs.Pairs.{pairs_append, pairs_mapped, pairs_weaker}
-use Rattle.legal_order.specs.Rests.{LengthsAre, files_of, firsts_of, rests_of, shifted}
+use Rattle.run_order.specs.Rests.{LengthsAre, files_of, firsts_of, rests_of, shifted}
 use Rattle.run_threads.specs.Parts.{AreParts, IsCounted}
 
 -- the file with this number has at most so many requests, and so on for those behind it

@@ -7,7 +7,7 @@ use Rattle.tatp_model.specs.declared.done.Done.{Done}
 use Rattle.tatp_model.specs.declared.request.Request.{Request}
 use Rattle.tatp_model.specs.OneThread.{RepliesOfOneThread, is_sync}
 use Rattle.run_order.specs.Runs.{SyncsFollow}
-use Rattle.legal_order.specs.Printed.{NumbersOfOneThread}
+use Rattle.run_order.specs.Printed.{NumbersOfOneThread}
 use Rattle.dude_engine.specs.Opening.{Opening}
 use Rattle.dude_engine.specs.Endings.{WasToldLast}
 

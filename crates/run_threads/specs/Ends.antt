@@ -7,8 +7,8 @@ use Rattle.pmem_trait.specs.declared.medium.Medium.{Ghosts}
 use Rattle.tatp_model.specs.declared.done.Done.{Done}
 use Rattle.tatp_model.specs.declared.request.Request.{Request}
 use Rattle.tatp_model.specs.OneThread.{AllAreDone}
-use Rattle.image_opening.specs.declared.opened.Opened.{Opened}
-use Rattle.image_opening.specs.Opened.{HoldsOpened}
+use Rattle.dude_recover.specs.declared.opened.Opened.{Opened}
+use Rattle.dude_recover.specs.Opened.{HoldsOpened}
 use Rattle.back_store.specs.BackView.{sight_of, state_of}
 use Rattle.back_store.specs.Operations.{MakesOperations}
 use Rattle.dude_engine.specs.declared.ran.RanEnd.{RanEnd}

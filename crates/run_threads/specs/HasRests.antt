@@ -3,7 +3,7 @@ use Rattle.std.specs.Prelude.{◌≡◌, ℕ, ◌+◌, ◌≤◌, List, length, 
 use Rattle.tatp_model.specs.declared.done.Done.{Done}
 use Rattle.tatp_model.specs.declared.request.Request.{Request}
 use Rattle.tatp_model.specs.OneThread.{AllAreDone}
-use Rattle.legal_order.specs.Rests.{LengthsAre, files_of, firsts_of}
+use Rattle.run_order.specs.Rests.{LengthsAre, files_of, firsts_of}
 use Rattle.legal_entries.specs.Served.{AreDoneBy}
 use Rattle.core_events.specs.Views.{Entry}
 use Rattle.dude_engine.specs.Requests.{request_count}

@@ -9,3 +9,12 @@ pub mod Served
 pub mod SetAside
 pub mod Behind
 pub mod Parts
+pub mod TurnAnswers
+pub mod Rest
+pub mod Bundled
+pub mod Ending
+pub mod Handing
+pub mod CaughtUp
+pub mod Ended
+pub mod Home
+pub mod Reopened

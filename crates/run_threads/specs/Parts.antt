@@ -2,7 +2,7 @@
 use Rattle.std.specs.Prelude.{◌≡◌, ℕ, ◌+◌, ◌^◌, ◌<◌, ◌≤◌, List, length, slice_index}
 use Rattle.tatp_model.specs.declared.done.Done.{Done}
 use Rattle.tatp_model.specs.declared.request.Request.{Request}
-use Rattle.legal_order.specs.Rests.{LengthsAre, files_of, firsts_of, rests_of}
+use Rattle.run_order.specs.Rests.{LengthsAre, files_of, firsts_of, rests_of}
 
 -- The files are in these parts, of which the first ones have so many requests as are counted, and there is a count for each file.
 pub record AreParts (files : List (List Request)) (counts : List ℕ) (parts : List (List Request × List Request)) : Type 0 where

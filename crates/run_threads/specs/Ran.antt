@@ -7,7 +7,7 @@ use Rattle.tatp_model.specs.declared.request.Request.{Request}
 use Rattle.tatp_model.specs.Database.{Database}
 use Rattle.tatp_model.specs.OneThread.{RepliesOfOneThread}
 use Rattle.tatp_layout.specs.StandsFor.{StandsFor}
-use Rattle.legal_order.specs.Printed.{NumbersOfOneThread}
+use Rattle.run_order.specs.Printed.{NumbersOfOneThread}
 use Rattle.back_store.specs.Back.{BackState}
 use Rattle.back_store.specs.Operations.{MakesOperations}
 use Rattle.core_events.specs.Setups.{Setup}

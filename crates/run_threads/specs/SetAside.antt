@@ -9,7 +9,7 @@ use Rattle.core_events.specs.Views.{View}
 use Rattle.stm_slots.specs.declared.opening.Opening.{Opening}
 use Rattle.tiny_stm.specs.Ended.{HasClosed}
 use Rattle.tiny_stm.specs.declared.closed.Closed.{Closed}
-use Rattle.run_ending.specs.Home.{HasEnded}
+use Rattle.run_threads.specs.Home.{HasEnded}
 use Rattle.dude_engine.specs.declared.ran.Ran.{Ran}
 use Rattle.run_threads.specs.HasRun.{AreEntriesDone}
 use Rattle.run_threads.specs.Ran.{RanFrom}

@@ -10,7 +10,7 @@ use Rattle.dude_stream.specs.Streams.{Streams, of_file}
 use Rattle.dude_engine.specs.declared.ran.Ran.{Ran}
 use Rattle.dude_engine.specs.declared.ran.RanEnd.{RanEnd}
 use Rattle.dude_engine.specs.declared.ran.RanEnd.TheVariants.{NoMemory, Whole}
-use Rattle.run_streams.specs.Streamed.{HasStreamed}
+use Rattle.run_workers.specs.Streamed.{HasStreamed}
 use Rattle.run_threads.specs.declared.streamed_run.Streamed.{Streamed}
 
 -- all requests are done, and durable

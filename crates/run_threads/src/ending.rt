@@ -8,12 +8,12 @@ ghost use Rattle.run_workers.specs.declared.work_end.WorkEnd.TheVariants.{NoMemo
 ghost use Rattle.run_threads.specs.Served.{RunsOn, WasServed};
 ghost use Rattle.run_threads.specs.Streamed.{StandFirst};
 
+use crate::persist_rest;
 use crate::rests::run_rests;
 use crate::served::Served;
 use back_store::Back;
 use dude_engine::{Ran, RanEnd};
 use pmem_trait::{Failed, Medium};
-use run_ending::persist_rest;
 use run_workers::work_end::WorkEnd;
 use std::alloc::Global;
 use tatp_layout::Layout;

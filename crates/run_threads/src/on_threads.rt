@@ -4,7 +4,7 @@ ghost use Rattle.std.specs.Prelude.{◌≡◌, length, map};
 ghost use Rattle.back_store.specs.BackView.{sight_of};
 ghost use Rattle.dude_engine.specs.Opening.{Opening};
 ghost use Rattle.dude_engine.specs.Plain.{IsOpeningOf};
-ghost use Rattle.image_opening.specs.Opened.{IsOpened};
+ghost use Rattle.dude_recover.specs.Opened.{IsOpened};
 ghost use Rattle.run_threads.specs.Answers.{AnswersOnThreads, TellsSyncsOnThreads};
 ghost use Rattle.run_threads.specs.Ends.{EndsOnThreads, MayRunOn, RecoversOnThreads};
 
@@ -13,11 +13,12 @@ use crate::ending::finish;
 use crate::serving::serve;
 use dude_base::run::Run;
 use dude_engine::{Ran, RanEnd};
-use image_opening::Opened;
+use dude_recover::Opened;
 use pmem_trait::Medium;
 use request_attempts::gate::Gate;
 use std::alloc::Global;
 use std::thread::Threads;
+use stm_slots::known_back;
 use tatp_model::Request;
 
 /// Runs the requests of files, each file on a thread of its own, as transactions over shared pages. Whoever takes the turn

@@ -7,8 +7,8 @@ ghost use Rattle.tiny_stm.specs.Tables.{table_of};
 ghost use Rattle.run_threads.specs.Served.{HasServed};
 ghost use Rattle.run_threads.specs.Starts.{StartsOver};
 
+use crate::back_turns::BackTurns;
 use crate::served::Served;
-use back_turns::back_turns::BackTurns;
 use pmem_trait::Medium;
 use request_attempts::gate::Gate;
 use run_workers::joined::Joined;

@@ -1,7 +1,7 @@
 //! Files are served on threads over a back while lines of the replies are printed, and the transactions are closed.
 
 ghost use Rattle.std.specs.Prelude.{◌≡◌, IfNone, IfSome, length, map};
-ghost use Rattle.run_streams.specs.Streamed.{HasStreamed};
+ghost use Rattle.run_workers.specs.Streamed.{HasStreamed};
 ghost use Rattle.run_workers.specs.declared.work_end.WorkEnd.TheVariants.{NoMemory as NoMemoryEnd};
 ghost use Rattle.run_workers.specs.Jobs.{MayShare, MayWorkOn};
 ghost use Rattle.stm_slots.specs.Opening.{setup_of};
@@ -9,16 +9,16 @@ ghost use Rattle.tiny_stm.specs.Tables.{table_of};
 ghost use Rattle.run_threads.specs.Served.{HasServed};
 ghost use Rattle.run_threads.specs.Starts.{StartsOver};
 
+use crate::back_turns::BackTurns;
 use crate::printing::Printing;
 use crate::served::Served;
-use back_turns::back_turns::BackTurns;
 use dude_io::Sink;
 use pmem_trait::Medium;
 use request_attempts::gate::Gate;
-use run_streams::{StreamedFiles, stream_files};
 use run_workers::joined::Joined;
 use run_workers::no_memory::NoMemory;
 use run_workers::work_end::WorkEnd;
+use run_workers::{StreamedFiles, stream_files};
 use std::alloc::Global;
 use std::thread::Threads;
 use tatp_layout::Layout;

@@ -5,7 +5,7 @@ ghost use Rattle.back_store.specs.BackView.{sight_of};
 ghost use Rattle.dude_engine.specs.Opening.{Opening};
 ghost use Rattle.dude_engine.specs.Plain.{IsOpeningOf};
 ghost use Rattle.dude_stream.specs.Streams.{Streams};
-ghost use Rattle.image_opening.specs.Opened.{IsOpened};
+ghost use Rattle.dude_recover.specs.Opened.{IsOpened};
 ghost use Rattle.run_threads.specs.Answers.{AnswersOnThreads, TellsSyncsOnThreads};
 ghost use Rattle.run_threads.specs.Ends.{EndsOnThreads, MayRunOn, RecoversOnThreads};
 ghost use Rattle.run_threads.specs.Streamed.{is_whole};
@@ -18,12 +18,13 @@ use crate::streamed_run::Streamed;
 use dude_base::run::Run;
 use dude_engine::{Ran, RanEnd};
 use dude_io::Sink;
+use dude_recover::Opened;
 use dude_stream::law_of_streams;
-use image_opening::Opened;
 use pmem_trait::Medium;
 use request_attempts::gate::Gate;
 use std::alloc::Global;
 use std::thread::Threads;
+use stm_slots::known_back;
 use tatp_model::Request;
 
 /// Runs the requests of files as `threaded` does, while a printer hands the sink a line of each reply. Lines that aren't printed

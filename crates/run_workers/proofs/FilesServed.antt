@@ -17,12 +17,12 @@ use Rattle.run_order.specs.Runs.{SyncsFollow}
 use Rattle.run_order.proofs.Elements.{contains_filter, filter_contains, first_or_other, other_among}
 use Rattle.run_order.proofs.FileOrder.{indexed}
 use Rattle.run_order.proofs.Pairs.{pairs_nil, pairs_append}
-use Rattle.legal_order.specs.Numbers.{FilesFollow, FollowsInFile}
-use Rattle.legal_order.specs.Rests.{LengthsAre, files_of, firsts_of}
+use Rattle.run_order.specs.Numbers.{FilesFollow, FollowsInFile}
+use Rattle.run_order.specs.Rests.{LengthsAre, files_of, firsts_of}
 use Rattle.legal_entries.specs.Served.{AreDoneBy, IsServed, done_of}
 use Rattle.core_events.specs.Views.{Entry}
 use Rattle.core_table.specs.Layout.{TableSight}
-use Rattle.stm_passes.specs.Passes.{pass_view}
+use Rattle.stm_transactions.specs.Passes.{pass_view}
 use Rattle.run_workers.specs.declared.job.Job.{Job}
 use Rattle.run_workers.specs.declared.jobs.Jobs.{Jobs}
 use Rattle.run_workers.specs.declared.joined.Joined.{Joined}

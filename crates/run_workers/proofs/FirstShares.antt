@@ -4,9 +4,9 @@ use Rattle.dude_base.specs.declared.limits.TheConstants.{MAX_NUMBER}
 use Rattle.tatp_model.specs.declared.request.Request.{Request}
 use Rattle.core_events.specs.Views.{View}
 use Rattle.core_table.specs.Layout.{TableSight}
-use Rattle.stm_passes.specs.declared.pass_numbers.PassNumbers.{PassNumbers}
-use Rattle.stm_passes.specs.Opening.{IsFirstPass}
-use Rattle.stm_passes.specs.Passes.{PassSight}
+use Rattle.stm_transactions.specs.declared.pass_numbers.PassNumbers.{PassNumbers}
+use Rattle.stm_transactions.specs.Opening.{IsFirstPass}
+use Rattle.stm_transactions.specs.Passes.{PassSight}
 use Rattle.run_workers.specs.Job.{thread_count}
 use Rattle.run_workers.specs.Jobs.{MayShare, request_count}
 

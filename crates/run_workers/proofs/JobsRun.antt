@@ -9,7 +9,7 @@ use Rattle.tatp_model.specs.declared.request.Request.{Request}
 use Rattle.core_events.specs.Views.{Part}
 use Rattle.core_events.specs.KeptThreads.{held_of}
 use Rattle.core_table.specs.Layout.{TableSight}
-use Rattle.stm_passes.specs.Passes.{pass_view}
+use Rattle.stm_transactions.specs.Passes.{pass_view}
 use Rattle.run_workers.specs.declared.job.Job.{Job}
 use Rattle.run_workers.specs.Job.{HasWorkedOn, IsJobOf, KeepPlaces, thread_count}
 use Rattle.run_workers.specs.Jobs.{AreFresh, HaveWorked}

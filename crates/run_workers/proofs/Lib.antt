@@ -6,3 +6,6 @@ pub mod JobsRun
 pub mod JobsJoined
 pub mod FilesServed
 pub mod Sending
+mod FirstLines
+mod Places
+mod JobsStreamed

@@ -12,12 +12,12 @@ use Rattle.tatp_model.specs.declared.done.Done.{Done}
 use Rattle.tatp_model.specs.OneThread.{is_sync, IndexedRequest, indexed_request_of}
 use Rattle.run_order.proofs.Elements.{contains_filter}
 use Rattle.run_order.proofs.FileOrder.{indexed}
-use Rattle.legal_order.specs.Numbers.{FollowsInFile}
-use Rattle.legal_order.proofs.Members.{contains_map, map_contains}
+use Rattle.run_order.specs.Numbers.{FollowsInFile}
+use Rattle.run_order.proofs.Members.{contains_map, map_contains}
 use Rattle.legal_entries.specs.Served.{IsServed, done_of}
 use Rattle.core_events.specs.Views.{Entry}
 use Rattle.core_table.specs.Layout.{TableSight}
-use Rattle.stm_passes.specs.Passes.{PassSight, IsResting, pass_view, greatest, entry_numbers}
+use Rattle.stm_transactions.specs.Passes.{PassSight, IsResting, pass_view, greatest, entry_numbers}
 use Rattle.request_attempts.specs.Served.{HasServed}
 use Rattle.request_attempts.specs.Tries.{AnswersBy, HasSynced, IsServing}
 use Rattle.run_workers.specs.Working.{AreOfFile, HasDone, IsSynced}

@@ -13,10 +13,10 @@ use Rattle.core_events.specs.Keyed.{one_if}
 use Rattle.core_events.specs.Views.{Entry, View}
 use Rattle.core_events.specs.Partings.{both_of, thread_list}
 use Rattle.core_table.specs.Layout.{TableSight}
-use Rattle.stm_passes.specs.declared.pass_numbers.PassNumbers.{PassNumbers}
-use Rattle.stm_passes.specs.Numbers.{both_numbers, left_numbers, newcomer_numbers}
-use Rattle.stm_passes.specs.Partings.{IsJoined, IsSplitOff}
-use Rattle.stm_passes.specs.Passes.{PassSight, IsResting, entry_numbers, greatest, pass_view}
+use Rattle.stm_transactions.specs.declared.pass_numbers.PassNumbers.{PassNumbers}
+use Rattle.stm_transactions.specs.Numbers.{both_numbers, left_numbers, newcomer_numbers}
+use Rattle.stm_transactions.specs.Partings.{IsJoined, IsSplitOff}
+use Rattle.stm_transactions.specs.Passes.{PassSight, IsResting, entry_numbers, greatest, pass_view}
 use Rattle.run_workers.specs.declared.job.Job.{Job}
 use Rattle.run_workers.specs.Job.{IsFresh, requests_of, thread_count}
 use Rattle.run_workers.specs.Jobs.{AreJobs, MayShare, request_count}

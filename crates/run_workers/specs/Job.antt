@@ -5,7 +5,7 @@ use Rattle.tatp_model.specs.declared.request.Request.{Request}
 use Rattle.core_events.specs.KeptThreads.{held_of}
 use Rattle.core_events.specs.Views.{View}
 use Rattle.core_table.specs.Layout.{TableSight}
-use Rattle.stm_passes.specs.Passes.{IsResting, pass_view}
+use Rattle.stm_transactions.specs.Passes.{IsResting, pass_view}
 use Rattle.run_workers.specs.declared.job.Job.{Job}
 use Rattle.run_workers.specs.Working.{EndsWith}
 

@@ -6,7 +6,7 @@ use Rattle.tatp_model.specs.declared.request.Request.{Request}
 use Rattle.tatp_model.specs.Request.{IsInRange}
 use Rattle.core_events.specs.Telling.{HasAll}
 use Rattle.core_table.specs.Layout.{TableSight}
-use Rattle.stm_passes.specs.Passes.{PassSight, IsResting, pass_view}
+use Rattle.stm_transactions.specs.Passes.{PassSight, IsResting, pass_view}
 use Rattle.run_workers.specs.declared.job.Job.{Job}
 use Rattle.run_workers.specs.declared.jobs.Jobs.{Jobs}
 use Rattle.run_workers.specs.Job.{IsFresh, HasWorked, requests_of, thread_count}

@@ -5,11 +5,11 @@ use Rattle.dude_base.specs.declared.sizes.Sizes.{Sizes}
 use Rattle.tatp_model.specs.declared.request.Request.{Request}
 use Rattle.tatp_model.specs.OneThread.{is_sync, AllAreDone, HoldsPrefixes}
 use Rattle.run_order.specs.Runs.{SyncsFollow}
-use Rattle.legal_order.specs.Rests.{LengthsAre, files_of, firsts_of}
+use Rattle.run_order.specs.Rests.{LengthsAre, files_of, firsts_of}
 use Rattle.legal_entries.specs.Served.{AreDoneBy, IsServed}
 use Rattle.core_events.specs.Telling.{HasAll}
 use Rattle.core_table.specs.Layout.{TableSight}
-use Rattle.stm_passes.specs.Passes.{PassSight, IsResting, pass_view}
+use Rattle.stm_transactions.specs.Passes.{PassSight, IsResting, pass_view}
 use Rattle.run_workers.specs.declared.job.Job.{Job}
 use Rattle.run_workers.specs.declared.joined.Joined.{Joined}
 use Rattle.run_workers.specs.declared.work_end.WorkEnd.TheVariants.{Whole, SetAside, NoMemory, Device}

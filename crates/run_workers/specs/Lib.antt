@@ -6,3 +6,6 @@ pub mod Steps
 pub mod Jobs
 pub mod Partings
 pub mod Joined
+pub mod Lanes
+pub mod Printed
+pub mod Streamed

@@ -3,9 +3,9 @@ use Rattle.std.specs.Prelude.{◌≡◌, ℕ, ◌+◌, ◌-◌, ◌*◌, ◌≤�
 use Rattle.std.specs.List.{range_with_len, sum_by}
 use Rattle.tatp_model.specs.declared.request.Request.{Request}
 use Rattle.core_table.specs.Layout.{TableSight}
-use Rattle.stm_passes.specs.Numbers.{newcomer_numbers}
-use Rattle.stm_passes.specs.Partings.{IsSplitOff}
-use Rattle.stm_passes.specs.Passes.{PassSight, IsResting, pass_view}
+use Rattle.stm_transactions.specs.Numbers.{newcomer_numbers}
+use Rattle.stm_transactions.specs.Partings.{IsSplitOff}
+use Rattle.stm_transactions.specs.Passes.{PassSight, IsResting, pass_view}
 use Rattle.run_workers.specs.declared.job.Job.{Job}
 use Rattle.run_workers.specs.Job.{IsFresh, requests_of, thread_count}
 use Rattle.run_workers.specs.Jobs.{request_count}

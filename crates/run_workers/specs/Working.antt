@@ -8,10 +8,10 @@ use Rattle.tatp_model.specs.declared.done.Done.{Done}
 use Rattle.tatp_model.specs.Request.{IsInRange}
 use Rattle.tatp_model.specs.OneThread.{is_sync, indexed_request_of}
 use Rattle.run_order.specs.Runs.{SyncsFollow}
-use Rattle.legal_order.specs.Numbers.{FilesFollow}
+use Rattle.run_order.specs.Numbers.{FilesFollow}
 use Rattle.legal_entries.specs.Served.{IsServed, done_of}
 use Rattle.core_table.specs.Layout.{TableSight}
-use Rattle.stm_passes.specs.Passes.{PassSight, IsResting, pass_view}
+use Rattle.stm_transactions.specs.Passes.{PassSight, IsResting, pass_view}
 use Rattle.run_workers.specs.declared.work_end.WorkEnd.{WorkEnd}
 use Rattle.run_workers.specs.declared.work_end.WorkEnd.TheVariants.{Whole, SetAside, NoMemory, Device}
 

@@ -2,7 +2,7 @@
 
 use crate::work_end::WorkEnd;
 use dude_stream::Outbox;
-use stm_passes::pass::Pass;
+use stm_transactions::pass::Pass;
 use tatp_model::done::Done;
 
 /// What one worker has to do, and what it did.

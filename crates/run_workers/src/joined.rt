@@ -1,7 +1,7 @@
 //! What all workers did together.
 
 use crate::work_end::WorkEnd;
-use stm_passes::pass::Pass;
+use stm_transactions::pass::Pass;
 use tatp_model::done::Done;
 
 /// What all workers did together.

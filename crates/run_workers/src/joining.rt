@@ -2,7 +2,7 @@
 
 ghost use Rattle.std.specs.Prelude.{◌≡◌, ◌++◌, ◌+◌, ◌<◌, ◌≤◌, [], length, map, All, vec_capacity, vec_len};
 ghost use Rattle.std.specs.List.{flat_map, sum_by};
-ghost use Rattle.stm_passes.specs.Passes.{IsResting};
+ghost use Rattle.stm_transactions.specs.Passes.{IsResting};
 ghost use Rattle.run_workers.specs.Joined.{AreJoined, TookIn};
 ghost use Rattle.run_workers.specs.Jobs.{MayJoin};
 ghost use Rattle.run_workers.specs.WorkEnd.{IsWorst};
@@ -11,8 +11,8 @@ use crate::job::Job;
 use crate::jobs::Jobs;
 use crate::joined::Joined;
 use crate::work_end::WorkEnd;
-use stm_passes::pass::Pass;
 use stm_steps::stm::Stm;
+use stm_transactions::pass::Pass;
 use stm_transactions::rule::{TransactionRule, let_transact};
 use tatp_model::done::Done;
 

@@ -2,7 +2,7 @@
 
 ghost use Rattle.std.specs.Prelude.{◌≡◌, ◌*◌, ◌≤◌, [], IfErr, IfOk, IfSome, IfNone, OnSome, length, map, All, vec_capacity};
 ghost use Rattle.dude_base.specs.declared.limits.TheConstants.{MAX_NUMBER};
-ghost use Rattle.stm_passes.specs.Passes.{IsResting};
+ghost use Rattle.stm_transactions.specs.Passes.{IsResting};
 ghost use Rattle.run_workers.specs.Jobs.{AreFresh, HasRoom, IsBack, MayShare, request_count};
 ghost use Rattle.run_workers.specs.Partings.{AreShared, HasParted, HasTakenBack, IsNewcomer, IsPartOf};
 
@@ -11,8 +11,8 @@ use crate::jobs::Jobs;
 use crate::no_memory::NoMemory;
 use crate::work_end::WorkEnd;
 use std::alloc::Global;
-use stm_passes::pass::Pass;
 use stm_steps::stm::Stm;
+use stm_transactions::pass::Pass;
 use stm_transactions::rule::{TransactionRule, let_transact};
 use tatp_model::request::Request;
 

@@ -1,6 +1,6 @@
 //! Want of memory before a worker is started.
 
-use stm_passes::pass::Pass;
+use stm_transactions::pass::Pass;
 
 /// Want of memory before a worker is started. The pass comes back, with all that was split off it.
 #[derive(Drop)]

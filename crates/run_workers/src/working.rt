@@ -1,7 +1,7 @@
 //! A worker hands the requests of its file, one after another, to transactions.
 
 ghost use Rattle.std.specs.Prelude.{◌≡◌, ◌+◌, ◌<◌, IfErr, OnOk, length};
-ghost use Rattle.stm_passes.specs.Passes.{IsResting};
+ghost use Rattle.stm_transactions.specs.Passes.{IsResting};
 ghost use Rattle.request_attempts.specs.Turns.{HasFailed};
 ghost use Rattle.run_workers.specs.declared.work_end.WorkEnd.TheVariants.{Device as DeviceEnd};
 ghost use Rattle.run_workers.specs.Job.{HasWorked, IsFresh, KeepsPlace};
@@ -17,9 +17,9 @@ use request_attempts::turn_fault::TurnFault;
 use request_attempts::turns::Turns;
 use std::alloc::Global;
 use std::sync::atomic::{AtomicU64, Ordering};
-use stm_boxes::box_rule::BoxRule;
-use stm_passes::pass::Pass;
 use stm_steps::stm::Stm;
+use stm_transactions::box_rule::BoxRule;
+use stm_transactions::pass::Pass;
 use stm_transactions::rule::TransactionRule;
 use tatp_layout::Layout;
 use tatp_model::request::Request;

@@ -21,7 +21,7 @@ use Rattle.core_events.proofs.Lists.{at_map, eq_of}
 use Rattle.core_table.specs.Known.{Known, view_of, beside_of}
 use Rattle.core_table.specs.Layout.{TableSight}
 use Rattle.core_table.specs.Rules.{Foreseen}
-use Rattle.known_back.specs.Lists.{lists}
+use Rattle.stm_slots.specs.KnownLists.{lists}
 use Rattle.shadow_pages.specs.PageMap.{Holds as HasPage}
 use Rattle.shadow_pages.proofs.Pagers.{not_empty}
 use Rattle.stm_slots.specs.Beside.{Hands, Beside}

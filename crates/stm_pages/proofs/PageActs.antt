@@ -14,7 +14,7 @@ use Rattle.core_events.specs.Events.{Event, entry, evict, show, kept_entry}
 use Rattle.core_events.specs.Kept.{Kept}
 use Rattle.core_events.specs.Telling.{EntryTold}
 use Rattle.core_table.specs.Rules.{Acts}
-use Rattle.known_back.specs.Lists.{lists}
+use Rattle.stm_slots.specs.KnownLists.{lists}
 use Rattle.shadow_pages.specs.PageMap.{PageMap, IsOneToOne, map_with}
 use Rattle.stm_slots.specs.Beside.{Hands, Beside}
 use Rattle.stm_slots.specs.Stage.{stage_of}

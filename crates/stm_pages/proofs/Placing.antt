@@ -19,9 +19,9 @@ use Rattle.core_events.specs.Setups.{Setup}
 use Rattle.core_events.specs.Entries.{value}
 use Rattle.core_table.specs.Known.{Known}
 use Rattle.core_table.specs.Layout.{TableSight}
-use Rattle.known_back.specs.Known.{Known as KnownBy}
-use Rattle.known_back.specs.Lists.{lists}
-use Rattle.known_back.specs.Records.{writes_in}
+use Rattle.stm_slots.specs.Known.{Known as KnownBy}
+use Rattle.stm_slots.specs.KnownLists.{lists}
+use Rattle.stm_slots.specs.Records.{writes_in}
 use Rattle.stm_slots.specs.Beside.{Hands, Beside}
 use Rattle.stm_slots.specs.Opening.{setup_of, since_of, start_sight}
 use Rattle.stm_slots.specs.declared.home.Home.{Home as TheHome}

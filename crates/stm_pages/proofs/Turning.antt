@@ -13,7 +13,7 @@ use Rattle.core_events.specs.Telling.{IsSeated}
 use Rattle.core_table.specs.Known.{Known}
 use Rattle.core_table.specs.Layout.{TableSight}
 use Rattle.core_table.specs.Steps.{BelongsTo}
-use Rattle.known_back.specs.Lists.{BackLists, lists}
+use Rattle.stm_slots.specs.KnownLists.{BackLists, lists}
 use Rattle.shadow_pages.specs.PageMap.{PageMap, IsOneToOne}
 use Rattle.stm_slots.specs.Beside.{Hands, Beside}
 use Rattle.stm_slots.specs.Opening.{setup_of}

@@ -11,7 +11,7 @@ use Rattle.core_events.specs.Entries.{value}
 use Rattle.core_events.specs.Conditions.{IsFilled}
 use Rattle.core_table.specs.Known.{Known}
 use Rattle.core_table.specs.Layout.{TableSight}
-use Rattle.known_back.specs.Records.{IsReached, writes_in}
+use Rattle.stm_slots.specs.Records.{IsReached, writes_in}
 use Rattle.shadow_pages.specs.PageMap.{IsFree}
 use Rattle.stm_slots.specs.Beside.{Beside}
 use Rattle.stm_slots.specs.Opening.{setup_of, start_sight}

@@ -5,7 +5,7 @@ use Rattle.pmem_trait.specs.declared.medium.Medium.{Ghosts}
 use Rattle.back_store.specs.BackView.{state_of}
 use Rattle.core_events.specs.Events.{Event, entry, evict, view_after}
 use Rattle.core_events.specs.Telling.{IsTold}
-use Rattle.known_back.specs.Lists.{lists}
+use Rattle.stm_slots.specs.KnownLists.{lists}
 use Rattle.stm_slots.specs.Beside.{Hands}
 use Rattle.stm_slots.specs.Opening.{setup_of}
 use Rattle.stm_slots.specs.Turns.{Seated, map_evicted}

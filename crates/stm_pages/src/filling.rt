@@ -15,6 +15,7 @@ use pmem_trait::Medium;
 use std::marker::Brand;
 use stm_slots::beside::Beside;
 use stm_slots::home::Home;
+use stm_slots::known_back;
 use stm_slots::opening::Opening;
 use stm_slots::slot::Slot;
 use stm_slots::slots_rule::{Events, KeptSlots};

@@ -14,9 +14,9 @@ use Rattle.core_events.specs.Views.{Part, View}
 use Rattle.core_table.specs.Known.{Known}
 use Rattle.core_table.specs.Layout.{TableSight}
 use Rattle.core_table.specs.Seats.{opener}
-use Rattle.stm_passes.specs.Opening.{IsFirstPass}
-use Rattle.stm_passes.specs.Partings.{IsJoined, IsSplitOff}
-use Rattle.stm_passes.specs.Passes.{IsResting, PassSight, pass_view}
+use Rattle.stm_transactions.specs.Opening.{IsFirstPass}
+use Rattle.stm_transactions.specs.Partings.{IsJoined, IsSplitOff}
+use Rattle.stm_transactions.specs.Passes.{IsResting, PassSight, pass_view}
 use Rattle.stm_runs.specs.Kept.{AreHeld, IsHeld, IsOther, StaysWith, share_of}
 
 one_of : {X : Type 0} (ks : List (Known X)) → length ks ≡ 1 → (k : Known X) × (ks ≡ k ∷ [])

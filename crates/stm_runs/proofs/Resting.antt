@@ -13,9 +13,9 @@ use Rattle.dude_base.specs.declared.limits.TheConstants.{PAGE}
 use Rattle.back_store.specs.Back.{BackState, home_now, idle, waiting_now}
 use Rattle.back_store.specs.BackView.{sight_of, state_of}
 use Rattle.back_store.specs.Images.{HoldsStore}
-use Rattle.image_opening.specs.Answers.{IsOpenedFrom}
-use Rattle.image_opening.specs.Opened.{HasToldNoMore, IsOpened}
-use Rattle.image_opening.specs.declared.opened.Opened.{Opened}
+use Rattle.dude_recover.specs.Answers.{IsOpenedFrom}
+use Rattle.dude_recover.specs.Opened.{HasToldNoMore, IsOpened}
+use Rattle.dude_recover.specs.declared.opened.Opened.{Opened}
 use Rattle.tiny_stm.specs.Started.{IsAtRest}
 use Rattle.stm_runs.specs.Untold.{IsUntold}
 

@@ -5,14 +5,14 @@ use Rattle.tatp_model.specs.declared.reply.Reply.{Reply}
 use Rattle.tatp_model.specs.declared.done.Done.{Done}
 use Rattle.core_events.specs.Views.{Part, View}
 use Rattle.core_table.specs.Layout.{TableSight}
-use Rattle.tx_commit.specs.declared.lost.Lost.{Lost}
-use Rattle.stm_passes.specs.Passes.{IsRefused, IsResting, PassSight, pass_view}
+use Rattle.stm_transactions.specs.declared.lost.Lost.{Lost}
+use Rattle.stm_transactions.specs.Passes.{IsRefused, IsResting, PassSight, pass_view}
 use Rattle.stm_transactions.specs.declared.tx.TxOver.{TxOver}
 use Rattle.stm_transactions.specs.declared.reads.ReadList.{Ghosts}
 use Rattle.stm_transactions.specs.Ends.{HasAborted, HasCommitted, HasLostCommit}
 use Rattle.stm_transactions.specs.Transactions.{HasBegun, TurnsInto, tx_numbers, tx_table, tx_view}
 use Rattle.tiny_stm.specs.Turned.{KeepsWork}
-use Rattle.stm_passes.specs.declared.pass_numbers.PassNumbers.{PassNumbers}
+use Rattle.stm_transactions.specs.declared.pass_numbers.PassNumbers.{PassNumbers}
 use Rattle.stm_runs.specs.Kept.{StaysWith}
 
 module _ {X K : Type 0} (t : TableSight K) (p q : PassSight X) where

@@ -5,7 +5,7 @@ use Rattle.core_events.specs.KeptThreads.{held_of}
 use Rattle.core_events.specs.Telling.{IsSeated}
 use Rattle.core_events.specs.Views.{View}
 use Rattle.core_table.specs.Layout.{TableSight, IsSmall}
-use Rattle.stm_passes.specs.Passes.{Describes, IsResting, PassSight, pass_view}
+use Rattle.stm_transactions.specs.Passes.{Describes, IsResting, PassSight, pass_view}
 
 -- The pass rests still, and is whose it was
 pub record StaysWith {X K : Type 0} (t : TableSight K) (p q : PassSight X) : Type 0 where

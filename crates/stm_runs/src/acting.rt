@@ -1,6 +1,6 @@
 //! What one pass does.
 
-ghost use Rattle.stm_passes.specs.Passes.{IsResting};
+ghost use Rattle.stm_transactions.specs.Passes.{IsResting};
 ghost use Rattle.tiny_stm.specs.Tables.{table_of};
 ghost use Rattle.stm_runs.specs.Kept.{StaysWith};
 

@@ -3,10 +3,10 @@
 use crate::outcome::{Answer, Ended, Outcome};
 use std::io;
 use stm_pages::FetchFault;
-use stm_passes::split_fault::SplitFault;
+use stm_transactions::lost::Lost;
+use stm_transactions::split_fault::SplitFault;
 use stm_turns::{PumpFault, Pumped};
 use tiny_stm::stm::Pass;
-use tx_commit::lost::Lost;
 use word_space::stop::Stop;
 
 /// Prints how many words were read, and those that aren't 0; nothing where none was.

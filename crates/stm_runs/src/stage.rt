@@ -3,7 +3,7 @@
 ghost use Rattle.std.proofs.Props.{props};
 ghost use Rattle.tiny_stm.specs.Tables.{table_of};
 ghost use Rattle.core_events.specs.Telling.{HasAll};
-ghost use Rattle.stm_passes.specs.Passes.{IsResting, pass_view};
+ghost use Rattle.stm_transactions.specs.Passes.{IsResting, pass_view};
 ghost use Rattle.stm_runs.specs.Kept.{AreHeld};
 
 use crate::acting::act_by;
@@ -11,7 +11,7 @@ use crate::moves::{Access, Act, Move};
 use crate::outcome::{Answer, Ended, Outcome};
 use crate::settings::Settings;
 use crate::transacting::{Around, transact_around};
-use image_opening::Opened;
+use dude_recover::Opened;
 use pmem_fake::MemPmem;
 use std::alloc::Global;
 use tiny_stm::closed::Closed;

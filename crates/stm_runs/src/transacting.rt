@@ -1,7 +1,7 @@
 //! Transactions of a pass.
 
 ghost use Rattle.word_space.specs.Steps.{WordsGoOn};
-ghost use Rattle.stm_passes.specs.Passes.{IsResting};
+ghost use Rattle.stm_transactions.specs.Passes.{IsResting};
 ghost use Rattle.tiny_stm.specs.Tables.{table_of};
 ghost use Rattle.stm_runs.specs.Kept.{StaysWith};
 
@@ -10,8 +10,8 @@ use crate::moves::{Access, Act};
 use crate::outcome::{Answer, Ended};
 use pmem_fake::MemPmem;
 use std::alloc::Global;
-use stm_passes::box_full::BoxFull;
 use stm_transactions::begin::begin_in;
+use stm_transactions::box_full::BoxFull;
 use tatp_model::reply::Reply;
 use tatp_model::request::Request;
 use tiny_stm::stm::{Pass, Stm};

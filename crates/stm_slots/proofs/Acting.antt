@@ -26,9 +26,9 @@ use Rattle.core_table.specs.Known.{Known, known_after}
 use Rattle.core_table.specs.Rules.{Acts}
 use Rattle.core_events.proofs.Boxes.{box_inside, read_there, there_read}
 use Rattle.back_store.specs.Back.{waiting_of_ring}
-use Rattle.known_back.specs.Lists.{BackLists}
-use Rattle.known_back.specs.Records.{HasRecord, LacksRecord, writes_in}
-use Rattle.known_back.proofs.JoinedRecords.{lacks_from}
+use Rattle.stm_slots.specs.KnownLists.{BackLists}
+use Rattle.stm_slots.specs.Records.{HasRecord, LacksRecord, writes_in}
+use Rattle.stm_slots.proofs.JoinedRecords.{lacks_from}
 use Rattle.dude_base.specs.Records.{RedoBundle}
 use Rattle.stm_slots.specs.Beside.{Hands, Beside}
 use Rattle.stm_slots.specs.Stage.{Owner, Stage, owner_of, stage_of}

@@ -29,9 +29,9 @@ use Rattle.core_events.specs.KeptNumbers.{number_of}
 use Rattle.core_events.proofs.Boxes.{box_inside, there_read, full_there}
 use Rattle.core_events.proofs.Lists.{at_map, of_map, set_again}
 use Rattle.core_table.specs.Rules.{Acts}
-use Rattle.known_back.specs.Lists.{BackLists}
-use Rattle.known_back.specs.Records.{HasRecord}
-use Rattle.known_back.proofs.JoinedRecords.{has_either}
+use Rattle.stm_slots.specs.KnownLists.{BackLists}
+use Rattle.stm_slots.specs.Records.{HasRecord}
+use Rattle.stm_slots.proofs.JoinedRecords.{has_either}
 use Rattle.stm_slots.specs.Beside.{Beside}
 use Rattle.stm_slots.specs.Stage.{Owner, Stage, owner_of, stage_of}
 use Rattle.stm_slots.specs.Lists.{ListsKept}

@@ -17,9 +17,9 @@ use Rattle.core_events.specs.Keyed.{change}
 use Rattle.core_events.proofs.Threads.{not_true}
 use Rattle.core_events.proofs.Lists.{there, at_set, set_here, set_else, at_change}
 use Rattle.core_events.proofs.Boxes.{read_there}
-use Rattle.known_back.specs.Lists.{BackLists}
-use Rattle.known_back.specs.Records.{HasRecord, LacksRecord, writes_in}
-use Rattle.known_back.proofs.JoinedRecords.{has_here, has_more, has_behind, has_either_list, writes_front, writes_behind, not_both, lacks_from}
+use Rattle.stm_slots.specs.KnownLists.{BackLists}
+use Rattle.stm_slots.specs.Records.{HasRecord, LacksRecord, writes_in}
+use Rattle.stm_slots.proofs.JoinedRecords.{has_here, has_more, has_behind, has_either_list, writes_front, writes_behind, not_both, lacks_from}
 use Rattle.stm_slots.specs.Beside.{Hands, Beside}
 use Rattle.stm_slots.specs.Stage.{Owner, Stage}
 use Rattle.stm_slots.specs.Queues.{back_slot, place_at, word_at, IsQueue, Queued}

@@ -32,7 +32,7 @@ use Rattle.core_events.proofs.Telling.{kept_seated, kept_sized}
 use Rattle.core_table.specs.Known.{Known, view_of}
 use Rattle.core_table.specs.Rules.{Holds}
 use Rattle.back_store.specs.BackView.{state_of}
-use Rattle.known_back.specs.Lists.{BackLists, lists}
+use Rattle.stm_slots.specs.KnownLists.{BackLists, lists}
 use Rattle.stm_slots.specs.Beside.{Beside}
 use Rattle.stm_slots.specs.Stage.{Owner, owner_of, stage_of}
 use Rattle.stm_slots.specs.Lists.{ListsKept}

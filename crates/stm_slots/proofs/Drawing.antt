@@ -15,7 +15,7 @@ use Rattle.core_events.specs.Events.{place_behind}
 use Rattle.core_events.specs.Keyed.{change}
 use Rattle.core_events.proofs.Boxes.{box_same, box_inside, read_there}
 use Rattle.core_events.proofs.Lists.{there, at_set, set_here, set_else, at_change}
-use Rattle.known_back.specs.Records.{HasRecord, writes_in}
+use Rattle.stm_slots.specs.Records.{HasRecord, writes_in}
 use Rattle.stm_slots.specs.Beside.{Hands, Beside}
 use Rattle.stm_slots.specs.Stage.{Owner, Stage}
 use Rattle.stm_slots.specs.Queues.{back_slot, place_at, word_at, IsQueue, OwnsQueue}

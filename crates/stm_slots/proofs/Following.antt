@@ -14,9 +14,9 @@ use Rattle.log_waiting.proofs.ReleasedRecords.{lane_released}
 use Rattle.back_store.specs.Back.{BackState, waiting_of_ring}
 use Rattle.back_store.specs.Answers.{with_record, reproduced}
 use Rattle.core_events.specs.Setups.{Setup}
-use Rattle.known_back.specs.Lists.{BackLists, LawfulLists, lists}
-use Rattle.known_back.specs.Records.{AreNew, HasRecord, LacksRecord, writes_in}
-use Rattle.known_back.proofs.JoinedRecords.{has_front, has_behind, has_either_list, writes_front, writes_behind, not_both, lacks_from}
+use Rattle.stm_slots.specs.KnownLists.{BackLists, LawfulLists, lists}
+use Rattle.stm_slots.specs.Records.{AreNew, HasRecord, LacksRecord, writes_in}
+use Rattle.stm_slots.proofs.JoinedRecords.{has_front, has_behind, has_either_list, writes_front, writes_behind, not_both, lacks_from}
 use Rattle.stm_slots.specs.Turns.{BeginsHanded, IsHanded, Follows}
 
 module _ (z : Setup) (next : List ℕ) (taken : List (ℕ × RedoRecord)) where

@@ -23,10 +23,10 @@ use Rattle.core_events.specs.Kept.{Kept}
 use Rattle.core_events.proofs.Lists.{at_map, of_map}
 use Rattle.core_events.proofs.EntriesAll.{writes_are}
 use Rattle.core_events.proofs.Values.{value_agree}
-use Rattle.known_back.specs.Lists.{BackLists, lists}
-use Rattle.known_back.specs.Records.{HasRecord, LacksRecord, IsReached, HasValues, writes_in}
-use Rattle.known_back.specs.Known.{Since, RecoversIn, IsKnown}
-use Rattle.known_back.proofs.JoinedRecords.{has_either, writes_more, lacks_from, last_agree}
+use Rattle.stm_slots.specs.KnownLists.{BackLists, lists}
+use Rattle.stm_slots.specs.Records.{HasRecord, LacksRecord, IsReached, HasValues, writes_in}
+use Rattle.stm_slots.specs.Known.{Since, RecoversIn, IsKnown}
+use Rattle.stm_slots.proofs.JoinedRecords.{has_either, writes_more, lacks_from, last_agree}
 use Rattle.stm_slots.specs.Stage.{owner_of, stage_of}
 use Rattle.stm_slots.specs.Lists.{ListsKept, IsSettled}
 use Rattle.stm_slots.specs.Beside.{Hands, Beside}
@@ -37,7 +37,7 @@ use Rattle.stm_slots.specs.declared.home.Home.{Home as TheHome}
 use Rattle.stm_slots.specs.declared.slot.Slot.{Slot}
 use Rattle.stm_slots.specs.declared.slot.Slot.TheVariants.{Home}
 use Rattle.stm_slots.proofs.Taken.{contains_none}
-use Rattle.known_back.proofs.Lawful.{waits_over}
+use Rattle.stm_slots.proofs.Lawful.{waits_over}
 use Rattle.redo_record.specs.Waiting.{Waiting}
 use Rattle.dude_base.specs.Records.{first_of}
 use Rattle.stm_slots.specs.KeptBack.{InView, InBox, IsWaiting, IsArrayOf, RecoversTo, LiveBack, KeptBack}

@@ -20,3 +20,9 @@ pub mod Mapping
 pub mod PageActs
 pub mod Following
 pub mod FirstPages
+pub mod Goes
+pub mod Images
+pub mod JoinedRecords
+pub mod Lawful
+pub mod Starts
+pub mod Values

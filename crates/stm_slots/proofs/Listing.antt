@@ -7,8 +7,8 @@ use lib.ListN.{get_elem?}
 use Rattle.dude_base.specs.Records.{RedoBundle, RedoRecord}
 use Rattle.back_store.specs.Back.{waiting_of_ring}
 use Rattle.core_events.specs.Setups.{Setup}
-use Rattle.known_back.specs.Lists.{BackLists}
-use Rattle.known_back.specs.Records.{HasRecord}
+use Rattle.stm_slots.specs.KnownLists.{BackLists}
+use Rattle.stm_slots.specs.Records.{HasRecord}
 use Rattle.stm_slots.specs.Stage.{Owner, Stage}
 use Rattle.stm_slots.specs.Lists.{ListsKept}
 use Rattle.stm_slots.proofs.Alike.{AreAlike}

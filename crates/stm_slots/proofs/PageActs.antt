@@ -25,7 +25,7 @@ use Rattle.core_events.proofs.Pages.{few_pins}
 use Rattle.core_events.proofs.Telling.{kept_sized}
 use Rattle.core_table.specs.Rules.{Acts}
 use Rattle.shadow_pages.specs.PageMap.{PageMap, IsOneToOne, map_with}
-use Rattle.known_back.specs.Lists.{BackLists}
+use Rattle.stm_slots.specs.KnownLists.{BackLists}
 use Rattle.stm_slots.specs.Beside.{Hands, Beside}
 use Rattle.stm_slots.specs.Stage.{owner_of, stage_of}
 use Rattle.stm_slots.specs.Opening.{setup_of}

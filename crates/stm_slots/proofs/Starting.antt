@@ -12,8 +12,8 @@ use Rattle.pmem_trait.specs.declared.medium.Medium.{Ghosts}
 use Rattle.back_store.specs.BackView.{state_of}
 use Rattle.core_events.specs.Setups.{Setup, box_of}
 use Rattle.core_events.specs.Partings.{start}
-use Rattle.known_back.specs.Lists.{lists}
-use Rattle.known_back.specs.Records.{HasRecord, writes_in}
+use Rattle.stm_slots.specs.KnownLists.{lists}
+use Rattle.stm_slots.specs.Records.{HasRecord, writes_in}
 use Rattle.stm_slots.specs.Beside.{Hands, nothing_beside}
 use Rattle.stm_slots.specs.Stage.{Owner, Stage, stage_of}
 use Rattle.stm_slots.specs.Queues.{place_at, OwnsQueue}

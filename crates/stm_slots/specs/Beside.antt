@@ -2,7 +2,7 @@
 use Rattle.std.specs.Prelude.{ℕ, List, Option, None}
 use Rattle.dude_base.specs.Records.{RedoRecord}
 use Rattle.shadow_pages.specs.PageMap.{PageMap}
-use Rattle.known_back.specs.Lists.{BackLists}
+use Rattle.stm_slots.specs.KnownLists.{BackLists}
 
 -- what the thread with the turn has of the back's slot, and the boxes whose slots are out with it
 pub record Hands : Type 0 where

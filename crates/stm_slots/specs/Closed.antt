@@ -13,9 +13,9 @@ use Rattle.core_events.specs.Words.{State}
 use Rattle.core_events.specs.Entries.{value, value_at, writes_of}
 use Rattle.core_events.specs.Telling.{IsReadOut, IsSized}
 use Rattle.core_table.specs.Places.{flat}
-use Rattle.known_back.specs.Known.{Known}
-use Rattle.known_back.specs.Lists.{lists}
-use Rattle.known_back.specs.Records.{HasRecord, IsReached, writes_in}
+use Rattle.stm_slots.specs.Known.{Known}
+use Rattle.stm_slots.specs.KnownLists.{lists}
+use Rattle.stm_slots.specs.Records.{HasRecord, IsReached, writes_in}
 use Rattle.stm_slots.specs.Queues.{back_slot}
 use Rattle.stm_slots.specs.Opening.{setup_of, since_of}
 use Rattle.stm_slots.specs.KeptBack.{InView, KeptBack}

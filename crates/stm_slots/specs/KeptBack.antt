@@ -21,8 +21,8 @@ use Rattle.core_events.specs.Views.{View}
 use Rattle.core_events.specs.Words.{State}
 use Rattle.core_events.specs.Entries.{value_at, writes_of, all_entries}
 use Rattle.back_store.specs.Told.{WereTold}
-use Rattle.known_back.specs.Known.{told_before}
-use Rattle.known_back.specs.Records.{last_written}
+use Rattle.stm_slots.specs.Known.{told_before}
+use Rattle.stm_slots.specs.Records.{last_written}
 use Rattle.stm_slots.specs.Opening.{setup_of, since_of, start_sight}
 use Rattle.stm_slots.specs.declared.opening.Opening.{Opening}
 

@@ -10,3 +10,7 @@ pub mod Opened
 pub mod KeptBack
 pub mod Closed
 pub mod Turns
+pub mod Records
+pub mod KnownLists
+pub mod Known
+pub mod Calls

@@ -7,8 +7,8 @@ use Rattle.dude_base.specs.Records.{RedoBundle, RedoRecord, first_of}
 use Rattle.redo_record.specs.Waiting.{Waiting}
 use Rattle.back_store.specs.Back.{BackState, waiting_now, waiting_of_ring}
 use Rattle.core_events.specs.Setups.{Setup, box_of}
-use Rattle.known_back.specs.Lists.{BackLists, LawfulLists}
-use Rattle.known_back.specs.Records.{HasRecord, LacksRecord, writes_in}
+use Rattle.stm_slots.specs.KnownLists.{BackLists, LawfulLists}
+use Rattle.stm_slots.specs.Records.{HasRecord, LacksRecord, writes_in}
 use Rattle.stm_slots.specs.Stage.{Owner, Stage}
 
 -- a record that stands in a box

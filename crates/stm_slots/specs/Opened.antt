@@ -4,8 +4,8 @@ use Rattle.pmem_trait.specs.Sights.{Sight}
 use Rattle.pmem_trait.specs.declared.medium.Medium.{Ghosts}
 use Rattle.back_store.specs.BackView.{medium_of, state_of}
 use Rattle.core_events.specs.Partings.{start}
-use Rattle.known_back.specs.Known.{Known}
-use Rattle.known_back.specs.Lists.{lists}
+use Rattle.stm_slots.specs.Known.{Known}
+use Rattle.stm_slots.specs.KnownLists.{lists}
 use Rattle.stm_slots.specs.Stage.{stage_of}
 use Rattle.stm_slots.specs.Lists.{IsSettled}
 use Rattle.stm_slots.specs.Pages.{IsMapped}

@@ -4,7 +4,7 @@ use Rattle.pmem_trait.specs.Sights.{Sight}
 use Rattle.pmem_trait.specs.declared.medium.Medium.{Ghosts}
 use Rattle.back_store.specs.BackView.{medium_of, state_of}
 use Rattle.core_events.specs.Setups.{Setup}
-use Rattle.known_back.specs.Known.{Since}
+use Rattle.stm_slots.specs.Known.{Since}
 use Rattle.stm_slots.specs.declared.opening.Opening.{Opening}
 
 module _ {M : Type 0} {ghosts : Ghosts M} (sight : M → Sight) where

@@ -8,7 +8,7 @@ use Rattle.pmem_trait.specs.Sights.{Sight}
 use Rattle.pmem_trait.specs.declared.medium.Medium.{Ghosts}
 use Rattle.back_store.specs.BackView.{medium_of, state_of}
 use Rattle.core_events.specs.Setups.{Setup, box_of}
-use Rattle.known_back.specs.Known.{IsKnown}
+use Rattle.stm_slots.specs.Known.{IsKnown}
 use Rattle.stm_slots.specs.Beside.{Hands, Beside}
 use Rattle.stm_slots.specs.Stage.{Owner, Stage}
 use Rattle.stm_slots.specs.Opening.{setup_of, since_of}

@@ -14,8 +14,8 @@ use Rattle.core_events.specs.Events.{Event, take_turn, give_turn, see_full, kept
 use Rattle.core_events.specs.Telling.{IsTold, IsSeated}
 use Rattle.core_table.specs.Known.{Known, known_after}
 use Rattle.shadow_pages.specs.PageMap.{PageMap, map_with}
-use Rattle.known_back.specs.Lists.{BackLists, LawfulLists}
-use Rattle.known_back.specs.Records.{AreNew, HasRecord, LacksRecord, writes_in}
+use Rattle.stm_slots.specs.KnownLists.{BackLists, LawfulLists}
+use Rattle.stm_slots.specs.Records.{AreNew, HasRecord, LacksRecord, writes_in}
 use Rattle.stm_slots.specs.Beside.{Hands, Beside}
 use Rattle.stm_slots.specs.Queues.{back_slot, place_at}
 use Rattle.stm_slots.specs.Opening.{setup_of}

@@ -11,13 +11,13 @@ use Rattle.dude_base.proofs.WriteLists.{absent_written, put_absent, All-put_writ
 use Rattle.core_events.specs.Setups.{Setup, lock_of}
 use Rattle.core_events.specs.Keyed.{find}
 use Rattle.core_events.specs.Views.{View, Transaction}
-use Rattle.tx_reading.specs.Pairs.{pairs_of, Noted}
-use Rattle.tx_reading.specs.Looks.{AreUpTo}
-use Rattle.tx_reading.specs.Owns.{AfterOwn}
-use Rattle.tx_reading.specs.Running.{IsRunning}
-use Rattle.tx_reading.proofs.Pairs.{found_some, found_pairs, length_pairs, among, written_more}
-use Rattle.stm_passes.specs.declared.pass_numbers.PassNumbers.{PassNumbers}
-use Rattle.stm_passes.specs.Passes.{Describes, greatest, entry_numbers}
+use Rattle.stm_transactions.specs.Pairs.{pairs_of, Noted}
+use Rattle.stm_transactions.specs.Looks.{AreUpTo}
+use Rattle.stm_transactions.specs.Owns.{AfterOwn}
+use Rattle.stm_transactions.specs.Running.{IsRunning}
+use Rattle.stm_transactions.proofs.Pairs.{found_some, found_pairs, length_pairs, among, written_more}
+use Rattle.stm_transactions.specs.declared.pass_numbers.PassNumbers.{PassNumbers}
+use Rattle.stm_transactions.specs.Passes.{Describes, greatest, entry_numbers}
 
 module _ (z : Setup) (thread snapshot : ℕ) (reads : List (ℕ × ℕ)) (ws held : List Write) (pins : List (ℕ × ℕ)) (v : View) (r : IsRunning z thread snapshot reads ws (pairs_of held) pins v) where
   -- a written word's lock is owned

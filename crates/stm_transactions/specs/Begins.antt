@@ -3,7 +3,7 @@ use Rattle.std.specs.Prelude.{◌≡◌, ℕ, true}
 use Rattle.core_events.specs.Views.{View}
 use Rattle.core_events.specs.Events.{begin, view_after}
 use Rattle.core_table.specs.Layout.{TableSight}
-use Rattle.stm_passes.specs.Passes.{IsResting, PassSight, pass_view}
+use Rattle.stm_transactions.specs.Passes.{IsResting, PassSight, pass_view}
 
 -- the pass rests, and its next box was seen empty
 pub record IsReady {X K : Type 0} (t : TableSight K) (p : PassSight X) : Type 0 where

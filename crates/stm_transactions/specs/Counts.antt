@@ -1,11 +1,11 @@
 -- What a commit answers, and what it makes of the numbers of its pass.
 use Rattle.std.specs.Prelude.{◌≡◌, ℕ, Bool, true, false, Result, Ok, Err}
 use Rattle.tatp_model.specs.declared.done.Done.{Done}
-use Rattle.tx_commit.specs.declared.served.Served.{Served}
-use Rattle.tx_commit.specs.declared.lost.Lost.{Lost}
-use Rattle.tx_commit.specs.declared.lost.Lost.TheVariants.{Out, Busy, Conflict}
-use Rattle.stm_passes.specs.declared.pass_numbers.PassNumbers.{PassNumbers}
-use Rattle.stm_passes.specs.Numbers.{after_draw, with_entry, with_refusals}
+use Rattle.stm_transactions.specs.declared.served.Served.{Served}
+use Rattle.stm_transactions.specs.declared.lost.Lost.{Lost}
+use Rattle.stm_transactions.specs.declared.lost.Lost.TheVariants.{Out, Busy, Conflict}
+use Rattle.stm_transactions.specs.declared.pass_numbers.PassNumbers.{PassNumbers}
+use Rattle.stm_transactions.specs.Numbers.{after_draw, with_entry, with_refusals}
 
 -- the numbers after a commit that was answered so, with writes or without: a loss counts as a refusal
 abbrev pub after_commit : Bool → Result ℕ Lost → ℕ → PassNumbers → PassNumbers

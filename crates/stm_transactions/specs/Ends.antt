@@ -6,10 +6,10 @@ use Rattle.tatp_model.specs.declared.done.Done.{Done}
 use Rattle.dude_base.specs.declared.write.Write.{Write}
 use Rattle.core_events.specs.Views.{Entry}
 use Rattle.stm_steps.specs.Abouts.{about}
-use Rattle.tx_commit.specs.declared.lost.Lost.{Lost}
-use Rattle.tx_commit.specs.Ends.{HasEnded, IsLost, has_writes, drawn_for}
-use Rattle.stm_passes.specs.Numbers.{with_refusals}
-use Rattle.stm_passes.specs.Passes.{PassSight, IsResting, pass_view}
+use Rattle.stm_transactions.specs.declared.lost.Lost.{Lost}
+use Rattle.stm_transactions.specs.CommitEnds.{HasEnded, IsLost, has_writes, drawn_for}
+use Rattle.stm_transactions.specs.Numbers.{with_refusals}
+use Rattle.stm_transactions.specs.Passes.{PassSight, IsResting, pass_view}
 use Rattle.stm_transactions.specs.declared.tx.TxOver.{TxOver}
 use Rattle.stm_transactions.specs.declared.reads.ReadList.{Ghosts}
 use Rattle.stm_transactions.specs.Counts.{after_commit}

@@ -7,11 +7,11 @@ use Rattle.core_events.specs.Events.{Event, number, begin, extend, look, load, c
 use Rattle.core_events.specs.Words.{State}
 use Rattle.core_table.specs.Layout.{TableSight}
 use Rattle.core_table.specs.Rules.{Outlasts, OutlastsSplit, OutlastsJoin}
-use Rattle.stm_passes.specs.Passes.{OutlastsPasses}
+use Rattle.stm_transactions.specs.Passes.{OutlastsPasses}
 use Rattle.stm_slots.specs.Beside.{nothing_beside}
 use Rattle.stm_slots.specs.QuietSteps.{LawOfQuietSteps, fact_of, is_quiet}
 use Rattle.stm_slots.specs.declared.opening.Opening.{Opening}
-use Rattle.tx_commit.specs.Rule.{OutlastsEnding}
+use Rattle.stm_transactions.specs.CommitRule.{OutlastsEnding}
 
 -- The fact of the slots outlasts each step of a pass and of a transaction, but for the draw and the post of a number; a new seat has x
 -- beside its view.

@@ -12,10 +12,10 @@ use Rattle.core_events.specs.Views.{View}
 use Rattle.core_events.specs.Events.{begin, see_box, view_after}
 use Rattle.core_table.specs.Known.{Known}
 use Rattle.core_table.specs.Layout.{TableSight}
-use Rattle.tx_reading.specs.Owns.{IsOwnStop}
-use Rattle.tx_reading.specs.Reads.{IsReadStop}
-use Rattle.stm_passes.specs.declared.pass_numbers.PassNumbers.{PassNumbers}
-use Rattle.stm_passes.specs.Passes.{PassSight, pass_view}
+use Rattle.stm_transactions.specs.Owns.{IsOwnStop}
+use Rattle.stm_transactions.specs.Reads.{IsReadStop}
+use Rattle.stm_transactions.specs.declared.pass_numbers.PassNumbers.{PassNumbers}
+use Rattle.stm_transactions.specs.Passes.{PassSight, pass_view}
 use Rattle.stm_transactions.specs.declared.tx.TxOver.{TxOver}
 use Rattle.stm_transactions.specs.declared.reads.ReadList.{Ghosts}
 use Rattle.stm_transactions.specs.Stops.{CountsStop, after_stop}

@@ -2,15 +2,15 @@
 
 ghost use Rattle.std.specs.Prelude.{◌≡◌, ◌<◌, IfOk, IfErr};
 ghost use Rattle.std.specs.Borrow.{sem, RestsIfErr};
-ghost use Rattle.stm_passes.specs.Passes.{IsRefused, IsResting};
-ghost use Rattle.stm_passes.specs.contracts.pass.Pass.{the_row};
+ghost use Rattle.stm_transactions.specs.Passes.{IsRefused, IsResting};
+ghost use Rattle.stm_transactions.specs.contracts.pass.Pass.{the_row};
 ghost use Rattle.stm_transactions.specs.Transactions.{HasBegun};
 
+use crate::box_full::BoxFull;
+use crate::pass::Pass;
 use crate::rule::{TransactionRule, let_transact};
 use crate::tx::{Tx, begin_now};
 use std::alloc::Global;
-use stm_passes::box_full::BoxFull;
-use stm_passes::pass::Pass;
 use stm_steps::stm::Stm;
 
 /// Begins a transaction of the pass, where its next box is empty.

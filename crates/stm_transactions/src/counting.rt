@@ -1,14 +1,14 @@
 //! What a commit answers, and what it makes of its pass's numbers.
 
 ghost use Rattle.std.specs.Prelude.{◌≡◌, ◌<◌, MatchResult};
-ghost use Rattle.tx_commit.specs.Ends.{has_writes};
+ghost use Rattle.stm_transactions.specs.CommitEnds.{has_writes};
 ghost use Rattle.stm_transactions.specs.Counts.{IsDoneWith, IsErrWith, after_commit};
 
+use crate::lost::Lost;
+use crate::pass_numbers::PassNumbers;
+use crate::served::Served;
 use dude_base::write_list::WriteList;
-use stm_passes::pass_numbers::PassNumbers;
 use tatp_model::done::Done;
-use tx_commit::lost::Lost;
-use tx_commit::served::Served;
 
 /// Whether there are writes.
 pub fn has_any(writes: &WriteList) -> bool

@@ -4,31 +4,31 @@ ghost use Rattle.std.specs.Prelude.{◌≡◌, ◌*◌, ◌<◌, [], None, All, 
 ghost use Rattle.std.proofs.Props.{props};
 ghost use Rattle.dude_base.specs.declared.limits.TheConstants.{PAGE as PAGE_WORDS};
 ghost use Rattle.core_table.specs.Steps.{BelongsTo};
-ghost use Rattle.tx_reading.specs.Pairs.{pairs_of};
-ghost use Rattle.tx_reading.specs.Pins.{pin_list};
-ghost use Rattle.tx_reading.specs.Running.{IsRunning};
-ghost use Rattle.stm_passes.specs.Passes.{Describes};
+ghost use Rattle.stm_transactions.specs.Pairs.{pairs_of};
+ghost use Rattle.stm_transactions.specs.Pins.{pin_list};
+ghost use Rattle.stm_transactions.specs.Running.{IsRunning};
+ghost use Rattle.stm_transactions.specs.Passes.{Describes};
 ghost use Rattle.stm_transactions.specs.Begins.{Begins, IsReady};
 ghost use Rattle.stm_transactions.specs.Stops.{CountsStop};
 
+use crate::box_rule::BoxRule;
+use crate::commit::Commit;
 use crate::counting::{count_commit, done_of, has_any};
+use crate::ending::{commit_all, give_up};
+use crate::lost::Lost;
+use crate::pass::Pass;
+use crate::pass_numbers::PassNumbers;
+use crate::pinned::Pinned;
 use crate::reads::{ReadList, Reads};
 use crate::rule::{TransactionRule, let_transact};
+use crate::served::Served;
 use core_table::event_table::Seat;
 use dude_base::write_list::WriteList;
 use std::alloc::Global;
-use stm_boxes::box_rule::BoxRule;
-use stm_passes::pass::Pass;
-use stm_passes::pass_numbers::PassNumbers;
 use stm_steps::stm::Stm;
 use tatp_model::done::Done;
 use tatp_model::reply::Reply;
 use tatp_model::request::Request;
-use tx_commit::commit::Commit;
-use tx_commit::ending::{commit_all, give_up};
-use tx_commit::lost::Lost;
-use tx_commit::served::Served;
-use tx_reading::pinned::Pinned;
 use word_space::stop::Stop;
 
 /// A transaction, over its reads. It has the seat of its pass, and the pass's numbers as they were at its begin.

@@ -4,15 +4,15 @@ ghost use Rattle.std.specs.Prelude.{◌≡◌, ◌<◌, ◌≤◌, ◌+◌, Matc
 ghost use Rattle.pmem_trait.specs.Faults.{up_to_last};
 ghost use Rattle.dude_base.specs.Writes.{put_write, IsWide};
 
+use crate::bad_lock::BadLock;
+use crate::owning::own_lock;
+use crate::reading::read_word;
 use crate::reads::Reads;
 use crate::rule::{TransactionRule, let_transact};
 use crate::tx::TxOver;
 use dude_base::limits::{MAX_WRITES, PAGE};
 use dude_base::write::Write;
 use dude_base::write_list::WriteList;
-use tx_reading::bad_lock::BadLock;
-use tx_reading::owning::own_lock;
-use tx_reading::reading::read_word;
 use word_space::stop::Stop;
 use word_space::words::Words;
 

@@ -25,12 +25,12 @@ use Rattle.atomic_table.specs.declared.shared.Seat.{Seat}
 use Rattle.core_events.specs.Setups.{Setup, box_of}
 use Rattle.core_table.specs.Known.{Known}
 use Rattle.core_table.specs.Layout.{TableSight}
-use Rattle.known_back.specs.Lists.{LawfulLists, lists}
-use Rattle.known_back.specs.Records.{AreNew, JoinsJust, LacksRecord, IsReached}
-use Rattle.known_back.specs.Known.{Known as KnownBy, Since}
-use Rattle.known_back.specs.Calls.{handed}
-use Rattle.known_back.proofs.JoinedRecords.{has_front, over_reached, writes_front}
-use Rattle.known_back.proofs.Lawful.{end_of, may_persist}
+use Rattle.stm_slots.specs.KnownLists.{LawfulLists, lists}
+use Rattle.stm_slots.specs.Records.{AreNew, JoinsJust, LacksRecord, IsReached}
+use Rattle.stm_slots.specs.Known.{Known as KnownBy, Since}
+use Rattle.stm_slots.specs.Calls.{handed}
+use Rattle.stm_slots.proofs.JoinedRecords.{has_front, over_reached, writes_front}
+use Rattle.stm_slots.proofs.Lawful.{end_of, may_persist}
 use Rattle.stm_slots.specs.Beside.{Beside}
 use Rattle.stm_slots.specs.Opening.{setup_of, since_of}
 use Rattle.stm_slots.specs.Lists.{IsSettled}

@@ -10,9 +10,9 @@ use Rattle.dude_base.specs.Records.{RedoBundle, RedoRecord, bundle_of, first_of,
 use Rattle.dude_base.specs.Writes.{put_all, put_write, written}
 use Rattle.redo_record.specs.Record.{cells_for}
 use Rattle.core_events.specs.Setups.{Setup}
-use Rattle.known_back.specs.Lists.{BackLists}
-use Rattle.known_back.specs.Records.{AreNew, HasRecord, LacksRecord, writes_in}
-use Rattle.known_back.proofs.JoinedRecords.{has_either, has_here, has_more, joined_records_law, writes_here, writes_more}
+use Rattle.stm_slots.specs.KnownLists.{BackLists}
+use Rattle.stm_slots.specs.Records.{AreNew, HasRecord, LacksRecord, writes_in}
+use Rattle.stm_slots.proofs.JoinedRecords.{has_either, has_here, has_more, joined_records_law, writes_here, writes_more}
 use Rattle.stm_slots.specs.Queues.{place_at}
 use Rattle.stm_slots.proofs.Taken.{contains_here, contains_either, contains_none}
 use Rattle.stm_turns.specs.Gathered.{AreFronts, BeginsAlike, BeginsWith, IsGathered, IsJoined, TakesNext}

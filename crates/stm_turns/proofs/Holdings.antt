@@ -16,12 +16,12 @@ use Rattle.core_events.specs.Events.{Event, give_turn, see_full, empty_box, rais
 use Rattle.core_events.specs.Conditions.{HasThread, IsAllowed}
 use Rattle.core_events.specs.Kept.{Kept}
 use Rattle.core_events.specs.Telling.{IsSeated}
-use Rattle.known_back.specs.Known.{Known as KnownBy, IsKnown}
+use Rattle.stm_slots.specs.Known.{Known as KnownBy, IsKnown}
 use Rattle.core_table.specs.Known.{Known, view_of, beside_of}
 use Rattle.core_table.specs.Rules.{Acts, Holds, Foreseen}
-use Rattle.known_back.specs.Lists.{BackLists, LawfulLists, lists}
-use Rattle.known_back.specs.Records.{HasRecord, LacksRecord, IsReached, writes_in}
-use Rattle.known_back.proofs.JoinedRecords.{has_behind, has_either}
+use Rattle.stm_slots.specs.KnownLists.{BackLists, LawfulLists, lists}
+use Rattle.stm_slots.specs.Records.{HasRecord, LacksRecord, IsReached, writes_in}
+use Rattle.stm_slots.proofs.JoinedRecords.{has_behind, has_either}
 use Rattle.std.proofs.lemmas.List.Elements.{All-head, All-tail}
 use mathlib.Core.Logic.{dite}
 use native.Mathlib.Decide.{dec_lt}

@@ -11,7 +11,7 @@ use Rattle.atomic_table.specs.declared.shared.Seat.{Seat}
 use Rattle.core_events.specs.Setups.{Setup, box_of}
 use Rattle.core_table.specs.Known.{Known}
 use Rattle.core_table.specs.Layout.{TableSight}
-use Rattle.known_back.specs.Lists.{lists}
+use Rattle.stm_slots.specs.KnownLists.{lists}
 use Rattle.stm_slots.specs.Beside.{Beside}
 use Rattle.stm_slots.specs.Opening.{setup_of}
 use Rattle.stm_slots.specs.Queues.{back_slot}

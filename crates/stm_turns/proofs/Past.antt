@@ -12,8 +12,8 @@ use Rattle.log_waiting.proofs.ReleasedRecords.{released_waiting}
 use Rattle.log_waiting.proofs.WaitingLanes.{waits_in, waits_of_ring}
 use Rattle.back_store.specs.Back.{BackState, IsRingFull, waiting_of_ring}
 use Rattle.back_store.specs.Answers.{announced, reproduced}
-use Rattle.known_back.specs.Lists.{LawfulLists, lists}
-use Rattle.known_back.proofs.Lawful.{waits_over}
+use Rattle.stm_slots.specs.KnownLists.{LawfulLists, lists}
+use Rattle.stm_slots.proofs.Lawful.{waits_over}
 use Rattle.dude_base.specs.Records.{RedoRecord}
 use Rattle.stm_slots.proofs.Taken.{contains_here}
 use Rattle.log_waiting.specs.Lane.{LaneState, with_redo}

@@ -19,8 +19,8 @@ use Rattle.core_events.specs.Telling.{IsTold, IsSeated}
 use Rattle.core_table.specs.Known.{Known}
 use Rattle.core_table.specs.Layout.{TableSight}
 use Rattle.core_table.specs.Steps.{BelongsTo, MayAct}
-use Rattle.known_back.specs.Lists.{lists}
-use Rattle.known_back.specs.Records.{HasRecord, writes_in}
+use Rattle.stm_slots.specs.KnownLists.{lists}
+use Rattle.stm_slots.specs.Records.{HasRecord, writes_in}
 use Rattle.stm_slots.specs.Beside.{Hands, Beside}
 use Rattle.stm_slots.specs.Queues.{back_slot, place_at}
 use Rattle.stm_slots.specs.Lists.{IsSettled}
@@ -29,8 +29,8 @@ use Rattle.stm_slots.specs.Turns.{Seated, Took, SawRecord}
 use Rattle.std.specs.List.{Contains}
 use Rattle.std.proofs.Common.{◌++◌, ◌==◌, Bool, true, eqb-true}
 use Rattle.std.proofs.lemmas.List.Elements.{Contains-append_left, Contains-push, Contains-push_cases}
-use Rattle.known_back.specs.Lists.{BackLists}
-use Rattle.known_back.specs.Records.{LacksRecord}
+use Rattle.stm_slots.specs.KnownLists.{BackLists}
+use Rattle.stm_slots.specs.Records.{LacksRecord}
 use Rattle.stm_slots.proofs.Taken.{contains_here, contains_more, contains_either, contains_none, leaves_last}
 use Rattle.stm_slots.specs.Turns.{Leaves}
 use Rattle.stm_turns.specs.Holding.{Held, IsHeld, IsInHand, box_held, boxes_held, hands_of, slots_out, Holding}

@@ -15,10 +15,10 @@ use Rattle.core_events.specs.Setups.{Setup}
 use Rattle.core_events.specs.Views.{View}
 use Rattle.core_table.specs.Known.{Known}
 use Rattle.core_table.specs.Layout.{TableSight}
-use Rattle.known_back.specs.Lists.{LawfulLists, lists}
-use Rattle.known_back.specs.Records.{HasRecord, LacksRecord}
-use Rattle.known_back.proofs.JoinedRecords.{lacks_from, over_reached}
-use Rattle.known_back.proofs.Lawful.{waits_over}
+use Rattle.stm_slots.specs.KnownLists.{LawfulLists, lists}
+use Rattle.stm_slots.specs.Records.{HasRecord, LacksRecord}
+use Rattle.stm_slots.proofs.JoinedRecords.{lacks_from, over_reached}
+use Rattle.stm_slots.proofs.Lawful.{waits_over}
 use Rattle.stm_slots.specs.Beside.{Hands, Beside}
 use Rattle.stm_slots.specs.Opening.{setup_of}
 use Rattle.stm_slots.specs.declared.home.Home.{Home as TheHome}

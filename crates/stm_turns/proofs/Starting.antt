@@ -4,9 +4,9 @@ use Rattle.dude_base.specs.declared.limits.TheConstants.{MAX_RINGS}
 use Rattle.pmem_trait.specs.declared.medium.Medium.{Ghosts}
 use Rattle.back_store.specs.declared.back.Back.{Back}
 use Rattle.back_store.specs.BackView.{medium_of, state_of}
-use Rattle.known_back.specs.Calls.{StartsKnown}
-use Rattle.known_back.specs.Known.{Known}
-use Rattle.known_back.specs.Lists.{lists}
+use Rattle.stm_slots.specs.Calls.{StartsKnown}
+use Rattle.stm_slots.specs.Known.{Known}
+use Rattle.stm_slots.specs.KnownLists.{lists}
 use Rattle.stm_slots.specs.Lists.{IsSettled}
 use Rattle.stm_slots.specs.Opened.{IsFirst}
 use Rattle.stm_slots.specs.declared.home.Home.{Home as TheHome}

@@ -13,8 +13,8 @@ use Rattle.core_events.specs.Keyed.{has}
 use Rattle.core_table.specs.Known.{Known}
 use Rattle.core_table.specs.Layout.{TableSight}
 use Rattle.core_table.specs.Steps.{BelongsTo}
-use Rattle.known_back.specs.Lists.{lists}
-use Rattle.known_back.specs.Records.{HasRecord, LacksRecord, writes_in}
+use Rattle.stm_slots.specs.KnownLists.{lists}
+use Rattle.stm_slots.specs.Records.{HasRecord, LacksRecord, writes_in}
 use Rattle.stm_slots.specs.Beside.{Beside}
 use Rattle.stm_slots.specs.Opening.{setup_of}
 use Rattle.stm_slots.specs.Queues.{back_slot, place_at}

@@ -6,7 +6,7 @@ use Rattle.dude_base.specs.Joins.{CanJoin, places_of}
 use Rattle.dude_base.specs.Records.{RedoBundle, RedoRecord, bundle_of, first_of, with_next}
 use Rattle.redo_record.specs.Record.{cells_for}
 use Rattle.core_events.specs.Setups.{Setup}
-use Rattle.known_back.specs.Records.{HasRecord, JoinsJust, writes_in}
+use Rattle.stm_slots.specs.Records.{HasRecord, JoinsJust, writes_in}
 use Rattle.stm_slots.specs.Queues.{place_at}
 use Rattle.stm_turns.specs.Holding.{Held, box_held, boxes_held}
 use Rattle.stm_turns.specs.Turns.{place_after}

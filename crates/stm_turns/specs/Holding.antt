@@ -8,8 +8,8 @@ use Rattle.back_store.specs.BackView.{medium_of, state_of}
 use Rattle.core_events.specs.Setups.{Setup, box_of}
 use Rattle.core_events.specs.Conditions.{HasThread}
 use Rattle.core_table.specs.Known.{Known}
-use Rattle.known_back.specs.Lists.{BackLists, lists}
-use Rattle.known_back.specs.Known.{Known as KnownBy}
+use Rattle.stm_slots.specs.KnownLists.{BackLists, lists}
+use Rattle.stm_slots.specs.Known.{Known as KnownBy}
 use Rattle.stm_slots.specs.Beside.{Hands, Beside}
 use Rattle.stm_slots.specs.Queues.{back_slot}
 use Rattle.stm_slots.specs.Opening.{setup_of, since_of}

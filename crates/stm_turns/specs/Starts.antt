@@ -7,7 +7,7 @@ use Rattle.back_store.specs.declared.back.Back.{Back}
 use Rattle.back_store.specs.BackView.{sight_of, state_of}
 use Rattle.core_events.specs.Partings.{start}
 use Rattle.core_events.specs.Setups.{Setup}
-use Rattle.known_back.specs.Calls.{IsIdle}
+use Rattle.stm_slots.specs.Calls.{IsIdle}
 use Rattle.shadow_pages.specs.PageMap.{PageMap}
 use Rattle.stm_slots.specs.Opened.{IsFirst, first_slots}
 use Rattle.stm_slots.specs.Pages.{IsMapped}

@@ -8,9 +8,9 @@ use Rattle.core_events.specs.Keyed.{has}
 use Rattle.core_events.specs.Events.{Event, raise_durable, raise_reproduced, view_after}
 use Rattle.core_events.specs.Views.{View}
 use Rattle.core_events.specs.Telling.{IsSeated}
-use Rattle.known_back.specs.Lists.{lists}
-use Rattle.known_back.specs.Known.{Known as KnownBy}
-use Rattle.known_back.specs.Records.{HasRecord, LacksRecord, writes_in}
+use Rattle.stm_slots.specs.KnownLists.{lists}
+use Rattle.stm_slots.specs.Known.{Known as KnownBy}
+use Rattle.stm_slots.specs.Records.{HasRecord, LacksRecord, writes_in}
 use Rattle.std.specs.List.{Contains}
 use Rattle.stm_slots.specs.Beside.{Hands}
 use Rattle.stm_slots.specs.Opening.{setup_of, since_of}

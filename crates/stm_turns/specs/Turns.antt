@@ -17,8 +17,8 @@ use Rattle.core_table.specs.Known.{Known}
 use Rattle.core_table.specs.Layout.{TableSight}
 use Rattle.core_table.specs.Steps.{BelongsTo, IsAfter}
 use Rattle.core_events.specs.Events.{take_turn}
-use Rattle.known_back.specs.Lists.{lists}
-use Rattle.known_back.specs.Records.{HasRecord, IsReached}
+use Rattle.stm_slots.specs.KnownLists.{lists}
+use Rattle.stm_slots.specs.Records.{HasRecord, IsReached}
 use Rattle.stm_slots.specs.Beside.{Hands, Beside}
 use Rattle.stm_slots.specs.Lists.{IsSettled}
 use Rattle.stm_slots.specs.Opening.{setup_of}

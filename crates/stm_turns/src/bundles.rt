@@ -13,6 +13,7 @@ use crate::slots::SlotSeat;
 use back_store::BackFault;
 use pmem_trait::Medium;
 use stm_slots::home::Home;
+use stm_slots::known_back;
 use stm_slots::slots_rule::Events;
 
 /// Persists the bundle of the records in hand, and empties their boxes. Where its ring is full they

@@ -9,6 +9,7 @@ use crate::slots::SlotSeat;
 use back_store::BackFault;
 use pmem_trait::Medium;
 use stm_slots::home::Home;
+use stm_slots::known_back;
 use stm_slots::slots_rule::Events;
 
 /// Announces the number to which waiting records lead, and raises the durable word to it. `durable`

@@ -19,6 +19,7 @@ use shadow_pages::pager::Pager;
 use std::alloc::Global;
 use std::snapshot::Snapshot;
 use stm_slots::home::Home;
+use stm_slots::known_back;
 use stm_slots::opening::Opening;
 use stm_slots::slot::Slot;
 use stm_slots::slots_rule::Events;

@@ -8,8 +8,8 @@ use Rattle.dude_base.specs.Run.{IsRunWithin}
 use Rattle.pmem_trait.specs.declared.medium.Medium.{Ghosts}
 use Rattle.pmem_trait.specs.Sights.{state_now}
 use Rattle.back_store.specs.BackView.{sight_of}
-use Rattle.image_opening.specs.declared.opened.Opened.{Opened}
-use Rattle.image_opening.specs.Opened.{HoldsOpened}
+use Rattle.dude_recover.specs.declared.opened.Opened.{Opened}
+use Rattle.dude_recover.specs.Opened.{HoldsOpened}
 use Rattle.tatp_model.specs.declared.request.Request.{Request}
 use Rattle.tatp_model.specs.declared.request.Request.TheVariants.{UpdateLocation}
 use Rattle.tatp_model.specs.Request.{IsInRange}

@@ -1,13 +1,13 @@
 //! A new image in memory, opened.
 
 ghost use Rattle.std.specs.Prelude.{◌≡◌, IfSome};
-ghost use Rattle.image_opening.specs.Opened.{IsOpened};
+ghost use Rattle.dude_recover.specs.Opened.{IsOpened};
 ghost use Rattle.run_threads.specs.Ends.{IsAsOpened};
 
 use command_openings::make_and_open;
 use dude_base::place::Place;
 use dude_base::sizes::Sizes;
-use image_opening::Opened;
+use dude_recover::Opened;
 use pmem_fake::MemPmem;
 use std::alloc::Global;
 

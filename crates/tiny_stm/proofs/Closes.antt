@@ -29,11 +29,11 @@ use Rattle.core_events.specs.Entries.{value_at, writes_of}
 use Rattle.core_events.proofs.Lists.{there}
 use Rattle.core_table.specs.Places.{count, index}
 use Rattle.core_table.proofs.Flat.{flat_found, placed}
-use Rattle.known_back.specs.Known.{told_before}
-use Rattle.known_back.specs.Lists.{lists}
-use Rattle.known_back.specs.Records.{last_written}
-use Rattle.known_back.proofs.Images.{array_values}
-use Rattle.known_back.proofs.Lawful.{reached_by}
+use Rattle.stm_slots.specs.Known.{told_before}
+use Rattle.stm_slots.specs.KnownLists.{lists}
+use Rattle.stm_slots.specs.Records.{last_written}
+use Rattle.stm_slots.proofs.Images.{array_values}
+use Rattle.stm_slots.proofs.Lawful.{reached_by}
 use Rattle.stm_slots.specs.Closed.{IsClosed}
 use Rattle.stm_slots.specs.KeptBack.{InBox, IsArrayOf, RecoversTo}
 use Rattle.stm_slots.specs.Opening.{setup_of, since_of, start_sight}

@@ -8,10 +8,10 @@ use Rattle.core_events.specs.Views.{View}
 use Rattle.core_table.specs.Known.{Known}
 use Rattle.core_table.specs.Layout.{TableSight}
 use Rattle.core_table.specs.Steps.{BelongsTo}
-use Rattle.stm_passes.specs.declared.pass_numbers.PassNumbers.{PassNumbers}
-use Rattle.stm_passes.specs.Numbers.{after_fault, after_turn, with_turn}
-use Rattle.stm_passes.specs.Passes.{GivesSeat, IsResting, PassSight, is_given, pass_view}
-use Rattle.stm_passes.proofs.Rests.{refused_describes}
+use Rattle.stm_transactions.specs.declared.pass_numbers.PassNumbers.{PassNumbers}
+use Rattle.stm_transactions.specs.Numbers.{after_fault, after_turn, with_turn}
+use Rattle.stm_transactions.specs.Passes.{GivesSeat, IsResting, PassSight, is_given, pass_view}
+use Rattle.stm_transactions.proofs.Rests.{refused_describes}
 use Rattle.stm_slots.specs.Beside.{Beside}
 use Rattle.stm_slots.specs.declared.opening.Opening.{Opening}
 use Rattle.stm_slots.specs.declared.slot.Slot.{Slot}

@@ -8,10 +8,10 @@ use Rattle.core_events.specs.Conditions.{IsIdle}
 use Rattle.core_table.specs.Known.{Known}
 use Rattle.core_table.specs.Layout.{TableSight}
 use Rattle.core_table.specs.Steps.{BelongsTo, IsAfter}
-use Rattle.stm_passes.specs.declared.pass_numbers.PassNumbers.{PassNumbers}
-use Rattle.stm_passes.specs.Numbers.{with_refusals}
-use Rattle.stm_passes.specs.Passes.{Describes, GivesSeat, IsResting, PassSight, entry_numbers, first_view, greatest, is_given, pass_view}
-use Rattle.stm_passes.proofs.Rests.{given_rests, refused_describes}
+use Rattle.stm_transactions.specs.declared.pass_numbers.PassNumbers.{PassNumbers}
+use Rattle.stm_transactions.specs.Numbers.{with_refusals}
+use Rattle.stm_transactions.specs.Passes.{Describes, GivesSeat, IsResting, PassSight, entry_numbers, first_view, greatest, is_given, pass_view}
+use Rattle.stm_transactions.proofs.Rests.{given_rests, refused_describes}
 use Rattle.stm_pages.specs.Paging.{turn_view}
 use Rattle.tiny_stm.specs.Turned.{KeepsWork}
 

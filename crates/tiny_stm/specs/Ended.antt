@@ -19,9 +19,9 @@ use Rattle.back_store.specs.Told.{WereTold}
 use Rattle.core_events.specs.Setups.{Setup}
 use Rattle.core_events.specs.Views.{Entry, View}
 use Rattle.core_events.specs.Entries.{HaveNumbers, IsLegal, value_at, writes_of}
-use Rattle.known_back.specs.Known.{Known, told_before}
-use Rattle.known_back.specs.Lists.{lists}
-use Rattle.known_back.specs.Records.{HasRecord, last_written, writes_in}
+use Rattle.stm_slots.specs.Known.{Known, told_before}
+use Rattle.stm_slots.specs.KnownLists.{lists}
+use Rattle.stm_slots.specs.Records.{HasRecord, last_written, writes_in}
 use Rattle.stm_slots.specs.KeptBack.{IsWaiting}
 use Rattle.stm_slots.specs.Opening.{setup_of, since_of, start_sight}
 use Rattle.stm_slots.specs.declared.opening.Opening.{Opening}

@@ -12,8 +12,8 @@ use Rattle.back_store.specs.BackView.{sight_of, state_of}
 use Rattle.back_store.specs.Images.{HoldsStore}
 use Rattle.core_events.specs.Setups.{Setup, IsSetup}
 use Rattle.core_table.specs.Layout.{TableSight}
-use Rattle.stm_passes.specs.Opening.{IsFirstPass}
-use Rattle.stm_passes.specs.Passes.{PassSight}
+use Rattle.stm_transactions.specs.Opening.{IsFirstPass}
+use Rattle.stm_transactions.specs.Passes.{PassSight}
 use Rattle.stm_slots.specs.Beside.{Beside}
 use Rattle.stm_slots.specs.Opening.{setup_of}
 use Rattle.stm_slots.specs.declared.opening.Opening.{Opening}

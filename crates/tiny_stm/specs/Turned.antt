@@ -3,9 +3,9 @@ use Rattle.std.specs.Prelude.{◌≡◌, ℕ, ◌≤◌, [], ◌∷◌, Result, 
 use Rattle.atomic_table.specs.declared.shared.Seat.{Seat}
 use Rattle.core_events.specs.Events.{one_more}
 use Rattle.core_table.specs.Known.{Known}
-use Rattle.stm_passes.specs.declared.pass_numbers.PassNumbers.{PassNumbers}
-use Rattle.stm_passes.specs.Numbers.{after_fault, after_turn, with_refusals, with_turn}
-use Rattle.stm_passes.specs.Passes.{PassSight, pass_view}
+use Rattle.stm_transactions.specs.declared.pass_numbers.PassNumbers.{PassNumbers}
+use Rattle.stm_transactions.specs.Numbers.{after_fault, after_turn, with_refusals, with_turn}
+use Rattle.stm_transactions.specs.Passes.{PassSight, pass_view}
 use Rattle.stm_turns.specs.declared.pumped.Pumped.{Pumped}
 use Rattle.stm_turns.specs.declared.pump_fault.PumpFault.{PumpFault}
 use Rattle.stm_turns.specs.declared.pump_fault.PumpFault.TheVariants.{Held, Device, Dead}

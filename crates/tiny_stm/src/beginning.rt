@@ -3,12 +3,12 @@
 use crate::stm::{Pass, Stm, Tx};
 use pmem_trait::Medium;
 use std::alloc::Global;
-use stm_passes::box_full::BoxFull;
 use stm_transactions::begin::begin_in;
+use stm_transactions::box_full::BoxFull;
 
 impl<M: Medium> Stm<M> {
     ghost use Rattle.std.specs.Prelude.{◌≡◌, ◌<◌, IfErr, IfOk};
-    ghost use Rattle.stm_passes.specs.Passes.{IsResting};
+    ghost use Rattle.stm_transactions.specs.Passes.{IsResting};
     ghost use Rattle.stm_transactions.specs.Transactions.{HasBegun};
     ghost use Rattle.tiny_stm.specs.Tables.{table_of};
 

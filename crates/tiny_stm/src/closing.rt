@@ -24,7 +24,7 @@ use stm_turns::close_events;
 
 impl<M: Medium> Stm<M> {
     ghost use Rattle.core_events.specs.Telling.{HasAll};
-    ghost use Rattle.stm_passes.specs.Passes.{IsResting, pass_view};
+    ghost use Rattle.stm_transactions.specs.Passes.{IsResting, pass_view};
     ghost use Rattle.tiny_stm.specs.Ended.{HasClosed};
     ghost use Rattle.tiny_stm.specs.Tables.{table_of};
 

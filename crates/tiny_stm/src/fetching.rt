@@ -1,14 +1,14 @@
 //! A pass takes the turn, and brings a page into a frame.
 
 ghost use Rattle.std.specs.Prelude.{◌≡◌, ◌<◌, IfOk, IfErr};
-ghost use Rattle.stm_passes.specs.Passes.{IsResting, pass_view};
+ghost use Rattle.stm_transactions.specs.Passes.{IsResting, pass_view};
 ghost use Rattle.stm_pages.specs.Fetch.{HasFetched, HasFetchFault};
 ghost use Rattle.tiny_stm.specs.Turned.{BySeat, KeepsWork, numbers_fetched, turns_fetched};
 
 use crate::stm::{Pass, Steps, Stm};
 use pmem_trait::Medium;
 use stm_pages::FetchFault;
-use stm_passes::pass_numbers::PassNumbers;
+use stm_transactions::pass_numbers::PassNumbers;
 
 impl<M: Medium> Stm<M> {
     ghost use Rattle.tiny_stm.specs.Tables.{table_of};

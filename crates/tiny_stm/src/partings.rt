@@ -2,13 +2,13 @@
 
 use crate::stm::{Pass, Stm};
 use pmem_trait::Medium;
-use stm_passes::split_fault::SplitFault;
 use stm_transactions::rule::let_transact;
+use stm_transactions::split_fault::SplitFault;
 
 impl<M: Medium> Stm<M> {
     ghost use Rattle.std.specs.Prelude.{◌≡◌, ◌≤◌, IfOk, OnErr};
-    ghost use Rattle.stm_passes.specs.Partings.{AnswersAll, IsJoined, IsSplitOff};
-    ghost use Rattle.stm_passes.specs.Passes.{IsResting};
+    ghost use Rattle.stm_transactions.specs.Partings.{AnswersAll, IsJoined, IsSplitOff};
+    ghost use Rattle.stm_transactions.specs.Passes.{IsResting};
     ghost use Rattle.tiny_stm.specs.Tables.{table_of};
 
     /// A new pass with so many of this pass's draws and with no splits; this pass has one split less.

@@ -1,13 +1,13 @@
 //! A pass takes the turn, and makes durable what boxes have.
 
 ghost use Rattle.std.specs.Prelude.{◌≡◌, IfOk, IfErr};
-ghost use Rattle.stm_passes.specs.Passes.{IsResting, pass_view};
+ghost use Rattle.stm_transactions.specs.Passes.{IsResting, pass_view};
 ghost use Rattle.stm_turns.specs.Pump.{HasPumped, HasPumpFault};
 ghost use Rattle.tiny_stm.specs.Turned.{BySeat, KeepsWork, numbers_after, turns_after};
 
 use crate::stm::{Pass, Steps, Stm};
 use pmem_trait::Medium;
-use stm_passes::pass_numbers::PassNumbers;
+use stm_transactions::pass_numbers::PassNumbers;
 use stm_turns::{PumpFault, Pumped};
 
 impl<M: Medium> Stm<M> {

@@ -15,7 +15,7 @@ use stm_slots::slots_rule::KeptSlots;
 pub type Steps<M> = stm_steps::stm::Stm<Slot<M>, Beside, Opening<M>, KeptSlots<M>>;
 
 /// A seat with a thread's number. Each thread has one of its own.
-pub type Pass = stm_passes::pass::Pass<Beside>;
+pub type Pass = stm_transactions::pass::Pass<Beside>;
 
 /// A transaction of a pass.
 pub type Tx<'a, M> = stm_transactions::tx::Tx<'a, Slot<M>, Beside, Opening<M>, KeptSlots<M>>;

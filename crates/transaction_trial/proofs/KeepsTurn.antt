@@ -10,9 +10,9 @@ use Rattle.core_events.specs.Conditions.{IsIdle}
 use Rattle.core_table.specs.Known.{Known}
 use Rattle.core_table.specs.Layout.{TableSight}
 use Rattle.core_table.specs.Steps.{HasMade}
-use Rattle.stm_passes.specs.declared.pass_numbers.PassNumbers.{PassNumbers}
-use Rattle.stm_passes.specs.Passes.{Describes, GivesSeat, IsResting, PassSight, entry_numbers, first_view, greatest, is_given, pass_view}
-use Rattle.stm_passes.proofs.Rests.{given_rests}
+use Rattle.stm_transactions.specs.declared.pass_numbers.PassNumbers.{PassNumbers}
+use Rattle.stm_transactions.specs.Passes.{Describes, GivesSeat, IsResting, PassSight, entry_numbers, first_view, greatest, is_given, pass_view}
+use Rattle.stm_transactions.proofs.Rests.{given_rests}
 use Rattle.transaction_trial.specs.Turning.{IsTurning}
 
 -- the views differ in what was found, in kept page entries, and in what is kept of a turn alone

@@ -6,7 +6,7 @@ use Rattle.tatp_model.specs.Request.{IsInRange}
 use Rattle.core_events.specs.Setups.{IsSetup, Setup}
 use Rattle.core_table.specs.declared.terms.Terms.{Terms}
 use Rattle.core_table.specs.Layout.{TableSight}
-use Rattle.stm_passes.specs.Passes.{PassSight, IsResting}
+use Rattle.stm_transactions.specs.Passes.{PassSight, IsResting}
 use Rattle.transaction_trial.specs.declared.job.Job.{Job}
 use Rattle.transaction_trial.specs.declared.place.Place.{Place}
 

@@ -5,8 +5,8 @@ use Rattle.core_events.specs.Conditions.{IsIdle}
 use Rattle.core_table.specs.Known.{Known}
 use Rattle.core_table.specs.Layout.{TableSight}
 use Rattle.core_table.specs.Steps.{BelongsTo}
-use Rattle.stm_passes.specs.declared.pass_numbers.PassNumbers.{PassNumbers}
-use Rattle.stm_passes.specs.Passes.{Describes}
+use Rattle.stm_transactions.specs.declared.pass_numbers.PassNumbers.{PassNumbers}
+use Rattle.stm_transactions.specs.Passes.{Describes}
 
 -- It has the turn, no transaction of it is open, and these numbers describe it
 pub record IsTurning {S X K : Type 0} (t : TableSight K) (f : PassNumbers) (s : Seat S (Known X)) : Type 0 where

@@ -2,7 +2,7 @@
 
 use crate::counts::Counts;
 use std::alloc::Global;
-use stm_passes::pass::Pass;
+use stm_transactions::pass::Pass;
 use tatp_model::done::Done;
 use tatp_model::request::Request;
 

@@ -1,13 +1,13 @@
 //! The passes of all jobs are joined.
 
 ghost use Rattle.std.specs.Prelude.{All, IfSome};
-ghost use Rattle.stm_passes.specs.Passes.{IsResting};
+ghost use Rattle.stm_transactions.specs.Passes.{IsResting};
 ghost use Rattle.transaction_trial.specs.Fit.{IsFit};
 
 use crate::job::Job;
 use crate::place::Place;
 use dude_base::limits::MAX_NUMBER;
-use stm_passes::pass::Pass;
+use stm_transactions::pass::Pass;
 use stm_transactions::rule::let_transact;
 
 /// How many numbers the passes of the jobs drew; nothing where there is no job.

@@ -3,7 +3,7 @@
 ghost use Rattle.std.specs.Prelude.{◌≡◌, ◌≤◌, ◌*◌, ◌^◌, All, IfSome, length};
 ghost use Rattle.dude_base.specs.declared.limits.TheConstants.{PAGE as PAGE_WORDS};
 ghost use Rattle.core_events.specs.Setups.{IsSetup};
-ghost use Rattle.stm_passes.specs.Passes.{IsResting};
+ghost use Rattle.stm_transactions.specs.Passes.{IsResting};
 ghost use Rattle.transaction_trial.specs.Fit.{AreTermsOf, IsFit, IsOpen};
 
 use crate::counts::Counts;
@@ -15,8 +15,8 @@ use core_table::terms::Terms;
 use dude_base::limits::{MAX_BOXES, MAX_LOCKS};
 use dude_base::sizes::Sizes;
 use std::alloc::Global;
-use stm_passes::pass::Pass;
 use stm_steps::stm::Stm;
+use stm_transactions::pass::Pass;
 use stm_transactions::rule::let_transact;
 use tatp_layout::Layout;
 use tatp_population::populate;

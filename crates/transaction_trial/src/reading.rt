@@ -1,14 +1,14 @@
 //! Two passes, each in a thread of its own, read all words of new tables.
 
 ghost use Rattle.word_space.specs.Steps.{WordsGoOn};
-ghost use Rattle.stm_passes.specs.Passes.{IsResting};
+ghost use Rattle.stm_transactions.specs.Passes.{IsResting};
 
 use crate::place::{Place, open_place};
 use dude_base::limits::DEFAULT_LOCKS;
 use std::alloc::Global;
 use std::thread::{Threads, join};
-use stm_passes::pass::Pass;
 use stm_transactions::begin::begin_in;
+use stm_transactions::pass::Pass;
 use stm_transactions::rule::let_transact;
 use word_space::words::Words;
 

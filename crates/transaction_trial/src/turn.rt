@@ -1,6 +1,6 @@
 //! A turn in which a thread empties its own boxes, whose records are dropped.
 
-ghost use Rattle.stm_passes.specs.Passes.{IsResting};
+ghost use Rattle.stm_transactions.specs.Passes.{IsResting};
 ghost use Rattle.transaction_trial.specs.Turning.{IsTurning};
 
 use crate::small::Small;
@@ -8,8 +8,8 @@ use core_table::event_table::Seat;
 use core_table::foreseen::law_of_foreseen;
 use core_table::slot_rule::AnySlots;
 use core_table::terms::Terms;
-use stm_passes::pass::Pass;
-use stm_passes::pass_numbers::PassNumbers;
+use stm_transactions::pass::Pass;
+use stm_transactions::pass_numbers::PassNumbers;
 
 /// Takes the turn, where nobody has it, and empties the boxes of the pass.
 pub fn drop_records(stm: &Small, p: &mut Pass<()>)

@@ -3,7 +3,7 @@
 ghost use Rattle.std.specs.Prelude.{◌≡◌, false, All, IfSome};
 ghost use Rattle.tatp_model.specs.OneThread.{is_sync};
 ghost use Rattle.tatp_model.specs.Request.{IsInRange};
-ghost use Rattle.stm_passes.specs.Passes.{IsResting};
+ghost use Rattle.stm_transactions.specs.Passes.{IsResting};
 ghost use Rattle.request_attempts.specs.AfterOnce.{AfterOnce};
 ghost use Rattle.request_attempts.specs.MayTry.{MayTry};
 ghost use Rattle.transaction_trial.specs.Fit.{IsFit, IsReady};
@@ -14,13 +14,13 @@ use crate::place::Place;
 use crate::turn::drop_records;
 use request_attempts::once::Once;
 use std::alloc::Global;
-use stm_passes::box_full::BoxFull;
-use stm_passes::pass::Pass;
 use stm_transactions::begin::begin_in;
+use stm_transactions::box_full::BoxFull;
+use stm_transactions::lost::Lost;
+use stm_transactions::pass::Pass;
 use tatp_core::run_request;
 use tatp_model::done::Done;
 use tatp_model::request::Request;
-use tx_commit::lost::Lost;
 use word_space::stop::Stop;
 
 /// Does a job's requests but the `SYNC`, one after another.

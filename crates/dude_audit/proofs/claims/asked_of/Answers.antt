@@ -1,8 +1,8 @@
 use Rattle.std.proofs.Common.{not, rules, tests, ap, ◌∙◌}
 use Rattle.std.specs.List.{filter}
 use Rattle.tatp_model.proofs.Retained.{filter_from_test}
-use Rattle.printed_lines.specs.declared.claim.Claim.{Claim}
-use Rattle.printed_lines.specs.Claim.{claims_sync}
+use Rattle.dude_audit.specs.declared.claim.Claim.{Claim}
+use Rattle.dude_audit.specs.Claim.{claims_sync}
 use Rattle.dude_audit.proofs.claims.asked_of.Goals as goal
 
 pub returns : goal.returns

@@ -1,8 +1,8 @@
 use Rattle.std.proofs.Common.{length, subst, sym, List}
 use Rattle.std.specs.List.{All}
 use Rattle.tatp_model.specs.Request.{IsInRange}
-use Rattle.printed_lines.specs.declared.claim.Claim.{Claim}
-use Rattle.printed_lines.specs.Claim.{IsWithin}
+use Rattle.dude_audit.specs.declared.claim.Claim.{Claim}
+use Rattle.dude_audit.specs.Claim.{IsWithin}
 use Rattle.dude_audit.proofs.Orders.{all_order}
 use Rattle.dude_audit.proofs.claims.audit_claims.Goals as goal
 

@@ -2,8 +2,8 @@ use Rattle.std.proofs.Common.{not, subst, sym, List}
 use Rattle.std.specs.List.{AllPairs}
 use Rattle.std.specs.Prelude.{IsPermutation}
 use Rattle.std.proofs.lemmas.List.Kept.{AllPairs-filter}
-use Rattle.printed_lines.specs.declared.claim.Claim.{Claim}
-use Rattle.printed_lines.specs.Claim.{claims_sync}
+use Rattle.dude_audit.specs.declared.claim.Claim.{Claim}
+use Rattle.dude_audit.specs.Claim.{claims_sync}
 use Rattle.dude_audit.specs.Order.{AreApart}
 use Rattle.dude_audit.proofs.claims.order_of.Goals as goal
 

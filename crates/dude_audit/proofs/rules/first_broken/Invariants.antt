@@ -1,7 +1,7 @@
 use Rattle.std.proofs.Common.{ℕ, ◌<◌, take, get_or, IsTrue}
 use Rattle.std.specs.Prelude.{nat_eq, ◌↔◌}
 use Rattle.std.specs.HashSet.{contains}
-use Rattle.printed_lines.specs.declared.claim.Claim.{Claim}
+use Rattle.dude_audit.specs.declared.claim.Claim.{Claim}
 use Rattle.dude_audit.specs.Rules.{KeepsRule}
 use Rattle.dude_audit.proofs.Ruled.{Known, WasWritten}
 use Rattle.dude_audit.proofs.rules.first_broken.Given as goal

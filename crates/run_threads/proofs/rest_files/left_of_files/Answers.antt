@@ -2,7 +2,7 @@ use Rattle.std.proofs.Common.{◌≡◌, ◌∷◌, [], ◌++◌, List, drop, ge
 use Rattle.std.specs.Prelude.{slice_index}
 use Rattle.std.proofs.lemmas.List.{length-map, map_push, take_all}
 use Rattle.tatp_model.specs.declared.request.Request.{Request}
-use Rattle.legal_order.specs.Rests.{rests_of}
+use Rattle.run_order.specs.Rests.{rests_of}
 use Rattle.run_threads.proofs.Parting.{as_many, file_at, rest_at}
 use Rattle.run_threads.proofs.rest_files.left_of_files.Goals as goal
 

@@ -1,6 +1,6 @@
 use Rattle.std.proofs.Common.{◌≡◌, List, map, take, vec_capacity, vec_len}
 use Rattle.tatp_model.specs.declared.request.Request.{Request}
-use Rattle.legal_order.specs.Rests.{rests_of}
+use Rattle.run_order.specs.Rests.{rests_of}
 use Rattle.run_threads.specs.Parts.{AreParts}
 use Rattle.run_threads.proofs.rest_files.left_of_files.Given as goal
 

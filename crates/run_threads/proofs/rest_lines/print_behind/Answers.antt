@@ -1,7 +1,7 @@
 use Rattle.std.proofs.Common.{◌≡◌, Option, Some, length, ap, ◌∙◌, subst}
 use Rattle.dude_stream.specs.declared.print_fault.PrintFault.{PrintFault}
 use Rattle.dude_stream.specs.declared.print_fault.PrintFault.TheVariants.{Sink}
-use Rattle.run_streams.specs.Streamed.{HasStreamed}
+use Rattle.run_workers.specs.Streamed.{HasStreamed}
 use Rattle.run_threads.specs.Streamed.{is_whole}
 use Rattle.run_threads.proofs.StreamedRun.{failed_before}
 use Rattle.run_threads.proofs.rest_lines.print_behind.Goals as goal

@@ -5,7 +5,7 @@ use Rattle.std.proofs.lemmas.List.{length-map}
 use Rattle.tatp_model.specs.declared.done.Done.{Done}
 use Rattle.tatp_model.specs.OneThread.{PrecedesInFiles}
 use Rattle.run_order.specs.Runs.{StandApart}
-use Rattle.legal_order.specs.Rests.{shifted}
+use Rattle.run_order.specs.Rests.{shifted}
 use Rattle.back_store.specs.BackView.{medium_of, state_of}
 use Rattle.dude_engine.specs.declared.ran.RanEnd.TheVariants.{Device, NoMemory}
 use Rattle.dude_engine.specs.Requests.{AreInRange, HasNumberEach, request_count}

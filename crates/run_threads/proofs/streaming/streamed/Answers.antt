@@ -5,7 +5,7 @@ use Rattle.tatp_model.specs.declared.done.Done.{Done}
 use Rattle.tatp_model.specs.OneThread.{indexed_request_of}
 use Rattle.dude_engine.specs.declared.ran.RanEnd.TheVariants.{NoMemory}
 use Rattle.tiny_stm.specs.Tables.{table_of}
-use Rattle.run_streams.specs.Streamed.{HasStreamed}
+use Rattle.run_workers.specs.Streamed.{HasStreamed}
 use Rattle.run_threads.specs.declared.printing.Printing.{Printing}
 use Rattle.run_threads.proofs.Begun.{frames_are, ran_nothing, ran_over}
 use Rattle.run_threads.proofs.Opened.{answers, at_rest, ends, moments, start, syncs}

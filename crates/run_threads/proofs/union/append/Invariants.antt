@@ -1,6 +1,6 @@
 use Rattle.std.proofs.Common.{◌≡◌, ◌++◌, map, take, vec_capacity}
 use Rattle.std.specs.Prelude.{slice_index}
-use Rattle.legal_order.specs.Rests.{shifted}
+use Rattle.run_order.specs.Rests.{shifted}
 use Rattle.run_threads.proofs.union.append.Given as goal
 
 -- those before this one are added

@@ -2,7 +2,7 @@ use Rattle.std.proofs.Common.{[], ◌∷◌, List, sym, subst}
 use Rattle.std.specs.List.{All}
 use Rattle.std.proofs.lemmas.List.Elements.{All-head}
 use Rattle.run_order.proofs.Pairs.{all_before, all_behind}
-use Rattle.stm_passes.specs.Passes.{IsResting}
+use Rattle.stm_transactions.specs.Passes.{IsResting}
 use Rattle.run_workers.specs.declared.job.Job.{Job}
 use Rattle.run_workers.proofs.PassesJoined.{took_one, took_popped}
 use Rattle.run_workers.proofs.joining.join_passes.Goals as goal

@@ -1,6 +1,6 @@
 use Rattle.std.proofs.Common.{◌≡◌, List, ◌++◌, vec_len}
 use Rattle.std.specs.List.{All}
-use Rattle.stm_passes.specs.Passes.{IsResting}
+use Rattle.stm_transactions.specs.Passes.{IsResting}
 use Rattle.run_workers.specs.declared.job.Job.{Job}
 use Rattle.run_workers.specs.Joined.{TookIn}
 use Rattle.run_workers.proofs.joining.join_passes.Given as goal

@@ -1,5 +1,5 @@
 use Rattle.std.proofs.Common.{◌++◌, ◌∷◌, [], List, sym, subst}
-use Rattle.stm_passes.specs.Passes.{PassSight}
+use Rattle.stm_transactions.specs.Passes.{PassSight}
 use Rattle.tiny_stm.specs.Tables.{table_of}
 use Rattle.stm_runs.specs.Kept.{AreHeld}
 use Rattle.stm_runs.proofs.Held.{split_on}

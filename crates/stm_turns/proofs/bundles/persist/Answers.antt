@@ -5,9 +5,9 @@ use Rattle.back_store.specs.Answers.{after_persist}
 use Rattle.back_store.specs.BackView.{medium_of, state_of}
 use Rattle.back_store.specs.declared.back.Back.{Back}
 use Rattle.back_store.specs.declared.back_fault.BackFault.{BackFault}
-use Rattle.known_back.specs.Calls.{handed}
-use Rattle.known_back.specs.Known.{Known}
-use Rattle.known_back.specs.Lists.{lists}
+use Rattle.stm_slots.specs.Calls.{handed}
+use Rattle.stm_slots.specs.Known.{Known}
+use Rattle.stm_slots.specs.KnownLists.{lists}
 use Rattle.stm_slots.specs.Opening.{setup_of, since_of}
 use Rattle.stm_turns.specs.Turns.{RisesTo}
 use Rattle.stm_turns.proofs.Calling.{died_with, first_over, full_with, known_with, may_persist_with, newest_with, persisted_with, ring_lane}

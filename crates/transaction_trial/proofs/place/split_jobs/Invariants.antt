@@ -1,5 +1,5 @@
 use Rattle.std.specs.List.{All}
-use Rattle.stm_passes.specs.Passes.{IsResting}
+use Rattle.stm_transactions.specs.Passes.{IsResting}
 use Rattle.transaction_trial.specs.Fit.{IsFit}
 use Rattle.transaction_trial.proofs.place.split_jobs.Given as goal
 

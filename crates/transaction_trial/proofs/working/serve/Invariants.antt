@@ -1,4 +1,4 @@
-use Rattle.stm_passes.specs.Passes.{IsResting}
+use Rattle.stm_transactions.specs.Passes.{IsResting}
 use Rattle.transaction_trial.proofs.working.serve.Given as goal
 
 abbrev pub invariant-loop : goal.invariant-loop

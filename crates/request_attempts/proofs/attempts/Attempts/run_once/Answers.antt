@@ -1,7 +1,7 @@
 use Rattle.std.proofs.Common.{◌≡◌, ℕ, ◌*◌, sym, ap, ◌∙◌, subst, arith}
 use Rattle.dude_base.specs.declared.limits.TheConstants.{PAGE}
-use Rattle.stm_passes.specs.Passes.{PassSight}
-use Rattle.stm_passes.specs.declared.pass_numbers.PassNumbers.{PassNumbers}
+use Rattle.stm_transactions.specs.Passes.{PassSight}
+use Rattle.stm_transactions.specs.declared.pass_numbers.PassNumbers.{PassNumbers}
 use Rattle.stm_transactions.specs.Transactions.{turns_begin}
 use Rattle.stm_transactions.specs.Ends.{HasAborted, HasCommitted, HasLostCommit}
 use Rattle.request_attempts.proofs.Onces.{numbers, stopped_as, lost_as, served_as}

@@ -2,14 +2,14 @@ use Rattle.std.proofs.Common.{◌≡◌, ◌<◌, ◌∷◌, ◌++◌, [], lengt
 use Rattle.std.specs.Prelude.{IfOk, IfErr}
 use Rattle.tatp_model.specs.declared.done.Done.{Done}
 use Rattle.stm_steps.specs.Abouts.{about}
-use Rattle.tx_commit.specs.declared.lost.Lost.{Lost}
-use Rattle.tx_commit.specs.Ends.{HasEntered, IsLost, has_writes}
-use Rattle.stm_passes.specs.declared.pass_numbers.PassNumbers.{PassNumbers}
-use Rattle.stm_passes.specs.Numbers.{with_refusals}
-use Rattle.stm_passes.specs.Passes.{is_given}
+use Rattle.stm_transactions.specs.declared.lost.Lost.{Lost}
+use Rattle.stm_transactions.specs.CommitEnds.{HasEntered, IsLost, has_writes}
+use Rattle.stm_transactions.specs.declared.pass_numbers.PassNumbers.{PassNumbers}
+use Rattle.stm_transactions.specs.Numbers.{with_refusals}
+use Rattle.stm_transactions.specs.Passes.{is_given}
 use Rattle.stm_transactions.specs.Counts.{after_commit}
 use Rattle.stm_transactions.specs.Ends.{HasCommitted, HasLostCommit, entry_of}
-use Rattle.stm_transactions.proofs.Ending.{counted_as, if_ok, if_err, rests_with, describes_entered, describes_lost, lost_leaves, greatest_upto, greatest_under}
+use Rattle.stm_transactions.proofs.PassEnds.{counted_as, if_ok, if_err, rests_with, describes_entered, describes_lost, lost_leaves, greatest_upto, greatest_under}
 use Rattle.stm_transactions.proofs.tx.TxOver+S+X+K+P+Reads.commit.Goals as goal
 
 pub returns-clause-ok : goal.returns-clause-ok

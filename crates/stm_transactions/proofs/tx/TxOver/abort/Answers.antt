@@ -1,9 +1,9 @@
 use Rattle.std.proofs.Common.{◌≡◌, refl, sym, ap, ◌∙◌, subst}
-use Rattle.stm_passes.specs.declared.pass_numbers.PassNumbers.{PassNumbers}
-use Rattle.stm_passes.specs.Numbers.{with_refusals}
-use Rattle.stm_passes.specs.Passes.{is_given}
+use Rattle.stm_transactions.specs.declared.pass_numbers.PassNumbers.{PassNumbers}
+use Rattle.stm_transactions.specs.Numbers.{with_refusals}
+use Rattle.stm_transactions.specs.Passes.{is_given}
 use Rattle.stm_transactions.specs.Ends.{HasAborted}
-use Rattle.stm_transactions.proofs.Ending.{rests_with, describes_ended}
+use Rattle.stm_transactions.proofs.PassEnds.{rests_with, describes_ended}
 use Rattle.stm_transactions.proofs.tx.TxOver.abort.Goals as goal
 
 pub returns : goal.returns

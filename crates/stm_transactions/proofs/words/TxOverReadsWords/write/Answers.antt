@@ -2,9 +2,9 @@ use Rattle.std.proofs.Common.{List, sym, subst, rules}
 use Rattle.dude_base.specs.declared.write.Write.{Write}
 use Rattle.dude_base.specs.Writes.{put_write}
 use Rattle.word_space.proofs.Meets.{shown_write}
-use Rattle.tx_reading.specs.Pairs.{pairs_of}
-use Rattle.tx_reading.specs.Pins.{pin_list}
-use Rattle.tx_reading.specs.Running.{IsRunning}
+use Rattle.stm_transactions.specs.Pairs.{pairs_of}
+use Rattle.stm_transactions.specs.Pins.{pin_list}
+use Rattle.stm_transactions.specs.Running.{IsRunning}
 use Rattle.stm_transactions.specs.Transactions.{tx_sight}
 use Rattle.stm_transactions.proofs.Writing.{room, running_write}
 use Rattle.stm_transactions.proofs.words.TxOverReadsWords.write.Goals as goal

@@ -7,7 +7,7 @@ use Rattle.core_events.specs.Views.{View}
 use Rattle.core_table.specs.Places.{count}
 use mathlib.Core.Option.{some}
 use lib.ListN.{get_elem?}
-use Rattle.stm_passes.specs.Passes.{first_view, pass_view}
+use Rattle.stm_transactions.specs.Passes.{first_view, pass_view}
 use Rattle.tiny_stm.specs.Collected.{AreCopied, HasPlaces}
 use Rattle.std.specs.Vec.{with_items}
 use Rattle.std.proofs.lemmas.List.{with_items_is}

@@ -1,0 +1,92 @@
+//! The words of an image file in memory, and the lines that were noted.
+
+ghost use Rattle.std.specs.Prelude.{◌≤◌, vec_len, vec_capacity};
+
+use crate::file_words::FileWords;
+use crate::line::Line;
+use std::alloc::{AllocError, Global};
+
+/// Lines for which there is room among the notes.
+const NOTES: usize = 4096;
+
+/// The words of an image file in memory, and the lines that were noted and are not yet in the file, in order. It takes
+/// no memory after it is made.
+#[derive(Drop)]
+pub struct WriteCache {
+    pub words: FileWords,
+    pub noted: Vec<Line>,
+    ghost within: { vec_len noted ≤ 4096 },
+    ghost reserved: { 4096 ≤ vec_capacity noted },
+}
+
+impl WriteCache {
+    ghost use Rattle.std.specs.Prelude.{◌≡◌, ◌+◌, ◌-◌, ◌*◌, ◌<◌, ◌≤◌, [], IfOk, slice_index, slice_set, ◌==◌};
+    ghost use Rattle.dude_io.specs.FileWords.{words_of};
+    ghost use Rattle.dude_io.specs.WriteCache.{note_room, NotesOwnLine};
+
+    /// These words, with no line noted and room for the notes.
+    pub(crate) fn new(alloc: Global, words: FileWords) -> Result<WriteCache, AllocError>
+        ensures words { IfOk result (λ cache. cache.words ≡ words) }
+        ensures noted { IfOk result (λ cache. cache.noted.items ≡ []) }
+        ensures room { IfOk result (λ cache. note_room cache ≡ 4096) }
+    {
+        let noted = Vec::with_capacity(alloc, NOTES)?;
+        Ok(WriteCache { words, noted })
+    }
+
+    pub(crate) fn len(&self) -> u64
+        ensures { result ≡ self.now.words.count }
+    {
+        self.words.count
+    }
+
+    pub(crate) fn word(&self, at: u64) -> u64
+        requires { at < self.now.words.count }
+        ensures { result ≡ slice_index (words_of self.now.words) at }
+    {
+        self.words.get(at)
+    }
+
+    pub(crate) fn set(&mut self, at: u64, value: u64)
+        requires { at < self.old.words.count }
+        ensures words { words_of self.new.words ≡ slice_set (words_of self.old.words) at value }
+        ensures len { self.new.words.count ≡ self.old.words.count }
+        ensures noted { self.new.noted.items ≡ self.old.noted.items }
+    {
+        self.words.set(at, value);
+    }
+
+    /// Whether there is no room for a further note.
+    pub(crate) fn is_full(&self) -> bool
+        ensures { result ≡ (note_room self.now == 0) }
+    {
+        self.noted.len() == NOTES
+    }
+
+    /// Notes the values that the words of a line hold. There is room for the note.
+    pub(crate) fn note(&mut self, number: u64)
+        requires inside { 8 * number + 8 ≤ self.old.words.count }
+        requires room { 0 < note_room self.old }
+        ensures noted { NotesOwnLine number self.old self.new }
+        ensures room { note_room self.new ≡ note_room self.old - 1 }
+        ensures words { words_of self.new.words ≡ words_of self.old.words }
+        ensures len { self.new.words.count ≡ self.old.words.count }
+    {
+        let line = self.words.line(number);
+        self.noted.push_reserved(line);
+    }
+
+    pub(crate) fn noted(&self) -> &[Line]
+        ensures { result.now ≡ self.now.noted.items }
+    {
+        self.noted.as_slice()
+    }
+
+    pub(crate) fn drop_notes(&mut self)
+        ensures noted { self.new.noted.items ≡ [] }
+        ensures room { note_room self.new ≡ 4096 }
+        ensures words { self.new.words ≡ self.old.words }
+    {
+        self.noted.clear();
+    }
+}

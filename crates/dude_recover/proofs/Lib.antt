@@ -1,0 +1,13 @@
+pub mod FormatLaw
+pub mod Loops
+pub mod NewImages
+pub mod Writes
+pub mod ClearedHeads
+pub mod MixedHomes
+pub mod OpeningFaults
+pub mod OpeningImages
+pub mod OpeningMoments
+pub mod OpeningReads
+pub mod OpeningRuns
+pub mod OpeningStates
+pub mod SettledReads

@@ -1,0 +1,9 @@
+pub mod Causes
+pub mod FormatCalls
+pub mod Formats
+pub mod NewImages
+pub mod Texts
+pub mod Answers
+pub mod Opened
+pub mod OpeningCalls
+pub mod OpeningLaw

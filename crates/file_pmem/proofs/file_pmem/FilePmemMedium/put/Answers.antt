@@ -1,4 +1,0 @@
-use Rattle.file_pmem.proofs.file_pmem.FilePmemMedium.put.Goals as goal
-
-pub returns-clause-put : goal.returns-clause-put
-returns-clause-put g c = c.set.ensures.words

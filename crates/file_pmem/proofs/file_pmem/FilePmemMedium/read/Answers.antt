@@ -1,4 +1,0 @@
-use Rattle.file_pmem.proofs.file_pmem.FilePmemMedium.read.Goals as goal
-
-pub returns-clause-word : goal.returns-clause-word
-returns-clause-word g c = c.word.ensures

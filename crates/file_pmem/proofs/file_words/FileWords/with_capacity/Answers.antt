@@ -1,5 +1,0 @@
-use Rattle.file_pmem.proofs.Pieces.{no_words}
-use Rattle.file_pmem.proofs.file_words.FileWords.with_capacity.Goals as goal
-
-pub returns-clause-words : goal.returns-clause-words
-returns-clause-words c = no_words _ _ c.in_ok-with_capacity.ensures.items

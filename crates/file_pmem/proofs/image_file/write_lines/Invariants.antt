@@ -1,5 +1,0 @@
-use Rattle.std.proofs.Common.{length}
-use Rattle.file_pmem.proofs.image_file.write_lines.Given as goal
-
-abbrev pub decreases-loop-rest : goal.decreases-loop-rest
-decreases-loop-rest g l = length l.rest

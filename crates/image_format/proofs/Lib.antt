@@ -1,4 +1,0 @@
-pub mod FormatLaw
-pub mod Loops
-pub mod NewImages
-pub mod Writes

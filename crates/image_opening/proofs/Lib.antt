@@ -1,9 +1,0 @@
-pub mod ClearedHeads
-pub mod MixedHomes
-pub mod OpeningFaults
-pub mod OpeningImages
-pub mod OpeningMoments
-pub mod OpeningReads
-pub mod OpeningRuns
-pub mod OpeningStates
-pub mod SettledReads

@@ -1,4 +1,0 @@
-pub mod Records
-pub mod Lists
-pub mod Known
-pub mod Calls

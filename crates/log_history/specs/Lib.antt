@@ -1,3 +1,0 @@
-pub mod KeptLog
-pub mod BoxBundles
-pub mod HistoryLaws

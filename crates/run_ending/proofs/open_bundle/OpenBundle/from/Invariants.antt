@@ -1,6 +1,0 @@
-use Rattle.std.proofs.Common.{◌≡◌}
-use Rattle.run_ending.specs.Bundled.{IsBundled}
-use Rattle.run_ending.proofs.open_bundle.OpenBundle.from.Given as goal
-
-abbrev pub invariant-loop-next : goal.invariant-loop-next
-invariant-loop-next l = record { is : IsBundled l.cells l.rest l.from l.taken; end : l.taken.end ≡ l.next }

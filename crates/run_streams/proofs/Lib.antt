@@ -1,3 +1,0 @@
-mod FirstLines
-mod Places
-mod JobsStreamed

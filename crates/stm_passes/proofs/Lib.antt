@@ -1,3 +1,0 @@
-pub mod Rests
-pub mod Joins
-pub mod Opens

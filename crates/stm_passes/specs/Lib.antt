@@ -1,4 +1,0 @@
-pub mod Numbers
-pub mod Passes
-pub mod Partings
-pub mod Opening

@@ -1,6 +1,0 @@
-use Rattle.tx_reading.specs.Seats.{Stays}
-use Rattle.tx_commit.proofs.Validates.{Checking}
-use Rattle.tx_commit.proofs.validating.validate.Given as goal
-
-abbrev pub invariant-loop-k : goal.invariant-loop-k
-invariant-loop-k g l = Stays l.stm.events l.fn.seat l.seat × Checking l.stm.events.setup l.k l.reads l.fn.seat.me.0.view l.seat.me.0.view
