@@ -35,6 +35,10 @@ echo "committed, and one at the end. So the six updates are two bundles of the l
 show tour.img run "$here/bundles.csv"
 
 echo
+echo "Two files as a stream: each reply is printed as soon as its thread has it, behind the number of its file."
+show tour.img stream "$here/every.csv" "$here/bundles.csv"
+
+echo
 echo "The first subscriber's rows now. The dump has all tables as CSV, and the number that it stands for at the end."
 "$dude" tour.img dump 2> /dev/null | awk -F , '$2 == 1 || $1 == "LAST"'
 
