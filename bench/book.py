@@ -270,6 +270,8 @@ def write_safety(book):
             through = [name for name, kinds in parameters_of(call) if any(may_keep(it, fields, keeping) for it in kinds)]
             handles = sorted(bounds_of(call) & {"Threads", "Wait", "Net", "Processes"})
             none += not through
+            if "Wait" in handles:
+                book.miss(f"{crate}: {call.shown()} may wait, which the page of what calls take denies")
             returns = "unless it waits" if "Wait" in handles else "once its threads have" if handles else "always"
             memory = ", ".join(f"<code>{it}</code>" for it in through) or "none"
             rows += f'<tr><td><a href="{call.link()}">{html.escape(call.shown())}</a></td><td>{crate}</td><td>{memory}</td><td>{", ".join(handles) or "none"}</td><td>{returns}</td></tr>'
