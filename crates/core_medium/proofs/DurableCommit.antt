@@ -59,6 +59,7 @@ small_accepted = record {
   rings = record { low = omega arith; high = omega arith };
   cells = record { low = omega arith; high = omega arith };
   pages = refl;
+  index = record { low = omega arith; high = omega arith };
 }
 
 pub small_places : HasPlaces small_setup small_sizes

@@ -1,4 +1,4 @@
--- The home: five tables one after another, in whole pages.
+-- The home: five tables one after another, and the two pools of an index where there is one, in whole pages.
 use Rattle.std.specs.Prelude.{ℕ, ◌+◌, ◌*◌, ◌/◌, ◌-◌, List, [], ◌∷◌, sum_by}
 use Rattle.dude_base.specs.declared.limits.TheConstants.{LINE, PAGE, MAX_ROWS, SUBSCRIBER_WORDS, ROW_WORDS}
 
@@ -27,9 +27,21 @@ home_tables subscribers calls =
     ∷ []
 
 -- how many words the tables take, for so many subscribers and call records
-abbrev pub home_length : ℕ → ℕ → ℕ
-home_length subscribers calls = sum_by table_words (home_tables subscribers calls)
+abbrev pub tables_length : ℕ → ℕ → ℕ
+tables_length subscribers calls = sum_by table_words (home_tables subscribers calls)
 
--- the pages that the tables need
-abbrev pub pages_for : ℕ → ℕ → ℕ
-pages_for subscribers calls = (home_length subscribers calls + (PAGE - 1)) / PAGE
+-- a pool of the index, of leaves or of inner records: as many as there are subscribers, and no buckets
+abbrev pub index_shape : ℕ → TableShape
+index_shape subscribers = record { buckets = 0; records = subscribers; size = ROW_WORDS }
+
+-- how many words the index takes: two pools where it is 1, and none where it is 0
+abbrev pub index_length : ℕ → ℕ → ℕ
+index_length subscribers index = index * (2 * table_words (index_shape subscribers))
+
+-- how many words the home takes
+abbrev pub home_length : ℕ → ℕ → ℕ → ℕ
+home_length subscribers calls index = tables_length subscribers calls + index_length subscribers index
+
+-- the pages that the home needs
+abbrev pub pages_for : ℕ → ℕ → ℕ → ℕ
+pages_for subscribers calls index = (home_length subscribers calls index + (PAGE - 1)) / PAGE

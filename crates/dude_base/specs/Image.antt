@@ -2,8 +2,7 @@
 --
 --     word 0                          the magic number, the bytes DUDETMEM as a number
 --     word 1                          the version
---     words 2 to 6                    subscribers, calls, rings, cells, pages
---     word 7                          0
+--     words 2 to 7                    subscribers, calls, rings, cells, pages, index
 --     word 8                          the mark: the number up to which the home has all writes
 --     words 9 to 15                   not read
 --     16 + (r * cells + c) * 8        the start of cell c of ring r, a line
@@ -14,7 +13,7 @@ use Rattle.dude_base.specs.declared.sizes.Sizes.{Sizes}
 
 -- words 0 to 7, in this version
 abbrev pub header_words : ℕ → Sizes → List ℕ
-header_words version s = MAGIC ∷ version ∷ s.subscribers ∷ s.calls ∷ s.rings ∷ s.cells ∷ s.pages ∷ 0 ∷ []
+header_words version s = MAGIC ∷ version ∷ s.subscribers ∷ s.calls ∷ s.rings ∷ s.cells ∷ s.pages ∷ s.index ∷ []
 
 -- A cell, by its ring and its slot in the ring.
 pub record Cell : Type 0 where

@@ -1,7 +1,7 @@
 -- The limits of the store and the units of its image, as numbers.
 use Rattle.std.specs.Prelude.{◌≡◌, ◌-◌, ◌^◌, codes}
 use Rattle.std.specs.Slice.Scan.{little_endian}
-use Rattle.dude_base.specs.declared.limits.TheConstants.{LINE, PAGE, MAX_WRITES, MAX_BUNDLE_WRITES, MAX_SPAN, MAX_SUBSCRIBERS, MAX_CALLS, MAX_ROWS, SUBSCRIBER_WORDS, ROW_WORDS, MAX_RINGS, MAX_RINGS_ONE, MIN_CELLS, MAX_CELLS, MIN_FRAMES, MAX_LOCKS, DEFAULT_LOCKS, MAX_BOXES, DEFAULT_BOXES, MAX_NUMBER, HEADER, MAGIC, VERSION, VERSION_ONE, VERSION_WORD, MARK}
+use Rattle.dude_base.specs.declared.limits.TheConstants.{LINE, PAGE, MAX_WRITES, MAX_BUNDLE_WRITES, MAX_SPAN, MAX_SUBSCRIBERS, MAX_CALLS, MAX_ROWS, SUBSCRIBER_WORDS, ROW_WORDS, MAX_RINGS, MAX_RINGS_ONE, MIN_CELLS, MAX_CELLS, MAX_INDEX, MIN_FRAMES, MAX_LOCKS, DEFAULT_LOCKS, MAX_BOXES, DEFAULT_BOXES, MAX_NUMBER, HEADER, MAGIC, VERSION, VERSION_ONE, VERSION_WORD, MARK}
 
 -- what each constant of the code is
 pub record LimitsAre : Type 0 where
@@ -19,6 +19,7 @@ pub record LimitsAre : Type 0 where
   pub max_rings_one : MAX_RINGS_ONE ≡ 8
   pub min_cells : MIN_CELLS ≡ 16
   pub max_cells : MAX_CELLS ≡ 4_096
+  pub max_index : MAX_INDEX ≡ 0
   pub min_frames : MIN_FRAMES ≡ 32
   pub max_locks : MAX_LOCKS ≡ 65_536
   pub default_locks : DEFAULT_LOCKS ≡ 1_024

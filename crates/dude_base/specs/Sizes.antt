@@ -1,8 +1,8 @@
 -- Which sizes an image may have.
 use Rattle.std.specs.Prelude.{◌≡◌, ℕ, ◌<◌, ◌≤◌}
 use Rattle.dude_base.specs.declared.field.Field.{Field}
-use Rattle.dude_base.specs.declared.field.Field.TheVariants.{Subscribers, Calls, Rings, Cells, Pages}
-use Rattle.dude_base.specs.declared.limits.TheConstants.{MAX_SUBSCRIBERS, MAX_CALLS, MAX_RINGS, MIN_CELLS, MAX_CELLS}
+use Rattle.dude_base.specs.declared.field.Field.TheVariants.{Subscribers, Calls, Rings, Cells, Pages, Index}
+use Rattle.dude_base.specs.declared.limits.TheConstants.{MAX_SUBSCRIBERS, MAX_CALLS, MAX_RINGS, MIN_CELLS, MAX_CELLS, MAX_INDEX}
 use Rattle.dude_base.specs.declared.size_fault.SizeFault.{SizeFault}
 use Rattle.dude_base.specs.declared.sizes.Sizes.{Sizes}
 use Rattle.dude_base.specs.Home.{pages_for}
@@ -18,7 +18,8 @@ IsWithin Subscribers s = IsFrom 1 MAX_SUBSCRIBERS s.subscribers
 IsWithin Calls s = IsFrom 1 MAX_CALLS s.calls
 IsWithin Rings s = IsFrom 1 MAX_RINGS s.rings
 IsWithin Cells s = IsFrom MIN_CELLS MAX_CELLS s.cells
-IsWithin Pages s = s.pages ≡ pages_for s.subscribers s.calls
+IsWithin Pages s = s.pages ≡ pages_for s.subscribers s.calls s.index
+IsWithin Index s = IsFrom 0 MAX_INDEX s.index
 
 -- each field is within its limits
 pub record IsAccepted (s : Sizes) : Type 0 where
@@ -27,23 +28,33 @@ pub record IsAccepted (s : Sizes) : Type 0 where
   pub rings : IsWithin Rings s
   pub cells : IsWithin Cells s
   pub pages : IsWithin Pages s
+  pub index : IsWithin Index s
 
--- the order of the fields in the struct
+-- the order in which the fields are tested: that of the struct, but for the index, on which the pages depend
 abbrev pub field_rank : Field → ℕ
 field_rank Subscribers = 0
 field_rank Calls = 1
 field_rank Rings = 2
 field_rank Cells = 3
-field_rank Pages = 4
+field_rank Index = 4
+field_rank Pages = 5
 
 -- this field is out of its limits, and each one before it is within them
 pub record IsFirstOut (field : Field) (s : Sizes) : Type 0 where
   pub out : ¬ IsWithin field s
   pub before : (other : Field) → field_rank other < field_rank field → IsWithin other s
 
--- the sizes with the pages that the tables need
+-- the sizes with this index and the pages that the home then needs
+abbrev pub sizes_with : ℕ → ℕ → ℕ → ℕ → ℕ → Sizes
+sizes_with index subscribers calls rings cells = record { subscribers = subscribers; calls = calls; rings = rings; cells = cells; pages = pages_for subscribers calls index; index = index }
+
+-- the sizes without an index
 abbrev pub sizes_for : ℕ → ℕ → ℕ → ℕ → Sizes
-sizes_for subscribers calls rings cells = record { subscribers = subscribers; calls = calls; rings = rings; cells = cells; pages = pages_for subscribers calls }
+sizes_for = sizes_with 0
+
+-- the sizes with an index
+abbrev pub indexed_sizes : ℕ → ℕ → ℕ → ℕ → Sizes
+indexed_sizes = sizes_with 1
 
 -- these sizes, and they are accepted
 abbrev pub AreTheSizes : Sizes → Sizes → Type 0

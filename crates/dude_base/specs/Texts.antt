@@ -3,7 +3,7 @@ use Rattle.std.specs.Prelude.{ℕ, List, codes}
 use Rattle.dude_base.specs.declared.field.Field.{Field}
 use Rattle.dude_base.specs.declared.no_join.NoJoin.{NoJoin}
 use Rattle.dude_base.specs.declared.no_join.NoJoin.TheVariants.{Gap, Long, Broad}
-use Rattle.dude_base.specs.declared.field.Field.TheVariants.{Subscribers, Calls, Rings, Cells, Pages}
+use Rattle.dude_base.specs.declared.field.Field.TheVariants.{Subscribers, Calls, Rings, Cells, Pages, Index}
 
 -- a field that is out of its limits
 abbrev pub field_words : Field → List ℕ
@@ -12,6 +12,7 @@ field_words Calls = codes "the number of call forwardings is out of its limits"
 field_words Rings = codes "the number of rings is out of its limits"
 field_words Cells = codes "the number of cells is out of its limits"
 field_words Pages = codes "the number of pages isn't the one that the tables need"
+field_words Index = codes "the index is out of its limits"
 
 -- one write too many
 abbrev pub wide_words : List ℕ

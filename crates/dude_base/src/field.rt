@@ -11,6 +11,8 @@ pub enum Field {
     Rings,
     /// How many cells each ring has.
     Cells,
-    /// How many pages the home has; it follows from the subscribers and the calls.
+    /// How many pages the home has; it follows from the subscribers, the calls and the index.
     Pages,
+    /// Whether there is an ordered index, 1 or 0. It is tested before the pages.
+    Index,
 }

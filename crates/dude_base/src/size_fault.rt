@@ -23,6 +23,7 @@ impl fmt::Display for SizeFault {
             Field::Rings => "the number of rings is out of its limits",
             Field::Cells => "the number of cells is out of its limits",
             Field::Pages => "the number of pages isn't the one that the tables need",
+            Field::Index => "the index is out of its limits",
         })
     }
 }

@@ -1,13 +1,13 @@
 //! How large an image is, and which sizes it may have.
 
-ghost use Rattle.std.specs.Prelude.{◌≡◌, ◌<◌, ◌≤◌, ◌+◌, ◌*◌, ℕ, IfOk, IfErr, OnOk};
-ghost use Rattle.dude_base.specs.Home.{in_whole_lines, table_words, pages_for};
-ghost use Rattle.dude_base.specs.Sizes.{AreTheSizes, CountsAreWithin, IsAccepted, IsFaultOf, IsFaultOfCounts, IsFrom, sizes_for};
+ghost use Rattle.std.specs.Prelude.{◌≡◌, ◌<◌, ◌≤◌, ◌+◌, ◌*◌, ◌^◌, ℕ, IfOk, IfErr, OnOk};
+ghost use Rattle.dude_base.specs.Home.{in_whole_lines, index_length, pages_for, table_words, tables_length};
+ghost use Rattle.dude_base.specs.Sizes.{AreTheSizes, CountsAreWithin, IsAccepted, IsFaultOf, IsFaultOfCounts, IsFrom, indexed_sizes, sizes_for, sizes_with};
 
 use crate::field::Field;
 use crate::limits::{
-    LINE, MAX_CALLS, MAX_CELLS, MAX_RINGS, MAX_ROWS, MAX_SUBSCRIBERS, MIN_CELLS, PAGE, ROW_WORDS,
-    SUBSCRIBER_WORDS,
+    LINE, MAX_CALLS, MAX_CELLS, MAX_INDEX, MAX_RINGS, MAX_ROWS, MAX_SUBSCRIBERS, MIN_CELLS, PAGE,
+    ROW_WORDS, SUBSCRIBER_WORDS,
 };
 use crate::size_fault::SizeFault;
 
@@ -22,15 +22,40 @@ pub struct Sizes {
     pub rings: u64,
     /// Cells of each ring, from `MIN_CELLS` to `MAX_CELLS`.
     pub cells: u64,
-    /// Pages of the home, as many as its tables need.
+    /// Pages of the home, as many as its tables and the index need.
     pub pages: u64,
+    /// 1 where there is an ordered index of the subscribers' locations, else 0; at most `MAX_INDEX`.
+    pub index: u64,
 }
 
 impl Sizes {
-    /// The sizes with the pages that these tables need.
+    /// The sizes without an index, with the pages that these tables need.
     pub fn of(subscribers: u64, calls: u64, rings: u64, cells: u64) -> Result<Sizes, SizeFault>
         ensures ok { IfOk result (AreTheSizes (sizes_for subscribers calls rings cells)) }
         ensures fault { IfErr result (IsFaultOf (sizes_for subscribers calls rings cells)) }
+    {
+        Sizes::with_index(0, subscribers, calls, rings, cells)
+    }
+
+    /// The sizes with an index, with the pages that these tables and the index need. They are refused
+    /// while `MAX_INDEX` is 0.
+    pub fn indexed(subscribers: u64, calls: u64, rings: u64, cells: u64) -> Result<Sizes, SizeFault>
+        ensures ok { IfOk result (AreTheSizes (indexed_sizes subscribers calls rings cells)) }
+        ensures fault { IfErr result (IsFaultOf (indexed_sizes subscribers calls rings cells)) }
+    {
+        Sizes::with_index(1, subscribers, calls, rings, cells)
+    }
+
+    // The sizes with this index.
+    fn with_index(
+        index: u64,
+        subscribers: u64,
+        calls: u64,
+        rings: u64,
+        cells: u64,
+    ) -> Result<Sizes, SizeFault>
+        ensures ok { IfOk result (AreTheSizes (sizes_with index subscribers calls rings cells)) }
+        ensures fault { IfErr result (IsFaultOf (sizes_with index subscribers calls rings cells)) }
     {
         let mut sizes = Sizes {
             subscribers,
@@ -38,9 +63,10 @@ impl Sizes {
             rings,
             cells,
             pages: 0,
+            index,
         };
         sizes.check_counts()?;
-        sizes.pages = pages_of_tables(subscribers, calls);
+        sizes.pages = pages_of_home(subscribers, calls, index);
         Ok(sizes)
     }
 
@@ -50,7 +76,7 @@ impl Sizes {
         ensures fault { IfErr result (IsFaultOf self.now) }
     {
         self.check_counts()?;
-        if self.pages != pages_of_tables(self.subscribers, self.calls) {
+        if self.pages != pages_of_home(self.subscribers, self.calls, self.index) {
             return Err(SizeFault {
                 field: Field::Pages,
             });
@@ -66,7 +92,8 @@ impl Sizes {
         within(Field::Subscribers, self.subscribers, 1, MAX_SUBSCRIBERS)?;
         within(Field::Calls, self.calls, 1, MAX_CALLS)?;
         within(Field::Rings, self.rings, 1, MAX_RINGS)?;
-        within(Field::Cells, self.cells, MIN_CELLS, MAX_CELLS)
+        within(Field::Cells, self.cells, MIN_CELLS, MAX_CELLS)?;
+        within(Field::Index, self.index, 0, MAX_INDEX)
     }
 }
 
@@ -81,18 +108,41 @@ fn within(field: Field, value: u64, least: u64, most: u64) -> Result<(), SizeFau
     }
 }
 
-fn pages_of_tables(subscribers: u64, calls: u64) -> u64
+fn pages_of_home(subscribers: u64, calls: u64, index: u64) -> u64
     requires subscribers { subscribers ≤ MAX_SUBSCRIBERS }
     requires calls { calls ≤ MAX_CALLS }
-    ensures { result ≡ pages_for subscribers calls }
+    requires index { index ≤ 1 }
+    ensures { result ≡ pages_for subscribers calls index }
+{
+    let words = words_of_tables(subscribers, calls) + words_of_index(subscribers, index);
+    words.div_ceil(PAGE)
+}
+
+fn words_of_tables(subscribers: u64, calls: u64) -> u64
+    requires subscribers { subscribers ≤ MAX_SUBSCRIBERS }
+    requires calls { calls ≤ MAX_CALLS }
+    ensures words { result ≡ tables_length subscribers calls }
+    ensures few { result ≤ 2 ^ 32 }
 {
     let rows = MAX_ROWS * subscribers;
-    let words = words_of_table(subscribers, subscribers, SUBSCRIBER_WORDS)
+    words_of_table(subscribers, subscribers, SUBSCRIBER_WORDS)
         + words_of_table(subscribers, subscribers, ROW_WORDS)
         + words_of_table(rows, rows, ROW_WORDS)
         + words_of_table(rows, rows, ROW_WORDS)
-        + words_of_table(calls, calls, ROW_WORDS);
-    words.div_ceil(PAGE)
+        + words_of_table(calls, calls, ROW_WORDS)
+}
+
+fn words_of_index(subscribers: u64, index: u64) -> u64
+    requires subscribers { subscribers ≤ MAX_SUBSCRIBERS }
+    requires index { index ≤ 1 }
+    ensures words { result ≡ index_length subscribers index }
+    ensures few { result ≤ 2 ^ 32 }
+{
+    if index == 0 {
+        0
+    } else {
+        2 * words_of_table(0, subscribers, ROW_WORDS)
+    }
 }
 
 // A header line, the links of the buckets and the records, each in whole lines.

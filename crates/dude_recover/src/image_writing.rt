@@ -76,7 +76,7 @@ fn settle_header<M: Medium>(m: &mut M, place: &Place) -> Result<(), Failed>
         (4, sizes.rings),
         (5, sizes.cells),
         (6, sizes.pages),
-        (7, 0),
+        (7, sizes.index),
     ];
     settle_group(m, &header, &[0])
 }

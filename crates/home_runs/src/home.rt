@@ -59,6 +59,7 @@ fn layout_of(numbers: &[u64]) -> Result<Layout, SizeFault> {
             rings,
             cells,
             pages,
+            index: 0,
         },
         _ => Sizes::of(0, 0, 0, 0)?,
     };
@@ -73,6 +74,7 @@ fn say_fault(fault: SizeFault, page: &mut Page) {
         Field::Rings => "no such number of rings",
         Field::Cells => "no such number of cells",
         Field::Pages => "no such number of pages",
+        Field::Index => "no such index",
     });
 }
 

@@ -32,6 +32,7 @@ pub fn image_with(
         sizes.rings,
         sizes.cells,
         sizes.pages,
+        sizes.index,
     ]?;
     image.resize(HEADER as usize, 0)?;
     image.extend_from_slice(cells)?;

@@ -1,6 +1,6 @@
 -- No field of accepted sizes is out of its limits.
 use Rattle.dude_base.specs.declared.field.Field.{Field}
-use Rattle.dude_base.specs.declared.field.Field.TheVariants.{Subscribers, Calls, Rings, Cells, Pages}
+use Rattle.dude_base.specs.declared.field.Field.TheVariants.{Subscribers, Calls, Rings, Cells, Index, Pages}
 use Rattle.dude_base.specs.declared.sizes.Sizes.{Sizes}
 use Rattle.dude_base.specs.Sizes.{IsAccepted, IsFirstOut}
 
@@ -10,3 +10,4 @@ never_out s Calls is out = out.out is.calls
 never_out s Rings is out = out.out is.rings
 never_out s Cells is out = out.out is.cells
 never_out s Pages is out = out.out is.pages
+never_out s Index is out = out.out is.index

@@ -21,6 +21,7 @@ module _ (len : ℕ) (header content : List ℕ) (short : length header ≡ 8) (
       let c = each 4 (omega arith) in
       let d = each 5 (omega arith) in
       let e = each 6 (omega arith) in
+      let f = each 7 (omega arith) in
       cc
 
   named : version_of header ≡ version_of content

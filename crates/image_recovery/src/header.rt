@@ -22,12 +22,16 @@ fn sizes_in(header: &[u64; MARK as usize], len: u64) -> Option<Sizes>
         rings: header[4],
         cells: header[5],
         pages: header[6],
+        index: header[7],
     };
-    if header[0] != MAGIC || header[7] != 0 {
+    if header[0] != MAGIC {
         return None;
     }
     let version = header[1];
-    if version != VERSION && (version != VERSION_ONE || sizes.rings > MAX_RINGS_ONE) {
+    if version != VERSION && version != VERSION_ONE {
+        return None;
+    }
+    if version == VERSION_ONE && (sizes.rings > MAX_RINGS_ONE || sizes.index != 0) {
         return None;
     }
     sizes.check().ok()?;

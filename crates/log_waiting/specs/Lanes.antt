@@ -27,7 +27,7 @@ lanes_at_start s = map (empty_lane s) (range_with_len 0 s.rings)
 
 -- a lane that no log has
 abbrev pub no_lane : LaneState
-no_lane = empty_lane (record { subscribers = 0; calls = 0; rings = 0; cells = 0; pages = 0 }) 0
+no_lane = empty_lane (record { subscribers = 0; calls = 0; rings = 0; cells = 0; pages = 0; index = 0 }) 0
 
 -- the lane of a ring
 abbrev pub lane_at : List LaneState → ℕ → LaneState

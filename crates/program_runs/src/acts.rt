@@ -143,6 +143,7 @@ fn sizes_of(alloc: Global, words: &[&str]) -> Result<Option<Sizes>, AllocError> 
             rings: *rings,
             cells: *cells,
             pages: *pages,
+            index: 0,
         }),
         _ => None,
     })

@@ -195,7 +195,7 @@ tag_number s image c r is_cell same = ap (λ (i : ℕ). number_of (slice_index i
 
 -- an image of any sizes may have the newest version
 pub newest_version : (s : Sizes) → IsVersion VERSION s
-newest_version s = record { known = inr refl; rings = λ one. absurd (omega arith) }
+newest_version s = record { known = inr refl; rings = λ one. absurd (omega arith); index = λ one. absurd (omega arith) }
 
 -- what is known of a head over the mark: its cells hold a record that waits
 record HeadKnown (l : LogState) (image : List ℕ) (c : Cell) : Type 0 where

@@ -15,19 +15,13 @@ use Rattle.redo_record.specs.Rest.{HasHome, LawOfImagesAtRest}
 use Rattle.redo_record.specs.Recovery.{IsFormatted, IsVersion, HasRecord, AreConsecutive, overwritten_by_all, Recovers, LawOfRecovery}
 
 -- sizes by their fields
-sizes_is : {s : Sizes} {subscribers calls rings cells pages : ℕ} → subscribers ≡ s.subscribers → calls ≡ s.calls → rings ≡ s.rings → cells ≡ s.cells → pages ≡ s.pages
-    → ◌≡◌ {A = Sizes} (record { subscribers = subscribers; calls = calls; rings = rings; cells = cells; pages = pages }) s
-sizes_is {s} {subscribers} {calls} {rings} {cells} {pages} a b c d e =
-    let first : ℕ → Sizes = λ x. record { subscribers = x; calls = calls; rings = rings; cells = cells; pages = pages } in
-    let second : ℕ → Sizes = λ x. record { subscribers = s.subscribers; calls = x; rings = rings; cells = cells; pages = pages } in
-    let third : ℕ → Sizes = λ x. record { subscribers = s.subscribers; calls = s.calls; rings = x; cells = cells; pages = pages } in
-    let fourth : ℕ → Sizes = λ x. record { subscribers = s.subscribers; calls = s.calls; rings = s.rings; cells = x; pages = pages } in
-    let fifth : ℕ → Sizes = λ x. record { subscribers = s.subscribers; calls = s.calls; rings = s.rings; cells = s.cells; pages = x } in
-    ap first a ∙ (ap second b ∙ (ap third c ∙ (ap fourth d ∙ ap fifth e)))
+sizes_is : {s : Sizes} {subscribers calls rings cells pages index : ℕ} → subscribers ≡ s.subscribers → calls ≡ s.calls → rings ≡ s.rings → cells ≡ s.cells → pages ≡ s.pages → index ≡ s.index
+    → ◌≡◌ {A = Sizes} (record { subscribers = subscribers; calls = calls; rings = rings; cells = cells; pages = pages; index = index }) s
+sizes_is a b c d e f = λ i. record { subscribers = a i; calls = b i; rings = c i; cells = d i; pages = e i; index = f i }
 
 module _ {version : ℕ} {s : Sizes} {mark : ℕ} {home image : List ℕ} (has : HasHome version s mark home image) where
   pub home_sizes : sizes_of image ≡ s
-  home_sizes = sizes_is (has.header 2 (omega arith)) (has.header 3 (omega arith)) (has.header 4 (omega arith)) (has.header 5 (omega arith)) (has.header 6 (omega arith))
+  home_sizes = sizes_is (has.header 2 (omega arith)) (has.header 3 (omega arith)) (has.header 4 (omega arith)) (has.header 5 (omega arith)) (has.header 6 (omega arith)) (has.header 7 (omega arith))
 
   home_header : take 8 image ≡ header_words version s
   home_header = same_number_lists (take 8 image) (header_words version s) count same

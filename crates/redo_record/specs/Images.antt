@@ -16,6 +16,7 @@ sizes_of image = record {
   rings = slice_index image 4;
   cells = slice_index image 5;
   pages = slice_index image 6;
+  index = slice_index image 7;
 }
 
 -- the version that an image names

@@ -14,6 +14,7 @@ use Rattle.redo_record.specs.Rest.{HasHome}
 pub record IsVersion (version : ℕ) (s : Sizes) : Type 0 where
   pub known : (version ≡ VERSION_ONE) ⊎ (version ≡ VERSION)
   pub rings : version ≡ VERSION_ONE → s.rings ≤ MAX_RINGS_ONE
+  pub index : version ≡ VERSION_ONE → s.index ≡ 0
 
 -- The image is formatted: the words before the mark are the header of the version and the sizes that it names, which are
 -- accepted, and it has as many words as they need.

@@ -157,9 +157,9 @@ module _ (s : Sizes) (array : List ℕ) (walked : Walked) (w : AreWalked s array
             let there = contains_map (facility_in array) (records_by_key walked.facilities) any.1 (in_ordered (content_of Facilities) (table_of Facilities s) array (wide Facilities s) walked.facilities (w.each Facilities) any.1 (any.0, any.2, any.3)) in
             (there.0, facility_in array any.1, there.1, there.2, (ap (λ k. k / 4) key, ap (λ k. k % 4 + 1) key))
 
-    -- the array stands for them
-    pub stands : length array ≡ s.pages * PAGE → StandsFor s array (database_in array walked)
-    stands size = record {
+    -- the array stands for them, where there is no index
+    pub stands : length array ≡ s.pages * PAGE → s.index ≡ 0 → StandsFor s array (database_in array walked)
+    stands size bare = record {
       size = size;
       in_order = in_order;
       subscribers = rows_had (content_of Subscribers) (table_of Subscribers s) array (wide Subscribers s) walked.subscribers (w.each Subscribers) subscriber_form (subscriber_in array) (λ at c. (subscriber at c).1);
@@ -167,4 +167,5 @@ module _ (s : Sizes) (array : List ℕ) (walked : Walked) (w : AreWalked s array
       access = rows_had (content_of Access) (table_of Access s) array (wide Access s) walked.access (w.each Access) access_form (access_in array) (λ at c. (access at c).1);
       facilities = rows_had (content_of Facilities) (table_of Facilities s) array (wide Facilities s) walked.facilities (w.each Facilities) facility_form (facility_in array) (λ at c. (facility at c).1);
       calls = rows_had (content_of Calls) (table_of Calls s) array (wide Calls s) walked.calls (w.each Calls) call_form (call_in array) (λ at c. (call at c).1);
+      index = λ some. absurd (some bare);
     }

@@ -19,6 +19,8 @@ pub fn check(alloc: Global, lay: &Layout, a: &[u64]) -> Result<(), CheckFault>
     ensures ok { OnOk result (IsLawful lay.now a.now) }
     ensures fault { IfErr result (IsCause (IsNotDb lay.now a.now)) }
 {
+    let sizes = lay.sizes();
+    prove!(sizes.index == 0);
     let walked = walk(alloc, lay, a)?;
     match first_unbound(lay, a, &walked) {
         Some(word) => Err(CheckFault::NotDb { word }),

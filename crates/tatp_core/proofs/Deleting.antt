@@ -1,5 +1,5 @@
 -- `DELETE_CALL_FORWARDING` on the words of an array.
-use Rattle.std.proofs.Common.{◌≡◌, ℕ, ◌+◌, ◌-◌, ◌*◌, ◌/◌, true, false, List, Some, None, sym, arith}
+use Rattle.std.proofs.Common.{◌≡◌, ℕ, ◌+◌, ◌-◌, ◌*◌, ◌/◌, true, false, List, map, Some, None, sym, arith}
 use Rattle.std.specs.Prelude.{find}
 use Rattle.dude_base.specs.declared.sizes.Sizes.{Sizes}
 use Rattle.hash_table.specs.Table.{FitsTable, RemovesAll}
@@ -9,11 +9,13 @@ use Rattle.tatp_model.specs.declared.request.Request.TheVariants.{DeleteCall}
 use Rattle.tatp_model.specs.Database.{Database, call_key}
 use Rattle.tatp_model.specs.Request.{IsInRange}
 use Rattle.tatp_model.specs.Transaction.{has_phone, is_call}
+use Rattle.tatp_layout.specs.Index.{location_key}
 use Rattle.tatp_layout.specs.Layout.{call_table}
 use Rattle.tatp_layout.specs.Records.{call_form}
 use Rattle.tatp_layout.specs.StandsFor.{StandsFor}
 use Rattle.tatp_layout.proofs.Dropped.{dropped_at, dropped_table, rows_dropped}
 use Rattle.tatp_layout.proofs.Found.{TestsKey, any_found, any_none, rising_apart, tells as tells_at, tests_call, told_call}
+use Rattle.tatp_layout.proofs.Indexes.{index_calls}
 use Rattle.tatp_layout.proofs.Tables.{call_room, calls_changed, tables_of}
 use Rattle.tatp_core.specs.Serves.{Serves}
 use Rattle.tatp_core.proofs.Lists.{drops_named}
@@ -47,3 +49,4 @@ module _ {s : Sizes} {a : List ℕ} {db : Database} (sub_nbr sf_type start_time 
         (deletes_one s.calls db sub_nbr sf_type start_time s_id tells (any_found (is_call s_id sf_type start_time) named_call found))
         drops.changes.size
         (calls_changed (tables_of stands) (dropped_table fits stands.calls drops) (rows_dropped fits stands.calls drops (call_room s) (drops_named (is_call s_id sf_type start_time) stands.in_order.calls_rise named_call found)))
+        (index_calls s (map location_key db.subscribers) (dropped_table fits stands.calls drops) stands.index)

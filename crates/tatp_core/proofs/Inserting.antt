@@ -1,5 +1,5 @@
 -- `INSERT_CALL_FORWARDING` on the words of an array.
-use Rattle.std.proofs.Common.{◌≡◌, ℕ, ◌+◌, ◌-◌, ◌*◌, true, List, length, Some, None, sym, ◌∙◌, arith, slice_index, slice_set, subst}
+use Rattle.std.proofs.Common.{◌≡◌, ℕ, ◌+◌, ◌-◌, ◌*◌, true, List, length, map, Some, None, sym, ◌∙◌, arith, slice_index, slice_set, subst}
 use Rattle.std.specs.List.{list_any}
 use Rattle.std.proofs.lemmas.Bool.{le-leb, lt-leb}
 use Rattle.std.specs.Prelude.{find}
@@ -12,10 +12,12 @@ use Rattle.tatp_model.specs.declared.request.Request.TheVariants.{InsertCall}
 use Rattle.tatp_model.specs.Database.{Database, call_key}
 use Rattle.tatp_model.specs.Request.{IsInRange}
 use Rattle.tatp_model.specs.Transaction.{has_phone, is_call, is_facility}
+use Rattle.tatp_layout.specs.Index.{location_key}
 use Rattle.tatp_layout.specs.Layout.{call_table, facility_table}
 use Rattle.tatp_layout.specs.Records.{HoldsRow, call_form, facility_form}
 use Rattle.tatp_layout.specs.StandsFor.{StandsFor}
 use Rattle.tatp_layout.proofs.Found.{TestsKey, any_found, any_none, tests_call, tests_facility, told_call, told_facility}
+use Rattle.tatp_layout.proofs.Indexes.{index_calls}
 use Rattle.tatp_layout.proofs.Rewritten.{ChangesRow, changes_row-set, changes_row-table, changes_row-then}
 use Rattle.tatp_layout.proofs.Stays.{changes_table-then}
 use Rattle.tatp_layout.proofs.Added.{rows_fewer, rows_full, rows_stored, stored_key, stored_record, stored_table}
@@ -72,9 +74,11 @@ module _ {s : Sizes} {a : List ℕ} {db : Database} (sub_nbr sf_type start_time 
           let words : ChangesRow (call_table s).pool.size at b (slice_set (slice_set b (at + 2) end_time) (at + 3) numberx) =
           changes_row-then (changes_row-set b 2 end_time (omega arith) (omega arith)) (changes_row-set (slice_set b (at + 2) end_time) 3 numberx (omega arith) (omega arith)) in
           let changes : ChangesRow (call_table s).pool.size at b c = subst (λ l. ChangesRow (call_table s).pool.size at b l) (sym is) words in
+          let table = changes_table-then (stored_table fits stands.calls stores) (changes_row-table fits (stored_record fits stands.calls stores) changes) in
           serves_by (InsertCall sub_nbr sf_type start_time end_time numberx) Changed stands range
           (inserts_one s.calls db sub_nbr sf_type start_time end_time numberx s_id tells facility_there (any_none (is_call s_id sf_type start_time) named_call absent)
           (lt-leb s.calls (length db.calls) (rows_fewer at stores.left stands.calls stores.first)))
           (changes.size ∙ stores.changes.size)
-          (calls_changed (tables_of stands) (changes_table-then (stored_table fits stands.calls stores) (changes_row-table fits (stored_record fits stands.calls stores) changes))
+          (calls_changed (tables_of stands) table
           (rows_stored fits stands.calls stores (call_room s) changes (holds (stored_key fits stands.calls stores)) (adds_call row db.calls absent)))
+          (index_calls s (map location_key db.subscribers) table stands.index)

@@ -2,6 +2,7 @@ pub mod Answered
 pub mod Deleting
 pub mod Inserting
 pub mod Lists
+pub mod LocationKeys
 pub mod Locations
 pub mod OfKind
 pub mod Outcomes

@@ -12,6 +12,7 @@ use Rattle.tatp_model.specs.Request.{IsInRange}
 use Rattle.tatp_model.specs.Transaction.{Outcome, answers, changes, has_phone, is_call, is_facility, is_subscriber, outcome_of, update_where, with_call}
 use Rattle.tatp_model.proofs.Numbered.{list_any-find}
 use Rattle.tatp_model.proofs.InOrder.{KeepsOrder-after_request}
+use Rattle.tatp_layout.specs.Index.{IndexStands}
 use Rattle.tatp_layout.specs.StandsFor.{StandsFor}
 use Rattle.tatp_layout.proofs.Tables.{HasTables, rows_within, stands_by, tables_of}
 use Rattle.tatp_core.specs.Serves.{Serves}
@@ -19,17 +20,18 @@ use Rattle.tatp_core.proofs.Phones.{HasPhone}
 
 module _ {s : Sizes} {a b : List ℕ} {db after : Database} (request : Request) (reply : Reply) (stands : StandsFor s a db) where
   -- the step's outcome, of whose tables the array has the rows
-  pub serves_by : IsInRange request → outcome_of s.calls db request ≡ record { reply = reply; after = after } → length b ≡ length a → HasTables s b after → Serves s db request reply b
-  serves_by range outcome size tables =
+  pub serves_by : IsInRange request → outcome_of s.calls db request ≡ record { reply = reply; after = after } → length b ≡ length a → HasTables s b after → IndexStands s b after.subscribers → Serves s db request reply b
+  serves_by range outcome size tables index =
       let kept = KeepsOrder-after_request s.calls db request range (record { order = stands.in_order; room = rows_within stands.calls }) in
       record {
         replies = sym (ap (λ (o : Outcome). o.reply) outcome);
-        stands = stands_by (size ∙ stands.size) kept.order (subst (HasTables s b) (sym (ap (λ (o : Outcome). o.after) outcome)) tables);
+        stands = stands_by (size ∙ stands.size) kept.order (subst (HasTables s b) (sym (ap (λ (o : Outcome). o.after) outcome)) tables)
+            (subst (λ (d : Database). IndexStands s b d.subscribers) (sym (ap (λ (o : Outcome). o.after) outcome)) index);
       }
 
 -- nothing changes
 pub serves_same : {s : Sizes} {a b : List ℕ} {db : Database} (request : Request) (reply : Reply) → StandsFor s a db → IsInRange request → b ≡ a → outcome_of s.calls db request ≡ answers db reply → Serves s db request reply b
-serves_same {s} {a} {b} {db} request reply stands range same outcome = subst (λ l. Serves s db request reply l) (sym same) (serves_by request reply stands range outcome refl (tables_of stands))
+serves_same {s} {a} {b} {db} request reply stands range same outcome = subst (λ l. Serves s db request reply l) (sym same) (serves_by request reply stands range outcome refl (tables_of stands) stands.index)
 
 -- ---- the cases of each request
 

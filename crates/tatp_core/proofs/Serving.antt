@@ -17,18 +17,23 @@ use Rattle.tatp_model.specs.Database.{Database}
 use Rattle.tatp_model.specs.Request.{IsInRange}
 use Rattle.tatp_model.specs.Transaction.{after_request}
 use Rattle.tatp_layout.specs.StandsFor.{StandsFor}
+use Rattle.tatp_layout.proofs.Indexes.{by_index_both, by_index_least, by_index_most}
 use Rattle.tatp_layout.proofs.Seen.{stands_bare}
 use Rattle.tatp_read.specs.Lookups.{AnswersRequest, CanServe, reads_of}
 use Rattle.tatp_core.specs.Reads.{IsRead}
 use Rattle.tatp_core.specs.Serves.{Answers, Serves, ServesRequest, WritesIfChanged, max_reads, max_writes, most_reads, most_writes}
 
--- no request writes more words than an insertion
-most_writes_few : (request : Request) → most_writes request ≤ max_writes
-most_writes_few (UpdateSubscriber s_id bit_1 sf_type data_a) = lit≤ tt
-most_writes_few (UpdateLocation sub_nbr vlr) = lit≤ tt
-most_writes_few (InsertCall sub_nbr sf_type start_time end_time numberx) = lit≤ tt
-most_writes_few (DeleteCall sub_nbr sf_type start_time) = lit≤ tt
-most_writes_few _ = lit≤ tt
+-- no request writes more words than the most of any
+most_writes_few : (s : Sizes) (request : Request) → most_writes s request ≤ max_writes s
+most_writes_few s (UpdateSubscriber s_id bit_1 sf_type data_a) = by_index_least s.index 7 20 2 (lit≤ tt) (lit≤ tt)
+most_writes_few s (UpdateLocation sub_nbr vlr) = by_index_both s.index 1 17 7 20 (lit≤ tt) (lit≤ tt)
+most_writes_few s (InsertCall sub_nbr sf_type start_time end_time numberx) = by_index_least s.index 7 20 7 (lit≤ tt) (lit≤ tt)
+most_writes_few s (DeleteCall sub_nbr sf_type start_time) = by_index_least s.index 7 20 4 (lit≤ tt) (lit≤ tt)
+most_writes_few s _ = zero-le
+
+-- and no more than this, with an index or without one
+pub max_writes_few : (s : Sizes) → max_writes s ≤ 20
+max_writes_few s = by_index_most s.index 7 20 20 (lit≤ tt) (lit≤ tt)
 
 -- and none reads more than this
 most_reads_few : (s : Sizes) (request : Request) → most_reads s request ≤ max_reads s
@@ -42,8 +47,8 @@ most_reads_few s (GetAccess s_id ai_type) = omega arith
 most_reads_few s _ = omega arith
 
 -- words were written
-wrote_changed : {n : ℕ} {s t : WordsSight} → Wrote n s t → 0 < n → WritesIfChanged Changed t.writes
-wrote_changed {t = t} wrote some = ((λ same none. omega (arith, wrote_some wrote some, ap length none)), λ some. refl)
+pub wrote_more : {n : ℕ} {s t : WordsSight} → Wrote n s t → 0 < n → t.writes ≢ []
+wrote_more {t = t} wrote some none = omega (arith, wrote_some wrote some, ap length none)
 
 -- none were
 wrote_nothing : {reply : Reply} {writes : List Write} → writes ≡ [] → reply ≢ Changed → WritesIfChanged reply writes
@@ -55,18 +60,18 @@ ServesSeen sight s request reply x y = IsInRange request → (array : List ℕ) 
 
 module _ {S : Type 0} {sight : S → WordsSight} {turns_into : S → S → Type 0} (s : Sizes) where
   -- how the words were used bounds what is left
-  served : {taken : Request} {result : Result Reply Stop} {x y : S} → (sight x).writes ≡ [] → UsesWords sight turns_into (most_reads s taken) (most_writes taken) result x y
+  served : {taken : Request} {result : Result Reply Stop} {x y : S} → (sight x).writes ≡ [] → UsesWords sight turns_into (most_reads s taken) (most_writes s taken) result x y
       → IfOk result (λ reply. Answers s taken reply (sight y).reads (sight y).writes) → ServesRequest sight turns_into s taken result x y
   served {taken = taken} {result = result} bare used answers = record {
     uses = used;
-    most = (used_more {stop = stop_of result} used (most_reads_few s taken) (most_writes_few taken)).most;
-    few = omega (arith, few_pending {stop = stop_of result} used bare, most_writes_few taken);
+    most = (used_more {stop = stop_of result} used (most_reads_few s taken) (most_writes_few s taken)).most;
+    few = omega (arith, few_pending {stop = stop_of result} used bare, most_writes_few s taken);
     answers = answers;
   }
 
   -- a reply to which the words bear witness
   module _ (well : (z : S) → IsWellFormed (sight z)) where
-    replied : {taken : Request} {reply : Reply} {x y : S} → (sight x).count ≡ s.pages * PAGE → (sight x).writes ≡ [] → WordsUsed sight turns_into (most_reads s taken) (most_writes taken) None x y → WritesIfChanged reply (sight y).writes
+    replied : {taken : Request} {reply : Reply} {x y : S} → (sight x).count ≡ s.pages * PAGE → (sight x).writes ≡ [] → WordsUsed sight turns_into (most_reads s taken) (most_writes s taken) None x y → WritesIfChanged reply (sight y).writes
         → ((array : List ℕ) → IsBelow (sight y) array → (db : Database) → StandsFor s array db → Serves s db taken reply (shown (sight y) array)) → ServesRequest sight turns_into s taken (Ok reply) x y
     replied {y = y} size bare used wrote serves =
         let count : (sight y).count ≡ s.pages * PAGE = used.count ∙ size in
@@ -81,7 +86,7 @@ module _ {S : Type 0} {sight : S → WordsSight} {turns_into : S → S → Type 
   -- From here on the request was taken apart.
   module _ {request taken : Request} (is : request ≡ taken) where
     -- a Stop that `?` hands on
-    pub serves_stopped : {e : Stop} {k l : ℕ} {x y : S} (r : Result Reply Stop) → IsErrAnd r (λ f. f ≡ e) → CanServe s request (sight x) → WordsUsed sight turns_into k l (Some e) x y → k ≤ most_reads s taken → l ≤ most_writes taken
+    pub serves_stopped : {e : Stop} {k l : ℕ} {x y : S} (r : Result Reply Stop) → IsErrAnd r (λ f. f ≡ e) → CanServe s request (sight x) → WordsUsed sight turns_into k l (Some e) x y → k ≤ most_reads s taken → l ≤ most_writes s taken
         → ServesRequest sight turns_into s request r x y
     serves_stopped {e} {x = x} {y = y} r handed can used reads writes =
         subst (λ q. ServesRequest sight turns_into s q r x y) (sym is)
@@ -89,17 +94,17 @@ module _ {S : Type 0} {sight : S → WordsSight} {turns_into : S → S → Type 
 
     module _ (well : (z : S) → IsWellFormed (sight z)) where
       -- a reply that isn't Changed, with no word written
-      pub serves_unchanged : {k l : ℕ} {x y : S} (reply : Reply) → CanServe s request (sight x) → WordsUsed sight turns_into k l None x y → k ≤ most_reads s taken → l ≤ most_writes taken
+      pub serves_unchanged : {k l : ℕ} {x y : S} (reply : Reply) → CanServe s request (sight x) → WordsUsed sight turns_into k l None x y → k ≤ most_reads s taken → l ≤ most_writes s taken
           → Wrote 0 (sight x) (sight y) → reply ≢ Changed → ServesSeen sight s taken reply x y → ServesRequest sight turns_into s request (Ok reply) x y
       serves_unchanged {x = x} {y = y} reply can used reads writes wrote other serves =
           subst (λ q. ServesRequest sight turns_into s q (Ok reply) x y) (sym is) (replied well can.size can.no_writes (used_more {stop = None} used reads writes) (wrote_nothing (wrote_zero wrote ∙ can.no_writes) other)
           (λ array below db stands. serves (subst IsInRange is can.in_range) array below db (stands_bare (sight x) can.no_writes stands)))
 
       -- Changed, with some words written
-      pub serves_changed : {k l n : ℕ} {x y : S} → CanServe s request (sight x) → WordsUsed sight turns_into k l None x y → k ≤ most_reads s taken → l ≤ most_writes taken
-          → Wrote n (sight x) (sight y) → 0 < n → ServesSeen sight s taken Changed x y → ServesRequest sight turns_into s request (Ok Changed) x y
-      serves_changed {x = x} {y = y} can used reads writes wrote some serves =
-          subst (λ q. ServesRequest sight turns_into s q (Ok Changed) x y) (sym is) (replied well can.size can.no_writes (used_more {stop = None} used reads writes) (wrote_changed wrote some)
+      pub serves_changed : {k l : ℕ} {x y : S} → CanServe s request (sight x) → WordsUsed sight turns_into k l None x y → k ≤ most_reads s taken → l ≤ most_writes s taken
+          → (sight y).writes ≢ [] → ServesSeen sight s taken Changed x y → ServesRequest sight turns_into s request (Ok Changed) x y
+      serves_changed {x = x} {y = y} can used reads writes wrote serves =
+          subst (λ q. ServesRequest sight turns_into s q (Ok Changed) x y) (sym is) (replied well can.size can.no_writes (used_more {stop = None} used reads writes) ((λ same. wrote), λ some. refl)
           (λ array below db stands. serves (subst IsInRange is can.in_range) array below db (stands_bare (sight x) can.no_writes stands)))
 
 -- ---- a request that only reads

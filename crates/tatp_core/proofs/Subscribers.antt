@@ -1,5 +1,5 @@
 -- `UPDATE_SUBSCRIBER_DATA` on the words of an array.
-use Rattle.std.proofs.Common.{◌≡◌, ℕ, ◌+◌, ◌-◌, ◌*◌, List, [], ◌∷◌, Some, None, arith, ◌∙◌, refl}
+use Rattle.std.proofs.Common.{◌≡◌, ℕ, ◌+◌, ◌-◌, ◌*◌, List, [], ◌∷◌, map, Some, None, arith, ◌∙◌, refl, sym, subst}
 use Rattle.std.specs.Prelude.{slice_set}
 use Rattle.std.proofs.lemmas.List.Elements.{All-contains}
 use Rattle.dude_base.specs.declared.sizes.Sizes.{Sizes}
@@ -10,11 +10,13 @@ use Rattle.tatp_model.specs.declared.request.Request.TheVariants.{UpdateSubscrib
 use Rattle.tatp_model.specs.declared.sub_row.SubRow.{SubRow}
 use Rattle.tatp_model.specs.Database.{Database, IsFacRow, IsSubRow}
 use Rattle.tatp_model.specs.Request.{IsInRange}
-use Rattle.tatp_model.specs.Transaction.{is_facility, is_subscriber}
+use Rattle.tatp_model.specs.Transaction.{is_facility, is_subscriber, update_where}
+use Rattle.tatp_layout.specs.Index.{IndexHas, location_key}
 use Rattle.tatp_layout.specs.Layout.{facility_table, subscriber_table}
 use Rattle.tatp_layout.specs.Records.{HoldsRow, facility_form, subscriber_form}
 use Rattle.tatp_layout.specs.StandsFor.{StandsFor}
 use Rattle.tatp_layout.proofs.Found.{TestsKey, any_found, any_none, tests_facility, tests_subscriber, told_facility, told_subscriber}
+use Rattle.tatp_layout.proofs.Indexes.{index_facilities, index_subscribers}
 use Rattle.tatp_layout.proofs.Places.{subscribers_facilities}
 use Rattle.hash_table.specs.Table.{FindsAll, FitsTable}
 use Rattle.tatp_layout.proofs.Rewritten.{ChangesRow, changes_record-then, changes_row-only, changes_row-table, record_beside, record_row, rows_kept, rows_rewritten}
@@ -22,6 +24,7 @@ use Rattle.tatp_layout.proofs.Stays.{holds_same, row_beside, taken_record}
 use Rattle.tatp_layout.proofs.Tables.{facilities_changed, facility_room, found_among, subscriber_room, subscribers_changed, tables_of}
 use Rattle.tatp_core.specs.Serves.{Serves}
 use Rattle.tatp_core.proofs.Lists.{names_found}
+use Rattle.tatp_core.proofs.LocationKeys.{same_keys}
 use Rattle.tatp_core.proofs.Outcomes.{no_facility, no_subscriber, serves_by, serves_same, sets_fields}
 
 module _ {s : Sizes} {a : List ℕ} {db : Database} (s_id bit_1 sf_type data_a : ℕ) (range : IsInRange (UpdateSubscriber s_id bit_1 sf_type data_a)) (stands : StandsFor s a db) where
@@ -65,7 +68,10 @@ module _ {s : Sizes} {a : List ℕ} {db : Database} (s_id bit_1 sf_type data_a :
       let facilities = rows_rewritten (facility_room s) stands.facilities facility_among facility_found.holds
       (changes_record-then (record_beside facility (subscribers_facilities s) (omega arith) bit_table) (record_row facilities_fit facility_record data_row))
       (is_facility s_id sf_type) (λ r. record r { data_a = data_a }) (names_found (is_facility s_id sf_type) named_facility facility_found) facility_found.among (holds_data facility_found.row facility_row still) in
+      let rows = update_where (is_subscriber s_id) (λ r. record r { bits = slice_set r.bits 0 bit_1 }) db.subscribers in
       serves_by (UpdateSubscriber s_id bit_1 sf_type data_a) Changed stands range
       (sets_fields s.calls db s_id bit_1 sf_type data_a (any_found (is_subscriber s_id) named_subscriber subscriber_found) (any_found (is_facility s_id sf_type) named_facility facility_found))
       (data_changes.size ∙ bit_changes.size)
       (facilities_changed (subscribers_changed (tables_of stands) bit_table subscribers (rows_kept (is_subscriber s_id) (λ r. record r { bits = slice_set r.bits 0 bit_1 }) (λ r. refl) (λ r. refl) (λ r long. long) stands.numbers)) data_table facilities)
+      (index_facilities s (map location_key rows) data_table (index_subscribers s (map location_key rows) bit_table
+      (subst (λ keys. IndexHas s a keys) (sym (same_keys (is_subscriber s_id) (λ r. record r { bits = slice_set r.bits 0 bit_1 }) (λ r. refl) db.subscribers)) stands.index)))

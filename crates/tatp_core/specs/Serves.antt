@@ -15,6 +15,8 @@ use Rattle.tatp_model.specs.declared.request.Request.TheVariants.{UpdateSubscrib
 use Rattle.tatp_model.specs.Database.{Database}
 use Rattle.tatp_model.specs.Transaction.{reply_to, after_request}
 use Rattle.tatp_layout.specs.Layout.{call_table, facility_table, subscriber_table}
+use Rattle.tatp_layout.specs.Index.{by_index}
+use Rattle.tatp_layout.specs.RecordCalls.{location_reads, location_writes}
 use Rattle.tatp_layout.specs.StandsFor.{StandsFor}
 use Rattle.tatp_read.specs.Lookups.{reads_of}
 use Rattle.tatp_core.specs.Phones.{id_reads}
@@ -31,37 +33,38 @@ WritesIfChanged reply writes = reply ≡ Changed ↔ writes ≢ []
 -- the most reads of a request: those of its look-ups and of the records that it finds
 abbrev pub most_reads : Sizes → Request → ℕ
 most_reads s (UpdateSubscriber s_id bit_1 sf_type data_a) = walk_reads (subscriber_table s) + walk_reads (facility_table s) + 2
-most_reads s (UpdateLocation sub_nbr vlr) = id_reads s + walk_reads (subscriber_table s)
+most_reads s (UpdateLocation sub_nbr vlr) = id_reads s + walk_reads (subscriber_table s) + location_reads s
 most_reads s (InsertCall sub_nbr sf_type start_time end_time numberx) = id_reads s + walk_reads (facility_table s) + insert_reads (call_table s)
 most_reads s (DeleteCall sub_nbr sf_type start_time) = id_reads s + remove_reads (call_table s)
 most_reads s request = reads_of s request
 
--- the most reads of any request: those of both its look-ups, and of a facility's call rows
+-- the most reads of any request: those of both its look-ups, of a facility's call rows, and of an index
 abbrev pub max_reads : Sizes → ℕ
-max_reads s = 10 * s.subscribers + 6 * s.calls + 12
+max_reads s = 10 * s.subscribers + 6 * s.calls + 12 + location_reads s
 
--- the most writes of any request: those of a call row that is inserted
-abbrev pub max_writes : ℕ
-max_writes = 7
+-- the most writes of any request: those of a call row that is inserted or, where there is an index, of a location's change,
+-- with room to spare
+abbrev pub max_writes : Sizes → ℕ
+max_writes s = by_index s.index 7 20
 
--- The most writes of a request: a word for each field that it changes; and for a call row that it inserts or deletes, the
--- words of the chain and of the free list.
-abbrev pub most_writes : Request → ℕ
-most_writes (UpdateSubscriber s_id bit_1 sf_type data_a) = 2
-most_writes (UpdateLocation sub_nbr vlr) = 1
-most_writes (InsertCall sub_nbr sf_type start_time end_time numberx) = max_writes
-most_writes (DeleteCall sub_nbr sf_type start_time) = 4
-most_writes _ = 0
+-- The most writes of a request: a word for each field that it changes; for a location also the words of an index; and for a
+-- call row that it inserts or deletes, the words of the chain and of the free list.
+abbrev pub most_writes : Sizes → Request → ℕ
+most_writes s (UpdateSubscriber s_id bit_1 sf_type data_a) = 2
+most_writes s (UpdateLocation sub_nbr vlr) = location_writes s
+most_writes s (InsertCall sub_nbr sf_type start_time end_time numberx) = 7
+most_writes s (DeleteCall sub_nbr sf_type start_time) = 4
+most_writes s _ = 0
 
 -- the words were used for a request: at most as many reads and writes were made as it may
 abbrev pub UsesFor : {S T : Type 0} → (S → WordsSight) → (S → S → Type 0) → Sizes → Request → Result T Stop → S → S → Type 0
-UsesFor sight turns_into s request result old new = UsesWords sight turns_into (most_reads s request) (most_writes request) result old new
+UsesFor sight turns_into s request result old new = UsesWords sight turns_into (most_reads s request) (most_writes s request) result old new
 
 -- What an answered request is, apart from whatever read and wrote the words: over the sizes, the request, its reply, and
 -- the reads and the writes made.
 pub record Answers (s : Sizes) (request : Request) (reply : Reply) (reads : List (ℕ × ℕ)) (writes : List Write) : Type 0 where
   -- no more words are written than the request may write
-  pub few : length writes ≤ most_writes request
+  pub few : length writes ≤ most_writes s request
   -- a word is written exactly where the reply is Changed
   pub wrote : WritesIfChanged reply writes
   -- each read is inside the home
@@ -76,8 +79,8 @@ pub record ServesRequest {S : Type 0} (sight : S → WordsSight) (turns_into : S
   -- at most as many reads and writes were made as it may
   pub uses : UsesFor sight turns_into s request result old new
   -- and no more than any request may
-  pub most : MadeAtMost (max_reads s) max_writes (sight old) (sight new)
+  pub most : MadeAtMost (max_reads s) (max_writes s) (sight old) (sight new)
   -- no more words are pending than any request may write
-  pub few : length (sight new).writes ≤ max_writes
+  pub few : length (sight new).writes ≤ max_writes s
   -- the request is answered by all reads made and by the writes that are pending
   pub answers : IfOk result (λ reply. Answers s request reply (sight new).reads (sight new).writes)

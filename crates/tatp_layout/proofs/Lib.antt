@@ -2,6 +2,9 @@ pub mod Added
 pub mod Dropped
 pub mod Fields
 pub mod Found
+pub mod Indexes
+pub mod Moved
+pub mod Permuted
 pub mod Places
 pub mod Rewritten
 pub mod Seen

@@ -1,14 +1,16 @@
 -- Each of the five tables of accepted sizes may be used over the home, in a range of its own.
-use Rattle.std.proofs.Common.{◌≡◌, ℕ, ◌+◌, ◌*◌, ◌<◌, ◌≤◌, inl, inr, refl, arith}
+use Rattle.std.proofs.Common.{◌≡◌, ℕ, ◌+◌, ◌*◌, ◌<◌, ◌≤◌, inl, inr, refl, ap, ◌∙◌, arith}
 use Rattle.dude_base.specs.declared.limits.TheConstants.{LINE, PAGE}
 use Rattle.dude_base.specs.declared.sizes.Sizes.{Sizes}
-use Rattle.dude_base.specs.Home.{TableShape, in_whole_lines, table_words, home_length}
+use Rattle.dude_base.specs.Home.{TableShape, in_whole_lines, table_words, home_length, index_length, index_shape, tables_length}
 use Rattle.dude_base.specs.Sizes.{IsAccepted}
 use Rattle.hash_table.specs.declared.table.Table.{Table}
 use Rattle.hash_table.specs.Ranges.{FitsRange, AreSeparate}
 use Rattle.hash_table.specs.Table.{FitsTable}
 use Rattle.hash_table.proofs.Fits.{record_ends, table_fits}
-use Rattle.tatp_layout.specs.Layout.{table_at, subscriber_shape, number_shape, kind_shape, call_shape, number_base, access_base, facility_base, call_base, subscriber_table, number_table, access_table, facility_table, call_table}
+use Rattle.tree_index.proofs.Fits.{tree_fits}
+use Rattle.tree_index.specs.Tree.{FitsTree}
+use Rattle.tatp_layout.specs.Layout.{table_at, subscriber_shape, number_shape, kind_shape, call_shape, number_base, access_base, facility_base, call_base, index_tree, inner_base, leaf_base, subscriber_table, number_table, access_table, facility_table, call_table}
 
 up : (x : ℕ) → x ≤ in_whole_lines x
 up x = omega arith
@@ -59,7 +61,7 @@ module _ (s : Sizes) where
   pub facility_range : FitsRange (facility_table s) (facility_base s) (call_base s)
   facility_range = range_at (facility_base s) (kind_shape s) (omega arith) refl
 
-  pub call_range : FitsRange (call_table s) (call_base s) (home_length s.subscribers s.calls)
+  pub call_range : FitsRange (call_table s) (call_base s) (tables_length s.subscribers s.calls)
   call_range = range_at (call_base s) (call_shape s) (omega arith) (omega arith)
 
   -- they follow one another
@@ -103,8 +105,8 @@ module _ (s : Sizes) where
 
 -- ---- over a home of accepted sizes each may be used
 
--- the pages have room for all five
-pub home_fits : {s : Sizes} → IsAccepted s → home_length s.subscribers s.calls ≤ s.pages * PAGE
+-- the pages have room for all five, and for an index
+pub home_fits : {s : Sizes} → IsAccepted s → home_length s.subscribers s.calls s.index ≤ s.pages * PAGE
 home_fits {s} accepted = omega (arith, accepted.pages)
 
 module _ {s : Sizes} (accepted : IsAccepted s) where
@@ -128,3 +130,15 @@ module _ {s : Sizes} (accepted : IsAccepted s) where
 
   pub calls_fit : FitsTable (call_table s) (s.pages * PAGE)
   calls_fit = fits_at (call_base s) (call_shape s) some.1 (omega arith) inside
+
+  -- and so may the tree of an index
+  index_inside : s.index ≡ 1 → inner_base s + table_words (index_shape s.subscribers) ≤ s.pages * PAGE
+  index_inside is =
+      let both : index_length s.subscribers s.index ≡ 2 * table_words (index_shape s.subscribers) = ap (index_length s.subscribers) is ∙ (let one : 1 * (2 * table_words (index_shape s.subscribers)) ≡ 2 * table_words (index_shape s.subscribers) = omega arith in one) in
+      omega (arith, home_fits accepted, both)
+
+  pub index_fits : s.index ≡ 1 → FitsTree (index_tree s) (s.pages * PAGE)
+  index_fits is =
+      let leaves = records_end (leaf_base s) (index_shape s.subscribers) in
+      let inner = records_end (inner_base s) (index_shape s.subscribers) in
+      tree_fits (index_tree s) (s.pages * PAGE) (omega arith) (omega arith) (omega arith) (omega (arith, leaves)) (omega arith) (omega arith) (omega (arith, inner, index_inside is))

@@ -61,28 +61,35 @@ pub record ChangesTable (table : Table) (a b : List ℕ) : Type 0 where
 pub changes_table-then : {table : Table} {a b c : List ℕ} → ChangesTable table a b → ChangesTable table b c → ChangesTable table a c
 changes_table-then s t = record { size = t.size ∙ s.size; others = λ low high range i out. t.others low high range i out ∙ s.others low high range i out }
 
--- the words of another table
+-- the words of a table that stay in its range
+module _ {table : Table} {a b : List ℕ} {low high : ℕ} (range : FitsRange table low high) (wide : 2 ≤ table.pool.size) (same_word : (i : ℕ) → low ≤ i → i < high → slice_index b i ≡ slice_index a i) where
+  pub table_in_range : SameTable table a b
+  table_in_range = record {
+    pool = record {
+      first = same_word table.pool.base range.header_from (omega (arith, range.header_to));
+      live = same_word (table.pool.base + 1) (omega (arith, range.header_from)) (omega (arith, range.header_to));
+      links = λ x r. same_word (x + 1) (omega (arith, range.record_from x r)) (omega (arith, range.record_to x r, wide));
+    };
+    buckets = λ bucket below. same_word (table.at + bucket) (omega (arith, range.links_from)) (omega (arith, range.links_to, below));
+    keys = λ x r. same_word x (range.record_from x r) (omega (arith, range.record_to x r, wide));
+  }
+
+  pub row_in_range : (x : ℕ) → IsRecord table.pool x → SameRow table.pool.size x a b
+  row_in_range x r = record { words = λ i from to other. same_word i (omega (arith, range.record_from x r, from)) (omega (arith, range.record_to x r, to)) }
+
+  pub rows_in_range : {R : Type 0} {form : RowForm R} {rows : List R} → FitsRecord form table.pool.size → HasRows form table a rows → HasRows form table b rows
+  rows_in_range room h = rows_stay room table_in_range row_in_range h
+
+-- those of another table
 module _ {changed table : Table} {a b : List ℕ} (separate : AreSeparate changed table) (wide : 2 ≤ table.pool.size) (changes : ChangesTable changed a b) where
   same_word : (i : ℕ) → separate.second_low ≤ i → i < separate.second_high → slice_index b i ≡ slice_index a i
   same_word i from to = changes.others separate.first_low separate.first_high separate.of_first i (elim separate.apart [ inl below ↦ inr (omega (arith, below, from)) | inr above ↦ inl (omega (arith, above, to)) ])
 
   pub table_beside : SameTable table a b
-  table_beside =
-      let range = separate.of_second in
-      record {
-        pool = record {
-          first = same_word table.pool.base range.header_from (omega (arith, range.header_to));
-          live = same_word (table.pool.base + 1) (omega (arith, range.header_from)) (omega (arith, range.header_to));
-          links = λ x r. same_word (x + 1) (omega (arith, range.record_from x r)) (omega (arith, range.record_to x r, wide));
-        };
-        buckets = λ bucket below. same_word (table.at + bucket) (omega (arith, range.links_from)) (omega (arith, range.links_to, below));
-        keys = λ x r. same_word x (range.record_from x r) (omega (arith, range.record_to x r, wide));
-      }
+  table_beside = table_in_range separate.of_second wide same_word
 
   pub row_beside : (x : ℕ) → IsRecord table.pool x → SameRow table.pool.size x a b
-  row_beside x r =
-      let range = separate.of_second in
-      record { words = λ i from to other. same_word i (omega (arith, range.record_from x r, from)) (omega (arith, range.record_to x r, to)) }
+  row_beside = row_in_range separate.of_second wide same_word
 
 -- the rows of another table
 pub rows_beside : {R : Type 0} {form : RowForm R} {changed table : Table} {a b : List ℕ} {rows : List R} → AreSeparate changed table → 2 ≤ table.pool.size → FitsRecord form table.pool.size → ChangesTable changed a b → HasRows form table a rows → HasRows form table b rows

@@ -11,6 +11,7 @@ use Rattle.tatp_model.specs.declared.call_row.CallRow.{CallRow}
 use Rattle.tatp_model.specs.declared.fac_row.FacRow.{FacRow}
 use Rattle.tatp_model.specs.declared.sub_row.SubRow.{SubRow}
 use Rattle.tatp_model.specs.Database.{Database, IsInOrder}
+use Rattle.tatp_layout.specs.Index.{IndexStands}
 use Rattle.tatp_layout.specs.Layout.{access_table, call_table, facility_table, number_table, subscriber_table}
 use Rattle.tatp_layout.specs.Records.{RowForm, access_form, call_form, facility_form, number_form, subscriber_form}
 use Rattle.tatp_layout.specs.StandsFor.{HasRows, StandsFor}
@@ -28,8 +29,8 @@ pub record HasTables (s : Sizes) (array : List ℕ) (db : Database) : Type 0 whe
 pub tables_of : {s : Sizes} {array : List ℕ} {db : Database} → StandsFor s array db → HasTables s array db
 tables_of stands = record { subscribers = stands.subscribers; numbers = stands.numbers; access = stands.access; facilities = stands.facilities; calls = stands.calls }
 
-pub stands_by : {s : Sizes} {array : List ℕ} {db : Database} → length array ≡ s.pages * PAGE → IsInOrder db → HasTables s array db → StandsFor s array db
-stands_by size in_order tables = record { size = size; in_order = in_order; subscribers = tables.subscribers; numbers = tables.numbers; access = tables.access; facilities = tables.facilities; calls = tables.calls }
+pub stands_by : {s : Sizes} {array : List ℕ} {db : Database} → length array ≡ s.pages * PAGE → IsInOrder db → HasTables s array db → IndexStands s array db.subscribers → StandsFor s array db
+stands_by size in_order tables index = record { size = size; in_order = in_order; subscribers = tables.subscribers; numbers = tables.numbers; access = tables.access; facilities = tables.facilities; calls = tables.calls; index = index }
 
 -- a record that a look-up finds is in a chain
 pub found_among : {R : Type 0} {form : RowForm R} {table : Table} {array : List ℕ} {rows : List R} {at : ℕ} (key : ℕ) (h : HasRows form table array rows) → FindsAll table array key (Some at) → Contains (records_in h.chains) at

@@ -1,13 +1,15 @@
--- Where the five tables stand in the home: one after another, from word 0 on.
+-- Where the five tables stand in the home: one after another, from word 0 on, and the pools of an index behind them.
 --
 --     8 words                    the pool's header: the first free record, or 0; how many are taken; 6 words not read
 --     the buckets' links         in whole lines; words behind the last link not read
 --     the records                in whole lines
-use Rattle.std.specs.Prelude.{ℕ, ◌+◌, ◌*◌}
+use Rattle.std.specs.Prelude.{ℕ, zero, suc, ◌+◌, ◌*◌, Option, Some, None}
 use Rattle.dude_base.specs.declared.limits.TheConstants.{LINE, MAX_ROWS, SUBSCRIBER_WORDS, ROW_WORDS}
 use Rattle.dude_base.specs.declared.sizes.Sizes.{Sizes}
-use Rattle.dude_base.specs.Home.{TableShape, in_whole_lines, table_words}
+use Rattle.dude_base.specs.Home.{TableShape, in_whole_lines, index_shape, table_words}
 use Rattle.hash_table.specs.declared.table.Table.{Table}
+use Rattle.record_heap.specs.declared.pool.Pool.{Pool}
+use Rattle.tree_index.specs.declared.tree.Tree.{Tree}
 
 -- a table of this shape whose header stands at this word
 abbrev pub table_at : ℕ → TableShape → Table
@@ -76,3 +78,28 @@ facility_table s = table_at (facility_base s) (kind_shape s)
 -- the table of call rows
 abbrev pub call_table : Sizes → Table
 call_table s = table_at (call_base s) (call_shape s)
+
+-- the word where the leaves of an index begin, behind the table of call rows
+abbrev pub leaf_base : Sizes → ℕ
+leaf_base s = call_base s + table_words (call_shape s)
+
+-- the word where its inner records begin, behind the leaves
+abbrev pub inner_base : Sizes → ℕ
+inner_base s = leaf_base s + table_words (index_shape s.subscribers)
+
+-- a pool of an index whose header stands at this word: a record for each subscriber
+abbrev pub index_pool : ℕ → ℕ → Pool
+index_pool base subscribers = record { base = base; first = base + LINE; size = ROW_WORDS; count = subscribers }
+
+-- a tree of an index whose leaves begin at this word, with the link of its root in word 2 of their header
+abbrev pub tree_from : ℕ → ℕ → Tree
+tree_from base subscribers = record { leaves = index_pool base subscribers; inner = index_pool (base + table_words (index_shape subscribers)) subscribers; root = base + 2 }
+
+-- the tree of an index in an image of these sizes
+abbrev pub index_tree : Sizes → Tree
+index_tree s = tree_from (leaf_base s) s.subscribers
+
+-- that tree where there is an index
+abbrev pub tree_where : ℕ → Tree → Option Tree
+tree_where zero tree = None
+tree_where (suc more) tree = Some tree

@@ -3,6 +3,7 @@ pub mod Decoding
 pub mod DigitLists
 pub mod Digits
 pub mod FoundRows
+pub mod Index
 pub mod Inside
 pub mod Layout
 pub mod RecordCalls

@@ -1,5 +1,6 @@
 -- What the calls on one record say of its row.
-use Rattle.std.specs.Prelude.{◌≡◌, ℕ, ◌+◌, ◌-◌, List, Result, slice_index, slice_set}
+use Rattle.std.specs.Prelude.{◌≡◌, ℕ, ◌+◌, ◌-◌, ◌<◌, List, ◌∷◌, length, Contains, Result, slice_index, slice_set}
+use Rattle.dude_base.specs.declared.sizes.Sizes.{Sizes}
 use Rattle.word_space.specs.declared.stop.Stop.{Stop}
 use Rattle.word_space.specs.Sights.{WordsSight}
 use Rattle.word_space.specs.Steps.{AnswersSeen, ChangesSeen, UsesWords, WritesAsMany}
@@ -8,6 +9,9 @@ use Rattle.tatp_model.specs.declared.call_row.CallRow.{CallRow}
 use Rattle.tatp_model.specs.declared.fac_row.FacRow.{FacRow}
 use Rattle.tatp_model.specs.declared.sub_row.SubRow.{SubRow}
 use Rattle.tatp_model.specs.Database.{IsFacRow, IsSubRow, call_key}
+use Rattle.tree_index.specs.Walk.{insert_reads, remove_reads}
+use Rattle.tatp_layout.specs.Index.{IndexHas, by_index, location_key}
+use Rattle.tatp_layout.specs.Layout.{leaf_base}
 use Rattle.tatp_layout.specs.Records.{RowForm, HoldsRow, call_form, facility_form, subscriber_form}
 
 -- where the record at this word holds a row whose fields are in their ranges, the answer is that row
@@ -50,6 +54,31 @@ SetsDataA at value old new done =
 -- of a subscriber in the record at this word, the location is changed to the value
 abbrev pub SetsVlr : ℕ → ℕ → List ℕ → List ℕ → Unit {0} → Type 0
 SetsVlr at vlr old new done = (r : SubRow) → HoldsRow subscriber_form old at r → HoldsRow subscriber_form new at (record r { vlr = vlr })
+
+-- What changing the location of the subscriber in the record at this word leaves of its row and of the keys of an index.
+pub record ChangesLocation (s : Sizes) (at vlr : ℕ) (row : SubRow) (others old new : List ℕ) : Type 0 where
+  pub size : length new ≡ length old
+  -- in front of an index only the location changes
+  pub tables : (i : ℕ) → i < leaf_base s → slice_index new i ≡ slice_index (slice_set old (at + 6) vlr) i
+  -- the record has the row with the new location
+  pub holds : HoldsRow subscriber_form new at (record row { vlr = vlr })
+  -- an index has the row's new key in the place of the old one
+  pub keys : IndexHas s new (location_key (record row { vlr = vlr }) ∷ others)
+
+-- where the record at this word holds a row whose fields are in their ranges, and an index has the row's key and others, none
+-- of which is the row's new one
+abbrev pub MovesLocation : Sizes → ℕ → ℕ → List ℕ → List ℕ → Unit {0} → Type 0
+MovesLocation s at vlr old new done =
+    (row : SubRow) (others : List ℕ) → IsSubRow row → HoldsRow subscriber_form old at row → IndexHas s old (location_key row ∷ others)
+    → ¬ Contains others (location_key (record row { vlr = vlr })) → ChangesLocation s at vlr row others old new
+
+-- the most reads of a location's change: where there is an index, the subscriber's key, and those of a removal and an insertion
+abbrev pub location_reads : Sizes → ℕ
+location_reads s = by_index s.index 0 (remove_reads + insert_reads + 2)
+
+-- the most writes of a location's change: where there is an index, also those of a removal and an insertion
+abbrev pub location_writes : Sizes → ℕ
+location_writes s = by_index s.index 1 17
 
 -- of a subscriber in the record at this word, bit_1 is changed to the bit
 abbrev pub SetsBit1 : ℕ → ℕ → List ℕ → List ℕ → Unit {0} → Type 0

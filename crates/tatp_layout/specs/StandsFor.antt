@@ -5,6 +5,7 @@ use Rattle.dude_base.specs.declared.sizes.Sizes.{Sizes}
 use Rattle.hash_table.specs.declared.table.Table.{Table}
 use Rattle.hash_table.specs.Table.{IsTable, records_in}
 use Rattle.tatp_model.specs.Database.{Database, IsInOrder}
+use Rattle.tatp_layout.specs.Index.{IndexStands}
 use Rattle.tatp_layout.specs.Layout.{subscriber_table, number_table, access_table, facility_table, call_table}
 use Rattle.tatp_layout.specs.Records.{RowForm, HoldsRow, subscriber_form, number_form, access_form, facility_form, call_form}
 
@@ -20,7 +21,8 @@ pub record HasRows {R : Type 0} (form : RowForm R) (table : Table) (array : List
   pub held : (row : R) → Contains rows row → (at : ℕ) × Contains (records_in chains) at × HoldsRow form array at row
 
 -- The array stands for the database. The fields of its rows are in their ranges, and the rows belong together, as
--- `IsInOrder` says. The number table has each subscriber's phone number with its s_id, and no other record.
+-- `IsInOrder` says. The number table has each subscriber's phone number with its s_id, and no other record. An index has
+-- the key of each subscriber, and no other.
 pub record StandsFor (s : Sizes) (array : List ℕ) (db : Database) : Type 0 where
   pub size : length array ≡ s.pages * PAGE
   pub in_order : IsInOrder db
@@ -29,6 +31,7 @@ pub record StandsFor (s : Sizes) (array : List ℕ) (db : Database) : Type 0 whe
   pub access : HasRows access_form (access_table s) array db.access
   pub facilities : HasRows facility_form (facility_table s) array db.facilities
   pub calls : HasRows call_form (call_table s) array db.calls
+  pub index : IndexStands s array db.subscribers
 
 -- the array stands for some database
 abbrev pub IsLawful : Sizes → List ℕ → Type 0

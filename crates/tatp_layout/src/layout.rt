@@ -1,11 +1,12 @@
-//! Where the five tables stand in a home of given sizes.
+//! Where the five tables and the index stand in a home of given sizes.
 
-ghost use Rattle.std.specs.Prelude.{◌≡◌, ◌<◌, ◌≤◌, ◌+◌, ◌*◌, IfOk, IfErr};
+ghost use Rattle.std.specs.Prelude.{◌≡◌, ◌<◌, ◌≤◌, ◌+◌, ◌*◌, IfOk, IfErr, IfSome};
 ghost use Rattle.dude_base.specs.declared.limits.TheConstants.{PAGE};
 ghost use Rattle.dude_base.specs.Sizes.{IsAccepted, IsFirstOut};
 ghost use Rattle.dude_base.specs.Home.{in_whole_lines, table_words};
 ghost use Rattle.hash_table.specs.Table.{FitsTable};
-ghost use Rattle.tatp_layout.specs.Layout.{access_table, behind_table, call_table, facility_table, number_table, shape_of, subscriber_table, table_at};
+ghost use Rattle.tree_index.specs.Tree.{FitsTree};
+ghost use Rattle.tatp_layout.specs.Layout.{access_table, behind_table, call_table, facility_table, index_pool, index_tree, number_table, shape_of, subscriber_table, table_at, tree_from, tree_where};
 
 use dude_base::limits::{LINE, MAX_CALLS, MAX_ROWS, ROW_WORDS, SUBSCRIBER_WORDS};
 use dude_base::size_fault::SizeFault;
@@ -13,8 +14,9 @@ use dude_base::sizes::Sizes;
 use hash_table::table::Table;
 use record_heap::pool::Pool;
 use std::marker::Model;
+use tree_index::tree::Tree;
 
-/// Where the five tables of a home stand. Contracts see the sizes that it was made for.
+/// Where the five tables of a home stand, and its index. Contracts see the sizes that it was made for.
 #[derive(Clone, Copy)]
 pub struct Layout {
     sizes: Sizes,
@@ -23,6 +25,7 @@ pub struct Layout {
     access: Table,
     facilities: Table,
     calls: Table,
+    index: Option<Tree>,
 }
 
 impl Model for Layout {
@@ -51,6 +54,7 @@ impl Layout {
         let access = table_from(end_of(&numbers), kinds, ROW_WORDS);
         let facilities = table_from(end_of(&access), kinds, ROW_WORDS);
         let calls = table_from(end_of(&facilities), sizes.calls, ROW_WORDS);
+        let index = index_from(end_of(&calls), sizes.subscribers, sizes.index);
         Ok(Layout {
             sizes: *sizes,
             subscribers,
@@ -58,6 +62,7 @@ impl Layout {
             access,
             facilities,
             calls,
+            index,
         })
     }
 
@@ -107,6 +112,45 @@ impl Layout {
         ensures fits { FitsTable result (self.now.pages * PAGE) }
     {
         self.calls
+    }
+
+    /// The keys of the subscribers by location, where there is an index.
+    pub fn index(&self) -> Option<Tree>
+        ensures tree { result ≡ tree_where self.now.index (index_tree self.now) }
+        ensures fits { IfSome result (λ tree. FitsTree tree (self.now.pages * PAGE)) }
+    {
+        self.index
+    }
+}
+
+// The tree of an index whose leaves begin at the word `base`.
+fn index_from(base: u64, subscribers: u64, index: u64) -> Option<Tree>
+    requires base { base ≤ 32 * MAX_CALLS }
+    requires few { subscribers ≤ MAX_CALLS }
+    ensures { result ≡ tree_where index (tree_from base subscribers) }
+{
+    if index == 0 {
+        return None;
+    }
+    let leaves = pool_from(base, subscribers);
+    let behind = leaves.first + in_lines(ROW_WORDS * subscribers);
+    Some(Tree {
+        leaves,
+        inner: pool_from(behind, subscribers),
+        root: base + 2,
+    })
+}
+
+// A pool of an index whose header stands at the word `base`.
+fn pool_from(base: u64, count: u64) -> Pool
+    requires { base ≤ 64 * MAX_CALLS }
+    ensures { result ≡ index_pool base count }
+{
+    Pool {
+        base,
+        first: base + LINE,
+        size: ROW_WORDS,
+        count,
     }
 }
 

@@ -5,6 +5,7 @@ pub mod access_record;
 pub mod call_record;
 mod digits;
 pub mod facility_record;
+pub mod index_keys;
 pub mod keys;
 pub mod layout;
 pub mod record_row;

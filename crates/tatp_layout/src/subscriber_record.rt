@@ -1,17 +1,18 @@
 //! Subscribers in their records.
 
-ghost use Rattle.std.specs.Prelude.{◌≡◌, ◌+◌, ◌*◌, slice_set};
+ghost use Rattle.std.specs.Prelude.{◌≡◌, ◌≢◌, ◌+◌, ◌*◌, [], OnOk, slice_set};
 ghost use Rattle.dude_base.specs.declared.limits.TheConstants.{PAGE, SUBSCRIBER_WORDS};
-ghost use Rattle.word_space.specs.Steps.{ChangesSeen, Shows, UsesWords, WritesAsMany};
+ghost use Rattle.word_space.specs.Steps.{ChangesSeen, Shows, UsesWords};
 ghost use Rattle.record_heap.specs.Pool.{IsRecord};
 ghost use Rattle.tatp_model.specs.Database.{IsSubRow};
 ghost use Rattle.tatp_model.specs.Ranges.{IsBit, IsLocation};
 ghost use Rattle.tatp_layout.specs.Decoding.{subscriber_in};
 ghost use Rattle.tatp_layout.specs.Layout.{subscriber_table};
-ghost use Rattle.tatp_layout.specs.RecordCalls.{ChangesField, ReadsRow, SetsBit1, SetsVlr};
+ghost use Rattle.tatp_layout.specs.RecordCalls.{ChangesField, MovesLocation, ReadsRow, SetsBit1, SetsVlr, location_reads, location_writes};
 ghost use Rattle.tatp_layout.specs.Records.{subscriber_form};
 
 use crate::digits::digits;
+use crate::index_keys::{location_key, move_key};
 use crate::layout::Layout;
 use crate::record_row::{RecordRow, get_row};
 use dude_base::limits::SUBSCRIBER_WORDS;
@@ -75,19 +76,29 @@ pub fn get_sub<W: Words>(lay: &Layout, w: &mut W, at: u64) -> Result<SubRow, Sto
     get_row(lay, w, at)
 }
 
-/// Changes the location of the subscriber whose record stands at the word `at`.
+/// Changes the location of the subscriber whose record stands at the word `at`, and its key in the index
+/// where there is one.
 pub fn put_vlr<W: Words>(lay: &Layout, w: &mut W, at: u64, vlr: u64) -> Result<(), Stop>
     requires size { (W.sight w.old).count ≡ lay.now.pages * PAGE }
     requires record { IsRecord (subscriber_table lay.now).pool at }
     requires range { IsLocation vlr }
-    ensures uses { UsesWords W.sight W.turns_into 0 1 result w.old w.new }
-    ensures wrote { WritesAsMany W.sight result w.old w.new (λ done. 1) }
-    ensures shown { Shows W.sight result w.old w.new (λ seen. slice_set seen (at + 6) vlr) }
-    ensures holds { ChangesSeen W.sight result w.old w.new (SetsVlr at vlr) }
+    ensures uses { UsesWords W.sight W.turns_into (location_reads lay.now) (location_writes lay.now)
+        result w.old w.new }
+    ensures wrote { OnOk result ((W.sight w.new).writes ≢ []) }
+    ensures moves { ChangesSeen W.sight result w.old w.new (MovesLocation lay.now at vlr) }
+    ensures shown { lay.now.index ≡ 0 →
+        Shows W.sight result w.old w.new (λ seen. slice_set seen (at + 6) vlr) }
+    ensures holds { lay.now.index ≡ 0 → ChangesSeen W.sight result w.old w.new (SetsVlr at vlr) }
 {
     prove!(lay.subscribers().pool.has(at));
+    let Some(tree) = lay.index() else {
+        w.write(at + 6, vlr)?;
+        return Ok(());
+    };
+    let s_id = w.read(at)?;
+    let was = w.read(at + 6)?;
     w.write(at + 6, vlr)?;
-    Ok(())
+    move_key(&tree, w, location_key(was, s_id), location_key(vlr, s_id))
 }
 
 /// Changes `bit_1` of the subscriber whose record stands at the word `at`.

@@ -204,4 +204,5 @@ population_stands {s} {a} accepted is =
       access = has_rows access_form rows.access (access_fits accepted) (keys_differ access_key rows.access order.access_rise) is.access;
       facilities = has_rows facility_form rows.facilities (facilities_fit accepted) (keys_differ facility_key rows.facilities order.facilities_rise) is.facilities;
       calls = has_rows call_form rows.calls (calls_fit accepted) (keys_differ call_key rows.calls order.calls_rise) is.calls;
+      index = λ some. absurd (some (omega (arith, accepted.index.high)));
     }

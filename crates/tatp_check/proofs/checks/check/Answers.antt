@@ -1,4 +1,5 @@
-use Rattle.std.proofs.Common.{◌≡◌, Err, IfErr, inl, inr, rules, sym, subst}
+use Rattle.std.proofs.Common.{◌≡◌, Err, IfErr, inl, inr, ap, arith, rules, sym, subst}
+use Rattle.dude_base.specs.declared.sizes.Sizes.{Sizes}
 use Rattle.table_check.specs.Faults.{IsCause}
 use Rattle.table_check.proofs.Ends.{cause_of}
 use Rattle.tatp_check.specs.Order.{IsNotDb}
@@ -6,6 +7,9 @@ use Rattle.tatp_check.specs.Walked.{database_in, records_of_kind}
 use Rattle.tatp_check.proofs.OneWord.{not_db}
 use Rattle.tatp_check.proofs.StandsFor.{stands}
 use Rattle.tatp_check.proofs.checks.check.Goals as goal
+
+pub prove-unreachable-requires : goal.prove-unreachable-requires
+prove-unreachable-requires c = omega (arith, c.sizes-sizes.ensures.accepted.index.high, ap (λ (s : Sizes). s.index) c.sizes-sizes.ensures.sizes)
 
 pub returns-in_err-walked-clause-fault : goal.returns-in_err-walked-clause-fault
 returns-in_err-walked-clause-fault c =
@@ -23,4 +27,4 @@ returns-in-Some-clause-fault c =
 
 pub returns-clause-ok : goal.returns-clause-ok
 returns-clause-ok c =
-    (database_in c.args.a.now c.in_ok-walked.walked, stands c.args.lay.now c.args.a.now c.in_ok-walked.walked c.in_ok-walked.ensures.walked c.in-None.ensures c.requires.size)
+    (database_in c.args.a.now c.in_ok-walked.walked, stands c.args.lay.now c.args.a.now c.in_ok-walked.walked c.in_ok-walked.ensures.walked c.in-None.ensures c.requires.size (omega (arith, c.sizes-sizes.ensures.accepted.index.high)))

@@ -11,7 +11,7 @@ use Rattle.tatp_layout.proofs.Seen.{fits_still}
 use Rattle.tatp_core.proofs.Answered.{fits_at, removes_at}
 use Rattle.tatp_core.proofs.Deleting.{serves_deleted, serves_for_none, serves_none}
 use Rattle.tatp_core.proofs.Phones.{known, unknown}
-use Rattle.tatp_core.proofs.Serving.{serves_changed, serves_stopped, serves_unchanged}
+use Rattle.tatp_core.proofs.Serving.{serves_changed, serves_stopped, serves_unchanged, wrote_more}
 use Rattle.tatp_core.proofs.delete.write_delete.Goals as goal
 
 pub first_call_key-requires-clause-id : goal.first_call_key-requires-clause-id
@@ -41,7 +41,7 @@ pub returns-in_err-remove : goal.returns-in_err-remove
 returns-in_err-remove g c = serves_stopped c.args.lay.now c.in-DeleteCall.is c.from_residual-in_err-remove.result c.from_residual-in_err-remove.ensures.1 c.requires.can (used_until c.in_ok-s_id.ensures.uses c.in_err-remove.ensures.uses) (omega (arith, ap walk_reads c.calls.ensures.table)) (lit≤ tt)
 
 pub returns-then-branch : goal.returns-then-branch
-returns-then-branch g c = serves_changed c.args.lay.now c.in-DeleteCall.is g.met.W.Words.well_formed c.requires.can (used_then c.in_ok-s_id.ensures.uses c.in_ok-remove.ensures.uses) (omega (arith, ap walk_reads c.calls.ensures.table)) (lit≤ tt) (wrote_then (wrote_none c.in_ok-s_id.ensures.uses) (subst (λ b. Wrote (cond b 4 0) (g.W.Words.sight c.id_of.new.w) (g.W.Words.sight c.remove.new.w)) c.if-branch.true c.in_ok-remove.ensures.wrote)) (lit< tt)
+returns-then-branch g c = serves_changed c.args.lay.now c.in-DeleteCall.is g.met.W.Words.well_formed c.requires.can (used_then c.in_ok-s_id.ensures.uses c.in_ok-remove.ensures.uses) (omega (arith, ap walk_reads c.calls.ensures.table)) (lit≤ tt) (wrote_more (wrote_then (wrote_none c.in_ok-s_id.ensures.uses) (subst (λ b. Wrote (cond b 4 0) (g.W.Words.sight c.id_of.new.w) (g.W.Words.sight c.remove.new.w)) c.if-branch.true c.in_ok-remove.ensures.wrote)) (lit< tt))
     (λ range array below db stands. serves_deleted c.in-DeleteCall.sub_nbr c.in-DeleteCall.sf_type c.in-DeleteCall.start_time range stands c.in-Some.s_id (known c.in-DeleteCall.sub_nbr stands c.in-Some.is (c.in_ok-s_id.ensures.id array (below_before c.in_ok-remove.ensures.uses below)))
     (fits_at c.calls.ensures.table c.calls.ensures.fits) (removes_at (shown (g.W.Words.sight c.remove.new.w) array) c.calls.ensures.table (shown_same c.in_ok-s_id.ensures.uses array) (ap (λ k. k + c.in-DeleteCall.start_time / 8) c.first_call_key.ensures) c.if-branch.true (c.in_ok-remove.ensures.removes array below)))
 

@@ -11,7 +11,7 @@ use Rattle.tatp_layout.proofs.Seen.{fits_still, record_at}
 use Rattle.tatp_core.proofs.Answered.{finds_at, fits_at, inserts_at}
 use Rattle.tatp_core.proofs.Inserting.{serves_for_none, serves_full, serves_inserted, serves_nowhere, serves_twice}
 use Rattle.tatp_core.proofs.Phones.{known, unknown}
-use Rattle.tatp_core.proofs.Serving.{serves_changed, serves_stopped, serves_unchanged}
+use Rattle.tatp_core.proofs.Serving.{serves_changed, serves_stopped, serves_unchanged, wrote_more}
 use Rattle.tatp_core.proofs.insert.write_insert.Goals as goal
 
 pub kind_key-requires-clause-id : goal.kind_key-requires-clause-id
@@ -78,7 +78,7 @@ pub returns-in_err-put_call-in-Stored : goal.returns-in_err-put_call-in-Stored
 returns-in_err-put_call-in-Stored g c = serves_stopped c.args.lay.now c.in-InsertCall.is c.from_residual-in_err-put_call-in-Stored.result c.from_residual-in_err-put_call-in-Stored.ensures.1 c.requires.can (used_until (used_then c.in_ok-s_id.ensures.uses (used_then c.in_ok-find.ensures.uses c.in_ok-insert.ensures.uses)) c.in_err-put_call-in-Stored.ensures.uses) (omega (arith, ap walk_reads c.facilities.ensures.table, ap walk_reads c.calls.ensures.table)) (lit≤ tt)
 
 pub returns-in_ok-put_call-in-Stored : goal.returns-in_ok-put_call-in-Stored
-returns-in_ok-put_call-in-Stored g c = serves_changed c.args.lay.now c.in-InsertCall.is g.met.W.Words.well_formed c.requires.can (used_then c.in_ok-s_id.ensures.uses (used_then c.in_ok-find.ensures.uses (used_then c.in_ok-insert.ensures.uses c.in_ok-put_call-in-Stored.ensures.uses))) (omega (arith, ap walk_reads c.facilities.ensures.table, ap walk_reads c.calls.ensures.table)) (lit≤ tt) (wrote_then (wrote_none (used_then c.in_ok-s_id.ensures.uses c.in_ok-find.ensures.uses)) (wrote_then (subst (λ p. Wrote (write_count p) (g.W.Words.sight c.find.new.w) (g.W.Words.sight c.insert.new.w)) c.in-Stored.is c.in_ok-insert.ensures.wrote) c.in_ok-put_call-in-Stored.ensures.wrote)) (lit< tt)
+returns-in_ok-put_call-in-Stored g c = serves_changed c.args.lay.now c.in-InsertCall.is g.met.W.Words.well_formed c.requires.can (used_then c.in_ok-s_id.ensures.uses (used_then c.in_ok-find.ensures.uses (used_then c.in_ok-insert.ensures.uses c.in_ok-put_call-in-Stored.ensures.uses))) (omega (arith, ap walk_reads c.facilities.ensures.table, ap walk_reads c.calls.ensures.table)) (lit≤ tt) (wrote_more (wrote_then (wrote_none (used_then c.in_ok-s_id.ensures.uses c.in_ok-find.ensures.uses)) (wrote_then (subst (λ p. Wrote (write_count p) (g.W.Words.sight c.find.new.w) (g.W.Words.sight c.insert.new.w)) c.in-Stored.is c.in_ok-insert.ensures.wrote) c.in_ok-put_call-in-Stored.ensures.wrote)) (lit< tt))
     (λ range array below db stands.
     let q = c.in-InsertCall in
     let id = c.in_ok-s_id.ensures in

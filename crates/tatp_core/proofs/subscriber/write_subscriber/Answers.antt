@@ -11,7 +11,7 @@ use Rattle.tatp_layout.specs.Records.{HoldsRow, subscriber_form}
 use Rattle.tatp_layout.proofs.Seen.{fits_still, record_at}
 use Rattle.tatp_core.proofs.Answered.{finds_at, fits_at}
 use Rattle.tatp_core.proofs.Subscribers.{serves_fields, serves_no_facility, serves_no_subscriber}
-use Rattle.tatp_core.proofs.Serving.{serves_changed, serves_stopped, serves_unchanged}
+use Rattle.tatp_core.proofs.Serving.{serves_changed, serves_stopped, serves_unchanged, wrote_more}
 use Rattle.tatp_core.proofs.subscriber.write_subscriber.Goals as goal
 
 pub find-requires : goal.find-requires
@@ -76,7 +76,7 @@ pub returns-in_err-put_data_a : goal.returns-in_err-put_data_a
 returns-in_err-put_data_a g c = serves_stopped c.args.lay.now c.in-UpdateSubscriber.is c.from_residual-in_err-put_data_a.result c.from_residual-in_err-put_data_a.ensures.1 c.requires.can (used_until (used_then c.in_ok-subscriber.ensures.uses (used_then c.in_ok-facility.ensures.uses c.in_ok-put_bit1.ensures.uses)) c.in_err-put_data_a.ensures.uses) (omega (arith, ap walk_reads c.subscribers.ensures.table, ap walk_reads c.facilities.ensures.table)) (lit≤ tt)
 
 pub returns : goal.returns
-returns g c = serves_changed c.args.lay.now c.in-UpdateSubscriber.is g.met.W.Words.well_formed c.requires.can (used_then c.in_ok-subscriber.ensures.uses (used_then c.in_ok-facility.ensures.uses (used_then c.in_ok-put_bit1.ensures.uses c.in_ok-put_data_a.ensures.uses))) (omega (arith, ap walk_reads c.subscribers.ensures.table, ap walk_reads c.facilities.ensures.table)) (lit≤ tt) (wrote_then (wrote_none (used_then c.in_ok-subscriber.ensures.uses c.in_ok-facility.ensures.uses)) (wrote_then c.in_ok-put_bit1.ensures.wrote c.in_ok-put_data_a.ensures.wrote)) (lit< tt)
+returns g c = serves_changed c.args.lay.now c.in-UpdateSubscriber.is g.met.W.Words.well_formed c.requires.can (used_then c.in_ok-subscriber.ensures.uses (used_then c.in_ok-facility.ensures.uses (used_then c.in_ok-put_bit1.ensures.uses c.in_ok-put_data_a.ensures.uses))) (omega (arith, ap walk_reads c.subscribers.ensures.table, ap walk_reads c.facilities.ensures.table)) (lit≤ tt) (wrote_more (wrote_then (wrote_none (used_then c.in_ok-subscriber.ensures.uses c.in_ok-facility.ensures.uses)) (wrote_then c.in_ok-put_bit1.ensures.wrote c.in_ok-put_data_a.ensures.wrote)) (lit< tt))
     (λ range array below db stands.
     let q = c.in-UpdateSubscriber in
     let find = c.in_ok-subscriber.ensures in

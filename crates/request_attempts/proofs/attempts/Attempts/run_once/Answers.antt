@@ -4,6 +4,7 @@ use Rattle.stm_transactions.specs.Passes.{PassSight}
 use Rattle.stm_transactions.specs.declared.pass_numbers.PassNumbers.{PassNumbers}
 use Rattle.stm_transactions.specs.Transactions.{turns_begin}
 use Rattle.stm_transactions.specs.Ends.{HasAborted, HasCommitted, HasLostCommit}
+use Rattle.tatp_core.proofs.Serving.{max_writes_few}
 use Rattle.request_attempts.proofs.Onces.{numbers, stopped_as, lost_as, served_as}
 use Rattle.request_attempts.proofs.attempts.Attempts.run_once.Goals as goal
 
@@ -23,7 +24,7 @@ returns-in-Err-run_request g c =
     let turns = c.run_request.ensures.uses.turns c.in-Ok.tx (turns_begin c.in-Ok.tx) in
     let tie : c.p-in-Err-run_request-1.given.0 ≡ c.drop-tx.new.self.0 = c.p-in-Err-run_request-1.given.1 (sym (turns.same_pass ∙ c.in-Ok.ensures.same)) in
     stopped_as c.args.self.now.stm.now.events c.args.p.now c.p-in-Err-run_request-1.given.0 c.in-Ok.tx c.run_request.new.w c.in-Ok.ensures.begun turns c.in-Err-run_request.stop c.in-Err-run_request.ensures.uses.last.0
-    (λ wide. let full = c.in-Err-run_request.ensures.uses.last.1 wide in let few = c.run_request.ensures.few in absurd (omega arith))
+    (λ wide. let full = c.in-Err-run_request.ensures.uses.last.1 wide in let few = c.run_request.ensures.few in let most = max_writes_few c.args.self.now.lay.now in absurd (omega arith))
     (subst (λ (x : PassSight _). HasAborted c.run_request.new.w x) (sym tie) c.drop-tx.ensures)
 
 pub returns-in-Ok-commit : goal.returns-in-Ok-commit

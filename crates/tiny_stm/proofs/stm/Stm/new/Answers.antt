@@ -4,7 +4,7 @@ use Rattle.stm_slots.proofs.FirstPages.{mapped_first}
 use Rattle.tiny_stm.specs.Fitting.{FitsStore}
 use Rattle.tiny_stm.specs.Started.{RunsOver, terms_of}
 use Rattle.tiny_stm.specs.Tables.{table_of}
-use Rattle.tiny_stm.proofs.Starts.{no_size}
+use Rattle.tiny_stm.proofs.Starts.{few_pages, no_size}
 use Rattle.tiny_stm.proofs.stm.Stm.new.Goals as goal
 
 pub over-requires-clause-setup : goal.over-requires-clause-setup
@@ -16,6 +16,11 @@ over-requires-clause-setup g c =
       words = (let s = c.requires.size in let n = c.len.ensures in let ok = c.args.words.ok in omega arith);
       number = (let s = lawful.small in let d = c.requires.durable in omega arith);
     }
+
+pub over-requires-clause-pages : goal.over-requires-clause-pages
+over-requires-clause-pages g c =
+    let few = few_pages c.durable-durable.ensures.lawful.accepted in
+    let s = c.requires.size in let n = c.len.ensures in let ok = c.args.words.ok in omega arith
 
 pub over-requires-clause-may : goal.over-requires-clause-may
 over-requires-clause-may g c =

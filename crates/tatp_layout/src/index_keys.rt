@@ -1,0 +1,30 @@
+//! The keys of subscribers in an index.
+
+ghost use Rattle.std.specs.Prelude.{◌≡◌, ◌+◌, ◌*◌, ◌%◌, ◌^◌};
+ghost use Rattle.word_space.specs.Steps.{ChangesSeen, UsesWords};
+ghost use Rattle.tree_index.specs.Tree.{FitsTree};
+ghost use Rattle.tree_index.specs.Walk.{insert_reads, remove_reads};
+ghost use Rattle.tatp_layout.specs.Index.{MovesKey};
+
+use tree_index::tree::Tree;
+use word_space::stop::Stop;
+use word_space::words::Words;
+
+/// The key of a subscriber: the location in the upper half, the `s_id` in the lower one. Only the lowest
+/// 32 bits of each count; in a lawful array it has no more.
+pub fn location_key(vlr: u64, s_id: u64) -> u64
+    ensures { result ≡ vlr % 2 ^ 32 * 2 ^ 32 + s_id % 2 ^ 32 }
+{
+    vlr % 4_294_967_296 * 4_294_967_296 + s_id % 4_294_967_296
+}
+
+/// Puts the key `to` into a tree in the place of `from`.
+pub fn move_key<W: Words>(tree: &Tree, w: &mut W, from: u64, to: u64) -> Result<(), Stop>
+    requires fits { FitsTree tree.now (W.sight w.old).count }
+    ensures uses { UsesWords W.sight W.turns_into (remove_reads + insert_reads) 16 result w.old w.new }
+    ensures moves { ChangesSeen W.sight result w.old w.new (MovesKey tree.now from to) }
+{
+    tree.remove(w, from)?;
+    tree.insert(w, to)?;
+    Ok(())
+}
