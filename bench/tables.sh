@@ -9,7 +9,7 @@ trap 'rm -rf "$room"' EXIT
 mkdir -p "$room/crates"
 cp "$top/HANDLES" "$top/crates.txt" "$room/"
 cp -a "$top/crates/." "$room/crates/"
-echo 'table_bench: dude_base tatp_model word_space record_heap hash_table tatp_layout tatp_population table_check tatp_check' >> "$room/crates.txt"
+echo 'table_bench: dude_base tatp_model word_space record_heap hash_table tatp_layout tatp_rows tatp_check' >> "$room/crates.txt"
 mkdir -p "$room/crates/table_bench/src"
 cat > "$room/crates/table_bench/src/main.rt" <<'END'
 #![tactic(auto)]
@@ -23,7 +23,7 @@ use std::test::Fail;
 use std::time::Instant;
 use tatp_check::check;
 use tatp_layout::Layout;
-use tatp_population::populate;
+use tatp_rows::populate;
 
 fn main(rt: HostRuntime) -> Result<(), Fail> {
     let lay = Layout::of(&Sizes::of(10_000, 120_000, 2, 16)?)?;

@@ -9,7 +9,7 @@ use Rattle.pmem_trait.proofs.Runs.{made_here}
 use Rattle.pmem_trait.proofs.Told.{IsIn-drop_push}
 use Rattle.redo_record.specs.BackCalls.{announce_calls}
 use Rattle.redo_record.proofs.HeldLog.{announce_law}
-use Rattle.log_waiting.specs.Backlog.{IsLawful, log_of}
+use Rattle.back_store.specs.Backlog.{IsLawful, log_of}
 use Rattle.back_store.specs.Back.{BackState, IsEnd, home_now}
 use Rattle.back_store.specs.Answers.{Announces, announced, answered}
 use Rattle.back_store.specs.Images.{HomeStays, HoldsStore, StillHoldsStore, RecoversOnTheWay}

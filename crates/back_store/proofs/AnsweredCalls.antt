@@ -5,7 +5,7 @@ use Rattle.pmem_trait.specs.declared.call.Call.{Call}
 use Rattle.pmem_trait.specs.Sights.{Sight, CallsMade}
 use Rattle.redo_record.specs.BackCalls.{reproduce_calls}
 use Rattle.redo_record.proofs.HomeWrites.{reproduce_length}
-use Rattle.log_waiting.specs.Backlog.{Reproduces}
+use Rattle.back_store.specs.Backlog.{Reproduces}
 use Rattle.back_store.specs.Back.{BackState}
 use Rattle.back_store.specs.Answers.{CallsAnswered, ReproducedBy, ReproducesUnlessDead, ReproducesUpTo}
 use Rattle.back_store.specs.declared.back_fault.BackFault.{BackFault}

@@ -1,6 +1,6 @@
 -- There is an end to which waiting bundles lead.
 use Rattle.redo_record.proofs.WaitingRecords.{waiting_law}
-use Rattle.log_waiting.specs.Backlog.{IsLawful}
+use Rattle.back_store.specs.Backlog.{IsLawful}
 use Rattle.back_store.specs.Back.{BackState, EndsFrom, waiting_now}
 use Rattle.back_store.proofs.KeptLogs.{durable_upto}
 

@@ -11,7 +11,7 @@ use Rattle.pmem_trait.proofs.Runs.{made_here, made_later, made_cause, later_here
 use Rattle.redo_record.specs.LogState.{HoldsLog, RecoversAmong}
 use Rattle.redo_record.proofs.HeldLog.{held_log_law}
 use Rattle.redo_record.proofs.WaitingRecords.{end_reached, waiting_law}
-use Rattle.log_waiting.specs.Backlog.{IsLawful, log_of}
+use Rattle.back_store.specs.Backlog.{IsLawful, log_of}
 use Rattle.back_store.specs.Back.{BackState, IsEnd, home_now, waiting_now}
 use Rattle.back_store.specs.Answers.{CallsAnswered, answered}
 use Rattle.back_store.specs.Images.{HoldsStore}

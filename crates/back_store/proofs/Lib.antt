@@ -11,3 +11,16 @@ pub mod ReadPages
 pub mod Reproduction
 pub mod RestingHome
 pub mod ToldNumbers
+pub mod AddedRecords
+pub mod EmptyLanes
+pub mod HomeWrites
+pub mod KeptLanes
+pub mod LaneRecords
+pub mod LaneWrites
+pub mod MappedLanes
+pub mod Merging
+pub mod PutLinesLemmas
+pub mod ReleasedRecords
+pub mod Stops
+pub mod TakenCells
+pub mod WaitingLanes

@@ -16,10 +16,10 @@ use Rattle.redo_record.specs.Waiting.{AddsWaiting, AreDisjoint, Waiting}
 use Rattle.redo_record.proofs.Persisting.{persist_law}
 use Rattle.redo_record.proofs.WaitingRecords.{waiting_law}
 use Rattle.log_ring.specs.Ring.{next_head}
-use Rattle.log_waiting.specs.Lane.{LaneState, with_redo}
-use Rattle.log_waiting.specs.Lanes.{lane_at, no_lane, rings_of, waiting_in, waiting_of}
-use Rattle.log_waiting.specs.Backlog.{IsLawful, log_of}
-use Rattle.log_waiting.proofs.AddedRecords.{added_distinct, added_waiting}
+use Rattle.back_store.specs.Lane.{LaneState, with_redo}
+use Rattle.back_store.specs.Lanes.{lane_at, no_lane, rings_of, waiting_in, waiting_of}
+use Rattle.back_store.specs.Backlog.{IsLawful, log_of}
+use Rattle.back_store.proofs.AddedRecords.{added_distinct, added_waiting}
 use Rattle.back_store.specs.Back.{BackState, IsEnd, IsRingFull, home_now, ring_full}
 use Rattle.back_store.specs.Answers.{CallsAnswered, answered, persist_calls, with_record}
 use Rattle.back_store.specs.Images.{HomeStays, HoldsStore, StillHoldsStore, RecoversOnTheWay}

@@ -10,7 +10,7 @@ use Rattle.redo_record.specs.LogState.{HoldsLog, RecoversAmong}
 use Rattle.redo_record.specs.BackCalls.{read_page_calls}
 use Rattle.redo_record.proofs.HeldLog.{read_page_law}
 use Rattle.std.specs.List.{range_with_len}
-use Rattle.log_waiting.specs.Backlog.{IsLawful, log_of}
+use Rattle.back_store.specs.Backlog.{IsLawful, log_of}
 use Rattle.back_store.specs.Back.{BackState, home_now}
 use Rattle.back_store.specs.Answers.{CallsAnswered, answered}
 use Rattle.back_store.specs.Images.{HomeStays, HoldsStore, StillHoldsStore, RecoversOnTheWay}

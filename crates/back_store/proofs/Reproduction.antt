@@ -18,10 +18,10 @@ use Rattle.redo_record.specs.BackLaws.{CanReproduce, HaveReleased, reproduced_to
 use Rattle.redo_record.proofs.HeldLog.{released_rings_law}
 use Rattle.redo_record.proofs.Reproducing.{reproduce_law, reproduced_law}
 use Rattle.redo_record.proofs.WaitingRecords.{waiting_law}
-use Rattle.log_waiting.specs.Lane.{LaneState}
-use Rattle.log_waiting.specs.Lanes.{no_lane, rings_of, waiting_of}
-use Rattle.log_waiting.specs.Backlog.{IsLawful, StopsAfter, log_of, without_records_to}
-use Rattle.log_waiting.proofs.ReleasedRecords.{lane_released, released_waiting}
+use Rattle.back_store.specs.Lane.{LaneState}
+use Rattle.back_store.specs.Lanes.{no_lane, rings_of, waiting_of}
+use Rattle.back_store.specs.Backlog.{IsLawful, StopsAfter, log_of, without_records_to}
+use Rattle.back_store.proofs.ReleasedRecords.{lane_released, released_waiting}
 use Rattle.back_store.specs.Back.{BackState, IsEnd, home_now, waiting_now}
 use Rattle.back_store.specs.Answers.{CallsAnswered, ReproducedBy, Reproduces, ReproducesUnlessDead, answered, reproduced}
 use Rattle.back_store.specs.Images.{HasReproduced, IsReproduced, HoldsStore, StillHoldsStore, RecoversOnTheWay}

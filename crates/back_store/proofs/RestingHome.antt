@@ -12,9 +12,9 @@ use Rattle.pmem_trait.specs.Sights.{Sight, state_now}
 use Rattle.redo_record.specs.LogState.{HoldsLog}
 use Rattle.redo_record.specs.Rest.{RestsAt}
 use Rattle.redo_record.proofs.HeldLog.{empty_log_law}
-use Rattle.log_waiting.specs.Lane.{LaneState, empty_lane}
-use Rattle.log_waiting.specs.Lanes.{no_lane, rings_of, waiting_from}
-use Rattle.log_waiting.proofs.EmptyLanes.{lane_empty}
+use Rattle.back_store.specs.Lane.{LaneState, empty_lane}
+use Rattle.back_store.specs.Lanes.{no_lane, rings_of, waiting_from}
+use Rattle.back_store.proofs.EmptyLanes.{lane_empty}
 use Rattle.back_store.specs.Back.{home_now, idle}
 use Rattle.back_store.specs.Images.{IsIdleMedium, HoldsStore}
 

@@ -7,10 +7,10 @@ use Rattle.pmem_trait.specs.Sights.{Sight, CallsMade}
 use Rattle.redo_record.specs.Calls.{append_calls}
 use Rattle.redo_record.specs.Waiting.{Lead}
 use Rattle.log_ring.specs.Ring.{next_head}
-use Rattle.log_waiting.specs.Lanes.{lane_at}
+use Rattle.back_store.specs.Lanes.{lane_at}
 use Rattle.redo_record.specs.BackCalls.{announce_calls, reproduce_calls}
-use Rattle.log_waiting.specs.Backlog.{StopsAfter, announced_to, with_record_in, without_records_to}
-use Rattle.log_waiting.specs.HomeGroup.{StandFor}
+use Rattle.back_store.specs.Backlog.{StopsAfter, announced_to, with_record_in, without_records_to}
+use Rattle.back_store.specs.HomeGroup.{StandFor}
 use Rattle.back_store.specs.Back.{BackState, IsEnd, waiting_now}
 use Rattle.back_store.specs.declared.back_fault.BackFault.{BackFault}
 use Rattle.back_store.specs.declared.back_fault.BackFault.TheVariants.{RingFull, Device, Dead}

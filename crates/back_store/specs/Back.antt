@@ -9,9 +9,9 @@ use Rattle.pmem_trait.specs.Words.{value_of}
 use Rattle.pmem_trait.specs.Sights.{Sight, state_now}
 use Rattle.redo_record.specs.Record.{cells_for}
 use Rattle.redo_record.specs.Waiting.{Waiting, IsContiguousEnd}
-use Rattle.log_waiting.specs.Lane.{IsLaneFull, used_by}
-use Rattle.log_waiting.specs.Lanes.{lane_at, waiting_of}
-use Rattle.log_waiting.specs.Backlog.{BacklogState, MayWait, empty_log}
+use Rattle.back_store.specs.Lane.{IsLaneFull, used_by}
+use Rattle.back_store.specs.Lanes.{lane_at, waiting_of}
+use Rattle.back_store.specs.Backlog.{BacklogState, MayWait, empty_log}
 use Rattle.back_store.specs.declared.back_fault.BackFault.{BackFault}
 use Rattle.back_store.specs.declared.back_fault.BackFault.TheVariants.{Dead, Device, RingFull}
 

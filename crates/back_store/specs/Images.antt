@@ -8,7 +8,7 @@ use Rattle.redo_record.specs.Waiting.{IsArrayAt}
 use Rattle.redo_record.specs.LogState.{HoldsLog, RecoversAmong}
 use Rattle.redo_record.specs.Rest.{RestsAt}
 use Rattle.redo_record.specs.BackLaws.{HasNoHeads}
-use Rattle.log_waiting.specs.Backlog.{log_of}
+use Rattle.back_store.specs.Backlog.{log_of}
 use Rattle.back_store.specs.Back.{BackState, IsEnd, home_now, waiting_now}
 
 -- The medium is as a back that isn't dead left it: where it is visible it holds the log, with the home that reads give,

@@ -5,3 +5,13 @@ pub mod Operations
 pub mod PageReads
 pub mod Told
 pub mod BackView
+pub mod Backlog
+pub mod Entries
+pub mod Fronts
+pub mod HomeGroup
+pub mod KeptBacklog
+pub mod KeptHomeGroup
+pub mod KeptLane
+pub mod Lane
+pub mod Lanes
+pub mod PutLines

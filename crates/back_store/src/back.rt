@@ -6,7 +6,7 @@ ghost use Rattle.dude_base.specs.Sizes.{IsAccepted};
 ghost use Rattle.dude_base.specs.Image.{home_word, image_words};
 ghost use Rattle.pmem_trait.specs.Sights.{Extends, state_now};
 ghost use Rattle.redo_record.specs.BackCalls.{read_page_calls};
-ghost use Rattle.log_waiting.specs.Backlog.{CanWait, IsLawful, StopsAfter};
+ghost use Rattle.back_store.specs.Backlog.{CanWait, IsLawful, StopsAfter};
 ghost use Rattle.back_store.specs.Back.{EndsFrom, IsPersistFault, IsRingFull, MayPersist, idle, ring_full};
 ghost use Rattle.back_store.specs.Answers.{CallsAnswered, SparesMedium, after_announce, after_persist, after_read, after_reproduce, with_record};
 ghost use Rattle.back_store.specs.Images.{IsIdleMedium, HoldsStore};
@@ -14,13 +14,13 @@ ghost use Rattle.back_store.specs.PageReads.{AreWordsFrom};
 ghost use Rattle.back_store.specs.declared.back_fault.BackFault.TheVariants.{Device, Dead};
 
 use crate::back_fault::BackFault;
+use crate::backlog::Backlog;
 use crate::page_reads::read_words;
 use dude_base::bundle::Bundle;
 use dude_base::limits::PAGE;
 use dude_base::place::Place;
 use dude_base::sizes::Sizes;
 use log_ring::RingFault;
-use log_waiting::Backlog;
 use pmem_trait::{Failed, Medium};
 use std::alloc::{AllocError, Global};
 

@@ -6,7 +6,17 @@
 
 mod back;
 mod back_fault;
+mod backlog;
+mod entry;
+mod fronts;
+mod home_group;
+mod home_puts;
+mod lane;
+mod lane_writes;
+mod merge;
 mod page_reads;
 
 pub use back::Back;
 pub use back_fault::BackFault;
+pub use backlog::Backlog;
+pub use lane::Lane;

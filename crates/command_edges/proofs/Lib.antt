@@ -5,3 +5,15 @@ pub mod Prints
 pub mod Results
 pub mod Told
 pub mod Zips
+pub mod Plain
+pub mod Rows
+pub mod Arguments
+pub mod NumberWords
+pub mod Readings
+pub mod FormatWords
+pub mod DriveWords
+pub mod FreshWords
+pub mod RunWalk
+pub mod RunWords
+pub mod Limits
+pub mod Names

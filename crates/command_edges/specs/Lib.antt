@@ -5,3 +5,7 @@ pub mod PrintedRun
 pub mod Printing
 pub mod Reads
 pub mod Texts
+pub mod Command
+pub mod Clap
+pub mod Run
+pub mod Numbers

@@ -6,7 +6,7 @@ use Rattle.pmem_trait.specs.Words.{State}
 use Rattle.pmem_trait.specs.Sights.{Sight, state_now, OneCall, CallsMade, CallsMade.stop, CallsMade.step, AtEveryMoment}
 use Rattle.tatp_layout.specs.StandsFor.{StandsFor}
 use Rattle.redo_record.specs.LogState.{RecoversAmong}
-use Rattle.log_waiting.specs.Backlog.{log_of}
+use Rattle.back_store.specs.Backlog.{log_of}
 use Rattle.back_store.specs.Back.{BackState, IsEnd, home_now, idle}
 use Rattle.back_store.specs.Answers.{Announces, CallsAnswered, announced}
 use Rattle.back_store.specs.Images.{HomeStays, HoldsStore, StillHoldsStore, RecoversOnTheWay}

@@ -15,8 +15,8 @@ use Rattle.record_heap.specs.Pool.{records_of}
 use Rattle.redo_record.specs.Waiting.{AreDisjoint, IsArrayAt}
 use Rattle.redo_record.specs.LogState.{RecoversAmong}
 use Rattle.redo_record.proofs.WaitingRecords.{waiting_law}
-use Rattle.log_waiting.specs.Backlog.{log_of}
-use Rattle.log_waiting.proofs.EmptyLanes.{none_waiting}
+use Rattle.back_store.specs.Backlog.{log_of}
+use Rattle.back_store.proofs.EmptyLanes.{none_waiting}
 use Rattle.back_store.specs.Back.{IsEnd, idle, waiting_now}
 use Rattle.image_recovery.specs.Recovered.{RecoversTo}
 use Rattle.dude_recover.specs.Answers.{StillRecovers}

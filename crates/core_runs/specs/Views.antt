@@ -9,7 +9,7 @@ use Rattle.core_events.specs.Views.{View}
 use Rattle.core_events.specs.Events.{Event, number, see_box, begin, entry, pin, look, load, check, finish, take, draw, decide, store, touch, release, unpin, post, take_turn, see_full, empty_box, raise_durable, raise_reproduced, give_turn, extend, restore, evict, load_touch, view_after}
 use Rattle.core_events.specs.Partings.{newcomer, left_of, both_of}
 use Rattle.core_table.specs.Seats.{opener}
-use Rattle.stm_steps.specs.Abouts.{about}
+use Rattle.core_table.specs.Abouts.{about}
 
 -- two threads, one lock, page, frame and box; all words are 0
 abbrev pub two : Setup

@@ -3,8 +3,8 @@
 use crate::events::{reading, updating};
 use crate::output::{print_numbers, print_pair, print_pairs};
 use crate::stage::Stage;
-use core_view::entry::Entry;
-use core_view::view::View;
+use dude_core::entry::Entry;
+use dude_core::view::View;
 use std::io;
 use tatp_model::reply::Reply;
 

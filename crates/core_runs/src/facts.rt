@@ -1,7 +1,7 @@
 //! What a view shows.
 
 use crate::output::{print_maybe, print_no_command, print_numbers, print_pairs};
-use core_view::view::View;
+use dude_core::view::View;
 use std::io;
 
 /// Prints the fact of this name.

@@ -10,12 +10,12 @@ use crate::others::{drop_page, give_back};
 use crate::output::{print_no_command, print_numbers};
 use crate::trouble::{Trouble, expect};
 use core_table::event_table::Seat;
+use core_table::stm::Stm;
 use core_table::terms::Terms;
 use dude_base::write::Write;
 use dude_base::write_list::WriteList;
 use std::alloc::{AllocError, Global};
 use std::io;
-use stm_steps::stm::Stm;
 
 /// Carries out the history of this name, and prints whether it came to its end.
 pub fn print_history(rt: &HostRuntime, name: &str) -> io::Result<()> {

@@ -8,9 +8,9 @@ use crate::trouble::{Trouble, expect};
 use core_table::event_table::Seat;
 use core_table::foreseen::law_of_foreseen;
 use core_table::slot_rule::AnySlots;
+use core_table::stm::Stm;
 use core_table::terms::Terms;
 use dude_base::write_list::WriteList;
-use stm_steps::stm::Stm;
 use tatp_model::reply::Reply;
 use tatp_model::request::Request;
 

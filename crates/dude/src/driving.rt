@@ -5,7 +5,7 @@ use crate::progress::Progress;
 use crate::progress_runtime::ProgressRuntime;
 use crate::watched_pmem::WatchedPmem;
 use crate::watched_sink::WatchedSink;
-use command_words::{Command, command_of};
+use command_edges::{Command, command_of};
 use dude_io::{FilePmem, RealFiles, RealSink};
 use dude_program::{Fault, dude_watched};
 use std::io::IsTerminal;

@@ -1,2 +1,13 @@
 pub mod Made
 pub mod Records
+pub mod Places
+pub mod MadeStates
+pub mod Parted
+pub mod PartedViews
+pub mod Refused
+pub mod Started
+pub mod Walked
+pub mod Held
+pub mod Walks
+pub mod Versions
+pub mod Entries

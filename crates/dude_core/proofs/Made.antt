@@ -10,7 +10,7 @@ use Rattle.core_events.specs.Persisted.{RecordsLead, DurablePersisted}
 use Rattle.core_events.proofs.Keeps.{steps_keep}
 use Rattle.core_events.proofs.Persists.{step_persists, start_persists}
 use Rattle.core_events.proofs.Start.{start_keeps}
-use Rattle.core_view.specs.RunSetups.{setup_of}
+use Rattle.dude_core.specs.RunSetups.{setup_of}
 use Rattle.dude_core.specs.MadeCores.{FitsImage}
 
 -- a step that the records allow too is one of the machine

@@ -4,3 +4,14 @@ pub mod MadeCores
 pub mod Steps
 pub mod EventLaws
 pub mod Texts
+pub mod Small
+pub mod StateSteps
+pub mod BoxEvents
+pub mod Views
+pub mod Held
+pub mod Moves
+pub mod SetupKept
+pub mod Named
+pub mod RunSetups
+pub mod Partings
+pub mod Values

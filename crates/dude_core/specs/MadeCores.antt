@@ -6,7 +6,7 @@ use Rattle.dude_base.specs.Run.{IsRunWithin}
 use Rattle.dude_base.specs.Sizes.{IsFrom}
 use Rattle.core_events.specs.Setups.{Setup}
 use Rattle.core_events.specs.Partings.{start}
-use Rattle.core_view.specs.RunSetups.{setup_of}
+use Rattle.dude_core.specs.RunSetups.{setup_of}
 use Rattle.dude_core.specs.declared.core_fault.CoreFault.{CoreFault}
 use Rattle.dude_core.specs.declared.core_fault.CoreFault.TheVariants.{Size, NoMemory}
 use Rattle.dude_core.specs.CoreState.{CoreState}

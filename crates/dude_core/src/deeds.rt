@@ -1,12 +1,12 @@
 //! Events as those that a view makes by itself, a group at a time.
 
 ghost use Rattle.std.specs.Prelude.{◌≡◌, ◌≢◌, IfSome, IfNone};
-ghost use Rattle.core_view.specs.Named.{event_of, of_read, of_write, of_turn, of_page};
+ghost use Rattle.dude_core.specs.Named.{event_of, of_read, of_write, of_turn, of_page};
 ghost use Rattle.dude_core.specs.Steps.{IsEventOf, group_of, parting_group, reading, writing, turning, paging};
 
+use crate::about::About;
+use crate::deed::{Deed, PageDeed, ReadDeed, TurnDeed, WriteDeed};
 use crate::event::Event;
-use core_view::about::About;
-use core_view::deed::{Deed, PageDeed, ReadDeed, TurnDeed, WriteDeed};
 use dude_base::redo::Redo;
 use dude_base::write_list::WriteList;
 

@@ -4,20 +4,20 @@ ghost use Rattle.std.specs.Prelude.{◌≡◌, ◌*◌, ◌≤◌, length, slice
 ghost use Rattle.core_events.specs.Setups.{IsSetup};
 ghost use Rattle.core_events.specs.Kept.{Kept};
 ghost use Rattle.core_events.specs.Persisted.{DurablePersisted};
-ghost use Rattle.core_state.specs.Steps.{IsOffOnlyAt};
+ghost use Rattle.dude_core.specs.StateSteps.{IsOffOnlyAt};
 ghost use Rattle.dude_core.specs.CoreState.{CoreState, LeadsTo};
 ghost use Rattle.dude_core.specs.MadeCores.{size_fault};
 ghost use Rattle.dude_core.specs.Steps.{step_of};
 
 use crate::core_fault::CoreFault;
+use crate::core_refusal::CoreRefusal;
 use crate::core_word::CoreWord;
 use crate::event::Event;
 use crate::named::word_of;
+use crate::setup::Setup;
+use crate::state::State;
 use crate::steps::step;
-use core_state::core_refusal::CoreRefusal;
-use core_state::state::State;
-use core_view::setup::Setup;
-use core_view::view::View;
+use crate::view::View;
 use dude_base::limits::PAGE;
 use dude_base::run::Run;
 use dude_base::sizes::Sizes;
@@ -44,7 +44,7 @@ impl Core {
     ghost use Rattle.dude_base.specs.declared.limits.TheConstants.{PAGE as PAGE_WORDS, MAX_NUMBER};
     ghost use Rattle.dude_base.specs.Sizes.{IsAccepted};
     ghost use Rattle.core_events.specs.Words.{found};
-    ghost use Rattle.core_view.specs.Named.{Tells};
+    ghost use Rattle.dude_core.specs.Named.{Tells};
     ghost use Rattle.dude_core.specs.CoreWords.{HasWord, word_at};
     ghost use Rattle.dude_core.specs.MadeCores.{IsCoreAt, RefusesSize, IsFaultOf};
 

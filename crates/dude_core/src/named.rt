@@ -1,12 +1,12 @@
 //! The words of the core, by the names of the state.
 
 ghost use Rattle.std.specs.Prelude.{◌≡◌};
-ghost use Rattle.core_view.specs.Named.{word_of};
+ghost use Rattle.dude_core.specs.Named.{word_of};
 ghost use Rattle.dude_core.specs.CoreWords.{HasWord, word_at};
 
 use crate::core_word::CoreWord;
-use core_view::setup::Setup;
-use core_view::word::Word;
+use crate::setup::Setup;
+use crate::word::Word;
 
 pub(crate) fn word_of(z: &Setup, word: CoreWord) -> Word
     requires { HasWord z.now word }

@@ -3,14 +3,14 @@
 ghost use Rattle.std.specs.Prelude.{◌≡◌, ◌↔◌, OnOk, OnErr, IsErrOf};
 ghost use Rattle.core_events.specs.Persisted.{RecordsLead};
 ghost use Rattle.core_events.specs.Kept.{Kept};
-ghost use Rattle.core_state.specs.Steps.{IsOffAt};
+ghost use Rattle.dude_core.specs.StateSteps.{IsOffAt};
 ghost use Rattle.dude_core.specs.Steps.{step_of};
 
+use crate::core_refusal::CoreRefusal;
 use crate::deeds::deed_of;
 use crate::event::Event;
-use core_state::core_refusal::CoreRefusal;
-use core_state::state::State;
-use core_view::setup::Setup;
+use crate::setup::Setup;
+use crate::state::State;
 use std::alloc::Global;
 
 pub(crate) fn step(

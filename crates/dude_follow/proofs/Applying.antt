@@ -12,7 +12,7 @@ use Rattle.redo_record.specs.LogState.{RecoversAmong}
 use Rattle.redo_record.specs.Recovery.{Recovers}
 use Rattle.redo_record.specs.Waiting.{IsArrayAt, Lead, Waiting, Waits}
 use Rattle.redo_record.proofs.WaitingRecords.{waiting_law}
-use Rattle.log_waiting.specs.Backlog.{MayWait, log_of, without_records_to}
+use Rattle.back_store.specs.Backlog.{MayWait, log_of, without_records_to}
 use Rattle.back_store.specs.Answers.{Announces, CallsAnswered, ReproducesUnlessDead, announced, answered, reproduced, with_record}
 use Rattle.back_store.specs.Back.{BackState, IsRingFull, home_now, waiting_now}
 use Rattle.back_store.specs.Images.{HasReproduced, HomeStays, RecoversOnTheWay, StillHoldsStore}

@@ -12,7 +12,7 @@ use Rattle.pmem_trait.specs.Sights.{CallsMade, Sight, SomeCalls, state_now}
 use Rattle.pmem_trait.proofs.Laws.{every_moment_here}
 use Rattle.pmem_trait.proofs.Runs.{ran_here}
 use Rattle.redo_record.specs.Recovery.{Recovers}
-use Rattle.log_waiting.proofs.EmptyLanes.{none_waiting}
+use Rattle.back_store.proofs.EmptyLanes.{none_waiting}
 use Rattle.back_store.specs.Back.{BackState, idle}
 use Rattle.back_store.proofs.KeptLogs.{images_here}
 use Rattle.dude_recover.specs.Opened.{HoldsOpened}

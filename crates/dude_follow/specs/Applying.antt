@@ -10,7 +10,7 @@ use Rattle.redo_record.specs.BackCalls.{announce_calls}
 use Rattle.redo_record.specs.Images.{sizes_of}
 use Rattle.redo_record.specs.Recovery.{AreConsecutive, Recovers}
 use Rattle.redo_record.specs.Waiting.{Waiting}
-use Rattle.log_waiting.specs.Backlog.{IsLawful}
+use Rattle.back_store.specs.Backlog.{IsLawful}
 use Rattle.back_store.specs.Answers.{announced, reproduced}
 use Rattle.back_store.specs.Back.{BackState, home_now, waiting_now}
 use Rattle.back_store.specs.Images.{HoldsStore}

@@ -12,7 +12,7 @@ use Rattle.dude_io.specs.Files.{FilesSight}
 use Rattle.dude_io.specs.Sink.{SinkSight}
 use Rattle.dude_io.specs.declared.file_text.FileText.{FileText}
 use Rattle.dude_io.specs.declared.file_text.FileText.TheVariants.{Whole, TooLong}
-use Rattle.command_words.specs.Command.{Meaning.AuditRun}
+use Rattle.command_edges.specs.Command.{Meaning.AuditRun}
 use Rattle.command_edges.specs.CommandFile.{audit_files, request_files}
 use Rattle.command_edges.specs.declared.file_kind.FileKind.TheVariants.{Printed}
 use Rattle.command_edges.specs.declared.printed_run.PrintedRun.{PrintedRun}

@@ -4,7 +4,7 @@ use Rattle.pmem_trait.specs.Sights.{IsAtRest, Sight}
 use Rattle.tatp_model.specs.declared.done.Done.{Done}
 use Rattle.dude_io.specs.Files.{FilesSight}
 use Rattle.dude_io.specs.Sink.{SinkSight}
-use Rattle.command_words.specs.Command.{Meaning, meaning_of}
+use Rattle.command_edges.specs.Command.{Meaning, meaning_of}
 use Rattle.command_edges.specs.declared.fault.Fault.{Fault}
 use Rattle.command_edges.specs.declared.fault.Fault.TheVariants.{Memory, Usage}
 use Rattle.dude_program.specs.World.{World, world_of}

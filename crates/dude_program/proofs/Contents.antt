@@ -8,7 +8,7 @@ use Rattle.pmem_trait.specs.Reads.{ContentHas}
 use Rattle.tatp_model.specs.Population.{population_calls}
 use Rattle.image_recovery.specs.Recovered.{Recovery, Unformatted, Damaged, NotDb, Recovered, Gives}
 use Rattle.dude_recover.specs.Causes.{FitsImage}
-use Rattle.command_words.specs.Command.{Meaning}
+use Rattle.command_edges.specs.Command.{Meaning}
 use Rattle.dude_engine.specs.Opening.{Opening}
 use Rattle.command_edges.specs.declared.fault.Fault.{Fault}
 use Rattle.command_edges.specs.declared.fault.Fault.TheVariants as fault

@@ -20,7 +20,7 @@ use Rattle.run_order.specs.Runs.{SyncsFollow}
 use Rattle.run_order.specs.Printed.{NumbersOfOneThread}
 use Rattle.run_threads.specs.Answers.{AreSyncsDurable}
 use Rattle.image_recovery.specs.Recovered.{RecoversTo}
-use Rattle.command_words.specs.Command.{Meaning, Meaning.FreshRun, Meaning.FormatImage, Meaning.RunFiles, Meaning.StreamFiles, Meaning.RecoverImage, Meaning.DumpTables, Meaning.DriveLoad, Meaning.AuditRun, Meaning.ShipFiles, Meaning.FollowFiles}
+use Rattle.command_edges.specs.Command.{Meaning, Meaning.FreshRun, Meaning.FormatImage, Meaning.RunFiles, Meaning.StreamFiles, Meaning.RecoverImage, Meaning.DumpTables, Meaning.DriveLoad, Meaning.AuditRun, Meaning.ShipFiles, Meaning.FollowFiles}
 use Rattle.dude_engine.specs.Endings.{End, LosesAtMost, WasToldLast}
 use Rattle.dude_engine.specs.Opening.{Opening, RecoversAmong, last_of}
 use Rattle.dude_engine.specs.Plain.{LosesFew, RecoversAlongRun, most_lost_by}

@@ -11,7 +11,7 @@ use Rattle.tatp_model.specs.declared.done.Done.{Done}
 use Rattle.tatp_model.specs.OneThread.{AllAreDone}
 use Rattle.dude_io.specs.Files.{FilesSight}
 use Rattle.dude_io.specs.Sink.{SinkSight, Took}
-use Rattle.command_words.specs.Command.{Meaning, Meaning.FreshRun, Meaning.FormatImage, Meaning.RunFiles, Meaning.StreamFiles, Meaning.RecoverImage, Meaning.DumpTables, Meaning.DriveLoad, Meaning.AuditRun, Meaning.ShipFiles, Meaning.FollowFiles}
+use Rattle.command_edges.specs.Command.{Meaning, Meaning.FreshRun, Meaning.FormatImage, Meaning.RunFiles, Meaning.StreamFiles, Meaning.RecoverImage, Meaning.DumpTables, Meaning.DriveLoad, Meaning.AuditRun, Meaning.ShipFiles, Meaning.FollowFiles}
 use Rattle.dude_engine.specs.Endings.{End}
 use Rattle.dude_engine.specs.Opening.{Opening, IsOpening}
 use Rattle.command_edges.specs.declared.fault.Fault.{Fault}

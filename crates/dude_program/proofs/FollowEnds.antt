@@ -12,7 +12,7 @@ use Rattle.dude_io.specs.Files.{FilesSight}
 use Rattle.dude_io.specs.Sink.{SinkSight}
 use Rattle.image_recovery.specs.Recovered.{RecoversArray}
 use Rattle.dude_follow.specs.Applying.{RecoversAlong}
-use Rattle.command_words.specs.Command.{Meaning.FollowFiles}
+use Rattle.command_edges.specs.Command.{Meaning.FollowFiles}
 use Rattle.command_edges.specs.CommandFile.{packet_files}
 use Rattle.command_edges.specs.Files.{HasFileFault, HasReadFault}
 use Rattle.command_edges.specs.Printing.{StopsIn}

@@ -20,7 +20,7 @@ use Rattle.dude_follow.specs.declared.follower.Follower.{Follower}
 use Rattle.dude_follow.specs.Applying.{HoldsArray, RecoversAlong, Tells}
 use Rattle.dude_follow.specs.Follower.{StartsOn, follower_back, follower_sight, follower_state}
 use Rattle.dude_follow.proofs.Chains.{told_then}
-use Rattle.command_words.specs.Command.{Meaning.FollowFiles}
+use Rattle.command_edges.specs.Command.{Meaning.FollowFiles}
 use Rattle.command_edges.specs.CommandFile.{packet_files}
 use Rattle.command_edges.specs.declared.file_kind.FileKind.TheVariants.{Packets}
 use Rattle.command_edges.specs.Reads.{ReadsInOrder}

@@ -38,7 +38,7 @@ use Rattle.command_edges.specs.declared.fault.Fault.{Fault}
 use Rattle.command_edges.specs.declared.fault.Fault.TheVariants as fault
 use Rattle.command_edges.proofs.Told.{file_is_there, long_file, some_is}
 use Rattle.command_edges.proofs.Zips.{AllZip-more, AllZip-then}
-use Rattle.command_words.specs.Command.{Meaning.FollowFiles}
+use Rattle.command_edges.specs.Command.{Meaning.FollowFiles}
 use Rattle.dude_program.specs.Delivery.{FOLLOWER_ROOM, HoldsBadPacket, HoldsPackets, IsFirstBadPacket, IsFirstStrange, TakesFiles, follower_at, packets_in}
 use Rattle.dude_program.specs.Follow.{AppliesInOrder, AreFirstPackets, ImagesRecover}
 use Rattle.dude_program.specs.Taking.{IsBadAsPackets, MeansPackets, StopsInText, StopsInTexts, TakesAll, TakesPackets}

@@ -9,7 +9,7 @@ use Rattle.pmem_trait.specs.Sights.{Sight}
 use Rattle.tatp_model.specs.declared.request.Request.{Request}
 use Rattle.dude_io.specs.Files.{FilesSight}
 use Rattle.log_numbered.specs.KeptBundles.{IsPacket}
-use Rattle.command_words.specs.Command.{Meaning.RunFiles, Meaning.ShipFiles}
+use Rattle.command_edges.specs.Command.{Meaning.RunFiles, Meaning.ShipFiles}
 use Rattle.command_edges.specs.Files.{OfFile}
 use Rattle.command_edges.specs.declared.fault.Fault.{Fault}
 use Rattle.command_edges.specs.declared.fault.Fault.TheVariants.{ManyFiles, Frames, Numbers, Device}

@@ -18,7 +18,7 @@ use Rattle.dude_recover.specs.FormatCalls.{format_calls}
 use Rattle.dude_recover.specs.Answers.{OpensSome, StillRecovers}
 use Rattle.dude_recover.proofs.OpeningMoments.{opened_some, opens_calls}
 use Rattle.dude_recover.proofs.SettledReads.{content_kept}
-use Rattle.command_words.specs.Command.{Meaning, Meaning.FreshRun, Meaning.FormatImage, Meaning.RunFiles, Meaning.StreamFiles, Meaning.RecoverImage, Meaning.DumpTables, Meaning.DriveLoad, Meaning.AuditRun, Meaning.ShipFiles, Meaning.FollowFiles}
+use Rattle.command_edges.specs.Command.{Meaning, Meaning.FreshRun, Meaning.FormatImage, Meaning.RunFiles, Meaning.StreamFiles, Meaning.RecoverImage, Meaning.DumpTables, Meaning.DriveLoad, Meaning.AuditRun, Meaning.ShipFiles, Meaning.FollowFiles}
 use Rattle.command_edges.specs.Files.{HasFileFault, MissesFile}
 use Rattle.command_edges.specs.Files as read
 use Rattle.command_edges.specs.Reads.{ReadsInOrder}

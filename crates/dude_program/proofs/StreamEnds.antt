@@ -7,7 +7,7 @@ use Rattle.tatp_model.specs.declared.done.Done.{Done}
 use Rattle.dude_io.specs.Files.{FilesSight}
 use Rattle.dude_io.specs.Sink.{SinkSight, TookPart}
 use Rattle.dude_stream.specs.Streams.{IsStreamText, Streams}
-use Rattle.command_words.specs.Command.{Meaning}
+use Rattle.command_edges.specs.Command.{Meaning}
 use Rattle.dude_engine.specs.Opening.{Opening}
 use Rattle.command_edges.specs.declared.fault.Fault.{Fault}
 use Rattle.command_edges.specs.declared.fault.Fault.TheVariants.{Device, Output, Memory}

@@ -5,7 +5,7 @@ use Rattle.dude_base.specs.declared.limits.TheConstants.{MAX_NUMBER}
 use Rattle.pmem_trait.specs.Sights.{Sight}
 use Rattle.tatp_model.specs.declared.request.Request.{Request}
 use Rattle.dude_io.specs.Files.{FilesSight}
-use Rattle.command_words.specs.Command.{Meaning.RunFiles, Meaning.StreamFiles}
+use Rattle.command_edges.specs.Command.{Meaning.RunFiles, Meaning.StreamFiles}
 use Rattle.command_edges.specs.Files.{OfFile}
 use Rattle.command_edges.specs.declared.fault.Fault.{Fault}
 use Rattle.command_edges.specs.declared.fault.Fault.TheVariants.{ManyFiles, Frames, FewSubscribers, Numbers, Device, Audit}

@@ -16,7 +16,7 @@ use Rattle.back_store.specs.Back.{idle}
 use Rattle.image_recovery.specs.Recovered.{IsNoDatabase, RecoversTo}
 use Rattle.dude_recover.specs.Causes.{FormatsSome}
 use Rattle.dude_recover.specs.Answers.{OpensSome}
-use Rattle.command_words.specs.Command.{Meaning, Meaning.FreshRun, Meaning.FormatImage, Meaning.RunFiles, Meaning.StreamFiles, Meaning.RecoverImage, Meaning.DumpTables, Meaning.DriveLoad, Meaning.AuditRun, Meaning.ShipFiles, Meaning.FollowFiles}
+use Rattle.command_edges.specs.Command.{Meaning, Meaning.FreshRun, Meaning.FormatImage, Meaning.RunFiles, Meaning.StreamFiles, Meaning.RecoverImage, Meaning.DumpTables, Meaning.DriveLoad, Meaning.AuditRun, Meaning.ShipFiles, Meaning.FollowFiles}
 use Rattle.command_edges.specs.Files.{HasReadFault, IsFirstBad, IsGoodFile, MissesFile}
 use Rattle.command_edges.specs.Reads.{ReadsInOrder}
 use Rattle.command_openings.specs.Opens.{FailsOpening, OpensByCalls}

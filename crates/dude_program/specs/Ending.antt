@@ -2,7 +2,7 @@
 use Rattle.std.specs.Prelude.{◌≡◌, ℕ, ⊤, IsTrue, Option, Some, None, List}
 use Rattle.tatp_model.specs.declared.done.Done.{Done}
 use Rattle.command_edges.specs.declared.fault.Fault.{Fault}
-use Rattle.command_words.specs.Command.{Meaning, Meaning.FollowFiles, meaning_of}
+use Rattle.command_edges.specs.Command.{Meaning, Meaning.FollowFiles, meaning_of}
 use Rattle.dude_program.specs.World.{World}
 use Rattle.dude_program.specs.Follow.{FollowsFiles}
 use Rattle.dude_program.specs.Headline.{Headline}

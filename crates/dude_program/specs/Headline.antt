@@ -21,7 +21,7 @@ use Rattle.dude_engine.specs.Endings.{AreSyncsTold, End, LosesAtMost}
 use Rattle.dude_engine.specs.Plain.{most_lost_by}
 use Rattle.command_edges.specs.declared.fault.Fault.{Fault}
 use Rattle.command_edges.specs.declared.fault.Fault.TheVariants.{Device, Output, Memory}
-use Rattle.command_words.specs.Command.{Meaning, Meaning.FreshRun, Meaning.FormatImage, Meaning.RunFiles, Meaning.StreamFiles, Meaning.RecoverImage, Meaning.DumpTables, Meaning.DriveLoad, Meaning.AuditRun, Meaning.ShipFiles, Meaning.FollowFiles}
+use Rattle.command_edges.specs.Command.{Meaning, Meaning.FreshRun, Meaning.FormatImage, Meaning.RunFiles, Meaning.StreamFiles, Meaning.RecoverImage, Meaning.DumpTables, Meaning.DriveLoad, Meaning.AuditRun, Meaning.ShipFiles, Meaning.FollowFiles}
 use Rattle.dude_program.specs.Audit.{IsRunFound}
 use Rattle.dude_program.specs.Ship.{ShipsContent}
 use Rattle.dude_program.specs.World.{World}

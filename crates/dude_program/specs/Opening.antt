@@ -12,7 +12,7 @@ use Rattle.tatp_text.specs.Load.{mixed}
 use Rattle.tatp_text.specs.Summary.{summary_of}
 use Rattle.dude_io.specs.Files.{FilesSight}
 use Rattle.dude_stream.specs.Streams.{IsStreamText}
-use Rattle.command_words.specs.Command.{Meaning, Meaning.FreshRun, Meaning.FormatImage, Meaning.RunFiles, Meaning.StreamFiles, Meaning.RecoverImage, Meaning.DumpTables, Meaning.DriveLoad, Meaning.AuditRun, Meaning.ShipFiles, Meaning.FollowFiles}
+use Rattle.command_edges.specs.Command.{Meaning, Meaning.FreshRun, Meaning.FormatImage, Meaning.RunFiles, Meaning.StreamFiles, Meaning.RecoverImage, Meaning.DumpTables, Meaning.DriveLoad, Meaning.AuditRun, Meaning.ShipFiles, Meaning.FollowFiles}
 use Rattle.command_edges.specs.Files.{OfFile}
 use Rattle.dude_engine.specs.Opening.{Opening, last_of}
 use Rattle.command_openings.specs.Openings.{IsOpeningOn, new_opening}

@@ -29,7 +29,7 @@ use Rattle.command_edges.specs.declared.fault.Fault.{Fault}
 use Rattle.command_edges.specs.declared.fault.Fault.TheVariants.{ManyFiles, Frames, FewSubscribers, Numbers, Device, Memory}
 use Rattle.command_edges.specs.Printing.{StopsIn}
 use Rattle.tatp_model.specs.Files.{requests_in}
-use Rattle.command_words.specs.Command.{Meaning, Meaning.RunFiles}
+use Rattle.command_edges.specs.Command.{Meaning, Meaning.RunFiles}
 use Rattle.dude_program.specs.declared.load.Load.{Load}
 use Rattle.dude_program.specs.declared.worked.Worked.{Worked}
 use Rattle.dude_program.specs.Causes.{FailsOnlyAtDevice, WantsFrames}

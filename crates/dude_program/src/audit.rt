@@ -7,7 +7,7 @@ ghost use Rattle.dude_engine.specs.Opening.{IsOpening};
 ghost use Rattle.command_edges.specs.Fault.{status_of};
 ghost use Rattle.command_edges.specs.Files.{AreInRange};
 ghost use Rattle.command_openings.specs.ImageRead.{OnlyReadsImage, opening_read};
-ghost use Rattle.command_words.specs.Command.{Meaning.AuditRun};
+ghost use Rattle.command_edges.specs.Command.{Meaning.AuditRun};
 ghost use Rattle.dude_program.specs.Ending.{Ends};
 ghost use Rattle.dude_program.specs.Judging.{IsAnswerFor, IsAnswerOn};
 ghost use Rattle.dude_program.specs.Work.{EndsBy};

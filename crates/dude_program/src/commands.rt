@@ -4,7 +4,7 @@ ghost use Rattle.std.specs.Prelude.{◌≡◌, ◌<◌, ◌≤◌, IfSome, lengt
 ghost use Rattle.std.specs.Rc.{rc_str_bytes};
 ghost use Rattle.dude_base.specs.declared.limits.TheConstants.{MAX_LOCKS, MAX_RINGS};
 ghost use Rattle.pmem_trait.specs.Sights.{IsAtRest};
-ghost use Rattle.command_words.specs.Command.{IsBetween, Meaning.FreshRun, Meaning.FormatImage, Meaning.RunFiles, Meaning.RecoverImage, Meaning.DumpTables, Meaning.DriveLoad};
+ghost use Rattle.command_edges.specs.Command.{IsBetween, Meaning.FreshRun, Meaning.FormatImage, Meaning.RunFiles, Meaning.RecoverImage, Meaning.DumpTables, Meaning.DriveLoad};
 ghost use Rattle.dude_io.specs.Files.{FilesSight};
 ghost use Rattle.command_edges.specs.Fault.{status_of};
 ghost use Rattle.dude_program.specs.Ending.{Ends};

@@ -3,7 +3,7 @@
 ghost use Rattle.std.specs.Prelude.{◌≡◌, ◌<◌, All, IfErr, IfOk, None, length, map};
 ghost use Rattle.std.specs.Rc.{rc_str_bytes};
 ghost use Rattle.pmem_trait.specs.Sights.{IsAtRest};
-ghost use Rattle.command_words.specs.Command.{Meaning.FollowFiles};
+ghost use Rattle.command_edges.specs.Command.{Meaning.FollowFiles};
 ghost use Rattle.command_edges.specs.Fault.{status_of};
 ghost use Rattle.dude_follow.specs.Follower.{follower_sizes};
 ghost use Rattle.dude_follow.specs.Packets.{IsPacket};

@@ -3,7 +3,7 @@
 ghost use Rattle.std.specs.Prelude.{ℕ, Option, IfSome};
 ghost use Rattle.dude_base.specs.declared.limits.TheConstants.{MAX_LOCKS};
 ghost use Rattle.dude_base.specs.Run.{IsRunWithin};
-ghost use Rattle.command_words.specs.Command.{IsBetween};
+ghost use Rattle.command_edges.specs.Command.{IsBetween};
 ghost use Rattle.dude_program.specs.Work.{AllowsFrames, HasFrames};
 
 use dude_base::limits::{DEFAULT_BOXES, DEFAULT_LOCKS};

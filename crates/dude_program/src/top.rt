@@ -3,7 +3,7 @@
 ghost use Rattle.std.specs.Prelude.{◌≡◌, map, IfSome};
 ghost use Rattle.std.specs.Rc.{rc_str_bytes};
 ghost use Rattle.pmem_trait.specs.Sights.{IsAtRest};
-ghost use Rattle.command_words.specs.Command.{IsInLimits, meaning_of_command};
+ghost use Rattle.command_edges.specs.Command.{IsInLimits, meaning_of_command};
 ghost use Rattle.command_edges.specs.Fault.{status_of};
 ghost use Rattle.dude_program.specs.Ending.{CausesByWords, Ends, EndsByWords, FollowsByWords, HasOwnTheorem, HeadlineByWords, RefusesNoCommand};
 ghost use Rattle.dude_program.specs.World.{world_of};
@@ -16,8 +16,7 @@ use crate::load::Load;
 use crate::run_options::RunOptions;
 use crate::ship::ship;
 use crate::stream::stream;
-use command_edges::Fault;
-use command_words::{Command, command_of};
+use command_edges::{Command, Fault, command_of};
 use dude_io::{Files, Sink};
 use pmem_trait::Medium;
 use request_attempts::gate::Gate;

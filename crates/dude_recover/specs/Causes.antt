@@ -5,9 +5,9 @@ use Rattle.dude_base.specs.Sizes.{IsAccepted, IsFirstOut}
 use Rattle.dude_base.specs.Image.{image_words}
 use Rattle.pmem_trait.specs.Sights.{Sight, CallsMade, Risen}
 use Rattle.tatp_model.specs.Population.{population_calls}
-use Rattle.tatp_population.specs.Populated.{IsPopulated}
-use Rattle.tatp_population.specs.declared.fault.PopFault.{PopFault}
-use Rattle.tatp_population.specs.declared.fault.PopFault.TheVariants as population
+use Rattle.tatp_rows.specs.Populated.{IsPopulated}
+use Rattle.tatp_rows.specs.declared.fault.PopFault.{PopFault}
+use Rattle.tatp_rows.specs.declared.fault.PopFault.TheVariants as population
 use Rattle.dude_recover.specs.FormatCalls.{format_calls}
 use Rattle.dude_recover.specs.declared.format_fault.FormatFault.{FormatFault}
 use Rattle.dude_recover.specs.declared.format_fault.FormatFault.TheVariants.{Size, Small, TooFew, Device, NoMemory}

@@ -5,7 +5,7 @@ use Rattle.pmem_trait.specs.Words.{IsSettled, State}
 use Rattle.pmem_trait.specs.Sights.{AtEveryMoment, Sight, state_now}
 use Rattle.tatp_model.specs.Population.{population}
 use Rattle.tatp_layout.specs.StandsFor.{StandsFor}
-use Rattle.tatp_population.specs.Populated.{IsPopulated}
+use Rattle.tatp_rows.specs.Populated.{IsPopulated}
 use Rattle.image_recovery.specs.Recovered.{RecoversTo}
 use Rattle.back_store.specs.Images.{IsIdleMedium}
 

@@ -5,7 +5,7 @@ use dude_base::size_fault::SizeFault;
 use pmem_trait::Failed;
 use std::error::Error;
 use std::fmt;
-use tatp_population::PopFault;
+use tatp_rows::PopFault;
 
 /// Why no image was made.
 #[derive(Clone, Copy, Debug, PartialEq, Eq)]

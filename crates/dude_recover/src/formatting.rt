@@ -13,7 +13,7 @@ use dude_base::sizes::Sizes;
 use pmem_trait::Medium;
 use std::alloc::Global;
 use tatp_layout::Layout;
-use tatp_population::populate;
+use tatp_rows::populate;
 
 /// Makes a new image of these sizes, and tells 0.
 ///

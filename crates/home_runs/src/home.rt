@@ -16,7 +16,7 @@ use std::alloc::Global;
 use tatp_core::run_request;
 use tatp_layout::Layout;
 use tatp_model::{Done, Reply, Request};
-use tatp_population::{PopFault, populate};
+use tatp_rows::{PopFault, populate};
 use word_space::flat::Flat;
 use word_space::words::Words;
 

@@ -2,8 +2,8 @@
 use Rattle.std.proofs.Common.{◌≡◌, ℕ, List, Result, Err, IfErr, sym, refl, subst}
 use Rattle.pmem_trait.specs.Sights.{Sight}
 use Rattle.pmem_trait.specs.Reads.{ContentHas}
-use Rattle.table_check.specs.declared.check_fault.CheckFault.{CheckFault}
-use Rattle.table_check.specs.declared.check_fault.CheckFault.TheVariants as check
+use Rattle.tatp_check.specs.declared.check_fault.CheckFault.{CheckFault}
+use Rattle.tatp_check.specs.declared.check_fault.CheckFault.TheVariants as check
 use Rattle.image_recovery.specs.declared.open_fault.OpenFault.{OpenFault}
 use Rattle.image_recovery.specs.declared.open_fault.OpenFault.TheVariants.{Unformatted, Damaged, NotDb, Device, NoMemory}
 use Rattle.image_recovery.specs.Faults.{IsFaultOf, IsFaultOn, IsReplayFaultOn, fault_of_check, in_memory}

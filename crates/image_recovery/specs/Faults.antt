@@ -5,8 +5,8 @@ use Rattle.pmem_trait.specs.Reads.{ContentHas, OnlyReads}
 use Rattle.redo_record.specs.Recovery.{IsFormatted, IsDamaged}
 use Rattle.log_ring.specs.declared.scan_fault.ScanFault.{ScanFault}
 use Rattle.log_ring.specs.declared.scan_fault.ScanFault.TheVariants as scan
-use Rattle.table_check.specs.declared.check_fault.CheckFault.{CheckFault}
-use Rattle.table_check.specs.declared.check_fault.CheckFault.TheVariants as check
+use Rattle.tatp_check.specs.declared.check_fault.CheckFault.{CheckFault}
+use Rattle.tatp_check.specs.declared.check_fault.CheckFault.TheVariants as check
 use Rattle.image_recovery.specs.declared.open_fault.OpenFault.{OpenFault}
 use Rattle.image_recovery.specs.declared.open_fault.OpenFault.TheVariants.{Unformatted, Damaged, NotDb, Device, NoMemory}
 use Rattle.image_recovery.specs.Recovered.{IsNoDatabase}

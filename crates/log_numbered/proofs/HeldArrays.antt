@@ -16,8 +16,8 @@ use Rattle.redo_record.specs.Waiting.{AddsWaiting, IsArrayAt, Lead, Waiting, Wai
 use Rattle.redo_record.specs.LogState.{RecoversAmong}
 use Rattle.redo_record.proofs.Reproducing.{overwritten-append}
 use Rattle.redo_record.proofs.WaitingRecords.{consecutive_up, lead_more, waiting_law}
-use Rattle.log_waiting.specs.Lanes.{waiting_in}
-use Rattle.log_waiting.specs.Backlog.{log_of}
+use Rattle.back_store.specs.Lanes.{waiting_in}
+use Rattle.back_store.specs.Backlog.{log_of}
 use Rattle.back_store.specs.Back.{BackState, home_now, waiting_now}
 use Rattle.back_store.specs.Answers.{with_record}
 use Rattle.back_store.specs.Images.{IsReproduced}

@@ -10,14 +10,14 @@ use Rattle.dude_base.specs.Records.{Covers, RedoBundle, first_of}
 use Rattle.redo_record.specs.Record.{cells_for}
 use Rattle.redo_record.specs.Waiting.{AddsWaiting, AreDisjoint, Waiting}
 use Rattle.redo_record.proofs.WaitingRecords.{lead_more, waiting_law}
-use Rattle.log_waiting.specs.Lane.{used_by}
-use Rattle.log_waiting.specs.Lanes.{lane_at, no_lane, waiting_in}
-use Rattle.log_waiting.specs.Backlog.{StopsAfter, without_records_to}
-use Rattle.log_waiting.proofs.AddedRecords.{added_distinct, added_lawful, added_waiting}
-use Rattle.log_waiting.proofs.EmptyLanes.{empty_lawful, none_waiting}
-use Rattle.log_waiting.proofs.Merging.{led_up}
-use Rattle.log_waiting.proofs.ReleasedRecords.{released_lawful, released_waiting}
-use Rattle.log_waiting.proofs.WaitingLanes.{waits_in, waits_of_ring}
+use Rattle.back_store.specs.Lane.{used_by}
+use Rattle.back_store.specs.Lanes.{lane_at, no_lane, waiting_in}
+use Rattle.back_store.specs.Backlog.{StopsAfter, without_records_to}
+use Rattle.back_store.proofs.AddedRecords.{added_distinct, added_lawful, added_waiting}
+use Rattle.back_store.proofs.EmptyLanes.{empty_lawful, none_waiting}
+use Rattle.back_store.proofs.Merging.{led_up}
+use Rattle.back_store.proofs.ReleasedRecords.{released_lawful, released_waiting}
+use Rattle.back_store.proofs.WaitingLanes.{waits_in, waits_of_ring}
 use Rattle.back_store.specs.Back.{BackState, IsEnd, IsRingFull, idle, waiting_now, waiting_of_ring}
 use Rattle.back_store.specs.Answers.{announced, reproduced, with_record}
 use Rattle.back_store.proofs.KeptLogs.{durable_upto}

@@ -6,8 +6,8 @@ use Rattle.pmem_trait.proofs.Runs.{made_then}
 use Rattle.redo_record.specs.BackCalls.{announce_calls}
 use Rattle.redo_record.proofs.WaitingRecords.{waiting_law}
 use Rattle.log_ring.specs.Ring.{next_head}
-use Rattle.log_waiting.specs.Lanes.{lane_at}
-use Rattle.log_waiting.specs.Backlog.{IsLawful}
+use Rattle.back_store.specs.Lanes.{lane_at}
+use Rattle.back_store.specs.Backlog.{IsLawful}
 use Rattle.back_store.specs.Back.{BackState, IsEnd, IsRingFull, waiting_now}
 use Rattle.back_store.specs.Answers.{Announces, Reproduces, announced, reproduced}
 use Rattle.log_numbered.specs.declared.open_bundle.OpenBundle.{OpenBundle}

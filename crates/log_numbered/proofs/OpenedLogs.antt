@@ -2,7 +2,7 @@
 use Rattle.std.proofs.Common.{◌≡◌, ℕ, ◌-◌, List, [], ◌∷◌, get_or, length, sym, ap, ◌∙◌, arith}
 use Rattle.dude_base.specs.declared.sizes.Sizes.{Sizes}
 use Rattle.pmem_trait.specs.Sights.{Sight}
-use Rattle.log_waiting.proofs.EmptyLanes.{none_waiting}
+use Rattle.back_store.proofs.EmptyLanes.{none_waiting}
 use Rattle.back_store.specs.Back.{home_now, idle}
 use Rattle.log_numbered.specs.Arrays.{RunArrays, array_at, last_number}
 use Rattle.log_numbered.specs.Backs.{HoldsArrays}

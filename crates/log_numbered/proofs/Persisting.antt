@@ -5,7 +5,7 @@ use Rattle.dude_base.specs.declared.limits.TheConstants.{MAX_NUMBER}
 use Rattle.dude_base.specs.Records.{RedoBundle, first_of}
 use Rattle.pmem_trait.specs.Sights.{Sight, state_now, CallsMade, CallsMade.none}
 use Rattle.log_ring.specs.Ring.{next_head}
-use Rattle.log_waiting.specs.Lanes.{lane_at}
+use Rattle.back_store.specs.Lanes.{lane_at}
 use Rattle.back_store.specs.Back.{BackState, IsRingFull, home_now, ring_full}
 use Rattle.back_store.specs.Answers.{CallsAnswered, answered, persist_calls, with_record}
 use Rattle.back_store.specs.Images.{HomeStays, StillHoldsStore, RecoversOnTheWay}

@@ -5,7 +5,7 @@ use Rattle.std.proofs.lemmas.List.Elements.{All-nil}
 use Rattle.dude_base.specs.declared.limits.TheConstants.{MAX_NUMBER}
 use Rattle.pmem_trait.specs.declared.call.Call.{Call}
 use Rattle.pmem_trait.specs.Sights.{Sight, state_now}
-use Rattle.log_waiting.specs.Backlog.{StopsAfter}
+use Rattle.back_store.specs.Backlog.{StopsAfter}
 use Rattle.back_store.specs.Back.{BackState, home_now}
 use Rattle.back_store.specs.Answers.{ReproducedBy, ReproducesUnlessDead, ReproducesUpTo, answered, reproduced}
 use Rattle.back_store.specs.Images.{HasReproduced, StillHoldsStore}

@@ -5,7 +5,7 @@ use Rattle.dude_base.specs.declared.limits.TheConstants.{MAX_NUMBER}
 use Rattle.dude_base.specs.Records.{RedoBundle}
 use Rattle.pmem_trait.specs.Sights.{Sight, state_now, AtEveryMoment, Risen, SomeCalls}
 use Rattle.redo_record.specs.Waiting.{IsArrayAt, Waiting}
-use Rattle.log_waiting.specs.Backlog.{IsLawful}
+use Rattle.back_store.specs.Backlog.{IsLawful}
 use Rattle.back_store.specs.Back.{BackState, IsEnd, IsRingFull, home_now, waiting_now}
 use Rattle.back_store.specs.Images.{HoldsStore}
 use Rattle.back_store.specs.Told.{WereTold}

@@ -7,12 +7,12 @@ use Rattle.std.proofs.lemmas.List.{set_past}
 use Rattle.std.proofs.lemmas.List.Elements.{All-head, All-tail, Contains-get_or}
 use Rattle.dude_base.specs.Records.{RedoBundle, Covers, first_of}
 use Rattle.redo_record.specs.Waiting.{Waiting}
-use Rattle.log_waiting.specs.Lane.{LaneState, with_redo}
-use Rattle.log_waiting.specs.Lanes.{lane_at, waiting_in, waiting_of}
-use Rattle.log_waiting.specs.Backlog.{without_records_to}
-use Rattle.log_waiting.proofs.AddedRecords.{added_waiting}
-use Rattle.log_waiting.proofs.ReleasedRecords.{released_waiting}
-use Rattle.log_waiting.proofs.WaitingLanes.{waits_of_ring}
+use Rattle.back_store.specs.Lane.{LaneState, with_redo}
+use Rattle.back_store.specs.Lanes.{lane_at, waiting_in, waiting_of}
+use Rattle.back_store.specs.Backlog.{without_records_to}
+use Rattle.back_store.proofs.AddedRecords.{added_waiting}
+use Rattle.back_store.proofs.ReleasedRecords.{released_waiting}
+use Rattle.back_store.proofs.WaitingLanes.{waits_of_ring}
 use Rattle.back_store.specs.Back.{BackState, waiting_now, waiting_of_ring}
 use Rattle.back_store.specs.Answers.{answered, reproduced, with_record}
 use Rattle.back_store.specs.declared.back_fault.BackFault.{BackFault}

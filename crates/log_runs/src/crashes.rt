@@ -6,7 +6,7 @@ use back_store::BackFault;
 use dude_base::bundle::Bundle;
 use pmem_fake::MemPmem;
 use pmem_trait::Medium;
-use slow_recovery::{Replay, recover};
+use script_words::{Replay, recover};
 use std::alloc::{AllocError, Global};
 use std::io;
 

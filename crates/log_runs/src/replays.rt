@@ -7,7 +7,7 @@ use dude_base::place::Place;
 use log_ring::{ScanFault, scan};
 use pmem_fake::MemPmem;
 use pmem_trait::Medium;
-use slow_recovery::{Replay, recover};
+use script_words::{Replay, recover};
 use std::alloc::{AllocError, Global};
 use std::io;
 

@@ -1,7 +1,7 @@
 //! What images recover to, by the product and by the slow replay.
 
 use image_recovery::{OpenFault, image_of};
-use slow_recovery::{Replay, recover};
+use script_words::{Replay, recover};
 use std::alloc::{AllocError, Global};
 
 /// What a recovery or an opening gives: the number and the home words, or why not.

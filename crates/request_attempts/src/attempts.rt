@@ -1,8 +1,8 @@
 //! What requests are tried with.
 
 use core_table::slot_rule::SlotRule;
+use core_table::stm::Stm;
 use std::alloc::Global;
-use stm_steps::stm::Stm;
 use tatp_layout::Layout;
 
 /// What requests are tried with: the steps of transactions, the layout of the home, the gate that each transaction passes,

@@ -5,7 +5,7 @@ ghost use Rattle.stm_transactions.specs.Passes.{IsResting};
 ghost use Rattle.request_attempts.specs.Turns.{HasPumped, HasFetched, LeavesFault};
 
 use crate::turn_fault::TurnFault;
-use stm_steps::stm::Stm;
+use core_table::stm::Stm;
 use stm_transactions::pass::Pass;
 use stm_transactions::rule::TransactionRule;
 

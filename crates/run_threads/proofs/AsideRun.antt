@@ -24,7 +24,7 @@ use Rattle.run_order.specs.Rests.{IsUnion, files_of, firsts_of, rests_of, shifte
 use Rattle.dude_recover.specs.declared.opened.Opened.{Opened}
 use Rattle.dude_recover.specs.Opened.{HasParts, HoldsOpened, IsOpened}
 use Rattle.back_store.specs.declared.back.Back.{Back}
-use Rattle.log_waiting.specs.Backlog.{without_records_to}
+use Rattle.back_store.specs.Backlog.{without_records_to}
 use Rattle.back_store.specs.Back.{BackState, idle}
 use Rattle.back_store.specs.Images.{HoldsStore}
 use Rattle.back_store.specs.BackView.{medium_of, sight_of, state_of}

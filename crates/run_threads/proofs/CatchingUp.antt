@@ -8,7 +8,7 @@ use Rattle.dude_base.specs.Records.{RedoRecord}
 use Rattle.pmem_trait.specs.Sights.{Sight}
 use Rattle.redo_record.specs.Waiting.{Waiting}
 use Rattle.redo_record.proofs.WaitingRecords.{consecutive_up}
-use Rattle.log_waiting.specs.Backlog.{StopsAfter}
+use Rattle.back_store.specs.Backlog.{StopsAfter}
 use Rattle.back_store.specs.Answers.{after_announce, after_reproduce, announced, reproduced}
 use Rattle.back_store.specs.Back.{BackState, IsEnd, waiting_now}
 use Rattle.back_store.specs.declared.back_fault.BackFault.{BackFault}

@@ -18,7 +18,7 @@ use Rattle.redo_record.specs.Waiting.{Waiting}
 use Rattle.redo_record.specs.LogState.{HoldsLog, IsWaiting, LogState}
 use Rattle.redo_record.specs.BackLaws.{HasNoHeads}
 use Rattle.redo_record.proofs.Recovered.{home_sizes, images_at_rest_law}
-use Rattle.log_waiting.specs.Backlog.{log_of}
+use Rattle.back_store.specs.Backlog.{log_of}
 use Rattle.back_store.specs.declared.back.Back.{Back}
 use Rattle.back_store.specs.Back.{home_now, idle}
 use Rattle.back_store.specs.BackView.{medium_of, state_of}
@@ -31,9 +31,9 @@ use Rattle.run_threads.specs.Reopened.{HoldsReopened}
 use Rattle.run_threads.proofs.Keeping.{told_of}
 use Rattle.stm_slots.specs.Opening.{setup_of, since_of, start_sight}
 use Rattle.stm_slots.specs.declared.opening.Opening.{Opening}
-use Rattle.table_check.specs.Faults.{IsCause}
-use Rattle.table_check.specs.declared.check_fault.CheckFault.{CheckFault}
-use Rattle.table_check.specs.declared.check_fault.CheckFault.TheVariants.{NoMemory, NotDb}
+use Rattle.tatp_check.specs.Faults.{IsCause}
+use Rattle.tatp_check.specs.declared.check_fault.CheckFault.{CheckFault}
+use Rattle.tatp_check.specs.declared.check_fault.CheckFault.TheVariants.{NoMemory, NotDb}
 use Rattle.tatp_check.specs.Order.{IsNotDb}
 use Rattle.tatp_layout.specs.StandsFor.{IsLawful}
 use Rattle.tiny_stm.specs.Ended.{IsKeptEnd, RecoversUpTo}

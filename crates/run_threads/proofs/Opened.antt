@@ -13,7 +13,7 @@ use Rattle.pmem_trait.proofs.Runs.{later_here, ran_here}
 use Rattle.tatp_model.specs.declared.done.Done.{Done}
 use Rattle.tatp_model.specs.declared.request.Request.{Request}
 use Rattle.tatp_model.specs.Database.{Database}
-use Rattle.log_waiting.proofs.EmptyLanes.{none_waiting}
+use Rattle.back_store.proofs.EmptyLanes.{none_waiting}
 use Rattle.back_store.specs.declared.back.Back.{Back}
 use Rattle.back_store.specs.Back.{BackState, home_now, waiting_now}
 use Rattle.back_store.specs.BackView.{medium_of, sight_of, state_of}

@@ -12,9 +12,9 @@ use Rattle.stm_transactions.specs.Passes.{PassSight, IsResting, first_view, pass
 use Rattle.stm_slots.specs.Beside.{Beside}
 use Rattle.stm_slots.specs.declared.opening.Opening.{Opening}
 use Rattle.stm_slots.specs.declared.slot.Slot.{Slot}
-use Rattle.stm_pages.specs.Fetch.{HasFetched as HasBroughtIn}
-use Rattle.stm_pages.specs.declared.fetch_fault.FetchFault.{FetchFault}
-use Rattle.stm_pages.specs.declared.fetch_fault.FetchFault.TheVariants.{Held, Behind, AllPinned, Device, Dead}
+use Rattle.tiny_stm.specs.Fetch.{HasFetched as HasBroughtIn}
+use Rattle.tiny_stm.specs.declared.fetch_fault.FetchFault.{FetchFault}
+use Rattle.tiny_stm.specs.declared.fetch_fault.FetchFault.TheVariants.{Held, Behind, AllPinned, Device, Dead}
 use Rattle.tiny_stm.specs.Turned.{BySeat, KeepsWork, numbers_fetched}
 use Rattle.request_attempts.specs.declared.turn_fault.TurnFault.{TurnFault}
 use Rattle.request_attempts.specs.Turns.{HasFetched}

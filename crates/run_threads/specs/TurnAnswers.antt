@@ -2,8 +2,8 @@
 use Rattle.std.specs.Prelude.{ℕ, Result, Ok, Err}
 use Rattle.request_attempts.specs.declared.turn_fault.TurnFault.{TurnFault}
 use Rattle.request_attempts.specs.declared.turn_fault.TurnFault.TheVariants.{Refused, Fault}
-use Rattle.stm_pages.specs.declared.fetch_fault.FetchFault.{FetchFault}
-use Rattle.stm_pages.specs.declared.fetch_fault.FetchFault.TheVariants as fetch
+use Rattle.tiny_stm.specs.declared.fetch_fault.FetchFault.{FetchFault}
+use Rattle.tiny_stm.specs.declared.fetch_fault.FetchFault.TheVariants as fetch
 use Rattle.stm_turns.specs.declared.pumped.Pumped.{Pumped}
 use Rattle.stm_turns.specs.declared.pump_fault.PumpFault.{PumpFault}
 use Rattle.stm_turns.specs.declared.pump_fault.PumpFault.TheVariants as pump

@@ -4,8 +4,8 @@ ghost use Rattle.std.specs.Prelude.{◌≡◌};
 ghost use Rattle.run_threads.specs.TurnAnswers.{fetch_answer, pump_answer};
 
 use request_attempts::turn_fault::TurnFault;
-use stm_pages::FetchFault;
 use stm_turns::{PumpFault, Pumped};
+use tiny_stm::FetchFault;
 
 /// The durable number; a turn that is another's is a refusal.
 pub fn pumped(answer: Result<Pumped, PumpFault>) -> Result<u64, TurnFault>

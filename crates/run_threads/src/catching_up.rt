@@ -4,7 +4,7 @@ ghost use Rattle.std.specs.Prelude.{◌≡◌, IfOk, OnErr, OnOk, true};
 ghost use Rattle.back_store.specs.Answers.{after_reproduce};
 ghost use Rattle.back_store.specs.BackView.{HasCause, state_of};
 ghost use Rattle.stm_slots.specs.Calls.{StaysKnown};
-ghost use Rattle.log_waiting.specs.Backlog.{StopsAfter};
+ghost use Rattle.back_store.specs.Backlog.{StopsAfter};
 ghost use Rattle.run_threads.specs.CaughtUp.{GoesOn, HasCaughtUp, IsKnownSomehow, TellsDurable, TellsNone};
 
 use back_store::{Back, BackFault};

@@ -7,8 +7,8 @@ ghost use Rattle.dude_base.specs.Image.{image_words};
 ghost use Rattle.dude_base.specs.Sizes.{IsAccepted};
 ghost use Rattle.dude_recover.specs.Opened.{HasParts, HoldsWhereIdle, IsOpened};
 ghost use Rattle.run_threads.specs.Reopened.{HoldsReopened};
-ghost use Rattle.table_check.specs.Faults.{IsCause};
-ghost use Rattle.table_check.specs.declared.check_fault.CheckFault.TheVariants.{NoMemory};
+ghost use Rattle.tatp_check.specs.Faults.{IsCause};
+ghost use Rattle.tatp_check.specs.declared.check_fault.CheckFault.TheVariants.{NoMemory};
 ghost use Rattle.tatp_check.specs.Order.{IsNotDb};
 ghost use Rattle.tatp_layout.specs.StandsFor.{IsLawful};
 

@@ -8,6 +8,7 @@ ghost use Rattle.run_workers.specs.Printed.{IsPrinted};
 
 use crate::job::Job;
 use crate::run_jobs;
+use core_table::stm::Stm;
 use dude_io::Sink;
 use dude_stream::{Outlet, PrintFault, print_lanes};
 use request_attempts::gate::Gate;
@@ -15,7 +16,6 @@ use request_attempts::turns::Turns;
 use std::alloc::Global;
 use std::sync::atomic::AtomicU64;
 use std::thread::{Threads, join_mut};
-use stm_steps::stm::Stm;
 use stm_transactions::box_rule::BoxRule;
 use stm_transactions::rule::TransactionRule;
 use tatp_layout::Layout;

@@ -11,7 +11,7 @@ use crate::job::Job;
 use crate::jobs::Jobs;
 use crate::joined::Joined;
 use crate::work_end::WorkEnd;
-use stm_steps::stm::Stm;
+use core_table::stm::Stm;
 use stm_transactions::pass::Pass;
 use stm_transactions::rule::{TransactionRule, let_transact};
 use tatp_model::done::Done;

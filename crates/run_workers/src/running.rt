@@ -7,13 +7,13 @@ ghost use Rattle.run_workers.specs.Sending.{IsSameLane, KeepLanes, SendFirst, Se
 
 use crate::job::Job;
 use crate::working::work;
+use core_table::stm::Stm;
 use request_attempts::gate::Gate;
 use request_attempts::turns::Turns;
 use std::alloc::Global;
 use std::sync::atomic::AtomicU64;
 use std::thread;
 use std::thread::Threads;
-use stm_steps::stm::Stm;
 use stm_transactions::box_rule::BoxRule;
 use stm_transactions::rule::TransactionRule;
 use tatp_layout::Layout;

@@ -11,13 +11,13 @@ ghost use Rattle.run_workers.specs.Working.{MayWork};
 
 use crate::job::Job;
 use crate::work_end::WorkEnd;
+use core_table::stm::Stm;
 use request_attempts::gate::Gate;
 use request_attempts::serve::serve_one;
 use request_attempts::turn_fault::TurnFault;
 use request_attempts::turns::Turns;
 use std::alloc::Global;
 use std::sync::atomic::{AtomicU64, Ordering};
-use stm_steps::stm::Stm;
 use stm_transactions::box_rule::BoxRule;
 use stm_transactions::pass::Pass;
 use stm_transactions::rule::TransactionRule;

@@ -8,7 +8,7 @@ use Rattle.pmem_trait.specs.declared.medium.Medium.{Ghosts}
 use Rattle.pmem_trait.specs.Sights.{Sight, state_now}
 use Rattle.pmem_trait.specs.Words.{AtLeast, IsIn}
 use Rattle.redo_record.specs.Waiting.{Waiting}
-use Rattle.log_waiting.proofs.EmptyLanes.{none_waiting}
+use Rattle.back_store.proofs.EmptyLanes.{none_waiting}
 use Rattle.dude_base.specs.declared.limits.TheConstants.{PAGE}
 use Rattle.back_store.specs.Back.{BackState, home_now, idle, waiting_now}
 use Rattle.back_store.specs.BackView.{sight_of, state_of}

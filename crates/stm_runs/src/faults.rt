@@ -10,8 +10,8 @@ use pmem_fake::MemPmem;
 use pmem_trait::Medium;
 use std::alloc::Global;
 use std::io;
-use stm_pages::FetchFault;
 use stm_turns::PumpFault;
+use tiny_stm::FetchFault;
 
 /// What moves are made over: an image and its home, how many calls the opening makes, and what transactions are run with.
 #[derive(Clone, Copy)]

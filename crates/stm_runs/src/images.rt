@@ -13,7 +13,7 @@ use dude_recover::{Opened, format, open};
 use image_recovery::image_of;
 use pmem_fake::MemPmem;
 use pmem_trait::Medium;
-use slow_recovery::{Replay, recover};
+use script_words::{Replay, recover};
 use std::alloc::{AllocError, Global};
 
 /// How many calls on a medium are remembered.

@@ -1,9 +1,9 @@
 //! What came of what passes did.
 
-use stm_pages::FetchFault;
 use stm_transactions::lost::Lost;
 use stm_transactions::split_fault::SplitFault;
 use stm_turns::{PumpFault, Pumped};
+use tiny_stm::FetchFault;
 use word_space::stop::Stop;
 
 /// How a transaction ended.

@@ -2,10 +2,10 @@
 
 use crate::outcome::{Answer, Ended, Outcome};
 use std::io;
-use stm_pages::FetchFault;
 use stm_transactions::lost::Lost;
 use stm_transactions::split_fault::SplitFault;
 use stm_turns::{PumpFault, Pumped};
+use tiny_stm::FetchFault;
 use tiny_stm::stm::Pass;
 use word_space::stop::Stop;
 

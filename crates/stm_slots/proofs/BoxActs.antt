@@ -13,7 +13,7 @@ use Rattle.dude_base.specs.declared.write.Write.{Write}
 use Rattle.dude_base.specs.Records.{RedoBundle, RedoRecord}
 use Rattle.pmem_trait.specs.Sights.{Sight}
 use Rattle.pmem_trait.specs.declared.medium.Medium.{Ghosts}
-use Rattle.log_waiting.proofs.WaitingLanes.{waits_of_ring}
+use Rattle.back_store.proofs.WaitingLanes.{waits_of_ring}
 use Rattle.back_store.specs.Back.{waiting_of_ring}
 use Rattle.atomic_table.specs.Table.{takes, gives, homes_after, carried_after}
 use Rattle.core_events.specs.Setups.{Setup, box_of}

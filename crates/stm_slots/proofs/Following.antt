@@ -8,9 +8,9 @@ use Rattle.std.proofs.lemmas.List.Elements.{Contains-push_cases, All-contains, A
 use mathlib.Core.Logic.{dite}
 use native.Mathlib.Decide.{ℕ_discrete}
 use Rattle.dude_base.specs.Records.{RedoBundle, RedoRecord, first_of}
-use Rattle.log_waiting.specs.Lane.{with_redo}
-use Rattle.log_waiting.specs.Lanes.{lane_at, no_lane}
-use Rattle.log_waiting.proofs.ReleasedRecords.{lane_released}
+use Rattle.back_store.specs.Lane.{with_redo}
+use Rattle.back_store.specs.Lanes.{lane_at, no_lane}
+use Rattle.back_store.proofs.ReleasedRecords.{lane_released}
 use Rattle.back_store.specs.Back.{BackState, waiting_of_ring}
 use Rattle.back_store.specs.Answers.{with_record, reproduced}
 use Rattle.core_events.specs.Setups.{Setup}

@@ -11,8 +11,8 @@ use Rattle.pmem_trait.proofs.Laws.{every_moment_then, every_moment_weaker}
 use Rattle.redo_record.specs.BackCalls.{announce_calls}
 use Rattle.redo_record.specs.LogState.{RecoversAmong}
 use Rattle.redo_record.proofs.WaitingRecords.{waiting_law}
-use Rattle.log_waiting.specs.Backlog.{IsLawful, StopsAfter, log_of}
-use Rattle.log_waiting.proofs.AddedRecords.{added_lawful}
+use Rattle.back_store.specs.Backlog.{IsLawful, StopsAfter, log_of}
+use Rattle.back_store.proofs.AddedRecords.{added_lawful}
 use Rattle.back_store.specs.Back.{BackState, IsEnd, IsRingFull, MayPersist, home_now, ring_full, waiting_now}
 use Rattle.back_store.specs.Answers.{CallsAnswered, Announces, ReproducedBy, ReproducesUnlessDead, after_announce, after_persist, after_read, after_reproduce, announced, persist_calls, reproduced, with_record}
 use Rattle.back_store.specs.Operations.{Operates, OperatesLog}

@@ -5,7 +5,7 @@ use Rattle.dude_base.specs.Records.{RedoRecord}
 use Rattle.redo_record.specs.Waiting.{IsArrayAt}
 use Rattle.redo_record.specs.LogState.{RecoversAmong}
 use Rattle.redo_record.proofs.WaitingRecords.{consecutive_up}
-use Rattle.log_waiting.specs.Backlog.{log_of}
+use Rattle.back_store.specs.Backlog.{log_of}
 use Rattle.back_store.specs.Back.{waiting_now}
 use Rattle.stm_slots.specs.Records.{AreNew, HasValues, writes_in}
 use Rattle.stm_slots.specs.KnownLists.{BackLists, LawfulLists, LiveLists}

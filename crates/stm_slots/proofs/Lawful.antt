@@ -7,12 +7,12 @@ use Rattle.dude_base.specs.declared.limits.TheConstants.{PAGE}
 use Rattle.dude_base.specs.Records.{Covers, HasNumbers, RedoBundle, RedoRecord, first_of}
 use Rattle.redo_record.specs.Waiting.{AddsWaiting, IsEnd, KeepsOver, Lead, Waiting, Waits}
 use Rattle.redo_record.proofs.WaitingRecords.{consecutive_reach, consecutive_up, waiting_law}
-use Rattle.log_waiting.specs.Backlog.{BacklogState, IsLawful, StopsAfter}
-use Rattle.log_waiting.specs.Lane.{released_lane}
-use Rattle.log_waiting.specs.Lanes.{no_lane, waiting_in, waiting_of}
-use Rattle.log_waiting.proofs.AddedRecords.{added_waiting}
-use Rattle.log_waiting.proofs.ReleasedRecords.{released_waiting}
-use Rattle.log_waiting.proofs.WaitingLanes.{waits_in}
+use Rattle.back_store.specs.Backlog.{BacklogState, IsLawful, StopsAfter}
+use Rattle.back_store.specs.Lane.{released_lane}
+use Rattle.back_store.specs.Lanes.{no_lane, waiting_in, waiting_of}
+use Rattle.back_store.proofs.AddedRecords.{added_waiting}
+use Rattle.back_store.proofs.ReleasedRecords.{released_waiting}
+use Rattle.back_store.proofs.WaitingLanes.{waits_in}
 use Rattle.back_store.specs.Back.{BackState, IsEnd as IsLastEnd, MayPersist, waiting_now, waiting_of_ring}
 use Rattle.back_store.specs.Answers.{announced, reproduced, with_record}
 use Rattle.back_store.proofs.KeptLogs.{durable_upto}

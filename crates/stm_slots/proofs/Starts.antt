@@ -9,7 +9,7 @@ use Rattle.pmem_trait.specs.Sights.{SomeCalls, state_now, CallsMade.none}
 use Rattle.pmem_trait.proofs.Laws.{every_moment_here}
 use Rattle.redo_record.specs.Waiting.{Waiting}
 use Rattle.redo_record.proofs.WaitingRecords.{waiting_law}
-use Rattle.log_waiting.specs.Backlog.{IsLawful}
+use Rattle.back_store.specs.Backlog.{IsLawful}
 use Rattle.back_store.specs.Back.{BackState, IsEnd, home_now, waiting_now}
 use Rattle.back_store.specs.Images.{HoldsStore}
 use Rattle.back_store.specs.Operations.{Operates, OperatesLog.rests}

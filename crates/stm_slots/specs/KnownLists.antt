@@ -3,7 +3,7 @@ use Rattle.std.specs.Prelude.{◌≡◌, ℕ, ◌<◌, ◌≤◌, false, List, A
 use Rattle.std.specs.List.{Contains}
 use Rattle.dude_base.specs.Records.{Covers, RedoRecord}
 use Rattle.redo_record.specs.Waiting.{Waiting}
-use Rattle.log_waiting.specs.Backlog.{IsLawful}
+use Rattle.back_store.specs.Backlog.{IsLawful}
 use Rattle.back_store.specs.Back.{BackState, waiting_now}
 use Rattle.core_events.specs.Keyed.{Distinct}
 use Rattle.core_events.specs.KeptNumbers.{numbers_of}

@@ -2,7 +2,7 @@
 
 ghost use Rattle.std.specs.Prelude.{◌≡◌, ◌<◌, IfOk};
 ghost use Rattle.dude_base.specs.declared.limits.TheConstants.{PAGE};
-ghost use Rattle.log_waiting.specs.Backlog.{IsLawful, StopsAfter};
+ghost use Rattle.back_store.specs.Backlog.{IsLawful, StopsAfter};
 ghost use Rattle.back_store.specs.Answers.{after_announce, after_persist, after_read, after_reproduce};
 ghost use Rattle.back_store.specs.Back.{IsEnd, MayPersist};
 ghost use Rattle.back_store.specs.BackView.{HasCause, HasPersistCause, ReadsPage, TellsEnd, state_of};

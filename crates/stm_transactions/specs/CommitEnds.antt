@@ -12,7 +12,7 @@ use Rattle.core_events.specs.Conditions.{IsIdle}
 use Rattle.core_table.specs.Known.{Known}
 use Rattle.core_table.specs.Layout.{TableSight}
 use Rattle.stm_transactions.specs.Seats.{HasNotFallen, HasRisen}
-use Rattle.stm_steps.specs.Abouts.{about}
+use Rattle.core_table.specs.Abouts.{about}
 use Rattle.stm_transactions.specs.declared.commit.Commit.{Commit}
 use Rattle.stm_transactions.specs.declared.served.Served.{Served}
 use Rattle.stm_transactions.specs.declared.lost.Lost.{Lost}

@@ -5,7 +5,7 @@ use Rattle.tatp_model.specs.declared.reply.Reply.{Reply}
 use Rattle.tatp_model.specs.declared.done.Done.{Done}
 use Rattle.dude_base.specs.declared.write.Write.{Write}
 use Rattle.core_events.specs.Views.{Entry}
-use Rattle.stm_steps.specs.Abouts.{about}
+use Rattle.core_table.specs.Abouts.{about}
 use Rattle.stm_transactions.specs.declared.lost.Lost.{Lost}
 use Rattle.stm_transactions.specs.CommitEnds.{HasEnded, IsLost, has_writes, drawn_for}
 use Rattle.stm_transactions.specs.Numbers.{with_refusals}

@@ -10,8 +10,8 @@ use crate::box_full::BoxFull;
 use crate::pass::Pass;
 use crate::rule::{TransactionRule, let_transact};
 use crate::tx::{Tx, begin_now};
+use core_table::stm::Stm;
 use std::alloc::Global;
-use stm_steps::stm::Stm;
 
 /// Begins a transaction of the pass, where its next box is empty.
 pub fn begin_in<'a, S, X, K, P: TransactionRule<S, X, K>>(

@@ -2,10 +2,10 @@
 
 use core_table::event_table::Seat;
 use core_table::slot_rule::{AnySlots, SlotRule};
+use core_table::stm::Stm;
 use core_table::terms::Terms;
 use dude_base::redo::Redo;
 use dude_base::write_list::WriteList;
-use stm_steps::stm::Stm;
 use tatp_model::reply::Reply;
 use tatp_model::request::Request;
 
@@ -17,7 +17,7 @@ pub trait BoxRule<S, X, K>: SlotRule<S, X, K> + Sized {
     ghost use Rattle.core_events.specs.Conditions.{May, record_of};
     ghost use Rattle.core_table.specs.Steps.{BelongsTo};
     ghost use Rattle.stm_transactions.specs.Boxes.{HasBox, TakesBox, GivesBox};
-    ghost use Rattle.stm_steps.specs.Abouts.{drawing};
+    ghost use Rattle.core_table.specs.Abouts.{drawing};
 
     /// What stands in the slot that a draw takes; nothing, where it takes none.
     ghost taken: { List S };

@@ -3,6 +3,7 @@
 use crate::box_rule::BoxRule;
 use core_table::event_table::Seat;
 use core_table::places::CLOCK;
+use core_table::stm::Stm;
 use dude_base::redo::Redo;
 use dude_base::write_list::WriteList;
 use pmem_trait::Medium;
@@ -11,7 +12,6 @@ use stm_slots::beside::Beside;
 use stm_slots::opening::Opening;
 use stm_slots::slot::Slot;
 use stm_slots::slots_rule::KeptSlots;
-use stm_steps::stm::Stm;
 use tatp_model::reply::Reply;
 use tatp_model::request::Request;
 

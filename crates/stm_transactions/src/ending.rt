@@ -21,8 +21,8 @@ use crate::served::Served;
 use crate::storing::{restore_all, unpin_all};
 use core_table::event_table::Seat;
 use core_table::slot_rule::SlotRule;
+use core_table::stm::Stm;
 use dude_base::write_list::WriteList;
-use stm_steps::stm::Stm;
 use word_space::stop::Stop;
 
 // Takes all pins back, and gives all locks their old words. No number was drawn.

@@ -10,7 +10,7 @@ use crate::good_look::GoodLook;
 use crate::good_word::is_good_word;
 use core_table::event_table::Seat;
 use core_table::slot_rule::SlotRule;
-use stm_steps::stm::Stm;
+use core_table::stm::Stm;
 
 // Whether one of the first `k` reads has the lock.
 fn is_before(reads: &[(u64, u64)], k: usize, lock: u64, locks: u64) -> bool

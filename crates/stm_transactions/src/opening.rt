@@ -8,7 +8,7 @@ use crate::pass::Pass;
 use crate::pass_numbers::PassNumbers;
 use core_table::event_table::Seat;
 use core_table::slot_rule::SlotRule;
-use stm_steps::stm::Stm;
+use core_table::stm::Stm;
 
 impl<X> Pass<X> {
     /// The pass of the first seat, of a table that was opened at this number.

@@ -12,9 +12,9 @@ use crate::bad_lock::BadLock;
 use crate::looking::look_at;
 use core_table::event_table::Seat;
 use core_table::slot_rule::SlotRule;
+use core_table::stm::Stm;
 use dude_base::write::Write;
 use dude_base::write_list::WriteList;
-use stm_steps::stm::Stm;
 
 /// Owns a lock, and notes it with its old word, where it isn't owned yet.
 pub fn own_lock<S, X, K, P: SlotRule<S, X, K>>(

@@ -10,7 +10,7 @@ use crate::pinned::Pinned;
 use core_table::event_table::Seat;
 use core_table::places::ENTRY;
 use core_table::slot_rule::SlotRule;
-use stm_steps::stm::Stm;
+use core_table::stm::Stm;
 use word_space::stop::Stop;
 
 /// Pins a page that isn't pinned, and answers its frame.

@@ -8,7 +8,7 @@ use crate::pass::Pass;
 use crate::pass_numbers::PassNumbers;
 use crate::split_fault::SplitFault;
 use core_table::slot_rule::SlotRule;
-use stm_steps::stm::Stm;
+use core_table::stm::Stm;
 
 impl<X> Pass<X> {
     /// A new pass with so many of this pass's draws and with no splits; this pass has one split less.

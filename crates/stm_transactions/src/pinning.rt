@@ -13,10 +13,10 @@ ghost use Rattle.stm_transactions.specs.CommitRule.{OutlastsEnding};
 use crate::pages::pin_page;
 use core_table::event_table::Seat;
 use core_table::slot_rule::SlotRule;
+use core_table::stm::Stm;
 use dude_base::limits::PAGE;
 use dude_base::write::Write;
 use dude_base::write_list::WriteList;
-use stm_steps::stm::Stm;
 use word_space::stop::Stop;
 
 /// Pins a page, unless it is one of those that are pinned, and notes it with its frame.

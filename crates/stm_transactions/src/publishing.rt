@@ -21,9 +21,9 @@ use crate::settling::settle;
 use crate::storing::{restore_all, unpin_all};
 use crate::validating::validate;
 use core_table::event_table::Seat;
+use core_table::stm::Stm;
 use dude_base::redo::Redo;
 use dude_base::write_list::WriteList;
-use stm_steps::stm::Stm;
 
 /// Draws a number for the writes, whose pages are pinned, checks the reads, and makes the writes. Where the lock of a read
 /// isn't good all locks get their old words, and the number is posted as void: `Conflict`.

@@ -14,8 +14,8 @@ use crate::pages::reach;
 use crate::pinned::Pinned;
 use core_table::event_table::Seat;
 use core_table::slot_rule::SlotRule;
+use core_table::stm::Stm;
 use dude_base::limits::PAGE;
-use stm_steps::stm::Stm;
 use word_space::stop::Stop;
 
 /// Reads a word: its page is pinned, and its lock looked at before the load and behind it. The snapshot is extended where the

@@ -3,13 +3,13 @@
 ghost use Rattle.stm_transactions.specs.Rule.{LetsTransact};
 
 use core_table::slot_rule::{AnySlots, SlotRule};
+use core_table::stm::Stm;
 use core_table::terms::Terms;
 use pmem_trait::Medium;
 use stm_slots::beside::Beside;
 use stm_slots::opening::Opening;
 use stm_slots::slot::Slot;
 use stm_slots::slots_rule::KeptSlots;
-use stm_steps::stm::Stm;
 
 /// A rule of slots whose fact outlasts the steps of passes and transactions, but for the draw and the
 /// post of a number.

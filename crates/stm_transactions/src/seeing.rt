@@ -6,7 +6,7 @@ ghost use Rattle.stm_transactions.specs.Passes.{FindsEmpty, IsRefused, IsResting
 use crate::box_full::BoxFull;
 use crate::pass::Pass;
 use core_table::slot_rule::SlotRule;
-use stm_steps::stm::Stm;
+use core_table::stm::Stm;
 
 impl<X> Pass<X> {
     /// Looks at the pass's next box.

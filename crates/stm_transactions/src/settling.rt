@@ -10,9 +10,9 @@ use crate::box_rule::BoxRule;
 use crate::commit::Commit;
 use crate::storing::{release_all, store_all, touch_all, unpin_all};
 use core_table::event_table::Seat;
+use core_table::stm::Stm;
 use dude_base::redo::Redo;
 use dude_base::write_list::WriteList;
-use stm_steps::stm::Stm;
 
 /// Decides the number, makes its writes, and posts it.
 pub fn settle<S, X, K, P: BoxRule<S, X, K>>(

@@ -9,9 +9,9 @@ ghost use Rattle.stm_transactions.specs.Settles.{AreStored, AreTouched, IsLeavin
 
 use core_table::event_table::Seat;
 use core_table::slot_rule::SlotRule;
+use core_table::stm::Stm;
 use dude_base::limits::PAGE;
 use dude_base::write_list::WriteList;
-use stm_steps::stm::Stm;
 
 /// Stores all writes, each in the frame of its page.
 pub fn store_all<S, X, K, P: SlotRule<S, X, K>>(

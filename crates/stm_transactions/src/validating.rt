@@ -10,7 +10,7 @@ use crate::bad_lock::BadLock;
 use crate::good_word::is_good_word;
 use core_table::event_table::Seat;
 use core_table::slot_rule::SlotRule;
-use stm_steps::stm::Stm;
+use core_table::stm::Stm;
 
 /// Checks each lock of the reads after the draw. One that isn't good makes the number void.
 pub fn validate<S, X, K, P: SlotRule<S, X, K>>(

@@ -13,8 +13,8 @@ use Rattle.pmem_trait.specs.Sights.{Sight}
 use Rattle.pmem_trait.specs.declared.medium.Medium.{Ghosts}
 use Rattle.redo_record.specs.Waiting.{IsEnd as IsAnyEnd}
 use Rattle.redo_record.proofs.WaitingRecords.{consecutive_up}
-use Rattle.log_waiting.specs.Backlog.{StopsAfter}
-use Rattle.log_waiting.proofs.ReleasedRecords.{released_waiting}
+use Rattle.back_store.specs.Backlog.{StopsAfter}
+use Rattle.back_store.proofs.ReleasedRecords.{released_waiting}
 use Rattle.back_store.specs.declared.back.Back.{Back}
 use Rattle.back_store.specs.declared.back_fault.BackFault.{BackFault}
 use Rattle.back_store.specs.declared.back_fault.BackFault.TheVariants.{RingFull, Device, Dead}

@@ -6,17 +6,17 @@ use mathlib.Core.Logic.{dite}
 use native.Mathlib.Decide.{ℕ_discrete, dec_le}
 use Rattle.dude_base.specs.declared.limits.TheConstants.{MAX_NUMBER}
 use Rattle.dude_base.specs.Records.{HasNumbers, RedoBundle, first_of}
-use Rattle.log_waiting.specs.Lane.{released_lane, used_by}
-use Rattle.log_waiting.specs.Lanes.{lane_at, no_lane, waiting_in}
-use Rattle.log_waiting.proofs.ReleasedRecords.{released_waiting}
-use Rattle.log_waiting.proofs.WaitingLanes.{waits_in, waits_of_ring}
+use Rattle.back_store.specs.Lane.{released_lane, used_by}
+use Rattle.back_store.specs.Lanes.{lane_at, no_lane, waiting_in}
+use Rattle.back_store.proofs.ReleasedRecords.{released_waiting}
+use Rattle.back_store.proofs.WaitingLanes.{waits_in, waits_of_ring}
 use Rattle.back_store.specs.Back.{BackState, IsRingFull, waiting_of_ring}
 use Rattle.back_store.specs.Answers.{announced, reproduced}
 use Rattle.stm_slots.specs.KnownLists.{LawfulLists, lists}
 use Rattle.stm_slots.proofs.Lawful.{waits_over}
 use Rattle.dude_base.specs.Records.{RedoRecord}
 use Rattle.stm_slots.proofs.Taken.{contains_here}
-use Rattle.log_waiting.specs.Lane.{LaneState, with_redo}
+use Rattle.back_store.specs.Lane.{LaneState, with_redo}
 use Rattle.std.proofs.Common.{get_or-set_same}
 use Rattle.std.proofs.lemmas.List.Elements.{Contains-push}
 use Rattle.std.specs.Prelude.{◌↔◌}

@@ -6,7 +6,7 @@ use Rattle.hash_table.specs.declared.table.Table.{Table}
 use Rattle.tatp_model.specs.Database.{IsSubRow, IsAccessRow, IsFacRow, IsCallRow}
 use Rattle.tatp_layout.specs.Decoding.{subscriber_in, access_in, facility_in, call_in}
 use Rattle.tatp_layout.specs.Records.{RowForm, HoldsRow, subscriber_form, access_form, facility_form, call_form}
-use Rattle.table_check.proofs.Lawful.{HoldsContent}
+use Rattle.tatp_check.proofs.LawfulTable.{HoldsContent}
 use Rattle.tatp_check.specs.Content.{MayHold, content_of}
 use Rattle.tatp_check.specs.Tests.{subscriber_word, number_word, access_word, facility_word, call_word}
 use Rattle.tatp_check.specs.declared.table_kind.TableKind.{TableKind}

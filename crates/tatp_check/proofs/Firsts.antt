@@ -2,12 +2,12 @@
 use Rattle.std.proofs.Common.{◌≡◌, ℕ, ◌+◌, ◌<◌, List, inl, inr, refl, sym, subst, arith}
 use Rattle.std.proofs.lemmas.Bool.{cases_order}
 use Rattle.dude_base.specs.declared.sizes.Sizes.{Sizes}
-use Rattle.table_check.specs.declared.check_fault.CheckFault.{CheckFault}
-use Rattle.table_check.specs.declared.taken.Taken.{Taken}
-use Rattle.table_check.specs.Faults.{IsCause, IsFirstWrong}
-use Rattle.table_check.specs.Taken.{records_taken}
-use Rattle.table_check.specs.Whole.{KeepsWhole}
-use Rattle.table_check.proofs.Ends.{cause_of}
+use Rattle.tatp_check.specs.declared.check_fault.CheckFault.{CheckFault}
+use Rattle.tatp_check.specs.declared.taken.Taken.{Taken}
+use Rattle.tatp_check.specs.Faults.{IsCause, IsFirstWrong}
+use Rattle.tatp_check.specs.Taken.{records_taken}
+use Rattle.tatp_check.specs.Whole.{KeepsWhole}
+use Rattle.tatp_check.proofs.Ends.{cause_of}
 use Rattle.tatp_check.specs.declared.table_kind.TableKind.{TableKind}
 use Rattle.tatp_check.specs.declared.table_kind.TableKind.TheVariants.{Subscribers, Numbers, Access, Facilities, Calls}
 use Rattle.tatp_check.specs.Content.{content_of, table_of}

@@ -6,9 +6,9 @@ use Rattle.std.proofs.lemmas.List.Elements.{Contains-append_left, Contains-get_o
 use Rattle.dude_base.specs.declared.sizes.Sizes.{Sizes}
 use Rattle.record_heap.specs.Pool.{IsRecord}
 use Rattle.hash_table.specs.Table.{records_in}
-use Rattle.table_check.specs.Taken.{Finds, records_by_key}
-use Rattle.table_check.proofs.ByKey.{by_key_in}
-use Rattle.table_check.proofs.Lawful.{HoldsContent, content_at, each_place, one_record}
+use Rattle.tatp_check.specs.Taken.{Finds, records_by_key}
+use Rattle.tatp_check.proofs.ByKey.{by_key_in}
+use Rattle.tatp_check.proofs.LawfulTable.{HoldsContent, content_at, each_place, one_record}
 use Rattle.tatp_check.specs.declared.table_kind.TableKind.{TableKind}
 use Rattle.tatp_check.specs.declared.table_kind.TableKind.TheVariants.{Subscribers, Numbers, Access, Facilities, Calls}
 use Rattle.tatp_check.specs.Content.{content_of, table_of}

@@ -7,7 +7,7 @@ use Rattle.tatp_model.specs.Database.{Database, IsSubRow, IsAccessRow, IsFacRow,
 use Rattle.tatp_layout.specs.Records.{subscriber_form, number_form, access_form, facility_form, call_form}
 use Rattle.tatp_layout.specs.StandsFor.{StandsFor}
 use Rattle.tatp_layout.specs.Decoded.{held_word}
-use Rattle.table_check.proofs.Lawful.{HoldsContent, table_whole}
+use Rattle.tatp_check.proofs.LawfulTable.{HoldsContent, table_whole}
 use Rattle.tatp_check.specs.declared.table_kind.TableKind.{TableKind}
 use Rattle.tatp_check.specs.declared.table_kind.TableKind.TheVariants.{Subscribers, Numbers, Access, Facilities, Calls}
 use Rattle.tatp_check.specs.Content.{content_of, table_of}

@@ -15,3 +15,14 @@ pub mod Slices
 pub mod StandsFor
 pub mod Subscribers
 pub mod TableRows
+pub mod ByKey
+pub mod Compared
+pub mod Ends
+pub mod Judged
+pub mod LawfulTable
+pub mod Mapped
+pub mod Marking
+pub mod OnePool
+pub mod OneTableWord
+pub mod PoolSteps
+pub mod Steps

@@ -14,7 +14,7 @@ use Rattle.tatp_layout.specs.Layout.{subscriber_table, access_table, facility_ta
 use Rattle.tatp_layout.specs.Records.{RowForm, HoldsRow, subscriber_form, access_form, facility_form, call_form}
 use Rattle.tatp_layout.specs.StandsFor.{HasRows, StandsFor}
 use Rattle.tatp_layout.specs.Decoded.{subscriber_back, access_back, facility_back, call_back}
-use Rattle.table_check.proofs.Mapped.{get_or-map}
+use Rattle.tatp_check.proofs.Mapped.{get_or-map}
 use Rattle.tatp_check.specs.declared.table_kind.TableKind.{TableKind}
 use Rattle.tatp_check.specs.declared.table_kind.TableKind.TheVariants.{Subscribers, Access, Facilities, Calls}
 use Rattle.tatp_check.proofs.Lawful.{lawful_records, lawful_whole}

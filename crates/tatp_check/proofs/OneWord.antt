@@ -8,8 +8,8 @@ use Rattle.record_heap.specs.Pool.{IsRecord}
 use Rattle.hash_table.specs.Table.{records_in}
 use Rattle.tatp_model.specs.Database.{Database}
 use Rattle.tatp_layout.specs.StandsFor.{StandsFor}
-use Rattle.table_check.specs.Faults.{IsFirstWrong}
-use Rattle.table_check.proofs.OneWord.{none_wrong, one_chains, one_wrong}
+use Rattle.tatp_check.specs.Faults.{IsFirstWrong}
+use Rattle.tatp_check.proofs.OneTableWord.{none_wrong, one_chains, one_wrong}
 use Rattle.tatp_check.specs.declared.table_kind.TableKind.{TableKind}
 use Rattle.tatp_check.specs.declared.table_kind.TableKind.TheVariants.{Subscribers, Numbers, Access, Facilities, Calls}
 use Rattle.tatp_check.specs.Content.{content_of, table_of}

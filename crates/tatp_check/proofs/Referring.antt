@@ -4,7 +4,7 @@ use Rattle.std.specs.Bool.{IsTrue}
 use Rattle.std.proofs.lemmas.List.{drop_more, take_all, take-append-drop}
 use Rattle.std.proofs.lemmas.List.Elements.{Contains-append_right}
 use Rattle.dude_base.specs.declared.sizes.Sizes.{Sizes}
-use Rattle.table_check.specs.Taken.{Finds}
+use Rattle.tatp_check.specs.Taken.{Finds}
 use Rattle.tatp_check.specs.declared.table_kind.TableKind.{TableKind}
 use Rattle.tatp_check.specs.declared.table_kind.TableKind.TheVariants.{Subscribers, Numbers, Access, Facilities, Calls}
 use Rattle.tatp_check.specs.Content.{table_of}

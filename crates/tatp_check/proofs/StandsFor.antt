@@ -10,9 +10,9 @@ use Rattle.tatp_layout.specs.Decoding.{subscriber_in, access_in, facility_in, ca
 use Rattle.tatp_layout.specs.Layout.{number_table}
 use Rattle.tatp_layout.specs.Records.{HoldsRow, subscriber_form, number_form, access_form, facility_form, call_form}
 use Rattle.tatp_layout.specs.StandsFor.{HasRows, StandsFor}
-use Rattle.table_check.specs.Taken.{records_by_key}
-use Rattle.table_check.proofs.Lawful.{distinct_from_pairs, same_elements, whole_table}
-use Rattle.table_check.proofs.Mapped.{contains_map, contains_mapped, pairs_mapped}
+use Rattle.tatp_check.specs.Taken.{records_by_key}
+use Rattle.tatp_check.proofs.LawfulTable.{distinct_from_pairs, same_elements, whole_table}
+use Rattle.tatp_check.proofs.Mapped.{contains_map, contains_mapped, pairs_mapped}
 use Rattle.tatp_check.specs.declared.table_kind.TableKind.TheVariants.{Subscribers, Numbers, Access, Facilities, Calls}
 use Rattle.tatp_check.specs.Content.{content_of, table_of}
 use Rattle.tatp_check.proofs.Contents.{subscriber_row, access_row, facility_row, call_row}

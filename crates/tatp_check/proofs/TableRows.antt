@@ -6,12 +6,12 @@ use Rattle.hash_table.specs.declared.table.Table.{Table}
 use Rattle.hash_table.specs.Table.{records_in}
 use Rattle.tatp_layout.specs.Records.{RowForm, HoldsRow}
 use Rattle.tatp_layout.specs.StandsFor.{HasRows}
-use Rattle.table_check.specs.declared.taken.Taken.{Taken}
-use Rattle.table_check.specs.Taken.{records_taken, records_by_key}
-use Rattle.table_check.specs.Whole.{KeepsWhole}
-use Rattle.table_check.proofs.ByKey.{by_key_in, in_by_key, by_key_rises, by_key_differ, by_key_length}
-use Rattle.table_check.proofs.Lawful.{one_record, pairs_front, whole_table}
-use Rattle.table_check.proofs.Mapped.{all_mapped, contains_map, contains_mapped, map_agree, map_map}
+use Rattle.tatp_check.specs.declared.taken.Taken.{Taken}
+use Rattle.tatp_check.specs.Taken.{records_taken, records_by_key}
+use Rattle.tatp_check.specs.Whole.{KeepsWhole}
+use Rattle.tatp_check.proofs.ByKey.{by_key_in, in_by_key, by_key_rises, by_key_differ, by_key_length}
+use Rattle.tatp_check.proofs.LawfulTable.{one_record, pairs_front, whole_table}
+use Rattle.tatp_check.proofs.Mapped.{all_mapped, contains_map, contains_mapped, map_agree, map_map}
 
 module _ (content : ℕ → ℕ → Type 0) (table : Table) (array : List ℕ) (wide : 2 ≤ table.pool.size) (taken : Taken) (keeps : KeepsWhole content table array taken) where
   pub among : (at : ℕ) → Contains (records_taken taken) at → Contains (records_in keeps.whole.chains) at

@@ -4,3 +4,11 @@ pub mod References
 pub mod Order
 pub mod Walked
 pub mod Laws
+pub mod Marks
+pub mod Taken
+pub mod Pools
+pub mod Walk
+pub mod Whole
+pub mod Faults
+pub mod PoolWalk
+pub mod Seen

@@ -2,8 +2,8 @@
 use Rattle.std.specs.Prelude.{ℕ, ◌<◌, ◌⊎◌, List}
 use Rattle.dude_base.specs.declared.sizes.Sizes.{Sizes}
 use Rattle.tatp_layout.specs.StandsFor.{IsLawful}
-use Rattle.table_check.specs.Faults.{IsFirstWrong}
-use Rattle.table_check.specs.Whole.{HasWhole}
+use Rattle.tatp_check.specs.Faults.{IsFirstWrong}
+use Rattle.tatp_check.specs.Whole.{HasWhole}
 use Rattle.tatp_check.specs.declared.table_kind.TableKind.{TableKind}
 use Rattle.tatp_check.specs.Content.{content_of, table_of}
 use Rattle.tatp_check.specs.References.{kind_rank, IsFirstUnbound}

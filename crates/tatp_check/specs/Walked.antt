@@ -4,9 +4,9 @@ use Rattle.dude_base.specs.declared.sizes.Sizes.{Sizes}
 use Rattle.hash_table.specs.Table.{FitsTable}
 use Rattle.tatp_model.specs.Database.{Database}
 use Rattle.tatp_layout.specs.Decoding.{subscriber_in, access_in, facility_in, call_in}
-use Rattle.table_check.specs.declared.taken.Taken.{Taken}
-use Rattle.table_check.specs.Taken.{records_taken, records_by_key}
-use Rattle.table_check.specs.Whole.{KeepsWhole}
+use Rattle.tatp_check.specs.declared.taken.Taken.{Taken}
+use Rattle.tatp_check.specs.Taken.{records_taken, records_by_key}
+use Rattle.tatp_check.specs.Whole.{KeepsWhole}
 use Rattle.tatp_check.specs.declared.table_kind.TableKind.{TableKind}
 use Rattle.tatp_check.specs.declared.table_kind.TableKind.TheVariants.{Subscribers, Numbers, Access, Facilities, Calls}
 use Rattle.tatp_check.specs.Content.{content_of, table_of}

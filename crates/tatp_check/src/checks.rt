@@ -3,13 +3,13 @@
 ghost use Rattle.std.specs.Prelude.{◌≡◌, ◌*◌, IfErr, OnOk, length};
 ghost use Rattle.dude_base.specs.declared.limits.TheConstants.{PAGE};
 ghost use Rattle.tatp_layout.specs.StandsFor.{IsLawful};
-ghost use Rattle.table_check.specs.Faults.{IsCause};
+ghost use Rattle.tatp_check.specs.Faults.{IsCause};
 ghost use Rattle.tatp_check.specs.Order.{IsNotDb};
 
+use crate::check_fault::CheckFault;
 use crate::references::first_unbound;
 use crate::walked::walk;
 use std::alloc::Global;
-use table_check::check_fault::CheckFault;
 use tatp_layout::Layout;
 
 /// Accepts exactly the arrays of home words that stand for tables. The word that it names otherwise is the first one, in the

@@ -6,10 +6,10 @@ ghost use Rattle.tatp_model.specs.Database.{database_of};
 ghost use Rattle.tatp_layout.specs.StandsFor.{IsLawful, StandsFor};
 ghost use Rattle.tatp_check.specs.Walked.{AreWalked, database_in};
 
+use crate::check_fault::CheckFault;
 use crate::rows::rows_at;
 use crate::walked::{Walked, walk};
 use std::alloc::{AllocError, Global};
-use table_check::check_fault::CheckFault;
 use tatp_layout::Layout;
 use tatp_model::Tables;
 

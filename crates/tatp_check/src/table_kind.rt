@@ -5,11 +5,11 @@ ghost use Rattle.dude_base.specs.declared.limits.TheConstants.{PAGE};
 ghost use Rattle.hash_table.specs.Table.{FitsTable};
 ghost use Rattle.tatp_check.specs.Content.{table_of};
 
+use crate::content::Content;
 use crate::words::{
     is_access_word, is_call_word, is_facility_word, is_number_word, is_subscriber_word,
 };
 use hash_table::table::Table;
-use table_check::content::Content;
 use tatp_layout::Layout;
 
 /// The tables of a home, in their order.

@@ -3,17 +3,17 @@
 ghost use Rattle.std.specs.Prelude.{◌≡◌, ◌*◌, IfErr, IfOk, length};
 ghost use Rattle.dude_base.specs.declared.limits.TheConstants.{PAGE};
 ghost use Rattle.hash_table.specs.Table.{FitsTable};
-ghost use Rattle.table_check.specs.Faults.{IsCause};
-ghost use Rattle.table_check.specs.Whole.{KeepsWhole};
+ghost use Rattle.tatp_check.specs.Faults.{IsCause};
+ghost use Rattle.tatp_check.specs.Whole.{KeepsWhole};
 ghost use Rattle.tatp_check.specs.Content.{content_of, table_of};
 ghost use Rattle.tatp_check.specs.Order.{IsFirstWrongIn, IsInTables};
 ghost use Rattle.tatp_check.specs.Walked.{AreWalked, taken_of};
 
+use crate::check_fault::CheckFault;
 use crate::table_kind::TableKind;
+use crate::taken::Taken;
+use crate::walk::check_table;
 use std::alloc::Global;
-use table_check::check_fault::CheckFault;
-use table_check::taken::Taken;
-use table_check::walk::check_table;
 use tatp_layout::Layout;
 
 /// The records of five tables in which nothing is wrong but perhaps references.

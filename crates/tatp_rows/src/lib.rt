@@ -2,8 +2,20 @@
 //! array.
 #![tactic(auto)]
 
+mod calls;
+mod fault;
+mod fill;
+mod kinds;
+mod packing;
+mod populated;
+mod population;
+mod rows;
+mod subscribers;
+mod words;
+
+pub use fault::PopFault;
+pub use population::{law_of_population, populate};
 pub use tatp_check::{CheckFault, check, tables_of};
 pub use tatp_layout::{
     Layout, get_access, get_call, get_fac, get_sub, put_bit1, put_call, put_data_a, put_vlr,
 };
-pub use tatp_population::{PopFault, populate};

@@ -2,7 +2,7 @@
 
 use crate::stop::Stop;
 use crate::text::unquoted;
-use command_words::{Command, command_of};
+use command_edges::{Command, command_of};
 use std::alloc::{AllocError, Global};
 use std::rc::RcStr;
 

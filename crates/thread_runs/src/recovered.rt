@@ -3,7 +3,7 @@
 use image_recovery::image_of;
 use pmem_fake::MemPmem;
 use pmem_trait::Medium;
-use slow_recovery::{Replay, recover};
+use script_words::{Replay, recover};
 use std::alloc::Global;
 
 /// The number and the home to which the image recovers that a crash leaves now, where each word has its settled value, or the one

@@ -16,9 +16,9 @@ use Rattle.stm_slots.specs.Beside.{Beside}
 use Rattle.stm_slots.specs.declared.opening.Opening.{Opening}
 use Rattle.stm_slots.specs.declared.slot.Slot.{Slot}
 use Rattle.stm_turns.specs.Turns.{DurableRises}
-use Rattle.stm_pages.specs.Fetch.{HasFailed, HasFetched, HasFetchFault, HasSettled}
-use Rattle.stm_pages.specs.declared.fetch_fault.FetchFault.{FetchFault}
-use Rattle.stm_pages.specs.declared.fetch_fault.FetchFault.TheVariants.{Held, Device, Dead, Behind, AllPinned}
+use Rattle.tiny_stm.specs.Fetch.{HasFailed, HasFetched, HasFetchFault, HasSettled}
+use Rattle.tiny_stm.specs.declared.fetch_fault.FetchFault.{FetchFault}
+use Rattle.tiny_stm.specs.declared.fetch_fault.FetchFault.TheVariants.{Held, Device, Dead, Behind, AllPinned}
 use Rattle.tiny_stm.specs.Turned.{BySeat, numbers_fetched, turns_fetched}
 use Rattle.tiny_stm.proofs.Pumps.{or_false}
 use Rattle.tiny_stm.proofs.Turns.{Leaves, before, described, held_leaves, turn_leaves}

@@ -7,3 +7,12 @@ pub mod Copies
 pub mod Closes
 pub mod Pumps
 pub mod Fetches
+pub mod Turning
+pub mod PageActs
+pub mod QuietPages
+pub mod Filled
+pub mod Placing
+pub mod Maps
+pub mod Evicting
+pub mod Rounds
+pub mod Fetched

@@ -20,7 +20,7 @@ use Rattle.stm_turns.specs.Turns.{DurableRises}
 use Rattle.stm_turns.specs.declared.pumped.Pumped.{Pumped}
 use Rattle.stm_turns.specs.declared.pump_fault.PumpFault.{PumpFault}
 use Rattle.stm_turns.specs.declared.pump_fault.PumpFault.TheVariants.{Held, Device, Dead}
-use Rattle.stm_pages.specs.Paging.{turn_view}
+use Rattle.tiny_stm.specs.Paging.{turn_view}
 use Rattle.tiny_stm.specs.Turned.{BySeat, numbers_after, turns_after}
 use Rattle.tiny_stm.proofs.Turns.{Leaves, before, described, held_leaves, turn_leaves}
 

@@ -12,7 +12,7 @@ use Rattle.stm_transactions.specs.declared.pass_numbers.PassNumbers.{PassNumbers
 use Rattle.stm_transactions.specs.Numbers.{with_refusals}
 use Rattle.stm_transactions.specs.Passes.{Describes, GivesSeat, IsResting, PassSight, entry_numbers, first_view, greatest, is_given, pass_view}
 use Rattle.stm_transactions.proofs.Rests.{given_rests, refused_describes}
-use Rattle.stm_pages.specs.Paging.{turn_view}
+use Rattle.tiny_stm.specs.Paging.{turn_view}
 use Rattle.tiny_stm.specs.Turned.{KeepsWork}
 
 -- the view that took the turn and gave it

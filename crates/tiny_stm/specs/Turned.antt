@@ -9,8 +9,8 @@ use Rattle.stm_transactions.specs.Passes.{PassSight, pass_view}
 use Rattle.stm_turns.specs.declared.pumped.Pumped.{Pumped}
 use Rattle.stm_turns.specs.declared.pump_fault.PumpFault.{PumpFault}
 use Rattle.stm_turns.specs.declared.pump_fault.PumpFault.TheVariants.{Held, Device, Dead}
-use Rattle.stm_pages.specs.declared.fetch_fault.FetchFault.{FetchFault}
-use Rattle.stm_pages.specs.declared.fetch_fault.FetchFault.TheVariants as fetch
+use Rattle.tiny_stm.specs.declared.fetch_fault.FetchFault.{FetchFault}
+use Rattle.tiny_stm.specs.declared.fetch_fault.FetchFault.TheVariants as fetch
 
 -- The pass is whose it was, and has its entries, its draws and what it drew, its transaction and its next box. The durable number that it
 -- knows doesn't fall

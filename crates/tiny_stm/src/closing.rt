@@ -39,7 +39,7 @@ impl<M: Medium> Stm<M> {
             opening,
             mut rest,
         } = self;
-        let stm_steps::stm::Stm { events } = steps;
+        let core_table::stm::Stm { events } = steps;
         // The setup is that of the key.
         let _count = events.box_count();
         let threads = events.threads();

@@ -2,12 +2,13 @@
 
 ghost use Rattle.std.specs.Prelude.{◌≡◌, ◌<◌, IfOk, IfErr};
 ghost use Rattle.stm_transactions.specs.Passes.{IsResting, pass_view};
-ghost use Rattle.stm_pages.specs.Fetch.{HasFetched, HasFetchFault};
+ghost use Rattle.tiny_stm.specs.Fetch.{HasFetched, HasFetchFault};
 ghost use Rattle.tiny_stm.specs.Turned.{BySeat, KeepsWork, numbers_fetched, turns_fetched};
 
+use crate::fetch_fault::FetchFault;
+use crate::page_fetching;
 use crate::stm::{Pass, Steps, Stm};
 use pmem_trait::Medium;
-use stm_pages::FetchFault;
 use stm_transactions::pass_numbers::PassNumbers;
 
 impl<M: Medium> Stm<M> {
@@ -53,7 +54,7 @@ pub fn fetch_on<M: Medium>(steps: &Steps<M>, p: &mut Pass, page: u64) -> Result<
     let numbers = p.numbers();
     let mut seat = p.take_seat();
     let mut durable = numbers.durable;
-    let result = stm_pages::fetch(steps, &mut seat, numbers.thread, page, &mut durable);
+    let result = page_fetching::fetch(steps, &mut seat, numbers.thread, page, &mut durable);
     p.put_seat(seat, after_fetch(numbers, &result, durable));
     result
 }

@@ -108,7 +108,7 @@ impl<M: Medium> Stm<M> {
         slots.push_reserved(Slot::Home(home));
         match new_events(alloc, &opening, slots) {
             Ok((events, seat)) => {
-                let steps = stm_steps::stm::Stm { events };
+                let steps = core_table::stm::Stm { events };
                 let_transact(&steps);
                 let pass = Pass::first(&steps, seat, number);
                 let stm = Stm {

@@ -12,7 +12,7 @@ use stm_slots::slot::Slot;
 use stm_slots::slots_rule::KeptSlots;
 
 /// What transactions make their steps on.
-pub type Steps<M> = stm_steps::stm::Stm<Slot<M>, Beside, Opening<M>, KeptSlots<M>>;
+pub type Steps<M> = core_table::stm::Stm<Slot<M>, Beside, Opening<M>, KeptSlots<M>>;
 
 /// A seat with a thread's number. Each thread has one of its own.
 pub type Pass = stm_transactions::pass::Pass<Beside>;

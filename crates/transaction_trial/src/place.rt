@@ -11,15 +11,15 @@ use crate::job::Job;
 use crate::loads::requests_of;
 use crate::settings::Settings;
 use crate::small::Small;
+use core_table::stm::Stm;
 use core_table::terms::Terms;
 use dude_base::limits::{MAX_BOXES, MAX_LOCKS};
 use dude_base::sizes::Sizes;
 use std::alloc::Global;
-use stm_steps::stm::Stm;
 use stm_transactions::pass::Pass;
 use stm_transactions::rule::let_transact;
 use tatp_layout::Layout;
-use tatp_population::populate;
+use tatp_rows::populate;
 
 /// The draws of each pass that is split off.
 const DRAWS: u64 = 1 << 40;

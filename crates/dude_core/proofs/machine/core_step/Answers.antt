@@ -1,6 +1,6 @@
 use Rattle.std.proofs.Common.{◌↔◌, IsErrOf, subst}
-use Rattle.core_state.specs.declared.core_refusal.CoreRefusal.TheVariants.{Off}
-use Rattle.core_state.specs.Steps.{IsOffAt}
+use Rattle.dude_core.specs.declared.core_refusal.CoreRefusal.TheVariants.{Off}
+use Rattle.dude_core.specs.StateSteps.{IsOffAt}
 use Rattle.dude_core.specs.CoreState.{CoreState}
 use Rattle.dude_core.specs.Steps.{step_of}
 use Rattle.dude_core.proofs.Made.{kept_after, persisted_after}

@@ -1,8 +1,8 @@
 use Rattle.std.proofs.Common.{◌↔◌, OnOk, IsErrOf, sym, subst}
 use Rattle.core_events.specs.Partings.{Step}
 use Rattle.core_events.specs.Persisted.{RecordsLead}
-use Rattle.core_state.specs.declared.core_refusal.CoreRefusal.TheVariants.{Off}
-use Rattle.core_state.specs.Steps.{IsOffAt}
+use Rattle.dude_core.specs.declared.core_refusal.CoreRefusal.TheVariants.{Off}
+use Rattle.dude_core.specs.StateSteps.{IsOffAt}
 use Rattle.dude_core.specs.declared.event.Event.{Event}
 use Rattle.dude_core.specs.Steps.{step_of}
 use Rattle.dude_core.proofs.steps.step.Goals as goal

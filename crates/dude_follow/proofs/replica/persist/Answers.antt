@@ -1,7 +1,7 @@
 use Rattle.std.proofs.Common.{◌≡◌, ◌⊎◌, Err, append-nil, refl, sym, ap, ◌∙◌, subst, ⊎_elim}
 use Rattle.pmem_trait.specs.Sights.{state_now}
 use Rattle.log_ring.specs.Ring.{next_head}
-use Rattle.log_waiting.specs.Lanes.{lane_at}
+use Rattle.back_store.specs.Lanes.{lane_at}
 use Rattle.back_store.specs.Answers.{persist_calls, with_record}
 use Rattle.back_store.specs.Back.{BackState}
 use Rattle.back_store.specs.BackView.{sight_of, state_of}

@@ -1,6 +1,6 @@
 use Rattle.std.proofs.Common.{map}
 use Rattle.std.specs.Rc.{rc_str_bytes}
-use Rattle.command_words.specs.Command.{Meaning.AuditRun}
+use Rattle.command_edges.specs.Command.{Meaning.AuditRun}
 use Rattle.tatp_model.specs.Files.{requests_in}
 use Rattle.command_openings.proofs.ReadOnly.{read_partly}
 use Rattle.dude_program.proofs.Stops.{ends_at_files, ends_at_open, prefix_at_rest}

@@ -1,5 +1,5 @@
 use Rattle.std.proofs.Common.{length}
-use Rattle.command_words.specs.Command.{Meaning.RunFiles}
+use Rattle.command_edges.specs.Command.{Meaning.RunFiles}
 use Rattle.tatp_model.specs.Files.{requests_in}
 use Rattle.command_openings.proofs.Results.{err_of, if_err}
 use Rattle.dude_program.proofs.EachCommand.{refuses_frames, refuses_numbers}

@@ -1,6 +1,6 @@
 use Rattle.std.proofs.Common.{◌≡◌, ◌∙◌, arith, length, refl, ap, inr}
 use Rattle.back_store.specs.BackView.{medium_of}
-use Rattle.command_words.specs.Command.{Meaning.DriveLoad}
+use Rattle.command_edges.specs.Command.{Meaning.DriveLoad}
 use Rattle.tatp_model.specs.Files.{requests_in}
 use Rattle.tatp_text.specs.Load.{mixed}
 use Rattle.dude_program.specs.Opening.{load_of}

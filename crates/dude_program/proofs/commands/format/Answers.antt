@@ -1,5 +1,5 @@
 use Rattle.std.proofs.Common.{◌∙◌, refl, sym}
-use Rattle.command_words.specs.Command.{Meaning.FormatImage}
+use Rattle.command_edges.specs.Command.{Meaning.FormatImage}
 use Rattle.dude_program.proofs.FilesRead.{no_files}
 use Rattle.dude_program.proofs.Endings.{ends_printed}
 use Rattle.dude_program.proofs.Stops.{ends_at_format}

@@ -2,7 +2,7 @@ use Rattle.std.proofs.Common.{◌≡◌, ◌∙◌, ◌≤◌, length, refl, sym
 use Rattle.std.specs.List.{AllZip}
 use Rattle.std.proofs.lemmas.Slice.Zip.{AllZip-long}
 use Rattle.dude_base.specs.declared.sizes.Sizes.{Sizes}
-use Rattle.command_words.specs.Command.{Meaning.FreshRun}
+use Rattle.command_edges.specs.Command.{Meaning.FreshRun}
 use Rattle.tatp_model.specs.Files.{requests_in}
 use Rattle.command_edges.specs.Files.{OfFile}
 use Rattle.command_openings.specs.Openings.{new_opening}

@@ -3,7 +3,7 @@ use Rattle.std.specs.List.{AllZip}
 use Rattle.std.specs.Rc.{rc_str_bytes}
 use Rattle.std.proofs.lemmas.List.{length-map}
 use Rattle.back_store.specs.BackView.{medium_of}
-use Rattle.command_words.specs.Command.{Meaning.RunFiles}
+use Rattle.command_edges.specs.Command.{Meaning.RunFiles}
 use Rattle.tatp_model.specs.Files.{requests_in}
 use Rattle.command_edges.specs.Files.{OfFile}
 use Rattle.dude_program.proofs.FilesRead.{as_many_lists, run_files}

@@ -5,7 +5,7 @@ use Rattle.back_store.specs.Back.{BackState}
 use Rattle.back_store.specs.BackView.{medium_of}
 use Rattle.dude_follow.specs.Applying.{IsAtRest}
 use Rattle.dude_follow.proofs.TakenPackets.{rests_idle}
-use Rattle.command_words.specs.Command.{Meaning.FollowFiles}
+use Rattle.command_edges.specs.Command.{Meaning.FollowFiles}
 use Rattle.dude_program.proofs.EachCommand.{follow_opens}
 use Rattle.dude_program.proofs.FollowEnds.{follows_unopened, follows_unread, read_fault}
 use Rattle.dude_program.proofs.FollowStops.{all_ends, no_follower, stop_ends}

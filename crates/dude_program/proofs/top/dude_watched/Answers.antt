@@ -1,6 +1,6 @@
 use Rattle.std.proofs.Common.{map, sym}
 use Rattle.std.specs.Rc.{rc_str_bytes}
-use Rattle.command_words.specs.Command.{meaning_of_command}
+use Rattle.command_edges.specs.Command.{meaning_of_command}
 use Rattle.dude_program.proofs.ByWords.{words_meant, words_refused, words_unread}
 use Rattle.dude_program.proofs.top.dude_watched.Goals as goal
 

@@ -8,7 +8,7 @@ use Rattle.pmem_trait.proofs.Runs.{made_here, made_cause}
 use Rattle.pmem_trait.proofs.Laws.{made_keep}
 use Rattle.tatp_model.specs.Population.{population, population_calls}
 use Rattle.tatp_layout.specs.StandsFor.{StandsFor}
-use Rattle.tatp_population.specs.Populated.{IsPopulated}
+use Rattle.tatp_rows.specs.Populated.{IsPopulated}
 use Rattle.dude_recover.specs.declared.format_fault.FormatFault.TheVariants.{Device}
 use Rattle.dude_recover.specs.FormatCalls.{format_calls}
 use Rattle.dude_recover.specs.NewImages.{IsNewImage, ShowsNewImage}

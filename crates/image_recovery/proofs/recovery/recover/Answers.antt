@@ -1,6 +1,6 @@
 use Rattle.std.proofs.Common.{ℕ, List, sym, ◌∙◌, subst, rules}
 use Rattle.dude_base.specs.declared.sizes.Sizes.{Sizes}
-use Rattle.table_check.specs.Faults.{IsCause}
+use Rattle.tatp_check.specs.Faults.{IsCause}
 use Rattle.tatp_check.specs.Order.{IsNotDb}
 use Rattle.image_recovery.proofs.Reading.{refused_by_replay, refused_by_check}
 use Rattle.image_recovery.proofs.recovery.recover.Goals as goal

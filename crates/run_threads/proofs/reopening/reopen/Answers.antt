@@ -7,9 +7,9 @@ use Rattle.run_threads.specs.Reopened.{HoldsReopened}
 use Rattle.std.proofs.lemmas.Result.{IfErr-weaker, IfOk-weaker}
 use Rattle.run_threads.proofs.IdleMedia.{free_cause, holds_reopened, only_memory}
 use Rattle.run_threads.proofs.reopening.reopen.Goals as goal
-use Rattle.table_check.specs.Faults.{IsCause}
-use Rattle.table_check.specs.declared.check_fault.CheckFault.{CheckFault}
-use Rattle.table_check.specs.declared.check_fault.CheckFault.TheVariants.{NoMemory}
+use Rattle.tatp_check.specs.Faults.{IsCause}
+use Rattle.tatp_check.specs.declared.check_fault.CheckFault.{CheckFault}
+use Rattle.tatp_check.specs.declared.check_fault.CheckFault.TheVariants.{NoMemory}
 use Rattle.tatp_check.specs.Order.{IsNotDb}
 use Rattle.tatp_layout.specs.StandsFor.{IsLawful}
 

@@ -1,5 +1,5 @@
 use Rattle.std.proofs.Common.{subst, arith, refl, ℕ}
-use Rattle.log_waiting.specs.Backlog.{StopsAfter}
+use Rattle.back_store.specs.Backlog.{StopsAfter}
 use Rattle.back_store.specs.BackView.{state_of}
 use Rattle.stm_slots.specs.Opening.{setup_of, since_of}
 use Rattle.stm_turns.proofs.Calling.{reproduce_goes, reproduced_ok, stops_at_durable, lanes_of_threads, called_turn}

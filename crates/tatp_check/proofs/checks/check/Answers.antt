@@ -1,7 +1,7 @@
 use Rattle.std.proofs.Common.{◌≡◌, Err, IfErr, inl, inr, ap, arith, rules, sym, subst}
 use Rattle.dude_base.specs.declared.sizes.Sizes.{Sizes}
-use Rattle.table_check.specs.Faults.{IsCause}
-use Rattle.table_check.proofs.Ends.{cause_of}
+use Rattle.tatp_check.specs.Faults.{IsCause}
+use Rattle.tatp_check.proofs.Ends.{cause_of}
 use Rattle.tatp_check.specs.Order.{IsNotDb}
 use Rattle.tatp_check.specs.Walked.{database_in, records_of_kind}
 use Rattle.tatp_check.proofs.OneWord.{not_db}

@@ -1,6 +1,6 @@
 use Rattle.std.proofs.Common.{◌≡◌, ◌<◌, ◌≤◌, length, get_or, ap, sym, ◌∙◌, subst}
 use Rattle.std.proofs.lemmas.Bool.{false≢true}
-use Rattle.table_check.specs.Taken.{records_taken}
+use Rattle.tatp_check.specs.Taken.{records_taken}
 use Rattle.tatp_check.specs.Walked.{records_of_kind}
 use Rattle.tatp_check.proofs.Referring.{unbound_at, bound_all}
 use Rattle.tatp_check.proofs.references.unbound_record.Goals as goal

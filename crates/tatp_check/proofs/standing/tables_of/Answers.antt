@@ -3,7 +3,7 @@ use Rattle.dude_base.specs.declared.sizes.Sizes.{Sizes}
 use Rattle.std.proofs.lemmas.Result.{IfOk-weaker}
 use Rattle.tatp_model.specs.Database.{database_of}
 use Rattle.tatp_layout.specs.StandsFor.{StandsFor}
-use Rattle.table_check.specs.Faults.{IsCause}
+use Rattle.tatp_check.specs.Faults.{IsCause}
 use Rattle.tatp_check.specs.Order.{IsInTables}
 use Rattle.tatp_check.specs.Walked.{database_in, records_of_kind}
 use Rattle.tatp_check.proofs.OneWord.{lawful_references, lawful_right}

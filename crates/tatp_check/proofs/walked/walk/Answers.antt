@@ -1,9 +1,9 @@
 use Rattle.std.proofs.Common.{◌≡◌, Err, IfErr, length, rules, sym, subst}
 use Rattle.hash_table.specs.Table.{FitsTable}
-use Rattle.table_check.specs.Faults.{IsCause}
+use Rattle.tatp_check.specs.Faults.{IsCause}
 use Rattle.tatp_check.specs.declared.table_kind.TableKind.{TableKind}
 use Rattle.tatp_check.specs.declared.table_kind.TableKind.TheVariants.{Subscribers, Numbers, Access, Facilities, Calls}
-use Rattle.table_check.specs.Whole.{KeepsWhole}
+use Rattle.tatp_check.specs.Whole.{KeepsWhole}
 use Rattle.tatp_check.specs.Content.{content_of, table_of}
 use Rattle.tatp_check.specs.declared.walked.Walked.{Walked}
 use Rattle.tatp_check.specs.Order.{IsInTables}

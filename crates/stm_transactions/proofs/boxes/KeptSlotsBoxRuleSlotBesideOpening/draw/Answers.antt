@@ -3,7 +3,7 @@ use Rattle.core_events.specs.Events.{next_box}
 use Rattle.stm_transactions.proofs.Moves.{draw_on, has_moved}
 use Rattle.stm_transactions.proofs.boxes.KeptSlotsBoxRuleSlotBesideOpening.draw.Goals as goal
 use Rattle.stm_slots.specs.declared.slot.Slot.TheVariants.{Empty}
-use Rattle.stm_steps.specs.Abouts.{about, drawing}
+use Rattle.core_table.specs.Abouts.{about, drawing}
 
 pub add_by-requires-clause-may : goal.add_by-requires-clause-may
 add_by-requires-clause-may g c =

@@ -3,7 +3,7 @@ use Rattle.core_events.specs.Events.{next_box}
 use Rattle.stm_transactions.proofs.boxes.KeptSlotsBoxRuleSlotBesideOpening.draw.Given as goal
 use Rattle.stm_slots.specs.Turns.{Moved}
 use Rattle.stm_slots.specs.declared.slot.Slot.TheVariants.{Empty}
-use Rattle.stm_steps.specs.Abouts.{drawing}
+use Rattle.core_table.specs.Abouts.{drawing}
 
 abbrev pub ghosts-add_by : goal.ghosts-add_by
 ghosts-add_by g a =

@@ -1,7 +1,7 @@
 use Rattle.std.proofs.Common.{◌≡◌, ◌<◌, ◌∷◌, ◌++◌, [], length, Bool, ℕ, Result, Ok, Err, refl, sym, ap, ◌∙◌, subst, arith}
 use Rattle.std.specs.Prelude.{IfOk, IfErr}
 use Rattle.tatp_model.specs.declared.done.Done.{Done}
-use Rattle.stm_steps.specs.Abouts.{about}
+use Rattle.core_table.specs.Abouts.{about}
 use Rattle.stm_transactions.specs.declared.lost.Lost.{Lost}
 use Rattle.stm_transactions.specs.CommitEnds.{HasEntered, IsLost, has_writes}
 use Rattle.stm_transactions.specs.declared.pass_numbers.PassNumbers.{PassNumbers}

@@ -1,0 +1,107 @@
+//! What the command words mean.
+
+ghost use Rattle.std.specs.Prelude.{map, IfOk, IfSome};
+ghost use Rattle.std.specs.Rc.{rc_str_bytes};
+ghost use Rattle.command_edges.specs.Command.{HasMeaning, IsAlone, IsInLimits, meaning_of};
+
+use crate::audit::audit_of;
+use crate::drive::drive_of;
+use crate::follow::follow_of;
+use crate::format::format_of;
+use crate::fresh::fresh_of;
+use crate::run::{run_of, stream_of};
+use crate::ship::ship_of;
+use std::alloc::{AllocError, Global};
+use std::rc::RcStr;
+
+/// What the program is to do.
+#[derive(Clone, Copy, Debug)]
+pub enum Command<'a> {
+    /// Format the medium for so many subscribers, from 1 to 10,000, and run
+    /// the requests of the file.
+    Fresh {
+        subscribers: u64,
+        file: &'a str,
+    },
+    /// Format the medium for so many subscribers, call forwardings, rings and
+    /// cells of a ring.
+    Format {
+        subscribers: u64,
+        calls: u64,
+        rings: u64,
+        cells: u64,
+    },
+    /// Run the requests of the files, of which there is at least one, over so
+    /// many frames and locks.
+    Run {
+        frames: Option<u64>,
+        locks: Option<u64>,
+        files: &'a [RcStr],
+    },
+    /// Do the same, and print each reply while others are still to come.
+    Stream {
+        frames: Option<u64>,
+        locks: Option<u64>,
+        files: &'a [RcStr],
+    },
+    /// Recover the image.
+    Recover,
+    /// Print the tables of the image.
+    Dump,
+    /// Run a load that is made from a seed: so many requests of each file.
+    Drive {
+        seed: u64,
+        count: u64,
+        files: u64,
+    },
+    /// Say whether a file is the printed run of the files, of which there is
+    /// at least one.
+    Audit {
+        printed: &'a str,
+        files: &'a [RcStr],
+    },
+    /// Run the requests of the files, of which there is at least one, on one
+    /// thread, and print the bundles of its log as packets.
+    Ship {
+        files: &'a [RcStr],
+    },
+    /// Apply the packets of the files, of which there is at least one, to the
+    /// image.
+    Follow {
+        files: &'a [RcStr],
+    },
+}
+
+/// The command that the words mean; none where they are refused.
+#[tactic(auto, using(crate::proofs::Limits::lawful))]
+pub fn command_of(alloc: Global, words: &[RcStr]) -> Result<Option<Command<'_>>, AllocError>
+    ensures meaning { IfOk result (HasMeaning (meaning_of (map rc_str_bytes words.now))) }
+    ensures limits { IfOk result (λ command. IfSome command IsInLimits) }
+{
+    let Some(name) = words.first() else {
+        return Ok(None);
+    };
+    match name.as_str() {
+        "fresh" => fresh_of(alloc, words),
+        "format" => format_of(alloc, words),
+        "run" => run_of(alloc, words),
+        "stream" => stream_of(alloc, words),
+        "recover" => Ok(alone(words, Command::Recover)),
+        "dump" => Ok(alone(words, Command::Dump)),
+        "drive" => drive_of(alloc, words),
+        "audit" => Ok(audit_of(words)),
+        "ship" => Ok(ship_of(words)),
+        "follow" => Ok(follow_of(words)),
+        _ => Ok(None),
+    }
+}
+
+// A command with no word behind its name.
+fn alone<'a>(words: &[RcStr], command: Command<'a>) -> Option<Command<'a>>
+    ensures { IsAlone (map rc_str_bytes words.now) command.entry result }
+{
+    match words {
+        [_, _, ..] => None,
+        _ => Some(command),
+    }
+}

@@ -1,4 +1,0 @@
-pub mod Command
-pub mod Clap
-pub mod Run
-pub mod Numbers

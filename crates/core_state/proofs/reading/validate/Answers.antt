@@ -1,5 +1,0 @@
-use Rattle.std.proofs.Common.{rules}
-use Rattle.core_state.proofs.reading.validate.Goals as goal
-
-pub returns-then-not-is_good-clause-ok : goal.returns-then-not-is_good-clause-ok
-returns-then-not-is_good-clause-ok c = search rules

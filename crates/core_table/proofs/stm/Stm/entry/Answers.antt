@@ -1,0 +1,5 @@
+use Rattle.std.proofs.Common.{refl}
+use Rattle.core_table.proofs.stm.Stm.entry.Goals as goal
+
+pub load_as-requires-clause-word : goal.load_as-requires-clause-word
+load_as-requires-clause-word g c = λ n told. refl

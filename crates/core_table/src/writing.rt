@@ -1,0 +1,108 @@
+//! The steps of a transaction that writes.
+
+ghost use Rattle.std.specs.Prelude.{◌≡◌, ◌<◌, Some};
+ghost use Rattle.dude_base.specs.Writes.{written};
+ghost use Rattle.core_events.specs.Setups.{page_of};
+ghost use Rattle.core_events.specs.Keyed.{find};
+ghost use Rattle.core_table.specs.Abouts.{drawing};
+ghost use Rattle.core_events.specs.Events.{decide, release, restore, store, take, first_lock};
+ghost use Rattle.core_table.specs.Steps.{MayStep, IsAfter, HasMade, HasFound};
+
+use crate::event_table::Seat;
+use crate::places::CLOCK;
+use crate::slot_rule::SlotRule;
+use crate::stm::Stm;
+use dude_base::write_list::WriteList;
+use std::marker::Brand;
+use tatp_model::reply::Reply;
+use tatp_model::request::Request;
+
+impl<S, X, K, P: SlotRule<S, X, K>> Stm<S, X, K, P> {
+    /// Takes a lock, whose word at the last look was `seen`.
+    pub fn take(&self, seat: &mut Seat<S, X>, lock: u64, seen: u64, thread: u64) -> u64
+        requires seen { seat.old.me.0.view.tx.look ≡ Some (lock, seen) }
+        requires thread { seat.old.me.0.view.part.thread ≡ Some thread }
+        requires may { MayStep P.fact self.now.events (take lock) seat.old }
+        ensures view { IsAfter self.now.events (take lock) seat.old seat.new result }
+        ensures found { HasFound self.now.events (take lock) seat.old seat.new result }
+    {
+        self.events.exchange_as::<Brand, u64>(
+            seat,
+            self.events.lock_place(lock),
+            seen,
+            2 * thread + 1,
+            &lock,
+        )
+    }
+
+    /// Draws the number behind the one found, for these writes.
+    pub fn draw(
+        &self,
+        seat: &mut Seat<S, X>,
+        file: u64,
+        index: u64,
+        request: &Request,
+        reply: &Reply,
+        writes: &WriteList,
+    ) -> u64
+        requires may { MayStep P.fact self.now.events
+            (drawing file index request.now reply.now writes.now) seat.old }
+        ensures view { IsAfter self.now.events
+            (drawing file index request.now reply.now writes.now) seat.old seat.new result }
+        ensures found { HasFound self.now.events
+            (drawing file index request.now reply.now writes.now) seat.old seat.new result }
+    {
+        self.events
+            .add_as::<Brand, (u64, u64, &Request, &Reply, &WriteList)>(
+                seat,
+                CLOCK,
+                1,
+                &(file, index, request, reply, writes),
+            )
+    }
+
+    /// Decides the number, by a load of the lock that was taken last.
+    pub fn decide(&self, seat: &mut Seat<S, X>, lock: u64) -> u64
+        requires lock { lock ≡ first_lock seat.old.me.0.view.tx.owned }
+        requires may { MayStep P.fact self.now.events decide seat.old }
+        ensures view { IsAfter self.now.events decide seat.old seat.new result }
+        ensures found { HasFound self.now.events decide seat.old seat.new result }
+    {
+        self.events
+            .load_as::<Brand, ()>(seat, self.events.lock_place(lock), &())
+    }
+
+    /// Stores a written value, in the frame of its page, which the view pins.
+    pub fn store(&self, seat: &mut Seat<S, X>, at: u64, frame: u64, value: u64)
+        requires frame { find seat.old.me.0.view.paging.pins (page_of at) ≡ Some frame }
+        requires value { written seat.old.me.0.view.tx.hand.writes at ≡ Some value }
+        requires may { MayStep P.fact self.now.events (store at) seat.old }
+        ensures view { IsAfter self.now.events (store at) seat.old seat.new 0 }
+        ensures made { HasMade self.now.events (store at) seat.old seat.new }
+    {
+        self.events
+            .store_as::<Brand, u64>(seat, self.events.cell_place(frame, at), value, &at)
+    }
+
+    /// Gives a lock back, with the number as its version.
+    pub fn release(&self, seat: &mut Seat<S, X>, lock: u64, number: u64)
+        requires number { seat.old.me.0.view.tx.hand.number ≡ number }
+        requires may { MayStep P.fact self.now.events (release lock) seat.old }
+        ensures view { IsAfter self.now.events (release lock) seat.old seat.new 0 }
+        ensures made { HasMade self.now.events (release lock) seat.old seat.new }
+    {
+        self.events
+            .store_as::<Brand, u64>(seat, self.events.lock_place(lock), 2 * number, &lock)
+    }
+
+    /// Gives a lock back, with the word that it had.
+    pub fn restore(&self, seat: &mut Seat<S, X>, lock: u64, old: u64)
+        requires old { find seat.old.me.0.view.tx.owned lock ≡ Some old }
+        requires may { MayStep P.fact self.now.events (restore lock) seat.old }
+        ensures view { IsAfter self.now.events (restore lock) seat.old seat.new 0 }
+        ensures made { HasMade self.now.events (restore lock) seat.old seat.new }
+    {
+        self.events
+            .store_as::<Brand, u64>(seat, self.events.lock_place(lock), old, &lock)
+    }
+}

@@ -1,6 +1,0 @@
-use Rattle.std.proofs.Common.{◌≡◌, drop}
-use Rattle.core_events.specs.Keyed.{has}
-use Rattle.core_view.proofs.numbers.Numbers.has.Given as goal
-
-abbrev pub invariant-loop-item : goal.invariant-loop-item
-invariant-loop-item l = has l.item-items l.number ≡ has (drop l.item-index l.item-items) l.number

@@ -1,5 +1,0 @@
-use Rattle.core_view.proofs.Walks.{checked_tells}
-use Rattle.core_view.proofs.pairs.Pairs.all_found.Goals as goal
-
-pub returns : goal.returns
-returns c = checked_tells c.args.z.now c.args.locks.now c.args.self.now c.all_checked.result c.all_checked.ensures

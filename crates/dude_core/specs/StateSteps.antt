@@ -1,0 +1,52 @@
+-- Events as steps of the definitions, and the parts that a step is made of.
+use Rattle.std.specs.Prelude.{◌≡◌, ◌↔◌, ℕ, slice_set, Result, IsErrOf}
+use mathlib.Core.Option.{some}
+use lib.ListN.{get_elem?}
+use Rattle.core_events.specs.Setups.{Setup}
+use Rattle.core_events.specs.Views.{View}
+use Rattle.core_events.specs.Words.{State, found, put}
+use Rattle.core_events.specs.Events.{Event, name, word_after, view_after}
+use Rattle.core_events.specs.Conditions.{May, IsAllowed}
+use Rattle.core_events.specs.Partings.{Step, event}
+use Rattle.core_events.specs.Persisted.{RecordsAllow, RecordsLead}
+use Rattle.core_events.specs.Telling.{IsSeated, WordTold}
+use Rattle.dude_core.specs.declared.deed.Deed.{Deed}
+use Rattle.dude_core.specs.Named.{event_of}
+use Rattle.dude_core.specs.declared.core_refusal.CoreRefusal.{CoreRefusal}
+use Rattle.dude_core.specs.declared.core_refusal.CoreRefusal.TheVariants.{Off}
+
+-- the event that is made by the view `who`, as a step
+abbrev pub event_by : ℕ → Deed → Step
+event_by who d = event who (event_of d)
+
+-- the definitions, or what is persisted, don't allow the step
+abbrev pub IsOffAt : Setup → State → Step → Type 0
+IsOffAt z c s = (d : State) → RecordsLead z c s d → ⊥
+
+-- a call is refused as off exactly where the step isn't allowed
+abbrev pub IsOffOnlyAt : {A : Type 0} → Result A CoreRefusal → Setup → State → Step → Type 0
+IsOffOnlyAt r z c s = IsErrOf r Off ↔ IsOffAt z c s
+
+-- the view `who` may make the event, by the definitions and by what is persisted
+abbrev pub MayMake : Setup → State → ℕ → Event → Type 0
+MayMake z c who e = ((v : View) × IsAllowed z c who e v) × RecordsAllow z e c
+
+-- the view `who` may make the event, and knows what it needs of the word
+pub record IsReady (z : Setup) (c : State) (who : ℕ) (e : Event) : Type 0 where
+  pub view : View
+  pub is_there : get_elem? c.views who ≡ some view
+  pub seated : IsSeated z view
+  pub may : May z e view
+  pub told : WordTold z e view (found c (name z e view))
+
+-- the state with the word and the view after the event
+abbrev pub moved : Setup → State → ℕ → View → Event → State
+moved z c who v e =
+    let n = found c (name z e v) in
+    let d = put c (name z e v) (word_after e v n) in
+    record d { views = slice_set c.views who (view_after z e v n) }
+
+-- the word and the view are as after the event, and nothing else changed
+pub record IsMoved (z : Setup) (c : State) (who : ℕ) (e : Event) (d : State) : Type 0 where
+  pub ready : IsReady z c who e
+  pub after : d ≡ moved z c who ready.view e

@@ -1,7 +1,0 @@
-use Rattle.std.proofs.Common.{◌≡◌, ◌++◌, map, take, drop}
-use Rattle.log_waiting.specs.Lane.{released_lane}
-use Rattle.log_waiting.proofs.backlog.release_all.Given as goal
-
--- the lanes gone over have released their records
-abbrev pub invariant-loop-lane : goal.invariant-loop-lane
-invariant-loop-lane l = l.lane-items ≡ map (released_lane l.number) (take l.lane-index l.fn.lanes.items) ++ drop l.lane-index l.fn.lanes.items

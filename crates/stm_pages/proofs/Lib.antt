@@ -1,9 +1,0 @@
-pub mod Turning
-pub mod PageActs
-pub mod QuietPages
-pub mod Filled
-pub mod Placing
-pub mod Maps
-pub mod Evicting
-pub mod Rounds
-pub mod Fetched

@@ -1,5 +1,0 @@
-pub mod Paging
-pub mod Told
-pub mod Frames
-pub mod Filling
-pub mod Fetch

@@ -1,5 +1,0 @@
-use Rattle.std.proofs.Common.{refl}
-use Rattle.stm_steps.proofs.stm.Stm.finish.Goals as goal
-
-pub load_as-requires-clause-word : goal.load_as-requires-clause-word
-load_as-requires-clause-word g c = λ n told. refl

@@ -1,4 +1,0 @@
-use Rattle.stm_steps.proofs.stm.Stm.join.Given as goal
-
-abbrev pub ghosts-join_as : goal.ghosts-join_as
-ghosts-join_as g a = record { setup = a.self.now.setup; draws = 0 }

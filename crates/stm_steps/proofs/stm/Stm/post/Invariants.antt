@@ -1,5 +1,0 @@
-use Rattle.core_events.specs.Events.{post}
-use Rattle.stm_steps.proofs.stm.Stm.post.Given as goal
-
-abbrev pub ghosts-store_as : goal.ghosts-store_as
-ghosts-store_as g a = record { setup = a.self.now.setup; event = post }

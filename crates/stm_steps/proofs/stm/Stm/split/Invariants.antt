@@ -1,4 +1,0 @@
-use Rattle.stm_steps.proofs.stm.Stm.split.Given as goal
-
-abbrev pub ghosts-split_as : goal.ghosts-split_as
-ghosts-split_as g a = record { setup = a.self.now.setup; draws = a._draws }

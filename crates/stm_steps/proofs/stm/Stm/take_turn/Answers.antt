@@ -1,5 +1,0 @@
-use Rattle.std.proofs.Common.{refl}
-use Rattle.stm_steps.proofs.stm.Stm.take_turn.Goals as goal
-
-pub exchange_as-requires-clause-word : goal.exchange_as-requires-clause-word
-exchange_as-requires-clause-word g c = λ n told. rw c.requires.thread refl

@@ -1,5 +1,0 @@
-use Rattle.std.proofs.Common.{refl}
-use Rattle.stm_steps.proofs.stm.Stm.touch.Goals as goal
-
-pub raise_as-requires-clause-word : goal.raise_as-requires-clause-word
-raise_as-requires-clause-word g c = λ n told. rw c.requires.number refl

@@ -1,5 +1,0 @@
-use Rattle.core_events.specs.Events.{touch}
-use Rattle.stm_steps.proofs.stm.Stm.touch.Given as goal
-
-abbrev pub ghosts-raise_as : goal.ghosts-raise_as
-ghosts-raise_as g a = record { setup = a.self.now.setup; event = touch a._about.now }

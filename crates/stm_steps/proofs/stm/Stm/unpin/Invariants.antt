@@ -1,5 +1,0 @@
-use Rattle.core_events.specs.Events.{unpin}
-use Rattle.stm_steps.proofs.stm.Stm.unpin.Given as goal
-
-abbrev pub ghosts-subtract_as : goal.ghosts-subtract_as
-ghosts-subtract_as g a = record { setup = a.self.now.setup; event = unpin a._about.now }

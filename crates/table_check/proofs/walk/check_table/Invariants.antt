@@ -1,5 +1,0 @@
-use Rattle.table_check.specs.Seen.{KnowsChains}
-use Rattle.table_check.proofs.walk.check_table.Given as goal
-
-abbrev pub invariant-loop-bucket : goal.invariant-loop-bucket
-invariant-loop-bucket g l = KnowsChains (g.C.Content.MayHold l.content) l.table l.a l.bucket l.seen

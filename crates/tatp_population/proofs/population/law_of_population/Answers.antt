@@ -1,5 +1,0 @@
-use Rattle.tatp_population.proofs.Unique.{populated_same}
-use Rattle.tatp_population.proofs.population.law_of_population.Goals as goal
-
-pub returns : goal.returns
-returns c = λ s one other accepted fa fb. populated_same accepted fa fb
