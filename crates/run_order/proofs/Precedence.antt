@@ -28,41 +28,41 @@ Precedes-transitive d e f before behind =
 abbrev pub ReadsBehind : Done → Done → Type 0
 ReadsBehind d e = Precedes d e × (e.wrote ≡ false)
 
--- where a request that was performed after others goes: behind those that are printed before it, and before the rest,
--- which didn't write
-pub record Splits (d : Done) (order : List Done) : Type 0 where
+-- where a request goes in a list in order: behind those that are printed before it, and before the rest, of which this holds
+pub record Splits (Behind : Done → Type 0) (d : Done) (order : List Done) : Type 0 where
   pub before : List Done
   pub behind : List Done
   pub is : order ≡ before ++ behind
   pub first : All (λ e. Precedes e d) before
-  pub rest : All (ReadsBehind d) behind
+  pub rest : All Behind behind
 
--- what stands behind a request that is printed behind d is so too
-all_behind_it : (d e : Done) (order : List Done) → ReadsBehind d e → All (Precedes e) order → All (λ f. Precedes f d ⊎ ReadsBehind d f) order → All (ReadsBehind d) order
-all_behind_it d e order behind later either = λ k f within.
-    ⊎_elim (λ before. absurd (Precedes-asymmetric d (get_or order k f) (Precedes-transitive d e (get_or order k f) behind.0 (later k f within)) before)) (λ reads. reads) (either k f within)
+-- Where it goes on from a request to those that are printed behind it:
+module _ (Behind : Done → Type 0) (d : Done) (goes_on : (e f : Done) → Behind e → Precedes e f → Precedes f d ⊎ Behind f → Behind f) where
+  pub splits : (order : List Done) → AllPairs Precedes order → All (λ e. Precedes e d ⊎ Behind e) order → Splits Behind d order
+  splits [] sorted either = record { before = []; behind = []; is = refl; first = All-nil (λ e. Precedes e d); rest = All-nil Behind }
+  splits (e ∷ order) sorted either =
+      let others : All (λ f. Precedes f d ⊎ Behind f) order = All-tail (λ f. Precedes f d ⊎ Behind f) e order either in
+      let later : All (Precedes e) order = pairs_head Precedes e order sorted in
+      ⊎_elim (λ before.
+      let left = splits order (pairs_tail Precedes e order sorted) others in
+      record {
+        before = e ∷ left.before;
+        behind = left.behind;
+        is = ap (λ (l : List Done). e ∷ l) left.is;
+        first = All-cons (λ f. Precedes f d) e left.before before left.first;
+        rest = left.rest;
+      })
+      (λ behind. record {
+        before = [];
+        behind = e ∷ order;
+        is = refl;
+        first = All-nil (λ f. Precedes f d);
+        rest = All-cons Behind e order behind (λ k f within. goes_on e (get_or order k f) behind (later k f within) (others k f within));
+      }) (All-head (λ f. Precedes f d ⊎ Behind f) e order either)
 
-pub splits : (d : Done) (order : List Done) → AllPairs Precedes order → All (λ e. Precedes e d ⊎ ReadsBehind d e) order → Splits d order
-splits d [] sorted either = record { before = []; behind = []; is = refl; first = All-nil (λ e. Precedes e d); rest = All-nil (ReadsBehind d) }
-splits d (e ∷ order) sorted either =
-    let others : All (λ f. Precedes f d ⊎ ReadsBehind d f) order = All-tail (λ f. Precedes f d ⊎ ReadsBehind d f) e order either in
-    let later : All (Precedes e) order = pairs_head Precedes e order sorted in
-    ⊎_elim (λ before.
-    let left = splits d order (pairs_tail Precedes e order sorted) others in
-    record {
-      before = e ∷ left.before;
-      behind = left.behind;
-      is = ap (λ (l : List Done). e ∷ l) left.is;
-      first = All-cons (λ f. Precedes f d) e left.before before left.first;
-      rest = left.rest;
-    })
-    (λ reads. record {
-      before = [];
-      behind = e ∷ order;
-      is = refl;
-      first = All-nil (λ f. Precedes f d);
-      rest = All-cons (ReadsBehind d) e order reads (all_behind_it d e order reads later others);
-    }) (All-head (λ f. Precedes f d ⊎ ReadsBehind d f) e order either)
+-- what is printed behind one that reads behind d, and not before d, reads behind d too
+pub reads_on : (d e f : Done) → ReadsBehind d e → Precedes e f → Precedes f d ⊎ ReadsBehind d f → ReadsBehind d f
+reads_on d e f behind later either = ⊎_elim (λ before. absurd (Precedes-asymmetric d f (Precedes-transitive d e f behind.0 later) before)) (λ reads. reads) either
 
 files_three : (m n : ℕ) → (m < n) ⊎ ((m ≡ n) ⊎ (n < m))
 files_three m n = ⊎_elim (λ same. inr (inl same)) (λ other. ⊎_elim (λ less. inl less) (λ more. inr (inr more)) other) (cases_order m n)

@@ -16,7 +16,7 @@ use Rattle.run_order.proofs.Pairs.{pairs_nil, pairs_insert, pairs_at}
 use Rattle.run_order.proofs.Rounds.{permuted_push}
 use Rattle.run_order.proofs.Performed.{last_number, last_number-push, IsNumberedFrom-push, next_number, numbers_within}
 use Rattle.run_order.proofs.Along.{sync_reply, after_order-append, along_before, along_behind, along_both, left_unwritten, order_unwritten}
-use Rattle.run_order.proofs.Precedence.{ReadsBehind, splits, before_or_behind}
+use Rattle.run_order.proofs.Precedence.{ReadsBehind, splits, reads_on, before_or_behind}
 
 abbrev pub is_printed : Done → Bool
 is_printed d = not (is_sync d.request)
@@ -133,7 +133,7 @@ printed_push first limit db performed d printed next behind =
     })
     (λ unwritten.
     let same : d.number ≡ last = number.2 unwritten in
-    let parts = splits d order printing.sorted (All-weaker (IsEarlier last d) (λ e. Precedes e d ⊎ ReadsBehind d e) (λ e h. before_or_behind d e (omega (arith, h.0, same)) unwritten h.1) order earlier) in
+    let parts = splits (ReadsBehind d) d (reads_on d) order printing.sorted (All-weaker (IsEarlier last d) (λ e. Precedes e d ⊎ ReadsBehind d e) (λ e h. before_or_behind d e (omega (arith, h.0, same)) unwritten h.1) order earlier) in
     let cut : Printing first limit db performed (parts.before ++ parts.behind) = subst (λ (l : List Done). Printing first limit db performed l) parts.is printing in
     record {
       order = parts.before ++ d ∷ parts.behind;

@@ -3,13 +3,13 @@ use Rattle.std.proofs.Common.{◌≡◌, List, [], ◌∷◌, ◌++◌, refl, ap
 use Rattle.std.specs.List.{All, AllPairs}
 use Rattle.std.specs.Prelude.{IsPermutation}
 use Rattle.std.proofs.lemmas.Bool.{cases_Bool, cases_order}
-use Rattle.std.proofs.lemmas.List.Elements.{All-nil, All-cons, All-head, All-tail, All-weaker}
+use Rattle.std.proofs.lemmas.List.Elements.{All-weaker}
 use Rattle.std.proofs.lemmas.List.Sorted.{IsPermutation-refl, IsPermutation-sym, IsPermutation-trans, IsPermutation-cons, IsPermutation-middle, All-permutation}
 use Rattle.tatp_model.specs.declared.done.Done.{Done}
 use Rattle.tatp_model.specs.OneThread.{PrecedesInFiles, PrecedesAtNumber, Precedes}
 use Rattle.run_order.specs.Runs.{StandApart}
 use Rattle.run_order.proofs.Pairs.{pairs_nil, pairs_head, pairs_tail, pairs_insert}
-use Rattle.run_order.proofs.Precedence.{Precedes-transitive}
+use Rattle.run_order.proofs.Precedence.{Precedes-transitive, splits}
 
 flip_sum : {A B : Type 0} → A ⊎ B → B ⊎ A
 flip_sum (inl a) = inr a
@@ -40,35 +40,6 @@ either_first d e apart =
     (λ other. ⊎_elim (λ less. inl (inl less)) (λ more. inr (inl more)) other)
     (cases_order d.number e.number)
 
--- where a request goes in a list in order
-record Placed (d : Done) (order : List Done) : Type 0 where
-  before : List Done
-  behind : List Done
-  is : order ≡ before ++ behind
-  first : All (λ e. Precedes e d) before
-  rest : All (Precedes d) behind
-
-place : (d : Done) (order : List Done) → AllPairs Precedes order → All (λ e. Precedes e d ⊎ Precedes d e) order → Placed d order
-place d [] sorted either = record { before = []; behind = []; is = refl; first = All-nil (λ e. Precedes e d); rest = All-nil (Precedes d) }
-place d (e ∷ order) sorted either =
-    ⊎_elim (λ before.
-    let left = place d order (pairs_tail Precedes e order sorted) (All-tail (λ f. Precedes f d ⊎ Precedes d f) e order either) in
-    record {
-      before = e ∷ left.before;
-      behind = left.behind;
-      is = ap (λ (l : List Done). e ∷ l) left.is;
-      first = All-cons (λ f. Precedes f d) e left.before before left.first;
-      rest = left.rest;
-    })
-    (λ behind. record {
-      before = [];
-      behind = e ∷ order;
-      is = refl;
-      first = All-nil (λ f. Precedes f d);
-      rest = All-cons (Precedes d) e order behind (All-weaker (Precedes e) (Precedes d) (λ f h. Precedes-transitive d e f behind h) order (pairs_head Precedes e order sorted));
-    })
-    (All-head (λ f. Precedes f d ⊎ Precedes d f) e order either)
-
 pub record Sorted (done : List Done) : Type 0 where
   pub order : List Done
   pub same : IsPermutation done order
@@ -81,7 +52,7 @@ sort (d ∷ done) apart =
     let either : All (λ e. Precedes e d ⊎ Precedes d e) rest.order =
     All-permutation (λ e. Precedes e d ⊎ Precedes d e) done rest.order rest.same
     (All-weaker (StandApart d) (λ e. Precedes e d ⊎ Precedes d e) (λ e a. flip_sum (either_first d e a)) done (pairs_head StandApart d done apart)) in
-    let p = place d rest.order rest.sorted either in
+    let p = splits (Precedes d) d (λ e f behind later either. Precedes-transitive d e f behind later) rest.order rest.sorted either in
     record {
       order = p.before ++ d ∷ p.behind;
       same = IsPermutation-trans (d ∷ done) (d ∷ (p.before ++ p.behind)) (p.before ++ d ∷ p.behind)
