@@ -1,5 +1,5 @@
 -- What the printer takes from the lanes, and what the sink gets of it.
-use Rattle.std.specs.Prelude.{◌≡◌, ◌≢◌, ◌==◌, ◌⊎◌, ℕ, ◌+◌, ◌<◌, ◌≤◌, Bool, true, false, if◌then◌else◌, List, [], ◌∷◌, ◌++◌, length, map, filter, All, slice_index_or}
+use Rattle.std.specs.Prelude.{◌≡◌, ◌≢◌, ◌==◌, ◌⊎◌, ℕ, ◌+◌, ◌<◌, ◌≤◌, Bool, true, false, IsFalse, if◌then◌else◌, Result, OnOk, IfOk, IfErr, List, [], ◌∷◌, ◌++◌, length, map, filter, All, slice_index_or}
 use Rattle.std.specs.List.{flat_map, sum_by}
 use Rattle.tatp_model.specs.declared.done.Done.{Done}
 use Rattle.dude_io.specs.Sink.{SinkSight, Took, TookPart}
@@ -101,3 +101,14 @@ pub record HadTurn (lane : ℕ) (from now : List Outlet) (some : Bool) : Type 0 
   pub others : (k : ℕ) (d : Outlet) → k ≢ lane → slice_index_or now k d ≡ slice_index_or from k d
   pub drained : some ≡ false → (d : Outlet) → IsDrained (slice_index_or now lane d)
   pub lessens : Lessens some from now
+
+-- Some lines were printed, or none; at Ok it is told whether there were some.
+pub record PrintsSome (result : Result Bool PrintFault) (from now : List Outlet) (s t : SinkSight) : Type 0 where
+  -- at Ok the sink took the lines of all replies that were received
+  pub ok : OnOk result (HasPrinted from now s t)
+  -- where there were none, all lanes are drained
+  pub drained : IfOk result (λ some. IsFalse some → All IsDrained now)
+  -- and where there were some, fewer are left
+  pub lessens : IfOk result (λ some. Lessens some from now)
+  -- at Err the printing stopped as the fault says
+  pub err : IfErr result (λ fault. IsStopped fault from now s t)

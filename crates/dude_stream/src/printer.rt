@@ -1,7 +1,7 @@
 //! The printer: takes replies from all lanes in turn, and hands the sink their lines.
 
-ghost use Rattle.std.specs.Prelude.{All, IfErr, IfOk, IsFalse, IsTrue, OnOk};
-ghost use Rattle.dude_stream.specs.Printing.{HasPrinted, IsDrained, IsStopped, Lessens};
+ghost use Rattle.std.specs.Prelude.{All, IfErr, IsTrue, OnOk};
+ghost use Rattle.dude_stream.specs.Printing.{HasPrinted, IsDrained, IsStopped, PrintsSome};
 
 use crate::gathering::gather_round;
 use crate::outlet::Outlet;
@@ -45,12 +45,7 @@ fn print_more<K: Sink>(
     text: &mut Vec<u8>,
     out: &mut K,
 ) -> Result<bool, PrintFault>
-    ensures ok { OnOk result
-        (HasPrinted outlets.old outlets.new (K.sight out.old) (K.sight out.new)) }
-    ensures drained { IfOk result (λ more. IsFalse more → All IsDrained outlets.new) }
-    ensures lessens { IfOk result (λ more. Lessens more outlets.old outlets.new) }
-    ensures err { IfErr result (λ fault.
-        IsStopped fault outlets.old outlets.new (K.sight out.old) (K.sight out.new)) }
+    ensures { PrintsSome result outlets.old outlets.new (K.sight out.old) (K.sight out.new) }
 {
     for round in 0..IDLE_ROUNDS {
         if is_all_printed(outlets) {
@@ -74,12 +69,7 @@ fn print_round<K: Sink>(
     text: &mut Vec<u8>,
     out: &mut K,
 ) -> Result<bool, PrintFault>
-    ensures ok { OnOk result
-        (HasPrinted outlets.old outlets.new (K.sight out.old) (K.sight out.new)) }
-    ensures drained { IfOk result (λ found. IsFalse found → All IsDrained outlets.new) }
-    ensures lessens { IfOk result (λ found. Lessens found outlets.old outlets.new) }
-    ensures err { IfErr result (λ fault.
-        IsStopped fault outlets.old outlets.new (K.sight out.old) (K.sight out.new)) }
+    ensures { PrintsSome result outlets.old outlets.new (K.sight out.old) (K.sight out.new) }
 {
     text.clear();
     let gathered = gather_round(outlets, text);
