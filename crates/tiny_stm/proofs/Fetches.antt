@@ -1,5 +1,5 @@
 -- A pass behind a fetch.
-use Rattle.std.proofs.Common.{◌≡◌, ℕ, Bool, true, false, refl, sym, ap, ◌∙◌, subst}
+use Rattle.std.proofs.Common.{◌≡◌, ℕ, Bool, true, false, refl, ap, ◌∙◌}
 use Rattle.std.specs.Prelude.{Result, Ok, Err, IfOk, IfErr}
 use Rattle.atomic_table.specs.declared.shared.Seat.{Seat}
 use Rattle.pmem_trait.specs.Sights.{Sight}
@@ -19,8 +19,9 @@ use Rattle.stm_turns.specs.Turns.{DurableRises}
 use Rattle.tiny_stm.specs.Fetch.{HasFailed, HasFetched, HasFetchFault, HasSettled}
 use Rattle.tiny_stm.specs.declared.fetch_fault.FetchFault.{FetchFault}
 use Rattle.tiny_stm.specs.declared.fetch_fault.FetchFault.TheVariants.{Held, Device, Dead, Behind, AllPinned}
-use Rattle.tiny_stm.specs.Turned.{BySeat, numbers_fetched, turns_fetched}
+use Rattle.tiny_stm.specs.Turned.{FetchesPage, numbers_fetched, turns_fetched}
 use Rattle.tiny_stm.proofs.Pumps.{or_false}
+use Rattle.tiny_stm.proofs.TurnTaken.{turn_taken}
 use Rattle.tiny_stm.proofs.Turns.{Leaves, before, described, held_leaves, turn_leaves}
 
 module _ {M : Type 0} {ghosts : Ghosts M} (sight : M → Sight) (t : TableSight (Opening M ghosts)) (page : ℕ) (p q : PassSight Beside) (s u : Seat (Slot M ghosts) (Known Beside)) (r : IsResting t p) (out : GivesSeat p q s) (b : BelongsTo t u) where
@@ -53,28 +54,8 @@ module _ {M : Type 0} {ghosts : Ghosts M} (sight : M → Sight) (t : TableSight 
     leaves (Err Device) ok err = failed_leaves false err
     leaves (Err Dead) ok err = failed_leaves true err
 
-  -- all that the call promises
-  pub record Fetches (result : Result (Unit {0}) FetchFault) (w : PassSight Beside) : Type 0 where
-    pub left : Leaves t (turns_fetched result (pass_view p).turn.count) p w
-    pub numbers : w.numbers ≡ numbers_fetched result (pass_view w).turn.durable p.numbers
-    pub ok : IfOk result (λ done. BySeat (HasFetched sight t page) p w)
-    pub err : IfErr result (λ fault. BySeat (HasFetchFault sight t page fault) p w)
-
-  by_seat : (does : Seat (Slot M ghosts) (Known Beside) → Seat (Slot M ghosts) (Known Beside) → Type 0) (f : PassNumbers) → does s u → BySeat does p (is_given u f)
-  by_seat does f did = record { old = s; new = u; was = out.known; is = refl; did = did }
-
-  ok_by : (result : Result (Unit {0}) FetchFault) (f : PassNumbers) → IfOk result (λ done. HasFetched sight t page s u) → IfOk result (λ done. BySeat (HasFetched sight t page) p (is_given u f))
-  ok_by (Ok done) f ok = by_seat (HasFetched sight t page) f ok
-  ok_by (Err fault) f ok = ok
-
-  err_by : (result : Result (Unit {0}) FetchFault) (f : PassNumbers) → IfErr result (λ fault. HasFetchFault sight t page fault s u) → IfErr result (λ fault. BySeat (HasFetchFault sight t page fault) p (is_given u f))
-  err_by (Ok done) f err = err
-  err_by (Err fault) f err = by_seat (HasFetchFault sight t page fault) f err
-
   -- where the call was handed the durable number of n, and e came out of it
   pub fetches : (result : Result (Unit {0}) FetchFault) (n f : PassNumbers) (e : ℕ) (w : PassSight Beside) → IfOk result (λ done. HasFetched sight t page s u) → IfErr result (λ fault. HasFetchFault sight t page fault s u) → DurableRises n.durable e s u
-      → n ≡ p.numbers → f ≡ numbers_fetched result e n → w ≡ is_given u f → Fetches result w
+      → n ≡ p.numbers → f ≡ numbers_fetched result e n → w ≡ is_given u f → FetchesPage sight t page result p w
   fetches result n f e w ok err known en ef ew =
-      let told : now ≡ e = known.tells ((before t p q s u r out b).durable ∙ sym (ap (λ (x : PassNumbers). x.durable) en)) in
-      let g : f ≡ numbers_fetched result now p.numbers = ef ∙ (ap (λ (d : ℕ). numbers_fetched result d n) (sym told) ∙ ap (numbers_fetched result now) en) in
-      subst (Fetches result) (sym (ew ∙ ap (is_given u) g)) (record { left = leaves n.durable e known result ok err; numbers = refl; ok = ok_by result (numbers_fetched result now p.numbers) ok; err = err_by result (numbers_fetched result now p.numbers) err })
+      turn_taken t p q s u r out b numbers_fetched turns_fetched (λ done. HasFetched sight t page) (HasFetchFault sight t page) result n f e w ok err known en ef ew (leaves n.durable e known result ok err)

@@ -2,6 +2,7 @@ pub mod FirstPages
 pub mod LastSlots
 pub mod Starts
 pub mod Turns
+pub mod TurnTaken
 pub mod Collects
 pub mod Copies
 pub mod Closes

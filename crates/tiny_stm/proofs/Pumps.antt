@@ -1,5 +1,5 @@
 -- A pass behind a pump.
-use Rattle.std.proofs.Common.{◌≡◌, ℕ, Bool, true, false, ◌||◌, refl, sym, ap, ◌∙◌, subst}
+use Rattle.std.proofs.Common.{◌≡◌, ℕ, Bool, true, false, ◌||◌, refl, ap, ◌∙◌}
 use Rattle.std.specs.Prelude.{Result, Ok, Err, IfOk, IfErr}
 use Rattle.atomic_table.specs.declared.shared.Seat.{Seat}
 use Rattle.pmem_trait.specs.Sights.{Sight}
@@ -21,7 +21,8 @@ use Rattle.stm_turns.specs.declared.pumped.Pumped.{Pumped}
 use Rattle.stm_turns.specs.declared.pump_fault.PumpFault.{PumpFault}
 use Rattle.stm_turns.specs.declared.pump_fault.PumpFault.TheVariants.{Held, Device, Dead}
 use Rattle.tiny_stm.specs.Paging.{turn_view}
-use Rattle.tiny_stm.specs.Turned.{BySeat, numbers_after, turns_after}
+use Rattle.tiny_stm.specs.Turned.{PumpsPass, numbers_after, turns_after}
+use Rattle.tiny_stm.proofs.TurnTaken.{turn_taken}
 use Rattle.tiny_stm.proofs.Turns.{Leaves, before, described, held_leaves, turn_leaves}
 
 pub or_false : (b : Bool) → (b || false) ≡ b
@@ -46,28 +47,8 @@ module _ {M : Type 0} {ghosts : Ghosts M} (sight : M → Sight) (t : TableSight 
   leaves (Err Dead) d e ok err known = let is = ap turn_view err.view in
       turn_leaves t p q s u r out b true is known.rises (after_fault now p.numbers) (described t.setup p.numbers s.me.0.view u.me.0.view (before t p q s u r out b) true is now true true refl err.met_fault)
 
-  -- all that the call promises
-  pub record Pumps (result : Result Pumped PumpFault) (w : PassSight Beside) : Type 0 where
-    pub left : Leaves t (turns_after result (pass_view p).turn.count) p w
-    pub numbers : w.numbers ≡ numbers_after result (pass_view w).turn.durable p.numbers
-    pub ok : IfOk result (λ pumped. BySeat (HasPumped sight t pumped) p w)
-    pub err : IfErr result (λ fault. BySeat (HasPumpFault sight t fault) p w)
-
-  by_seat : (does : Seat (Slot M ghosts) (Known Beside) → Seat (Slot M ghosts) (Known Beside) → Type 0) (f : PassNumbers) → does s u → BySeat does p (is_given u f)
-  by_seat does f did = record { old = s; new = u; was = out.known; is = refl; did = did }
-
-  ok_by : (result : Result Pumped PumpFault) (f : PassNumbers) → IfOk result (λ pumped. HasPumped sight t pumped s u) → IfOk result (λ pumped. BySeat (HasPumped sight t pumped) p (is_given u f))
-  ok_by (Ok pumped) f ok = by_seat (HasPumped sight t pumped) f ok
-  ok_by (Err fault) f ok = ok
-
-  err_by : (result : Result Pumped PumpFault) (f : PassNumbers) → IfErr result (λ fault. HasPumpFault sight t fault s u) → IfErr result (λ fault. BySeat (HasPumpFault sight t fault) p (is_given u f))
-  err_by (Ok pumped) f err = err
-  err_by (Err fault) f err = by_seat (HasPumpFault sight t fault) f err
-
   -- where the call was handed the durable number of n, and e came out of it
   pub pumps : (result : Result Pumped PumpFault) (n f : PassNumbers) (e : ℕ) (w : PassSight Beside) → IfOk result (λ pumped. HasPumped sight t pumped s u) → IfErr result (λ fault. HasPumpFault sight t fault s u) → DurableRises n.durable e s u
-      → n ≡ p.numbers → f ≡ numbers_after result e n → w ≡ is_given u f → Pumps result w
+      → n ≡ p.numbers → f ≡ numbers_after result e n → w ≡ is_given u f → PumpsPass sight t result p w
   pumps result n f e w ok err known en ef ew =
-      let told : now ≡ e = known.tells ((before t p q s u r out b).durable ∙ sym (ap (λ (x : PassNumbers). x.durable) en)) in
-      let g : f ≡ numbers_after result now p.numbers = ef ∙ (ap (λ (d : ℕ). numbers_after result d n) (sym told) ∙ ap (numbers_after result now) en) in
-      subst (Pumps result) (sym (ew ∙ ap (is_given u) g)) (record { left = leaves result n.durable e ok err known; numbers = refl; ok = ok_by result (numbers_after result now p.numbers) ok; err = err_by result (numbers_after result now p.numbers) err })
+      turn_taken t p q s u r out b numbers_after turns_after (HasPumped sight t) (HasPumpFault sight t) result n f e w ok err known en ef ew (leaves result n.durable e ok err known)

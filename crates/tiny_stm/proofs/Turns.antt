@@ -54,6 +54,21 @@ module _ {S X K : Type 0} (t : TableSight K) (p q : PassSight X) (s u : Seat S (
   pub before : Describes t.setup p.numbers s.me.0.view
   before = subst (Describes t.setup p.numbers) view_is r.numbers
 
+  -- the view of the pass, but for the work, which is that of another
+  abbrev work_of : View → View
+  work_of w = record (pass_view p) { part = w.part; entries = w.entries; draws = w.draws; drawn = w.drawn; tx = w.tx; box = w.box }
+
+  keeps_work : (r : PassSight X) → work_of (pass_view r) ≡ pass_view p → (pass_view p).turn.durable ≤ (pass_view r).turn.durable → KeepsWork p r
+  keeps_work r same rises = record {
+    part = ap (λ (x : View). x.part) same;
+    entries = ap (λ (x : View). x.entries) same;
+    draws = ap (λ (x : View). x.draws) same;
+    drawn = ap (λ (x : View). x.drawn) same;
+    tx = ap (λ (x : View). x.tx) same;
+    box = ap (λ (x : View). x.box) same;
+    durable = rises;
+  }
+
   -- a turn was taken and given
   module _ (failed : Bool) (is : turn_view u.me.0.view ≡ turn_view (turned t.setup failed s.me.0.view)) (rises : s.me.0.view.turn.durable ≤ u.me.0.view.turn.durable) where
     from_pass : turn_view u.me.0.view ≡ turn_view (turned t.setup failed (pass_view p))
@@ -69,15 +84,7 @@ module _ {S X K : Type 0} (t : TableSight K) (p q : PassSight X) (s u : Seat S (
     pub turn_leaves : (g : PassNumbers) → Describes t.setup g u.me.0.view → Leaves t (one_more (pass_view p).turn.count) p (is_given u g)
     turn_leaves g d = record {
       rests = given_rests t u g u.me.0.view refl b idle_still (ap (λ (x : View). x.turn.has_it) from_pass) d;
-      stays = record {
-        part = ap (λ (x : View). x.part) from_pass;
-        entries = ap (λ (x : View). x.entries) from_pass;
-        draws = ap (λ (x : View). x.draws) from_pass;
-        drawn = ap (λ (x : View). x.drawn) from_pass;
-        tx = ap (λ (x : View). x.tx) from_pass;
-        box = ap (λ (x : View). x.box) from_pass;
-        durable = (let same = ap (λ (x : View). x.turn.durable) view_is in omega arith);
-      };
+      stays = keeps_work (is_given u g) (ap work_of from_pass) (let same = ap (λ (x : View). x.turn.durable) view_is in omega arith);
       turns = ap (λ (x : View). x.turn.count) from_pass;
     }
 
@@ -86,15 +93,7 @@ module _ {S X K : Type 0} (t : TableSight K) (p q : PassSight X) (s u : Seat S (
   held_leaves seen some after =
       let is : u.me.0.view ≡ noticed the_turn seen (pass_view p) = after ∙ (held_view t.setup s.me.0.view seen some ∙ ap (noticed the_turn seen) (sym view_is)) in record {
         rests = given_rests t u (with_refusals 1 p.numbers) (noticed the_turn seen (pass_view p)) is b (record { no_number = r.idle.no_number; no_lock = r.idle.no_lock; no_pin = r.idle.no_pin }) r.no_turn (refused_describes t.setup p.numbers (noticed the_turn seen (pass_view p)) (noticed_describes seen) 1);
-        stays = record {
-          part = ap (λ (x : View). x.part) is;
-          entries = ap (λ (x : View). x.entries) is;
-          draws = ap (λ (x : View). x.draws) is;
-          drawn = ap (λ (x : View). x.drawn) is;
-          tx = ap (λ (x : View). x.tx) is;
-          box = ap (λ (x : View). x.box) is;
-          durable = (let same = ap (λ (x : View). x.turn.durable) is in omega arith);
-        };
+        stays = keeps_work (is_given u (with_refusals 1 p.numbers)) (ap work_of is) (let same = ap (λ (x : View). x.turn.durable) is in omega arith);
         turns = ap (λ (x : View). x.turn.count) is;
       }
     where

@@ -1,14 +1,21 @@
 -- What a turn, or an attempt at one, leaves of a pass.
-use Rattle.std.specs.Prelude.{◌≡◌, ℕ, ◌≤◌, [], ◌∷◌, Result, Ok, Err}
+use Rattle.std.specs.Prelude.{◌≡◌, ℕ, ◌≤◌, [], ◌∷◌, Result, Ok, Err, IfOk, IfErr}
+use Rattle.pmem_trait.specs.Sights.{Sight}
+use Rattle.pmem_trait.specs.declared.medium.Medium.{Ghosts}
 use Rattle.atomic_table.specs.declared.shared.Seat.{Seat}
 use Rattle.core_events.specs.Events.{one_more}
 use Rattle.core_table.specs.Known.{Known}
+use Rattle.core_table.specs.Layout.{TableSight}
+use Rattle.stm_slots.specs.Beside.{Beside}
+use Rattle.stm_slots.specs.declared.opening.Opening.{Opening}
 use Rattle.stm_transactions.specs.declared.pass_numbers.PassNumbers.{PassNumbers}
 use Rattle.stm_transactions.specs.Numbers.{after_fault, after_turn, with_refusals, with_turn}
-use Rattle.stm_transactions.specs.Passes.{PassSight, pass_view}
+use Rattle.stm_transactions.specs.Passes.{IsResting, PassSight, pass_view}
+use Rattle.stm_turns.specs.Pump.{HasPumped, HasPumpFault}
 use Rattle.stm_turns.specs.declared.pumped.Pumped.{Pumped}
 use Rattle.stm_turns.specs.declared.pump_fault.PumpFault.{PumpFault}
 use Rattle.stm_turns.specs.declared.pump_fault.PumpFault.TheVariants.{Held, Device, Dead}
+use Rattle.tiny_stm.specs.Fetch.{HasFetched, HasFetchFault}
 use Rattle.tiny_stm.specs.declared.fetch_fault.FetchFault.{FetchFault}
 use Rattle.tiny_stm.specs.declared.fetch_fault.FetchFault.TheVariants as fetch
 
@@ -64,3 +71,22 @@ pub record BySeat {S X : Type 0} (does : Seat S (Known X) → Seat S (Known X) �
   pub was : p.known ≡ old.me.0 ∷ []
   pub is : q.known ≡ new.me.0 ∷ []
   pub did : does old new
+
+-- A call took the turn and gave it, or tried to: its pass rests, has its work, and by what the call answers new numbers, a new
+-- count of turns, and a seat that did so.
+pub record TookTurn {S X K A F : Type 0} (t : TableSight K) (numbers_by : Result A F → ℕ → PassNumbers → PassNumbers) (turns_by : Result A F → ℕ → ℕ)
+    (Does : A → Seat S (Known X) → Seat S (Known X) → Type 0) (Fails : F → Seat S (Known X) → Seat S (Known X) → Type 0) (result : Result A F) (p q : PassSight X) : Type 0 where
+  pub rests : IsResting t q
+  pub stays : KeepsWork p q
+  pub numbers : q.numbers ≡ numbers_by result (pass_view q).turn.durable p.numbers
+  pub turns : (pass_view q).turn.count ≡ turns_by result (pass_view p).turn.count
+  pub ok : IfOk result (λ answer. BySeat (Does answer) p q)
+  pub err : IfErr result (λ fault. BySeat (Fails fault) p q)
+
+-- what a pump leaves of its pass
+abbrev pub PumpsPass : {M : Type 0} {ghosts : Ghosts M} → (M → Sight) → TableSight (Opening M ghosts) → Result Pumped PumpFault → PassSight Beside → PassSight Beside → Type 0
+PumpsPass sight t = TookTurn t numbers_after turns_after (HasPumped sight t) (HasPumpFault sight t)
+
+-- what the fetch of a page leaves of its pass
+abbrev pub FetchesPage : {M : Type 0} {ghosts : Ghosts M} → (M → Sight) → TableSight (Opening M ghosts) → ℕ → Result (Unit {0}) FetchFault → PassSight Beside → PassSight Beside → Type 0
+FetchesPage sight t page = TookTurn t numbers_fetched turns_fetched (λ done. HasFetched sight t page) (HasFetchFault sight t page)

@@ -1,9 +1,8 @@
 //! A pass takes the turn, and brings a page into a frame.
 
-ghost use Rattle.std.specs.Prelude.{◌≡◌, ◌<◌, IfOk, IfErr};
-ghost use Rattle.stm_transactions.specs.Passes.{IsResting, pass_view};
-ghost use Rattle.tiny_stm.specs.Fetch.{HasFetched, HasFetchFault};
-ghost use Rattle.tiny_stm.specs.Turned.{BySeat, KeepsWork, numbers_fetched, turns_fetched};
+ghost use Rattle.std.specs.Prelude.{◌≡◌, ◌<◌};
+ghost use Rattle.stm_transactions.specs.Passes.{IsResting};
+ghost use Rattle.tiny_stm.specs.Turned.{FetchesPage, numbers_fetched};
 
 use crate::fetch_fault::FetchFault;
 use crate::page_fetching;
@@ -21,16 +20,7 @@ impl<M: Medium> Stm<M> {
     pub fn fetch(&self, p: &mut Pass, page: u64) -> Result<(), FetchFault>
         requires rests { IsResting (table_of self.now) p.old }
         requires page { page < (table_of self.now).setup.pages }
-        ensures rests { IsResting (table_of self.now) p.new }
-        ensures stays { KeepsWork p.old p.new }
-        ensures numbers { p.new.numbers
-            ≡ numbers_fetched result (pass_view p.new).turn.durable p.old.numbers }
-        ensures turns { (pass_view p.new).turn.count
-            ≡ turns_fetched result (pass_view p.old).turn.count }
-        ensures ok { IfOk result (λ done.
-            BySeat (HasFetched M.sight (table_of self.now) page) p.old p.new) }
-        ensures err { IfErr result (λ fault.
-            BySeat (HasFetchFault M.sight (table_of self.now) page fault) p.old p.new) }
+        ensures { FetchesPage M.sight (table_of self.now) page result p.old p.new }
     {
         fetch_on(&self.steps, p, page)
     }
@@ -40,16 +30,7 @@ impl<M: Medium> Stm<M> {
 pub fn fetch_on<M: Medium>(steps: &Steps<M>, p: &mut Pass, page: u64) -> Result<(), FetchFault>
     requires rests { IsResting steps.now.events p.old }
     requires page { page < steps.now.events.setup.pages }
-    ensures rests { IsResting steps.now.events p.new }
-    ensures stays { KeepsWork p.old p.new }
-    ensures numbers { p.new.numbers
-        ≡ numbers_fetched result (pass_view p.new).turn.durable p.old.numbers }
-    ensures turns { (pass_view p.new).turn.count
-        ≡ turns_fetched result (pass_view p.old).turn.count }
-    ensures ok { IfOk result (λ done.
-        BySeat (HasFetched M.sight steps.now.events page) p.old p.new) }
-    ensures err { IfErr result (λ fault.
-        BySeat (HasFetchFault M.sight steps.now.events page fault) p.old p.new) }
+    ensures { FetchesPage M.sight steps.now.events page result p.old p.new }
 {
     let numbers = p.numbers();
     let mut seat = p.take_seat();

@@ -1,9 +1,8 @@
 //! A pass takes the turn, and makes durable what boxes have.
 
-ghost use Rattle.std.specs.Prelude.{◌≡◌, IfOk, IfErr};
-ghost use Rattle.stm_transactions.specs.Passes.{IsResting, pass_view};
-ghost use Rattle.stm_turns.specs.Pump.{HasPumped, HasPumpFault};
-ghost use Rattle.tiny_stm.specs.Turned.{BySeat, KeepsWork, numbers_after, turns_after};
+ghost use Rattle.std.specs.Prelude.{◌≡◌};
+ghost use Rattle.stm_transactions.specs.Passes.{IsResting};
+ghost use Rattle.tiny_stm.specs.Turned.{PumpsPass, numbers_after};
 
 use crate::stm::{Pass, Steps, Stm};
 use pmem_trait::Medium;
@@ -18,16 +17,7 @@ impl<M: Medium> Stm<M> {
     /// than `Held` the pass has met a fault.
     pub fn pump(&self, p: &mut Pass) -> Result<Pumped, PumpFault>
         requires { IsResting (table_of self.now) p.old }
-        ensures rests { IsResting (table_of self.now) p.new }
-        ensures stays { KeepsWork p.old p.new }
-        ensures numbers { p.new.numbers
-            ≡ numbers_after result (pass_view p.new).turn.durable p.old.numbers }
-        ensures turns { (pass_view p.new).turn.count
-            ≡ turns_after result (pass_view p.old).turn.count }
-        ensures ok { IfOk result (λ pumped.
-            BySeat (HasPumped M.sight (table_of self.now) pumped) p.old p.new) }
-        ensures err { IfErr result (λ fault.
-            BySeat (HasPumpFault M.sight (table_of self.now) fault) p.old p.new) }
+        ensures { PumpsPass M.sight (table_of self.now) result p.old p.new }
     {
         pump_on(&self.steps, p)
     }
@@ -36,16 +26,7 @@ impl<M: Medium> Stm<M> {
 /// What `Stm::pump` does, over what transactions make their steps on.
 pub fn pump_on<M: Medium>(steps: &Steps<M>, p: &mut Pass) -> Result<Pumped, PumpFault>
     requires { IsResting steps.now.events p.old }
-    ensures rests { IsResting steps.now.events p.new }
-    ensures stays { KeepsWork p.old p.new }
-    ensures numbers { p.new.numbers
-        ≡ numbers_after result (pass_view p.new).turn.durable p.old.numbers }
-    ensures turns { (pass_view p.new).turn.count
-        ≡ turns_after result (pass_view p.old).turn.count }
-    ensures ok { IfOk result (λ pumped.
-        BySeat (HasPumped M.sight steps.now.events pumped) p.old p.new) }
-    ensures err { IfErr result (λ fault.
-        BySeat (HasPumpFault M.sight steps.now.events fault) p.old p.new) }
+    ensures { PumpsPass M.sight steps.now.events result p.old p.new }
 {
     let numbers = p.numbers();
     let mut seat = p.take_seat();
