@@ -1,6 +1,6 @@
 -- What each request leaves of a run.
 use Rattle.std.proofs.Common.{◌≡◌, ◌≢◌, Result, Ok, Err, ℕ, ◌+◌, ◌*◌, ◌≤◌, true, false, IsTrue, List, [], ◌∷◌, ◌++◌, length, length-append, refl, sym, ap, ◌∙◌, subst, arith}
-use Rattle.std.specs.Prelude.{OnOk, if◌then◌else◌}
+use Rattle.std.specs.Prelude.{OnOk, if◌then◌else◌, vec_capacity}
 use Rattle.std.proofs.lemmas.List.Elements.{All-nil}
 use Rattle.dude_base.specs.declared.limits.TheConstants.{PAGE}
 use Rattle.dude_base.specs.declared.sizes.Sizes.{Sizes}
@@ -36,7 +36,7 @@ use Rattle.dude_engine.specs.declared.run_fault.RunFault.TheVariants.{Device, No
 use Rattle.dude_engine.specs.Opening.{Opening, RecoversAt}
 use Rattle.dude_engine.specs.Endings.{AreSyncsTold, WasToldLast}
 use Rattle.dude_engine.specs.Plain.{most_lost_by}
-use Rattle.dude_engine.specs.Running.{AreAnswered, AreSyncsUpTo, HasArrays, HasFailed, IsLeft, IsReady, IsRunning, IsSettledRun, RecoversSoFar, Runs, last_performed, tables_after}
+use Rattle.dude_engine.specs.Running.{AreAnswered, AreSyncsUpTo, HasArrays, HasFailed, IsLeft, IsReady, IsRunning, IsSettledRun, LeavesOn, LeavesRun, PerformsFiles, RecoversSoFar, Runs, last_performed, tables_after}
 use Rattle.dude_engine.proofs.Arrays.{arrays_start, arrays_read, arrays_write, images_rest, moments_on, near_at_end, so_far_among, so_far_push}
 use Rattle.dude_engine.specs.RunCalls.{AreBodyWrites}
 use Rattle.dude_engine.proofs.Serving.{served_by_writes}
@@ -301,3 +301,9 @@ unchanged _ other = refl
 pub fault_on_ok : (P : Type 0) (result : Result (Unit {0}) RunFault) (fault : RunFault) → result ≡ Err fault → OnOk result P
 fault_on_ok P (Ok done) fault is = absurd (cc)
 fault_on_ok P (Err other) fault is = tt
+
+pub performs_failed : {was result : Result (Unit {0}) RunFault} {files : List (List Request)} {performed : List Done} (fault : RunFault) → result ≡ Err fault → PerformsFiles was files performed → PerformsFiles result files performed
+performs_failed {result = result} fault is performs = record { rounds = performs.rounds; collects = performs.collects; first = performs.first; all = fault_on_ok _ result fault is }
+
+pub leaves_failed : {M : Type 0} {ghosts : Ghosts M} (result : Result (Unit {0}) RunFault) (old new : Run M ghosts) (fault : RunFault) → result ≡ Err fault → new.lay ≡ old.lay → vec_capacity new.done ≡ vec_capacity old.done → LeavesOn result old new → LeavesRun result old new
+leaves_failed result old new fault is lay room left = record { ready = fault_on_ok _ result fault is; lay = lay; room = room; left = left; calls = fault_on_ok _ result fault is }

@@ -1,5 +1,8 @@
 //! Why a run ends before its requests do.
 
+ghost use Rattle.std.specs.Prelude.{◌≡◌};
+ghost use Rattle.dude_engine.specs.declared.run_fault.RunFault.TheVariants.{Device, NoMemory};
+
 use pmem_trait::Failed;
 use std::alloc::AllocError;
 
@@ -13,9 +16,6 @@ pub enum RunFault {
 }
 
 impl From<Failed> for RunFault {
-    ghost use Rattle.std.specs.Prelude.{◌≡◌};
-    ghost use Rattle.dude_engine.specs.declared.run_fault.RunFault.TheVariants.{Device};
-
     ghost from_gives = { λ _ fault. fault ≡ Device };
 
     fn from(_failed: Failed) -> RunFault {
@@ -24,9 +24,6 @@ impl From<Failed> for RunFault {
 }
 
 impl From<AllocError> for RunFault {
-    ghost use Rattle.std.specs.Prelude.{◌≡◌};
-    ghost use Rattle.dude_engine.specs.declared.run_fault.RunFault.TheVariants.{NoMemory};
-
     ghost from_gives = { λ _ fault. fault ≡ NoMemory };
 
     fn from(_error: AllocError) -> RunFault {

@@ -17,7 +17,7 @@ use Rattle.dude_engine.specs.RunCalls.{AreBodyWrites, IsRecordOf}
 use Rattle.dude_engine.proofs.Arrays.{arrays_write}
 use Rattle.dude_engine.proofs.Keeping.{keeps_as, keeps_failed, kept_device}
 use Rattle.dude_engine.proofs.Serving.{serves_logged}
-use Rattle.dude_engine.proofs.Steps.{change_served, failed_write, fault_on_ok, left_failed, running_write}
+use Rattle.dude_engine.proofs.Steps.{change_served, failed_write, leaves_failed, left_failed, running_write}
 use Rattle.dude_engine.proofs.run.Run.log_change.Goals as goal
 
 pub returns-in_err-append-clause-leaves : goal.returns-in_err-append-clause-leaves
@@ -25,18 +25,12 @@ returns-in_err-append-clause-leaves g c =
     let self = c.args.self.now in
     let is : c.from_residual.result ≡ Err Device = search rules in
     let d : Done = record { file = c.args.file; index = c.args.index; number = c.last-number.result + 1; wrote = true; request = c.args.request.now; reply = Changed } in
-    record {
-      ready = fault_on_ok _ c.from_residual.result Device is;
-      lay = refl;
-      room = c.push_reserved.ensures.capacity;
-      calls = fault_on_ok _ c.from_residual.result Device is;
-      left = λ opening words s run.
-          let change = change_served opening self.lay self.done.items c.args.file c.args.index c.last-number.result c.args.request.now c.requires.change.writes run.layout run.stands (c.last-number.ensures ∙ run.last) c.take-redo.ensures.words (sym (ap (λ (r : RedoRecord). r.writes) c.take-redo.ensures.record)) in
-          left_failed opening words c.from_residual.result _ s _ is
-          (subst (λ (done : List Done). HasFailed opening words (log_durable c.append.new.self) done s (g.M.Medium.sight (log_medium c.append.new.self))) (sym c.push_reserved.ensures.items)
-          (failed_write opening words self.lay self.log c.append.new.self (words_of self.words) (words_of c.take-redo.new.self) self.done.items d c.take-redo.result.writes s (g.M.Medium.sight (log_medium self.log)) (g.M.Medium.sight (log_medium c.append.new.self))
-          change.next refl c.requires.no_sync change.words change.stands c.append.ensures.moments run c.requires.change.alive c.in_err-append.ensures.goes_on));
-    }
+    leaves_failed c.from_residual.result self _ Device is refl c.push_reserved.ensures.capacity (λ opening words s run.
+    let change = change_served opening self.lay self.done.items c.args.file c.args.index c.last-number.result c.args.request.now c.requires.change.writes run.layout run.stands (c.last-number.ensures ∙ run.last) c.take-redo.ensures.words (sym (ap (λ (r : RedoRecord). r.writes) c.take-redo.ensures.record)) in
+    left_failed opening words c.from_residual.result _ s _ is
+    (subst (λ (done : List Done). HasFailed opening words (log_durable c.append.new.self) done s (g.M.Medium.sight (log_medium c.append.new.self))) (sym c.push_reserved.ensures.items)
+    (failed_write opening words self.lay self.log c.append.new.self (words_of self.words) (words_of c.take-redo.new.self) self.done.items d c.take-redo.result.writes s (g.M.Medium.sight (log_medium self.log)) (g.M.Medium.sight (log_medium c.append.new.self))
+    change.next refl c.requires.no_sync change.words change.stands c.append.ensures.moments run c.requires.change.alive c.in_err-append.ensures.goes_on)))
 
 pub returns-clause-leaves : goal.returns-clause-leaves
 returns-clause-leaves g c =

@@ -7,7 +7,7 @@ use Rattle.run_order.proofs.Rounds.{Rounds, rounds_collect, rounds_first, rounds
 use Rattle.dude_engine.specs.declared.run_fault.RunFault.TheVariants.{Device, NoMemory}
 use Rattle.dude_engine.proofs.Keeping.{keeps_as, keeps_failed, keeps_reserved, kept_device, kept_from, kept_full, kept_memory, kept_same, kept_then}
 use Rattle.dude_engine.proofs.Serving.{runs_by}
-use Rattle.dude_engine.proofs.Steps.{failed_same, fault_on_ok, left_failed, left_memory, running_as, running_settled, settled_run}
+use Rattle.dude_engine.proofs.Steps.{failed_same, fault_on_ok, left_failed, left_memory, performs_failed, running_as, running_settled, settled_run}
 use Rattle.dude_engine.proofs.run.Run.run_all.Goals as goal
 
 pub returns-in_err-checkpoint-clause-left : goal.returns-in_err-checkpoint-clause-left
@@ -55,13 +55,7 @@ returns-in_err-reserve_exact-clause-performs g c =
 pub returns-in_err-checkpoint-clause-performs : goal.returns-in_err-checkpoint-clause-performs
 returns-in_err-checkpoint-clause-performs g c =
     let is : c.from_residual-in_err-checkpoint.result ≡ Err Device = search rules in
-    let performs = c.in_ok-serve_all.ensures.performs in
-    record {
-      rounds = performs.rounds;
-      collects = performs.collects;
-      first = performs.first;
-      all = fault_on_ok _ c.from_residual-in_err-checkpoint.result Device is;
-    }
+    performs_failed Device is c.in_ok-serve_all.ensures.performs
 
 -- ---- where there is no memory to keep the last bundle
 
@@ -73,13 +67,7 @@ returns-in_err-reserve-clause-left g c opening words s run =
 pub returns-in_err-reserve-clause-performs : goal.returns-in_err-reserve-clause-performs
 returns-in_err-reserve-clause-performs g c =
     let is : c.from_residual-in_err-reserve.result ≡ Err NoMemory = search rules in
-    let performs = c.in_ok-serve_all.ensures.performs in
-    record {
-      rounds = performs.rounds;
-      collects = performs.collects;
-      first = performs.first;
-      all = fault_on_ok _ c.from_residual-in_err-reserve.result NoMemory is;
-    }
+    performs_failed NoMemory is c.in_ok-serve_all.ensures.performs
 
 -- ---- the bundles kept
 

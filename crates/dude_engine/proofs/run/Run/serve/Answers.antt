@@ -1,19 +1,13 @@
 use Rattle.std.proofs.Common.{◌≡◌, Err, refl, rules}
 use Rattle.dude_engine.specs.declared.run_fault.RunFault.TheVariants.{NoMemory}
 use Rattle.dude_engine.proofs.Keeping.{kept_from, kept_full, leaves_reserved}
-use Rattle.dude_engine.proofs.Steps.{fault_on_ok, left_memory}
+use Rattle.dude_engine.proofs.Steps.{leaves_failed, left_memory}
 use Rattle.dude_engine.proofs.run.Run.serve.Goals as goal
 
 pub returns-in_err-reserve-clause-leaves : goal.returns-in_err-reserve-clause-leaves
 returns-in_err-reserve-clause-leaves g c =
     let is : c.from_residual.result ≡ Err NoMemory = search rules in
-    record {
-      ready = fault_on_ok _ c.from_residual.result NoMemory is;
-      lay = refl;
-      room = refl;
-      calls = fault_on_ok _ c.from_residual.result NoMemory is;
-      left = λ opening words s run. left_memory opening words c.from_residual.result _ s _ is run c.requires.may.ready.alive;
-    }
+    leaves_failed c.from_residual.result c.args.self.now _ NoMemory is refl refl (λ opening words s run. left_memory opening words c.from_residual.result _ s _ is run c.requires.may.ready.alive)
 
 pub returns-in_err-reserve-clause-kept : goal.returns-in_err-reserve-clause-kept
 returns-in_err-reserve-clause-kept g c =

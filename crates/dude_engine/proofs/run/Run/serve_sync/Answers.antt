@@ -11,23 +11,17 @@ use Rattle.dude_engine.proofs.Arrays.{arrays_read}
 use Rattle.dude_engine.proofs.Keeping.{keeps_as, keeps_failed, kept_device}
 use Rattle.dude_engine.proofs.Numbering.{IsNext}
 use Rattle.dude_engine.proofs.Serving.{serves_sync}
-use Rattle.dude_engine.proofs.Steps.{failed_same, fault_on_ok, left_failed, ready_same, running_sync, runs_same}
+use Rattle.dude_engine.proofs.Steps.{failed_same, leaves_failed, left_failed, ready_same, running_sync, runs_same}
 use Rattle.dude_engine.proofs.run.Run.serve_sync.Goals as goal
 
 pub returns-in_err-number-clause-leaves : goal.returns-in_err-number-clause-leaves
 returns-in_err-number-clause-leaves g c =
     let self = c.args.self.now in
     let is : c.from_residual.result ≡ Err Device = search rules in
-    record {
-      ready = fault_on_ok _ c.from_residual.result Device is;
-      lay = refl;
-      room = refl;
-      calls = fault_on_ok _ c.from_residual.result Device is;
-      left = λ opening words s run.
-          left_failed opening words c.from_residual.result _ s _ is
-          (failed_same opening words self.lay self.log c.announce.new.self (words_of self.words) self.done.items s (g.M.Medium.sight (log_medium self.log)) (g.M.Medium.sight (log_medium c.announce.new.self))
-          c.requires.ready.alive c.in_err-number.ensures.goes_on c.announce.ensures.moments run);
-    }
+    leaves_failed c.from_residual.result self _ Device is refl refl (λ opening words s run.
+    left_failed opening words c.from_residual.result _ s _ is
+    (failed_same opening words self.lay self.log c.announce.new.self (words_of self.words) self.done.items s (g.M.Medium.sight (log_medium self.log)) (g.M.Medium.sight (log_medium c.announce.new.self))
+    c.requires.ready.alive c.in_err-number.ensures.goes_on c.announce.ensures.moments run))
 
 pub returns-clause-leaves : goal.returns-clause-leaves
 returns-clause-leaves g c =
