@@ -1,5 +1,6 @@
 -- What the first seat of a short history knows, after each part of it. Numbers are those that the test expects to find.
-use Rattle.std.specs.Prelude.{ℕ, List, [], ◌∷◌, replicate, true, false}
+use Rattle.std.specs.Prelude.{◌≡◌, ℕ, List, [], ◌∷◌, replicate, true, false}
+use Rattle.atomic_table.specs.declared.shared.Seat.{Seat}
 use Rattle.dude_base.specs.declared.limits.TheConstants.{PAGE}
 use Rattle.dude_base.specs.declared.write.Write.{Write}
 use Rattle.tatp_model.specs.declared.request.Request.TheVariants.{Sync}
@@ -8,7 +9,10 @@ use Rattle.core_events.specs.Setups.{Setup}
 use Rattle.core_events.specs.Views.{View}
 use Rattle.core_events.specs.Events.{Event, number, see_box, begin, entry, pin, look, load, check, finish, take, draw, decide, store, touch, release, unpin, post, take_turn, see_full, empty_box, raise_durable, raise_reproduced, give_turn, extend, restore, evict, load_touch, view_after}
 use Rattle.core_events.specs.Partings.{newcomer, left_of, both_of}
+use Rattle.core_table.specs.Known.{Known}
+use Rattle.core_table.specs.Layout.{TableSight}
 use Rattle.core_table.specs.Seats.{opener}
+use Rattle.core_table.specs.Steps.{BelongsTo}
 use Rattle.core_table.specs.Abouts.{about}
 
 -- two threads, one lock, page, frame and box; all words are 0
@@ -18,6 +22,12 @@ two = record { threads = 2; locks = 1; pages = 1; frames = 1; boxes = 1; opening
 -- these terms, where it is known what the medium gives, and a turn may fail
 abbrev pub told_all : Setup → Setup
 told_all z = record z { is_told = true; may_fail = true }
+
+-- A seat stands in a short history: its table is the one of `two`, it is of that table, and it knows this.
+pub record Stands {S X K : Type 0} (table : TableSight K) (s : Seat S (Known X)) (knows : View) : Type 0 where
+  pub setup : table.setup ≡ two
+  pub seat : BelongsTo table s
+  pub view : s.me.0.view ≡ knows
 
 -- the writes of the transaction: 7 to word 3
 abbrev pub one_write : List Write

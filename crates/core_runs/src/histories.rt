@@ -2,8 +2,7 @@
 
 ghost use Rattle.std.specs.Prelude.{◌≡◌, IfOk, OnOk};
 ghost use Rattle.core_table.specs.Seats.{opener};
-ghost use Rattle.core_table.specs.Steps.{BelongsTo};
-ghost use Rattle.core_runs.specs.Views.{two, told_all, one_write, entered, settled};
+ghost use Rattle.core_runs.specs.Views.{Stands, two, told_all, one_write, entered, settled};
 
 use crate::history::{Small, begin, begin_again, empty, own, publish, read, read_again, settle};
 use crate::others::{drop_page, give_back};
@@ -47,11 +46,8 @@ fn whole(alloc: Global) -> Result<(), Trouble> {
 
 /// A transaction reads, another one writes, and its record is settled.
 fn write_once(stm: &Small, seat: &mut Seat<(), ()>) -> Result<(), Trouble>
-    requires setup { stm.now.events.setup ≡ two }
-    requires seat { BelongsTo stm.now.events seat.old }
-    requires view { seat.old.me.0.view ≡ entered }
-    ensures seat { OnOk result (BelongsTo stm.now.events seat.new) }
-    ensures view { OnOk result (seat.new.me.0.view ≡ settled) }
+    requires { Stands stm.now.events seat.old entered }
+    ensures { OnOk result (Stands stm.now.events seat.new settled) }
 {
     begin(stm, seat)?;
     read(stm, seat)?;
@@ -71,9 +67,7 @@ fn others(alloc: Global) -> Result<(), Trouble> {
 
 /// A seat takes the number of its thread, gives a lock back and drops a page.
 fn give_and_drop(stm: &Small, seat: &mut Seat<(), ()>) -> Result<(), Trouble>
-    requires setup { stm.now.events.setup ≡ two }
-    requires seat { BelongsTo stm.now.events seat.old }
-    requires view { seat.old.me.0.view ≡ opener two }
+    requires { Stands stm.now.events seat.old (opener two) }
 {
     expect(stm.number(seat), 0)?;
     give_back(stm, seat)?;
@@ -82,9 +76,7 @@ fn give_and_drop(stm: &Small, seat: &mut Seat<(), ()>) -> Result<(), Trouble>
 
 /// A new table of the smallest size, and its first seat.
 fn opened(alloc: Global) -> Result<(Small, Seat<(), ()>), Trouble>
-    ensures setup { IfOk result (λ r. r.0.events.setup ≡ two) }
-    ensures seat { IfOk result (λ r. BelongsTo r.0.events r.1) }
-    ensures view { IfOk result (λ r. r.1.me.0.view ≡ opener two) }
+    ensures { IfOk result (λ r. Stands r.0.events r.1 (opener two)) }
 {
     let terms = smallest(alloc)?;
     Ok(Stm::new(alloc, &terms, &terms, Vec::new(alloc))?)

@@ -1,8 +1,7 @@
 //! A short history: a thread reads a word, writes it, and settles its record.
 
-ghost use Rattle.std.specs.Prelude.{◌≡◌, [], OnOk};
-ghost use Rattle.core_table.specs.Steps.{BelongsTo};
-ghost use Rattle.core_runs.specs.Views.{two, one_write, entered, looked, read_out, ready, decided, posted, emptied, settled, joined, read_back};
+ghost use Rattle.std.specs.Prelude.{◌≡◌, OnOk};
+ghost use Rattle.core_runs.specs.Views.{Stands, one_write, entered, looked, read_out, ready, decided, posted, emptied, settled, joined, read_back};
 
 use crate::trouble::{Trouble, expect};
 use core_table::event_table::Seat;
@@ -19,11 +18,8 @@ pub type Small = Stm<(), (), Terms, AnySlots>;
 
 /// A transaction begins, pins the page of the word 3 and looks at its lock.
 pub fn begin(stm: &Small, seat: &mut Seat<(), ()>) -> Result<(), Trouble>
-    requires setup { stm.now.events.setup ≡ two }
-    requires seat { BelongsTo stm.now.events seat.old }
-    requires view { seat.old.me.0.view ≡ entered }
-    ensures seat { OnOk result (BelongsTo stm.now.events seat.new) }
-    ensures view { OnOk result (seat.new.me.0.view ≡ looked) }
+    requires { Stands stm.now.events seat.old entered }
+    ensures { OnOk result (Stands stm.now.events seat.new looked) }
 {
     expect(stm.clock(seat), 0)?;
     expect(stm.entry(seat, 0), 65_536)?;
@@ -33,11 +29,8 @@ pub fn begin(stm: &Small, seat: &mut Seat<(), ()>) -> Result<(), Trouble>
 
 /// It loads the word, confirms it and ends.
 pub fn read(stm: &Small, seat: &mut Seat<(), ()>) -> Result<(), Trouble>
-    requires setup { stm.now.events.setup ≡ two }
-    requires seat { BelongsTo stm.now.events seat.old }
-    requires view { seat.old.me.0.view ≡ looked }
-    ensures seat { OnOk result (BelongsTo stm.now.events seat.new) }
-    ensures view { OnOk result (seat.new.me.0.view ≡ read_out) }
+    requires { Stands stm.now.events seat.old looked }
+    ensures { OnOk result (Stands stm.now.events seat.new read_out) }
 {
     expect(stm.load(seat, 3, 0), 0)?;
     expect(stm.check(seat, 0), 0)?;
@@ -47,11 +40,8 @@ pub fn read(stm: &Small, seat: &mut Seat<(), ()>) -> Result<(), Trouble>
 
 /// Another transaction sees an empty box and pins the page.
 pub fn begin_again(stm: &Small, seat: &mut Seat<(), ()>) -> Result<(), Trouble>
-    requires setup { stm.now.events.setup ≡ two }
-    requires seat { BelongsTo stm.now.events seat.old }
-    requires view { seat.old.me.0.view ≡ read_out }
-    ensures seat { OnOk result (BelongsTo stm.now.events seat.new) }
-    ensures view { OnOk result (seat.new.me.0.view ≡ ready) }
+    requires { Stands stm.now.events seat.old read_out }
+    ensures { OnOk result (Stands stm.now.events seat.new ready) }
 {
     expect(stm.see_box(seat, 0, 0), 0)?;
     expect(stm.clock(seat), 0)?;
@@ -61,12 +51,9 @@ pub fn begin_again(stm: &Small, seat: &mut Seat<(), ()>) -> Result<(), Trouble>
 
 /// It takes the lock, draws a number for the writes and decides it.
 pub fn own(stm: &Small, seat: &mut Seat<(), ()>, writes: &WriteList) -> Result<(), Trouble>
-    requires setup { stm.now.events.setup ≡ two }
-    requires seat { BelongsTo stm.now.events seat.old }
-    requires view { seat.old.me.0.view ≡ ready }
+    requires stands { Stands stm.now.events seat.old ready }
     requires writes { writes.now ≡ one_write }
-    ensures seat { OnOk result (BelongsTo stm.now.events seat.new) }
-    ensures view { OnOk result (seat.new.me.0.view ≡ decided) }
+    ensures { OnOk result (Stands stm.now.events seat.new decided) }
 {
     expect(stm.look(seat, 0), 0)?;
     expect(stm.take(seat, 0, 0, 0), 0)?;
@@ -79,11 +66,8 @@ pub fn own(stm: &Small, seat: &mut Seat<(), ()>, writes: &WriteList) -> Result<(
 
 /// It stores its value and posts its record.
 pub fn publish(stm: &Small, seat: &mut Seat<(), ()>) -> Result<(), Trouble>
-    requires setup { stm.now.events.setup ≡ two }
-    requires seat { BelongsTo stm.now.events seat.old }
-    requires view { seat.old.me.0.view ≡ decided }
-    ensures seat { OnOk result (BelongsTo stm.now.events seat.new) }
-    ensures view { OnOk result (seat.new.me.0.view ≡ posted) }
+    requires { Stands stm.now.events seat.old decided }
+    ensures { OnOk result (Stands stm.now.events seat.new posted) }
 {
     stm.store(seat, 3, 0, 7);
     stm.touch(seat, 0, 1);
@@ -95,11 +79,8 @@ pub fn publish(stm: &Small, seat: &mut Seat<(), ()>) -> Result<(), Trouble>
 
 /// The thread takes the turn and empties its box.
 pub fn empty(stm: &Small, seat: &mut Seat<(), ()>) -> Result<(), Trouble>
-    requires setup { stm.now.events.setup ≡ two }
-    requires seat { BelongsTo stm.now.events seat.old }
-    requires view { seat.old.me.0.view ≡ posted }
-    ensures seat { OnOk result (BelongsTo stm.now.events seat.new) }
-    ensures view { OnOk result (seat.new.me.0.view ≡ emptied) }
+    requires { Stands stm.now.events seat.old posted }
+    ensures { OnOk result (Stands stm.now.events seat.new emptied) }
 {
     law_of_foreseen::<(), (), Terms, AnySlots>();
     expect(stm.take_turn(seat, 0), 0)?;
@@ -110,11 +91,8 @@ pub fn empty(stm: &Small, seat: &mut Seat<(), ()>) -> Result<(), Trouble>
 
 /// It raises both numbers and gives the turn back.
 pub fn settle(stm: &Small, seat: &mut Seat<(), ()>)
-    requires setup { stm.now.events.setup ≡ two }
-    requires seat { BelongsTo stm.now.events seat.old }
-    requires view { seat.old.me.0.view ≡ emptied }
-    ensures seat { BelongsTo stm.now.events seat.new }
-    ensures view { seat.new.me.0.view ≡ settled }
+    requires { Stands stm.now.events seat.old emptied }
+    ensures { Stands stm.now.events seat.new settled }
 {
     law_of_foreseen::<(), (), Terms, AnySlots>();
     stm.raise_durable(seat, 1);
@@ -124,9 +102,7 @@ pub fn settle(stm: &Small, seat: &mut Seat<(), ()>)
 
 /// A later transaction finds the value.
 pub fn read_again(stm: &Small, seat: &mut Seat<(), ()>) -> Result<(), Trouble>
-    requires setup { stm.now.events.setup ≡ two }
-    requires seat { BelongsTo stm.now.events seat.old }
-    requires view { seat.old.me.0.view ≡ joined }
+    requires { Stands stm.now.events seat.old joined }
     ensures view { OnOk result (seat.new.me.0.view ≡ read_back) }
 {
     expect(stm.clock(seat), 1)?;

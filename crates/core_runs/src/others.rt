@@ -2,8 +2,7 @@
 //! dropped.
 
 ghost use Rattle.std.specs.Prelude.{◌≡◌, OnOk};
-ghost use Rattle.core_table.specs.Steps.{BelongsTo};
-ghost use Rattle.core_runs.specs.Views.{two, alone, given_back, dropped};
+ghost use Rattle.core_runs.specs.Views.{Stands, alone, given_back, dropped};
 
 use crate::history::Small;
 use crate::trouble::{Trouble, expect};
@@ -13,11 +12,8 @@ use tatp_model::request::Request;
 
 /// A transaction extends its snapshot, takes a lock and gives it back.
 pub fn give_back(stm: &Small, seat: &mut Seat<(), ()>) -> Result<(), Trouble>
-    requires setup { stm.now.events.setup ≡ two }
-    requires seat { BelongsTo stm.now.events seat.old }
-    requires view { seat.old.me.0.view ≡ alone }
-    ensures seat { OnOk result (BelongsTo stm.now.events seat.new) }
-    ensures view { OnOk result (seat.new.me.0.view ≡ given_back) }
+    requires { Stands stm.now.events seat.old alone }
+    ensures { OnOk result (Stands stm.now.events seat.new given_back) }
 {
     expect(stm.clock(seat), 0)?;
     expect(stm.extend(seat), 0)?;
@@ -29,9 +25,7 @@ pub fn give_back(stm: &Small, seat: &mut Seat<(), ()>) -> Result<(), Trouble>
 
 /// The thread takes the turn and makes a page absent.
 pub fn drop_page(stm: &Small, seat: &mut Seat<(), ()>) -> Result<(), Trouble>
-    requires setup { stm.now.events.setup ≡ two }
-    requires seat { BelongsTo stm.now.events seat.old }
-    requires view { seat.old.me.0.view ≡ given_back }
+    requires { Stands stm.now.events seat.old given_back }
     ensures view { OnOk result (seat.new.me.0.view ≡ dropped) }
 {
     expect(stm.take_turn(seat, 0), 0)?;
