@@ -34,9 +34,10 @@ use Rattle.core_events.specs.KeptNumbers.{numbers_of}
 use Rattle.core_events.proofs.Lists.{at_map}
 use Rattle.core_events.proofs.Boxes.{read_there}
 use Rattle.stm_slots.specs.Opening.{setup_of, since_of}
-use Rattle.stm_slots.specs.Rule.{IsHome, BoxSlots, SlotsKept}
+use Rattle.stm_slots.specs.QuietSteps.{fact_of}
+use Rattle.stm_slots.specs.Rule.{IsHome, BoxSlots}
 use Rattle.stm_slots.specs.Lists.{ListsKept, IsSettled}
-use Rattle.stm_slots.specs.Turns.{Follows, Leaves, Took, GaveTurn, SawFull, SawNumber, WentOn}
+use Rattle.stm_slots.specs.Turns.{Follows, Leaves, Took, GaveTurn, SawFull, SawNumber, WentOn, Seated}
 use Rattle.stm_slots.proofs.Taken.{contains_none}
 use Rattle.std.specs.List.{Contains}
 use Rattle.stm_turns.specs.Holding.{Held, box_held, boxes_held, hands_of, Holding}
@@ -60,20 +61,14 @@ module _ {M : Type 0} {ghosts : Ghosts M} (sight : M → Sight) (o : Opening M g
   abbrev z : Setup
   z = setup_of sight o
 
-  abbrev Seated : Type 0
-  Seated = Me (Slot M ghosts) (Known Beside)
-
-  abbrev fact : State → List Beside → List (Maybe (Slot M ghosts)) → Type 0
-  fact c xs homes = SlotsKept sight o (stage_of c) xs homes
-
   -- less may be told
-  pub told_less : (e : Event) (id : ℕ) (me : Seated) (then less : ℕ → Seated → Type 0) → Acts fact z e id me then → ((n : ℕ) (w : Seated) → then n w → less n w) → Acts fact z e id me less
+  pub told_less : (e : Event) (id : ℕ) (me : Seated M ghosts) (then less : ℕ → Seated M ghosts → Type 0) → Acts (fact_of sight o) z e id me then → ((n : ℕ) (w : Seated M ghosts) → then n w → less n w) → Acts (fact_of sight o) z e id me less
   told_less e id me then less acts more c xs homes k allowed at f = let a = acts c xs homes k allowed at f in (a.0, a.1, a.2, a.3, (λ told. more (found c (name z e me.0.view)) (record { view = view_after z e me.0.view (found c (name z e me.0.view)); beside = a.1; made = e ∷ me.0.made }, carried_after me.1 a.0) (a.4 told)))
 
   -- more may be told, by the state
-  pub told_with : (e : Event) (id : ℕ) (me : Seated) (then more : ℕ → Seated → Type 0) → Acts fact z e id me then
-      → ((c : State) (xs : List Beside) (homes : List (Maybe (Slot M ghosts))) → Kept z c → IsAllowed z c id e me.0.view → get_elem? xs id ≡ some me.0.beside → fact c xs homes → (w : Seated) → then (found c (name z e me.0.view)) w → more (found c (name z e me.0.view)) w)
-      → Acts fact z e id me more
+  pub told_with : (e : Event) (id : ℕ) (me : Seated M ghosts) (then more : ℕ → Seated M ghosts → Type 0) → Acts (fact_of sight o) z e id me then
+      → ((c : State) (xs : List Beside) (homes : List (Maybe (Slot M ghosts))) → Kept z c → IsAllowed z c id e me.0.view → get_elem? xs id ≡ some me.0.beside → fact_of sight o c xs homes → (w : Seated M ghosts) → then (found c (name z e me.0.view)) w → more (found c (name z e me.0.view)) w)
+      → Acts (fact_of sight o) z e id me more
   told_with e id me then more acts by c xs homes k allowed at f = let a = acts c xs homes k allowed at f in (a.0, a.1, a.2, a.3, (λ told. by c xs homes k allowed at f (record { view = view_after z e me.0.view (found c (name z e me.0.view)); beside = a.1; made = e ∷ me.0.made }, carried_after me.1 a.0) (a.4 told)))
 
   all_have : (rs ps : List RedoRecord) (n : ℕ) → All (λ r. HasRecord rs r.number × (writes_in rs r.number ≡ r.writes)) ps → HasRecord ps n → HasRecord rs n
@@ -131,7 +126,7 @@ module _ {M : Type 0} {ghosts : Ghosts M} (sight : M → Sight) (o : Opening M g
     pages = i.pages;
   }
 
-  module _ (me : Seated) (h : TheHome M ghosts) (hand : List Held) (i : Holding sight o me.0 h hand) where
+  module _ (me : Seated M ghosts) (h : TheHome M ghosts) (hand : List Held) (i : Holding sight o me.0 h hand) where
     abbrev box : List (ℕ × RedoRecord)
     box = boxes_held z hand
 
@@ -150,7 +145,7 @@ module _ {M : Type 0} {ghosts : Ghosts M} (sight : M → Sight) (o : Opening M g
 
     -- a step that leaves the lists as they are now
     abbrev went_on : (e : Event) (left : List (ℕ × Slot M ghosts)) (h2 : TheHome M ghosts) (next : List ℕ) (box2 : List (ℕ × RedoRecord)) (shown : ℕ) → h.back ≡ h2.back → h.pager ≡ h2.pager → next ≡ h2.next
-        → (n n2 : ℕ) (w : Seated) → view_after z e me.0.view n ≡ view_after z e me.0.view n2 → WentOn sight o e (record now { next = next; shown = shown; boxes = box2 }) left me n w → Went sight o e h2 box2 left me n2 w
+        → (n n2 : ℕ) (w : Seated M ghosts) → view_after z e me.0.view n ≡ view_after z e me.0.view n2 → WentOn sight o e (record now { next = next; shown = shown; boxes = box2 }) left me n w → Went sight o e h2 box2 left me n2 w
     went_on e left h2 next box2 shown back pager nexts n n2 w blind t = record {
       records = i.records;
       shown = shown;
@@ -166,7 +161,7 @@ module _ {M : Type 0} {ghosts : Ghosts M} (sight : M → Sight) (o : Opening M g
         same = rw (back, pager, nexts) refl
 
     -- ---- the steps
-    pub saw_acts : (id t : ℕ) → hand ≡ [] → t < z.threads → Acts fact z (see_full t (get_or h.next t 0)) id me (SawFront sight o t h me)
+    pub saw_acts : (id t : ℕ) → hand ≡ [] → t < z.threads → Acts (fact_of sight o) z (see_full t (get_or h.next t 0)) id me (SawFront sight o t h me)
     saw_acts id t none lt =
         let j : ℕ = get_or h.next t 0 in
         told_with (see_full t j) id me (SawFull sight o t j now me) (SawFront sight o t h me)
@@ -187,7 +182,7 @@ module _ {M : Type 0} {ghosts : Ghosts M} (sight : M → Sight) (o : Opening M g
     box_kept = ap boxes_in i.hands
 
     -- a look that takes nothing
-    raised : (e : Event) (shown n n2 : ℕ) (w : Seated) → view_after z e me.0.view n ≡ view_after z e me.0.view n2 → i.stale.records ≡ i.records → IsRaisedTo e shown → RisesFrom e me.0.view → WentOn sight o e (record now { shown = shown }) me.1 me n w → Raised sight o e h me n2 w
+    raised : (e : Event) (shown n n2 : ℕ) (w : Seated M ghosts) → view_after z e me.0.view n ≡ view_after z e me.0.view n2 → i.stale.records ≡ i.records → IsRaisedTo e shown → RisesFrom e me.0.view → WentOn sight o e (record now { shown = shown }) me.1 me n w → Raised sight o e h me n2 w
     raised e shown n n2 w blind same is rises s = record {
       went = went_on e me.1 h h.next (boxes_in me.0.beside.turn) shown refl refl refl n n2 w blind (subst (λ b. WentOn sight o e (record now { shown = shown; boxes = b }) me.1 me n w) (sym box_kept) s);
       same = λ hs is. let hands_is : hs ≡ old = same_hands hs old (sym is ∙ i.hands) in ap (λ (a : Hands). a.lists.records) hands_is ∙ same;
@@ -195,7 +190,7 @@ module _ {M : Type 0} {ghosts : Ghosts M} (sight : M → Sight) (o : Opening M g
       rises = rises;
     }
 
-    pub peek_acts_on : (id t j : ℕ) → i.stale.records ≡ i.records → Acts fact z (see_full t j) id me (Raised sight o (see_full t j) h me)
+    pub peek_acts_on : (id t j : ℕ) → i.stale.records ≡ i.records → Acts (fact_of sight o) z (see_full t j) id me (Raised sight o (see_full t j) h me)
     peek_acts_on id t j same =
         told_less (see_full t j) id me (WentOn sight o (see_full t j) now me.1 me) (Raised sight o (see_full t j) h me)
         (peek_acts sight o id me i.turn old i.hands (lists (state_of h.back) i.records) i.follows t j)
@@ -203,7 +198,7 @@ module _ {M : Type 0} {ghosts : Ghosts M} (sight : M → Sight) (o : Opening M g
 
     -- a look that takes the record of one number alone
     pub look_acts_on : (id t j number : ℕ) → i.stale.records ≡ i.records → t < z.threads → j < z.boxes → 0 < number → ((b : ℕ) (q : RedoRecord) → Contains box (b, q) → q.number ≢ number)
-        → Acts fact z (see_full t j) id me (SawNext sight o t j number h me)
+        → Acts (fact_of sight o) z (see_full t j) id me (SawNext sight o t j number h me)
     look_acts_on id t j number same lt lj some_number others =
         told_less (see_full t j) id me (SawNumber sight o t j number now me) (SawNext sight o t j number h me)
         (look_acts sight o id me i.turn old i.hands (lists (state_of h.back) i.records) i.follows t j number lt lj some_number others)
@@ -219,7 +214,7 @@ module _ {M : Type 0} {ghosts : Ghosts M} (sight : M → Sight) (o : Opening M g
     -- ---- the record of a box goes back into it, or the box is emptied
     module _ (p : Held) (left : List (ℕ × RedoRecord)) (among : Contains box (box_held z p, p.redo)) (leaves : Leaves box (box_held z p) left) where
       pub put_acts : (id : ℕ) (rest_slots : List (ℕ × Slot M ghosts)) → me.1 ≡ (box_held z p, Record p.redo) ∷ rest_slots → ((state_of h.back).dead ≡ false → (k : ℕ) (r : RedoRecord) → Contains box (k, r) → LacksRecord i.records r.number)
-          → Acts fact z (see_full p.thread p.place) id me (WentLacking sight o (see_full p.thread p.place) h left rest_slots me)
+          → Acts (fact_of sight o) z (see_full p.thread p.place) id me (WentLacking sight o (see_full p.thread p.place) h left rest_slots me)
       put_acts id rest_slots slots lacks =
           told_less (see_full p.thread p.place) id me (WentOn sight o (see_full p.thread p.place) (record now { boxes = left }) rest_slots me) (WentLacking sight o (see_full p.thread p.place) h left rest_slots me)
           (put_back_acts sight o id me i.turn old i.hands (lists (state_of h.back) i.records) i.follows p.thread p.place p.redo left rest_slots among leaves slots (λ alive. lacks alive (box_held z p) p.redo among))
@@ -227,26 +222,26 @@ module _ {M : Type 0} {ghosts : Ghosts M} (sight : M → Sight) (o : Opening M g
 
       pub empty_acts_on : (id : ℕ) (rest_slots : List (ℕ × Slot M ghosts)) (h2 : TheHome M ghosts) → p.thread < z.threads → p.place ≡ get_or h.next p.thread 0 → h.back ≡ h2.back → h.pager ≡ h2.pager → set h.next p.thread (place_at z (get_or h.next p.thread 0) 1) ≡ h2.next
           → me.1 ≡ (box_of z p.thread (get_or h.next p.thread 0), Empty) ∷ rest_slots → ((k : ℕ) (r : RedoRecord) → Contains box (k, r) → HasRecord i.records r.number × (writes_in i.records r.number ≡ r.writes))
-          → Acts fact z (empty_box p.thread (get_or h.next p.thread 0)) id me (λ n. WentHanded sight o (empty_box p.thread (get_or h.next p.thread 0)) h2 left rest_slots me 0)
+          → Acts (fact_of sight o) z (empty_box p.thread (get_or h.next p.thread 0)) id me (λ n. WentHanded sight o (empty_box p.thread (get_or h.next p.thread 0)) h2 left rest_slots me 0)
       empty_acts_on id rest_slots h2 lt front back pager nexts slots handed =
           let place : ℕ = get_or h.next p.thread 0 in let mine = handed (box_held z p) p.redo among in
           told_less (empty_box p.thread place) id me (WentOn sight o (empty_box p.thread place) (record now { next = set h.next p.thread (place_at z place 1); boxes = left }) rest_slots me) (λ n. WentHanded sight o (empty_box p.thread place) h2 left rest_slots me 0)
           (empty_acts sight o id me i.turn old i.hands (lists (state_of h.back) i.records) i.follows p.thread p.redo left rest_slots lt (subst (λ (d : ℕ). Contains box (box_of z p.thread d, p.redo)) front among) (subst (λ (d : ℕ). Leaves box (box_of z p.thread d) left) front leaves) slots mine.0 mine.1)
           (λ n w s. record { went = went_on (empty_box p.thread place) rest_slots h2 (set h.next p.thread (place_at z place 1)) left i.shown back pager nexts n 0 w refl s; handed = λ k r more. handed k r (leaves.was k r more).0 })
 
-    pub durable_acts_on : (id d : ℕ) → i.stale.records ≡ i.records → d ≤ (state_of h.back).log.durable → Acts fact z (raise_durable d) id me (λ n. Raised sight o (raise_durable d) h me 0)
+    pub durable_acts_on : (id d : ℕ) → i.stale.records ≡ i.records → d ≤ (state_of h.back).log.durable → Acts (fact_of sight o) z (raise_durable d) id me (λ n. Raised sight o (raise_durable d) h me 0)
     durable_acts_on id d same le =
         told_less (raise_durable d) id me (WentOn sight o (raise_durable d) now me.1 me) (λ n. Raised sight o (raise_durable d) h me 0)
         (durable_acts sight o id me i.turn old i.hands (lists (state_of h.back) i.records) i.follows d le)
         (λ n w s. raised (raise_durable d) i.shown n 0 w refl same tt (let a = s.told.word.0 in let b = s.told.word.1 in omega arith) s)
 
-    pub reproduced_acts_on : (id d : ℕ) → i.stale.records ≡ i.records → d ≤ (state_of h.back).log.reproduced → Acts fact z (raise_reproduced d) id me (λ n. Raised sight o (raise_reproduced d) h me 0)
+    pub reproduced_acts_on : (id d : ℕ) → i.stale.records ≡ i.records → d ≤ (state_of h.back).log.reproduced → Acts (fact_of sight o) z (raise_reproduced d) id me (λ n. Raised sight o (raise_reproduced d) h me 0)
     reproduced_acts_on id d same le =
         told_less (raise_reproduced d) id me (WentOn sight o (raise_reproduced d) (record now { shown = d }) me.1 me) (λ n. Raised sight o (raise_reproduced d) h me 0)
         (reproduced_acts sight o id me i.turn old i.hands (lists (state_of h.back) i.records) i.follows d le)
         (λ n w s. raised (raise_reproduced d) d n 0 w refl same refl tt s)
 
-    pub give_acts_on : (id : ℕ) (failed : Bool) → hand ≡ [] → me.1 ≡ (back_slot z, Home h) ∷ [] → IsSettled (state_of h.back) → (failed ≡ true → (state_of h.back).dead ≡ true) → Acts fact z (give_turn failed) id me (λ n. GaveTurn sight o failed me 0)
+    pub give_acts_on : (id : ℕ) (failed : Bool) → hand ≡ [] → me.1 ≡ (back_slot z, Home h) ∷ [] → IsSettled (state_of h.back) → (failed ≡ true → (state_of h.back).dead ≡ true) → Acts (fact_of sight o) z (give_turn failed) id me (λ n. GaveTurn sight o failed me 0)
     give_acts_on id failed none slots settled fault =
         told_less (give_turn failed) id me (GaveTurn sight o failed me) (λ n. GaveTurn sight o failed me 0)
         (give_acts sight o id me i.turn old i.hands (lists (state_of h.back) i.records) i.follows failed h slots
@@ -254,7 +249,7 @@ module _ {M : Type 0} {ghosts : Ghosts M} (sight : M → Sight) (o : Opening M g
         (λ n w g. record { seated = g.seated; view = g.view; beside = g.beside; slots = g.slots })
 
     -- ---- what the steps ask of the rest
-    module _ (id : ℕ) (s : TableState (Slot M ghosts) (Known Beside)) (hs : Holds fact z s) (at : get_elem? s.views id ≡ some me.0) where
+    module _ (id : ℕ) (s : TableState (Slot M ghosts) (Known Beside)) (hs : Holds (fact_of sight o) z s) (at : get_elem? s.views id ≡ some me.0) where
       view_there : get_elem? hs.core.views id ≡ some me.0.view
       view_there = rw (← hs.views) (at_map view_of s.views id me.0 at)
 
@@ -276,21 +271,21 @@ module _ {M : Type 0} {ghosts : Ghosts M} (sight : M → Sight) (o : Opening M g
           (lists_now.handed d (reached d lt (omega arith))))
           (λ ge. let low = hs.kept.layers.locks.numbers.from in omega arith)
 
-    pub empty_fits : (id : ℕ) (p : Held) → Contains hand p → p.place ≡ get_or h.next p.thread 0 → Foreseen fact z (empty_box p.thread (get_or h.next p.thread 0)) id me.0
+    pub empty_fits : (id : ℕ) (p : Held) → Contains hand p → p.place ≡ get_or h.next p.thread 0 → Foreseen (fact_of sight o) z (empty_box p.thread (get_or h.next p.thread 0)) id me.0
     empty_fits id p among front s hs at =
         let k : ℕ = box_of z p.thread (get_or h.next p.thread 0) in let b : Contains box (k, p.redo) = subst (λ (d : ℕ). Contains box (box_of z p.thread d, p.redo)) front (box_in z hand p among) in
         let n = hand_number id s hs at k p.redo b in let pos = (boxes_now id s hs at).hand k p.redo b in let some_number = pos.1 in omega arith
 
-    pub durable_fits : (id d : ℕ) → IsReached z.first i.records d → (state_of h.back).log.durable ≤ d → Foreseen fact z (raise_durable d) id me.0
+    pub durable_fits : (id d : ℕ) → IsReached z.first i.records d → (state_of h.back).log.durable ≤ d → Foreseen (fact_of sight o) z (raise_durable d) id me.0
     durable_fits id d reached le s hs at = let a = (lists_now id s hs at).durable in ((omega arith), upto_clock id s hs at d reached)
 
-    pub reproduced_fits : (id d : ℕ) → d ≡ me.0.view.turn.durable → d ≡ (state_of h.back).log.reproduced → Foreseen fact z (raise_reproduced d) id me.0
+    pub reproduced_fits : (id d : ℕ) → d ≡ me.0.view.turn.durable → d ≡ (state_of h.back).log.reproduced → Foreseen (fact_of sight o) z (raise_reproduced d) id me.0
     reproduced_fits id d told is s hs at =
         let a = (lists_now id s hs at).reproduced in let turn = hs.kept.layers.turn in let b = turn.durable.drawn in let e = (turn.each id me.0.view (view_there id s hs at)).raised in
         ((omega arith), (omega arith))
 
     -- ---- what it has after a step, and after a call of the back
-    abbrev pub went_holding : (h2 : TheHome M ghosts) (hand2 : List Held) (e : Event) (left : List (ℕ × Slot M ghosts)) (n : ℕ) (w : Seated) → Went sight o e h2 (boxes_held z hand2) left me n w → h2.back ≡ h.back
+    abbrev pub went_holding : (h2 : TheHome M ghosts) (hand2 : List Held) (e : Event) (left : List (ℕ × Slot M ghosts)) (n : ℕ) (w : Seated M ghosts) → Went sight o e h2 (boxes_held z hand2) left me n w → h2.back ≡ h.back
         → (view_after z e me.0.view n).part ≡ me.0.view.part → (view_after z e me.0.view n).turn.has_it ≡ me.0.view.turn.has_it → ((u : ℕ) → u < z.threads → get_or h2.next u 0 < z.boxes) → z.threads ≤ length h2.next → Holding sight o w.0 h2 hand2
     went_holding h2 hand2 e left n w t back part has places wide =
         let part2 : w.0.view.part ≡ me.0.view.part = ap (λ (v : View). v.part) t.view ∙ part in record {
@@ -330,7 +325,7 @@ module _ {M : Type 0} {ghosts : Ghosts M} (sight : M → Sight) (o : Opening M g
   pub took_hands : (hands : Hands) (home : TheHome M ghosts) → IsHome sight o home hands → hands ≡ hands_of sight home hands.lists.records hands.shown []
   took_hands hands home is = rw (is.state, is.next, is.map, is.boxes) refl
 
-  abbrev pub took_holding : (m w : Seated) (t : Took sight o m w) → m.0.view.part.is_spent ≡ false → HasThread m.0.view → Holding sight o w.0 t.home []
+  abbrev pub took_holding : (m w : Seated M ghosts) (t : Took sight o m w) → m.0.view.part.is_spent ≡ false → HasThread m.0.view → Holding sight o w.0 t.home []
   took_holding m w t live thread =
       let part : w.0.view.part ≡ m.0.view.part = ap (λ (v : View). v.part) t.view in let is = t.is in
       let same : lists (state_of t.home.back) t.hands.lists.records ≡ t.hands.lists = ap (λ s. lists s t.hands.lists.records) is.state in

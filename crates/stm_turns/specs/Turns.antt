@@ -1,5 +1,5 @@
 -- What contracts say of a seat that has the turn.
-use Rattle.std.specs.Prelude.{◌≡◌, ◌≢◌, ◌⊎◌, ℕ, ◌+◌, ◌-◌, ◌<◌, ltb, if◌then◌else◌, ◌≤◌, true, false, List, [], ◌∷◌, Option, Some, None, Result, Ok, Err, slice_index}
+use Rattle.std.specs.Prelude.{◌≡◌, ◌≢◌, ◌⊎◌, ℕ, ◌+◌, ◌-◌, ◌<◌, ltb, if◌then◌else◌, ◌≤◌, true, false, List, [], ◌∷◌, Option, Some, None, Result, Ok, Err, OnOk, slice_index}
 use Rattle.std.specs.List.{Contains}
 use Rattle.dude_base.specs.Records.{RedoBundle, RedoRecord, first_of}
 use Rattle.pmem_trait.specs.Sights.{Sight}
@@ -187,10 +187,14 @@ IsFaultOf v Device = v.dead ≡ false
 IsFaultOf v Dead = v.dead ≡ true
 IsFaultOf v (RingFull used need) = ⊥
 
--- the back was alive where the call succeeds, and the fault of a call that fails is that of the back
-abbrev pub FailsBy : {X : Type 0} → Result X BackFault → BackState → Type 0
-FailsBy (Ok x) v = v.dead ≡ false
-FailsBy (Err fault) v = IsFaultOf v fault
+-- the back was alive where the call succeeds; a call that fails leaves it dead, and its fault is that of the back before
+abbrev pub FailsBy : {X : Type 0} → Result X BackFault → BackState → BackState → Type 0
+FailsBy (Ok x) v w = v.dead ≡ false
+FailsBy (Err fault) v w = IsFaultOf v fault × (w.dead ≡ true)
+
+-- and a call that succeeds leaves it alive
+abbrev pub LivesBy : {X : Type 0} → Result X BackFault → BackState → BackState → Type 0
+LivesBy result v w = FailsBy result v w × OnOk result (w.dead ≡ false)
 
 -- ---- the numbers of a thread's records rise
 -- each number that was past in the ring of the thread was less than this one, which is past now

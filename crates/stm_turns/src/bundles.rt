@@ -1,10 +1,10 @@
 //! The bundle of the records in hand is persisted, or they stay in their boxes.
 
-ghost use Rattle.std.specs.Prelude.{◌≡◌, ◌+◌, ◌<◌, [], IfOk, OnOk, OnErr, true, false};
+ghost use Rattle.std.specs.Prelude.{◌≡◌, ◌+◌, ◌<◌, [], IfOk, OnOk, true, false};
 ghost use Rattle.back_store.specs.BackView.{state_of};
 ghost use Rattle.dude_base.specs.Records.{first_of};
 ghost use Rattle.stm_turns.specs.Bundles.{FoundFull, InTurnWith, IsAliveUnless, IsFullStill, IsLate, SteppedBy};
-ghost use Rattle.stm_turns.specs.Turns.{Advanced, FailsBy, RisesTo, Stepped};
+ghost use Rattle.stm_turns.specs.Turns.{Advanced, LivesBy, RisesTo, Stepped};
 
 use crate::calls::catch_up;
 use crate::gathering::Gathering;
@@ -58,15 +58,13 @@ fn persist_or_put_back<M: Medium>(
     requires with { InTurnWith M.sight events.now seat.old home.old gathering.now }
     requires alive { (state_of home.old.back).dead ≡ false }
     ensures step { Stepped M.sight events.now seat.old seat.new home.new [] }
-    ensures ok { OnOk result ((state_of home.new.back).dead ≡ false) }
     ensures rises { IfOk result (λ done. done ≡ true
         → RisesTo (first_of gathering.now.bundle) gathering.now.ring
         (state_of home.old.back) (state_of home.new.back)) }
     ensures stays { IfOk result (λ done. done ≡ false
         → FoundFull gathering.now.ring gathering.now.bundle
         (state_of home.old.back) (state_of home.new.back)) }
-    ensures err { OnErr result ((state_of home.new.back).dead ≡ true) }
-    ensures cause { FailsBy result (state_of home.old.back) }
+    ensures life { LivesBy result (state_of home.old.back) (state_of home.new.back) }
 {
     match persist(events, seat, home, gathering) {
         Ok(()) => Ok(true),
@@ -91,14 +89,12 @@ fn retry<M: Medium>(
     requires with { InTurnWith M.sight events.now seat.old home.old gathering.now }
     ensures step { Advanced M.sight events.now durable.old durable.new
         seat.old seat.new home.new [] }
-    ensures ok { OnOk result ((state_of home.new.back).dead ≡ false) }
     ensures rises { IfOk result (λ done. done ≡ true
         → RisesTo (first_of gathering.now.bundle) gathering.now.ring
         (state_of home.old.back) (state_of home.new.back)) }
     ensures stays { IfOk result (λ done. done ≡ false
         → IsFullStill gathering.now.ring gathering.now.bundle (state_of home.new.back)) }
-    ensures err { OnErr result ((state_of home.new.back).dead ≡ true) }
-    ensures cause { FailsBy result (state_of home.old.back) }
+    ensures life { LivesBy result (state_of home.old.back) (state_of home.new.back) }
 {
     match catch_up(events, seat, home, durable) {
         Ok(_) => persist_or_put_back(events, seat, home, gathering),
@@ -123,7 +119,6 @@ pub fn persist_bundle<M: Medium>(
     requires alive { (state_of home.old.back).dead ≡ false }
     ensures step { Advanced M.sight events.now durable.old durable.new
         seat.old seat.new home.new [] }
-    ensures ok { OnOk result ((state_of home.new.back).dead ≡ false) }
     ensures rises { IfOk result (λ done. done ≡ true
         → RisesTo (first_of gathering.now.bundle) gathering.now.ring
         (state_of home.old.back) (state_of home.new.back)) }
@@ -133,8 +128,7 @@ pub fn persist_bundle<M: Medium>(
     // and its first number isn't the next one to reproduce.
     ensures late { IfOk result (λ done. done ≡ false
         → (state_of home.old.back).log.reproduced + 1 < first_of gathering.now.bundle) }
-    ensures err { OnErr result ((state_of home.new.back).dead ≡ true) }
-    ensures cause { FailsBy result (state_of home.old.back) }
+    ensures life { LivesBy result (state_of home.old.back) (state_of home.new.back) }
 {
     match persist(events, seat, home, gathering) {
         Ok(()) => Ok(true),

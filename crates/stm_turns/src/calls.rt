@@ -1,6 +1,6 @@
 //! The thread with the turn announces and reproduces.
 
-ghost use Rattle.std.specs.Prelude.{◌≡◌, IfOk, OnErr, OnOk, true};
+ghost use Rattle.std.specs.Prelude.{IfOk, OnOk};
 ghost use Rattle.back_store.specs.BackView.{state_of};
 ghost use Rattle.stm_turns.specs.Turns.{AdvancedOn, EndsSettled, FailsBy, HasHome, IsAnnounced, KeepsPast, KeepsPlaces, SteppedOn, TellsDurable};
 
@@ -26,8 +26,7 @@ pub fn announce<M: Medium>(
     ensures ok { IfOk result (λ n. TellsDurable seat.new home.new n) }
     ensures past { OnOk result (KeepsPast (state_of home.old.back) (state_of home.new.back)) }
     ensures places { KeepsPlaces home.old home.new }
-    ensures err { OnErr result ((state_of home.new.back).dead ≡ true) }
-    ensures cause { FailsBy result (state_of home.old.back) }
+    ensures cause { FailsBy result (state_of home.old.back) (state_of home.new.back) }
 {
     let number = known_back::announce(&mut home.back)?;
     raise_durable(events, seat, home, number);
@@ -47,8 +46,7 @@ pub fn reproduce<M: Medium>(
     ensures ok { IfOk result (λ n. EndsSettled seat.new home.new n) }
     ensures past { OnOk result (KeepsPast (state_of home.old.back) (state_of home.new.back)) }
     ensures places { KeepsPlaces home.old home.new }
-    ensures err { OnErr result ((state_of home.new.back).dead ≡ true) }
-    ensures cause { FailsBy result (state_of home.old.back) }
+    ensures cause { FailsBy result (state_of home.old.back) (state_of home.new.back) }
 {
     let durable = home.back.durable();
     let number = known_back::reproduce(&mut home.back, durable)?;
@@ -70,8 +68,7 @@ pub fn catch_up<M: Medium>(
     ensures ok { IfOk result (λ n. EndsSettled seat.new home.new n) }
     ensures past { OnOk result (KeepsPast (state_of home.old.back) (state_of home.new.back)) }
     ensures places { KeepsPlaces home.old home.new }
-    ensures err { OnErr result ((state_of home.new.back).dead ≡ true) }
-    ensures cause { FailsBy result (state_of home.old.back) }
+    ensures cause { FailsBy result (state_of home.old.back) (state_of home.new.back) }
 {
     announce(events, seat, home, durable)?;
     reproduce(events, seat, home)

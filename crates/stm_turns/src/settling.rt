@@ -1,11 +1,11 @@
 //! The records of full boxes are persisted in bundles, and made durable and reproduced.
 
-ghost use Rattle.std.specs.Prelude.{◌≡◌, ◌≤◌, ◌<◌, ℕ, [], IfOk, IfSome, IfNone, OnOk, OnErr, false, true};
+ghost use Rattle.std.specs.Prelude.{◌≡◌, ◌≤◌, ◌<◌, ℕ, [], IfOk, IfSome, IfNone, false};
 ghost use Rattle.dude_base.specs.declared.limits.TheConstants.{MAX_RINGS};
 ghost use Rattle.back_store.specs.BackView.{state_of};
 ghost use Rattle.stm_turns.specs.Bundles.{NextIsNotDrawn};
 ghost use Rattle.stm_turns.specs.InFront.{AreLeft, IsLeast, NoneToTake};
-ghost use Rattle.stm_turns.specs.Turns.{Advanced, EndsSettled, FailsBy, InTurn, IsOwn, RisesTo};
+ghost use Rattle.stm_turns.specs.Turns.{Advanced, EndsSettled, FailsBy, InTurn, IsOwn, LivesBy, RisesTo};
 
 use crate::boxes::see_front;
 use crate::bundles::persist_bundle;
@@ -64,9 +64,7 @@ fn persist_from<M: Medium>(
     requires alive { (state_of home.old.back).dead ≡ false }
     ensures step { Advanced M.sight events.now durable.old durable.new
         seat.old seat.new home.new [] }
-    ensures ok { OnOk result ((state_of home.new.back).dead ≡ false) }
-    ensures err { OnErr result ((state_of home.new.back).dead ≡ true) }
-    ensures cause { FailsBy result (state_of home.old.back) }
+    ensures life { LivesBy result (state_of home.old.back) (state_of home.new.back) }
 {
     let Some(redo) = see_front(events, seat, home, thread) else {
         fronts[thread as usize] = 0;
@@ -92,9 +90,7 @@ fn persist_all<M: Medium>(
     requires alive { (state_of home.old.back).dead ≡ false }
     ensures step { Advanced M.sight events.now durable.old durable.new
         seat.old seat.new home.new [] }
-    ensures ok { OnOk result ((state_of home.new.back).dead ≡ false) }
-    ensures err { OnErr result ((state_of home.new.back).dead ≡ true) }
-    ensures cause { FailsBy result (state_of home.old.back) }
+    ensures life { LivesBy result (state_of home.old.back) (state_of home.new.back) }
 {
     let mut fronts = look_at_all(events, seat, home, &home.next);
     for _ in 0..events.box_count() {
@@ -128,8 +124,7 @@ fn persist_next<M: Medium>(
         (EndsSettled seat.new home.new number × NextIsNotDrawn seat.new number)) }
     ensures some { IfOk result (λ next. IfSome next (λ n. EndsSettled seat.new home.new n
         × ((m : ℕ) × RisesTo m own (state_of home.old.back) (state_of home.new.back)))) }
-    ensures err { OnErr result ((state_of home.new.back).dead ≡ true) }
-    ensures cause { FailsBy result (state_of home.old.back) }
+    ensures cause { FailsBy result (state_of home.old.back) (state_of home.new.back) }
 {
     let Some(redo) = see_front(events, seat, home, own) else {
         return Ok(None);
@@ -164,8 +159,7 @@ fn persist_own<M: Medium>(
         seat.old seat.new home.new [] }
     ensures ok { IfOk result (λ n. EndsSettled seat.new home.new n) }
     ensures next { IfOk result (λ n. NextIsNotDrawn seat.new n) }
-    ensures err { OnErr result ((state_of home.new.back).dead ≡ true) }
-    ensures cause { FailsBy result (state_of home.old.back) }
+    ensures cause { FailsBy result (state_of home.old.back) (state_of home.new.back) }
 {
     let mut number = settled;
     // Each bundle begins with a greater number than the one before.
@@ -195,8 +189,7 @@ pub fn settle<M: Medium>(
         seat.old seat.new home.new [] }
     ensures ok { IfOk result (λ n. EndsSettled seat.new home.new n) }
     ensures next { IfOk result (λ n. NextIsNotDrawn seat.new n) }
-    ensures err { OnErr result ((state_of home.new.back).dead ≡ true) }
-    ensures cause { FailsBy result (state_of home.old.back) }
+    ensures cause { FailsBy result (state_of home.old.back) (state_of home.new.back) }
 {
     persist_all(events, seat, home, durable)?;
     let number = catch_up(events, seat, home, durable)?;

@@ -4,7 +4,8 @@ use Rattle.back_store.specs.BackView.{state_of}
 use Rattle.back_store.specs.declared.back_fault.BackFault.TheVariants.{RingFull, Device}
 use Rattle.dude_base.specs.Records.{first_of}
 use Rattle.stm_turns.proofs.Bundling.{late_at, late_from, rises_from, stepped_by, then_advanced_bare, with_of}
-use Rattle.stm_turns.specs.Turns.{FailsBy}
+use Rattle.back_store.specs.Back.{BackState}
+use Rattle.stm_turns.specs.Turns.{LivesBy}
 use Rattle.stm_turns.proofs.Faults.{never_dead}
 use Rattle.stm_turns.proofs.Seats.{advanced}
 use Rattle.stm_turns.proofs.bundles.persist_bundle.Goals as goal
@@ -43,7 +44,7 @@ returns-in-Err-Device-clause-step g c =
 pub unreachable-requires : goal.unreachable-requires
 unreachable-requires g c = let x = c.persist in let arm = c.in-Err-Dead in never_dead x.result (state_of x.new.home.back) (arm.is ∙ ap (λ f. Err f) arm.field-0-is) x.ensures.life
 
-pub returns-in-Err-RingFull-clause-cause : goal.returns-in-Err-RingFull-clause-cause
-returns-in-Err-RingFull-clause-cause g c =
+pub returns-in-Err-RingFull-clause-life : goal.returns-in-Err-RingFull-clause-life
+returns-in-Err-RingFull-clause-life g c =
     let x = c.persist in let q = c.args.gathering.now in let arm = c.in-Err-RingFull in let y = c.retry in let v = state_of c.args.home.now.back in let w = state_of x.new.home.back in
-    subst (FailsBy y.result) (late_at q.ring q.bundle v w x.result arm.field-0-0 arm.field-0-1 (arm.is ∙ ap (λ f. Err f) arm.field-0-is) x.ensures.late).0.0 y.ensures.cause
+    subst (λ (s : BackState). LivesBy y.result s (state_of y.new.home.back)) (late_at q.ring q.bundle v w x.result arm.field-0-0 arm.field-0-1 (arm.is ∙ ap (λ f. Err f) arm.field-0-is) x.ensures.late).0.0 y.ensures.life

@@ -45,7 +45,7 @@ returns-in-Err-clause-step g c =
     let w = c.requires.with in let d = x.new.durable in
     then_advanced sight t c.args.durable.now d d seat x.new.seat y.new.seat x.new.home x.new.home w.hand [] (x.ensures.step w.hand w.turn) (advanced sight t d x.new.seat y.new.seat x.new.home [] y.ensures.step)
 
-pub returns-in-Ok-clause-cause : goal.returns-in-Ok-clause-cause
-returns-in-Ok-clause-cause g c =
+pub returns-in-Ok-clause-life : goal.returns-in-Ok-clause-life
+returns-in-Ok-clause-life g c =
     let x = c.catch_up in let y = c.persist_or_put_back in let ok = c.in-Ok.ensures in
-    fails_still y.result (state_of x.new.home.back) (state_of c.args.home.now.back) ok.ok.is.alive ok.cause y.ensures.cause
+    (fails_still y.result (state_of x.new.home.back) (state_of c.args.home.now.back) (state_of y.new.home.back) ok.ok.is.alive ok.cause y.ensures.life.0, y.ensures.life.1)

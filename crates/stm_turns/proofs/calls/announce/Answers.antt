@@ -1,8 +1,9 @@
 use Rattle.std.proofs.Common.{refl}
+use Rattle.back_store.specs.Answers.{announced}
 use Rattle.back_store.specs.BackView.{state_of}
 use Rattle.stm_slots.specs.Opening.{setup_of, since_of}
 use Rattle.stm_turns.proofs.Past.{keeps_announced}
-use Rattle.stm_turns.proofs.Faults.{fails_by, hands_on}
+use Rattle.stm_turns.proofs.Faults.{dead_after, fails_by, hands_on}
 use Rattle.stm_turns.proofs.Calling.{alive_unless, announce_goes, announced_ok, called_turn}
 use Rattle.stm_turns.proofs.Seats.{advanced, same_turn}
 use Rattle.stm_turns.proofs.calls.announce.Goals as goal
@@ -62,7 +63,9 @@ returns-in_err-number-clause-places g c =
 
 pub returns-in_err-number-clause-cause : goal.returns-in_err-number-clause-cause
 returns-in_err-number-clause-cause g c =
-    let h = c.args.home.now in hands_on c.from_residual.result c.in_err-number.field-0.0 (state_of h.back) c.from_residual.ensures.1 (fails_by _ h.back c.announce.new.back c.in_err-number.ensures.cause)
+    let v = state_of c.args.home.now.back in let w = state_of c.announce.new.back in let fault = c.in_err-number.field-0.0 in
+    let is = fails_by _ c.args.home.now.back c.announce.new.back c.in_err-number.ensures.cause in
+    hands_on c.from_residual.result fault v w c.from_residual.ensures.1 is (dead_after fault (announced v) v w is c.in_err-number.ensures.state)
 
 pub returns-clause-cause : goal.returns-clause-cause
 returns-clause-cause g c = alive_unless (state_of c.args.home.now.back) c.announce.result c.in_ok-number.number c.in_ok-number.was c.announce.ensures.cause.dead

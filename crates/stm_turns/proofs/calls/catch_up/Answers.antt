@@ -25,4 +25,4 @@ returns-clause-places g c = let a = c.announce.ensures.places in let r = c.repro
 pub returns-clause-cause : goal.returns-clause-cause
 returns-clause-cause g c =
     let a = c.announce in let ok = c.in_ok-announce.ensures in
-    fails_still c.reproduce.result (state_of a.new.home.back) (state_of c.args.home.now.back) ok.ok.is.alive ok.cause c.reproduce.ensures.cause
+    fails_still c.reproduce.result (state_of a.new.home.back) (state_of c.args.home.now.back) (state_of c.reproduce.new.home.back) ok.ok.is.alive ok.cause c.reproduce.ensures.cause

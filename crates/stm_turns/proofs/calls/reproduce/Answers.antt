@@ -1,11 +1,12 @@
 use Rattle.std.proofs.Common.{subst, arith, refl, ℕ}
+use Rattle.back_store.specs.Answers.{reproduced}
 use Rattle.back_store.specs.Backlog.{StopsAfter}
 use Rattle.back_store.specs.BackView.{state_of}
 use Rattle.stm_slots.specs.Opening.{setup_of, since_of}
 use Rattle.stm_turns.proofs.Calling.{reproduce_goes, reproduced_ok, stops_at_durable, lanes_of_threads, called_turn}
 use Rattle.back_store.specs.Back.{BackState}
 use Rattle.stm_turns.specs.Turns.{IsPast}
-use Rattle.stm_turns.proofs.Faults.{fails_by, hands_on}
+use Rattle.stm_turns.proofs.Faults.{dead_after, fails_by, hands_on}
 use Rattle.stm_turns.proofs.Past.{past_reproduced}
 use Rattle.std.proofs.Common.{sym}
 use Rattle.stm_turns.proofs.Seats.{same_turn}
@@ -76,4 +77,6 @@ returns-in_err-number-clause-places g c =
 
 pub returns-in_err-number-clause-cause : goal.returns-in_err-number-clause-cause
 returns-in_err-number-clause-cause g c =
-    let h = c.args.home.now in hands_on c.from_residual.result c.in_err-number.field-0.0 (state_of h.back) c.from_residual.ensures.1 (fails_by _ h.back c.reproduce.new.back c.in_err-number.ensures.cause)
+    let v = state_of c.args.home.now.back in let w = state_of c.reproduce.new.back in let fault = c.in_err-number.field-0.0 in
+    let is = fails_by _ c.args.home.now.back c.reproduce.new.back c.in_err-number.ensures.cause in
+    hands_on c.from_residual.result fault v w c.from_residual.ensures.1 is (dead_after fault (reproduced v) v w is c.in_err-number.ensures.state)

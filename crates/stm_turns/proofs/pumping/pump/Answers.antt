@@ -46,7 +46,7 @@ returns-in-Ok-settle-clause-ok g c =
     has_pumped sight t c.args.durable.now s.new.durable c.args.seat.now a s.new.seat c.give_turn-in-Ok-settle.new.seat arm.home s.new.home arm.ensures.ok s.ensures.step (record { durable = n; reproduced = n }) c.give_turn-in-Ok-settle.ensures.view (sym c.is_dead.ensures ∙ c.if-is_dead.false) c.in-Ok-settle.ensures.ok c.in-Ok-settle.ensures.next refl
 
 pub give_turn-requires-in-Err-settle-clause-settled : goal.give_turn-requires-in-Err-settle-clause-settled
-give_turn-requires-in-Err-settle-clause-settled g c = settled_dead (state_of c.settle.new.home.back) c.in-Err-settle.ensures.err
+give_turn-requires-in-Err-settle-clause-settled g c = settled_dead (state_of c.settle.new.home.back) c.in-Err-settle.ensures.cause.1
 
 pub returns-in-Err-settle-clause-left : goal.returns-in-Err-settle-clause-left
 returns-in-Err-settle-clause-left g c =
@@ -56,7 +56,7 @@ returns-in-Err-settle-clause-left g c =
 pub returns-in-Err-settle-clause-err : goal.returns-in-Err-settle-clause-err
 returns-in-Err-settle-clause-err g c =
     let t = c.args.events.now in let sight = g.M.Medium.sight in let a = c.take_turn.new.seat in let arm = c.in-Ok in let s = c.settle in
-    has_failed sight t c.args.durable.now s.new.durable c.args.seat.now a s.new.seat c.give_turn-in-Err-settle.new.seat arm.home s.new.home arm.ensures.ok s.ensures.step false c.give_turn-in-Err-settle.ensures.view (sym c.is_dead.ensures ∙ c.if-is_dead.false) c.in-Err-settle.ensures.err
+    has_failed sight t c.args.durable.now s.new.durable c.args.seat.now a s.new.seat c.give_turn-in-Err-settle.new.seat arm.home s.new.home arm.ensures.ok s.ensures.step false c.give_turn-in-Err-settle.ensures.view (sym c.is_dead.ensures ∙ c.if-is_dead.false) c.in-Err-settle.ensures.cause.1
 
 pub returns-in-Err-clause-durable : goal.returns-in-Err-clause-durable
 returns-in-Err-clause-durable g c = others_durable c.args.events.now c.args.durable.now c.in-Err.seen c.args.seat.now c.take_turn.new.seat c.in-Err.ensures.err

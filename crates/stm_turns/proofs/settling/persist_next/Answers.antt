@@ -106,4 +106,4 @@ returns-clause-some g c =
 pub returns-in_err-catch_up-clause-cause : goal.returns-in_err-catch_up-clause-cause
 returns-in_err-catch_up-clause-cause g c =
     let y = c.persist_bundle in let d = c.catch_up in
-    let r = c.from_residual-in_err-catch_up in err_still d.result r.result c.in_err-catch_up.field-0.0 (state_of y.new.home.back) (state_of c.args.home.now.back) c.in_err-catch_up.was r.ensures.1 c.in_ok-persist_bundle.ensures.ok c.requires.settled.is.alive d.ensures.cause
+    let r = c.from_residual-in_err-catch_up in err_still d.result r.result c.in_err-catch_up.field-0.0 (state_of y.new.home.back) (state_of c.args.home.now.back) (state_of d.new.home.back) c.in_err-catch_up.was r.ensures.1 c.in_ok-persist_bundle.ensures.life.1 c.requires.settled.is.alive d.ensures.cause

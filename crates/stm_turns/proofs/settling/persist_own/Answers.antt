@@ -39,4 +39,4 @@ loop-look-preserved g c =
 pub returns-in_err-next-clause-cause : goal.returns-in_err-next-clause-cause
 returns-in_err-next-clause-cause g c =
     let l = c.loop-look in let x = c.persist_next in
-    let r = c.from_residual in err_still x.result r.result c.in_err-next.field-0.0 (state_of l.home.back) (state_of c.args.home.now.back) c.in_err-next.was r.ensures.1 l.invariant.settled.is.alive c.requires.settled.is.alive x.ensures.cause
+    let r = c.from_residual in err_still x.result r.result c.in_err-next.field-0.0 (state_of l.home.back) (state_of c.args.home.now.back) (state_of x.new.home.back) c.in_err-next.was r.ensures.1 l.invariant.settled.is.alive c.requires.settled.is.alive x.ensures.cause

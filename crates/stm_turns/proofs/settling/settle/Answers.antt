@@ -31,8 +31,8 @@ returns-clause-step g c =
 pub returns-in_err-number-clause-cause : goal.returns-in_err-number-clause-cause
 returns-in_err-number-clause-cause g c =
     let a = c.persist_all in let b = c.catch_up in
-    let r = c.from_residual-in_err-number in err_still b.result r.result c.in_err-number.field-0.0 (state_of a.new.home.back) (state_of c.args.home.now.back) c.in_err-number.was r.ensures.1 c.in_ok-persist_all.ensures.ok c.requires.alive b.ensures.cause
+    let r = c.from_residual-in_err-number in err_still b.result r.result c.in_err-number.field-0.0 (state_of a.new.home.back) (state_of c.args.home.now.back) (state_of b.new.home.back) c.in_err-number.was r.ensures.1 c.in_ok-persist_all.ensures.life.1 c.requires.alive b.ensures.cause
 
 pub returns-clause-cause : goal.returns-clause-cause
 returns-clause-cause g c =
-    let b = c.catch_up in let d = c.persist_own in fails_still d.result (state_of b.new.home.back) (state_of c.args.home.now.back) c.in_ok-number.ensures.ok.is.alive c.requires.alive d.ensures.cause
+    let b = c.catch_up in let d = c.persist_own in fails_still d.result (state_of b.new.home.back) (state_of c.args.home.now.back) (state_of d.new.home.back) c.in_ok-number.ensures.ok.is.alive c.requires.alive d.ensures.cause
