@@ -4,10 +4,12 @@
 //! The replay shares no code with what it is compared to: limits, layout and rules stand here once more, as numbers.
 #![tactic(auto)]
 
+mod changed;
 mod log;
 mod replaying;
 mod shape;
 mod words;
 
-pub use replaying::{Replay, recover};
+pub use changed::say_changed;
+pub use replaying::{Replay, recover, recovers_to};
 pub use words::{is_remark, number_at, number_of, numbers_of, pair_of, pairs_of, words_of};

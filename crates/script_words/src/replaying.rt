@@ -45,6 +45,30 @@ pub fn recover(alloc: Global, image: &[u64]) -> Result<Replay, AllocError> {
     Ok(Replay::Recovered { number, home })
 }
 
+/// The number and the home that an image recovers to, where they are these.
+pub fn recovers_to(
+    alloc: Global,
+    image: &[u64],
+    number: u64,
+    home: &[u64],
+) -> Option<(u64, Vec<u64>)> {
+    match recover(alloc, image) {
+        Ok(
+            Replay::Recovered {
+                number: last,
+                home: words,
+            },
+        ) => {
+            if last == number && words.as_slice() == home {
+                Some((last, words))
+            } else {
+                None
+            }
+        }
+        _ => None,
+    }
+}
+
 // Overwrites the home by the writes of a record.
 fn apply(image: &[u64], shape: &Shape, head: u64, home: &mut [u64])
     requires { head < 65536 }

@@ -3,6 +3,7 @@
 use crate::images::crashed;
 use pmem_fake::MemPmem;
 use pmem_trait::{Call, Medium};
+use script_words::say_changed;
 use std::io;
 use tiny_stm::closed::Closed;
 use tiny_stm::posted::Posted;
@@ -48,17 +49,6 @@ fn say_posted(rt: HostRuntime, posted: &Posted) -> io::Result<()> {
         let write = redo.write_at(k);
         let (at, value) = (write.at, write.value);
         print!(rt; " {at}={value}")?;
-    }
-    rt.println("")
-}
-
-/// Prints words that aren't as they were, each behind its place.
-fn say_changed(rt: HostRuntime, before: &[u64], words: &[u64]) -> io::Result<()> {
-    for at in 0..before.len().min(words.len()) {
-        if before[at] != words[at] {
-            let value = words[at];
-            print!(rt; " {at}={value}")?;
-        }
     }
     rt.println("")
 }

@@ -13,7 +13,7 @@ use dude_recover::{Opened, format, open};
 use image_recovery::image_of;
 use pmem_fake::MemPmem;
 use pmem_trait::Medium;
-use script_words::{Replay, recover};
+use script_words::recovers_to;
 use std::alloc::{AllocError, Global};
 
 /// How many calls on a medium are remembered.
@@ -67,16 +67,7 @@ pub fn calls_of_opening(alloc: Global, image: &[u64]) -> Option<u64> {
 /// The number and the home to which the slow replay and the product recover an image; nothing where they don't agree.
 fn recovered(alloc: Global, image: &[u64]) -> Option<(u64, Vec<u64>)> {
     let found = image_of(alloc, image).ok()?;
-    match recover(alloc, image) {
-        Ok(Replay::Recovered { number, home }) => {
-            if number == found.number && home.as_slice() == found.words.as_slice() {
-                Some((number, home))
-            } else {
-                None
-            }
-        }
-        _ => None,
-    }
+    recovers_to(alloc, image, found.number, &found.words)
 }
 
 /// The number and the home to which the image of a moment recovers: each word has its settled value, or the one first put since.

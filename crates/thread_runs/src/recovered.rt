@@ -3,7 +3,7 @@
 use image_recovery::image_of;
 use pmem_fake::MemPmem;
 use pmem_trait::Medium;
-use script_words::{Replay, recover};
+use script_words::recovers_to;
 use std::alloc::Global;
 
 /// The number and the home to which the image recovers that a crash leaves now, where each word has its settled value, or the one
@@ -12,14 +12,5 @@ pub fn crashed(alloc: Global, medium: &MemPmem, later: bool) -> Option<(u64, Vec
     let picks = vec![in alloc; u64::from(later); medium.content().len()].ok()?;
     let image = medium.images_at(alloc, medium.now(), &picks).ok()?;
     let found = image_of(alloc, &image).ok()?;
-    match recover(alloc, &image) {
-        Ok(Replay::Recovered { number, home }) => {
-            if number == found.number && home.as_slice() == found.words.as_slice() {
-                Some((number, home))
-            } else {
-                None
-            }
-        }
-        _ => None,
-    }
+    recovers_to(alloc, &image, found.number, &found.words)
 }

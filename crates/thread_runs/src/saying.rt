@@ -2,6 +2,7 @@
 
 use crate::held::Held;
 use crate::recovered::crashed;
+use script_words::say_changed;
 use std::io;
 use tatp_model::{Done, Reply};
 
@@ -60,15 +61,4 @@ fn say_image(rt: HostRuntime, held: &Held, later: bool) -> io::Result<()> {
         }
         None => println!(rt; "{values} values: not recovered"),
     }
-}
-
-/// Prints words that aren't as they were, each behind its place.
-fn say_changed(rt: HostRuntime, before: &[u64], words: &[u64]) -> io::Result<()> {
-    for at in 0..before.len().min(words.len()) {
-        if before[at] != words[at] {
-            let value = words[at];
-            print!(rt; " {at}={value}")?;
-        }
-    }
-    rt.println("")
 }
