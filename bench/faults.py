@@ -2,15 +2,18 @@
 """faults.py [PROGRAM [FOLDER [MOST]]]
 
 Lets each call that the built program (crates/dude/out/dude, or PROGRAM) makes on the system fail once, for each of its
-commands, in a folder below FOLDER (/dev/shm): each allocation of memory, each read, each write of a stream, each write of the
-image, each sync, and each call that makes or opens a file. `faults/failing.c` stands between the program and the C library.
-A call fails before it has an effect; those on the image and the streams also behind it, as a disk that is full, and together
-with all calls behind it. Of more than MOST (400) calls of one kind in one command only so many are tried, evenly spread.
+commands, in a folder below FOLDER (/dev/shm): each allocation of memory, each read, each write of standard output and error,
+each write of the image, each sync, and each call that makes or opens a file. `faults/failing.c` stands between the program and
+the C library. A call fails before it has an effect; those on the image and the output also behind it, as a disk that is full,
+and together with all calls behind it; and these writes move one byte and no more. At last nobody reads the output. Of more than
+MOST (400) calls of one kind in one command only so many are tried, evenly spread.
 
 After each fault the status has to be one that the fault may have, with its line on standard error, or the command has to end
-as without the fault. What is left is recovered by the program and by recover.py, as bench/kill.sh does it: both have to come
-to the same number and rows, at least the last number told, and those of prefixes of the command's files. Of a command that
-changes no row the dump has to stay; of `follow` it has to be its leader's at that number.
+as without the fault; where a write moves one byte it has to. What is left is recovered by the program and by recover.py, as
+bench/kill.sh does it: both have to come to the same number and rows, at least the last number told, and those of prefixes of
+the command's files. Of a command that changes no row the dump has to stay; of `follow` it has to be its leader's at that number.
+What a `stream` printed has to be the first part of what it may print: of each file the first lines, and the last number behind
+all of them.
 
 Outside the gate. Prints a line for each command and kind: how many calls there are, how many were tried, and how often each
 status came. Ends with 1 where something is wrong, and leaves the folder then.
@@ -36,7 +39,15 @@ MAY_BE = {"memory": {8}, "read": {3, 6}, "write": {6, 7}, "put": {6}, "sync": {6
 LINES = {3: "file ", 6: "device", 7: "output", 8: "memory"}
 # How calls of a kind fail, as words of the environment.
 EARLY, LATE, LASTING = {}, {"FAULT_LATE": "1"}, {"FAULT_LASTING": "1", "FAULT_ERRNO": "28"}
-WAYS = {"memory": [EARLY, LASTING], "read": [EARLY], "make": [EARLY]} | {kind: [EARLY, LATE, LASTING] for kind in ("write", "put", "sync")}
+SHORT = {"FAULT_SHORT": "1"}
+WAYS = {
+    "memory": [EARLY, LASTING],
+    "read": [EARLY],
+    "make": [EARLY],
+    "sync": [EARLY, LATE, LASTING],
+    "write": [EARLY, LATE, LASTING, SHORT],
+    "put": [EARLY, LATE, LASTING, SHORT],
+}
 
 
 class Wrong(Exception):
@@ -58,11 +69,11 @@ class Table:
         self.program, self.shim = program, shim
         self.dumps = {}
 
-    def call(self, image, words, **fault):
+    def call(self, image, words, out=None, **fault):
         """The status of a command. Its output, what stands on standard error, and of that the numbers told are left in files."""
         given = dict(os.environ, LD_PRELOAD=self.shim, **fault) if fault else None
-        with open("output", "wb") as out, open("errors", "wb") as err:
-            status = subprocess.run([self.program, image, *words], stdin=subprocess.DEVNULL, stdout=out, stderr=err, env=given).returncode
+        with open("output", "wb") as file, open("errors", "wb") as err:
+            status = subprocess.run([self.program, image, *words], stdin=subprocess.DEVNULL, stdout=out or file, stderr=err, env=given).returncode
         with open("errors", errors="replace") as errors, open("told", "w") as told:
             told.writelines(line for line in errors if line.startswith("durable ") and line.endswith("\n"))
         return status
@@ -81,13 +92,13 @@ class Table:
         status = subprocess.run([self.program, "copy", "dump"], stdin=subprocess.DEVNULL, stdout=subprocess.PIPE, stderr=subprocess.DEVNULL)
         return status.stdout.decode() if status.returncode == 0 else ""
 
-    def carry_out(self, case, **fault):
+    def carry_out(self, case, out=None, **fault):
         """Carries a command out on a fresh copy of its image."""
         if os.path.exists("image"):
             os.remove("image")
         if case.before:
             shutil.copy(case.before, "image")
-        return self.call("image", case.words, **fault)
+        return self.call("image", case.words, out, **fault)
 
     def judge(self, case, is_ended):
         """Judges the image that a command left."""
@@ -142,14 +153,54 @@ class Table:
             found = file.read()
         if status not in MAY_BE[kind] and status != 0:
             raise Wrong(f"{where}, which such a fault hasn't")
+        if status and way is SHORT:
+            raise Wrong(f"{where}, where only less was written at once")
         if status == 0 and len(case.words) < 3 and found != output:
             raise Wrong(f"{where} with another output")
         if status in (3, 8) and not way.get("FAULT_LASTING") and not self.line_is(status):
             raise Wrong(f"{where} without its line")
         try:
-            self.judge(case, status == 0)
+            if case.words[0] == "stream":
+                judge_lines(found, output, status)
+            self.judge(case, status in (0, 7))
         except (Wrong, recover.Wrong) as why:
             raise Wrong(f"{where}: {why}") from None
+
+    def try_closed(self, case):
+        """Tries a command whose output nobody reads: all is done then, too."""
+        reader, writer = os.pipe()
+        os.close(reader)
+        try:
+            status = self.carry_out(case, writer)
+        finally:
+            os.close(writer)
+        if status != 7 or not self.line_is(status):
+            raise Wrong(f"{case.name}: status {status} where nobody reads the output")
+        self.judge(case, True)
+
+
+def replies_in(text):
+    """The replies in the whole lines of a stream, those of each file without their numbers; and whether its last line is there."""
+    replies, has_last = collections.defaultdict(list), False
+    for line in text.decode().split("\n")[:-1]:
+        if has_last:
+            raise Wrong("a line stands behind the last one")
+        has_last = line.startswith("last ")
+        if not has_last:
+            file, _, reply = line.split(" ", 2)
+            replies[file].append(reply)
+    return replies, has_last
+
+
+def judge_lines(found, output, status):
+    """Judges what a stream printed by what it prints without a fault. Of several files numbers and order may differ."""
+    (replies, has_last), (wanted, _) = replies_in(found), replies_in(output)
+    if any(own != wanted[file][: len(own)] for file, own in replies.items()):
+        raise Wrong("what it printed isn't the first lines of each file")
+    if has_last and replies != wanted or status == 0 and not has_last:
+        raise Wrong("the last number doesn't stand behind all lines")
+    if len(wanted) < 2 and not output.startswith(found):
+        raise Wrong("what it printed isn't the first part of its lines")
 
 
 def counted():
@@ -220,6 +271,9 @@ def cases(table):
         Case("run of two files", "waiting", ("run", "one.csv", "two.csv")),
         Case("run with few frames", "wide", ("run", "--frames", "32", "one.csv", "two.csv"), ("run", "one.csv", "two.csv")),
         Case("run on version 1", "first_version", ("run", "one.csv", "two.csv")),
+        Case("stream of one file", "opening", ("stream", "one.csv"), ("run", "one.csv")),
+        Case("stream of two files", "waiting", ("stream", "one.csv", "two.csv"), ("run", "one.csv", "two.csv")),
+        Case("stream with few frames", "wide", ("stream", "--frames", "32", "one.csv", "two.csv"), ("run", "one.csv", "two.csv")),
         Case("drive", "opening", ("drive", "7", "20", "2")),
         Case("ship", "opening", ("ship", "one.csv"), ("run", "one.csv")),
         Case("follow", "opening", ("follow", "packets.bin"), ("leader",)),
@@ -238,6 +292,8 @@ def main(words):
     try:
         for case in cases(table):
             faults += sum(table.try_kind(case, kind, most) for kind in MAY_BE)
+            table.try_closed(case)
+            faults += 1
     except Wrong as why:
         sys.exit(f"faults: {why}. What is left stands in {room}")
     shutil.rmtree(room)

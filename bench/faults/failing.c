@@ -5,6 +5,7 @@
    FAULT_CALL    the call that fails, from 1; 0 for none
    FAULT_LATE    where it is set, the call has its effect first
    FAULT_LASTING where it is set, each further call fails, too
+   FAULT_SHORT   where it is set, such a call moves one byte and goes well, for writes alone
    FAULT_ERRNO   the number of the error, EIO where nothing is said
    FAULT_WAIT    milliseconds that the call waits in place of failing
    FAULT_SKIP    where it is set, such a call answers that it went well and does nothing, but for reads: no program is right
@@ -30,7 +31,7 @@ enum kind { NONE, MEMORY, READ, WRITE, PUT, SYNC, MAKE };
 static const char *const NAMES[] = {"none", "memory", "read", "write", "put", "sync", "make"};
 static enum kind chosen;
 static long call, wait_for;
-static int late, lasting, skip, error = EIO;
+static int late, lasting, skip, is_short, error = EIO;
 static atomic_long own_count;
 static atomic_long *made = &own_count;
 
@@ -44,6 +45,7 @@ __attribute__((constructor)) static void begin(void) {
   late = getenv("FAULT_LATE") != NULL;
   lasting = getenv("FAULT_LASTING") != NULL;
   skip = getenv("FAULT_SKIP") != NULL;
+  is_short = getenv("FAULT_SHORT") != NULL;
   if (!(word = getenv("FAULT_COUNT"))) return;
   int file = syscall(SYS_openat, AT_FDCWD, word, O_RDWR | O_CREAT | O_TRUNC, 0644);
   if (file < 0 || syscall(SYS_ftruncate, file, 8)) return;
@@ -76,21 +78,41 @@ static int fails(enum kind kind) {
     return -1;                              \
   } while (0)
 
+/* How much of a size a write moves. */
+static size_t moved(enum kind kind, size_t size) { return is_short && size && fails(kind) ? 1 : size; }
+
+/* The first byte of some pieces, which are counted as one write; they all where it is not cut short. */
+static int moved_of(enum kind kind, const struct iovec *from, int count, struct iovec *first) {
+  int at = 0;
+  if (!is_short || !fails(kind)) return 0;
+  while (at < count && !from[at].iov_len) at++;
+  if (at == count) return 0;
+  *first = (struct iovec){from[at].iov_base, 1};
+  return 1;
+}
+
 /* The image's words are written where the place is said, its file is new or has a number over those of the streams. */
 ssize_t pwrite(int file, const void *from, size_t size, off_t at) {
+  if (is_short) return syscall(SYS_pwrite64, file, from, moved(PUT, size), at);
   FAIL_OR(PUT, ssize_t, syscall(SYS_pwrite64, file, from, size, at), size);
 }
-ssize_t pwrite64(int file, const void *from, size_t size, off_t at) {
-  FAIL_OR(PUT, ssize_t, syscall(SYS_pwrite64, file, from, size, at), size);
-}
+ssize_t pwrite64(int file, const void *from, size_t size, off_t at) { return pwrite(file, from, size, at); }
 ssize_t pwritev(int file, const struct iovec *from, int count, off_t at) {
+  struct iovec first;
+  if (moved_of(PUT, from, count, &first)) return syscall(SYS_pwritev, file, &first, 1, at, 0);
+  if (is_short) return syscall(SYS_pwritev, file, from, count, at, 0);
   FAIL_OR(PUT, ssize_t, syscall(SYS_pwritev, file, from, count, at, 0), 0);
 }
 ssize_t write(int file, const void *from, size_t size) {
+  if (is_short) return syscall(SYS_write, file, from, moved(file <= 2 ? WRITE : PUT, size));
   FAIL_OR(file <= 2 ? WRITE : PUT, ssize_t, syscall(SYS_write, file, from, size), size);
 }
 ssize_t writev(int file, const struct iovec *from, int count) {
-  FAIL_OR(file <= 2 ? WRITE : PUT, ssize_t, syscall(SYS_writev, file, from, count), 0);
+  enum kind kind = file <= 2 ? WRITE : PUT;
+  struct iovec first;
+  if (moved_of(kind, from, count, &first)) return syscall(SYS_writev, file, &first, 1);
+  if (is_short) return syscall(SYS_writev, file, from, count);
+  FAIL_OR(kind, ssize_t, syscall(SYS_writev, file, from, count), 0);
 }
 ssize_t read(int file, void *into, size_t size) { FAIL_OR(READ, ssize_t, syscall(SYS_read, file, into, size), -1); }
 ssize_t pread(int file, void *into, size_t size, off_t at) {
