@@ -1,7 +1,8 @@
-//! What is printed of a run whose first file was held up.
+//! What is printed of a run whose first file was held up, and of a stream whose requests were.
 
 use crate::held::Held;
 use crate::recovered::crashed;
+use crate::streamed::Streamed;
 use script_words::say_changed;
 use std::io;
 use tatp_model::{Done, Reply};
@@ -61,4 +62,26 @@ fn say_image(rt: HostRuntime, held: &Held, later: bool) -> io::Result<()> {
         }
         None => println!(rt; "{values} values: not recovered"),
     }
+}
+
+/// Prints how a stream ended, how many lines of each file and which last one it printed, and whether lines were out while requests
+/// were held up.
+pub fn say_streamed(rt: HostRuntime, streamed: &Streamed) -> io::Result<()> {
+    let (status, (first, second)) = (streamed.status, streamed.lines);
+    let last = last_line_of(&streamed.printed);
+    println!(rt; "status {status}: {first} lines of file 1, {second} lines of file 2, {last}")?;
+    rt.println(if streamed.was_met {
+        "lines were out while requests were held up"
+    } else {
+        "a request was held up in vain"
+    })
+}
+
+/// The last line of a text.
+fn last_line_of(text: &[u8]) -> &str {
+    let mut last = "";
+    for line in str::from_utf8(text).unwrap_or("no text").lines() {
+        last = line;
+    }
+    last
 }
