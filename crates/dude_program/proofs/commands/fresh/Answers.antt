@@ -51,3 +51,6 @@ returns-clause-ends g c =
     rw (c.refused-in-Err-make_and_open.ensures.medium, c.refused-in-Err-make_and_open.ensures.done, c.refused-in-Err-make_and_open.ensures.fault)
     (ends_at_format maker (fresh_files c.args.subscribers c.args.file.now (requests_in c.in-Ok-read_files.lists.items) c.in-Ok-read_files.ensures.read c.in-Ok-read_files.ensures.reads)
     c.in-Err-make_and_open.ensures.prefix c.in-Err-make_and_open.fault c.in-Err-make_and_open.ensures.fault)
+
+pub work-requires-clause-in_range : goal.work-requires-clause-in_range
+work-requires-clause-in_range g c = rw c.deref.ensures.value c.in-Ok-read_files.ensures.in_range

@@ -81,3 +81,6 @@ returns-clause-ends g c =
     let why = stream_came c.args.options.frames locks names f (requests_in lists) read (length lists) as_many opening 0 (g.M.Medium.sight c.args.medium) (g.M.Medium.sight (medium_of o.back)) (left_opened _ _ _ _ is_open.1) c.in-Err-check_run.fault (c.in-Err-check_run.ensures.err locks names) in
     let came = came_refused (stream_files c.args.options.frames locks names (requests_in lists) read c.in-Ok.ensures.reads) (opened_old (stream_opens c.args.options.frames locks names _) refl is_open.0 is_open.1) 0 c.in-Err-check_run.fault why.1 why.0 in
     rw (c.refused-in-Err-check_run.ensures.medium, c.refused-in-Err-check_run.ensures.done, c.refused-in-Err-check_run.ensures.fault, c.into_medium.ensures) (ends_faulted {f = f} c.in-Err-check_run.fault came)
+
+pub check_run-requires-clause-few : goal.check_run-requires-clause-few
+check_run-requires-clause-few g c = rw c.deref.ensures.value c.in-Ok.ensures.few
