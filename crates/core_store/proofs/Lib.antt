@@ -1,0 +1,4 @@
+pub mod CallLists
+pub mod StoreViews
+pub mod StoreLists
+pub mod DataEffects
