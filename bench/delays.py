@@ -4,7 +4,7 @@
 Measures how long a reply takes to be printed, by the built program (crates/dude/out/dude, or PROGRAM) on an image in a folder
 below FOLDER (/dev/shm): with `stream`, of one file and of four, and with `run`, which prints at its end.
 
-A file has 20,000 times eight requests of the generated load on 1,000 subscribers, an update and a `SYNC`. The number of the
+A file has 10,000 times eight requests of the generated load on 1,000 subscribers, an update and a `SYNC`. The number of the
 reply to a `SYNC` is told as durable on standard error before the reply is made. So the time from that write to the one that has
 the line of the reply is no less than what the line took. `delays/writes.c` stands between the program and the C library, and
 notes when each write ended; both streams are files.
@@ -33,7 +33,7 @@ from picture import DARK, GREY, MARGIN, WIDTH, Drawing
 from recover import load_of
 
 COMMANDS = [("stream", 1), ("stream", 4), ("run", 4)]
-SYNCS, BETWEEN = 20_000, 8
+SYNCS, BETWEEN = 10_000, 8
 SIZES = ("1000", "12000", "4", "256")
 SHARES = [0.1, 1, 2, 5, *range(10, 100, 5), 98, 99, 99.9, 100]
 FIGURES, PICTURE = f"{HERE}/delays.csv", f"{TOP}/docs/delays.svg"
