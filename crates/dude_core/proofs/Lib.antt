@@ -11,3 +11,7 @@ pub mod Held
 pub mod Walks
 pub mod Versions
 pub mod Entries
+pub mod CallLists
+pub mod StoreViews
+pub mod StoreLists
+pub mod DataEffects

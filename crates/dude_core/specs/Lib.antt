@@ -15,3 +15,10 @@ pub mod Named
 pub mod RunSetups
 pub mod Partings
 pub mod Values
+pub mod CallFits
+pub mod PageReads
+pub mod StoreData
+pub mod Effects
+pub mod KeptData
+pub mod Stands
+pub mod DataLaws

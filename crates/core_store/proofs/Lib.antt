@@ -1,4 +1,0 @@
-pub mod CallLists
-pub mod StoreViews
-pub mod StoreLists
-pub mod DataEffects

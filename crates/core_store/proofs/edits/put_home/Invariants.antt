@@ -1,6 +1,0 @@
-use Rattle.std.proofs.Common.{◌≡◌, take}
-use Rattle.dude_base.specs.Writes.{overwritten}
-use Rattle.core_store.proofs.edits.put_home.Given as goal
-
-abbrev pub invariant-loop-k : goal.invariant-loop-k
-invariant-loop-k l = l.home ≡ overwritten (take l.k l.writes) l.initial.home

@@ -1,6 +1,0 @@
-use Rattle.std.proofs.Common.{take, All}
-use Rattle.dude_base.specs.Records.{Covers}
-use Rattle.core_store.proofs.queries.is_covered.Given as goal
-
-abbrev pub invariant-loop-bundle : goal.invariant-loop-bundle
-invariant-loop-bundle l = All (λ w. Covers w.redo l.number → ⊥) (take l.bundle-index l.waiting)
