@@ -3,23 +3,28 @@
 use crate::stm::{Pass, Stm, Tx};
 use pmem_trait::Medium;
 use std::alloc::Global;
+use stm_slots::beside::Beside;
 use stm_transactions::begin::begin_in;
 use stm_transactions::box_full::BoxFull;
 
 impl<M: Medium> Stm<M> {
-    ghost use Rattle.std.specs.Prelude.{◌≡◌, ◌<◌, IfErr, IfOk};
-    ghost use Rattle.stm_transactions.specs.Passes.{IsResting};
+    ghost use Rattle.std.specs.Prelude.{◌≡◌, IfErr, IfOk};
+    ghost use Rattle.std.specs.Borrow.{sem, RestsIfErr};
+    ghost use Rattle.stm_slots.specs.contracts.beside.Beside.{the_row as beside_row};
+    ghost use Rattle.stm_transactions.specs.Passes.{IsRefused, IsResting};
+    ghost use Rattle.stm_transactions.specs.contracts.pass.Pass.{the_row as pass_row};
     ghost use Rattle.stm_transactions.specs.Transactions.{HasBegun};
     ghost use Rattle.tiny_stm.specs.Tables.{table_of};
 
-    /// Begins a transaction of the pass, where its next box is empty. What the pass is where the box
-    /// was full is told by `begin_in`.
-    pub fn begin<'a>(&'a self, p: &'a mut Pass, alloc: Global) -> Result<Tx<'a, M>, BoxFull>
-        requires { IsResting (table_of self.now) p.old }
-        ensures full { IfErr result (λ e. 0 < e.seen) }
+    /// Begins a transaction of the pass, where its next box is empty. A clause says what a pass ends as that a result may hold
+    /// only where it comes first, so the pass comes before the transactions' `Stm`.
+    pub fn begin<'a>(p: &'a mut Pass, stm: &'a Stm<M>, alloc: Global) -> Result<Tx<'a, M>, BoxFull>
+        requires { IsResting (table_of stm.now) p.old }
+        ensures* refused { sem 𝓛 (RestsIfErr (pass_row beside_row) p.entry (λ t. t.pass.ghost_name)
+            result (λ n. IfErr result (λ e. IsRefused (table_of stm.now) e.seen p.old n))) }
         ensures same { IfOk result (λ t. t.pass.ghost_name ≡ p.entry.ghost_name) }
-        ensures begun { IfOk result (HasBegun (table_of self.now) p.old) }
+        ensures begun { IfOk result (HasBegun (table_of stm.now) p.old) }
     {
-        begin_in(p, &self.steps, alloc)
+        begin_in(p, &stm.steps, alloc)
     }
 }
