@@ -5,7 +5,8 @@
 # say yes, to leave the image as it is, and to name the line of a reply that was changed.
 #
 # Then come RUNS short runs of four files, each file on a thread of its own, half of them on few subscribers, so that their
-# requests meet. Each third one has 32 frames over an image of 72 pages, so that pages come and go; some have few locks. A run
+# requests meet, and half of them on images with an index. Each third one has 32 frames over an image of 72 pages or more, so
+# that pages come and go; some have few locks. A run
 # begins with the image that the one before it left, and is audited on a copy from before: each audit has to say yes. Numbers
 # that are void are counted from what a run prints: of the numbers over the first one told, up to `last`, those that no request
 # has that wrote. Nothing that is printed tells whether a page was brought into a frame, whether another one had to leave it,
@@ -124,6 +125,8 @@ os.chdir(room)
 FILES, REQUESTS = 4, 300
 # The sizes of the images: one of few subscribers, one of many, and one of more pages than frames.
 SIZES = {"few": (4, 48, 4, 16), "many": (100, 1200, 4, 64), "wide": (40, 480, 4, 16)}
+# What stands behind the name of an image with an index.
+INDEXED = "-indexed"
 # How often each kind of request comes, by its place below: mostly updates, since two that meet may void a number.
 MIX = [0, 1, 2, 3, 3, 4, 4, 4, 5, 5, 5, 6, 7, 7]
 WRITES = {"UPDATE_SUBSCRIBER_DATA", "UPDATE_LOCATION", "INSERT_CALL_FORWARDING", "DELETE_CALL_FORWARDING"}
@@ -141,10 +144,11 @@ class Run:
     def __init__(self, index):
         self.index = index
         self.is_few = index % 2 == 0
-        self.image = "wide" if index % 3 == 0 else "few" if self.is_few else "many"
-        self.subscribers = 2 + index % 3 if self.is_few else SIZES[self.image][0]
+        kind = "wide" if index % 3 == 0 else "few" if self.is_few else "many"
+        self.image = kind + INDEXED * (index // 6 % 2)
+        self.subscribers = 2 + index % 3 if self.is_few else SIZES[kind][0]
         locks = [None, 4, 64][index // 6 % 3]
-        self.options = ["--frames", "32"] * (self.image == "wide") + ["--locks", str(locks)] * (locks is not None)
+        self.options = ["--frames", "32"] * (kind == "wide") + ["--locks", str(locks)] * (locks is not None)
 
     def requests(self, draw):
         """The text of a file."""
@@ -186,13 +190,14 @@ def call(*words, under=(), given=None):
 
 def make_images():
     """An image of each size, without what the file has behind the image, so that it is soon copied and read."""
-    for name, sizes in SIZES.items():
-        call(name, "format", *map(str, sizes))
-        with open(name, "r+b") as file:
-            pages = int.from_bytes(file.read(56)[48:], "little")
-            file.truncate(8 * (16 + 8 * sizes[2] * sizes[3] + 64 * pages))
-        if name == "wide" and pages <= 32:
-            stop("all pages of the wide image fit into its frames")
+    for kind, sizes in SIZES.items():
+        for name, command in (kind, "format"), (kind + INDEXED, "xformat"):
+            call(name, command, *map(str, sizes))
+            with open(name, "r+b") as file:
+                pages = int.from_bytes(file.read(56)[48:], "little")
+                file.truncate(8 * (16 + 8 * sizes[2] * sizes[3] + 64 * pages))
+            if kind == "wide" and pages <= 32:
+                stop("all pages of the wide image fit into its frames")
 
 
 def void_in(printed, told, files):

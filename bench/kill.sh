@@ -1,5 +1,5 @@
 #!/usr/bin/env bash
-# Kills commands of the built program on a real file at random moments: `format`, runs of one, of two and of four request
+# Kills commands of the built program on a real file at random moments: `format`, `xformat`, runs of one, of two and of four request
 # files, and generated loads of one and of four. A file has a thread of its own, so nobody knows in which order the requests
 # of several files were carried out. After each kill the program recovers and dumps a copy of what is left of the image, and
 # a slow program of its own, recover.py, recovers it too: both must come to the same number and the same rows. The number is
@@ -64,9 +64,10 @@ wrong() {
 }
 
 # The words of the next command. Each sixth one makes an image, and so does each while there is none; half of them a new file,
-# and half of them with short rings, which soon go round.
+# half of them with short rings, which soon go round, and half of them with an index.
 choose() {
-  local make=(format 1000 12000 4 "$((runs / 6 % 2 == 0 ? 16 : 256))")
+  local kinds=(format xformat)
+  local make=("${kinds[runs / 24 % 2]}" 1000 12000 4 "$((runs / 6 % 2 == 0 ? 16 : 256))")
   case $((runs % 6)) in
     1) words=("${make[@]}") ;;
     2) words=(run "$folder"/own{1,2,3,4}.csv) ;;
@@ -77,7 +78,7 @@ choose() {
   esac
   [ "$formatted" = yes ] || words=("${make[@]}")
   [ "${words[-1]}" != "$folder/shared4.csv" ] || write_shared
-  [ "${words[0]}" != format ] || [ $((runs / 12 % 2)) -eq 0 ] || rm -f "$image" "$image".new*
+  [[ ${words[0]} != *format ]] || [ $((runs / 12 % 2)) -eq 0 ] || rm -f "$image" "$image".new*
 }
 
 # What the program itself recovers from a copy of the image, or nothing where it can't. It is timed.

@@ -2,9 +2,10 @@
 """recover.py [--ended] [--dump DUMPED] BEFORE AFTER TOLD COMMAND..
 
 Judges what a command left that was killed or that ended. BEFORE is a copy of the image as it was at the start, AFTER is the
-image now, TOLD is what the command printed on standard error, and COMMAND its words: `format S C N CELLS`, `fresh S FILE`,
-`run FILE..` or `drive SEED COUNT FILES`. It recovers both images by a slow program that shares nothing with the
-repository's code (docs/FORMATS.md has the layout), reads their tables, and carries the requests out on tables of its own.
+image now, TOLD is what the command printed on standard error, and COMMAND its words: `format S C N CELLS`, `xformat` with the same,
+`fresh S FILE`, `run FILE..` or `drive SEED COUNT FILES`. It recovers both images by a slow program that shares nothing with the
+repository's code (docs/FORMATS.md has the layout), reads their tables, judges an index by them, and carries the requests out on
+tables of its own.
 
 `run` and `drive` serve each file on a thread of its own, so the order of their requests isn't known, and some numbers have no
 request. What must hold then is seen in the tables alone:
@@ -30,6 +31,7 @@ import sys
 
 MAGIC = 0x4D454D5445445544
 MOST_RINGS = {1: 8, 2: 16}  # by the version of the image
+MOST_INDEX = {1: 0, 2: 1}
 MOST_NUMBER = 2**48 - 1
 MOST_WRITES, MOST_SPAN = 96, 255
 MOST_IN_VERSION_1 = 24
@@ -68,6 +70,12 @@ def pools_for(subscribers, calls):
         yield pool
 
 
+def tree_pools(at, subscribers):
+    """The leaves and the inner records of an index, behind the tables."""
+    leaves = Pool(at, 0, subscribers, 4)
+    return leaves, Pool(leaves.end, 0, subscribers, 4)
+
+
 def read_words(file, count):
     data = file.read(8 * count)
     if len(data) < 8 * count:
@@ -84,12 +92,13 @@ class Image:
             self.subscribers, self.calls, self.rings, self.cells, self.pages = header[2:7]
             self.mark = header[8]
             self.version = header[1]
-            if header[0] != MAGIC or self.version not in MOST_RINGS or header[7] != 0:
+            if header[0] != MAGIC or self.version not in MOST_RINGS or header[7] > MOST_INDEX[self.version]:
                 raise Wrong("the image isn't formatted")
             if not (1 <= self.subscribers <= 10_000 and 1 <= self.calls <= 120_000 and 1 <= self.rings <= MOST_RINGS[self.version]):
                 raise Wrong("a size is out of its limits")
             self.pools = list(pools_for(self.subscribers, self.calls))
-            if not (16 <= self.cells <= 4_096 and self.pages == -(-self.pools[-1].end // 64)):
+            self.trees = list(tree_pools(self.pools[-1].end, self.subscribers)) if header[7] else []
+            if not (16 <= self.cells <= 4_096 and self.pages == -(-(self.pools + self.trees)[-1].end // 64)):
                 raise Wrong("a size is out of its limits")
             words = read_words(file, self.rings * self.cells * 8)
             self.home = read_words(file, self.pages * 64)
@@ -139,7 +148,10 @@ class Image:
             number, writes = records[number + 1]
             for at, value in writes:
                 home[at] = value
-        return number, Tables(self.calls, *(rows_of(home, pool) for pool in self.pools))
+        tables = Tables(self.calls, *(rows_of(home, pool) for pool in self.pools))
+        if self.trees:
+            judge_index(home, *self.trees, tables)
+        return number, tables
 
 
 def chain(home, pool, link, seen):
@@ -169,6 +181,38 @@ def rows_of(home, pool):
     if len(seen) != pool.count or home[pool.header + 1] != len(rows):
         raise Wrong(f"the table at {pool.header} has lost a record, or counts others")
     return rows
+
+
+def keys_below(home, leaves, inner, link, most, met):
+    """The keys below a link of an index, from left to right. Bits are below `most`, and part the keys below them."""
+    pool = leaves if link < leaves.end else inner
+    if not (pool.first <= link < pool.first + pool.count * 4 and (link - pool.first) % 4 == 0) or link in met:
+        raise Wrong(f"{link} is no place of a record of the index, or met twice")
+    met.add(link)
+    if pool is leaves:
+        return [home[link]]
+    bit = home[link]
+    if bit >= most:
+        raise Wrong(f"the bit {bit} stands below the bit {most}")
+    sides = [keys_below(home, leaves, inner, home[link + 2 + side], bit, met) for side in (0, 1)]
+    if len({key >> bit + 1 for keys in sides for key in keys}) > 1 or any(key >> bit & 1 != side for side in (0, 1) for key in sides[side]):
+        raise Wrong(f"the bit {bit} doesn't part the keys below it")
+    return sides[0] + sides[1]
+
+
+def judge_index(home, leaves, inner, tables):
+    """The index has the key of each subscriber, and no other, and each of its records is in use or free."""
+    root, met = home[leaves.header + 2], set()
+    keys = keys_below(home, leaves, inner, root, 64, met) if root else []
+    if keys != sorted(words[4] << 32 | s_id for s_id, words in tables.subscribers.items()):
+        raise Wrong("the index has other keys than the subscribers")
+    used = len(met)
+    for pool, count in (leaves, len(keys)), (inner, used - len(keys)):
+        chain(home, pool, home[pool.header], met)
+        if home[pool.header + 1] != count:
+            raise Wrong(f"the pool at {pool.header} counts others")
+    if len(met) != leaves.count + inner.count:
+        raise Wrong("the index has lost a record")
 
 
 # ---- the tables ----
@@ -505,7 +549,7 @@ def numbers_told(name):
 
 def opening_of(command, before):
     """The number and the tables that the command starts from."""
-    if command[0] == "format":
+    if command[0] in ("format", "xformat"):
         return 0, population(int(command[1]), int(command[2]))
     if command[0] == "fresh":
         return 0, population(int(command[1]), 12 * int(command[1]))
@@ -514,7 +558,7 @@ def opening_of(command, before):
 
 def judged(is_ended, dumped, before, after, told_name, *command):
     told = numbers_told(told_name)
-    is_new = command[0] in ("format", "fresh")
+    is_new = command[0] in ("format", "xformat", "fresh")
     if not told and is_new:
         return "none"
     opening, tables = opening_of(command, before)

@@ -1,0 +1,54 @@
+#!/usr/bin/env bash
+# Times an index of locations, in memory, on 10,000 subscribers: `locate` of 100 of them beside `recover`, which opens the
+# image in the same way; and 80,000 updates of a location in one file, and as many more in a second one, on an image with an
+# index and on one without. Prints times, and how often the one is the other. Outside the gate.
+#
+#     bench/index.sh [--rounds N] [PROGRAM]
+#         PROGRAM a path, or crates/dude/out/dude; the median of five runs, or of N
+set -euo pipefail
+shopt -s inherit_errexit
+top=$(cd "$(dirname "$0")/.." && pwd)
+. "$top/bench/figures.sh"
+read_options "$@"
+program=$(readlink -f "${words[0]:-$top/crates/dude/out/dude}") subscribers=10000 count=80000
+room=$(mktemp -d -p /dev/shm)
+trap 'rm -rf "$room"' EXIT
+cd "$room"
+export GLIBC_TUNABLES=glibc.malloc.hugetlb=1
+
+"$program" plain.img format "$subscribers" 120000 4 256 > /dev/null 2>&1
+"$program" indexed.img xformat "$subscribers" 120000 4 256 > /dev/null 2>&1
+for file in 1 2; do
+  awk -v file="$file" -v count="$count" -v subscribers="$subscribers" 'BEGIN {
+    for (i = 0; i < count; i++) printf "UPDATE_LOCATION,%015d,%d\n", 1 + (2 * (i * 7919 % (subscribers / 2)) + file - 1), i * 104729 % 4294967296
+  }' > "$file.csv"
+done
+
+# Runs a command on a copy of an image, and notes its microseconds under a name.
+time_command() {
+  local name=$1 image=$2 before after
+  shift 2
+  cp "$image" copy.img
+  before=$(date +%s%N)
+  "$program" copy.img "$@" > out 2> told
+  after=$(date +%s%N)
+  echo $(((after - before) / 1000)) >> "$name"
+}
+
+for ((round = 0; round < rounds; round++)); do
+  for image in plain indexed; do
+    time_command "$image.recover" "$image.img" recover
+    time_command "$image.locate" "$image.img" locate 1000001 1000100 100
+    [ "$(wc -l < out)" -eq 101 ]
+    time_command "$image.one" "$image.img" run 1.csv
+    time_command "$image.two" "$image.img" run 1.csv 2.csv
+  done
+done
+for image in plain indexed; do
+  opening=$(median "$image.recover")
+  echo "$image image: opened in $((opening / 1000)) ms, locate of 100 takes $(($(median "$image.locate") - opening)) microseconds more;" \
+    "$count updates $((($(median "$image.one") - opening) / 1000)) ms in one file, twice as many $((($(median "$image.two") - opening) / 1000)) ms in two"
+done
+for files in one two; do
+  echo "with an index $files: $(ratio $(($(median "indexed.$files") - $(median indexed.recover))) $(($(median "plain.$files") - $(median plain.recover)))) times as long"
+done
