@@ -1,4 +1,4 @@
--- The words of `format`.
+-- The words of `format` and `xformat`.
 use Rattle.std.proofs.lemmas.Bool.{cases_Bool}
 use Rattle.std.proofs.Common.{inl, inr, ℕ, ◌≡◌, Bool, true, false, List, [], ◌∷◌, Option, Some, None, refl, arith, codes, drop}
 use Rattle.std.specs.Prelude.{◌==◌, ◌&&◌, if◌then◌else◌}
@@ -108,70 +108,70 @@ fault_of-format name a s b c d n f k na nb nd nf =
     ])
 
 -- four numbers, each where its test holds
-none-last : (s c n : Option ℕ) → format_with s c n None ≡ None
-none-last None c n = refl
-none-last (Some a) None n = refl
-none-last (Some a) (Some b) None = refl
-none-last (Some a) (Some b) (Some d) = refl
+none-last : (indexed : Bool) (s c n : Option ℕ) → format_with indexed s c n None ≡ None
+none-last indexed None c n = refl
+none-last indexed (Some a) None n = refl
+none-last indexed (Some a) (Some b) None = refl
+none-last indexed (Some a) (Some b) (Some d) = refl
 
-none-third : (s c k : Option ℕ) → format_with s c None k ≡ None
-none-third None c k = refl
-none-third (Some a) None k = refl
-none-third (Some a) (Some b) k = refl
+none-third : (indexed : Bool) (s c k : Option ℕ) → format_with indexed s c None k ≡ None
+none-third indexed None c k = refl
+none-third indexed (Some a) None k = refl
+none-third indexed (Some a) (Some b) k = refl
 
-none-second : (s n k : Option ℕ) → format_with s None n k ≡ None
-none-second None n k = refl
-none-second (Some a) n k = refl
+none-second : (indexed : Bool) (s n k : Option ℕ) → format_with indexed s None n k ≡ None
+none-second indexed None n k = refl
+none-second indexed (Some a) n k = refl
 
-all-pass : (p q r t : Bool) (s c n k : Option ℕ)
-    → format_with (if p then s else None) (if q then c else None) (if r then n else None) (if t then k else None)
-    ≡ (if p && q && r && t then format_with s c n k else None)
-all-pass true true true true s c n k = refl
-all-pass false q r t s c n k = refl
-all-pass true false r t s c n k = none-second s (if r then n else None) (if t then k else None)
-all-pass true true false t s c n k = none-third s c (if t then k else None)
-all-pass true true true false s c n k = none-last s c n
+all-pass : (indexed p q r t : Bool) (s c n k : Option ℕ)
+    → format_with indexed (if p then s else None) (if q then c else None) (if r then n else None) (if t then k else None)
+    ≡ (if p && q && r && t then format_with indexed s c n k else None)
+all-pass indexed true true true true s c n k = refl
+all-pass indexed false q r t s c n k = refl
+all-pass indexed true false r t s c n k = none-second indexed s (if r then n else None) (if t then k else None)
+all-pass indexed true true false t s c n k = none-third indexed s c (if t then k else None)
+all-pass indexed true true true false s c n k = none-last indexed s c n
 
-format_of-parsed : (s c n k : Text) → is_number s ≡ true → is_number c ≡ true → is_number n ≡ true → is_number k ≡ true
-    → format_of (s ∷ c ∷ n ∷ k ∷ []) ≡ (if format_passes s c n k then format_in (format_rows s c n k) else None)
-format_of-parsed s c n k one two three four =
+format_of-parsed : (indexed : Bool) (s c n k : Text) → is_number s ≡ true → is_number c ≡ true → is_number n ≡ true → is_number k ≡ true
+    → format_of indexed (s ∷ c ∷ n ∷ k ∷ []) ≡ (if format_passes s c n k then format_in indexed (format_rows s c n k) else None)
+format_of-parsed indexed s c n k one two three four =
     rw (word_number-parsed 1 10_000 s (omega arith) one, word_number-parsed 1 120_000 c (omega arith) two, word_number-parsed 1 MAX_RINGS n (omega arith) three, word_number-parsed 16 4_096 k (omega arith) four)
-    (all-pass (accepts false (vp.Unsigned 1 10_000) s) (accepts false (vp.Unsigned 1 120_000) c) (accepts false (vp.Unsigned 1 MAX_RINGS) n) (accepts false (vp.Unsigned 16 4_096) k)
+    (all-pass indexed (accepts false (vp.Unsigned 1 10_000) s) (accepts false (vp.Unsigned 1 120_000) c) (accepts false (vp.Unsigned 1 MAX_RINGS) n) (accepts false (vp.Unsigned 16 4_096) k)
     (parsed_number s) (parsed_number c) (parsed_number n) (parsed_number k))
 
-four-numbers : (name : Text) (a : ℕ) (s : Text) (b : ℕ) (c : Text) (d : ℕ) (n : Text) (f : ℕ) (k : Text)
+four-numbers : (indexed : Bool) (name : Text) (a : ℕ) (s : Text) (b : ℕ) (c : Text) (d : ℕ) (n : Text) (f : ℕ) (k : Text)
     → (a == 45) ≡ false → (b == 45) ≡ false → (d == 45) ≡ false → (f == 45) ≡ false
-    → format_of ((a ∷ s) ∷ (b ∷ c) ∷ (d ∷ n) ∷ (f ∷ k) ∷ [])
-    ≡ (if format_passes (a ∷ s) (b ∷ c) (d ∷ n) (f ∷ k) then format_in (format_rows (a ∷ s) (b ∷ c) (d ∷ n) (f ∷ k)) else None)
-    → Reads format_app (name ∷ (a ∷ s) ∷ (b ∷ c) ∷ (d ∷ n) ∷ (f ∷ k) ∷ []) (format_of ((a ∷ s) ∷ (b ∷ c) ∷ (d ∷ n) ∷ (f ∷ k) ∷ [])) format_in
-four-numbers name a s b c d n f k na nb nd nf means =
-    reads-by format_app (name ∷ (a ∷ s) ∷ (b ∷ c) ∷ (d ∷ n) ∷ (f ∷ k) ∷ []) _ format_in
+    → format_of indexed ((a ∷ s) ∷ (b ∷ c) ∷ (d ∷ n) ∷ (f ∷ k) ∷ [])
+    ≡ (if format_passes (a ∷ s) (b ∷ c) (d ∷ n) (f ∷ k) then format_in indexed (format_rows (a ∷ s) (b ∷ c) (d ∷ n) (f ∷ k)) else None)
+    → Reads format_app (name ∷ (a ∷ s) ∷ (b ∷ c) ∷ (d ∷ n) ∷ (f ∷ k) ∷ []) (format_of indexed ((a ∷ s) ∷ (b ∷ c) ∷ (d ∷ n) ∷ (f ∷ k) ∷ [])) (format_in indexed)
+four-numbers indexed name a s b c d n f k na nb nd nf means =
+    reads-by format_app (name ∷ (a ∷ s) ∷ (b ∷ c) ∷ (d ∷ n) ∷ (f ∷ k) ∷ []) _ (format_in indexed)
     (format_passes (a ∷ s) (b ∷ c) (d ∷ n) (f ∷ k)) (format_rows (a ∷ s) (b ∷ c) (d ∷ n) (f ∷ k))
     (fault_of-format name a s b c d n f k na nb nd nf) (matches_of-format name a s b c d n f k na nb nd nf) means
 
 -- words of the form
-abbrev FormatReads : Text → Text → Text → Text → Text → Type 0
-FormatReads name s c n k = Reads format_app (name ∷ s ∷ c ∷ n ∷ k ∷ []) (format_of (s ∷ c ∷ n ∷ k ∷ [])) format_in
+abbrev FormatReads : Bool → Text → Text → Text → Text → Text → Type 0
+FormatReads indexed name s c n k = Reads format_app (name ∷ s ∷ c ∷ n ∷ k ∷ []) (format_of indexed (s ∷ c ∷ n ∷ k ∷ [])) (format_in indexed)
 
-format-words : (name s c n k : Text) → is_number s ≡ true → is_number c ≡ true → is_number n ≡ true → is_number k ≡ true → FormatReads name s c n k
-format-words name s c n k fs fc fn fk =
+format-words : (indexed : Bool) (name s c n k : Text) → is_number s ≡ true → is_number c ≡ true → is_number n ≡ true → is_number k ≡ true → FormatReads indexed name s c n k
+format-words indexed name s c n k fs fc fn fk =
     let one = first-digit s fs in
     let two = first-digit c fc in
     let three = first-digit n fn in
     let four = first-digit k fk in
-    let means = format_of-parsed s c n k fs fc fn fk in
+    let means = format_of-parsed indexed s c n k fs fc fn fk in
     rw (one.2, two.2, three.2, four.2)
-    (four-numbers name one.0 one.1 two.0 two.1 three.0 three.1 four.0 four.1 one.3 two.3 three.3 four.3 (rw (one.2, two.2, three.2, four.2) at means))
+    (four-numbers indexed name one.0 one.1 two.0 two.1 three.0 three.1 four.0 four.1 one.3 two.3 three.3 four.3 (rw (one.2, two.2, three.2, four.2) at means))
 
-pub format-reads : (words : List Text) → has_format_form words ≡ true → Reads format_app words (format_of (drop 1 words)) format_in
-format-reads [] h = cc h
-format-reads (name ∷ []) h = cc h
-format-reads (name ∷ s ∷ []) h = cc h
-format-reads (name ∷ s ∷ c ∷ []) h = cc h
-format-reads (name ∷ s ∷ c ∷ n ∷ []) h = cc h
-format-reads (name ∷ s ∷ c ∷ n ∷ k ∷ x ∷ more) h = cc h
-format-reads (name ∷ s ∷ c ∷ n ∷ k ∷ []) h =
+pub format-reads : (indexed : Bool) (words : List Text) → has_format_form words ≡ true → Reads format_app words (format_of indexed (drop 1 words)) (format_in indexed)
+format-reads indexed [] h = cc h
+format-reads indexed (name ∷ []) h = cc h
+format-reads indexed (name ∷ s ∷ []) h = cc h
+format-reads indexed (name ∷ s ∷ c ∷ []) h = cc h
+format-reads indexed (name ∷ s ∷ c ∷ n ∷ []) h = cc h
+format-reads indexed (name ∷ s ∷ c ∷ n ∷ k ∷ l ∷ more) h = cc h
+format-reads indexed (name ∷ s ∷ c ∷ n ∷ k ∷ []) h =
     let last = both _ _ h in
     let third = both _ _ last.0 in
     let second = both _ _ third.0 in
-    format-words name s c n k second.0 second.1 third.1 last.1
+    format-words indexed name s c n k second.0 second.1 third.1 last.1

@@ -12,6 +12,7 @@ pub mod NumberWords
 pub mod Readings
 pub mod FormatWords
 pub mod DriveWords
+pub mod LocateWords
 pub mod FreshWords
 pub mod RunWalk
 pub mod RunWords

@@ -11,17 +11,18 @@ use Rattle.dude_base.specs.declared.limits.TheConstants.{MAX_RINGS}
 use Rattle.tatp_text.specs.Number.{is_decimal}
 use Rattle.command_edges.specs.declared.command.Command.{Command}
 use Rattle.command_edges.specs.declared.command.Command.TheVariants as command
-use Rattle.command_edges.specs.Command.{Meaning, FreshRun, FormatImage, RunFiles, StreamFiles, RunArguments, RecoverImage, DumpTables, DriveLoad, AuditRun, ShipFiles, FollowFiles, IsBetween, IsInLimits, alone, are_file_names, audit_of, drive_of, drive_with, follow_of, format_of, format_with, fresh_of, is_file_name, meaning_of_command, optional_number, run_arguments, run_of, run_with, run_words, ship_of, stream_of, word_number}
+use Rattle.command_edges.specs.Command.{Meaning, FreshRun, FormatImage, RunFiles, StreamFiles, RunArguments, RecoverImage, DumpTables, LocateRange, DriveLoad, AuditRun, ShipFiles, FollowFiles, IsBetween, IsInLimits, alone, are_file_names, audit_of, drive_of, drive_with, follow_of, format_of, format_with, fresh_of, is_file_name, locate_of, locate_with, meaning_of_command, optional_number, run_arguments, run_of, run_with, run_words, ship_of, stream_of, word_number}
 
 -- `IsInLimits`, of a meaning
 abbrev pub IsLawful : Meaning → Type 0
 IsLawful (FreshRun subscribers file) = IsBetween 1 10_000 subscribers
-IsLawful (FormatImage subscribers calls rings cells) =
+IsLawful (FormatImage indexed subscribers calls rings cells) =
     IsBetween 1 10_000 subscribers × IsBetween 1 120_000 calls × IsBetween 1 MAX_RINGS rings × IsBetween 16 4_096 cells
 IsLawful (RunFiles frames locks files) = IfSome frames (IsBetween 1 32_768) × IfSome locks (IsBetween 1 65_536) × (0 < length files)
 IsLawful (StreamFiles frames locks files) = IfSome frames (IsBetween 1 32_768) × IfSome locks (IsBetween 1 65_536) × (0 < length files)
 IsLawful RecoverImage = ⊤
 IsLawful DumpTables = ⊤
+IsLawful (LocateRange low high limit) = (low < 2 ^ 32) × (high < 2 ^ 32) × IsBetween 1 10_000 limit
 IsLawful (DriveLoad seed count files) = (seed < 2 ^ 64) × (count ≤ 99_999) × IsBetween 1 MAX_RINGS files
 IsLawful (AuditRun printed files) = 0 < length files
 IsLawful (ShipFiles files) = 0 < length files
@@ -62,23 +63,23 @@ fresh-lawful (s ∷ file ∷ []) =
     (fresh-mapped (word_number 1 10_000 s) file (word-between 1 10_000 s)) tt
 fresh-lawful (s ∷ file ∷ x ∷ more) = tt
 
-format-with : (s c n k : Option ℕ) → IfSome s (IsBetween 1 10_000) → IfSome c (IsBetween 1 120_000) → IfSome n (IsBetween 1 MAX_RINGS) → IfSome k (IsBetween 16 4_096)
-    → AreLawful (format_with s c n k)
-format-with (Some s) (Some c) (Some n) (Some k) p q r t = (p, q, r, t)
-format-with None c n k p q r t = tt
-format-with (Some s) None n k p q r t = tt
-format-with (Some s) (Some c) None k p q r t = tt
-format-with (Some s) (Some c) (Some n) None p q r t = tt
+format-with : (indexed : Bool) (s c n k : Option ℕ) → IfSome s (IsBetween 1 10_000) → IfSome c (IsBetween 1 120_000) → IfSome n (IsBetween 1 MAX_RINGS) → IfSome k (IsBetween 16 4_096)
+    → AreLawful (format_with indexed s c n k)
+format-with indexed (Some s) (Some c) (Some n) (Some k) p q r t = (p, q, r, t)
+format-with indexed None c n k p q r t = tt
+format-with indexed (Some s) None n k p q r t = tt
+format-with indexed (Some s) (Some c) None k p q r t = tt
+format-with indexed (Some s) (Some c) (Some n) None p q r t = tt
 
-pub format-lawful : (words : List (List ℕ)) → AreLawful (format_of words)
-format-lawful [] = tt
-format-lawful (s ∷ []) = tt
-format-lawful (s ∷ c ∷ []) = tt
-format-lawful (s ∷ c ∷ n ∷ []) = tt
-format-lawful (s ∷ c ∷ n ∷ k ∷ []) =
-    format-with (word_number 1 10_000 s) (word_number 1 120_000 c) (word_number 1 MAX_RINGS n) (word_number 16 4_096 k)
+pub format-lawful : (indexed : Bool) (words : List (List ℕ)) → AreLawful (format_of indexed words)
+format-lawful indexed [] = tt
+format-lawful indexed (s ∷ []) = tt
+format-lawful indexed (s ∷ c ∷ []) = tt
+format-lawful indexed (s ∷ c ∷ n ∷ []) = tt
+format-lawful indexed (s ∷ c ∷ n ∷ k ∷ []) =
+    format-with indexed (word_number 1 10_000 s) (word_number 1 120_000 c) (word_number 1 MAX_RINGS n) (word_number 16 4_096 k)
     (word-between 1 10_000 s) (word-between 1 120_000 c) (word-between 1 MAX_RINGS n) (word-between 16 4_096 k)
-format-lawful (s ∷ c ∷ n ∷ k ∷ x ∷ more) = tt
+format-lawful indexed (s ∷ c ∷ n ∷ k ∷ l ∷ more) = tt
 
 optional-mapped : (low high : ℕ) (number : Option ℕ) → IfSome number (IsBetween low high)
     → IfSome (option_map Some number) (λ given. IfSome given (IsBetween low high))
@@ -141,6 +142,25 @@ drive-lawful (s ∷ c ∷ n ∷ []) =
     (word-between 0 (2 ^ 64 - 1) s) (word-between 0 99_999 c) (word-between 1 MAX_RINGS n)
 drive-lawful (s ∷ c ∷ n ∷ x ∷ more) = tt
 
+locate-with : (l h k : Option ℕ) → IfSome l (IsBetween 0 4_294_967_295) → IfSome h (IsBetween 0 4_294_967_295) → IfSome k (IsBetween 1 10_000)
+    → AreLawful (locate_with l h k)
+locate-with (Some l) (Some h) (Some k) p q r =
+    let low = p.1 in
+    let high = q.1 in
+    (omega arith, omega arith, r)
+locate-with None h k p q r = tt
+locate-with (Some l) None k p q r = tt
+locate-with (Some l) (Some h) None p q r = tt
+
+pub locate-lawful : (words : List (List ℕ)) → AreLawful (locate_of words)
+locate-lawful [] = tt
+locate-lawful (l ∷ []) = tt
+locate-lawful (l ∷ h ∷ []) = tt
+locate-lawful (l ∷ h ∷ k ∷ []) =
+    locate-with (word_number 0 4_294_967_295 l) (word_number 0 4_294_967_295 h) (word_number 1 10_000 k)
+    (word-between 0 4_294_967_295 l) (word-between 0 4_294_967_295 h) (word-between 1 10_000 k)
+locate-lawful (l ∷ h ∷ k ∷ x ∷ more) = tt
+
 none-lawful : (b : Bool) (x : Option Meaning) → AreLawful (if b && false then x else None)
 none-lawful true x = tt
 none-lawful false x = tt
@@ -165,7 +185,7 @@ alone-lawful meaning (word ∷ more) h = tt
 
 in-limits : (c : Command) → IsLawful (meaning_of_command c) → IsInLimits c
 in-limits (command.Fresh s file) h = h
-in-limits (command.Format s c n k) h = h
+in-limits (command.Format indexed s c n k) h = h
 in-limits (command.Run frames locks files) h =
     let same = length-map files.now rc_str_bytes in
     let some = h.2 in
@@ -176,6 +196,7 @@ in-limits (command.Stream frames locks files) h =
     (h.0, h.1, omega arith)
 in-limits command.Recover h = tt
 in-limits command.Dump h = tt
+in-limits (command.Locate low high limit) h = h
 in-limits (command.Drive s c n) h = h
 in-limits (command.Audit printed files) h =
     let same = length-map files.now rc_str_bytes in
@@ -198,4 +219,4 @@ limits-if-ok (Ok c) m h e = limits-in c m h e
 limits-if-ok (Err e) m h x = tt
 
 -- the numbers of each command are in their limits
-pub ruleset lawful = (limits-if-ok, limits-in, fresh-lawful, format-lawful, run-lawful, stream-lawful, drive-lawful, audit-lawful, ship-lawful, follow-lawful, alone-lawful)
+pub ruleset lawful = (limits-if-ok, limits-in, fresh-lawful, format-lawful, run-lawful, stream-lawful, locate-lawful, drive-lawful, audit-lawful, ship-lawful, follow-lawful, alone-lawful)

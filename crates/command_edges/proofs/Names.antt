@@ -9,10 +9,12 @@ use Rattle.command_edges.specs.Command.{Meaning, meaning_of}
 pub record IsOther (name : List ℕ) : Type 0 where
   pub fresh : name ≡ codes "fresh" → ⊥
   pub format : name ≡ codes "format" → ⊥
+  pub xformat : name ≡ codes "xformat" → ⊥
   pub run : name ≡ codes "run" → ⊥
   pub stream : name ≡ codes "stream" → ⊥
   pub recover : name ≡ codes "recover" → ⊥
   pub dump : name ≡ codes "dump" → ⊥
+  pub locate : name ≡ codes "locate" → ⊥
   pub drive : name ≡ codes "drive" → ⊥
   pub audit : name ≡ codes "audit" → ⊥
   pub ship : name ≡ codes "ship" → ⊥
@@ -26,10 +28,12 @@ meaning_of-other name words other =
     rw (
       different name (codes "fresh") other.fresh,
       different name (codes "format") other.format,
+      different name (codes "xformat") other.xformat,
       different name (codes "run") other.run,
       different name (codes "stream") other.stream,
       different name (codes "recover") other.recover,
       different name (codes "dump") other.dump,
+      different name (codes "locate") other.locate,
       different name (codes "drive") other.drive,
       different name (codes "audit") other.audit,
       different name (codes "ship") other.ship,

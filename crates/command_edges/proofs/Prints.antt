@@ -1,5 +1,5 @@
 -- Printing in pieces: what was taken and what is held back are the lines so far.
-use Rattle.std.proofs.Common.{◌≡◌, ℕ, add-one, ◌+◌, ◌<◌, ◌≤◌, List, [], ◌∷◌, ◌++◌, length, get_or, take, drop, refl, sym, ◌∙◌, ap, arith, append_assoc, append-nil, inl, inr, subst, Result, Ok, Err}
+use Rattle.std.proofs.Common.{◌≡◌, ℕ, add-one, ◌+◌, ◌<◌, ◌≤◌, List, [], ◌∷◌, ◌++◌, length, get_or, take, drop, refl, sym, ◌∙◌, ap, arith, append_assoc, append-nil, codes, inl, inr, subst, Result, Ok, Err}
 use Rattle.std.specs.Prelude.{IfErr, IsErrAnd, decimal}
 use Rattle.std.proofs.lemmas.List.{take-append-drop, flat_map_more, take_more, take_all, length-drop, length-append}
 use Rattle.std.proofs.lemmas.Grind.{flat_map-append}
@@ -55,6 +55,10 @@ some_behind (x ∷ xs) ys some = omega arith
 
 pub line_some : (text : List ℕ) (done : Done) → 1 ≤ length (text ++ output_line done)
 line_some text done = some_behind text (output_line done) (some_behind (decimal done.number ++ 32 ∷ [] ++ reply_text done.reply) (10 ∷ []) (omega arith))
+
+-- nor is an output that ends with the last line
+pub ended_some : (lines : List ℕ) (last : ℕ) → 1 ≤ length (lines ++ last_line last)
+ended_some lines last = some_behind lines (last_line last) (some_behind (codes "last " ++ decimal last) (10 ∷ []) (omega arith))
 
 -- What was taken and what is held back are the lines of the first so many requests.
 pub record Printed (done : List Done) (i : ℕ) (held : List ℕ) (s t : SinkSight) : Type 0 where

@@ -11,7 +11,7 @@ use Rattle.clap.specs.Words.{fault_of, found_of, matches_of, rows_of}
 use Rattle.clap.specs.declared.builder.value_parser.ValueParser.TheVariants as vp
 use Rattle.clap.specs.declared.parser.matches.ArgMatches.{ArgMatches}
 use Rattle.tatp_text.specs.Number.{is_decimal}
-use Rattle.command_edges.specs.Command.{Meaning, FreshRun, RunArguments, RunWords, are_file_names, drive_with, format_with, is_file_name}
+use Rattle.command_edges.specs.Command.{Meaning, FreshRun, RunArguments, RunWords, are_file_names, drive_with, format_with, is_file_name, locate_with}
 
 -- ---- the arguments
 
@@ -40,7 +40,7 @@ files_rule = record (new_rule (codes "files")) {
 abbrev pub fresh_app : App
 fresh_app = with_rule (with_rule (new_app (codes "fresh")) (number_rule (codes "subscribers") 1 10_000)) file_rule
 
--- `format`: how many subscribers, call records, rings, and cells of a ring
+-- `format` and `xformat`: how many subscribers, call records, rings, and cells of a ring
 abbrev pub format_app : App
 format_app =
     with_rule (with_rule (with_rule (with_rule (new_app (codes "format"))
@@ -62,6 +62,14 @@ drive_app =
     (number_rule (codes "count") 0 99_999))
     (number_rule (codes "files") 1 MAX_RINGS)
 
+-- `locate`: the ends of a range, and how many lines at most
+abbrev pub locate_app : App
+locate_app =
+    with_rule (with_rule (with_rule (new_app (codes "locate"))
+    (number_rule (codes "low") 0 4_294_967_295))
+    (number_rule (codes "high") 0 4_294_967_295))
+    (number_rule (codes "limit") 1 10_000)
+
 -- ---- the form of the words that `clap` is given: the program's name, then these
 
 -- a number's word
@@ -78,7 +86,7 @@ abbrev pub has_fresh_form : List Text → Bool
 has_fresh_form (name ∷ subscribers ∷ file ∷ []) = is_number subscribers && is_file_name file
 has_fresh_form _ = false
 
--- the words of `format`: four numbers
+-- the words of `format` and `xformat`: four numbers
 abbrev pub has_format_form : List Text → Bool
 has_format_form (name ∷ subscribers ∷ calls ∷ rings ∷ cells ∷ []) =
     is_number subscribers && is_number calls && is_number rings && is_number cells
@@ -88,6 +96,11 @@ has_format_form _ = false
 abbrev pub has_drive_form : List Text → Bool
 has_drive_form (name ∷ seed ∷ count ∷ files ∷ []) = is_number seed && is_number count && is_number files
 has_drive_form _ = false
+
+-- the words of `locate`: three numbers
+abbrev pub has_locate_form : List Text → Bool
+has_locate_form (name ∷ low ∷ high ∷ limit ∷ []) = is_number low && is_number high && is_number limit
+has_locate_form _ = false
 
 -- the words of `run` and `stream`: a number behind each option that is there, and one or more file names
 abbrev pub has_run_form : RunWords → Bool
@@ -124,10 +137,10 @@ fresh_with _ _ = None
 abbrev pub fresh_in : List Row → Option Meaning
 fresh_in rows = fresh_with (number_of (codes "subscribers") rows) (first_of (codes "file") rows)
 
--- what the matches of `format` mean
-abbrev pub format_in : List Row → Option Meaning
-format_in rows =
-    format_with (number_of (codes "subscribers") rows) (number_of (codes "calls") rows) (number_of (codes "rings") rows) (number_of (codes "cells") rows)
+-- what the matches of `format` and `xformat` mean
+abbrev pub format_in : Bool → List Row → Option Meaning
+format_in indexed rows =
+    format_with indexed (number_of (codes "subscribers") rows) (number_of (codes "calls") rows) (number_of (codes "rings") rows) (number_of (codes "cells") rows)
 
 -- what the matches of `run` and `stream` give, with these files
 abbrev pub run_in : List Text → List Row → Option RunArguments
@@ -136,3 +149,7 @@ run_in files rows = Some (record { frames = number_of (codes "frames") rows; loc
 -- what the matches of `drive` mean
 abbrev pub drive_in : List Row → Option Meaning
 drive_in rows = drive_with (number_of (codes "seed") rows) (number_of (codes "count") rows) (number_of (codes "files") rows)
+
+-- what the matches of `locate` mean
+abbrev pub locate_in : List Row → Option Meaning
+locate_in rows = locate_with (number_of (codes "low") rows) (number_of (codes "high") rows) (number_of (codes "limit") rows)

@@ -1,5 +1,5 @@
 -- What command words mean.
-use Rattle.std.specs.Prelude.{ℕ, ◌≡◌, ◌<◌, ◌≤◌, ◌^◌, ◌-◌, ⊤, Bool, false, not, ◌==◌, ◌&&◌, Option, Some, None, IfSome, if◌then◌else◌, List, [], ◌∷◌, length, drop, map, codes}
+use Rattle.std.specs.Prelude.{ℕ, ◌≡◌, ◌<◌, ◌≤◌, ◌^◌, ◌-◌, ⊤, Bool, true, false, not, ◌==◌, ◌&&◌, Option, Some, None, IfSome, if◌then◌else◌, List, [], ◌∷◌, length, drop, map, codes}
 use Rattle.std.specs.List.{list_all}
 use Rattle.std.specs.Option.{option_map}
 use Rattle.std.specs.Rc.{rc_str_bytes}
@@ -7,14 +7,14 @@ use Rattle.std.specs.Str.{bytes_eq}
 use Rattle.dude_base.specs.declared.limits.TheConstants.{MAX_RINGS}
 use Rattle.tatp_text.specs.Number.{number_in}
 use Rattle.command_edges.specs.declared.command.Command.{Command}
-use Rattle.command_edges.specs.declared.command.Command.TheVariants.{Fresh, Format, Run, Stream, Recover, Dump, Drive, Audit, Ship, Follow}
+use Rattle.command_edges.specs.declared.command.Command.TheVariants.{Fresh, Format, Run, Stream, Recover, Dump, Locate, Drive, Audit, Ship, Follow}
 
 -- the command that words mean, with its numbers and the names of its files
 pub data Meaning : Type 0 where
   -- format a medium for so many subscribers, and run this file
   FreshRun : (subscribers : ℕ) (file : List ℕ) → Meaning
-  -- format a medium with these sizes
-  FormatImage : (subscribers calls rings cells : ℕ) → Meaning
+  -- format a medium with these sizes, and with an index of the locations or without
+  FormatImage : (indexed : Bool) (subscribers calls rings cells : ℕ) → Meaning
   -- run these files, over so many frames and locks where they are said
   RunFiles : (frames locks : Option ℕ) (files : List (List ℕ)) → Meaning
   -- do the same, and print each reply while others are still to come
@@ -23,6 +23,8 @@ pub data Meaning : Type 0 where
   RecoverImage : Meaning
   -- print the tables of the image
   DumpTables : Meaning
+  -- print the subscribers whose locations are from the low to the high one, at most so many
+  LocateRange : (low high limit : ℕ) → Meaning
   -- run so many requests of each of so many files, made from this seed
   DriveLoad : (seed count files : ℕ) → Meaning
   -- say whether this file is the printed run of these files
@@ -57,15 +59,15 @@ fresh_of (subscribers ∷ file ∷ []) =
 fresh_of _ = None
 
 -- an image's sizes, where each is there
-abbrev pub format_with : (subscribers calls rings cells : Option ℕ) → Option Meaning
-format_with (Some subscribers) (Some calls) (Some rings) (Some cells) = Some (FormatImage subscribers calls rings cells)
-format_with _ _ _ _ = None
+abbrev pub format_with : (indexed : Bool) (subscribers calls rings cells : Option ℕ) → Option Meaning
+format_with indexed (Some subscribers) (Some calls) (Some rings) (Some cells) = Some (FormatImage indexed subscribers calls rings cells)
+format_with indexed _ _ _ _ = None
 
--- `format S C N CELLS`
-abbrev pub format_of : List (List ℕ) → Option Meaning
-format_of (subscribers ∷ calls ∷ rings ∷ cells ∷ []) =
-    format_with (word_number 1 10_000 subscribers) (word_number 1 120_000 calls) (word_number 1 MAX_RINGS rings) (word_number 16 4_096 cells)
-format_of _ = None
+-- `format S C N CELLS`, and `xformat S C N CELLS` where the image is indexed
+abbrev pub format_of : Bool → List (List ℕ) → Option Meaning
+format_of indexed (subscribers ∷ calls ∷ rings ∷ cells ∷ []) =
+    format_with indexed (word_number 1 10_000 subscribers) (word_number 1 120_000 calls) (word_number 1 MAX_RINGS rings) (word_number 16 4_096 cells)
+format_of indexed _ = None
 
 -- what stands behind `run` and `stream`: the words of the options' numbers, where they are there, and the files
 pub record RunWords : Type 0 where
@@ -131,6 +133,17 @@ abbrev pub alone : Meaning → List (List ℕ) → Option Meaning
 alone meaning [] = Some meaning
 alone meaning (word ∷ more) = None
 
+-- a range and a limit, where each number is there
+abbrev pub locate_with : (low high limit : Option ℕ) → Option Meaning
+locate_with (Some low) (Some high) (Some limit) = Some (LocateRange low high limit)
+locate_with _ _ _ = None
+
+-- `locate LOW HIGH LIMIT`
+abbrev pub locate_of : List (List ℕ) → Option Meaning
+locate_of (low ∷ high ∷ limit ∷ []) =
+    locate_with (word_number 0 4_294_967_295 low) (word_number 0 4_294_967_295 high) (word_number 1 10_000 limit)
+locate_of _ = None
+
 -- a load's numbers, where each is there
 abbrev pub drive_with : (seed count files : Option ℕ) → Option Meaning
 drive_with (Some seed) (Some count) (Some files) = Some (DriveLoad seed count files)
@@ -162,25 +175,28 @@ abbrev pub meaning_of : List (List ℕ) → Option Meaning
 meaning_of [] = None
 meaning_of (name ∷ words) =
     if bytes_eq name (codes "fresh") then fresh_of words
-    else (if bytes_eq name (codes "format") then format_of words
+    else (if bytes_eq name (codes "format") then format_of false words
+    else (if bytes_eq name (codes "xformat") then format_of true words
     else (if bytes_eq name (codes "run") then run_of words
     else (if bytes_eq name (codes "stream") then stream_of words
     else (if bytes_eq name (codes "recover") then alone RecoverImage words
     else (if bytes_eq name (codes "dump") then alone DumpTables words
+    else (if bytes_eq name (codes "locate") then locate_of words
     else (if bytes_eq name (codes "drive") then drive_of words
     else (if bytes_eq name (codes "audit") then audit_of words
     else (if bytes_eq name (codes "ship") then ship_of words
     else (if bytes_eq name (codes "follow") then follow_of words
-    else None)))))))))
+    else None)))))))))))
 
 -- what a command of the code says
 abbrev pub meaning_of_command : Command → Meaning
 meaning_of_command (Fresh subscribers file) = FreshRun subscribers file.now
-meaning_of_command (Format subscribers calls rings cells) = FormatImage subscribers calls rings cells
+meaning_of_command (Format indexed subscribers calls rings cells) = FormatImage indexed subscribers calls rings cells
 meaning_of_command (Run frames locks files) = RunFiles frames locks (map rc_str_bytes files.now)
 meaning_of_command (Stream frames locks files) = StreamFiles frames locks (map rc_str_bytes files.now)
 meaning_of_command Recover = RecoverImage
 meaning_of_command Dump = DumpTables
+meaning_of_command (Locate low high limit) = LocateRange low high limit
 meaning_of_command (Drive seed count files) = DriveLoad seed count files
 meaning_of_command (Audit printed files) = AuditRun printed.now (map rc_str_bytes files.now)
 meaning_of_command (Ship files) = ShipFiles (map rc_str_bytes files.now)
@@ -205,7 +221,7 @@ IsBetween least greatest number = (least ≤ number) × (number ≤ greatest)
 -- the numbers of a command are in their limits, and `run`, `stream`, `audit`, `ship` and `follow` have a file
 abbrev pub IsInLimits : Command → Type 0
 IsInLimits (Fresh subscribers file) = IsBetween 1 10_000 subscribers
-IsInLimits (Format subscribers calls rings cells) =
+IsInLimits (Format indexed subscribers calls rings cells) =
     IsBetween 1 10_000 subscribers × IsBetween 1 120_000 calls × IsBetween 1 MAX_RINGS rings × IsBetween 16 4_096 cells
 IsInLimits (Run frames locks files) =
     IfSome frames (IsBetween 1 32_768) × IfSome locks (IsBetween 1 65_536) × (0 < length files.now)
@@ -213,6 +229,7 @@ IsInLimits (Stream frames locks files) =
     IfSome frames (IsBetween 1 32_768) × IfSome locks (IsBetween 1 65_536) × (0 < length files.now)
 IsInLimits Recover = ⊤
 IsInLimits Dump = ⊤
+IsInLimits (Locate low high limit) = (low < 2 ^ 32) × (high < 2 ^ 32) × IsBetween 1 10_000 limit
 IsInLimits (Drive seed count files) = (seed < 2 ^ 64) × (count ≤ 99_999) × IsBetween 1 MAX_RINGS files
 IsInLimits (Audit printed files) = 0 < length files.now
 IsInLimits (Ship files) = 0 < length files.now

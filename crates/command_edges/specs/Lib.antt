@@ -2,6 +2,7 @@ pub mod CommandFile
 pub mod Fault
 pub mod Files
 pub mod PrintedRun
+pub mod Located
 pub mod Printing
 pub mod Reads
 pub mod Texts

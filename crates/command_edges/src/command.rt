@@ -9,6 +9,7 @@ use crate::drive::drive_of;
 use crate::follow::follow_of;
 use crate::format::format_of;
 use crate::fresh::fresh_of;
+use crate::locate::locate_of;
 use crate::run::{run_of, stream_of};
 use crate::ship::ship_of;
 use std::alloc::{AllocError, Global};
@@ -24,8 +25,9 @@ pub enum Command<'a> {
         file: &'a str,
     },
     /// Format the medium for so many subscribers, call forwardings, rings and
-    /// cells of a ring.
+    /// cells of a ring, with an index of the locations where `indexed`.
     Format {
+        indexed: bool,
         subscribers: u64,
         calls: u64,
         rings: u64,
@@ -48,6 +50,14 @@ pub enum Command<'a> {
     Recover,
     /// Print the tables of the image.
     Dump,
+    /// Print the subscribers whose locations are in the range, at most so many,
+    /// from 1 to 10,000. Each end of the range is below 2^32, and `low` may be
+    /// over `high`.
+    Locate {
+        low: u64,
+        high: u64,
+        limit: u64,
+    },
     /// Run a load that is made from a seed: so many requests of each file.
     Drive {
         seed: u64,
@@ -83,11 +93,13 @@ pub fn command_of(alloc: Global, words: &[RcStr]) -> Result<Option<Command<'_>>,
     };
     match name.as_str() {
         "fresh" => fresh_of(alloc, words),
-        "format" => format_of(alloc, words),
+        "format" => format_of(alloc, words, false),
+        "xformat" => format_of(alloc, words, true),
         "run" => run_of(alloc, words),
         "stream" => stream_of(alloc, words),
         "recover" => Ok(alone(words, Command::Recover)),
         "dump" => Ok(alone(words, Command::Dump)),
+        "locate" => locate_of(alloc, words),
         "drive" => drive_of(alloc, words),
         "audit" => Ok(audit_of(words)),
         "ship" => Ok(ship_of(words)),

@@ -28,7 +28,7 @@ fn print_line<K: Sink>(done: &Done, text: &mut Vec<u8>, out: &mut K) -> Result<(
 }
 
 /// Adds the last line, and hands the sink all.
-fn print_last<K: Sink>(last: u64, text: &mut Vec<u8>, out: &mut K) -> Result<(), Fault>
+pub fn print_last<K: Sink>(last: u64, text: &mut Vec<u8>, out: &mut K) -> Result<(), Fault>
     ensures ok { OnOk result (Prints K.sight (with_last text.old last) out.old out.new) }
     ensures err { IfErr result (StopsWithin K.sight (with_last text.old last) out.old out.new) }
 {

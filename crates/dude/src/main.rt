@@ -36,6 +36,9 @@ format S C N CELLS
   Overwrites IMAGE with a new image for S subscribers, with room for C call
   forwardings (1 to 120000), and with N log rings (1 to 16) of so many CELLS
   (16 to 4096). The new tables have up to 12 call forwardings a subscriber.
+xformat S C N CELLS
+  Does what format does, and the image has an index of the subscribers'
+  locations, which each update keeps.
 run [--frames F] [--locks L] FILE..
   Opens IMAGE, carries out the requests of the files, each file on a thread of
   its own and at most one for each ring, and writes what they change. F pages
@@ -51,6 +54,11 @@ recover
 dump
   Opens IMAGE, which writes it as recover does, and prints its tables and its
   last number.
+locate LOW HIGH LIMIT
+  Opens IMAGE, which writes it as recover does, and prints the number and the
+  location of each subscriber whose location is from LOW to HIGH (0 to
+  4294967295), by location and then by number, at most LIMIT (1 to 10000), and
+  its last number. It asks the index, or reads the tables where there is none.
 drive SEED COUNT FILES
   Opens IMAGE, carries out COUNT random requests (0 to 99999) of each of so many
   FILES (1 to 16), each on a thread of its own, writes what they change, and

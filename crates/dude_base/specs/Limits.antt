@@ -19,7 +19,7 @@ pub record LimitsAre : Type 0 where
   pub max_rings_one : MAX_RINGS_ONE ≡ 8
   pub min_cells : MIN_CELLS ≡ 16
   pub max_cells : MAX_CELLS ≡ 4_096
-  pub max_index : MAX_INDEX ≡ 0
+  pub max_index : MAX_INDEX ≡ 1
   pub min_frames : MIN_FRAMES ≡ 32
   pub max_locks : MAX_LOCKS ≡ 65_536
   pub default_locks : DEFAULT_LOCKS ≡ 1_024

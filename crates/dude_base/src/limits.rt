@@ -44,8 +44,8 @@ pub const MIN_CELLS: u64 = 16;
 /// The most cells of a log ring.
 pub const MAX_CELLS: u64 = 4_096;
 
-/// The most ordered indexes of an image. It is 0: no image is made with one or opened with one yet.
-pub const MAX_INDEX: u64 = 0;
+/// The most ordered indexes of an image.
+pub const MAX_INDEX: u64 = 1;
 
 /// The fewest frames, where there are as many pages; with fewer pages each has a frame.
 pub const MIN_FRAMES: u64 = 32;

@@ -37,8 +37,7 @@ impl Sizes {
         Sizes::with_index(0, subscribers, calls, rings, cells)
     }
 
-    /// The sizes with an index, with the pages that these tables and the index need. They are refused
-    /// while `MAX_INDEX` is 0.
+    /// The sizes with an index, with the pages that these tables and the index need.
     pub fn indexed(subscribers: u64, calls: u64, rings: u64, cells: u64) -> Result<Sizes, SizeFault>
         ensures ok { IfOk result (AreTheSizes (indexed_sizes subscribers calls rings cells)) }
         ensures fault { IfErr result (IsFaultOf (indexed_sizes subscribers calls rings cells)) }

@@ -15,7 +15,7 @@ use Rattle.run_order.proofs.Performed.{performs_start}
 use Rattle.dude_io.specs.Files.{FilesSight}
 use Rattle.back_store.specs.Back.{idle}
 use Rattle.dude_recover.specs.Causes.{FitsImage}
-use Rattle.command_edges.specs.Command.{Meaning, Meaning.FreshRun, Meaning.FormatImage, Meaning.RunFiles, Meaning.StreamFiles, Meaning.RecoverImage, Meaning.DumpTables, Meaning.DriveLoad, Meaning.AuditRun, Meaning.ShipFiles, Meaning.FollowFiles}
+use Rattle.command_edges.specs.Command.{Meaning, Meaning.FreshRun, Meaning.FormatImage, Meaning.RunFiles, Meaning.StreamFiles, Meaning.RecoverImage, Meaning.DumpTables, Meaning.LocateRange, Meaning.DriveLoad, Meaning.AuditRun, Meaning.ShipFiles, Meaning.FollowFiles}
 use Rattle.dude_engine.specs.Opening.{Opening}
 use Rattle.dude_engine.specs.Plain.{LosesFew, most_lost_by}
 use Rattle.command_edges.specs.declared.fault.Fault.{Fault}
@@ -79,11 +79,12 @@ known_behind meaning opening s m same known = tt
 -- a command that carries requests out makes calls behind its opening
 runs_on : (meaning : Meaning) → runs_requests meaning ≡ true → ends_opened meaning ≡ false
 runs_on (FreshRun subscribers file) runs = refl
-runs_on (FormatImage s c n k) runs = cc runs
+runs_on (FormatImage x s c n k) runs = cc runs
 runs_on (RunFiles frames locks files) runs = refl
 runs_on (StreamFiles frames locks files) runs = refl
 runs_on RecoverImage runs = cc runs
 runs_on DumpTables runs = cc runs
+runs_on (LocateRange low high limit) runs = cc runs
 runs_on (DriveLoad seed count number) runs = refl
 runs_on (AuditRun printed files) runs = cc runs
 runs_on (ShipFiles files) runs = refl

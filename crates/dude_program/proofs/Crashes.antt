@@ -20,7 +20,7 @@ use Rattle.run_order.specs.Runs.{SyncsFollow}
 use Rattle.run_order.specs.Printed.{NumbersOfOneThread}
 use Rattle.run_threads.specs.Answers.{AreSyncsDurable}
 use Rattle.image_recovery.specs.Recovered.{RecoversTo}
-use Rattle.command_edges.specs.Command.{Meaning, Meaning.FreshRun, Meaning.FormatImage, Meaning.RunFiles, Meaning.StreamFiles, Meaning.RecoverImage, Meaning.DumpTables, Meaning.DriveLoad, Meaning.AuditRun, Meaning.ShipFiles, Meaning.FollowFiles}
+use Rattle.command_edges.specs.Command.{Meaning, Meaning.FreshRun, Meaning.FormatImage, Meaning.RunFiles, Meaning.StreamFiles, Meaning.RecoverImage, Meaning.DumpTables, Meaning.LocateRange, Meaning.DriveLoad, Meaning.AuditRun, Meaning.ShipFiles, Meaning.FollowFiles}
 use Rattle.dude_engine.specs.Endings.{End, LosesAtMost, WasToldLast}
 use Rattle.dude_engine.specs.Opening.{Opening, RecoversAmong, last_of}
 use Rattle.dude_engine.specs.Plain.{LosesFew, RecoversAlongRun, most_lost_by}
@@ -36,11 +36,12 @@ use Rattle.dude_program.specs.Causes.{FailsOnlyAtDevice, IsLeftOpened}
 -- a command may come to each number up to the last one done
 pub reachable : (meaning : Meaning) (opening : Opening) (done : List Done) (n : ℕ) → n ≤ last_of opening.number done → IsReachable meaning opening done n
 reachable (FreshRun s file) opening done n upto = upto
-reachable (FormatImage s c r k) opening done n upto = upto
+reachable (FormatImage x s c r k) opening done n upto = upto
 reachable (RunFiles frames locks files) opening done n upto = tt
 reachable (StreamFiles frames locks files) opening done n upto = tt
 reachable RecoverImage opening done n upto = upto
 reachable DumpTables opening done n upto = upto
+reachable (LocateRange low high limit) opening done n upto = upto
 reachable (DriveLoad seed count files) opening done n upto = tt
 reachable (AuditRun printed files) opening done n upto = upto
 reachable (ShipFiles files) opening done n upto = upto

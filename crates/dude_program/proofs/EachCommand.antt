@@ -1,12 +1,12 @@
 -- How each command ends, from what its calls leave.
-use Rattle.std.proofs.Common.{◌≡◌, ◌⊎◌, false, ℕ, ◌+◌, ◌*◌, ◌≤◌, List, [], length, refl, sym, ◌∙◌, ap, subst, inl, inr, ⊎_elim, ◌<◌, arith, Option, Some, None}
+use Rattle.std.proofs.Common.{◌≡◌, ◌⊎◌, Bool, false, ℕ, ◌+◌, ◌*◌, ◌≤◌, List, [], length, refl, sym, ◌∙◌, ap, subst, inl, inr, ⊎_elim, ◌<◌, arith, Option, Some, None}
 use Rattle.std.specs.List.{AllZip}
 use Rattle.std.specs.Prelude.{IfSome, min, unwrap_or}
 use Rattle.std.proofs.lemmas.Bool.{cases_lt}
 use Rattle.dude_base.specs.declared.limits.TheConstants.{DEFAULT_LOCKS, MAX_LOCKS, MAX_NUMBER, MIN_FRAMES}
 use Rattle.dude_base.specs.declared.run.Run.{Run}
 use Rattle.dude_base.specs.declared.sizes.Sizes.{Sizes}
-use Rattle.dude_base.specs.Sizes.{IsFrom, sizes_for}
+use Rattle.dude_base.specs.Sizes.{IsFrom}
 use Rattle.pmem_trait.specs.declared.medium.Medium.{Ghosts}
 use Rattle.pmem_trait.specs.Sights.{Sight, state_now}
 use Rattle.tatp_model.specs.declared.done.Done.{Done}
@@ -17,7 +17,7 @@ use Rattle.tatp_text.specs.Output.{output_of, last_line}
 use Rattle.back_store.specs.BackView.{sight_of}
 use Rattle.dude_recover.specs.declared.opened.Opened.{Opened}
 use Rattle.dude_recover.specs.Opened.{IsOpened}
-use Rattle.command_edges.specs.Command.{IsBetween, Meaning, Meaning.FreshRun, Meaning.FormatImage, Meaning.RunFiles, Meaning.StreamFiles, Meaning.RecoverImage, Meaning.DumpTables, Meaning.DriveLoad, Meaning.AuditRun, Meaning.ShipFiles, Meaning.FollowFiles}
+use Rattle.command_edges.specs.Command.{IsBetween, Meaning, Meaning.FreshRun, Meaning.FormatImage, Meaning.RunFiles, Meaning.StreamFiles, Meaning.RecoverImage, Meaning.DumpTables, Meaning.LocateRange, Meaning.DriveLoad, Meaning.AuditRun, Meaning.ShipFiles, Meaning.FollowFiles}
 use Rattle.command_edges.specs.Files.{OfFile}
 use Rattle.dude_engine.specs.Opening.{Opening}
 use Rattle.dude_engine.specs.Plain.{IsOpeningOf}
@@ -29,7 +29,7 @@ use Rattle.run_threads.specs.Ends.{IsAsOpened}
 use Rattle.command_openings.specs.Opens.{Opens}
 use Rattle.command_openings.specs.Openings.{new_opening}
 use Rattle.command_openings.proofs.OneOpening.{opening_with}
-use Rattle.dude_program.specs.Opening.{KnowsReadsOver, fresh_sizes, load_of, makes_image}
+use Rattle.dude_program.specs.Opening.{KnowsReadsOver, format_sizes, fresh_sizes, load_of, makes_image}
 use Rattle.dude_program.specs.Causes.{IsLeftOpened, MustRefuse, RefusesAudit, RefusesOpening, WantsFrames}
 use Rattle.dude_program.specs.Work.{AllowsFrames, HasFewNumbers, HasFrames, PrintsText, RefusesLoad, RefusesRun}
 use Rattle.dude_program.proofs.FilesRead.{all_judged}
@@ -49,8 +49,8 @@ fresh_makes subscribers file sizes s is = record {
   only = λ opening starts. starts ∙ ap new_opening (sym is);
 }
 
-pub format_makes : (subscribers calls rings cells : ℕ) (sizes : Sizes) (s : Sight) → sizes ≡ sizes_for subscribers calls rings cells → IsMaker (FormatImage subscribers calls rings cells) sizes s
-format_makes subscribers calls rings cells sizes s is = record {
+pub format_makes : (indexed : Bool) (subscribers calls rings cells : ℕ) (sizes : Sizes) (s : Sight) → sizes ≡ format_sizes indexed subscribers calls rings cells → IsMaker (FormatImage indexed subscribers calls rings cells) sizes s
+format_makes indexed subscribers calls rings cells sizes s is = record {
   makes = refl;
   writes = refl;
   sized = ap Some (sym is);
@@ -69,6 +69,9 @@ recover_opens s = record { opens = refl; sized = refl; on = λ opening starts. s
 
 pub dump_opens : (s : Sight) → IsOpener DumpTables s
 dump_opens s = record { opens = refl; sized = refl; on = λ opening starts. starts; starts = λ opening on. on }
+
+pub locate_opens : (low high limit : ℕ) (s : Sight) → IsOpener (LocateRange low high limit) s
+locate_opens low high limit s = record { opens = refl; sized = refl; on = λ opening starts. starts; starts = λ opening on. on }
 
 pub drive_opens : (seed count files : ℕ) (s : Sight) → IsOpener (DriveLoad seed count files) s
 drive_opens seed count files s = record { opens = refl; sized = refl; on = λ opening starts. starts; starts = λ opening on. on }
@@ -106,6 +109,9 @@ recover_passes f opening why refuses = passes_if RecoverImage f opening (λ line
 
 pub dump_passes : (f : FilesSight) (opening : Opening) (why : Fault) → MustRefuse DumpTables f opening why → ⊥
 dump_passes f opening why refuses = passes_if DumpTables f opening (λ line known no. no) (omega arith) (λ w no. no) (λ w no. no) (λ known n no. no.0) why refuses
+
+pub locate_passes : (low high limit : ℕ) (f : FilesSight) (opening : Opening) (why : Fault) → MustRefuse (LocateRange low high limit) f opening why → ⊥
+locate_passes low high limit f opening why refuses = passes_if (LocateRange low high limit) f opening (λ line known no. no) (omega arith) (λ w no. no) (λ w no. no) (λ known n no. no.0) why refuses
 
 module _ (frames locks : Option ℕ) (names : List (List ℕ)) (f : FilesSight) (requests : List (List Request)) (read : AllZip (OfFile f) names requests) (number : ℕ) (as_many : number ≡ length names) where
   pub run_passes : (opening : Opening) → number ≤ opening.sizes.rings → ((wanted : ℕ) → ¬ WantsFrames (RunFiles frames locks names) wanted opening.sizes.pages)

@@ -11,7 +11,7 @@ use Rattle.tatp_model.specs.declared.done.Done.{Done}
 use Rattle.tatp_model.specs.OneThread.{AllAreDone}
 use Rattle.dude_io.specs.Files.{FilesSight}
 use Rattle.dude_io.specs.Sink.{SinkSight, Took}
-use Rattle.command_edges.specs.Command.{Meaning, Meaning.FreshRun, Meaning.FormatImage, Meaning.RunFiles, Meaning.StreamFiles, Meaning.RecoverImage, Meaning.DumpTables, Meaning.DriveLoad, Meaning.AuditRun, Meaning.ShipFiles, Meaning.FollowFiles}
+use Rattle.command_edges.specs.Command.{Meaning, Meaning.FreshRun, Meaning.FormatImage, Meaning.RunFiles, Meaning.StreamFiles, Meaning.RecoverImage, Meaning.DumpTables, Meaning.LocateRange, Meaning.DriveLoad, Meaning.AuditRun, Meaning.ShipFiles, Meaning.FollowFiles}
 use Rattle.dude_engine.specs.Endings.{End}
 use Rattle.dude_engine.specs.Opening.{Opening, IsOpening}
 use Rattle.command_edges.specs.declared.fault.Fault.{Fault}
@@ -168,11 +168,12 @@ Outputs meaning opening done last text s = (output : IsOutput meaning opening do
 completed : (meaning : Meaning) (old new : World) (done : List Done) (Taken : List ℕ → Type 0) → only_reads meaning ≡ false → (all : AllDone meaning old new done Taken)
     → FromContent meaning all.opening done all.last all.text all.output old.medium → Completed meaning old new done Taken
 completed (FreshRun subscribers file) old new done Taken writes all from = all
-completed (FormatImage s c n k) old new done Taken writes all from = all
+completed (FormatImage x s c n k) old new done Taken writes all from = all
 completed (RunFiles frames locks files) old new done Taken writes all from = all
 completed (StreamFiles frames locks files) old new done Taken writes all from = all
 completed RecoverImage old new done Taken writes all from = all
 completed DumpTables old new done Taken writes all from = all
+completed (LocateRange low high limit) old new done Taken writes all from = all
 completed (DriveLoad seed count number) old new done Taken writes all from = all
 completed (AuditRun printed names) old new done Taken writes all from = absurd (let no : ⊥ = cc in no)
 completed (ShipFiles files) old new done Taken writes all from = record { all = all; from = from }
@@ -231,6 +232,17 @@ ends_faulted Output came = absurd came.cause.2
 ends_faulted (Strange a b) came = absurd came.cause.2
 ends_faulted {meaning} {f} {opening = opening} (Audit line) came = absurd (never_no meaning f opening line came.at.writes came.cause.2)
 
+module _ {meaning : Meaning} {f g : FilesSight} {opening : Opening} {done : List Done} {last : ℕ} {s t : Sight} (came : Came meaning f g opening done last None s t) where
+  passed : (fault : Option Fault) → makes_image meaning ≡ false → IsTrue s.is_visible → (why : Fault) → MustRefuse meaning f opening why → (fault ≡ Some why) ⊎ StoppedByOpening meaning fault
+  passed fault opens visible why refuses = absurd (came.cause.passes opens why refuses)
+
+  -- all was done, but there was no memory for the text
+  pub ends_untold : {k : SinkSight} → Ends meaning (world_of s f k) (world_of t g k) done (Some Memory)
+  ends_untold = record {
+    headline = λ has. headline_of came (Some Memory) (inl (inl refl));
+    causes = causes_of came (Some Memory) tt tt (passed (Some Memory)) (λ good medium output. inr refl) tt (ran_well came.ran (λ e. let no : ⊥ = cc in no)) (once_well came.once (λ e. let no : ⊥ = cc in no)) sink_same;
+  }
+
 module _ {meaning : Meaning} {f g : FilesSight} {opening : Opening} {done : List Done} {last : ℕ} {s t : Sight} (came : Came meaning f g opening done last None s t) (text : List ℕ)
     (output : Outputs meaning opening done last text s) where
   abbrev all_done : (k l : SinkSight) {Taken : List ℕ → Type 0} → Taken text → AllDone meaning (world_of s f k) (world_of t g l) done Taken
@@ -250,14 +262,11 @@ module _ {meaning : Meaning} {f g : FilesSight} {opening : Opening} {done : List
     bytes = taken;
   }
 
-  passed : (fault : Option Fault) → makes_image meaning ≡ false → IsTrue s.is_visible → (why : Fault) → MustRefuse meaning f opening why → (fault ≡ Some why) ⊎ StoppedByOpening meaning fault
-  passed fault opens visible why refuses = absurd (came.cause.passes opens why refuses)
-
   -- all was done and printed
   ends_whole : {k l : SinkSight} → Took text k l → Ends meaning (world_of s f k) (world_of t g l) done None
   ends_whole {k} {l} took = record {
     headline = λ has. headline_of came None (completed meaning (world_of s f k) (world_of t g l) done (TookAll k l) came.at.writes (all_done k l {Taken = TookAll k l} took.taken) output.1);
-    causes = causes_of came None tt tt (passed None) (λ good medium output. inl refl) tt came.ran came.once (sink_took took);
+    causes = causes_of came None tt tt (passed came None) (λ good medium output. inl refl) tt came.ran came.once (sink_took took);
   }
 
   -- all was done, and a prefix of it printed
@@ -273,25 +282,18 @@ module _ {meaning : Meaning} {f g : FilesSight} {opening : Opening} {done : List
       at_output : Risen k.faults l.faults → P Output
       at_output risen = record {
         headline = λ has. headline_of came (Some Output) all;
-        causes = causes_of came (Some Output) tt risen (passed (Some Output)) (λ good medium output. absurd (output risen)) tt (ran_well came.ran (λ e. let no : ⊥ = cc in no)) (once_well came.once (λ e. let no : ⊥ = cc in no)) (sink_took stops.took);
+        causes = causes_of came (Some Output) tt risen (passed came (Some Output)) (λ good medium output. absurd (output risen)) tt (ran_well came.ran (λ e. let no : ⊥ = cc in no)) (once_well came.once (λ e. let no : ⊥ = cc in no)) (sink_took stops.took);
       }
 
       at_memory : P Memory
       at_memory = record {
         headline = λ has. headline_of came (Some Memory) (inr all);
-        causes = causes_of came (Some Memory) tt tt (passed (Some Memory)) (λ good medium output. inr refl) tt (ran_well came.ran (λ e. let no : ⊥ = cc in no)) (once_well came.once (λ e. let no : ⊥ = cc in no)) (sink_took stops.took);
+        causes = causes_of came (Some Memory) tt tt (passed came (Some Memory)) (λ good medium output. inr refl) tt (ran_well came.ran (λ e. let no : ⊥ = cc in no)) (once_well came.once (λ e. let no : ⊥ = cc in no)) (sink_took stops.took);
       }
 
       by_fault : (fault ≡ Output) ⊎ (fault ≡ Memory) → P fault
       by_fault (inl is) = subst P (sym is) (at_output (stops.cause is))
       by_fault (inr is) = subst P (sym is) at_memory
-
-  -- all was done, but there was no memory for the text
-  ends_untold : {k : SinkSight} → Ends meaning (world_of s f k) (world_of t g k) done (Some Memory)
-  ends_untold = record {
-    headline = λ has. headline_of came (Some Memory) (inl (inl refl));
-    causes = causes_of came (Some Memory) tt tt (passed (Some Memory)) (λ good medium output. inr refl) tt (ran_well came.ran (λ e. let no : ⊥ = cc in no)) (once_well came.once (λ e. let no : ⊥ = cc in no)) sink_same;
-  }
 
 -- What is printed decides how the command ends.
 pub ends_printed : {meaning : Meaning} {f g : FilesSight} {opening : Opening} {done : List Done} {last : ℕ} {s t : Sight} {k l : SinkSight} (text : List ℕ) (earlier fault : Option Fault)
@@ -303,4 +305,4 @@ ends_printed text None None came output printed = ends_whole came text (output r
 ends_printed text None (Some fault) came output (inl stops) = ends_unprinted came text (output refl) fault stops
 ends_printed {meaning} {f} {g} {done = done} {s = s} {t = t} {k = k} {l = l} text None (Some fault) came output (inr printed) =
     subst (λ (x : Fault). Ends meaning (world_of s f k) (world_of t g l) done (Some x)) (sym printed.0)
-    (subst (λ (x : SinkSight). Ends meaning (world_of s f k) (world_of t g x) done (Some Memory)) (sym printed.1) (ends_untold came text (output refl)))
+    (subst (λ (x : SinkSight). Ends meaning (world_of s f k) (world_of t g x) done (Some Memory)) (sym printed.1) (ends_untold came))

@@ -18,7 +18,7 @@ use Rattle.command_edges.specs.Files.{IsBadAs, IsBadAt, IsFirst, IsFirstBad, IsG
 use Rattle.command_edges.specs.Reads.{ReadsInOrder}
 use Rattle.command_edges.proofs.Told.{all_good, not_both}
 use Rattle.command_edges.proofs.Order.{IsNoReadFault, all_in_order, then_fault, whole_none}
-use Rattle.command_edges.specs.Command.{Meaning, Meaning.FreshRun, Meaning.FormatImage, Meaning.RunFiles, Meaning.StreamFiles, Meaning.RecoverImage, Meaning.DumpTables, Meaning.DriveLoad, Meaning.AuditRun, Meaning.ShipFiles, Meaning.FollowFiles}
+use Rattle.command_edges.specs.Command.{Meaning, Meaning.FreshRun, Meaning.FormatImage, Meaning.RunFiles, Meaning.StreamFiles, Meaning.RecoverImage, Meaning.DumpTables, Meaning.LocateRange, Meaning.DriveLoad, Meaning.AuditRun, Meaning.ShipFiles, Meaning.FollowFiles}
 use Rattle.command_edges.specs.declared.fault.Fault.{Fault}
 use Rattle.command_edges.specs.declared.fault.Fault.TheVariants.{Text}
 use Rattle.dude_program.specs.Opening.{command_files, judges_files}
@@ -104,11 +104,12 @@ all_packets (name ∷ names) = All-cons (λ file. file.kind ≡ Packets) (record
 -- a command of which a file is bad has its files judged first: packets are never bad there
 pub all_read : (meaning : Meaning) (f : FilesSight) (number row field : ℕ) → IsFirstBad (command_files meaning) f number row field → IsTrue (judges_files meaning)
 all_read (FreshRun subscribers file) f number row field first = refl
-all_read (FormatImage s c n k) f number row field first = refl
+all_read (FormatImage x s c n k) f number row field first = refl
 all_read (RunFiles frames locks files) f number row field first = all_judged files
 all_read (StreamFiles frames locks files) f number row field first = all_judged files
 all_read RecoverImage f number row field first = refl
 all_read DumpTables f number row field first = refl
+all_read (LocateRange low high limit) f number row field first = refl
 all_read (DriveLoad seed count files) f number row field first = refl
 all_read (AuditRun printed files) f number row field first = all_judged files
 all_read (ShipFiles files) f number row field first = all_judged files

@@ -4,7 +4,7 @@ use Rattle.std.specs.Prelude.{IsSomeAnd}
 use Rattle.std.specs.List.{AllZip}
 use Rattle.tatp_model.specs.declared.request.Request.{Request}
 use Rattle.dude_io.specs.Files.{FilesSight}
-use Rattle.command_edges.specs.Command.{Meaning, Meaning.FreshRun, Meaning.FormatImage, Meaning.RunFiles, Meaning.StreamFiles, Meaning.RecoverImage, Meaning.DumpTables, Meaning.DriveLoad, Meaning.AuditRun, Meaning.ShipFiles, Meaning.FollowFiles}
+use Rattle.command_edges.specs.Command.{Meaning, Meaning.FreshRun, Meaning.FormatImage, Meaning.RunFiles, Meaning.StreamFiles, Meaning.RecoverImage, Meaning.DumpTables, Meaning.LocateRange, Meaning.DriveLoad, Meaning.AuditRun, Meaning.ShipFiles, Meaning.FollowFiles}
 use Rattle.command_edges.specs.Files.{OfFile}
 use Rattle.dude_engine.specs.Opening.{Opening}
 use Rattle.dude_engine.specs.Requests.{request_count}
@@ -73,11 +73,12 @@ one_no meaning f opening a b visible one other = absurd one
 -- the command runs one list of lists of requests, where they are known
 pub one_requests : (meaning : Meaning) (f : FilesSight) (opening : Opening) (a b : List (List Request)) → KnowsRequests meaning f → RequestsAre meaning f opening a → RequestsAre meaning f opening b → a ≡ b
 one_requests (FreshRun subscribers file) f opening a b visible one other = one_of_files f (file ∷ []) a b visible one other
-one_requests (FormatImage s c n k) f opening a b known one other = one ∙ sym other
+one_requests (FormatImage x s c n k) f opening a b known one other = one ∙ sym other
 one_requests (RunFiles frames locks files) f opening a b visible one other = one_of_files f files a b visible one other
 one_requests (StreamFiles frames locks files) f opening a b visible one other = one_of_files f files a b visible one other
 one_requests RecoverImage f opening a b known one other = one ∙ sym other
 one_requests DumpTables f opening a b known one other = one ∙ sym other
+one_requests (LocateRange low high limit) f opening a b known one other = one ∙ sym other
 one_requests (AuditRun printed files) f opening a b known one other = one ∙ sym other
 one_requests (DriveLoad seed count files) f opening a b known one other = one ∙ sym other
 one_requests (ShipFiles files) f opening a b visible one other = one_of_files f files a b visible one other

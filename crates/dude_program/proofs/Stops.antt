@@ -18,7 +18,7 @@ use Rattle.dude_recover.specs.FormatCalls.{format_calls}
 use Rattle.dude_recover.specs.Answers.{OpensSome, StillRecovers}
 use Rattle.dude_recover.proofs.OpeningMoments.{opened_some, opens_calls}
 use Rattle.dude_recover.proofs.SettledReads.{content_kept}
-use Rattle.command_edges.specs.Command.{Meaning, Meaning.FreshRun, Meaning.FormatImage, Meaning.RunFiles, Meaning.StreamFiles, Meaning.RecoverImage, Meaning.DumpTables, Meaning.DriveLoad, Meaning.AuditRun, Meaning.ShipFiles, Meaning.FollowFiles}
+use Rattle.command_edges.specs.Command.{Meaning, Meaning.FreshRun, Meaning.FormatImage, Meaning.RunFiles, Meaning.StreamFiles, Meaning.RecoverImage, Meaning.DumpTables, Meaning.LocateRange, Meaning.DriveLoad, Meaning.AuditRun, Meaning.ShipFiles, Meaning.FollowFiles}
 use Rattle.command_edges.specs.Files.{HasFileFault, MissesFile}
 use Rattle.command_edges.specs.Files as read
 use Rattle.command_edges.specs.Reads.{ReadsInOrder}
@@ -145,11 +145,12 @@ prefix_old opening s settled on =
 
 pub prefix_at_rest : (meaning : Meaning) (s : Sight) → (IsTrue s.is_visible → IsSettled s.len (state_now s)) → (opening : Opening) → Starts meaning s opening → OpensPartly (makes_image meaning) opening s s
 prefix_at_rest (FreshRun subscribers file) s settled opening starts = prefix_new opening s
-prefix_at_rest (FormatImage a b c d) s settled opening starts = prefix_new opening s
+prefix_at_rest (FormatImage x a b c d) s settled opening starts = prefix_new opening s
 prefix_at_rest (RunFiles frames locks files) s settled opening starts = prefix_old opening s settled starts
 prefix_at_rest (StreamFiles frames locks files) s settled opening starts = prefix_old opening s settled starts
 prefix_at_rest RecoverImage s settled opening starts = prefix_old opening s settled starts
 prefix_at_rest DumpTables s settled opening starts = prefix_old opening s settled starts
+prefix_at_rest (LocateRange low high limit) s settled opening starts = prefix_old opening s settled starts
 prefix_at_rest (DriveLoad seed count files) s settled opening starts = prefix_old opening s settled starts
 prefix_at_rest (AuditRun printed files) s settled opening starts = prefix_old opening s settled starts
 prefix_at_rest (ShipFiles files) s settled opening starts = prefix_old opening s settled starts

@@ -2,7 +2,7 @@
 use Rattle.std.specs.Prelude.{◌≡◌, ◌⊎◌, ◌↔◌, ℕ, ◌+◌, ◌*◌, ◌<◌, ◌≤◌, ⊤, Bool, true, false, Option, Some, None, IsTrue, List, [], ◌∷◌, ◌++◌, length, min, All, MatchBool}
 use Rattle.dude_base.specs.declared.limits.TheConstants.{MAX_NUMBER, MIN_FRAMES}
 use Rattle.dude_base.specs.declared.sizes.Sizes.{Sizes}
-use Rattle.dude_base.specs.Sizes.{IsFrom, sizes_for}
+use Rattle.dude_base.specs.Sizes.{IsFrom}
 use Rattle.dude_base.specs.Image.{image_words}
 use Rattle.pmem_trait.specs.Words.{EveryImage}
 use Rattle.pmem_trait.specs.Sights.{Sight, Risen, SomeCalls, state_now}
@@ -16,7 +16,7 @@ use Rattle.back_store.specs.Back.{idle}
 use Rattle.image_recovery.specs.Recovered.{IsNoDatabase, RecoversTo}
 use Rattle.dude_recover.specs.Causes.{FormatsSome}
 use Rattle.dude_recover.specs.Answers.{OpensSome}
-use Rattle.command_edges.specs.Command.{Meaning, Meaning.FreshRun, Meaning.FormatImage, Meaning.RunFiles, Meaning.StreamFiles, Meaning.RecoverImage, Meaning.DumpTables, Meaning.DriveLoad, Meaning.AuditRun, Meaning.ShipFiles, Meaning.FollowFiles}
+use Rattle.command_edges.specs.Command.{Meaning, Meaning.FreshRun, Meaning.FormatImage, Meaning.RunFiles, Meaning.StreamFiles, Meaning.RecoverImage, Meaning.DumpTables, Meaning.LocateRange, Meaning.DriveLoad, Meaning.AuditRun, Meaning.ShipFiles, Meaning.FollowFiles}
 use Rattle.command_edges.specs.Files.{HasReadFault, IsFirstBad, IsGoodFile, MissesFile}
 use Rattle.command_edges.specs.Reads.{ReadsInOrder}
 use Rattle.command_openings.specs.Opens.{FailsOpening, OpensByCalls}
@@ -28,17 +28,18 @@ use Rattle.command_edges.specs.CommandFile.{IsInLimit}
 use Rattle.dude_program.specs.Audit.{IsRefusedRun}
 use Rattle.dude_program.specs.Delivery.{IsRefusedDelivery}
 use Rattle.back_store.specs.Operations.{MakesOperations}
-use Rattle.dude_program.specs.Opening.{RequestsAre, Starts, command_files, ends_opened, fresh_sizes, judges_files, makes_image, only_reads}
+use Rattle.dude_program.specs.Opening.{RequestsAre, Starts, command_files, ends_opened, format_sizes, fresh_sizes, judges_files, makes_image, only_reads}
 use Rattle.dude_program.specs.World.{World, IsSameWorld, SinkStays}
 
 -- the sizes of the image that a command makes, if it makes one
 abbrev pub sizes_made : Meaning → Option Sizes
 sizes_made (FreshRun subscribers file) = Some (fresh_sizes subscribers)
-sizes_made (FormatImage subscribers calls rings cells) = Some (sizes_for subscribers calls rings cells)
+sizes_made (FormatImage indexed subscribers calls rings cells) = Some (format_sizes indexed subscribers calls rings cells)
 sizes_made (RunFiles frames locks files) = None
 sizes_made (StreamFiles frames locks files) = None
 sizes_made RecoverImage = None
 sizes_made DumpTables = None
+sizes_made (LocateRange low high limit) = None
 sizes_made (DriveLoad seed count number) = None
 sizes_made (AuditRun printed files) = None
 sizes_made (ShipFiles files) = None
@@ -47,11 +48,12 @@ sizes_made (FollowFiles files) = None
 -- how many files the command runs: request files, or those of its load; an audit runs none, nor does a follower
 abbrev pub files_run : Meaning → ℕ
 files_run (FreshRun subscribers file) = 1
-files_run (FormatImage subscribers calls rings cells) = 0
+files_run (FormatImage indexed subscribers calls rings cells) = 0
 files_run (RunFiles frames locks files) = length files
 files_run (StreamFiles frames locks files) = length files
 files_run RecoverImage = 0
 files_run DumpTables = 0
+files_run (LocateRange low high limit) = 0
 files_run (DriveLoad seed count number) = number
 files_run (AuditRun printed files) = 0
 files_run (ShipFiles files) = length files
@@ -65,11 +67,12 @@ AreOutOfLimits (Some frames) wanted pages = (wanted ≡ frames) × ¬ IsFrom (mi
 -- The frames asked for are out of their limits.
 abbrev pub WantsFrames : Meaning → ℕ → ℕ → Type 0
 WantsFrames (FreshRun subscribers file) wanted pages = ⊥
-WantsFrames (FormatImage subscribers calls rings cells) wanted pages = ⊥
+WantsFrames (FormatImage indexed subscribers calls rings cells) wanted pages = ⊥
 WantsFrames (RunFiles frames locks files) wanted pages = AreOutOfLimits frames wanted pages
 WantsFrames (StreamFiles frames locks files) wanted pages = AreOutOfLimits frames wanted pages
 WantsFrames RecoverImage wanted pages = ⊥
 WantsFrames DumpTables wanted pages = ⊥
+WantsFrames (LocateRange low high limit) wanted pages = ⊥
 WantsFrames (DriveLoad seed count number) wanted pages = ⊥
 WantsFrames (AuditRun printed files) wanted pages = ⊥
 WantsFrames (ShipFiles files) wanted pages = ⊥
@@ -78,11 +81,12 @@ WantsFrames (FollowFiles files) wanted pages = ⊥
 -- the command is a load of more files than there are subscribers
 abbrev pub WantsSubscribers : Meaning → ℕ → ℕ → Type 0
 WantsSubscribers (FreshRun made file) subscribers wanted = ⊥
-WantsSubscribers (FormatImage made calls rings cells) subscribers wanted = ⊥
+WantsSubscribers (FormatImage indexed made calls rings cells) subscribers wanted = ⊥
 WantsSubscribers (RunFiles frames locks files) subscribers wanted = ⊥
 WantsSubscribers (StreamFiles frames locks files) subscribers wanted = ⊥
 WantsSubscribers RecoverImage subscribers wanted = ⊥
 WantsSubscribers DumpTables subscribers wanted = ⊥
+WantsSubscribers (LocateRange low high limit) subscribers wanted = ⊥
 WantsSubscribers (DriveLoad seed count number) subscribers wanted = (wanted ≡ number) × (subscribers < number)
 WantsSubscribers (AuditRun printed files) subscribers wanted = ⊥
 WantsSubscribers (ShipFiles files) subscribers wanted = ⊥
@@ -91,11 +95,12 @@ WantsSubscribers (FollowFiles files) subscribers wanted = ⊥
 -- whether the numbers of the command may run out
 abbrev pub DrawsNumbers : Meaning → Type 0
 DrawsNumbers (FreshRun subscribers file) = ⊥
-DrawsNumbers (FormatImage subscribers calls rings cells) = ⊥
+DrawsNumbers (FormatImage indexed subscribers calls rings cells) = ⊥
 DrawsNumbers (RunFiles frames locks files) = ⊤
 DrawsNumbers (StreamFiles frames locks files) = ⊤
 DrawsNumbers RecoverImage = ⊥
 DrawsNumbers DumpTables = ⊥
+DrawsNumbers (LocateRange low high limit) = ⊥
 DrawsNumbers (DriveLoad seed count number) = ⊤
 DrawsNumbers (AuditRun printed files) = ⊥
 DrawsNumbers (ShipFiles files) = ⊤
@@ -110,11 +115,12 @@ WantsNumbers meaning files opening count =
 -- an audit says no, and names this line
 abbrev pub RefusesAudit : Meaning → FilesSight → Opening → ℕ → Type 0
 RefusesAudit (FreshRun subscribers file) files opening line = ⊥
-RefusesAudit (FormatImage subscribers calls rings cells) files opening line = ⊥
+RefusesAudit (FormatImage indexed subscribers calls rings cells) files opening line = ⊥
 RefusesAudit (RunFiles frames locks names) files opening line = ⊥
 RefusesAudit (StreamFiles frames locks names) files opening line = ⊥
 RefusesAudit RecoverImage files opening line = ⊥
 RefusesAudit DumpTables files opening line = ⊥
+RefusesAudit (LocateRange low high limit) files opening line = ⊥
 RefusesAudit (DriveLoad seed count number) files opening line = ⊥
 RefusesAudit (AuditRun printed names) files opening line = IsRefusedRun printed names files opening line
 RefusesAudit (ShipFiles names) files opening line = ⊥
@@ -123,11 +129,12 @@ RefusesAudit (FollowFiles names) files opening line = ⊥
 -- packets of the command's files are refused behind the opening, for this
 abbrev pub RefusesPackets : Meaning → FilesSight → Opening → Fault → Type 0
 RefusesPackets (FreshRun subscribers file) files opening why = ⊥
-RefusesPackets (FormatImage subscribers calls rings cells) files opening why = ⊥
+RefusesPackets (FormatImage indexed subscribers calls rings cells) files opening why = ⊥
 RefusesPackets (RunFiles frames locks names) files opening why = ⊥
 RefusesPackets (StreamFiles frames locks names) files opening why = ⊥
 RefusesPackets RecoverImage files opening why = ⊥
 RefusesPackets DumpTables files opening why = ⊥
+RefusesPackets (LocateRange low high limit) files opening why = ⊥
 RefusesPackets (DriveLoad seed count number) files opening why = ⊥
 RefusesPackets (AuditRun printed names) files opening why = ⊥
 RefusesPackets (ShipFiles names) files opening why = ⊥
@@ -151,11 +158,12 @@ RefusesOpening meaning files opening _ = ⊥
 -- The requests of the command are known: those of its files where the files are visible, and any others always.
 abbrev pub KnowsRequests : Meaning → FilesSight → Type 0
 KnowsRequests (FreshRun subscribers file) files = IsTrue files.is_visible
-KnowsRequests (FormatImage subscribers calls rings cells) files = ⊤
+KnowsRequests (FormatImage indexed subscribers calls rings cells) files = ⊤
 KnowsRequests (RunFiles frames locks names) files = IsTrue files.is_visible
 KnowsRequests (StreamFiles frames locks names) files = IsTrue files.is_visible
 KnowsRequests RecoverImage files = ⊤
 KnowsRequests DumpTables files = ⊤
+KnowsRequests (LocateRange low high limit) files = ⊤
 KnowsRequests (DriveLoad seed count number) files = ⊤
 KnowsRequests (AuditRun printed names) files = ⊤
 KnowsRequests (ShipFiles names) files = IsTrue files.is_visible

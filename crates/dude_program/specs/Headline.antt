@@ -21,7 +21,7 @@ use Rattle.dude_engine.specs.Endings.{AreSyncsTold, End, LosesAtMost}
 use Rattle.dude_engine.specs.Plain.{most_lost_by}
 use Rattle.command_edges.specs.declared.fault.Fault.{Fault}
 use Rattle.command_edges.specs.declared.fault.Fault.TheVariants.{Device, Output, Memory}
-use Rattle.command_edges.specs.Command.{Meaning, Meaning.FreshRun, Meaning.FormatImage, Meaning.RunFiles, Meaning.StreamFiles, Meaning.RecoverImage, Meaning.DumpTables, Meaning.DriveLoad, Meaning.AuditRun, Meaning.ShipFiles, Meaning.FollowFiles}
+use Rattle.command_edges.specs.Command.{Meaning, Meaning.FreshRun, Meaning.FormatImage, Meaning.RunFiles, Meaning.StreamFiles, Meaning.RecoverImage, Meaning.DumpTables, Meaning.LocateRange, Meaning.DriveLoad, Meaning.AuditRun, Meaning.ShipFiles, Meaning.FollowFiles}
 use Rattle.dude_program.specs.Audit.{IsRunFound}
 use Rattle.dude_program.specs.Ship.{ShipsContent}
 use Rattle.dude_program.specs.World.{World}
@@ -126,11 +126,12 @@ pub record ShippedAll (files : List (List ℕ)) (old new : World) (done : List D
 -- What a command that came to its output has found or done: an audit has said yes, and each other one has done all.
 abbrev pub Completed : Meaning → World → World → List Done → (List ℕ → Type 0) → Type 0
 Completed (FreshRun subscribers file) old new done Taken = AllDone (FreshRun subscribers file) old new done Taken
-Completed (FormatImage subscribers calls rings cells) old new done Taken = AllDone (FormatImage subscribers calls rings cells) old new done Taken
+Completed (FormatImage indexed subscribers calls rings cells) old new done Taken = AllDone (FormatImage indexed subscribers calls rings cells) old new done Taken
 Completed (RunFiles frames locks files) old new done Taken = AllDone (RunFiles frames locks files) old new done Taken
 Completed (StreamFiles frames locks files) old new done Taken = AllDone (StreamFiles frames locks files) old new done Taken
 Completed RecoverImage old new done Taken = AllDone RecoverImage old new done Taken
 Completed DumpTables old new done Taken = AllDone DumpTables old new done Taken
+Completed (LocateRange low high limit) old new done Taken = AllDone (LocateRange low high limit) old new done Taken
 Completed (DriveLoad seed count number) old new done Taken = AllDone (DriveLoad seed count number) old new done Taken
 Completed (AuditRun printed names) old new done Taken = SaidYes printed names old done Taken
 Completed (ShipFiles files) old new done Taken = ShippedAll files old new done Taken

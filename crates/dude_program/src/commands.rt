@@ -1,6 +1,6 @@
 //! The commands that make or open the image: each reads its files, makes or opens the image, does its work, and prints.
 
-ghost use Rattle.std.specs.Prelude.{◌≡◌, ◌<◌, ◌≤◌, IfSome, length, map};
+ghost use Rattle.std.specs.Prelude.{◌≡◌, ◌<◌, ◌≤◌, IfErr, IfOk, IfSome, length, map};
 ghost use Rattle.std.specs.Rc.{rc_str_bytes};
 ghost use Rattle.dude_base.specs.declared.limits.TheConstants.{MAX_LOCKS, MAX_RINGS};
 ghost use Rattle.pmem_trait.specs.Sights.{IsAtRest};
@@ -8,6 +8,8 @@ ghost use Rattle.command_edges.specs.Command.{IsBetween, Meaning.FreshRun, Meani
 ghost use Rattle.dude_io.specs.Files.{FilesSight};
 ghost use Rattle.command_edges.specs.Fault.{status_of};
 ghost use Rattle.dude_program.specs.Ending.{Ends};
+ghost use Rattle.dude_base.specs.Sizes.{AreTheSizes, IsFaultOf};
+ghost use Rattle.dude_program.specs.Opening.{format_sizes};
 ghost use Rattle.dude_program.specs.World.{world_of};
 
 use crate::checks::check_run;
@@ -18,6 +20,7 @@ use crate::run_options::RunOptions;
 use crate::worked::{idle, work, work_on_threads};
 use command_edges::read_files;
 use command_openings::{make_and_open, open_and_announce};
+use dude_base::size_fault::SizeFault;
 use dude_base::sizes::Sizes;
 use dude_io::{Files, Sink};
 use pmem_trait::Medium;
@@ -29,6 +32,8 @@ use std::thread::Threads;
 /// What a new image is to have.
 #[derive(Clone, Copy)]
 pub struct ImageCounts {
+    /// Whether it has an index of locations.
+    pub indexed: bool,
     pub subscribers: u64,
     pub calls: u64,
     pub rings: u64,
@@ -66,7 +71,28 @@ pub fn fresh<M: Medium, F: Files, K: Sink>(
     }
 }
 
-/// Makes a new image with so many subscribers, call rows, rings and cells of a ring.
+// The sizes of an image that is to have so much.
+fn sizes_of(counts: ImageCounts) -> Result<Sizes, SizeFault>
+    ensures ok { IfOk result (AreTheSizes (format_sizes counts.indexed
+        counts.subscribers counts.calls counts.rings counts.cells)) }
+    ensures fault { IfErr result (IsFaultOf (format_sizes counts.indexed
+        counts.subscribers counts.calls counts.rings counts.cells)) }
+{
+    let ImageCounts {
+        indexed,
+        subscribers,
+        calls,
+        rings,
+        cells,
+    } = counts;
+    if indexed {
+        Sizes::indexed(subscribers, calls, rings, cells)
+    } else {
+        Sizes::of(subscribers, calls, rings, cells)
+    }
+}
+
+/// Makes a new image with so many subscribers, call rows, rings and cells of a ring, with an index or without.
 pub fn format<M: Medium, K: Sink>(
     alloc: Global,
     counts: ImageCounts,
@@ -80,12 +106,12 @@ pub fn format<M: Medium, K: Sink>(
     requires cells { IsBetween 16 4_096 counts.cells }
     ensures status { result.status ≡ status_of result.fault }
     ensures ends { (f : FilesSight) → Ends
-        (FormatImage counts.subscribers counts.calls counts.rings counts.cells)
+        (FormatImage counts.indexed counts.subscribers counts.calls counts.rings counts.cells)
         (world_of (M.sight medium) f (K.sight out.old))
         (world_of (M.sight result.medium) f (K.sight out.new))
         result.done.items result.fault }
 {
-    let Ok(sizes) = Sizes::of(counts.subscribers, counts.calls, counts.rings, counts.cells) else {
+    let Ok(sizes) = sizes_of(counts) else {
         unreachable!()
     };
     match make_and_open(alloc, medium, &sizes) {

@@ -11,6 +11,8 @@ mod commands;
 mod ended;
 mod follow;
 mod load;
+mod locate;
+mod locating;
 mod output;
 mod run_options;
 mod ship;

@@ -13,6 +13,8 @@ use crate::commands::{ImageCounts, drive, dump, format, fresh, recover, run};
 use crate::ended::Ended;
 use crate::follow::follow;
 use crate::load::Load;
+use crate::locate::locate;
+use crate::locating::LocationRange;
 use crate::run_options::RunOptions;
 use crate::ship::ship;
 use crate::stream::stream;
@@ -51,12 +53,14 @@ fn carry_out<R: Threads + Sync, M: Medium + Send, F: Files, K: Sink + Send, G: G
             fresh(alloc, subscribers, file, medium, files, out)
         }
         Command::Format {
+            indexed,
             subscribers,
             calls,
             rings,
             cells,
         } => {
             let counts = ImageCounts {
+                indexed,
                 subscribers,
                 calls,
                 rings,
@@ -94,6 +98,10 @@ fn carry_out<R: Threads + Sync, M: Medium + Send, F: Files, K: Sink + Send, G: G
         ),
         Command::Recover => recover(alloc, medium, out),
         Command::Dump => dump(alloc, medium, out),
+        Command::Locate { low, high, limit } => {
+            let range = LocationRange { low, high, limit };
+            locate(alloc, range, medium, out)
+        }
         Command::Drive { seed, count, files } => {
             let load = Load { seed, count, files };
             drive(rt, alloc, load, medium, out, gate)

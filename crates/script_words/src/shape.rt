@@ -22,16 +22,22 @@ pub struct Shape {
 impl Shape {
     /// The shape that an image names, where it is formatted.
     pub fn of(image: &[u64]) -> Option<Shape> {
-        if image.len() < 8 || image[0] != 0x4D45_4D54_4544_5544 || image[7] != 0 {
+        if image.len() < 8 || image[0] != 0x4D45_4D54_4544_5544 {
             return None;
         }
-        let rings = match image[1] {
-            1 => 8,
-            2 => 16,
+        // The most rings and indexes of an image of this version.
+        let (rings, indexes) = match image[1] {
+            1 => (8, 0),
+            2 => (16, 1),
             _ => return None,
         };
-        let shape = Shape::of_sizes(image[1], image[2], image[3], image[4], image[5], image[6])?;
-        if image[4] > rings || (image.len() as u64) < shape.home_start() + shape.home {
+        if image[4] > rings || image[7] > indexes {
+            return None;
+        }
+        let shape = Shape::of_sizes(
+            image[1], image[2], image[3], image[4], image[5], image[6], image[7],
+        )?;
+        if (image.len() as u64) < shape.home_start() + shape.home {
             return None;
         }
         Some(shape)
@@ -45,6 +51,7 @@ impl Shape {
         rings: u64,
         cells: u64,
         pages: u64,
+        index: u64,
     ) -> Option<Shape> {
         if subscribers < 1 || subscribers > 10_000 || calls < 1 || calls > 120_000 {
             return None;
@@ -52,7 +59,7 @@ impl Shape {
         if rings < 1 || rings > 16 || cells < 16 || cells > 4_096 {
             return None;
         }
-        if pages != pages_for(subscribers, calls) {
+        if pages != pages_for(subscribers, calls, index) {
             return None;
         }
         Some(Shape {
@@ -71,8 +78,8 @@ impl Shape {
     }
 }
 
-// The pages of five tables.
-fn pages_for(subscribers: u64, calls: u64) -> u64
+// The pages of five tables, and of an index where there is one.
+fn pages_for(subscribers: u64, calls: u64, index: u64) -> u64
     requires subscribers { subscribers ≤ 10000 }
     requires calls { calls ≤ 120000 }
     ensures { result ≤ 31250 }
@@ -80,7 +87,12 @@ fn pages_for(subscribers: u64, calls: u64) -> u64
     let rows = table_words(subscribers, 8 * subscribers)
         + table_words(subscribers, 4 * subscribers);
     let parts = 2 * table_words(4 * subscribers, 16 * subscribers);
-    (rows + parts + table_words(calls, 4 * calls) + 63) / 64
+    let tree = if index == 0 {
+        0
+    } else {
+        2 * table_words(0, 4 * subscribers)
+    };
+    (rows + parts + table_words(calls, 4 * calls) + tree + 63) / 64
 }
 
 // A line, the links of the buckets, the records: each in whole lines.

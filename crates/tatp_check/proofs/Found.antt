@@ -23,6 +23,11 @@ wide Access s = omega arith
 wide Facilities s = omega arith
 wide Calls s = omega arith
 
+-- a record is found among these where some of them has the key
+pub found_some : (array records : List ℕ) (key : ℕ) (found : Option ℕ) → Finds array records key found → IsTrue (is_some found) ↔ Any (λ x. slice_index array x ≡ key) records
+found_some array records key None finds = ((λ t. absurd (false≢true t)), (λ any. absurd (finds any.0 any.1 any.2 (ap (slice_index array) any.3 ∙ any.4))))
+found_some array records key (Some at) finds = ((λ t. (finds.0.0, at, finds.0.1, finds.0.2, finds.1)), (λ any. refl))
+
 -- In a table where nothing is wrong:
 module _ (s : Sizes) (array : List ℕ) (kind : TableKind) (records : List ℕ) (whole : IsWholeKind s array kind records) where
   in_chains : (at : ℕ) → Contains records at → Contains (records_in whole.chains) at
@@ -41,8 +46,7 @@ module _ (s : Sizes) (array : List ℕ) (kind : TableKind) (records : List ℕ) 
 
   -- a record is found where some record has the key
   pub found_any : (key : ℕ) (found : Option ℕ) → Finds array records key found → IsTrue (is_some found) ↔ Any (λ x. slice_index array x ≡ key) records
-  found_any key None finds = ((λ t. absurd (false≢true t)), (λ any. absurd (finds any.0 any.1 any.2 (ap (slice_index array) any.3 ∙ any.4))))
-  found_any key (Some at) finds = ((λ t. (finds.0.0, at, finds.0.1, finds.0.2, finds.1)), (λ any. refl))
+  found_any = found_some array records
 
   -- and so is one that holds more
   pub found_with : (P : ℕ → Type 0) (key : ℕ) (found : Option ℕ) → Finds array records key found → IsSomeAnd found P ↔ Any (λ x. (slice_index array x ≡ key) × P x) records

@@ -7,13 +7,15 @@ use Rattle.std.proofs.lemmas.List.Sorted.{IsPermutation-refl, IsPermutation-sym,
 use Rattle.std.proofs.lemmas.Map.Keys.{IsDistinct-tail, IsDistinct-from_apart, apart_from_distinct, IsDistinct-IsPermutation}
 use Rattle.std.specs.List.{IsDistinct, remove}
 use Rattle.std.specs.List.Sorted.{IsPermutation}
-use Rattle.record_heap.specs.Pool.{IsRecord, records_of}
+use Rattle.record_heap.specs.declared.pool.Pool.{Pool}
+use Rattle.record_heap.specs.Pool.{IsPool, IsRecord, records_of}
 use Rattle.record_heap.proofs.Records.{each_is_record, has_record, none_twice}
 use Rattle.hash_table.specs.declared.table.Table.{Table}
 use Rattle.hash_table.specs.Table.{IsTable, chain_of, records_in}
 use Rattle.hash_table.proofs.Chains.{chain_among, chain_with, first_among, first_or_other, no_element, other_among}
 use Rattle.hash_table.proofs.Insertions.{each_record}
 use Rattle.hash_table.proofs.Walks.{path_linked}
+use Rattle.tatp_check.specs.Pools.{IsWholePool}
 use Rattle.tatp_check.specs.Walk.{Fits, IsSound, HasMet, IsWhole}
 
 -- ---- lists
@@ -61,6 +63,47 @@ same_elements (x ∷ xs) ys dx dy there back =
     ])))
     (IsPermutation-sym ys (x ∷ zs) moved)
 
+-- ---- pools
+
+module _ (pool : Pool) (array : List ℕ) (wide : 0 < pool.size) (taken free : List ℕ) where
+  -- a pool in which nothing is wrong is a lawful one
+  pub whole_pool_lawful : ((x : ℕ) → Contains taken x → IsRecord pool x) → IsWholePool pool array taken free → IsPool pool array free taken
+  whole_pool_lawful places whole =
+      let all = records_of pool in
+      let same = IsPermutation-refl all in
+      record {
+        links = whole.met.list.ended;
+        live = whole.count;
+        once = IsPermutation-trans all (taken ++ free) (free ++ taken)
+            (same_elements all (taken ++ free) (none_twice pool all same wide) (distinct_from_pairs (taken ++ free) whole.met.list.met.differ)
+            (λ x c. whole.met.every x (All-contains (IsRecord pool) all x (All-from_recursion (IsRecord pool) all (each_is_record pool all same)) c))
+            (λ x c. has_record pool all same (elim (Contains-append_cases taken free x c) [
+              | inl is_taken ↦ places x is_taken
+              | inr is_free ↦ All-contains (IsRecord pool) free x whole.met.list.met.places is_free
+            ])))
+            (IsPermutation-append_comm taken free);
+      }
+
+  -- nothing is wrong in a lawful pool
+  pub lawful_pool_whole : IsPool pool array free taken → IsWholePool pool array taken free
+  lawful_pool_whole lawful =
+      let turned : IsPermutation (records_of pool) (taken ++ free) = IsPermutation-trans (records_of pool) (free ++ taken) (taken ++ free) lawful.once (IsPermutation-append_comm free taken) in
+      let places = All-from_recursion (IsRecord pool) (free ++ taken) (each_is_record pool (free ++ taken) lawful.once) in
+      record {
+        met = record {
+          list = record {
+            met = record {
+              path = path_linked array pool.base free lawful.links;
+              places = λ k d below. All-contains (IsRecord pool) (free ++ taken) (get_or free k d) places (Contains-append_left free taken (get_or free k d) (Contains-get_or free k d below));
+              differ = pairs_from_distinct (taken ++ free) (none_twice pool (taken ++ free) turned wide);
+            };
+            ended = lawful.links;
+          };
+          every = λ at r. has_record pool (taken ++ free) turned r;
+        };
+        count = lawful.live;
+      }
+
 -- ---- tables
 
 -- the record's key and its words behind the link are what they may be
@@ -99,16 +142,6 @@ module _ (content : ℕ → ℕ → Type 0) (table : Table) (array : List ℕ) (
       | inr is_free ↦ All-contains (IsRecord table.pool) free x whole.pool.met.list.met.places is_free
     ]
 
-    once : IsPermutation (records_of table.pool) (free ++ records_in chains)
-    once =
-        let all = records_of table.pool in
-        let same = IsPermutation-refl all in
-        IsPermutation-trans all (records_in chains ++ free) (free ++ records_in chains)
-        (same_elements all (records_in chains ++ free) (none_twice table.pool all same (omega (arith, wide))) (distinct_from_pairs (records_in chains ++ free) whole.pool.met.list.met.differ)
-        (λ x c. whole.pool.met.every x (All-contains (IsRecord table.pool) all x (All-from_recursion (IsRecord table.pool) all (each_is_record table.pool all same)) c))
-        (λ x c. has_record table.pool all same (each_place x c)))
-        (IsPermutation-append_comm (records_in chains) free)
-
     pub one_record : (x y : ℕ) → Contains (records_in chains) x → Contains (records_in chains) y → slice_index array x ≡ slice_index array y → x ≡ y
     one_record x y (i, below_i, is_i) (j, below_j, is_j) same =
         let differ : AllPairs (λ a b. slice_index array a ≢ slice_index array b) (records_in chains) = pairs_front (λ a b. slice_index array a ≢ slice_index array b) (records_in chains) [] met.keys_differ in
@@ -124,7 +157,7 @@ module _ (content : ℕ → ℕ → Type 0) (table : Table) (array : List ℕ) (
     -- it is a lawful table
     pub whole_table : IsTable table array chains free
     whole_table = record {
-      pool = record { links = whole.pool.met.list.ended; live = whole.pool.count; once = once };
+      pool = whole_pool_lawful table.pool array (omega (arith, wide)) (records_in chains) free (λ x c. (sound_at x c).1.place) whole.pool;
       buckets = each_bucket;
       links = λ bucket below. met.ended bucket (omega (arith, each_bucket, below));
       homes = λ bucket below k d inside. ((met.sound bucket (omega (arith, each_bucket, below)) k d inside).fits 0 (omega (arith, wide))).1;
@@ -170,18 +203,5 @@ module _ (content : ℕ → ℕ → Type 0) (table : Table) (array : List ℕ) (
         };
         all = lawful.buckets;
       };
-      pool = record {
-        met = record {
-          list = record {
-            met = record {
-              path = path_linked array table.pool.base free lawful.pool.links;
-              places = λ k d below. each_record chains free lawful (get_or free k d) (Contains-append_left free (records_in chains) (get_or free k d) (Contains-get_or free k d below));
-              differ = differ;
-            };
-            ended = lawful.pool.links;
-          };
-          every = λ at r. has_record table.pool (records_in chains ++ free) turned r;
-        };
-        count = lawful.pool.live;
-      };
+      pool = lawful_pool_whole table.pool array (omega (arith, wide)) (records_in chains) free lawful.pool;
     }

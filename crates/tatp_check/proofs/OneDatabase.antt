@@ -66,7 +66,7 @@ rows_within form InRange row_in table array back xs ys first second same rx ry r
     subst (Contains ys) (sym (back at.0 h.0 (All-contains InRange ys h.0 ry h.1) h.2) ∙ back at.0 r (All-contains InRange xs r rx c) at.2) h.1
 
 -- and so they are the same rows
-rows_one : {R : Type 0} (form : RowForm R) (InRange : R → Type 0) (row_in : ℕ → R) (table : Table) (array : List ℕ) → ((at : ℕ) (r : R) → InRange r → HoldsRow form array at r → row_in at ≡ r)
+pub rows_one : {R : Type 0} (form : RowForm R) (InRange : R → Type 0) (row_in : ℕ → R) (table : Table) (array : List ℕ) → ((at : ℕ) (r : R) → InRange r → HoldsRow form array at r → row_in at ≡ r)
     → (xs ys : List R) (first : HasRows form table array xs) (second : HasRows form table array ys) → records_in first.chains ≡ records_in second.chains → All InRange xs → All InRange ys
     → IsStrictlyIncreasing (map form.key xs) → IsStrictlyIncreasing (map form.key ys) → xs ≡ ys
 rows_one form InRange row_in table array back xs ys first second same rx ry ix iy =

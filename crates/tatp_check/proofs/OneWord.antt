@@ -7,15 +7,20 @@ use Rattle.dude_base.specs.declared.sizes.Sizes.{Sizes}
 use Rattle.record_heap.specs.Pool.{IsRecord}
 use Rattle.hash_table.specs.Table.{records_in}
 use Rattle.tatp_model.specs.Database.{Database}
+use Rattle.tatp_layout.specs.Layout.{index_tree}
 use Rattle.tatp_layout.specs.StandsFor.{StandsFor}
 use Rattle.tatp_check.specs.Faults.{IsFirstWrong}
 use Rattle.tatp_check.proofs.OneTableWord.{none_wrong, one_chains, one_wrong}
 use Rattle.tatp_check.specs.declared.table_kind.TableKind.{TableKind}
 use Rattle.tatp_check.specs.declared.table_kind.TableKind.TheVariants.{Subscribers, Numbers, Access, Facilities, Calls}
 use Rattle.tatp_check.specs.Content.{content_of, table_of}
-use Rattle.tatp_check.specs.Order.{IsFirstWord, IsInTables, IsNotDb, IsWholeKind}
+use Rattle.tatp_check.specs.IndexFaults.{IsWrongIndex}
+use Rattle.tatp_check.specs.Order.{IsFirstWord, IsInIndex, IsInTables, IsNotDb, IsWholeKind}
 use Rattle.tatp_check.specs.References.{AreAllBound, IsFirstUnbound, IsUnbound, Refers, kind_rank, reference_offset}
+use Rattle.tatp_check.proofs.IndexPlaces.{index_parted, no_fork, no_leaf}
+use Rattle.tatp_check.proofs.IndexSound.{none_in_index, one_in_index}
 use Rattle.tatp_check.proofs.Lawful.{lawful_bound, lawful_records, lawful_whole}
+use Rattle.tatp_check.proofs.LawfulIndex.{lawful_index}
 
 -- no record stands at word 0
 pub no_record : (kind : TableKind) (s : Sizes) → ¬ IsRecord (table_of kind s).pool 0
@@ -76,7 +81,11 @@ module _ (s : Sizes) (array : List ℕ) where
   -- an array that stands for tables has no first wrong word
   pub lawful_right : (db : Database) → StandsFor s array db → (w : ℕ) → ¬ IsFirstWord s array w
   lawful_right db stands w (inl tables) = no_wrong tables.kind (lawful_records s array db stands tables.kind) (lawful_whole s array db stands tables.kind) w tables.wrong
-  lawful_right db stands w (inr references) =
+  lawful_right db stands w (inr (inr index)) =
+      let same = same_records Subscribers (index.records Subscribers) (lawful_records s array db stands Subscribers) (index.whole Subscribers) (lawful_whole s array db stands Subscribers) in
+      none_in_index (index_tree s) array (lawful_records s array db stands Subscribers) (index_parted s) (no_leaf s) (no_fork s) (lawful_index s array db stands index.wrong.0) w
+      (subst (λ l. IsWrongIndex (index_tree s) array l w) same index.wrong.1)
+  lawful_right db stands w (inr (inl references)) =
       all_bound references.records (lawful_records s array db stands)
       (λ k. same_records k (lawful_records s array db stands k) (references.records k) (lawful_whole s array db stands k) (references.whole k)) (lawful_bound s array db stands) w references.wrong
 
@@ -123,12 +132,22 @@ module _ (s : Sizes) (array : List ℕ) where
     ]
   ]
 
+  one_index : (v w : ℕ) → IsInIndex s array v → IsInIndex s array w → v ≡ w
+  one_index v w a b =
+      let same = same_records Subscribers (a.records Subscribers) (b.records Subscribers) (a.whole Subscribers) (b.whole Subscribers) in
+      one_in_index (index_tree s) array (b.records Subscribers) (index_parted s) (no_leaf s) (no_fork s) v w (subst (λ l. IsWrongIndex (index_tree s) array l v) same a.wrong.1) b.wrong.1
+
   -- the first wrong word is one
   pub one_word : (v w : ℕ) → IsFirstWord s array v → IsFirstWord s array w → v ≡ w
   one_word v w (inl a) (inl b) = one_in_tables v w a b
-  one_word v w (inl a) (inr b) = absurd (no_wrong a.kind (b.records a.kind) (b.whole a.kind) v a.wrong)
-  one_word v w (inr a) (inl b) = absurd (no_wrong b.kind (a.records b.kind) (a.whole b.kind) w b.wrong)
-  one_word v w (inr a) (inr b) = one_reference a.records b.records (λ k. same_records k (a.records k) (b.records k) (a.whole k) (b.whole k)) v w a.wrong b.wrong
+  one_word v w (inl a) (inr (inl b)) = absurd (no_wrong a.kind (b.records a.kind) (b.whole a.kind) v a.wrong)
+  one_word v w (inl a) (inr (inr b)) = absurd (no_wrong a.kind (b.records a.kind) (b.whole a.kind) v a.wrong)
+  one_word v w (inr (inl a)) (inl b) = absurd (no_wrong b.kind (a.records b.kind) (a.whole b.kind) w b.wrong)
+  one_word v w (inr (inr a)) (inl b) = absurd (no_wrong b.kind (a.records b.kind) (a.whole b.kind) w b.wrong)
+  one_word v w (inr (inl a)) (inr (inr b)) = absurd (all_bound a.records b.records (λ k. same_records k (b.records k) (a.records k) (b.whole k) (a.whole k)) b.bound v a.wrong)
+  one_word v w (inr (inr a)) (inr (inl b)) = absurd (all_bound b.records a.records (λ k. same_records k (a.records k) (b.records k) (a.whole k) (b.whole k)) a.bound w b.wrong)
+  one_word v w (inr (inr a)) (inr (inr b)) = one_index v w a b
+  one_word v w (inr (inl a)) (inr (inl b)) = one_reference a.records b.records (λ k. same_records k (a.records k) (b.records k) (a.whole k) (b.whole k)) v w a.wrong b.wrong
 
   -- where there is one the array stands for none
   pub not_db : (w : ℕ) → IsFirstWord s array w → IsNotDb s array w

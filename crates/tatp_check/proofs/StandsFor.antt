@@ -1,13 +1,15 @@
 -- An array in which nothing is wrong stands for the rows of its records.
-use Rattle.std.proofs.Common.{◌≡◌, ◌≢◌, ℕ, ◌+◌, ◌*◌, ◌/◌, ◌%◌, ◌<◌, List, length, map, Any, AllPairs, Contains, slice_index, get_or, sym, ap, ◌∙◌, subst, arith}
+use Rattle.std.proofs.Common.{◌≡◌, ◌≢◌, ℕ, ◌+◌, ◌*◌, ◌/◌, ◌%◌, ◌<◌, List, length, map, All, Any, AllPairs, Contains, slice_index, get_or, sym, ap, ◌∙◌, subst, arith}
 use Rattle.std.proofs.lemmas.List.{length-map}
 use Rattle.std.proofs.lemmas.List.Elements.{Contains-get_or}
 use Rattle.std.proofs.lemmas.List.Sorted.{length_permutation}
 use Rattle.dude_base.specs.declared.limits.TheConstants.{PAGE}
 use Rattle.dude_base.specs.declared.sizes.Sizes.{Sizes}
+use Rattle.hash_table.specs.Table.{records_in}
 use Rattle.tatp_model.specs.Database.{IsInOrder, IsSubRow, IsAccessRow, IsFacRow, IsCallRow}
 use Rattle.tatp_layout.specs.Decoding.{subscriber_in, access_in, facility_in, call_in}
-use Rattle.tatp_layout.specs.Layout.{number_table}
+use Rattle.tatp_layout.specs.Index.{IndexStands, location_key}
+use Rattle.tatp_layout.specs.Layout.{index_tree, number_table, subscriber_table}
 use Rattle.tatp_layout.specs.Records.{HoldsRow, subscriber_form, number_form, access_form, facility_form, call_form}
 use Rattle.tatp_layout.specs.StandsFor.{HasRows, StandsFor}
 use Rattle.tatp_check.specs.Taken.{records_by_key}
@@ -17,15 +19,26 @@ use Rattle.tatp_check.specs.declared.table_kind.TableKind.TheVariants.{Subscribe
 use Rattle.tatp_check.specs.Content.{content_of, table_of}
 use Rattle.tatp_check.proofs.Contents.{subscriber_row, access_row, facility_row, call_row}
 use Rattle.tatp_check.specs.declared.walked.Walked.{Walked}
+use Rattle.tatp_check.specs.IndexFaults.{HasSmallKey, StandsWhere}
 use Rattle.tatp_check.specs.References.{AreAllBound}
 use Rattle.tatp_check.specs.Walked.{AreWalked, database_in, records_of_kind}
-use Rattle.tatp_check.proofs.Found.{record_content, wide}
-use Rattle.tatp_check.proofs.TableRows.{among, back, in_ordered, one, ordered_differ, ordered_in, ordered_length, rows_all, rows_had, rows_rise}
+use Rattle.tatp_check.proofs.Found.{record_content, wide, word_inside}
+use Rattle.tatp_check.proofs.IndexSound.{index_has}
+use Rattle.tatp_check.proofs.IndexPlaces.{keys_back, keys_there, tree_fits_behind}
+use Rattle.tatp_check.proofs.TableRows.{among, back, in_ordered, one, ordered_differ, ordered_in, ordered_length, rows_all, rows_had, rows_rise, rows_taken}
 
 module _ (s : Sizes) (array : List ℕ) (walked : Walked) (w : AreWalked s array walked) where
   -- the rows of the records
   subscriber : (at : ℕ) → Contains (records_of_kind walked Subscribers) at → IsSubRow (subscriber_in array at) × HoldsRow subscriber_form array at (subscriber_in array at)
   subscriber at c = subscriber_row (table_of Subscribers s) array at (omega arith) (record_content s array Subscribers (records_of_kind walked Subscribers) (w.each Subscribers).whole at c)
+
+  -- the words of the subscribers' keys are small
+  pub small_keys : All (HasSmallKey array) (records_of_kind walked Subscribers)
+  small_keys k d below =
+      let at = get_or (records_of_kind walked Subscribers) k d in
+      let c = Contains-get_or (records_of_kind walked Subscribers) k d below in
+      let row = (subscriber at c).0 in
+      record { inside = word_inside s array walked w Subscribers at 7 c (omega arith); s_id = omega (arith, row.s_id); vlr = row.vlr }
 
   access : (at : ℕ) → Contains (records_of_kind walked Access) at → IsAccessRow (access_in array at) × HoldsRow access_form array at (access_in array at)
   access at c = access_row (table_of Access s) array at (omega arith) (record_content s array Access (records_of_kind walked Access) (w.each Access).whole at c)
@@ -128,7 +141,7 @@ module _ (s : Sizes) (array : List ℕ) (walked : Walked) (w : AreWalked s array
         (there.0, subscriber_in array any.1, there.1, there.2, any.4)
 
     -- the rows are in order
-    in_order : IsInOrder (database_in array walked)
+    pub in_order : IsInOrder (database_in array walked)
     in_order = record {
       subscribers_rise = rows_rise (content_of Subscribers) (table_of Subscribers s) array (wide Subscribers s) walked.subscribers (w.each Subscribers) subscriber_form (subscriber_in array) (λ at c. (subscriber at c).1);
       access_rise = rows_rise (content_of Access) (table_of Access s) array (wide Access s) walked.access (w.each Access) access_form (access_in array) (λ at c. (access at c).1);
@@ -157,15 +170,47 @@ module _ (s : Sizes) (array : List ℕ) (walked : Walked) (w : AreWalked s array
             let there = contains_map (facility_in array) (records_by_key walked.facilities) any.1 (in_ordered (content_of Facilities) (table_of Facilities s) array (wide Facilities s) walked.facilities (w.each Facilities) any.1 (any.0, any.2, any.3)) in
             (there.0, facility_in array any.1, there.1, there.2, (ap (λ k. k / 4) key, ap (λ k. k % 4 + 1) key))
 
-    -- the array stands for them, where there is no index
-    pub stands : length array ≡ s.pages * PAGE → s.index ≡ 0 → StandsFor s array (database_in array walked)
-    stands size bare = record {
+    -- the subscriber table has the rows of its records
+    pub subscribers_had : HasRows subscriber_form (subscriber_table s) array (map (subscriber_in array) (records_by_key walked.subscribers))
+    subscribers_had = rows_had (content_of Subscribers) (table_of Subscribers s) array (wide Subscribers s) walked.subscribers (w.each Subscribers) subscriber_form (subscriber_in array) (λ at c. (subscriber at c).1)
+
+    pub subscribers_taken : records_in subscribers_had.chains ≡ records_of_kind walked Subscribers
+    unfolding subscribers_had
+    subscribers_taken = rows_taken (content_of Subscribers) (table_of Subscribers s) array (wide Subscribers s) walked.subscribers (w.each Subscribers) subscriber_form (subscriber_in array) (λ at c. (subscriber at c).1)
+
+    -- the array stands for them, where its index has their keys
+    pub stands_with : length array ≡ s.pages * PAGE → IndexStands s array (map (subscriber_in array) (records_by_key walked.subscribers)) → StandsFor s array (database_in array walked)
+    stands_with size index = record {
       size = size;
       in_order = in_order;
-      subscribers = rows_had (content_of Subscribers) (table_of Subscribers s) array (wide Subscribers s) walked.subscribers (w.each Subscribers) subscriber_form (subscriber_in array) (λ at c. (subscriber at c).1);
+      subscribers = subscribers_had;
       numbers = numbers_had;
       access = rows_had (content_of Access) (table_of Access s) array (wide Access s) walked.access (w.each Access) access_form (access_in array) (λ at c. (access at c).1);
       facilities = rows_had (content_of Facilities) (table_of Facilities s) array (wide Facilities s) walked.facilities (w.each Facilities) facility_form (facility_in array) (λ at c. (facility at c).1);
       calls = rows_had (content_of Calls) (table_of Calls s) array (wide Calls s) walked.calls (w.each Calls) call_form (call_in array) (λ at c. (call at c).1);
-      index = λ some. absurd (some bare);
+      index = index;
     }
+
+    -- two subscribers' keys differ
+    keys_apart : AllPairs (λ x y. location_key (subscriber_in array x) ≢ location_key (subscriber_in array y)) (records_by_key walked.subscribers)
+    keys_apart i j d less below same =
+        let vs = records_by_key walked.subscribers in
+        let there : (k : ℕ) → k < length vs → Contains (records_of_kind walked Subscribers) (get_or vs k d) = λ k inside.
+        ordered_in (content_of Subscribers) (table_of Subscribers s) array (wide Subscribers s) walked.subscribers (w.each Subscribers) (get_or vs k d) (Contains-get_or vs k d inside) in
+        ordered_differ (content_of Subscribers) (table_of Subscribers s) array (wide Subscribers s) walked.subscribers (w.each Subscribers) i j d less below
+        (omega (arith, same, (subscriber (get_or vs i d) (there i (omega arith))).0.s_id, (subscriber (get_or vs j d) (there j below)).0.s_id))
+
+    -- the index has them where nothing is wrong in it
+    index_stands : StandsWhere s array (records_of_kind walked Subscribers) → IndexStands s array (map (subscriber_in array) (records_by_key walked.subscribers))
+    index_stands whole some =
+        let ordered = records_by_key walked.subscribers in
+        let subscribers = records_of_kind walked Subscribers in
+        index_has (index_tree s) array subscribers (map location_key (map (subscriber_in array) ordered)) (tree_fits_behind s)
+        (keys_there array ordered subscribers (λ at c. in_ordered (content_of Subscribers) (table_of Subscribers s) array (wide Subscribers s) walked.subscribers (w.each Subscribers) at c))
+        (keys_back array ordered subscribers (λ at c. ordered_in (content_of Subscribers) (table_of Subscribers s) array (wide Subscribers s) walked.subscribers (w.each Subscribers) at c))
+        (pairs_mapped (λ x y. x ≢ y) location_key (map (subscriber_in array) ordered) (pairs_mapped (λ x y. location_key x ≢ location_key y) (subscriber_in array) ordered keys_apart))
+        (whole some)
+
+    -- the array stands for them, where nothing is wrong in its index
+    pub stands : length array ≡ s.pages * PAGE → StandsWhere s array (records_of_kind walked Subscribers) → StandsFor s array (database_in array walked)
+    stands size whole = stands_with size (index_stands whole)

@@ -55,6 +55,11 @@ module _ (content : ℕ → ℕ → Type 0) (table : Table) (array : List ℕ) (
           (from.0, among from.0 there, subst (HoldsRow form array from.0) from.2 (holds from.0 there));
     }
 
+    -- in the records that were taken
+    pub rows_taken : records_in rows_had.chains ≡ records_taken taken
+    unfolding rows_had
+    rows_taken = sym keeps.whole.taken_is
+
     -- they rise by key
     pub rows_rise : IsStrictlyIncreasing (map form.key (map row_in (records_by_key taken)))
     rows_rise =

@@ -12,3 +12,7 @@ pub mod Whole
 pub mod Faults
 pub mod PoolWalk
 pub mod Seen
+pub mod TreeWalk
+pub mod TreeFaults
+pub mod TreeSeen
+pub mod IndexFaults

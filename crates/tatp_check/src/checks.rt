@@ -7,6 +7,7 @@ ghost use Rattle.tatp_check.specs.Faults.{IsCause};
 ghost use Rattle.tatp_check.specs.Order.{IsNotDb};
 
 use crate::check_fault::CheckFault;
+use crate::index_check::check_index;
 use crate::references::first_unbound;
 use crate::walked::walk;
 use std::alloc::Global;
@@ -19,11 +20,9 @@ pub fn check(alloc: Global, lay: &Layout, a: &[u64]) -> Result<(), CheckFault>
     ensures ok { OnOk result (IsLawful lay.now a.now) }
     ensures fault { IfErr result (IsCause (IsNotDb lay.now a.now)) }
 {
-    let sizes = lay.sizes();
-    prove!(sizes.index == 0);
     let walked = walk(alloc, lay, a)?;
     match first_unbound(lay, a, &walked) {
         Some(word) => Err(CheckFault::NotDb { word }),
-        None => Ok(()),
+        None => check_index(alloc, lay, a, &walked),
     }
 }

@@ -19,8 +19,6 @@ pub fn tables_of(alloc: Global, lay: &Layout, a: &[u64]) -> Result<Tables, Alloc
     requires lawful { IsLawful lay.now a.now }
     ensures { IfOk result (λ tables. StandsFor lay.now a.now (database_of tables)) }
 {
-    let sizes = lay.sizes();
-    prove!(sizes.index == 0);
     match walk(alloc, lay, a) {
         Ok(walked) => rows_of(alloc, lay, a, &walked),
         Err(CheckFault::NoMemory) => Err(AllocError),

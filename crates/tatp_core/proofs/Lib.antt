@@ -1,7 +1,9 @@
 pub mod Answered
 pub mod Deleting
 pub mod Inserting
+pub mod KeyRanges
 pub mod Lists
+pub mod LocatedRows
 pub mod LocationKeys
 pub mod Locations
 pub mod OfKind

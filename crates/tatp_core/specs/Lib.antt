@@ -1,4 +1,5 @@
 pub mod Kinds
+pub mod Located
 pub mod Phones
 pub mod Reads
 pub mod Serves

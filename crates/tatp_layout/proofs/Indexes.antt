@@ -74,7 +74,7 @@ module _ (s : Sizes) where
   pub number_before : number_base s ≤ leaf_base s
   number_before = omega (arith, number_after s, access_after s, facility_after s)
 
-  call_before : call_base s ≤ leaf_base s
+  pub call_before : call_base s ≤ leaf_base s
   call_before = omega arith
 
 module _ (s : Sizes) {a b : List ℕ} (keys : List ℕ) where

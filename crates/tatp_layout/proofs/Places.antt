@@ -10,7 +10,7 @@ use Rattle.hash_table.specs.Table.{FitsTable}
 use Rattle.hash_table.proofs.Fits.{record_ends, table_fits}
 use Rattle.tree_index.proofs.Fits.{tree_fits}
 use Rattle.tree_index.specs.Tree.{FitsTree}
-use Rattle.tatp_layout.specs.Layout.{table_at, subscriber_shape, number_shape, kind_shape, call_shape, number_base, access_base, facility_base, call_base, index_tree, inner_base, leaf_base, subscriber_table, number_table, access_table, facility_table, call_table}
+use Rattle.tatp_layout.specs.Layout.{table_at, subscriber_shape, number_shape, kind_shape, call_shape, number_base, access_base, facility_base, call_base, index_tree, inner_base, leaf_base, tree_from, subscriber_table, number_table, access_table, facility_table, call_table}
 
 up : (x : ℕ) → x ≤ in_whole_lines x
 up x = omega arith
@@ -24,6 +24,20 @@ fits_at {n} base shape some wide inside =
     let links = up shape.buckets in
     let records = records_end base shape in
     table_fits (table_at base shape) n some (omega arith) wide (omega arith) (omega arith) (inr (omega arith)) (inl (omega arith))
+
+-- the tree of an index whose leaves begin at a word, over an array that reaches behind it
+tree_at : {n : ℕ} (base subscribers : ℕ) → base + table_words (index_shape subscribers) + table_words (index_shape subscribers) ≤ n → FitsTree (tree_from base subscribers) n
+tree_at {n} base subscribers inside =
+    let leaves = records_end base (index_shape subscribers) in
+    let inner = records_end (base + table_words (index_shape subscribers)) (index_shape subscribers) in
+    tree_fits (tree_from base subscribers) n (omega arith) (omega arith) (omega arith) (omega (arith, leaves)) (omega arith) (omega arith) (omega (arith, inner, inside))
+
+-- a home whose length has an index reaches behind it
+index_room : {n : ℕ} (s : Sizes) → s.index ≡ 1 → home_length s.subscribers s.calls s.index ≤ n → inner_base s + table_words (index_shape s.subscribers) ≤ n
+index_room s is inside =
+    let one : 1 * (2 * table_words (index_shape s.subscribers)) ≡ 2 * table_words (index_shape s.subscribers) = omega arith in
+    let both : index_length s.subscribers s.index ≡ 2 * table_words (index_shape s.subscribers) = ap (index_length s.subscribers) is ∙ one in
+    omega (arith, inside, both)
 
 -- its range
 pub range_at : {high : ℕ} (base : ℕ) (shape : TableShape) → 2 ≤ shape.size → high ≡ base + table_words shape → FitsRange (table_at base shape) base high
@@ -132,13 +146,5 @@ module _ {s : Sizes} (accepted : IsAccepted s) where
   calls_fit = fits_at (call_base s) (call_shape s) some.1 (omega arith) inside
 
   -- and so may the tree of an index
-  index_inside : s.index ≡ 1 → inner_base s + table_words (index_shape s.subscribers) ≤ s.pages * PAGE
-  index_inside is =
-      let both : index_length s.subscribers s.index ≡ 2 * table_words (index_shape s.subscribers) = ap (index_length s.subscribers) is ∙ (let one : 1 * (2 * table_words (index_shape s.subscribers)) ≡ 2 * table_words (index_shape s.subscribers) = omega arith in one) in
-      omega (arith, home_fits accepted, both)
-
   pub index_fits : s.index ≡ 1 → FitsTree (index_tree s) (s.pages * PAGE)
-  index_fits is =
-      let leaves = records_end (leaf_base s) (index_shape s.subscribers) in
-      let inner = records_end (inner_base s) (index_shape s.subscribers) in
-      tree_fits (index_tree s) (s.pages * PAGE) (omega arith) (omega arith) (omega arith) (omega (arith, leaves)) (omega arith) (omega arith) (omega (arith, inner, index_inside is))
+  index_fits is = tree_at (leaf_base s) s.subscribers (index_room s is (home_fits accepted))

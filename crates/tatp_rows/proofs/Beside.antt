@@ -15,12 +15,13 @@ use Rattle.tatp_model.specs.declared.access_row.AccessRow.{AccessRow}
 use Rattle.tatp_model.specs.declared.fac_row.FacRow.{FacRow}
 use Rattle.tatp_model.specs.declared.call_row.CallRow.{CallRow}
 use Rattle.tatp_model.specs.Population.{population}
-use Rattle.tatp_layout.specs.Layout.{number_base, access_base, facility_base, call_base, subscriber_table, number_table, access_table, facility_table, call_table}
+use Rattle.tatp_layout.specs.Layout.{number_base, access_base, facility_base, call_base, leaf_base, subscriber_table, number_table, access_table, facility_table, call_table}
 use Rattle.tatp_layout.specs.Records.{RowForm, HasWords, subscriber_form, number_form, access_form, facility_form, call_form}
 use Rattle.tatp_layout.proofs.Places.{subscriber_range, number_range, access_range, facility_range, call_range, number_after, access_after, facility_after}
+use Rattle.tatp_layout.proofs.Indexes.{call_before, number_before}
 use Rattle.tatp_rows.specs.Filled.{record_at, chain_for, free_from, IsFilled, IsUnused, Fills}
 use Rattle.tatp_rows.specs.Filling.{IsEmpty}
-use Rattle.tatp_rows.specs.Populated.{IsPopulated}
+use Rattle.tatp_rows.specs.Populated.{HasPopulation, StaysBeforeIndex}
 use Rattle.tatp_rows.proofs.ChainLists.{is_record, IsChained, chain_each}
 use Rattle.tatp_rows.proofs.Inserted.{each_weaker}
 
@@ -148,6 +149,15 @@ empty_calls s zeros subscribers numbers access facilities bucket under =
     let later : access_base s ≤ i = omega (arith, last, access_after s) in
     beside_facilities s facilities i (inr from) ∙ beside_access s access i (inr last) ∙ beside_numbers s numbers i (inr later) ∙ beside_subscribers s subscribers i (omega (arith, later, number_after s)) ∙ zeros i
 
+-- the words behind all five stay 0
+pub behind_tables : (s : Sizes) {a b c d e f : List ℕ} {rows more : List SubRow} {access_rows : List AccessRow} {facilities_are : List FacRow} {calls_are : List CallRow} → ((i : ℕ) → slice_index a i ≡ 0) → Fills subscriber_form (subscriber_table s) rows a b → Fills number_form (number_table s) more b c → Fills access_form (access_table s) access_rows c d → Fills facility_form (facility_table s) facilities_are d e → Fills call_form (call_table s) calls_are e f → (i : ℕ) → leaf_base s ≤ i → slice_index f i ≡ 0
+behind_tables s {calls_are = calls_are} zeros subscribers numbers access facilities calls i from =
+    let last : call_base s ≤ i = omega (arith, from, call_before s) in
+    let fourth : facility_base s ≤ i = omega (arith, last, facility_after s) in
+    let third : access_base s ≤ i = omega (arith, fourth, access_after s) in
+    calls.others i (unused_outside call_form calls_are (call_range s) (few_call s) i calls.filled.few (inr (omega (arith, from))) (omega arith))
+    ∙ beside_facilities s facilities i (inr last) ∙ beside_access s access i (inr fourth) ∙ beside_numbers s numbers i (inr third) ∙ beside_subscribers s subscribers i (omega (arith, third, number_after s)) ∙ zeros i
+
 -- once all five are filled
 pub all_filled : {s : Sizes} {a b c d e f : List ℕ} → length f ≡ s.pages * PAGE → ((i : ℕ) → slice_index a i ≡ 0)
     → Fills subscriber_form (subscriber_table s) (population s.subscribers).subscribers a b
@@ -155,7 +165,7 @@ pub all_filled : {s : Sizes} {a b c d e f : List ℕ} → length f ≡ s.pages *
     → Fills access_form (access_table s) (population s.subscribers).access c d
     → Fills facility_form (facility_table s) (population s.subscribers).facilities d e
     → Fills call_form (call_table s) (population s.subscribers).calls e f
-    → IsPopulated s f
+    → HasPopulation s f
 all_filled {s} size zeros subscribers numbers access facilities calls =
     let first = number_after s in
     let second = access_after s in
@@ -175,4 +185,22 @@ all_filled {s} size zeros subscribers numbers access facilities calls =
       facilities = filled_stays facility_form rows.facilities (facility_range s) (few_facility s) (omega arith) (λ i from under. beside_calls s calls i under) facilities.filled;
       calls = calls.filled;
       zeros = λ i unused. calls.others i unused.calls ∙ facilities.others i unused.facilities ∙ access.others i unused.access ∙ numbers.others i unused.numbers ∙ subscribers.others i unused.subscribers ∙ zeros i;
+    }
+
+-- what the tables have stays where no word changes in front of an index
+pub population_stays : {s : Sizes} {a b : List ℕ} → length b ≡ length a → StaysBeforeIndex s a b → HasPopulation s a → HasPopulation s b
+population_stays {s} {a} {b} long same is =
+    let calls = call_before s in
+    let facilities = facility_after s in
+    let access = access_after s in
+    let numbers = number_after s in
+    let rows = population s.subscribers in
+    record {
+      size = long ∙ is.size;
+      subscribers = filled_stays subscriber_form rows.subscribers (subscriber_range s) (few_words s).0 (omega arith) (λ i from under. same i (λ some. omega (arith, under, number_before s))) is.subscribers;
+      numbers = filled_stays number_form rows.subscribers (number_range s) (few_words s).1 (omega arith) (λ i from under. same i (λ some. omega (arith, under, access, facilities, calls))) is.numbers;
+      access = filled_stays access_form rows.access (access_range s) (few_access s) (omega arith) (λ i from under. same i (λ some. omega (arith, under, facilities, calls))) is.access;
+      facilities = filled_stays facility_form rows.facilities (facility_range s) (few_facility s) (omega arith) (λ i from under. same i (λ some. omega (arith, under, calls))) is.facilities;
+      calls = filled_stays call_form rows.calls (call_range s) (few_call s) (omega arith) (λ i from under. same i (λ some. omega (arith, under))) is.calls;
+      zeros = λ i unused. same i unused.index ∙ is.zeros i unused;
     }

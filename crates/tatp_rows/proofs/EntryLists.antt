@@ -15,7 +15,7 @@ use Rattle.tatp_rows.specs.Filled.{Fills}
 use Rattle.tatp_rows.proofs.Fillings.{fills_rows}
 use Rattle.tatp_rows.proofs.Populations.{calls_of_facility, flat_few, subscribers_whole, numbers_whole, access_whole, facilities_whole, calls_whole}
 
-map_twice : {X Y Z : Type 0} (g : Y → Z) (f : X → Y) (xs : List X) → map (λ x. g (f x)) xs ≡ map g (map f xs)
+pub map_twice : {X Y Z : Type 0} (g : Y → Z) (f : X → Y) (xs : List X) → map (λ x. g (f x)) xs ≡ map g (map f xs)
 map_twice g f [] = refl
 map_twice g f (x ∷ xs) = ap (λ l. g (f x) ∷ l) (map_twice g f xs)
 

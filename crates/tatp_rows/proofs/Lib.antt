@@ -3,7 +3,10 @@ mod ChainLists
 mod Finished
 mod EntryLists
 mod Fillings
+mod Indexed
+mod IndexSteps
 mod Inserted
+mod OneIndex
 mod Populations
 mod Standing
 mod Unique

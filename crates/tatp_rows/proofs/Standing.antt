@@ -19,16 +19,22 @@ use Rattle.hash_table.proofs.Chains.{each_at, records_more}
 use Rattle.dude_base.specs.declared.sizes.Sizes.{Sizes}
 use Rattle.dude_base.specs.Sizes.{IsAccepted}
 use Rattle.tatp_model.specs.Database.{access_key, facility_key, call_key}
-use Rattle.tatp_model.specs.Population.{population}
+use Rattle.tatp_model.specs.Population.{population, subscriber_at}
 use Rattle.tatp_model.proofs.PopulationInOrder.{IsInOrder-population}
 use Rattle.tatp_model.proofs.Rising.{keys_differ}
+use Rattle.tree_index.specs.declared.tree.Tree.{Tree}
+use Rattle.tree_index.specs.Shape.{keys_in}
+use Rattle.tatp_layout.specs.Index.{HasKeys, location_key}
 use Rattle.tatp_layout.specs.Records.{RowForm, HoldsRow, subscriber_form, number_form, access_form, facility_form, call_form}
 use Rattle.tatp_layout.specs.StandsFor.{HasRows, StandsFor}
 use Rattle.tatp_layout.proofs.Places.{subscribers_fit, numbers_fit, access_fits, facilities_fit, calls_fit}
-use Rattle.tatp_rows.specs.Populated.{IsPopulated}
+use Rattle.tatp_rows.specs.Indexed.{IsIndexed}
+use Rattle.tatp_rows.specs.Populated.{IsPopulated, nth_key}
 use Rattle.tatp_rows.specs.Filled.{record_at, chain_for, free_from, IsFilled}
 use Rattle.tatp_rows.proofs.ChainLists.{chain_more, IsChained, chain_each}
+use Rattle.tatp_rows.proofs.EntryLists.{map_twice}
 use Rattle.tatp_rows.proofs.Fillings.{there_is}
+use Rattle.tatp_rows.proofs.Indexed.{grown_list}
 use Rattle.tatp_rows.proofs.Inserted.{each_weaker}
 
 -- the chains of all buckets
@@ -191,18 +197,29 @@ module _ {R : Type 0} (form : RowForm R) (rows : List R) {table : Table} {n : �
         (record_at table.pool among.0, has_record taken (records_in chains) once (record { index = among.0; below = among.1; is = refl }), filled.held among.0 row (slice_get-get_or rows among.0 row among.1 ∙ ap Some among.2));
   }
 
+-- an index has the keys of all subscribers
+index_stands : {tree : Tree} (S : ℕ) {a : List ℕ} → IsIndexed tree nth_key S a → HasKeys tree a (map location_key (population S).subscribers)
+index_stands {tree} S is = record {
+  shape = is.shape;
+  free_leaves = free_from tree.leaves S;
+  free_inner = free_from tree.inner (S - 1);
+  lawful = is.lawful;
+  same = subst (IsPermutation (keys_in is.shape)) (map_twice location_key subscriber_at (range_with_len 1 S)) (grown_list tree (λ s. location_key (subscriber_at s)) S is.shape is.grown);
+}
+
 -- The home of a new database stands for the population.
 pub population_stands : {s : Sizes} {a : List ℕ} → IsAccepted s → IsPopulated s a → StandsFor s a (population s.subscribers)
 population_stands {s} {a} accepted is =
     let rows = population s.subscribers in
+    let tables = is.tables in
     let order = IsInOrder-population s.subscribers (omega (arith, accepted.subscribers.high)) in
     record {
-      size = is.size;
+      size = tables.size;
       in_order = order;
-      subscribers = has_rows subscriber_form rows.subscribers (subscribers_fit accepted) (keys_differ (λ r. r.s_id) rows.subscribers order.subscribers_rise) is.subscribers;
-      numbers = has_rows number_form rows.subscribers (numbers_fit accepted) order.phones_differ is.numbers;
-      access = has_rows access_form rows.access (access_fits accepted) (keys_differ access_key rows.access order.access_rise) is.access;
-      facilities = has_rows facility_form rows.facilities (facilities_fit accepted) (keys_differ facility_key rows.facilities order.facilities_rise) is.facilities;
-      calls = has_rows call_form rows.calls (calls_fit accepted) (keys_differ call_key rows.calls order.calls_rise) is.calls;
-      index = λ some. absurd (some (omega (arith, accepted.index.high)));
+      subscribers = has_rows subscriber_form rows.subscribers (subscribers_fit accepted) (keys_differ (λ r. r.s_id) rows.subscribers order.subscribers_rise) tables.subscribers;
+      numbers = has_rows number_form rows.subscribers (numbers_fit accepted) order.phones_differ tables.numbers;
+      access = has_rows access_form rows.access (access_fits accepted) (keys_differ access_key rows.access order.access_rise) tables.access;
+      facilities = has_rows facility_form rows.facilities (facilities_fit accepted) (keys_differ facility_key rows.facilities order.facilities_rise) tables.facilities;
+      calls = has_rows call_form rows.calls (calls_fit accepted) (keys_differ call_key rows.calls order.calls_rise) tables.calls;
+      index = λ some. index_stands s.subscribers (is.index some);
     }

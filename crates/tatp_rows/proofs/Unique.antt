@@ -17,20 +17,19 @@ use Rattle.hash_table.specs.declared.table.Table.{Table}
 use Rattle.hash_table.specs.Table.{FitsTable, records_in}
 use Rattle.hash_table.proofs.Chains.{each_at, chain_with}
 use Rattle.tatp_model.specs.Population.{population}
+use Rattle.tatp_layout.specs.Layout.{leaf_base}
 use Rattle.tatp_layout.specs.Records.{RowForm, HasWords, subscriber_form, number_form, access_form, facility_form, call_form}
 use Rattle.tatp_layout.proofs.Places.{subscribers_fit, numbers_fit, access_fits, facilities_fit, calls_fit}
-use Rattle.tatp_rows.specs.Populated.{IsUnusedByAll, IsPopulated}
+use Rattle.tatp_rows.specs.Populated.{IsBeforeIndex, IsIndexedTo, IsPopulated, IsUnusedByAll}
 use Rattle.tatp_rows.proofs.Beside.{few_words, few_access, few_facility, few_call}
 use Rattle.tatp_rows.specs.Filled.{record_at, chain_for, free_from, IsFilled, IsUnused}
 use Rattle.tatp_rows.proofs.ChainLists.{record_before}
 use Rattle.tatp_rows.proofs.Fillings.{there_is}
+use Rattle.tatp_rows.proofs.Finished.{linked_head}
+use Rattle.tatp_rows.proofs.OneIndex.{indexed_same}
 use Rattle.tatp_rows.proofs.Standing.{chains_for, chain_at, length-chains_for, first_records, chained_once}
 
 -- one list in two arrays: its links are the same
-linked_head : (a b : List ℕ) (link : ℕ) (xs : List ℕ) → Linked a link xs → Linked b link xs → slice_index a link ≡ slice_index b link
-linked_head a b link [] la lb = la ∙ sym lb
-linked_head a b link (x ∷ xs) la lb = la.0 ∙ sym lb.0
-
 linked_each : (a b : List ℕ) (link : ℕ) (xs : List ℕ) → Linked a link xs → Linked b link xs → AllByRecursion (λ x. slice_index a (x + 1) ≡ slice_index b (x + 1)) xs
 linked_each a b link [] la lb = tt
 linked_each a b link (x ∷ xs) la lb = (linked_head a b (x + 1) xs la.1 lb.1, linked_each a b (x + 1) xs la.1 lb.1)
@@ -195,10 +194,20 @@ module _ {R : Type 0} (form : RowForm R) (rows : List R) {table : Table} {n : �
         ]
       ]
 
+-- where the words of an index are the same, a word is, or it is in front of the index
+index_or_before : (s : Sizes) (n : ℕ) (a b : List ℕ) → IsIndexedTo s n a → IsIndexedTo s n b → (i : ℕ) → (slice_index a i ≡ slice_index b i) ⊎ IsBeforeIndex s i
+index_or_before s n a b ia ib i =
+    elim (cases_eq s.index 0) [
+      | inl none ↦ inr (λ some. absurd (some none))
+      | inr some ↦ elim (cases_lt i (leaf_base s)) [ inl before ↦ inr (λ _. before) | inr from ↦ inl (indexed_same (ia some) (ib some) i from) ]
+    ]
+
 -- a home of the population is one array
 pub populated_same : {s : Sizes} {a b : List ℕ} → IsAccepted s → IsPopulated s a → IsPopulated s b → a ≡ b
-populated_same {s} {a} {b} accepted fa fb =
+populated_same {s} {a} {b} accepted pa pb =
     let rows = population s.subscribers in
+    let fa = pa.tables in
+    let fb = pb.tables in
     ext_get_or 0 a b (fa.size ∙ sym fb.size) (λ i under.
     elim (told_or_unused subscriber_form rows.subscribers (subscribers_fit accepted) (few_words s).0 fa.subscribers fb.subscribers i) [
       | inl told ↦ told
@@ -210,9 +219,12 @@ populated_same {s} {a} {b} accepted fa fb =
             | inl told ↦ told
             | inr facilities ↦ elim (told_or_unused call_form rows.calls (calls_fit accepted) (few_call s) fa.calls fb.calls i) [
               | inl told ↦ told
-              | inr calls ↦
-                  let unused : IsUnusedByAll s i = record { subscribers = subscribers; numbers = numbers; access = access; facilities = facilities; calls = calls } in
-                  fa.zeros i unused ∙ sym (fb.zeros i unused)
+              | inr calls ↦ elim (index_or_before s s.subscribers a b pa.index pb.index i) [
+                | inl told ↦ told
+                | inr index ↦
+                    let unused : IsUnusedByAll s i = record { subscribers = subscribers; numbers = numbers; access = access; facilities = facilities; calls = calls; index = index } in
+                    fa.zeros i unused ∙ sym (fb.zeros i unused)
+              ]
             ]
           ]
         ]

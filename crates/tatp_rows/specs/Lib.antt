@@ -2,4 +2,5 @@ pub mod Causes
 pub mod Entries
 pub mod Filled
 pub mod Filling
+pub mod Indexed
 pub mod Populated

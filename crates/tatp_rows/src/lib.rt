@@ -5,6 +5,7 @@
 mod calls;
 mod fault;
 mod fill;
+mod indexing;
 mod kinds;
 mod packing;
 mod populated;

@@ -57,6 +57,8 @@ stores_first {tree} {n} fits old new free_leaves free_inner key size lawful p =
             changes.others i (own_not_outside fits (leaf ∷ []) [] i tree.root leafs inner root_own out, (own_not_outside fits (leaf ∷ []) [] i leaf leafs inner leaf_own out, tt))
             ∙ one.changes.others i (omega (arith, out.leaves.header), (omega (arith, out.leaves.header), tt));
       };
+      unread = λ i unread.
+          changes.others i (unread.root, (unread.below, tt)) ∙ one.changes.others i (omega (arith, unread.leaves), (omega (arith, unread.leaves), tt));
     }
 
 puts_empty : {tree : Tree} {n : ℕ} → FitsTree tree n → (old new free_leaves free_inner : List ℕ) (key : ℕ) → length old ≡ n → IsTree tree old None free_leaves free_inner → (put : TreePut) → PutsFirst tree key free_leaves [] put old new → Inserts tree key None free_leaves free_inner put old new

@@ -5,6 +5,7 @@ pub mod Fits
 pub mod Found
 pub mod Frames
 pub mod Frees
+pub mod Grown
 pub mod Inserted
 pub mod Nexts
 pub mod Numbers
@@ -12,4 +13,5 @@ pub mod Paths
 pub mod Removed
 pub mod Shapes
 pub mod Stored
+pub mod Unread
 pub mod Walks

@@ -7,14 +7,14 @@ use Rattle.std.proofs.lemmas.Map.Keys.{IsDistinct-IsPermutation}
 use Rattle.std.specs.List.{AllByRecursion, IsDistinct}
 use Rattle.std.specs.List.Sorted.{IsPermutation}
 use Rattle.record_heap.specs.declared.pool.Pool.{Pool}
-use Rattle.record_heap.specs.Changes.{ChangesOnly}
+use Rattle.record_heap.specs.Changes.{ChangesOnly, IsNoneOf}
 use Rattle.record_heap.specs.Pool.{IsPool, IsRecord}
 use Rattle.record_heap.proofs.Arrays.{changes_more, changes_none}
 use Rattle.record_heap.proofs.Frames.{IsOutsidePool, pool_stays, same_pool}
 use Rattle.record_heap.proofs.Records.{none_twice}
 use Rattle.tree_index.specs.declared.tree.Tree.{Tree}
-use Rattle.tree_index.specs.Shape.{Shape, Leaf, Fork, Holds, IsRadix, bit_of, forks_of, keys_of, leaves_of, link_of}
-use Rattle.tree_index.specs.Tree.{FitsTree, IsTree, Stores, StaysOutside}
+use Rattle.tree_index.specs.Shape.{Shape, Leaf, Fork, Holds, IsRadix, IsUnread, bit_of, forks_of, keys_of, leaves_of, link_of}
+use Rattle.tree_index.specs.Tree.{FitsTree, IsTree, IsUnreadBy, Stores, StaysOutside}
 use Rattle.tree_index.specs.Path.{Frame, GoesBy, HasLeafMore, plug, slot_of}
 use Rattle.tree_index.specs.Walk.{EndsBelow}
 use Rattle.tree_index.proofs.Apart.{IsOf, IsOwn, along_same, holds_same, of_more, own_apart, own_apart_leaf, own_more, own_not_outside, own_outside_inner, own_outside_leaves, rest_apart, slot_own}
@@ -22,6 +22,7 @@ use Rattle.tree_index.proofs.Found.{taken_record}
 use Rattle.tree_index.proofs.Paths.{Along, closed, distinct_behind, first_differs, flips, forks_along, keys_along, leaves_along, opened, perm_same, plug_forks, plug_keys, plug_leaves, radix_plug}
 use Rattle.tree_index.proofs.Numbers.{from_bit}
 use Rattle.tree_index.proofs.Shapes.{agree_below, bit_small, ends_lower, first_among, follows, only_key, other_among, radix_inside, radix_lower, reached_key, reach_along, reach_in, reach_there}
+use Rattle.tree_index.proofs.Unread.{unread_part}
 use Rattle.tree_index.proofs.Walks.{bit_cases}
 
 -- the taken records in another order
@@ -224,9 +225,16 @@ module _ {tree : Tree} {n : ℕ} (fits : FitsTree tree n) (old second new : List
         ∙ took i (omega (arith, out.leaves.header)) (omega (arith, out.leaves.header)) (omega (arith, out.inner.header)) (omega (arith, out.inner.header));
   }
 
+  -- the words that the new shape doesn't read stay, where it reads those that were written
+  stays_unread : (shape : Shape) → ((i : ℕ) → IsUnread shape i → IsNoneOf ((fork + l) ∷ (fork + k) ∷ fork ∷ leaf ∷ []) i) → (i : ℕ) → IsUnreadBy tree (Some (plug path shape)) i → slice_index new i ≡ slice_index old i
+  stays_unread shape apart_from i unread =
+      let part = unread_part tree.root path shape i unread.root unread.below in
+      changes.others i ((λ e. part.0 (e ∙ slot_is)), apart_from i part.1)
+      ∙ took i (omega (arith, unread.leaves)) (omega (arith, unread.leaves)) (omega (arith, unread.inner)) (omega (arith, unread.inner))
+
   -- With what now stands at the position:
-  pub stores_at : (shape : Shape) → link_of shape ≡ fork → Holds new shape → IsPermutation (leaf ∷ leaves_of rest) (leaves_of shape) → IsPermutation (fork ∷ forks_of rest) (forks_of shape) → IsPermutation (key ∷ keys_of rest) (keys_of shape) → IsRadix 64 (plug path shape) → ¬ Contains (keys_of (plug path rest)) key → HasLeafMore key leaf fork (plug path rest) (plug path shape) → free_leaves ≡ leaf ∷ left_leaves → free_inner ≡ fork ∷ left_inner → Stores tree key (Some (plug path rest)) free_leaves free_inner old new
-  stores_at shape link_is holds more_leaves more_forks more_keys radix absent more took_leaf took_inner =
+  pub stores_at : (shape : Shape) → ((i : ℕ) → IsUnread shape i → IsNoneOf ((fork + l) ∷ (fork + k) ∷ fork ∷ leaf ∷ []) i) → link_of shape ≡ fork → Holds new shape → IsPermutation (leaf ∷ leaves_of rest) (leaves_of shape) → IsPermutation (fork ∷ forks_of rest) (forks_of shape) → IsPermutation (key ∷ keys_of rest) (keys_of shape) → IsRadix 64 (plug path shape) → ¬ Contains (keys_of (plug path rest)) key → HasLeafMore key leaf fork (plug path rest) (plug path shape) → free_leaves ≡ leaf ∷ left_leaves → free_inner ≡ fork ∷ left_inner → Stores tree key (Some (plug path rest)) free_leaves free_inner old new
+  stores_at shape apart_from link_is holds more_leaves more_forks more_keys radix absent more took_leaf took_inner =
       let whole = closed new tree.root path shape along_holds (ap (λ x. slice_index new x) (sym slot_is) ∙ slot_word ∙ sym link_is) holds in
       record {
         absent = absent;
@@ -243,6 +251,7 @@ module _ {tree : Tree} {n : ℕ} (fits : FitsTree tree n) (old second new : List
           rooted = (whole.0, whole.1, radix);
         };
         others = outside;
+        unread = stays_unread shape apart_from;
       }
 
   -- ---- the bits
@@ -271,7 +280,8 @@ module _ {tree : Tree} {n : ℕ} (fits : FitsTree tree n) (old second new : List
         | inl none ↦ absurd (differ (omega (arith, here, from_bit d (reached_key key rest), none, above)))
         | inr one ↦ omega (arith, from_bit d (reached_key key rest), one, above)
       ] in
-      stores_at (Fork fork d (Leaf leaf key) rest) refl
+      stores_at (Fork fork d (Leaf leaf key) rest)
+      (λ i unread. ((λ e. unread.2 (omega (arith, e, l_is))), ((λ e. unread.1 (omega (arith, e, k_is))), (unread.0, (unread.3, tt))))) refl
       (bit_word, subst (λ x. slice_index new (fork + x) ≡ leaf) k_is leaf_link, subst (λ x. slice_index new (fork + x) ≡ link_of rest) l_is (other_word ∙ link_is), key_word, rest_holds)
       (IsPermutation-refl (leaf ∷ leaves_of rest)) (IsPermutation-refl (fork ∷ forks_of rest)) (IsPermutation-refl (key ∷ keys_of rest))
       (radix_plug key (d + 1) 64 path rest (Fork fork d (Leaf leaf key) rest) (follows key (d + 1) (reached_key key rest) 64 path rest radix goes (reach_in key rest) above) goes (omega (arith, small)) either_key
@@ -296,7 +306,8 @@ module _ {tree : Tree} {n : ℕ} (fits : FitsTree tree n) (old second new : List
         | inl none ↦ omega (arith, from_bit d (reached_key key rest), none, above)
         | inr one ↦ absurd (differ (omega (arith, here, from_bit d (reached_key key rest), one, above)))
       ] in
-      stores_at (Fork fork d rest (Leaf leaf key)) refl
+      stores_at (Fork fork d rest (Leaf leaf key))
+      (λ i unread. ((λ e. unread.1 (omega (arith, e, l_is))), ((λ e. unread.2 (omega (arith, e, k_is))), (unread.0, (unread.4, tt))))) refl
       (bit_word, subst (λ x. slice_index new (fork + x) ≡ link_of rest) l_is (other_word ∙ link_is), subst (λ x. slice_index new (fork + x) ≡ leaf) k_is leaf_link, rest_holds, key_word)
       (IsPermutation-sym _ _ (IsPermutation-to_front (leaves_of rest) leaf)) (perm_same (fork ∷ forks_of rest) (fork ∷ (forks_of rest ++ [])) (ap (λ xs. fork ∷ xs) (sym (append-nil (forks_of rest))))) (IsPermutation-sym _ _ (IsPermutation-to_front (keys_of rest) key))
       (radix_plug key (d + 1) 64 path rest (Fork fork d rest (Leaf leaf key)) (follows key (d + 1) (reached_key key rest) 64 path rest radix goes (reach_in key rest) above) goes (omega (arith, small)) either_key_last

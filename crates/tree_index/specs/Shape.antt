@@ -1,5 +1,5 @@
 -- The shape of a tree: which records it has, with which keys and bits, and what that means in an array.
-use Rattle.std.specs.Prelude.{◌≡◌, ℕ, ◌+◌, ◌*◌, ◌/◌, ◌%◌, ◌^◌, ◌<◌, List, [], ◌∷◌, ◌++◌, All, Option, Some, None, slice_index}
+use Rattle.std.specs.Prelude.{◌≡◌, ◌≢◌, ℕ, ◌+◌, ◌*◌, ◌/◌, ◌%◌, ◌^◌, ◌<◌, List, [], ◌∷◌, ◌++◌, All, Option, Some, None, slice_index}
 
 -- a leaf at this place with this key; or an inner record at this place with this bit, and what is below it,
 -- first what has 0 in that bit
@@ -52,6 +52,11 @@ abbrev pub Holds : List ℕ → Shape → Type 0
 Holds array (Leaf at key) = slice_index array at ≡ key
 Holds array (Fork at bit zeros ones) = (slice_index array at ≡ bit) × (slice_index array (at + 2) ≡ link_of zeros) × (slice_index array (at + 3) ≡ link_of ones) × Holds array zeros × Holds array ones
 
+-- a word that this shape doesn't read: it is none of the words 0 of its leaves, and of the words 0, 2 and 3 of its inner records
+abbrev pub IsUnread : Shape → ℕ → Type 0
+IsUnread (Leaf at key) i = i ≢ at
+IsUnread (Fork at bit zeros ones) i = (i ≢ at) × (i ≢ at + 2) × (i ≢ at + 3) × IsUnread zeros i × IsUnread ones i
+
 -- the keys of a tree that may be empty
 abbrev pub keys_in : Option Shape → List ℕ
 keys_in None = []
@@ -66,3 +71,8 @@ leaves_in (Some shape) = leaves_of shape
 abbrev pub forks_in : Option Shape → List ℕ
 forks_in None = []
 forks_in (Some shape) = forks_of shape
+
+-- a word that a tree which may be empty doesn't read below its root
+abbrev pub IsUnreadIn : Option Shape → ℕ → Type 0
+IsUnreadIn None i = Unit {0}
+IsUnreadIn (Some shape) i = IsUnread shape i

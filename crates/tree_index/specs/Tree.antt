@@ -7,7 +7,7 @@ use Rattle.tree_index.specs.declared.tree.Tree.{Tree}
 use Rattle.tree_index.specs.declared.tree_put.TreePut.{TreePut}
 use Rattle.tree_index.specs.declared.tree_put.TreePut.TheVariants.{There, Full, Stored}
 use Rattle.tree_index.specs.Path.{GrowsBy}
-use Rattle.tree_index.specs.Shape.{Shape, Holds, IsRadix, forks_in, keys_in, keys_of, leaves_in, link_of}
+use Rattle.tree_index.specs.Shape.{Shape, Holds, IsRadix, IsUnreadIn, forks_in, keys_in, keys_of, leaves_in, link_of}
 
 -- n words from p on are apart from the header and from the records of a pool
 pub record IsBeside (pool : Pool) (p n : ℕ) : Type 0 where
@@ -55,8 +55,16 @@ pub record StaysOutside (tree : Tree) (old new : List ℕ) : Type 0 where
   pub size : length new ≡ length old
   pub others : (i : ℕ) → IsOutside tree i → slice_index new i ≡ slice_index old i
 
+-- a word that neither says how a tree of this shape stands nor what its headers count: none of the headers' two words each,
+-- not the root's, and none that the shape reads
+pub record IsUnreadBy (tree : Tree) (shape : Option Shape) (i : ℕ) : Type 0 where
+  pub leaves : AreApart tree.leaves.base 2 i 1
+  pub inner : AreApart tree.inner.base 2 i 1
+  pub root : i ≢ tree.root
+  pub below : IsUnreadIn shape i
+
 -- The key was not there, and is one of the keys now. The first free leaf is taken, and the first free inner
--- record where there was a key.
+-- record where there was a key. Words that the grown tree doesn't read stay.
 pub record Stores (tree : Tree) (key : ℕ) (shape : Option Shape) (free_leaves free_inner : List ℕ) (old new : List ℕ) : Type 0 where
   pub absent : ¬ Contains (keys_in shape) key
   pub leaf : ℕ
@@ -68,6 +76,7 @@ pub record Stores (tree : Tree) (key : ℕ) (shape : Option Shape) (free_leaves 
   pub keys : IsPermutation (key ∷ keys_in shape) (keys_of after)
   pub lawful : IsTree tree new (Some after) left_leaves left_inner
   pub others : StaysOutside tree old new
+  pub unread : (i : ℕ) → IsUnreadBy tree (Some after) i → slice_index new i ≡ slice_index old i
 
 -- no leaf is free or, with a key there, no inner record
 abbrev pub HasNoRoom : Option Shape → List ℕ → List ℕ → Type 0

@@ -1,6 +1,6 @@
-use Rattle.std.proofs.Common.{◌∙◌, codes, refl, sym}
+use Rattle.std.proofs.Common.{◌∙◌, codes, false, true, refl, sym}
 use Rattle.std.specs.Rc.{rc_str_bytes}
-use Rattle.command_edges.specs.Command.{RecoverImage, DumpTables, alone, audit_of, drive_of, follow_of, format_of, fresh_of, run_of, ship_of, stream_of}
+use Rattle.command_edges.specs.Command.{RecoverImage, DumpTables, alone, audit_of, drive_of, follow_of, format_of, fresh_of, locate_of, run_of, ship_of, stream_of}
 use Rattle.command_edges.proofs.Names.{first-named, first-other}
 use Rattle.command_edges.proofs.Readings.{means-if-ok}
 use Rattle.command_edges.proofs.command.command_of.Goals as goal
@@ -16,8 +16,15 @@ pub returns-in-format-clause-meaning : goal.returns-in-format-clause-meaning
 returns-in-format-clause-meaning c =
     let item = c.in-Some.ensures.item in
     means-if-ok c.format_of.result _ _
-    (first-named rc_str_bytes c.args.words.now c.in-Some.name.now (codes "format") format_of (λ words. refl) item.3.0 item.1 (sym c.as_str.ensures.value ∙ c.in-format.is))
+    (first-named rc_str_bytes c.args.words.now c.in-Some.name.now (codes "format") (format_of false) (λ words. refl) item.3.0 item.1 (sym c.as_str.ensures.value ∙ c.in-format.is))
     c.format_of.ensures
+
+pub returns-in-xformat-clause-meaning : goal.returns-in-xformat-clause-meaning
+returns-in-xformat-clause-meaning c =
+    let item = c.in-Some.ensures.item in
+    means-if-ok c.format_of-in-xformat.result _ _
+    (first-named rc_str_bytes c.args.words.now c.in-Some.name.now (codes "xformat") (format_of true) (λ words. refl) item.3.0 item.1 (sym c.as_str.ensures.value ∙ c.in-xformat.is))
+    c.format_of-in-xformat.ensures
 
 pub returns-in-run-clause-meaning : goal.returns-in-run-clause-meaning
 returns-in-run-clause-meaning c =
@@ -32,6 +39,13 @@ returns-in-stream-clause-meaning c =
     means-if-ok c.stream_of.result _ _
     (first-named rc_str_bytes c.args.words.now c.in-Some.name.now (codes "stream") stream_of (λ words. refl) item.3.0 item.1 (sym c.as_str.ensures.value ∙ c.in-stream.is))
     c.stream_of.ensures
+
+pub returns-in-locate-clause-meaning : goal.returns-in-locate-clause-meaning
+returns-in-locate-clause-meaning c =
+    let item = c.in-Some.ensures.item in
+    means-if-ok c.locate_of.result _ _
+    (first-named rc_str_bytes c.args.words.now c.in-Some.name.now (codes "locate") locate_of (λ words. refl) item.3.0 item.1 (sym c.as_str.ensures.value ∙ c.in-locate.is))
+    c.locate_of.ensures
 
 pub returns-in-drive-clause-meaning : goal.returns-in-drive-clause-meaning
 returns-in-drive-clause-meaning c =
@@ -78,10 +92,12 @@ returns-in_default-as_str-clause-meaning c =
     sym (first-other rc_str_bytes c.args.words.now c.in-Some.name.now item.3.0 item.1 (record {
       fresh = λ e. arm.not-fresh (text ∙ e);
       format = λ e. arm.not-format (text ∙ e);
+      xformat = λ e. arm.not-xformat (text ∙ e);
       run = λ e. arm.not-run (text ∙ e);
       stream = λ e. arm.not-stream (text ∙ e);
       recover = λ e. arm.not-recover (text ∙ e);
       dump = λ e. arm.not-dump (text ∙ e);
+      locate = λ e. arm.not-locate (text ∙ e);
       drive = λ e. arm.not-drive (text ∙ e);
       audit = λ e. arm.not-audit (text ∙ e);
       ship = λ e. arm.not-ship (text ∙ e);

@@ -6,7 +6,7 @@ use Rattle.command_edges.proofs.Readings.{read-refused, read-taken}
 use Rattle.command_edges.proofs.format.read_format.Goals as goal
 
 pub returns-in-Some : goal.returns-in-Some
-returns-in-Some c = c.format_in.ensures ∙ read-taken format_app (map rc_str_bytes c.args.words.now) format_in c.in-Some.is c.in_ok-matches.ensures (format-reads _ c.requires)
+returns-in-Some c = c.format_in.ensures ∙ read-taken format_app (map rc_str_bytes c.args.words.now) (format_in c.args.indexed) c.in-Some.is c.in_ok-matches.ensures (format-reads c.args.indexed _ c.requires)
 
 pub returns-in-None : goal.returns-in-None
-returns-in-None c = read-refused format_app (map rc_str_bytes c.args.words.now) format_in c.in-None.is c.in_ok-matches.ensures (format-reads _ c.requires)
+returns-in-None c = read-refused format_app (map rc_str_bytes c.args.words.now) (format_in c.args.indexed) c.in-None.is c.in_ok-matches.ensures (format-reads c.args.indexed _ c.requires)

@@ -15,6 +15,9 @@ returns-in-Recover-clause-ends g c = rw c.in-Recover.is (c.recover.ensures.ends 
 pub returns-in-Dump-clause-ends : goal.returns-in-Dump-clause-ends
 returns-in-Dump-clause-ends g c = rw c.in-Dump.is (c.dump.ensures.ends (g.F.Files.sight c.args.files.now))
 
+pub returns-in-Locate-clause-ends : goal.returns-in-Locate-clause-ends
+returns-in-Locate-clause-ends g c = rw c.in-Locate.is (c.locate.ensures.ends (g.F.Files.sight c.args.files.now))
+
 pub returns-in-Drive-clause-ends : goal.returns-in-Drive-clause-ends
 returns-in-Drive-clause-ends g c = rw c.in-Drive.is (c.drive.ensures.ends (g.F.Files.sight c.args.files.now))
 

@@ -1,10 +1,13 @@
 use Rattle.std.proofs.Common.{◌≡◌, ℕ, ◌+◌, ◌*◌, ◌%◌, ◌<◌, ◌≤◌, true, slice_index, Option, IfNone, subst, ap, sym, ◌∙◌, arith}
-use Rattle.pmem_trait.proofs.ReadRuns.{reads_here, read_alone, read_content, content_before}
+use Rattle.pmem_trait.proofs.ReadRuns.{reads_here, reads_then, read_alone, read_content, content_before}
 use Rattle.redo_record.specs.Images.{word_in_image}
 use Rattle.dude_base.specs.Image.{cell_at}
 use Rattle.log_ring.proofs.RecordReads.{word_of_head, record_is}
 use Rattle.log_ring.proofs.Replayable.{home_replayable}
 use Rattle.log_ring.proofs.reads.read_record.Goals as goal
+
+pub returns-clause-reads : goal.returns-clause-reads
+returns-clause-reads g c = reads_then (read_alone {ok = true} c.in_ok-word.ensures.one_call) c.in_ok-read_cells.ensures.reads
 
 pub returns-clause-replayable : goal.returns-clause-replayable
 returns-clause-replayable g c = home_replayable c.args.place.now _ c.home_record.result c.home_record.ensures
