@@ -1,6 +1,6 @@
 -- What a turn that brings a page into a frame leaves of the seat that had it.
-use Rattle.std.proofs.Common.{◌≡◌, ◌+◌, ◌<◌, ℕ, Bool, true, false, refl, ap, ◌∙◌, subst, arith, []}
-use Rattle.std.specs.Prelude.{Some, Result, Ok, Err, IfOk, IfErr}
+use Rattle.std.proofs.Common.{◌≡◌, ◌+◌, ◌<◌, ℕ, Bool, true, false, refl, sym, ap, ◌∙◌, subst, arith, []}
+use Rattle.std.specs.Prelude.{Some, Result, Ok, Err, IfOk, IfErr, OnOk, OnErr}
 use Rattle.pmem_trait.specs.Sights.{Sight}
 use Rattle.pmem_trait.specs.declared.medium.Medium.{Ghosts}
 use Rattle.atomic_table.specs.declared.shared.Seat.{Seat}
@@ -79,6 +79,12 @@ module _ {M : Type 0} {ghosts : Ghosts M} (sight : M → Sight) (t : TableSight 
   }
 
   -- ---- at the end of the turn
+  -- a page was placed, or a call of the back failed
+  pub placed_comes : (page : ℕ) (result : Result (Unit {0}) FetchFault) (seat : TurnSeat) (h : TheHome M ghosts) (keeps same : Type 0) → (keeps → same → ComesTo sight t page (Ok tt) seat h) → OnOk result keeps → OnOk result same
+      → IfErr result (λ fault. fault ≡ Device) → OnErr result ((state_of h.back).dead ≡ true) → ComesTo sight t page result seat h
+  placed_comes page (Ok done) seat h keeps same comes kept stays device died = comes kept stays
+  placed_comes page (Err fault) seat h keeps same comes kept stays device died = subst (λ f. ComesTo sight t page (Err f) seat h) (sym device) died
+
   pub settled_comes : (page : ℕ) (result : Result (Unit {0}) FetchFault) (seat : TurnSeat) (h : TheHome M ghosts) → ComesTo sight t page result seat h → IsSettled (state_of h.back)
   settled_comes page (Ok done) seat h c = settled_at (state_of h.back) c.0 c.1.settled.is c.1.settled.reproduced
   settled_comes page (Err (Behind touch reproduced)) seat h c = settled_at (state_of h.back) reproduced c.0.settled.is c.0.settled.reproduced

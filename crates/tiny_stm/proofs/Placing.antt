@@ -55,10 +55,6 @@ read_died v w (Err Device) is dead only = ap (λ (s : BackState). s.dead) is
 read_died v w (Err Dead) is dead only = ap (λ (s : BackState). s.dead) is ∙ dead.0 refl
 read_died v w (Err (RingFull used need)) is dead only = absurd (not_full used need only)
 
-pub on_err : {X E : Type 0} (r : Result X E) (P : Type 0) → P → OnErr r P
-on_err (Ok x) P p = tt
-on_err (Err e) P p = p
-
 -- ---- the seat
 module _ {M : Type 0} {ghosts : Ghosts M} (sight : M → Sight) (t : TableSight (Opening M ghosts)) where
   abbrev z : Setup

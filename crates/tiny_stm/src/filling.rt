@@ -1,14 +1,15 @@
 //! The words of a page are brought into a frame, and the page is shown.
 
-ghost use Rattle.std.specs.Prelude.{◌≡◌, OnErr, OnOk, true};
+ghost use Rattle.std.specs.Prelude.{◌≡◌, IfErr, OnErr, OnOk, true};
 ghost use Rattle.back_store.specs.BackView.{state_of};
 ghost use Rattle.core_events.specs.Conditions.{KeepsFrame};
 ghost use Rattle.shadow_pages.specs.PageMap.{IsFree};
+ghost use Rattle.tiny_stm.specs.declared.fetch_fault.FetchFault.TheVariants.{Device};
 ghost use Rattle.tiny_stm.specs.Filling.{IsFilledIn, MayFill, MayPlace};
 ghost use Rattle.tiny_stm.specs.Frames.{MayMakeRoom};
 ghost use Rattle.tiny_stm.specs.Paging.{Paged};
 
-use back_store::BackFault;
+use crate::fetch_fault::FetchFault;
 use core_table::places::ENTRY;
 use core_table::stm::Stm;
 use dude_base::limits::PAGE;
@@ -72,15 +73,18 @@ pub fn place_page<M: Medium>(
     home: &mut Home<M>,
     page: u64,
     frame: u64,
-) -> Result<(), BackFault>
+) -> Result<(), FetchFault>
     requires place { MayPlace M.sight stm.now.events page frame seat.old home.old }
     ensures step { Paged M.sight stm.now.events seat.old seat.new home.new }
     ensures ok { OnOk result (KeepsFrame seat.new.me.0.view page) }
     ensures back { OnOk result (state_of home.new.back ≡ state_of home.old.back) }
-    ensures err { OnErr result ((state_of home.new.back).dead ≡ true) }
+    ensures err { IfErr result (λ fault. fault ≡ Device) }
+    ensures died { OnErr result ((state_of home.new.back).dead ≡ true) }
 {
     let mut words = [0; PAGE as usize];
-    known_back::read_page(&mut home.back, page, &mut words)?;
+    let Ok(()) = known_back::read_page(&mut home.back, page, &mut words) else {
+        return Err(FetchFault::Device);
+    };
     fill_words(stm, seat, home, page, frame, &words);
     show(&stm.events, seat, home, page, frame);
     Ok(())

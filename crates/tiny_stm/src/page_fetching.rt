@@ -36,10 +36,7 @@ fn show_absent<M: Medium>(
         return Err(FetchFault::Behind { touch, reproduced });
     }
     match find_frame(&stm.events, seat, home, page) {
-        Ok(frame) => match place_page(stm, seat, home, page, frame) {
-            Ok(()) => Ok(()),
-            Err(_) => Err(FetchFault::Device),
-        },
+        Ok(frame) => place_page(stm, seat, home, page, frame),
         Err(pinned) => Err(FetchFault::AllPinned {
             page: pinned.page,
             seen: pinned.seen,

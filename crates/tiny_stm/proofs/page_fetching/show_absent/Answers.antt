@@ -1,7 +1,7 @@
 use Rattle.std.proofs.Common.{◌∙◌, refl, ap, arith}
 use Rattle.back_store.specs.BackView.{state_of}
 use Rattle.tiny_stm.proofs.Evicting.{may_on}
-use Rattle.tiny_stm.proofs.Fetched.{settled_to_on}
+use Rattle.tiny_stm.proofs.Fetched.{placed_comes, settled_to_on}
 use Rattle.tiny_stm.proofs.QuietPages.{may_touch, touch_kept, touched_paged, touched_room}
 use Rattle.tiny_stm.proofs.Turning.{then_paged}
 use Rattle.tiny_stm.proofs.page_fetching.show_absent.Goals as goal
@@ -40,24 +40,20 @@ place_page-requires g c =
       };
     }
 
-pub returns-in-Ok-place_page-clause-step : goal.returns-in-Ok-place_page-clause-step
-returns-in-Ok-place_page-clause-step g c =
+pub returns-in-Ok-clause-step : goal.returns-in-Ok-clause-step
+returns-in-Ok-clause-step g c =
     let x = c.load_touch-touch in let t = c.args.stm.now.events in let seat = c.args.seat.now in let h = c.args.home.now in let sight = g.M.Medium.sight in let f = c.find_frame in let p = c.place_page in
     let step = touched_paged sight t c.args.page x.result seat x.new.seat h c.requires.room x.ensures.found.made x.ensures.view in
     then_paged sight t seat f.new.seat p.new.seat f.new.home p.new.home (then_paged sight t seat x.new.seat f.new.seat h f.new.home step f.ensures.room.step) p.ensures.step
 
-pub returns-in-Ok-place_page-clause-comes : goal.returns-in-Ok-place_page-clause-comes
-returns-in-Ok-place_page-clause-comes g c =
+pub returns-in-Ok-clause-comes : goal.returns-in-Ok-clause-comes
+returns-in-Ok-clause-comes g c =
     let x = c.load_touch-touch in let t = c.args.stm.now.events in let seat = c.args.seat.now in let h = c.args.home.now in let sight = g.M.Medium.sight in let f = c.find_frame in let p = c.place_page in
     let step = touched_paged sight t c.args.page x.result seat x.new.seat h c.requires.room x.ensures.found.made x.ensures.view in
     let all = then_paged sight t seat f.new.seat p.new.seat f.new.home p.new.home (then_paged sight t seat x.new.seat f.new.seat h f.new.home step f.ensures.room.step) p.ensures.step in
-    (c.args.reproduced, settled_to_on sight t c.args.reproduced seat p.new.seat h p.new.home c.requires.settled all (c.in-Ok-place_page.ensures.back ∙ ap (λ b. state_of b) f.ensures.room.back), c.in-Ok-place_page.ensures.ok)
-
-pub returns-in-Err-place_page-clause-step : goal.returns-in-Err-place_page-clause-step
-returns-in-Err-place_page-clause-step g c =
-    let x = c.load_touch-touch in let t = c.args.stm.now.events in let seat = c.args.seat.now in let h = c.args.home.now in let sight = g.M.Medium.sight in let f = c.find_frame in let p = c.place_page in
-    let step = touched_paged sight t c.args.page x.result seat x.new.seat h c.requires.room x.ensures.found.made x.ensures.view in
-    then_paged sight t seat f.new.seat p.new.seat f.new.home p.new.home (then_paged sight t seat x.new.seat f.new.seat h f.new.home step f.ensures.room.step) p.ensures.step
+    placed_comes sight t c.args.page p.result p.new.seat p.new.home _ _
+    (λ kept same. (c.args.reproduced, settled_to_on sight t c.args.reproduced seat p.new.seat h p.new.home c.requires.settled all (same ∙ ap (λ b. state_of b) f.ensures.room.back), kept))
+    p.ensures.ok p.ensures.back p.ensures.err p.ensures.died
 
 pub returns-in-Err-clause-step : goal.returns-in-Err-clause-step
 returns-in-Err-clause-step g c =
