@@ -1,15 +1,15 @@
--- An extension checks each lock of the reads once.
-use Rattle.std.proofs.Common.{◌≡◌, ◌≢◌, ℕ, zero, suc, ◌+◌, ◌<◌, ◌&&◌, eq-eqb, Bool, true, false, List, [], ◌∷◌, length, map, get_or, inr, inl, refl, sym, ap, ◌∙◌, subst, ne_eqb, arith, MatchBool}
+-- An extension checks the locks of the reads up to the last new one.
+use Rattle.std.proofs.Common.{◌≡◌, ℕ, zero, suc, ◌+◌, ◌<◌, ◌≤◌, ◌&&◌, eq-eqb, Bool, true, false, List, [], ◌∷◌, length, map, get_or, inr, inl, refl, sym, ap, ◌∙◌, subst, ne_eqb, arith, MatchBool}
 use Rattle.std.specs.Prelude.{Option, Some, None}
 use Rattle.std.proofs.lemmas.Bool.{true≢false}
 use mathlib.Core.Logic.{dite}
-use native.Mathlib.Decide.{ℕ_discrete}
+use native.Mathlib.Decide.{dec_lt, ℕ_discrete}
 use Rattle.core_events.specs.Setups.{Setup, lock_of}
 use Rattle.core_events.specs.Keyed.{has}
 use Rattle.core_events.specs.Views.{View, Transaction, the_lock}
 use Rattle.core_events.specs.Events.{extend, check, is_good, noticed, all_checked, reaching, extending, checking, view_after}
 use Rattle.core_events.specs.Conditions.{May}
-use Rattle.stm_transactions.specs.Looks.{Extended, IsOutdated, IsReading, Moved, Within}
+use Rattle.stm_transactions.specs.Looks.{Extended, HasNewLock, IsOutdated, IsReading, Moved, RepeatFrom, Within, lock_at}
 use Rattle.stm_transactions.specs.Seats.{HasRisen, IsOf}
 
 -- the locks of the first k reads were found good, and no others; the view is on its way to n, or there
@@ -101,78 +101,74 @@ module _ (z : Setup) (thread snapshot : ℕ) (reads : List (ℕ × ℕ)) (v : Vi
           counted = omega arith;
         })
 
-    module _ (k : ℕ) (w : View) (e : Extending z n k reads v w) (lt : k < length reads) where
-      pub extending_skip : (j : ℕ) → j < k → lock_of z (get_or reads j (0, 0)).0 ≡ lock_of z (get_or reads k (0, 0)).0 → Extending z n (k + 1) reads v w
-      extending_skip j less same = record {
-        within = e.within;
-        moved = e.moved;
-        loaded = e.loaded;
-        good = λ i b. dite (ℕ_discrete i k) (λ h. rw (h, ← same) (e.good j less)) (λ o. e.good i (omega arith));
-        only = λ l h. let o = e.only l h in (o.0, (let p = o.1 in omega arith), o.2);
-        state = e.state;
-        counted = e.counted;
+    module _ (k last : ℕ) (w : View) (e : Extending z n k reads v w) (le : k ≤ last) (there : last < length reads) (fresh : HasNewLock z.locks reads last) where
+      abbrev lock : ℕ
+      lock = lock_of z (get_or reads k (0, 0)).0
+
+      open_yet : (w.tx.snapshot ≡ v.tx.snapshot) × (w.tx.extension ≡ Some n)
+      open_yet = match_false ((w.tx.snapshot ≡ n) × (w.tx.extension ≡ None)) ((w.tx.snapshot ≡ v.tx.snapshot) × (w.tx.extension ≡ Some n)) (all_checked z w.tx.checked reads) (not_all (all_checked z w.tx.checked reads) (λ a. let o = e.only (lock_at z.locks reads last) (each_of_all z w.tx.checked reads last there a) in fresh o.0 (let p = o.1 in omega arith) o.2)) e.state
+
+      same_reads : w.tx.reads ≡ reads
+      same_reads = ap (λ (y : Transaction). y.reads) e.moved ∙ x.reads_are
+
+      its : IsOf thread w
+      its = of_within thread v w x.of e.within
+
+      pub check_may : lock < z.locks → May z (check lock) w
+      check_may below = record {
+        live = its.live;
+        threaded = (thread, its.its);
+        named = below;
+        can = inr (record { no_value = e.loaded; of_read = rw same_reads (has_lock z reads k (0, 0) (omega arith)); why = inl (n, open_yet.1) });
       }
 
-      module _ (fresh : (j : ℕ) → j < k → lock_of z (get_or reads j (0, 0)).0 ≢ lock_of z (get_or reads k (0, 0)).0) where
-        abbrev lock : ℕ
-        lock = lock_of z (get_or reads k (0, 0)).0
+      after_is : (m : ℕ) (b : Bool) → is_good (Some thread) snapshot m ≡ b → view_after z (check lock) w m ≡ noticed (the_lock lock) m (record w { tx = extending z b n lock w.tx })
+      after_is m b is =
+          ap (λ (o : Option (ℕ × ℕ)). noticed (the_lock lock) m (record w { tx = checking z o w.tx.extension w.part.thread lock m w.tx })) e.loaded
+          ∙ (ap (λ (o : Option ℕ). noticed (the_lock lock) m (record w { tx = checking z None o w.part.thread lock m w.tx })) open_yet.1
+          ∙ (ap (λ (o : Option ℕ). noticed (the_lock lock) m (record w { tx = extending z (is_good o w.tx.snapshot m) n lock w.tx })) its.its
+          ∙ ap (λ (c : Bool). noticed (the_lock lock) m (record w { tx = extending z c n lock w.tx })) (ap (λ (s : ℕ). is_good (Some thread) s m) (open_yet.0 ∙ x.snap) ∙ is)))
 
-        open_yet : (w.tx.snapshot ≡ v.tx.snapshot) × (w.tx.extension ≡ Some n)
-        open_yet = match_false ((w.tx.snapshot ≡ n) × (w.tx.extension ≡ None)) ((w.tx.snapshot ≡ v.tx.snapshot) × (w.tx.extension ≡ Some n)) (all_checked z w.tx.checked reads) (not_all (all_checked z w.tx.checked reads) (λ a. let o = e.only lock (each_of_all z w.tx.checked reads k lt a) in fresh o.0 o.1 o.2)) e.state
+      pub extending_on : (m : ℕ) (y : View) → y ≡ view_after z (check lock) w m → is_good (Some thread) snapshot m ≡ true → Extending z n (k + 1) reads v y
+      extending_on m y is good =
+          let u : Transaction = record w.tx { checked = lock ∷ w.tx.checked } in let b = all_checked z (lock ∷ w.tx.checked) w.tx.reads in let q = reaching_moved n b u in
+          let c = e.counted in
+          rw (is ∙ after_is m true good) (record {
+            within = within_on v w (noticed (the_lock lock) m (record w { tx = reaching b n u })) e.within refl;
+            moved = moved_on v.tx w.tx (reaching b n u) e.moved (moved_on w.tx u (reaching b n u) refl q.0);
+            loaded = q.1 ∙ e.loaded;
+            good = λ i lt2. ap (λ (cs : List ℕ). has cs (lock_of z (get_or reads i (0, 0)).0)) q.2 ∙ dite (ℕ_discrete i k) (λ h. has_first w.tx.checked lock (lock_of z (get_or reads i (0, 0)).0) (rw h refl)) (λ o. has_more w.tx.checked lock (lock_of z (get_or reads i (0, 0)).0) (e.good i (omega arith)));
+            only = λ l h. let g : has (lock ∷ w.tx.checked) l ≡ true = sym (ap (λ (cs : List ℕ). has cs l) q.2) ∙ h in dite (ℕ_discrete lock l) (λ s. (k, omega arith, s)) (λ o. let r = e.only l (let a = rw (ne_eqb lock l o) at g in a) in (r.0, (let p = r.1 in omega arith), r.2));
+            state = subst (λ (c : Bool). MatchBool c (((reaching b n u).snapshot ≡ n) × ((reaching b n u).extension ≡ None)) (((reaching b n u).snapshot ≡ v.tx.snapshot) × ((reaching b n u).extension ≡ Some n)))
+                (ap (all_checked z (lock ∷ w.tx.checked)) same_reads ∙ ap (λ (cs : List ℕ). all_checked z cs reads) (sym q.2)) (reached n v.tx.snapshot b u open_yet.0);
+            counted = omega arith;
+          })
 
-        same_reads : w.tx.reads ≡ reads
-        same_reads = ap (λ (y : Transaction). y.reads) e.moved ∙ x.reads_are
-
-        its : IsOf thread w
-        its = of_within thread v w x.of e.within
-
-        pub check_may : lock < z.locks → May z (check lock) w
-        check_may there = record {
-          live = its.live;
-          threaded = (thread, its.its);
-          named = there;
-          can = inr (record { no_value = e.loaded; of_read = rw same_reads (has_lock z reads k (0, 0) lt); why = inl (n, open_yet.1) });
-        }
-
-        after_is : (m : ℕ) (b : Bool) → is_good (Some thread) snapshot m ≡ b → view_after z (check lock) w m ≡ noticed (the_lock lock) m (record w { tx = extending z b n lock w.tx })
-        after_is m b is =
-            ap (λ (o : Option (ℕ × ℕ)). noticed (the_lock lock) m (record w { tx = checking z o w.tx.extension w.part.thread lock m w.tx })) e.loaded
-            ∙ (ap (λ (o : Option ℕ). noticed (the_lock lock) m (record w { tx = checking z None o w.part.thread lock m w.tx })) open_yet.1
-            ∙ (ap (λ (o : Option ℕ). noticed (the_lock lock) m (record w { tx = extending z (is_good o w.tx.snapshot m) n lock w.tx })) its.its
-            ∙ ap (λ (c : Bool). noticed (the_lock lock) m (record w { tx = extending z c n lock w.tx })) (ap (λ (s : ℕ). is_good (Some thread) s m) (open_yet.0 ∙ x.snap) ∙ is)))
-
-        pub extending_on : (m : ℕ) (y : View) → y ≡ view_after z (check lock) w m → is_good (Some thread) snapshot m ≡ true → Extending z n (k + 1) reads v y
-        extending_on m y is good =
-            let u : Transaction = record w.tx { checked = lock ∷ w.tx.checked } in let b = all_checked z (lock ∷ w.tx.checked) w.tx.reads in let q = reaching_moved n b u in
-            let c = e.counted in
-            rw (is ∙ after_is m true good) (record {
-              within = within_on v w (noticed (the_lock lock) m (record w { tx = reaching b n u })) e.within refl;
-              moved = moved_on v.tx w.tx (reaching b n u) e.moved (moved_on w.tx u (reaching b n u) refl q.0);
-              loaded = q.1 ∙ e.loaded;
-              good = λ i lt2. ap (λ (cs : List ℕ). has cs (lock_of z (get_or reads i (0, 0)).0)) q.2 ∙ dite (ℕ_discrete i k) (λ h. has_first w.tx.checked lock (lock_of z (get_or reads i (0, 0)).0) (rw h refl)) (λ o. has_more w.tx.checked lock (lock_of z (get_or reads i (0, 0)).0) (e.good i (omega arith)));
-              only = λ l h. let g : has (lock ∷ w.tx.checked) l ≡ true = sym (ap (λ (cs : List ℕ). has cs l) q.2) ∙ h in dite (ℕ_discrete lock l) (λ s. (k, omega arith, s)) (λ o. let r = e.only l (let a = rw (ne_eqb lock l o) at g in a) in (r.0, (let p = r.1 in omega arith), r.2));
-              state = subst (λ (c : Bool). MatchBool c (((reaching b n u).snapshot ≡ n) × ((reaching b n u).extension ≡ None)) (((reaching b n u).snapshot ≡ v.tx.snapshot) × ((reaching b n u).extension ≡ Some n)))
-                  (ap (all_checked z (lock ∷ w.tx.checked)) same_reads ∙ ap (λ (cs : List ℕ). all_checked z cs reads) (sym q.2)) (reached n v.tx.snapshot b u open_yet.0);
+      pub extending_bad : (m : ℕ) (y : View) → y ≡ view_after z (check lock) w m → is_good (Some thread) snapshot m ≡ false → Extended snapshot v y × IsOutdated z thread snapshot reads lock m × (y.found ≡ Some (the_lock lock, m)) × (HasRisen v.count y.count)
+      extending_bad m y is bad =
+          let c = e.counted in
+          rw (is ∙ after_is m false bad) (
+            record {
+              within = within_on v w (noticed (the_lock lock) m (record w { tx = record w.tx { extension = None } })) e.within refl;
+              moved = moved_on v.tx w.tx (record w.tx { extension = None }) e.moved refl;
+              snap = open_yet.0 ∙ x.snap;
+              ended = refl;
               counted = omega arith;
-            })
+            },
+            record { of_read = has_lock z reads k (0, 0) (omega arith); bad = bad },
+            refl,
+            omega arith,
+          )
 
-        pub extending_bad : (m : ℕ) (y : View) → y ≡ view_after z (check lock) w m → is_good (Some thread) snapshot m ≡ false → Extended snapshot v y × IsOutdated z thread snapshot reads lock m × (y.found ≡ Some (the_lock lock, m)) × (HasRisen v.count y.count)
-        extending_bad m y is bad =
-            let c = e.counted in
-            rw (is ∙ after_is m false bad) (
-              record {
-                within = within_on v w (noticed (the_lock lock) m (record w { tx = record w.tx { extension = None } })) e.within refl;
-                moved = moved_on v.tx w.tx (record w.tx { extension = None }) e.moved refl;
-                snap = open_yet.0 ∙ x.snap;
-                ended = refl;
-                counted = omega arith;
-              },
-              record { of_read = has_lock z reads k (0, 0) lt; bad = bad },
-              refl,
-              omega arith,
-            )
+    -- the locks of the first reads were found good, and all others repeat them
+    module _ (count : ℕ) (w : View) (e : Extending z n count reads v w) (behind : RepeatFrom z.locks reads count) where
+      good_below : (bound k : ℕ) → k < bound → k < length reads → has w.tx.checked (lock_of z (get_or reads k (0, 0)).0) ≡ true
+      good_below zero k lt there = absurd (omega arith)
+      good_below (suc bound) k lt there = dite (dec_lt k count) (e.good k) (λ over.
+          let r = behind k (omega arith) there in
+          subst (λ l. has w.tx.checked l ≡ true) r.2 (good_below bound r.0 (let p = r.1 in omega arith) (let p = r.1 in omega arith)))
 
-    pub extending_end : (w : View) → Extending z n (length reads) reads v w → Extended n v w
-    extending_end w e =
-        let s = match_true ((w.tx.snapshot ≡ n) × (w.tx.extension ≡ None)) ((w.tx.snapshot ≡ v.tx.snapshot) × (w.tx.extension ≡ Some n)) (all_checked z w.tx.checked reads) (all_of_each z w.tx.checked reads e.good) e.state in
-        record { within = e.within; moved = e.moved; snap = s.0; ended = s.1; counted = (let c = e.counted in omega arith) }
+      pub extending_end : Extended n v w
+      extending_end =
+          let s = match_true ((w.tx.snapshot ≡ n) × (w.tx.extension ≡ None)) ((w.tx.snapshot ≡ v.tx.snapshot) × (w.tx.extension ≡ Some n)) (all_checked z w.tx.checked reads) (all_of_each z w.tx.checked reads (λ k. good_below (suc k) k (omega arith))) e.state in
+          record { within = e.within; moved = e.moved; snap = s.0; ended = s.1; counted = (let c = e.counted in omega arith) }

@@ -1,5 +1,5 @@
 -- Looks at locks and extensions of the snapshot, and what a call leaves of them.
-use Rattle.std.specs.Prelude.{◌≡◌, ◌≢◌, ℕ, ◌+◌, ◌*◌, ◌≤◌, ◌⊎◌, true, false, List, map, All, Some, None}
+use Rattle.std.specs.Prelude.{◌≡◌, ◌≢◌, ℕ, ◌+◌, ◌*◌, ◌%◌, ◌<◌, ◌≤◌, ◌⊎◌, true, false, List, length, map, All, Some, None, slice_index_or}
 use Rattle.atomic_table.specs.declared.shared.Seat.{Seat}
 use Rattle.core_events.specs.Setups.{Setup, lock_of}
 use Rattle.core_events.specs.Keyed.{has}
@@ -19,6 +19,26 @@ pub record IsReading (thread snapshot : ℕ) (reads : List (ℕ × ℕ)) (v : Vi
   pub steady : IsSteady v.tx
   pub snap : v.tx.snapshot ≡ snapshot
   pub reads_are : v.tx.reads ≡ reads
+
+-- the lock of a read, among so many
+abbrev pub lock_at : ℕ → List (ℕ × ℕ) → ℕ → ℕ
+lock_at locks reads k = (slice_index_or reads k (0, 0)).0 % locks
+
+-- no read before has the lock of this one
+abbrev pub HasNewLock : ℕ → List (ℕ × ℕ) → ℕ → Type 0
+HasNewLock locks reads k = (j : ℕ) → j < k → lock_at locks reads j ≢ lock_at locks reads k
+
+-- a read before has the lock of this one
+abbrev pub RepeatsLock : ℕ → List (ℕ × ℕ) → ℕ → Type 0
+RepeatsLock locks reads k = (j : ℕ) × (j < k) × (lock_at locks reads j ≡ lock_at locks reads k)
+
+-- the last of the first `count` reads, where there is one, has a lock that none before it has
+abbrev pub EndsAtNewLock : ℕ → List (ℕ × ℕ) → ℕ → Type 0
+EndsAtNewLock locks reads count = (k : ℕ) → count ≡ k + 1 → (k < length reads) × HasNewLock locks reads k
+
+-- all reads from this one on have locks of reads before them
+abbrev pub RepeatFrom : ℕ → List (ℕ × ℕ) → ℕ → Type 0
+RepeatFrom locks reads count = (k : ℕ) → count ≤ k → k < length reads → RepeatsLock locks reads k
 
 -- y is x but for where an extension is
 abbrev pub Moved : Transaction → Transaction → Type 0

@@ -13,6 +13,7 @@ mod counting;
 pub mod ending;
 mod good_look;
 pub mod good_word;
+pub mod lock_for;
 mod looking;
 pub mod lost;
 mod opening;

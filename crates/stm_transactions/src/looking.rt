@@ -1,8 +1,8 @@
 //! A lock is looked at, and the snapshot extended where that is needed.
 
-ghost use Rattle.std.specs.Prelude.{◌≡◌, ◌≢◌, ℕ, ◌%◌, ◌<◌, length, IfOk, IfErr, MatchBool, slice_index_or};
+ghost use Rattle.std.specs.Prelude.{◌<◌, ◌≤◌, length, IfOk, IfErr, MatchBool};
 ghost use Rattle.core_table.specs.Steps.{BelongsTo};
-ghost use Rattle.stm_transactions.specs.Looks.{Extends, FailsToExtend, FailsToLook, IsReading, LooksAt};
+ghost use Rattle.stm_transactions.specs.Looks.{EndsAtNewLock, Extends, FailsToExtend, FailsToLook, HasNewLock, IsReading, LooksAt, RepeatFrom, RepeatsLock};
 ghost use Rattle.stm_transactions.specs.Seats.{OutlastsReading, Stays};
 
 use crate::bad_lock::BadLock;
@@ -12,13 +12,12 @@ use core_table::event_table::Seat;
 use core_table::slot_rule::SlotRule;
 use core_table::stm::Stm;
 
-// Whether one of the first `k` reads has the lock.
-fn is_before(reads: &[(u64, u64)], k: usize, lock: u64, locks: u64) -> bool
+// Whether a read before has the lock of this one.
+fn repeats_lock(reads: &[(u64, u64)], k: usize, locks: u64) -> bool
     requires { (k < length reads.now) × (0 < locks) }
-    ensures { MatchBool result
-        ((j : ℕ) × (j < k) × ((slice_index_or reads.now j (0, 0)).0 % locks ≡ lock))
-        ((j : ℕ) → j < k → (slice_index_or reads.now j (0, 0)).0 % locks ≢ lock) }
+    ensures { MatchBool result (RepeatsLock locks reads.now k) (HasNewLock locks reads.now k) }
 {
+    let lock = reads[k].0 % locks;
     for j in 0..k {
         if reads[j].0 % locks == lock {
             return true;
@@ -27,9 +26,26 @@ fn is_before(reads: &[(u64, u64)], k: usize, lock: u64, locks: u64) -> bool
     false
 }
 
-/// Extends the snapshot to the clock, where each lock of the reads is good. Each lock is checked once: the extension ends at
-/// the last one.
-#[tactic(auto, using(crate::proofs::Extending::extend_may, crate::proofs::Extending::extending_none, crate::proofs::Extending::check_may, crate::proofs::Extending::extending_end))]
+// How many reads there are up to the last one that has a lock which none before it has.
+fn up_to_last_lock(reads: &[(u64, u64)], locks: u64) -> usize
+    requires { 0 < locks }
+    ensures inside { result ≤ length reads.now }
+    ensures last { EndsAtNewLock locks reads.now result }
+    ensures behind { RepeatFrom locks reads.now result }
+{
+    let count = reads.len();
+    for behind in 0..count {
+        let k = count - 1 - behind;
+        if !repeats_lock(reads, k, locks) {
+            return k + 1;
+        }
+    }
+    0
+}
+
+/// Extends the snapshot to the clock, where each lock of the reads is good. The extension ends with the check of the last lock,
+/// so the reads behind it are left out.
+#[tactic(auto, using(crate::proofs::Extending::extend_may, crate::proofs::Extending::extending_none))]
 pub fn extend_all<S, X, K, P: SlotRule<S, X, K>>(
     stm: &Stm<S, X, K, P>,
     seat: &mut Seat<S, X>,
@@ -47,13 +63,12 @@ pub fn extend_all<S, X, K, P: SlotRule<S, X, K>>(
 {
     let locks = stm.events.locks();
     let n = stm.extend(seat);
-    for k in 0..reads.len() {
+    let count = up_to_last_lock(reads, locks);
+    for k in 0..count {
         let lock = reads[k].0 % locks;
-        if !is_before(reads, k, lock, locks) {
-            let seen = stm.check(seat, lock);
-            if !is_good_word(thread, snapshot, seen) {
-                return Err(BadLock { lock, seen });
-            }
+        let seen = stm.check(seat, lock);
+        if !is_good_word(thread, snapshot, seen) {
+            return Err(BadLock { lock, seen });
         }
     }
     Ok(n)

@@ -9,6 +9,7 @@ ghost use Rattle.stm_transactions.specs.Reads.{HasRead, HasReadNone, StopsRead};
 ghost use Rattle.stm_transactions.specs.Seats.{OutlastsReading, Stays};
 
 use crate::bad_lock::BadLock;
+use crate::lock_for::lock_for;
 use crate::looking::look_at;
 use crate::pages::reach;
 use crate::pinned::Pinned;
@@ -42,7 +43,7 @@ pub fn read_word<S, X, K, P: SlotRule<S, X, K>>(
     ensures why { IfErr result
         (StopsRead thread snapshot.old reads.now at stm.now.events seat.old seat.new) }
 {
-    let lock = at % stm.events.locks();
+    let lock = lock_for(stm, at);
     let frame = reach(stm, seat, at / PAGE, pinned)?;
     let look = match look_at(stm, seat, thread, *snapshot, lock, reads) {
         Ok(look) => look,

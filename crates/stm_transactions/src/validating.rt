@@ -8,6 +8,7 @@ ghost use Rattle.stm_transactions.specs.CommitRule.{OutlastsEnding};
 
 use crate::bad_lock::BadLock;
 use crate::good_word::is_good_word;
+use crate::lock_for::lock_for;
 use core_table::event_table::Seat;
 use core_table::slot_rule::SlotRule;
 use core_table::stm::Stm;
@@ -28,9 +29,8 @@ pub fn validate<S, X, K, P: SlotRule<S, X, K>>(
     ensures err { IfErr result
         (HasVoided thread snapshot reads.now stm.now.events seat.old seat.new) }
 {
-    let locks = stm.events.locks();
     for k in 0..reads.len() {
-        let lock = reads[k].0 % locks;
+        let lock = lock_for(stm, reads[k].0);
         let seen = stm.check(seat, lock);
         if !is_good_word(thread, snapshot, seen) {
             return Err(BadLock { lock, seen });

@@ -5,6 +5,7 @@ ghost use Rattle.pmem_trait.specs.Faults.{up_to_last};
 ghost use Rattle.dude_base.specs.Writes.{put_write, IsWide};
 
 use crate::bad_lock::BadLock;
+use crate::lock_for::lock_for;
 use crate::owning::own_lock;
 use crate::reading::read_word;
 use crate::reads::Reads;
@@ -114,13 +115,13 @@ impl<'a, S, X, K, P: TransactionRule<S, X, K>> Words for TxOver<'a, S, X, K, P, 
             return Err(Stop::Wide);
         }
         let_transact(self.stm);
-        let locks = self.stm.events.locks();
+        let lock = lock_for(self.stm, at);
         if let Err(BadLock { lock, seen }) = own_lock(
             self.stm,
             &mut self.seat,
             self.numbers.thread,
             &mut self.snapshot,
-            at % locks,
+            lock,
             self.lists.items.as_slice(),
             &mut self.held,
         ) {

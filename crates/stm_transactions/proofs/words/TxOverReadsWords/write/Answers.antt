@@ -12,13 +12,13 @@ use Rattle.stm_transactions.proofs.words.TxOverReadsWords.write.Goals as goal
 pub own_lock-requires-clause-room : goal.own_lock-requires-clause-room
 own_lock-requires-clause-room g c =
     let t = c.args.self.now in
-    rw c.locks-locks.ensures (room t.stm.now.events.setup t.numbers.thread t.snapshot t.lists.items.items t.writes t.held (pin_list t.pinned) t.seat.me.0.view t.running c.args.at c.if-is_wide.ensures)
+    rw c.lock_for-lock.ensures (room t.stm.now.events.setup t.numbers.thread t.snapshot t.lists.items.items t.writes t.held (pin_list t.pinned) t.seat.me.0.view t.running c.args.at c.if-is_wide.ensures)
 
 pub invariant_of-self-2-clause-running : goal.invariant_of-self-2-clause-running
 invariant_of-self-2-clause-running g c =
     let t = c.args.self.now in
     subst (λ (ws : List Write). IsRunning t.stm.now.events.setup t.numbers.thread c.own_lock.new.snapshot t.lists.items.items ws (pairs_of c.own_lock.new.held) (pin_list t.pinned) c.own_lock.new.seat.me.0.view) {x = put_write t.writes (record { at = c.args.at; value = c.args.value })} (sym c.note.ensures)
-    (running_write t.stm.now.events.setup t.numbers.thread t.snapshot t.lists.items.items t.writes t.held (pin_list t.pinned) t.seat.me.0.view t.running c.args.at c.args.value c.own_lock.new.held c.own_lock.new.snapshot c.own_lock.new.seat.me.0.view c.requires.inside c.if-is_wide.ensures c.in_default.ensures.ok.0 (rw c.locks-locks.ensures at c.in_default.ensures.ok.1))
+    (running_write t.stm.now.events.setup t.numbers.thread t.snapshot t.lists.items.items t.writes t.held (pin_list t.pinned) t.seat.me.0.view t.running c.args.at c.args.value c.own_lock.new.held c.own_lock.new.snapshot c.own_lock.new.seat.me.0.view c.requires.inside c.if-is_wide.ensures c.in_default.ensures.ok.0 (rw c.lock_for-lock.ensures at c.in_default.ensures.ok.1))
 
 pub returns-clause-shown : goal.returns-clause-shown
 returns-clause-shown g c =
