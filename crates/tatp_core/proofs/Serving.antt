@@ -26,7 +26,7 @@ use Rattle.tatp_core.specs.Serves.{Answers, Serves, ServesRequest, WritesIfChang
 -- no request writes more words than the most of any
 most_writes_few : (s : Sizes) (request : Request) → most_writes s request ≤ max_writes s
 most_writes_few s (UpdateSubscriber s_id bit_1 sf_type data_a) = by_index_least s.index 7 20 2 (lit≤ tt) (lit≤ tt)
-most_writes_few s (UpdateLocation sub_nbr vlr) = by_index_both s.index 1 17 7 20 (lit≤ tt) (lit≤ tt)
+most_writes_few s (UpdateLocation sub_nbr vlr) = by_index_both s.index 1 7 7 20 (lit≤ tt) (lit≤ tt)
 most_writes_few s (InsertCall sub_nbr sf_type start_time end_time numberx) = by_index_least s.index 7 20 7 (lit≤ tt) (lit≤ tt)
 most_writes_few s (DeleteCall sub_nbr sf_type start_time) = by_index_least s.index 7 20 4 (lit≤ tt) (lit≤ tt)
 most_writes_few s _ = zero-le

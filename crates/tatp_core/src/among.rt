@@ -37,7 +37,8 @@ pub fn locate_among(
 // The keys of the rows whose location is in the range, in the rows' order.
 fn keys_within(alloc: Global, rows: &[SubRow], low: u64, high: u64) -> Result<Vec<u64>, AllocError>
     requires { All IsSubRow rows.now }
-    ensures { IfOk result (λ keys. keys.items ≡ map location_key (filter (is_within low high) rows.now)) }
+    ensures { IfOk result (λ keys. keys.items ≡ map location_key
+        (filter (is_within low high) rows.now)) }
 {
     let mut keys = Vec::new(alloc);
     for row in rows {

@@ -1,16 +1,14 @@
 -- What becomes of a subscriber's row and of an index where the location changes.
-use Rattle.std.proofs.Common.{◌≡◌, ◌≢◌, ℕ, ◌+◌, ◌*◌, ◌%◌, ◌^◌, ◌<◌, ◌≤◌, inl, inr, Bool, true, false, List, [], ◌∷◌, length, length-set, Contains, Option, Some, None, slice_index, slice_set, refl, sym, ap, ◌∙◌, subst, arith, get_or-set_other}
-use Rattle.std.specs.List.Sorted.{IsPermutation}
+use Rattle.std.proofs.Common.{◌≡◌, ◌≢◌, ℕ, ◌+◌, ◌*◌, ◌%◌, ◌^◌, ◌<◌, ◌≤◌, inl, inr, List, [], ◌∷◌, length, length-set, Contains, Some, slice_index, slice_set, refl, sym, ap, ◌∙◌, subst, arith, get_or-set_other}
+use Rattle.std.proofs.lemmas.List.Elements.{Contains-append_cases}
 use Rattle.std.proofs.lemmas.List.Sorted.{Contains-permutation, IsPermutation-cons, IsPermutation-sym, IsPermutation-trans}
 use Rattle.dude_base.specs.declared.sizes.Sizes.{Sizes}
 use Rattle.record_heap.specs.Pool.{IsRecord}
 use Rattle.tatp_model.specs.Ranges.{IsLocation}
 use Rattle.tree_index.specs.declared.tree.Tree.{Tree}
-use Rattle.tree_index.specs.declared.tree_put.TreePut.{TreePut}
-use Rattle.tree_index.specs.declared.tree_put.TreePut.TheVariants.{There, Full, Stored}
-use Rattle.tree_index.specs.Path.{GrowsBy}
-use Rattle.tree_index.specs.Shape.{Shape, keys_in}
-use Rattle.tree_index.specs.Tree.{Drops, HasNoRoom, Inserts, InsertsAll, Removes, RemovesAll, Stores}
+use Rattle.tree_index.specs.Shape.{keys_in}
+use Rattle.tree_index.specs.Tree.{ReplacesAll}
+use Rattle.tree_index.proofs.Shapes.{only_key}
 use Rattle.tatp_layout.specs.Decoded.{held_word}
 use Rattle.tatp_layout.specs.Index.{HasKeys, MovesKey, location_key}
 use Rattle.tatp_layout.specs.Layout.{index_tree, leaf_base, subscriber_table}
@@ -26,47 +24,30 @@ use Rattle.tatp_layout.proofs.Tables.{subscriber_room}
 
 -- ---- one key in the place of another
 
--- where there is a key, the removal left an inner record free
-inner_is_free : (key leaf : ℕ) (before : Shape) (after : Option Shape) (free left : List ℕ) → GrowsBy key leaf after left free before → after ≢ None → left ≡ [] → ⊥
-inner_is_free key leaf before None free left grows some none = some refl
-inner_is_free key leaf before (Some fewer) free left grows some none = omega (arith, ap length (sym grows.1 ∙ none))
-
--- the key was removed
-module _ {tree : Tree} {from : ℕ} {old mid : List ℕ} where
-  was_there : (others : List ℕ) (h : HasKeys tree old (from ∷ others)) (was : Bool) → Removes tree from h.shape h.free_leaves h.free_inner was old mid → Drops tree from h.shape h.free_leaves h.free_inner old mid
-  was_there others h false removes = absurd (removes.0 (Contains-permutation (from ∷ others) (keys_in h.shape) from (IsPermutation-sym _ _ h.same) (first_among from others)))
-  was_there others h true removes = removes
-
-  others_left : (others : List ℕ) (h : HasKeys tree old (from ∷ others)) (drops : Drops tree from h.shape h.free_leaves h.free_inner old mid) → IsPermutation (keys_in drops.after) others
-  others_left others h drops = permuted_rest from (keys_in drops.after) others (IsPermutation-trans _ _ _ (IsPermutation-sym _ _ drops.keys) (subst (λ shape. IsPermutation (keys_in shape) (from ∷ others)) drops.was h.same))
-
-  has_room : {shape : Option Shape} {free_leaves free_inner : List ℕ} (drops : Drops tree from shape free_leaves free_inner old mid) → HasNoRoom drops.after (drops.leaf ∷ free_leaves) drops.left_inner → ⊥
-  has_room drops (inl none) = omega (arith, ap length none)
-  has_room {free_inner = free_inner} drops (inr none) = inner_is_free from drops.leaf drops.before drops.after free_inner drops.left_inner drops.grows none.0 none.1
-
--- another one was inserted
-module _ {tree : Tree} {to : ℕ} {mid new : List ℕ} where
-  is_stored : (others : List ℕ) (after : Option Shape) (free_leaves free_inner : List ℕ) → IsPermutation (keys_in after) others → ¬ Contains others to → ¬ HasNoRoom after free_leaves free_inner → (put : TreePut) → Inserts tree to after free_leaves free_inner put mid new → Stores tree to after free_leaves free_inner mid new
-  is_stored others after free_leaves free_inner same none room There inserts = absurd (none (Contains-permutation (keys_in after) others to same inserts.0))
-  is_stored others after free_leaves free_inner same none room Full inserts = absurd (room inserts.1)
-  is_stored others after free_leaves free_inner same none room Stored inserts = inserts
-
--- both, one after the other
-module _ {tree : Tree} {from to : ℕ} {old mid new : List ℕ} where
-  pub moves_key : (was : Bool) (put : TreePut) → RemovesAll tree from old mid was → InsertsAll tree to mid new put → MovesKey tree from to old new tt
-  moves_key was put removes inserts = λ others h none.
-      let drops = was_there others h was (removes h.shape h.free_leaves h.free_inner h.lawful) in
-      let same = others_left others h drops in
-      let stores = is_stored others drops.after (drops.leaf ∷ h.free_leaves) drops.left_inner same none (has_room drops) put (inserts drops.after (drops.leaf ∷ h.free_leaves) drops.left_inner drops.lawful) in (
+module _ {tree : Tree} {from to : ℕ} where
+  -- another one comes in its place
+  pub moves_key : {old new : List ℕ} → from ≢ to → ReplacesAll tree from to old new tt → MovesKey tree from to old new tt
+  moves_key {old} {new} differ replaces = λ others h none.
+      let there = Contains-permutation (from ∷ others) (keys_in h.shape) from (IsPermutation-sym _ _ h.same) (first_among from others) in
+      let absent : ¬ Contains (keys_in h.shape) to = λ c. elim (Contains-append_cases (from ∷ []) others to (Contains-permutation (keys_in h.shape) (from ∷ others) to h.same c)) [
+        | inl first ↦ differ (sym (only_key to from first))
+        | inr other ↦ none other
+      ] in
+      let r = (replaces h.shape h.free_leaves h.free_inner h.lawful).1 there absent in
+      let same = permuted_rest from r.rest others (IsPermutation-trans _ _ _ (IsPermutation-sym _ _ r.were) h.same) in (
         record {
-          shape = Some stores.after;
-          free_leaves = stores.left_leaves;
-          free_inner = stores.left_inner;
-          lawful = stores.lawful;
-          same = IsPermutation-trans _ _ _ (IsPermutation-sym _ _ stores.keys) (IsPermutation-cons to _ _ same);
+          shape = Some r.after;
+          free_leaves = h.free_leaves;
+          free_inner = h.free_inner;
+          lawful = r.lawful;
+          same = IsPermutation-trans _ _ _ (IsPermutation-sym _ _ r.keys) (IsPermutation-cons to _ _ same);
         },
-        record { size = stores.others.size ∙ drops.others.size; others = λ i out. stores.others.others i out ∙ drops.others.others i out },
+        r.others,
       )
+
+  -- it stays
+  pub key_stays : {words : List ℕ} → from ≡ to → MovesKey tree from to words words tt
+  key_stays {words} same = λ others h none. (subst (λ k. HasKeys tree words (k ∷ others)) same h, record { size = refl; others = λ i out. refl })
 
 -- ---- the location
 

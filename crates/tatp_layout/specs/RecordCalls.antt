@@ -9,7 +9,7 @@ use Rattle.tatp_model.specs.declared.call_row.CallRow.{CallRow}
 use Rattle.tatp_model.specs.declared.fac_row.FacRow.{FacRow}
 use Rattle.tatp_model.specs.declared.sub_row.SubRow.{SubRow}
 use Rattle.tatp_model.specs.Database.{IsFacRow, IsSubRow, call_key}
-use Rattle.tree_index.specs.Walk.{insert_reads, remove_reads}
+use Rattle.tree_index.specs.Walk.{replace_reads}
 use Rattle.tatp_layout.specs.Index.{IndexHas, by_index, location_key}
 use Rattle.tatp_layout.specs.Layout.{leaf_base}
 use Rattle.tatp_layout.specs.Records.{RowForm, HoldsRow, call_form, facility_form, subscriber_form}
@@ -72,13 +72,13 @@ MovesLocation s at vlr old new done =
     (row : SubRow) (others : List ℕ) → IsSubRow row → HoldsRow subscriber_form old at row → IndexHas s old (location_key row ∷ others)
     → ¬ Contains others (location_key (record row { vlr = vlr })) → ChangesLocation s at vlr row others old new
 
--- the most reads of a location's change: where there is an index, the subscriber's key, and those of a removal and an insertion
+-- the most reads of a location's change: where there is an index, the subscriber's key, and those of a replaced key
 abbrev pub location_reads : Sizes → ℕ
-location_reads s = by_index s.index 0 (remove_reads + insert_reads + 2)
+location_reads s = by_index s.index 0 (replace_reads + 2)
 
--- the most writes of a location's change: where there is an index, also those of a removal and an insertion
+-- the most writes of a location's change: where there is an index, also those of a replaced key
 abbrev pub location_writes : Sizes → ℕ
-location_writes s = by_index s.index 1 17
+location_writes s = by_index s.index 1 7
 
 -- of a subscriber in the record at this word, bit_1 is changed to the bit
 abbrev pub SetsBit1 : ℕ → ℕ → List ℕ → List ℕ → Unit {0} → Type 0

@@ -3,7 +3,7 @@
 ghost use Rattle.std.specs.Prelude.{◌≡◌, ◌+◌, ◌*◌, ◌%◌, ◌^◌};
 ghost use Rattle.word_space.specs.Steps.{ChangesSeen, UsesWords};
 ghost use Rattle.tree_index.specs.Tree.{FitsTree};
-ghost use Rattle.tree_index.specs.Walk.{insert_reads, remove_reads};
+ghost use Rattle.tree_index.specs.Walk.{replace_reads};
 ghost use Rattle.tatp_layout.specs.Index.{MovesKey};
 
 use tree_index::tree::Tree;
@@ -18,13 +18,14 @@ pub fn location_key(vlr: u64, s_id: u64) -> u64
     vlr % 4_294_967_296 * 4_294_967_296 + s_id % 4_294_967_296
 }
 
-/// Puts the key `to` into a tree in the place of `from`.
+/// Puts the key `to` into a tree in the place of `from`. A key that stays is not looked for.
 pub fn move_key<W: Words>(tree: &Tree, w: &mut W, from: u64, to: u64) -> Result<(), Stop>
     requires fits { FitsTree tree.now (W.sight w.old).count }
-    ensures uses { UsesWords W.sight W.turns_into (remove_reads + insert_reads) 16 result w.old w.new }
+    ensures uses { UsesWords W.sight W.turns_into replace_reads 6 result w.old w.new }
     ensures moves { ChangesSeen W.sight result w.old w.new (MovesKey tree.now from to) }
 {
-    tree.remove(w, from)?;
-    tree.insert(w, to)?;
-    Ok(())
+    if from == to {
+        return Ok(());
+    }
+    tree.replace(w, from, to)
 }

@@ -70,7 +70,8 @@ impl RecordRow for SubRow {
 pub fn get_sub<W: Words>(lay: &Layout, w: &mut W, at: u64) -> Result<SubRow, Stop>
     requires size { (W.sight w.old).count ≡ lay.now.pages * PAGE }
     requires record { IsRecord (subscriber_table lay.now).pool at }
-    ensures { ReadsRow W.sight W.turns_into subscriber_form IsSubRow subscriber_in SUBSCRIBER_WORDS at
+    ensures { ReadsRow W.sight W.turns_into subscriber_form IsSubRow subscriber_in
+        SUBSCRIBER_WORDS at
         result w.old w.new }
 {
     get_row(lay, w, at)

@@ -1,4 +1,4 @@
--- What `remove` found and did, in a lawful tree.
+-- What `remove` and `cut` do, in a lawful tree.
 use Rattle.std.proofs.Common.{◌≡◌, ◌≢◌, ℕ, ◌+◌, ◌<◌, inl, inr, List, [], ◌∷◌, ◌++◌, length, Contains, Some, None, slice_index, slice_set, refl, sym, ap, ◌∙◌, subst, arith, eqb, get_or-set_same}
 use Rattle.std.proofs.lemmas.List.Elements.{Contains-append_left, Contains-append_right}
 use Rattle.std.proofs.lemmas.List.Sorted.{Contains-permutation, IsPermutation-refl, IsPermutation-append_right, IsPermutation-cons, IsPermutation-middle, IsPermutation-sym, IsPermutation-trans, length_permutation}
@@ -13,12 +13,14 @@ use Rattle.record_heap.proofs.Frames.{IsOutsidePool, pool_stays, same_pool}
 use Rattle.record_heap.proofs.Records.{none_twice}
 use Rattle.tree_index.specs.declared.tree.Tree.{Tree}
 use Rattle.tree_index.specs.Shape.{Shape, Leaf, Fork, Holds, IsRadix, forks_of, keys_of, leaves_of, link_of}
+use Rattle.tree_index.specs.Linking.{HasSpare}
 use Rattle.tree_index.specs.Tree.{Drops, FitsTree, IsTree, StaysOutside}
 use Rattle.tree_index.specs.Path.{Frame, OnZeros, OnOnes, GoesBy, HasLeafMore, plug, slot_of}
 use Rattle.tree_index.proofs.Apart.{IsOwn, along_same, holds_same, of_more, own_more, own_not_outside, own_outside_inner, own_outside_leaves, rest_apart, slot_own}
 use Rattle.tree_index.proofs.Found.{taken_record}
 use Rattle.tree_index.proofs.Paths.{Along, closed, distinct_behind, flips, forks_along, keys_along, leaves_along, opened, plug_forks, plug_keys, plug_leaves, radix_plug}
-use Rattle.tree_index.proofs.Shapes.{follows, first_among, other_among, radix_inside, radix_more}
+use Rattle.tree_index.proofs.Stored.{pool_moved}
+use Rattle.tree_index.proofs.Shapes.{follows, first_among, other_among, radix_more}
 
 -- a record given back is the first free one, and the others stay taken
 pub pool_given : {pool : Pool} {old middle new free : List ℕ} (taken after : List ℕ) (at : ℕ) → IsPool pool old free taken → IsPermutation taken (at ∷ after) → Gives pool at free taken middle new → IsPool pool new (at ∷ free) after
@@ -28,16 +30,14 @@ pool_given {pool} {free = free} taken after at lawful moved gives = record {
   once = IsPermutation-trans _ _ _ lawful.once (IsPermutation-trans _ _ _ (IsPermutation-append_right free taken (at ∷ after) moved) (IsPermutation-middle free at after));
 }
 
--- A leaf and the inner record over it are given back, and what stands beside the leaf is linked in its position. Here the leaf
--- is at `at`, the inner record at `over`, `beside` on its other side, and the rest of the path is `path`.
-module _ {tree : Tree} {n : ℕ} (fits : FitsTree tree n) (old linked middle new : List ℕ) (path : List Frame) (whole beside : Shape) (free_leaves free_inner : List ℕ) (at over slot : ℕ)
+-- What stands beside a leaf is linked in the place of the inner record over it: the leaf is at `at`, the inner record at `over`,
+-- `beside` on its other side, and the rest of the path is `path`.
+module _ {tree : Tree} {n : ℕ} (fits : FitsTree tree n) (old linked : List ℕ) (path : List Frame) (whole beside : Shape) (free_leaves free_inner : List ℕ) (at over slot : ℕ)
     (lawful : IsTree tree old (Some whole) free_leaves free_inner) (size : length old ≡ n)
     (leaves_are : IsPermutation (leaves_of whole) (at ∷ (leaves_of beside ++ leaves_along path)))
     (forks_are : IsPermutation (forks_of whole) (over ∷ (forks_of beside ++ forks_along path)))
     (slot_is : slot ≡ slot_of tree.root path)
-    (relink : linked ≡ slice_set old slot (link_of beside))
-    (gives_inner : Gives tree.inner over free_inner (forks_of whole) linked middle)
-    (gives_leaf : Gives tree.leaves at free_leaves (leaves_of whole) middle new) where
+    (relink : linked ≡ slice_set old slot (link_of beside)) where
   parts_leaf : (x : ℕ) → Contains (leaves_of beside ++ leaves_along path) x → IsRecord tree.leaves x
   parts_leaf x c = taken_record lawful.leaves x (Contains-permutation (at ∷ (leaves_of beside ++ leaves_along path)) (leaves_of whole) x (IsPermutation-sym _ _ leaves_are) (other_among x at (leaves_of beside ++ leaves_along path) c))
 
@@ -77,97 +77,169 @@ module _ {tree : Tree} {n : ℕ} (fits : FitsTree tree n) (old linked middle new
   link_changes : ChangesOnly (slot ∷ []) old linked
   link_changes = subst (λ x. ChangesOnly (slot ∷ []) old x) (sym relink) (changes_more slot (link_of beside) changes_none)
 
-  -- a word that the rest of the tree reads stays behind the link
-  given_keep : (i : ℕ) → IsOwn tree.root (leaves_of beside ++ leaves_along path) (forks_of beside ++ forks_along path) i → slice_index new i ≡ slice_index linked i
-  given_keep i own =
-      let of_leaves = outside_leaves i own in
-      let of_inner = outside_inner i own in
-      gives_leaf.changes.others i (of_leaves.links at at_is, (of_leaves.first, (of_leaves.live, tt))) ∙ gives_inner.changes.others i (of_inner.links over over_is, (of_inner.first, (of_inner.live, tt)))
+  keep : (i : ℕ) → IsOwn tree.root (leaves_of beside ++ leaves_along path) (forks_of beside ++ forks_along path) i → i ≢ slot → slice_index linked i ≡ slice_index old i
+  keep i own ne = link_changes.others i (ne, tt)
 
-  keep : (i : ℕ) → IsOwn tree.root (leaves_of beside ++ leaves_along path) (forks_of beside ++ forks_along path) i → i ≢ slot → slice_index new i ≡ slice_index old i
-  keep i own ne = given_keep i own ∙ link_changes.others i (ne, tt)
+  slot_word : slice_index linked slot ≡ link_of beside
+  slot_word = ap (λ x. slice_index x slot) relink ∙ get_or-set_same old slot (link_of beside) 0 (omega (arith, slot_below, size))
 
-  slot_word : slice_index new slot ≡ link_of beside
-  slot_word = given_keep slot slot_among ∙ ap (λ x. slice_index x slot) relink ∙ get_or-set_same old slot (link_of beside) 0 (omega (arith, slot_below, size))
+  -- one word of the tree was written
+  linked_leaves : IsPool tree.leaves linked free_leaves (leaves_of whole)
+  linked_leaves = pool_stays (same_pool {words = slot ∷ []} (outside_leaves slot slot_among, tt) link_changes) lawful.leaves
 
-  -- each word of the other pool's give is outside
-  leaf_word_outside : (j : ℕ) → j < 2 → IsOutsidePool tree.inner (at + j)
-  leaf_word_outside j small = record {
-    first = omega (arith, fits.headers.records at at_is, fits.leaf_size, small);
-    live = omega (arith, fits.headers.records at at_is, fits.leaf_size, small);
-    links = λ x r. omega (arith, (fits.records x r).records at at_is, fits.leaf_size, fits.inner_size, small);
+  linked_inner : IsPool tree.inner linked free_inner (forks_of whole)
+  linked_inner = pool_stays (same_pool {words = slot ∷ []} (outside_inner slot slot_among, tt) link_changes) lawful.inner
+
+  linked_outside : StaysOutside tree old linked
+  linked_outside = record {
+    size = link_changes.size;
+    others = λ i out. link_changes.others i (own_not_outside fits (leaves_of beside ++ leaves_along path) (forks_of beside ++ forks_along path) i slot parts_leaf parts_fork slot_among out, tt);
   }
 
-  leaf_header_outside : (j : ℕ) → j < 2 → IsOutsidePool tree.inner (tree.leaves.base + j)
-  leaf_header_outside j small = record {
-    first = omega (arith, fits.headers.header, small);
-    live = omega (arith, fits.headers.header, small);
-    links = λ x r. omega (arith, (fits.records x r).header, fits.inner_size, small);
-  }
-
-  over_word_outside : (j : ℕ) → j < 2 → IsOutsidePool tree.leaves (over + j)
-  over_word_outside j small = record {
-    first = omega (arith, (fits.records over over_is).header, fits.inner_size, small);
-    live = omega (arith, (fits.records over over_is).header, fits.inner_size, small);
-    links = λ x r. omega (arith, (fits.records over over_is).records x r, fits.leaf_size, fits.inner_size, small);
-  }
-
-  inner_header_outside : (j : ℕ) → j < 2 → IsOutsidePool tree.leaves (tree.inner.base + j)
-  inner_header_outside j small = record {
-    first = omega (arith, fits.headers.header, small);
-    live = omega (arith, fits.headers.header, small);
-    links = λ x r. omega (arith, fits.headers.records x r, fits.leaf_size, small);
-  }
-
-  new_leaves : IsPool tree.leaves new (at ∷ free_leaves) (leaves_of beside ++ leaves_along path)
-  new_leaves = pool_given (leaves_of whole) (leaves_of beside ++ leaves_along path) at lawful.leaves leaves_are gives_leaf
-
-  new_inner : IsPool tree.inner new (over ∷ free_inner) (forks_of beside ++ forks_along path)
-  new_inner = pool_stays (same_pool {words = (at + 1) ∷ tree.leaves.base ∷ (tree.leaves.base + 1) ∷ []}
-      (leaf_word_outside 1 (omega arith), (subst (IsOutsidePool tree.inner) (let sum : tree.leaves.base + 0 ≡ tree.leaves.base = omega arith in sum) (leaf_header_outside 0 (omega arith)), (leaf_header_outside 1 (omega arith), tt))) gives_leaf.changes)
-      (pool_given (forks_of whole) (forks_of beside ++ forks_along path) over lawful.inner forks_are gives_inner)
-
-  outside : StaysOutside tree old new
-  outside = record {
-    size = gives_leaf.changes.size ∙ gives_inner.changes.size ∙ link_changes.size;
-    others = λ i out.
-        gives_leaf.changes.others i (omega (arith, out.leaves.records at at_is, fits.leaf_size), (omega (arith, out.leaves.header), (omega (arith, out.leaves.header), tt)))
-        ∙ gives_inner.changes.others i (omega (arith, out.inner.records over over_is, fits.inner_size), (omega (arith, out.inner.header), (omega (arith, out.inner.header), tt)))
-        ∙ link_changes.others i (own_not_outside fits (leaves_of beside ++ leaves_along path) (forks_of beside ++ forks_along path) i slot parts_leaf parts_fork slot_among out, tt);
-  }
-
-  pub drops : (key : ℕ) → Along old tree.root path → Holds old beside → IsRadix 64 (plug path beside) → IsPermutation (keys_of whole) (key ∷ (keys_of beside ++ keys_along path)) → HasLeafMore key at over (plug path beside) whole → Drops tree key (Some whole) free_leaves free_inner old new
-  drops key along holds radix keys_are more =
-      let along_new = along_same fits old new path (λ x c. parts_leaf x (Contains-append_right (leaves_of beside) (leaves_along path) x c)) (λ x c. parts_fork x (Contains-append_right (forks_of beside) (forks_along path) x c)) (distinct_behind (forks_of beside) (forks_along path) parts_distinct)
+  -- the tree is that without the leaf, and both records are taken beside it
+  pub spared : Along old tree.root path → Holds old beside → IsRadix 64 (plug path beside) → HasSpare tree linked at over (plug path beside) free_leaves free_inner × StaysOutside tree old linked
+  spared along holds radix =
+      let along_new = along_same fits old linked path (λ x c. parts_leaf x (Contains-append_right (leaves_of beside) (leaves_along path) x c)) (λ x c. parts_fork x (Contains-append_right (forks_of beside) (forks_along path) x c)) (distinct_behind (forks_of beside) (forks_along path) parts_distinct)
       (λ i own ne. keep i (path_own i own) (λ e. ne (e ∙ slot_is))) along in
-      let holds_new = holds_same old new beside (λ i own.
+      let holds_new = holds_same old linked beside (λ i own.
       keep i (inr (of_more i (leaves_of beside) (forks_of beside) (leaves_of beside ++ leaves_along path) (forks_of beside ++ forks_along path) (λ x c. Contains-append_left (leaves_of beside) (leaves_along path) x c) (λ x c. Contains-append_left (forks_of beside) (forks_along path) x c) own))
       (λ e. rest_apart fits path beside i (λ x c. parts_leaf x (Contains-append_left (leaves_of beside) (leaves_along path) x c)) parts_fork parts_distinct own (e ∙ slot_is))) holds in
-      let shut = closed new tree.root path beside along_new (ap (λ x. slice_index new x) (sym slot_is) ∙ slot_word) holds_new in
-      record {
-        before = whole;
-        was = refl;
-        leaf = at;
-        left_inner = over ∷ free_inner;
-        after = Some (plug path beside);
-        grows = (over, refl, more);
-        keys = IsPermutation-trans _ _ _ keys_are (IsPermutation-cons key _ _ (IsPermutation-sym _ _ (plug_keys path beside)));
-        lawful = record {
-          leaves = pool_after (leaves_of beside ++ leaves_along path) (leaves_of (plug path beside)) (IsPermutation-sym _ _ (plug_leaves path beside)) new_leaves;
-          inner = pool_after (forks_of beside ++ forks_along path) (forks_of (plug path beside)) (IsPermutation-sym _ _ (plug_forks path beside)) new_inner;
+      let shut = closed linked tree.root path beside along_new (ap (λ x. slice_index linked x) (sym slot_is) ∙ slot_word) holds_new in (
+        record {
+          leaves = pool_moved (leaves_of whole) (at ∷ leaves_of (plug path beside)) (IsPermutation-trans _ _ _ leaves_are (IsPermutation-cons at _ _ (IsPermutation-sym _ _ (plug_leaves path beside)))) linked_leaves;
+          inner = pool_moved (forks_of whole) (over ∷ forks_of (plug path beside)) (IsPermutation-trans _ _ _ forks_are (IsPermutation-cons over _ _ (IsPermutation-sym _ _ (plug_forks path beside)))) linked_inner;
           rooted = (shut.0, shut.1, radix);
-        };
-        others = outside;
-      }
-    where
-      pool_after : {pool : Pool} {array free : List ℕ} (taken other : List ℕ) → IsPermutation taken other → IsPool pool array free taken → IsPool pool array free other
-      pool_after {pool} {array} {free} taken other moved given = record {
-        links = given.links;
-        live = given.live ∙ sym (length_permutation taken other moved);
-        once = IsPermutation-trans _ _ _ given.once (IsPermutation-append_right free taken other moved);
-      }
+        },
+        linked_outside,
+      )
+
+  -- both records are given back
+  module _ (middle new : List ℕ) (gives_inner : Gives tree.inner over free_inner (forks_of whole) linked middle) (gives_leaf : Gives tree.leaves at free_leaves (leaves_of whole) middle new) where
+    -- a word that the rest of the tree reads stays behind the link
+    given_keep : (i : ℕ) → IsOwn tree.root (leaves_of beside ++ leaves_along path) (forks_of beside ++ forks_along path) i → slice_index new i ≡ slice_index linked i
+    given_keep i own =
+        let of_leaves = outside_leaves i own in
+        let of_inner = outside_inner i own in
+        gives_leaf.changes.others i (of_leaves.links at at_is, (of_leaves.first, (of_leaves.live, tt))) ∙ gives_inner.changes.others i (of_inner.links over over_is, (of_inner.first, (of_inner.live, tt)))
+
+    -- each word of the other pool's give is outside
+    leaf_word_outside : (j : ℕ) → j < 2 → IsOutsidePool tree.inner (at + j)
+    leaf_word_outside j small = record {
+      first = omega (arith, fits.headers.records at at_is, fits.leaf_size, small);
+      live = omega (arith, fits.headers.records at at_is, fits.leaf_size, small);
+      links = λ x r. omega (arith, (fits.records x r).records at at_is, fits.leaf_size, fits.inner_size, small);
+    }
+
+    leaf_header_outside : (j : ℕ) → j < 2 → IsOutsidePool tree.inner (tree.leaves.base + j)
+    leaf_header_outside j small = record {
+      first = omega (arith, fits.headers.header, small);
+      live = omega (arith, fits.headers.header, small);
+      links = λ x r. omega (arith, (fits.records x r).header, fits.inner_size, small);
+    }
+
+    over_word_outside : (j : ℕ) → j < 2 → IsOutsidePool tree.leaves (over + j)
+    over_word_outside j small = record {
+      first = omega (arith, (fits.records over over_is).header, fits.inner_size, small);
+      live = omega (arith, (fits.records over over_is).header, fits.inner_size, small);
+      links = λ x r. omega (arith, (fits.records over over_is).records x r, fits.leaf_size, fits.inner_size, small);
+    }
+
+    inner_header_outside : (j : ℕ) → j < 2 → IsOutsidePool tree.leaves (tree.inner.base + j)
+    inner_header_outside j small = record {
+      first = omega (arith, fits.headers.header, small);
+      live = omega (arith, fits.headers.header, small);
+      links = λ x r. omega (arith, fits.headers.records x r, fits.leaf_size, small);
+    }
+
+    new_leaves : IsPool tree.leaves new (at ∷ free_leaves) (leaves_of beside ++ leaves_along path)
+    new_leaves = pool_given (leaves_of whole) (leaves_of beside ++ leaves_along path) at lawful.leaves leaves_are gives_leaf
+
+    new_inner : IsPool tree.inner new (over ∷ free_inner) (forks_of beside ++ forks_along path)
+    new_inner = pool_stays (same_pool {words = (at + 1) ∷ tree.leaves.base ∷ (tree.leaves.base + 1) ∷ []}
+        (leaf_word_outside 1 (omega arith), (subst (IsOutsidePool tree.inner) (let sum : tree.leaves.base + 0 ≡ tree.leaves.base = omega arith in sum) (leaf_header_outside 0 (omega arith)), (leaf_header_outside 1 (omega arith), tt))) gives_leaf.changes)
+        (pool_given (forks_of whole) (forks_of beside ++ forks_along path) over lawful.inner forks_are gives_inner)
+
+    outside : StaysOutside tree old new
+    outside = record {
+      size = gives_leaf.changes.size ∙ gives_inner.changes.size ∙ linked_outside.size;
+      others = λ i out.
+          gives_leaf.changes.others i (omega (arith, out.leaves.records at at_is, fits.leaf_size), (omega (arith, out.leaves.header), (omega (arith, out.leaves.header), tt)))
+          ∙ gives_inner.changes.others i (omega (arith, out.inner.records over over_is, fits.inner_size), (omega (arith, out.inner.header), (omega (arith, out.inner.header), tt)))
+          ∙ linked_outside.others i out;
+    }
+
+    pub drops : (key : ℕ) → Along old tree.root path → Holds old beside → IsRadix 64 (plug path beside) → IsPermutation (keys_of whole) (key ∷ (keys_of beside ++ keys_along path)) → HasLeafMore key at over (plug path beside) whole → Drops tree key (Some whole) free_leaves free_inner old new
+    drops key along holds radix keys_are more =
+        let along_new = along_same fits old new path (λ x c. parts_leaf x (Contains-append_right (leaves_of beside) (leaves_along path) x c)) (λ x c. parts_fork x (Contains-append_right (forks_of beside) (forks_along path) x c)) (distinct_behind (forks_of beside) (forks_along path) parts_distinct)
+        (λ i own ne. given_keep i (path_own i own) ∙ keep i (path_own i own) (λ e. ne (e ∙ slot_is))) along in
+        let holds_new = holds_same old new beside (λ i own.
+        let its = inr (of_more i (leaves_of beside) (forks_of beside) (leaves_of beside ++ leaves_along path) (forks_of beside ++ forks_along path) (λ x c. Contains-append_left (leaves_of beside) (leaves_along path) x c) (λ x c. Contains-append_left (forks_of beside) (forks_along path) x c) own) in
+        given_keep i its ∙ keep i its
+        (λ e. rest_apart fits path beside i (λ x c. parts_leaf x (Contains-append_left (leaves_of beside) (leaves_along path) x c)) parts_fork parts_distinct own (e ∙ slot_is))) holds in
+        let shut = closed new tree.root path beside along_new (ap (λ x. slice_index new x) (sym slot_is) ∙ given_keep slot slot_among ∙ slot_word) holds_new in
+        record {
+          before = whole;
+          was = refl;
+          leaf = at;
+          left_inner = over ∷ free_inner;
+          after = Some (plug path beside);
+          grows = (over, refl, more);
+          keys = IsPermutation-trans _ _ _ keys_are (IsPermutation-cons key _ _ (IsPermutation-sym _ _ (plug_keys path beside)));
+          lawful = record {
+            leaves = pool_moved (leaves_of beside ++ leaves_along path) (leaves_of (plug path beside)) (IsPermutation-sym _ _ (plug_leaves path beside)) new_leaves;
+            inner = pool_moved (forks_of beside ++ forks_along path) (forks_of (plug path beside)) (IsPermutation-sym _ _ (plug_forks path beside)) new_inner;
+            rooted = (shut.0, shut.1, radix);
+          };
+          others = outside;
+        }
 
 -- ---- the two cases of the last inner record
+
+-- the bits fall and the keys agree as before without the leaf
+module _ (path : List Frame) (key at over bit : ℕ) (beside : Shape) where
+  radix_past_zeros : IsRadix 64 (plug (OnZeros over bit beside ∷ path) (Leaf at key)) → GoesBy key 0 path → IsRadix 64 (plug path beside)
+  radix_past_zeros radix goes =
+      radix_plug key 0 64 path (Fork over bit (Leaf at key) beside) beside
+      (follows key 0 key 64 path (Fork over bit (Leaf at key) beside) radix goes (first_among key (keys_of beside)) refl) goes (omega arith)
+      (λ y c. inr (other_among y key (keys_of beside) c)) (λ m le r. radix_more bit m beside (omega (arith, r.0)) r.3) radix
+
+  radix_past_ones : IsRadix 64 (plug (OnOnes over bit beside ∷ path) (Leaf at key)) → GoesBy key 0 path → IsRadix 64 (plug path beside)
+  radix_past_ones radix goes =
+      radix_plug key 0 64 path (Fork over bit beside (Leaf at key)) beside
+      (follows key 0 key 64 path (Fork over bit beside (Leaf at key)) radix goes (Contains-append_right (keys_of beside) (key ∷ []) key (first_among key [])) refl) goes (omega arith)
+      (λ y c. inr (Contains-append_left (keys_of beside) (key ∷ []) y c)) (λ m le r. radix_more bit m beside (omega (arith, r.0)) r.2) radix
+
+-- what is left of the tree, with the leaf and the last inner record beside it
+pub record SparesKey (tree : Tree) (old linked : List ℕ) (key at over : ℕ) (whole rest : Shape) (free_leaves free_inner : List ℕ) : Type 0 where
+  pub spare : HasSpare tree linked at over rest free_leaves free_inner
+  pub keys : IsPermutation (keys_of whole) (key ∷ keys_of rest)
+  pub others : StaysOutside tree old linked
+
+module _ {tree : Tree} {n : ℕ} (fits : FitsTree tree n) (old : List ℕ) (path : List Frame) (free_leaves free_inner : List ℕ) (key at over bit : ℕ) (beside : Shape) (size : length old ≡ n) where
+  -- what is to be shown, where the last inner record is this one
+  abbrev pub SparesBy : Frame → Type 0
+  SparesBy frame =
+      IsTree tree old (Some (plug (frame ∷ path) (Leaf at key))) free_leaves free_inner → GoesBy key 0 (frame ∷ path)
+      → SparesKey tree old (slice_set old (slot_of tree.root path) (link_of beside)) key at over (plug (frame ∷ path) (Leaf at key)) (plug path beside) free_leaves free_inner
+
+  keys_left : (frame : Frame) → keys_along (frame ∷ path) ≡ keys_of beside ++ keys_along path → IsPermutation (keys_of (plug (frame ∷ path) (Leaf at key))) (key ∷ keys_of (plug path beside))
+  keys_left frame same = IsPermutation-trans _ _ _ (subst (λ ks. IsPermutation (keys_of (plug (frame ∷ path) (Leaf at key))) (key ∷ ks)) same (plug_keys (frame ∷ path) (Leaf at key))) (IsPermutation-cons key _ _ (IsPermutation-sym _ _ (plug_keys path beside)))
+
+  pub spares_zeros : SparesBy (OnZeros over bit beside)
+  spares_zeros lawful goes =
+      let open_up = opened old tree.root (OnZeros over bit beside ∷ path) (Leaf at key) lawful.rooted.0 lawful.rooted.1 in
+      let all = spared fits old (slice_set old (slot_of tree.root path) (link_of beside)) path (plug (OnZeros over bit beside ∷ path) (Leaf at key)) beside free_leaves free_inner at over (slot_of tree.root path) lawful size
+      (plug_leaves (OnZeros over bit beside ∷ path) (Leaf at key)) (plug_forks (OnZeros over bit beside ∷ path) (Leaf at key)) refl refl
+      open_up.0.4 open_up.0.2 (radix_past_zeros path key at over bit beside lawful.rooted.2 goes.2) in
+      record { spare = all.0; keys = keys_left (OnZeros over bit beside) refl; others = all.1 }
+
+  pub spares_ones : SparesBy (OnOnes over bit beside)
+  spares_ones lawful goes =
+      let open_up = opened old tree.root (OnOnes over bit beside ∷ path) (Leaf at key) lawful.rooted.0 lawful.rooted.1 in
+      let all = spared fits old (slice_set old (slot_of tree.root path) (link_of beside)) path (plug (OnOnes over bit beside ∷ path) (Leaf at key)) beside free_leaves free_inner at over (slot_of tree.root path) lawful size
+      (plug_leaves (OnOnes over bit beside ∷ path) (Leaf at key)) (plug_forks (OnOnes over bit beside ∷ path) (Leaf at key)) refl refl
+      open_up.0.4 open_up.0.2 (radix_past_ones path key at over bit beside lawful.rooted.2 goes.2) in
+      record { spare = all.0; keys = keys_left (OnOnes over bit beside) refl; others = all.1 }
 
 module _ {tree : Tree} {n : ℕ} (fits : FitsTree tree n) (old middle new : List ℕ) (path : List Frame) (free_leaves free_inner : List ℕ) (key at over bit : ℕ) (beside : Shape) (size : length old ≡ n) where
   -- what is to be shown, where the last inner record is this one
@@ -182,25 +254,20 @@ module _ {tree : Tree} {n : ℕ} (fits : FitsTree tree n) (old middle new : List
   drops_zeros lawful goes gives_inner gives_leaf =
       let open_up = opened old tree.root (OnZeros over bit beside ∷ path) (Leaf at key) lawful.rooted.0 lawful.rooted.1 in
       let radix = lawful.rooted.2 in
-      let inner = radix_inside 64 path (Fork over bit (Leaf at key) beside) radix in
-      drops fits old (slice_set old (slot_of tree.root path) (link_of beside)) middle new path (plug (OnZeros over bit beside ∷ path) (Leaf at key)) beside free_leaves free_inner at over (slot_of tree.root path) lawful size
-      (plug_leaves (OnZeros over bit beside ∷ path) (Leaf at key)) (plug_forks (OnZeros over bit beside ∷ path) (Leaf at key)) refl refl gives_inner gives_leaf
+      drops fits old (slice_set old (slot_of tree.root path) (link_of beside)) path (plug (OnZeros over bit beside ∷ path) (Leaf at key)) beside free_leaves free_inner at over (slot_of tree.root path) lawful size
+      (plug_leaves (OnZeros over bit beside ∷ path) (Leaf at key)) (plug_forks (OnZeros over bit beside ∷ path) (Leaf at key)) refl refl middle new gives_inner gives_leaf
       key open_up.0.4 open_up.0.2
-      (radix_plug key 0 64 path (Fork over bit (Leaf at key) beside) beside
-      (follows key 0 key 64 path (Fork over bit (Leaf at key) beside) radix goes.2 (first_among key (keys_of beside)) refl) goes.2 (omega arith)
-      (λ y c. inr (other_among y key (keys_of beside) c)) (λ m le r. radix_more bit m beside (omega (arith, r.0)) r.3) radix)
+      (radix_past_zeros path key at over bit beside radix goes.2)
       (plug_keys (OnZeros over bit beside ∷ path) (Leaf at key)) (record { path = path; part = beside; bit = bit; without = refl; with_leaf = inl refl })
 
   pub drops_ones : DropsBy (OnOnes over bit beside)
   drops_ones lawful goes gives_inner gives_leaf =
       let open_up = opened old tree.root (OnOnes over bit beside ∷ path) (Leaf at key) lawful.rooted.0 lawful.rooted.1 in
       let radix = lawful.rooted.2 in
-      drops fits old (slice_set old (slot_of tree.root path) (link_of beside)) middle new path (plug (OnOnes over bit beside ∷ path) (Leaf at key)) beside free_leaves free_inner at over (slot_of tree.root path) lawful size
-      (plug_leaves (OnOnes over bit beside ∷ path) (Leaf at key)) (plug_forks (OnOnes over bit beside ∷ path) (Leaf at key)) refl refl gives_inner gives_leaf
+      drops fits old (slice_set old (slot_of tree.root path) (link_of beside)) path (plug (OnOnes over bit beside ∷ path) (Leaf at key)) beside free_leaves free_inner at over (slot_of tree.root path) lawful size
+      (plug_leaves (OnOnes over bit beside ∷ path) (Leaf at key)) (plug_forks (OnOnes over bit beside ∷ path) (Leaf at key)) refl refl middle new gives_inner gives_leaf
       key open_up.0.4 open_up.0.2
-      (radix_plug key 0 64 path (Fork over bit beside (Leaf at key)) beside
-      (follows key 0 key 64 path (Fork over bit beside (Leaf at key)) radix goes.2 (Contains-append_right (keys_of beside) (key ∷ []) key (first_among key [])) refl) goes.2 (omega arith)
-      (λ y c. inr (Contains-append_left (keys_of beside) (key ∷ []) y c)) (λ m le r. radix_more bit m beside (omega (arith, r.0)) r.2) radix)
+      (radix_past_ones path key at over bit beside radix goes.2)
       (plug_keys (OnOnes over bit beside ∷ path) (Leaf at key)) (record { path = path; part = beside; bit = bit; without = refl; with_leaf = inr refl })
 
 -- without an inner record the tree is emptied

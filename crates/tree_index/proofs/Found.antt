@@ -1,5 +1,5 @@
 -- What the walks of `next` found, in a lawful tree.
-use Rattle.std.proofs.Common.{◌≡◌, ◌≢◌, ℕ, ◌+◌, ◌/◌, ◌^◌, ◌<◌, inl, inr, List, [], ◌∷◌, ◌++◌, Contains, Option, Some, None, unwrap_or, slice_index, refl, sym, ap, ◌∙◌, subst, arith}
+use Rattle.std.proofs.Common.{◌≡◌, ◌≢◌, ℕ, ◌+◌, ◌/◌, ◌^◌, ◌<◌, ◌≤◌, IfSome, inl, inr, List, [], ◌∷◌, ◌++◌, Contains, Option, Some, None, unwrap_or, slice_index, refl, sym, ap, ◌∙◌, subst, arith}
 use Rattle.std.proofs.lemmas.Bool.{cases_order}
 use Rattle.std.proofs.lemmas.List.Elements.{All-contains, All-from_recursion, All-nil, Contains-append_left, Contains-append_right}
 use Rattle.record_heap.specs.Pool.{IsPool, IsRecord}
@@ -9,15 +9,15 @@ use Rattle.tree_index.specs.declared.tree.TreePosition.{TreePosition}
 use Rattle.tree_index.specs.declared.tree.Tree.{Tree}
 use Rattle.tree_index.specs.Shape.{Shape, Leaf, Fork, IsRadix, forks_of, keys_in, keys_of, leaves_of, least_of, link_of}
 use Rattle.tree_index.specs.Tree.{FindsNext, FitsTree, IsNext, IsTree}
-use Rattle.tree_index.specs.Path.{Frame, OnZeros, OnOnes, plug, over_of, slot_of, turn_of}
-use Rattle.tree_index.specs.Walk.{EndsBelow, FindsLeast, HasRecords, IsHeld, IsIn, LeadsTo, Reaches, StaysAtRoot, WalksTo}
+use Rattle.tree_index.specs.Path.{Frame, OnZeros, OnOnes, GoesBy, plug, over_of, slot_of, turn_of}
+use Rattle.tree_index.specs.Walk.{EndsBelow, FindsLeast, HasRecords, IsHeld, IsIn, LeadsTo, PlacesBeside, Reaches, StaysAtRoot, WalksTo}
 use Rattle.tree_index.proofs.Frees.{none_is_not}
 use Rattle.tree_index.proofs.Nexts.{next_above, next_below, next_here, turn_key}
 use Rattle.tree_index.proofs.Shapes.{first_among, other_among, radix_inside, radix_more, reached_key, reach_along}
 
 -- ---- the records of a lawful tree
 
-has_records : (tree : Tree) (shape : Shape) → ((at : ℕ) → Contains (leaves_of shape) at → IsRecord tree.leaves at) → ((at : ℕ) → Contains (forks_of shape) at → IsRecord tree.inner at) → HasRecords tree shape
+pub has_records : (tree : Tree) (shape : Shape) → ((at : ℕ) → Contains (leaves_of shape) at → IsRecord tree.leaves at) → ((at : ℕ) → Contains (forks_of shape) at → IsRecord tree.inner at) → HasRecords tree shape
 has_records tree (Leaf at key) leaf inner = leaf at (first_among at [])
 has_records tree (Fork at bit zeros ones) leaf inner = (
   inner at (first_among at (forks_of zeros ++ forks_of ones)),
@@ -79,6 +79,47 @@ next_equal {tree} {words} {key} {near} leads same = λ shape free_leaves free_in
     here (Some shape) lawful = subst (λ y. IsNext (keys_of shape) key (Some y)) (sym same) (next_here key shape (sym (near_key shape (tree_in shape lawful) leads) ∙ same))
 
 -- ---- the second walk
+
+-- the last inner record of the path has a bit from `floor` on
+abbrev IsLastFrom : ℕ → List Frame → Type 0
+IsLastFrom floor [] = Unit {0}
+IsLastFrom floor (OnZeros at bit ones ∷ path) = floor ≤ bit
+IsLastFrom floor (OnOnes at bit zeros ∷ path) = floor ≤ bit
+
+-- the bits rise on the way up
+last_above : (floor at bit : ℕ) (zeros ones : Shape) (path : List Frame) → IsRadix 64 (plug path (Fork at bit zeros ones)) → floor ≤ bit → IsLastFrom floor path
+last_above floor at bit zeros ones [] radix low = tt
+last_above floor at bit zeros ones (OnZeros above high rest ∷ path) radix low = omega (arith, low, (radix_inside 64 path (Fork above high (Fork at bit zeros ones) rest) radix).2.0)
+last_above floor at bit zeros ones (OnOnes above high rest ∷ path) radix low = omega (arith, low, (radix_inside 64 path (Fork above high rest (Fork at bit zeros ones)) radix).3.0)
+
+goes_from : (key floor : ℕ) (path : List Frame) (shape : Shape) → IsRadix 64 (plug path shape) → GoesBy key 0 path → IsLastFrom floor path → GoesBy key floor path
+goes_from key floor [] shape radix goes last = tt
+goes_from key floor (OnZeros at bit ones ∷ path) shape radix goes last = (last, goes.1, goes_from key floor path (Fork at bit shape ones) radix goes.2 (last_above floor at bit shape ones path radix last))
+goes_from key floor (OnOnes at bit zeros ∷ path) shape radix goes last = (last, goes.1, goes_from key floor path (Fork at bit zeros shape) radix goes.2 (last_above floor at bit zeros shape path radix last))
+
+last_of : (root floor : ℕ) (path : List Frame) → IfSome (over_of root path) (λ over. floor ≤ over.bit) → IsLastFrom floor path
+last_of root floor [] over = tt
+last_of root floor (OnZeros at bit ones ∷ path) over = over
+last_of root floor (OnOnes at bit zeros ∷ path) over = over
+
+leaf_ends : (floor : ℕ) (shape : Shape) → EndsBelow 0 shape → EndsBelow floor shape
+leaf_ends floor (Leaf at key) ends = tt
+leaf_ends floor (Fork at bit zeros ones) ends = absurd (omega (arith, ends))
+
+-- with such a bit over the leaf, or none, a walk down to `floor` stands where the first one does
+pub stays_placed : {tree : Tree} {words : List ℕ} {key : ℕ} {near : NearestLeaf} (floor : ℕ) → IfSome near.position.over (λ over. floor ≤ over.bit) → PlacesBeside tree key floor near words near.position
+stays_placed {tree} {words} {key} {near} floor high = λ leads whole there.
+    let r = leads.walk whole there in
+    record {
+      path = r.path;
+      part = r.part;
+      is = r.is;
+      at = r.at;
+      steps = goes_from key floor r.path r.part (subst (IsRadix 64) r.is there.radix) r.steps
+          (last_of tree.root floor r.path (subst (λ o. IfSome o (λ over. floor ≤ over.bit)) (ap (λ (p : TreePosition). p.over) r.at) high));
+      held = r.held;
+      ends = leaf_ends floor r.part r.ends;
+    }
 
 no_turn : (path : List Frame) → turn_of path ≡ None → turn_key path ≡ None
 no_turn [] none = refl

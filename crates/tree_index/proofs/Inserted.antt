@@ -9,9 +9,9 @@ use Rattle.tree_index.specs.declared.tree.TreePosition.{TreePosition}
 use Rattle.tree_index.specs.declared.tree.Tree.{Tree}
 use Rattle.tree_index.specs.declared.tree_put.TreePut.{TreePut}
 use Rattle.tree_index.specs.declared.tree_put.TreePut.TheVariants.{There, Full, Stored}
-use Rattle.tree_index.specs.Linking.{PutsBeside, PutsBesideAll, StoresBeside}
+use Rattle.tree_index.specs.Linking.{PutsBeside, PutsBesideAll, StoresBeside, linked_beside}
 use Rattle.tree_index.specs.Shape.{Shape, bit_of, forks_of, keys_in, keys_of, leaves_of, link_of}
-use Rattle.tree_index.specs.Tree.{FitsTree, Inserts, InsertsAll, IsTree, Stores}
+use Rattle.tree_index.specs.Tree.{FitsTree, Inserts, InsertsAll, IsRooted, IsTree, Stores}
 use Rattle.tree_index.specs.Path.{Frame, GoesBy, plug, slot_of}
 use Rattle.tree_index.specs.Walk.{EndsBelow, LeadsTo, Reaches, WalksTo}
 use Rattle.tree_index.proofs.Found.{near_key, tree_in}
@@ -45,22 +45,29 @@ leaves_stay {tree} fits changes lawful =
     pool_stays (same_pool {words = tree.inner.base ∷ (tree.inner.base + 1) ∷ []}
     (subst (λ i. IsOutsidePool tree.leaves i) (let sum : tree.inner.base + 0 ≡ tree.inner.base = omega arith in sum) (header_outside_leaves fits 0 (omega arith)), (header_outside_leaves fits 1 (omega arith), tt)) changes) lawful
 
+-- With a leaf and an inner record taken, which are linked at the position; all words but the headers' stand as before the taking:
+pub stored_from : {tree : Tree} {n : ℕ} → FitsTree tree n → (old second new : List ℕ) (path : List Frame) (rest : Shape) (free_leaves free_inner left_leaves left_inner : List ℕ) (key d leaf fork : ℕ) (position : TreePosition) → length old ≡ n → length second ≡ n → d < 64 → IsRooted old tree.root (Some (plug path rest)) → position.slot ≡ slot_of tree.root path → position.link ≡ link_of rest → GoesBy key (d + 1) path → EndsBelow (d + 1) rest → key / 2 ^ (d + 1) ≡ reached_key key rest / 2 ^ (d + 1) → key / 2 ^ d ≢ reached_key key rest / 2 ^ d
+    → IsPool tree.leaves second left_leaves (leaf ∷ leaves_of (plug path rest)) → IsPool tree.inner second left_inner (fork ∷ forks_of (plug path rest))
+    → ((i : ℕ) → i ≢ tree.leaves.base → i ≢ tree.leaves.base + 1 → i ≢ tree.inner.base → i ≢ tree.inner.base + 1 → slice_index second i ≡ slice_index old i)
+    → free_leaves ≡ leaf ∷ left_leaves → free_inner ≡ fork ∷ left_inner → new ≡ linked_beside key d leaf fork position second → Stores tree key (Some (plug path rest)) free_leaves free_inner old new
+stored_from {tree} {n} fits old second new path rest free_leaves free_inner left_leaves left_inner key d leaf fork position old_size size small rooted slot link goes ends above differ leaves inner took_both took_leaf took_inner wrote =
+    let put : ℕ → ℕ → List ℕ = λ x y. slice_set (slice_set (slice_set (slice_set (slice_set second leaf key) fork d) x leaf) y position.link) position.slot fork in
+    elim (bit_cases (bit_of key d) (bit_small key d)) [
+      | inl none ↦ stores_zeros fits old second new path rest free_leaves free_inner left_leaves left_inner key d leaf fork 2 3 position.slot position.link rooted leaves inner took_both old_size size slot (omega arith) (omega arith) (omega arith) (omega arith) (omega arith)
+          (wrote ∙ ap (λ x. put x (fork + 3 - bit_of key d)) (let sum : fork + 2 + bit_of key d ≡ fork + 2 = omega (arith, none) in sum) ∙ ap (λ y. put (fork + 2) y) (let sum : fork + 3 - bit_of key d ≡ fork + 3 = omega (arith, none) in sum))
+          small goes ends above differ none link refl refl took_leaf took_inner
+      | inr one_bit ↦ stores_ones fits old second new path rest free_leaves free_inner left_leaves left_inner key d leaf fork 3 2 position.slot position.link rooted leaves inner took_both old_size size slot (omega arith) (omega arith) (omega arith) (omega arith) (omega arith)
+          (wrote ∙ ap (λ x. put x (fork + 3 - bit_of key d)) (let sum : fork + 2 + bit_of key d ≡ fork + 3 = omega (arith, one_bit) in sum) ∙ ap (λ y. put (fork + 3) y) (let sum : fork + 3 - bit_of key d ≡ fork + 2 = omega (arith, one_bit) in sum))
+          small goes ends above differ one_bit link refl refl took_leaf took_inner
+    ]
+
 stored : {tree : Tree} {n : ℕ} → FitsTree tree n → (old new : List ℕ) (path : List Frame) (rest : Shape) (free_leaves free_inner : List ℕ) (key d : ℕ) (position : TreePosition) → length old ≡ n → d < 64 → IsTree tree old (Some (plug path rest)) free_leaves free_inner → position.slot ≡ slot_of tree.root path → position.link ≡ link_of rest → GoesBy key (d + 1) path → EndsBelow (d + 1) rest → key / 2 ^ (d + 1) ≡ reached_key key rest / 2 ^ (d + 1) → key / 2 ^ d ≢ reached_key key rest / 2 ^ d
     → StoresBeside tree key d position free_leaves (leaves_of (plug path rest)) free_inner (forks_of (plug path rest)) old new → Stores tree key (Some (plug path rest)) free_leaves free_inner old new
 stored {tree} {n} fits old new path rest free_leaves free_inner key d position size small lawful slot link goes ends above differ g =
     let one = took tree.leaves (leaves_of (plug path rest)) g.leaf old g.first free_leaves g.takes_leaf in
     let two = took tree.inner (forks_of (plug path rest)) g.fork g.first g.second free_inner (g.takes_inner (inner_stays fits g.leaf (leaves_of (plug path rest)) free_leaves g.takes_leaf lawful.inner)) in
-    let leaves = leaves_stay fits two.changes one.lawful in
-    let took_both : (i : ℕ) → i ≢ tree.leaves.base → i ≢ tree.leaves.base + 1 → i ≢ tree.inner.base → i ≢ tree.inner.base + 1 → slice_index g.second i ≡ slice_index old i = λ i a b c e. two.changes.others i (c, (e, tt)) ∙ one.changes.others i (a, (b, tt)) in
-    let put : ℕ → ℕ → List ℕ = λ x y. slice_set (slice_set (slice_set (slice_set (slice_set g.second g.leaf key) g.fork d) x g.leaf) y position.link) position.slot g.fork in
-    elim (bit_cases (bit_of key d) (bit_small key d)) [
-      | inl none ↦ stores_zeros fits old g.second new path rest free_leaves free_inner one.left two.left key d g.leaf g.fork 2 3 position.slot position.link lawful leaves two.lawful took_both size (two.changes.size ∙ one.changes.size ∙ size) slot (omega arith) (omega arith) (omega arith) (omega arith) (omega arith)
-          (g.wrote ∙ ap (λ x. put x (g.fork + 3 - bit_of key d)) (let sum : g.fork + 2 + bit_of key d ≡ g.fork + 2 = omega (arith, none) in sum) ∙ ap (λ y. put (g.fork + 2) y) (let sum : g.fork + 3 - bit_of key d ≡ g.fork + 3 = omega (arith, none) in sum))
-          small goes ends above differ none link refl refl one.first two.first
-      | inr one_bit ↦ stores_ones fits old g.second new path rest free_leaves free_inner one.left two.left key d g.leaf g.fork 3 2 position.slot position.link lawful leaves two.lawful took_both size (two.changes.size ∙ one.changes.size ∙ size) slot (omega arith) (omega arith) (omega arith) (omega arith) (omega arith)
-          (g.wrote ∙ ap (λ x. put x (g.fork + 3 - bit_of key d)) (let sum : g.fork + 2 + bit_of key d ≡ g.fork + 3 = omega (arith, one_bit) in sum) ∙ ap (λ y. put (g.fork + 3) y) (let sum : g.fork + 3 - bit_of key d ≡ g.fork + 2 = omega (arith, one_bit) in sum))
-          small goes ends above differ one_bit link refl refl one.first two.first
-    ]
+    stored_from fits old g.second new path rest free_leaves free_inner one.left two.left key d g.leaf g.fork position size (two.changes.size ∙ one.changes.size ∙ size) small lawful.rooted slot link goes ends above differ
+    (leaves_stay fits two.changes one.lawful) two.lawful (λ i a b c e. two.changes.others i (c, (e, tt)) ∙ one.changes.others i (a, (b, tt))) one.first two.first g.wrote
 
 -- the key was there
 there_in : {tree : Tree} {words free_leaves free_inner : List ℕ} {key : ℕ} {near : NearestLeaf} (shape : Option Shape) → IsTree tree words shape free_leaves free_inner → LeadsTo tree key words near → near.key ≡ key → Contains (keys_in shape) key

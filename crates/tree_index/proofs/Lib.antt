@@ -11,6 +11,7 @@ pub mod Nexts
 pub mod Numbers
 pub mod Paths
 pub mod Removed
+pub mod Replaced
 pub mod Shapes
 pub mod Stored
 pub mod Unread

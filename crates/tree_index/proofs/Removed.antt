@@ -86,13 +86,13 @@ abbrev pub GivesLeaf : Tree → ℕ → List ℕ → List ℕ → Type 0
 GivesLeaf tree at middle new = (free taken : List ℕ) → IsPool tree.leaves middle free taken → ¬ Contains free at → Gives tree.leaves at free taken middle new
 
 -- what both did, where the last inner record passed is that of this frame, with `beside` on its other side
-both_given : {tree : Tree} {n : ℕ} → FitsTree tree n → (old middle new free_leaves free_inner : List ℕ) (key at over side : ℕ) (frame : Frame) (path : List Frame) (beside : Shape)
+both_given : {tree : Tree} {n : ℕ} → FitsTree tree n → (old middle new free_leaves free_inner : List ℕ) (key at over bit side : ℕ) (frame : Frame) (path : List Frame) (beside : Shape)
     → leaves_along (frame ∷ path) ≡ leaves_of beside ++ leaves_along path → forks_along (frame ∷ path) ≡ over ∷ (forks_of beside ++ forks_along path)
     → IsTree tree old (Some (plug (frame ∷ path) (Leaf at key))) free_leaves free_inner → slice_index old (over + 3 - side) ≡ link_of beside
-    → Unlinks tree (Some (record { at = over; slot = slot_of tree.root path; side = side })) old middle tt → GivesLeaf tree at middle new
+    → Unlinks tree (Some (record { at = over; slot = slot_of tree.root path; bit = bit; side = side })) old middle tt → GivesLeaf tree at middle new
     → Gives tree.inner over free_inner (forks_of (plug (frame ∷ path) (Leaf at key))) (slice_set old (slot_of tree.root path) (link_of beside)) middle
     × Gives tree.leaves at free_leaves (leaves_of (plug (frame ∷ path) (Leaf at key))) middle new
-both_given {tree} fits old middle new free_leaves free_inner key at over side frame path beside leaves_are forks_are lawful link cuts gives =
+both_given {tree} fits old middle new free_leaves free_inner key at over bit side frame path beside leaves_are forks_are lawful link cuts gives =
     let whole = plug (frame ∷ path) (Leaf at key) in
     let slot = slot_of tree.root path in
     let own =
@@ -120,12 +120,12 @@ dropped_leaf {tree} {n} fits old middle new free_leaves free_inner key at size [
 dropped_leaf {tree} {n} fits old middle new free_leaves free_inner key at size (OnZeros over bit beside ∷ path) lawful goes cuts gives =
     let open_up = opened old tree.root (OnZeros over bit beside ∷ path) (Leaf at key) lawful.rooted.0 lawful.rooted.1 in
     let link = ap (λ x. slice_index old x) (let sum : over + 3 - 0 ≡ over + 3 = omega arith in sum) ∙ open_up.0.1 in
-    let both = both_given fits old middle new free_leaves free_inner key at over 0 (OnZeros over bit beside) path beside refl refl lawful link cuts gives in
+    let both = both_given fits old middle new free_leaves free_inner key at over bit 0 (OnZeros over bit beside) path beside refl refl lawful link cuts gives in
     drops_zeros fits old middle new path free_leaves free_inner key at over bit beside size lawful goes both.0 both.1
 dropped_leaf {tree} {n} fits old middle new free_leaves free_inner key at size (OnOnes over bit beside ∷ path) lawful goes cuts gives =
     let open_up = opened old tree.root (OnOnes over bit beside ∷ path) (Leaf at key) lawful.rooted.0 lawful.rooted.1 in
     let link = ap (λ x. slice_index old x) (let sum : over + 3 - 1 ≡ over + 2 = omega arith in sum) ∙ open_up.0.1 in
-    let both = both_given fits old middle new free_leaves free_inner key at over 1 (OnOnes over bit beside) path beside refl refl lawful link cuts gives in
+    let both = both_given fits old middle new free_leaves free_inner key at over bit 1 (OnOnes over bit beside) path beside refl refl lawful link cuts gives in
     drops_ones fits old middle new path free_leaves free_inner key at over bit beside size lawful goes both.0 both.1
 
 dropped : {tree : Tree} {n : ℕ} → FitsTree tree n → (old middle new free_leaves free_inner : List ℕ) (key : ℕ) → length old ≡ n → (path : List Frame) (rest : Shape) → EndsBelow 0 rest → IsTree tree old (Some (plug path rest)) free_leaves free_inner → GoesBy key 0 path → reached_key key rest ≡ key → Unlinks tree (over_of tree.root path) old middle tt → GivesLeaf tree (link_of rest) middle new → Drops tree key (Some (plug path rest)) free_leaves free_inner old new

@@ -14,7 +14,7 @@ use Rattle.record_heap.proofs.Frames.{IsOutsidePool, pool_stays, same_pool}
 use Rattle.record_heap.proofs.Records.{none_twice}
 use Rattle.tree_index.specs.declared.tree.Tree.{Tree}
 use Rattle.tree_index.specs.Shape.{Shape, Leaf, Fork, Holds, IsRadix, IsUnread, bit_of, forks_of, keys_of, leaves_of, link_of}
-use Rattle.tree_index.specs.Tree.{FitsTree, IsTree, IsUnreadBy, Stores, StaysOutside}
+use Rattle.tree_index.specs.Tree.{FitsTree, IsRooted, IsUnreadBy, Stores, StaysOutside}
 use Rattle.tree_index.specs.Path.{Frame, GoesBy, HasLeafMore, plug, slot_of}
 use Rattle.tree_index.specs.Walk.{EndsBelow}
 use Rattle.tree_index.proofs.Apart.{IsOf, IsOwn, along_same, holds_same, of_more, own_apart, own_apart_leaf, own_more, own_not_outside, own_outside_inner, own_outside_leaves, rest_apart, slot_own}
@@ -41,7 +41,7 @@ grown_lists x whole rest along new after of_whole of_after grows =
 
 -- A new leaf and a new inner record are written, and linked at a position of the tree:
 module _ {tree : Tree} {n : ℕ} (fits : FitsTree tree n) (old second new : List ℕ) (path : List Frame) (rest : Shape) (free_leaves free_inner left_leaves left_inner : List ℕ) (key d leaf fork k l slot link : ℕ)
-    (lawful : IsTree tree old (Some (plug path rest)) free_leaves free_inner)
+    (rooted : IsRooted old tree.root (Some (plug path rest)))
     (pool_leaves : IsPool tree.leaves second left_leaves (leaf ∷ leaves_of (plug path rest)))
     (pool_inner : IsPool tree.inner second left_inner (fork ∷ forks_of (plug path rest)))
     (took : (i : ℕ) → i ≢ tree.leaves.base → i ≢ tree.leaves.base + 1 → i ≢ tree.inner.base → i ≢ tree.inner.base + 1 → slice_index second i ≡ slice_index old i)
@@ -154,7 +154,7 @@ module _ {tree : Tree} {n : ℕ} (fits : FitsTree tree n) (old second new : List
       ∙ took i of_leaves.first of_leaves.live of_inner.first of_inner.live
 
   opens : Along old tree.root path × (slice_index old (slot_of tree.root path) ≡ link_of rest) × Holds old rest
-  opens = opened old tree.root path rest lawful.rooted.0 lawful.rooted.1
+  opens = opened old tree.root path rest rooted.0 rooted.1
 
   -- ---- what they hold afterwards
 
@@ -270,7 +270,7 @@ module _ {tree : Tree} {n : ℕ} (fits : FitsTree tree n) (old second new : List
   -- the key has 0 in the bit
   pub stores_zeros : d < 64 → GoesBy key (d + 1) path → EndsBelow (d + 1) rest → key / 2 ^ (d + 1) ≡ reached_key key rest / 2 ^ (d + 1) → key / 2 ^ d ≢ reached_key key rest / 2 ^ d → bit_of key d ≡ 0 → link ≡ link_of rest → k ≡ 2 → l ≡ 3 → free_leaves ≡ leaf ∷ left_leaves → free_inner ≡ fork ∷ left_inner → Stores tree key (Some (plug path rest)) free_leaves free_inner old new
   stores_zeros small goes ends above differ zero_bit link_is k_is l_is took_leaf took_inner =
-      let radix = lawful.rooted.2 in
+      let radix = rooted.2 in
       let inside = radix_inside 64 path rest radix in
       let lower = ends_lower key d 64 rest inside ends above differ in
       let agree = agree_below key d 64 rest inside ends above differ in
@@ -296,7 +296,7 @@ module _ {tree : Tree} {n : ℕ} (fits : FitsTree tree n) (old second new : List
   -- or 1
   pub stores_ones : d < 64 → GoesBy key (d + 1) path → EndsBelow (d + 1) rest → key / 2 ^ (d + 1) ≡ reached_key key rest / 2 ^ (d + 1) → key / 2 ^ d ≢ reached_key key rest / 2 ^ d → bit_of key d ≡ 1 → link ≡ link_of rest → k ≡ 3 → l ≡ 2 → free_leaves ≡ leaf ∷ left_leaves → free_inner ≡ fork ∷ left_inner → Stores tree key (Some (plug path rest)) free_leaves free_inner old new
   stores_ones small goes ends above differ one_bit link_is k_is l_is took_leaf took_inner =
-      let radix = lawful.rooted.2 in
+      let radix = rooted.2 in
       let inside = radix_inside 64 path rest radix in
       let lower = ends_lower key d 64 rest inside ends above differ in
       let agree = agree_below key d 64 rest inside ends above differ in

@@ -69,8 +69,8 @@ pub record Stands (tree : Tree) (key floor : ℕ) (words : List ℕ) (whole : Sh
 pub stands_none : (tree : Tree) (key floor link : ℕ) (words : List ℕ) (whole : Shape) → IsIn tree words whole → link ≡ slice_index words tree.root → Stands tree key floor words whole 0 (start_at tree link)
 stands_none tree key floor link words whole there read = record { path = []; shape = whole; is = refl; at = ap (λ l. start_at tree l) (read ∙ there.link); steps = tt; held = there.held; radix = there.radix }
 
-abbrev passed : ℕ → ℕ → ℕ → Option PassedRecord
-passed at slot side = Some (record { at = at; slot = slot; side = side })
+abbrev passed : ℕ → ℕ → ℕ → ℕ → Option PassedRecord
+passed at slot bit side = Some (record { at = at; slot = slot; bit = bit; side = side })
 
 abbrev placed : ℕ → Option PassedRecord → Option ℕ → ℕ → TreePosition
 placed slot over turn link = record { slot = slot; link = link; over = over; turn = turn }
@@ -94,8 +94,9 @@ stands_step {tree} fits key floor words whole n position next step path (Fork at
         shape = zeros;
         is = is;
         at = led ∙ ap (λ s. step_by words (placed (slot_of tree.root path) (over_of tree.root path) (turn_of path) at) s) none
-            ∙ ap (λ x. placed x (passed at (slot_of tree.root path) 0) (Some (at + 3)) (slice_index words x)) (let sum : at + 2 + 0 ≡ at + 2 = omega arith in sum)
-            ∙ ap (λ l. placed (at + 2) (passed at (slot_of tree.root path) 0) (Some (at + 3)) l) held.words.1;
+            ∙ ap (λ b. placed (at + 2 + 0) (passed at (slot_of tree.root path) b 0) (Some (at + 3)) (slice_index words (at + 2 + 0))) held.words.0
+            ∙ ap (λ x. placed x (passed at (slot_of tree.root path) bit 0) (Some (at + 3)) (slice_index words x)) (let sum : at + 2 + 0 ≡ at + 2 = omega arith in sum)
+            ∙ ap (λ l. placed (at + 2) (passed at (slot_of tree.root path) bit 0) (Some (at + 3)) l) held.words.1;
         steps = (high, none, goes);
         held = record { records = held.records.1; words = held.words.3 };
         radix = radix_more bit (64 - (n + 1)) zeros (omega (arith, radix.0)) radix.2;
@@ -105,8 +106,9 @@ stands_step {tree} fits key floor words whole n position next step path (Fork at
         shape = ones;
         is = is;
         at = led ∙ ap (λ s. step_by words (placed (slot_of tree.root path) (over_of tree.root path) (turn_of path) at) s) one
-            ∙ ap (λ x. placed x (passed at (slot_of tree.root path) 1) (turn_of path) (slice_index words x)) (let sum : at + 2 + 1 ≡ at + 3 = omega arith in sum)
-            ∙ ap (λ l. placed (at + 3) (passed at (slot_of tree.root path) 1) (turn_of path) l) held.words.2;
+            ∙ ap (λ b. placed (at + 2 + 1) (passed at (slot_of tree.root path) b 1) (turn_of path) (slice_index words (at + 2 + 1))) held.words.0
+            ∙ ap (λ x. placed x (passed at (slot_of tree.root path) bit 1) (turn_of path) (slice_index words x)) (let sum : at + 2 + 1 ≡ at + 3 = omega arith in sum)
+            ∙ ap (λ l. placed (at + 3) (passed at (slot_of tree.root path) bit 1) (turn_of path) l) held.words.2;
         steps = (high, one, goes);
         held = record { records = held.records.2; words = held.words.4 };
         radix = radix_more bit (64 - (n + 1)) ones (omega (arith, radix.0)) radix.3;
@@ -146,13 +148,14 @@ stands_out {tree} {key} {floor} {n} {words} {whole} {position} all s = reaches s
 
 -- a step that was made is one by the bit that was read
 pub steps_on : (tree : Tree) (words : List ℕ) (key floor : ℕ) (position : TreePosition) (bit side link : ℕ) (turn : Option ℕ) → IsRecord tree.inner position.link → bit ≡ slice_index words position.link → floor ≤ bit → side ≡ bit_of key bit → link ≡ slice_index words (position.link + 2 + side) → turn ≡ turn_by side position.link position.turn
-    → IsStep tree key floor position words (Some (placed (position.link + 2 + side) (passed position.link position.slot side) turn link))
+    → IsStep tree key floor position words (Some (placed (position.link + 2 + side) (passed position.link position.slot bit side) turn link))
 steps_on tree words key floor position bit side link turn there read high by linked turned =
-    let over = passed position.link position.slot side in
+    let over = passed position.link position.slot bit side in
     let slot = position.link + 2 + side in (
       there,
       omega (arith, high, read),
-      ap (λ l. placed slot over turn l) linked ∙ ap (λ t. placed slot over t (slice_index words slot)) turned ∙ ap (λ s. step_by words position s) (by ∙ ap (λ b. bit_of key b) read),
+      ap (λ l. placed slot over turn l) linked ∙ ap (λ t. placed slot over t (slice_index words slot)) turned
+          ∙ ap (λ b. placed slot (passed position.link position.slot b side) (turn_by side position.link position.turn) (slice_index words slot)) read ∙ ap (λ s. step_by words position s) (by ∙ ap (λ b. bit_of key b) read),
     )
 
 turn_fits : {n : ℕ} (side at : ℕ) (before : Option ℕ) → at + 3 < n → IfSome before (λ word. word < n) → IfSome (turn_by side at before) (λ word. word < n)
@@ -161,7 +164,7 @@ turn_fits (suc side) at before low fits = fits
 
 -- the words that it names lie below n again
 pub step_fits : {tree : Tree} {n : ℕ} → FitsTree tree n → (key : ℕ) (position : TreePosition) (bit side link : ℕ) (turn : Option ℕ) → FitsPosition tree n position → IsRecord tree.inner position.link → side ≡ bit_of key bit → turn ≡ turn_by side position.link position.turn
-    → FitsPosition tree n (placed (position.link + 2 + side) (passed position.link position.slot side) turn link)
+    → FitsPosition tree n (placed (position.link + 2 + side) (passed position.link position.slot bit side) turn link)
 step_fits {tree} {n} fits key position bit side link turn inside there by turned =
     let ends = fits.inner.inside position.link there in
     let small : side < 2 = omega (arith, by, bit_small key bit) in

@@ -1,12 +1,14 @@
 -- What the parts of `insert` and `remove` write.
-use Rattle.std.specs.Prelude.{◌≡◌, ℕ, ◌+◌, ◌-◌, ◌⊎◌, List, [], Contains, Option, Some, None, slice_index, slice_set}
+use Rattle.std.specs.Prelude.{◌≡◌, ℕ, ◌+◌, ◌-◌, ◌⊎◌, List, [], ◌∷◌, Contains, Option, Some, None, slice_index, slice_set}
+use Rattle.std.specs.List.Sorted.{IsPermutation}
 use Rattle.record_heap.specs.Pool.{Gives, IsPool, Takes}
 use Rattle.tree_index.specs.declared.tree.PassedRecord.{PassedRecord}
 use Rattle.tree_index.specs.declared.tree.TreePosition.{TreePosition}
 use Rattle.tree_index.specs.declared.tree.Tree.{Tree}
 use Rattle.tree_index.specs.declared.tree_put.TreePut.{TreePut}
 use Rattle.tree_index.specs.declared.tree_put.TreePut.TheVariants.{There, Full, Stored}
-use Rattle.tree_index.specs.Shape.{bit_of}
+use Rattle.tree_index.specs.Shape.{Shape, bit_of, forks_of, keys_of, leaves_of}
+use Rattle.tree_index.specs.Tree.{IsRooted, IsTree, StaysOutside}
 
 -- the first free leaf gets the key, and the root links it
 pub record StoresFirst (tree : Tree) (key : ℕ) (free taken : List ℕ) (old new : List ℕ) : Type 0 where
@@ -56,7 +58,29 @@ PutsBesideAll tree key bit position old new put =
 abbrev pub relinked : PassedRecord → List ℕ → List ℕ
 relinked passed array = slice_set array passed.slot (slice_index array (passed.at + 3 - passed.side))
 
+-- `cut` leaves the array so
+abbrev pub Relinks : PassedRecord → List ℕ → List ℕ → Unit {0} → Type 0
+Relinks passed old new done = new ≡ relinked passed old
+
 -- the last inner record passed is so unlinked and given back; without one the tree is emptied
 abbrev pub Unlinks : Tree → Option PassedRecord → List ℕ → List ℕ → Unit {0} → Type 0
 Unlinks tree None old new done = new ≡ slice_set old tree.root 0
 Unlinks tree (Some passed) old new done = (free taken : List ℕ) → IsPool tree.inner (relinked passed old) free taken → ¬ Contains free passed.at → Gives tree.inner passed.at free taken (relinked passed old) new
+
+-- The tree of this array has this shape, and beside it one leaf and one inner record are taken, which it doesn't link.
+pub record HasSpare (tree : Tree) (array : List ℕ) (leaf fork : ℕ) (shape : Shape) (free_leaves free_inner : List ℕ) : Type 0 where
+  pub leaves : IsPool tree.leaves array free_leaves (leaf ∷ leaves_of shape)
+  pub inner : IsPool tree.inner array free_inner (fork ∷ forks_of shape)
+  pub rooted : IsRooted array tree.root (Some shape)
+
+-- the tree has the key beside those that it had
+pub record HasKeyMore (tree : Tree) (key : ℕ) (shape : Shape) (free_leaves free_inner : List ℕ) (old new : List ℕ) : Type 0 where
+  pub after : Shape
+  pub lawful : IsTree tree new (Some after) free_leaves free_inner
+  pub keys : IsPermutation (key ∷ keys_of shape) (keys_of after)
+  pub others : StaysOutside tree old new
+
+-- in every way in which the array has a tree with these records beside it, and without the key, it has the key afterwards
+abbrev pub LinksSpare : Tree → ℕ → ℕ → ℕ → List ℕ → List ℕ → Unit {0} → Type 0
+LinksSpare tree key leaf fork old new done = (shape : Shape) (free_leaves free_inner : List ℕ) → HasSpare tree old leaf fork shape free_leaves free_inner
+    → ¬ Contains (keys_of shape) key → HasKeyMore tree key shape free_leaves free_inner old new

@@ -25,11 +25,11 @@ slot_of root [] = root
 slot_of root (OnZeros at bit ones ∷ path) = at + 2
 slot_of root (OnOnes at bit zeros ∷ path) = at + 3
 
--- the last inner record of a path, with the word that links it and the side that the path takes
+-- the last inner record of a path, with the word that links it, its bit, and the side that the path takes
 abbrev pub over_of : ℕ → List Frame → Option PassedRecord
 over_of root [] = None
-over_of root (OnZeros at bit ones ∷ path) = Some (record { at = at; slot = slot_of root path; side = 0 })
-over_of root (OnOnes at bit zeros ∷ path) = Some (record { at = at; slot = slot_of root path; side = 1 })
+over_of root (OnZeros at bit ones ∷ path) = Some (record { at = at; slot = slot_of root path; bit = bit; side = 0 })
+over_of root (OnOnes at bit zeros ∷ path) = Some (record { at = at; slot = slot_of root path; bit = bit; side = 1 })
 
 -- the word that links the ones of the last inner record where a path goes to the zeros
 abbrev pub turn_of : List Frame → Option ℕ

@@ -106,6 +106,16 @@ abbrev pub Removes : Tree → ℕ → Option Shape → List ℕ → List ℕ →
 Removes tree key shape free_leaves free_inner false old new = (¬ Contains (keys_in shape) key) × (new ≡ old)
 Removes tree key shape free_leaves free_inner true old new = Drops tree key shape free_leaves free_inner old new
 
+-- The key `from` was there, and `to` is there in its place. The other keys stay, and so do the free records: those of `from` are
+-- linked anew.
+pub record Replaces (tree : Tree) (from to : ℕ) (shape : Option Shape) (free_leaves free_inner : List ℕ) (old new : List ℕ) : Type 0 where
+  pub rest : List ℕ
+  pub were : IsPermutation (keys_in shape) (from ∷ rest)
+  pub after : Shape
+  pub keys : IsPermutation (to ∷ rest) (keys_of after)
+  pub lawful : IsTree tree new (Some after) free_leaves free_inner
+  pub others : StaysOutside tree old new
+
 -- in every way in which the array is this tree, the answer is the next of its keys
 abbrev pub FindsNext : Tree → ℕ → List ℕ → Option ℕ → Type 0
 FindsNext tree from array r = (shape : Option Shape) (free_leaves free_inner : List ℕ) → IsTree tree array shape free_leaves free_inner → IsNext (keys_in shape) from r
@@ -117,3 +127,10 @@ InsertsAll tree key old new put = (shape : Option Shape) (free_leaves free_inner
 -- in every way in which the array is this tree, `remove` does so
 abbrev pub RemovesAll : Tree → ℕ → List ℕ → List ℕ → Bool → Type 0
 RemovesAll tree key old new was = (shape : Option Shape) (free_leaves free_inner : List ℕ) → IsTree tree old shape free_leaves free_inner → Removes tree key shape free_leaves free_inner was old new
+
+-- In every way in which the array is this tree, `replace` does so where the first key is there and the second is not. Without the
+-- first nothing is changed.
+abbrev pub ReplacesAll : Tree → ℕ → ℕ → List ℕ → List ℕ → Unit {0} → Type 0
+ReplacesAll tree from to old new done = (shape : Option Shape) (free_leaves free_inner : List ℕ) → IsTree tree old shape free_leaves free_inner
+    → ((¬ Contains (keys_in shape) from) → new ≡ old)
+    × (Contains (keys_in shape) from → ¬ Contains (keys_in shape) to → Replaces tree from to shape free_leaves free_inner old new)

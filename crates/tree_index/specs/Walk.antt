@@ -27,6 +27,10 @@ insert_reads = 266
 abbrev pub remove_reads : ℕ
 remove_reads = 135
 
+-- the most reads of `replace`: three walks, the keys of two leaves, and a link
+abbrev pub replace_reads : ℕ
+replace_reads = 390
+
 -- each leaf and each inner record of the shape is a record of its pool
 abbrev pub HasRecords : Tree → Shape → Type 0
 HasRecords tree (Leaf at key) = IsRecord tree.leaves at
@@ -68,7 +72,7 @@ abbrev pub step_by : List ℕ → TreePosition → ℕ → TreePosition
 step_by array position side = record {
   slot = position.link + 2 + side;
   link = slice_index array (position.link + 2 + side);
-  over = Some (record { at = position.link; slot = position.slot; side = side });
+  over = Some (record { at = position.link; slot = position.slot; bit = slice_index array position.link; side = side });
   turn = turn_by side position.link position.turn;
 }
 
@@ -102,6 +106,10 @@ pub record LeadsTo (tree : Tree) (key : ℕ) (array : List ℕ) (near : NearestL
   pub read : near.key ≡ slice_index array near.position.link
   pub walk : WalksTo tree key 0 array near.position
   pub some : slice_index array tree.root ≢ 0
+
+-- where this is the leaf to which the bits of the key lead, a walk for the key down to this floor reached the position
+abbrev pub PlacesBeside : Tree → ℕ → ℕ → NearestLeaf → List ℕ → TreePosition → Type 0
+PlacesBeside tree key floor near array position = LeadsTo tree key array near → WalksTo tree key floor array position
 
 -- the leaf to which the bits of the key lead, or None where there is no tree
 abbrev pub FindsNearest : Tree → ℕ → List ℕ → Option NearestLeaf → Type 0

@@ -1,11 +1,11 @@
-//! A crit-bit tree over an array of words: a key is inserted, removed, and the next one found.
+//! A crit-bit tree over an array of words: a key is inserted, removed, replaced, and the next one found.
 
 ghost use Rattle.std.specs.Prelude.{◌+◌, ◌<◌, ◌^◌, ◌≡◌, IfOk, IfSome};
 ghost use Rattle.word_space.specs.Steps.{AnswersSeen, ChangesSeen, Shows, UsesWords};
 ghost use Rattle.record_heap.specs.Pool.{IsRecord};
-ghost use Rattle.tree_index.specs.Linking.{PutsBesideAll, PutsFirstAll, Unlinks, linked_beside};
-ghost use Rattle.tree_index.specs.Tree.{FindsNext, FitsTree, InsertsAll, RemovesAll};
-ghost use Rattle.tree_index.specs.Walk.{FindsLeast, FindsNearest, FitsPosition, GoesToZeros, IsStep, StaysAtRoot, WalksTo, insert_reads, least_reads, next_reads, remove_reads, turn_by, walk_reads};
+ghost use Rattle.tree_index.specs.Linking.{LinksSpare, PutsBesideAll, PutsFirstAll, Relinks, Unlinks, linked_beside};
+ghost use Rattle.tree_index.specs.Tree.{FindsNext, FitsTree, InsertsAll, RemovesAll, ReplacesAll};
+ghost use Rattle.tree_index.specs.Walk.{FindsLeast, FindsNearest, FitsPosition, GoesToZeros, IsStep, PlacesBeside, StaysAtRoot, WalksTo, insert_reads, least_reads, next_reads, remove_reads, replace_reads, turn_by, walk_reads};
 
 use crate::key_bits;
 use crate::tree_put::TreePut;
@@ -28,11 +28,12 @@ pub struct Tree {
     pub root: u64,
 }
 
-/// An inner record that a walk passed: the word that links it, and the side that the walk took.
+/// An inner record that a walk passed: the word that links it, its bit, and the side that the walk took.
 #[derive(Clone, Copy)]
 struct PassedRecord {
     at: u64,
     slot: u64,
+    bit: u64,
     side: u64,
 }
 
@@ -70,7 +71,7 @@ impl Tree {
             return Ok(TreePut::There);
         }
         let bit = key_bits::highest_difference(key, near.key);
-        let position = self.walk(w, key, bit + 1)?;
+        let position = self.place(w, key, bit + 1, near)?;
         self.put_beside(w, key, bit, position)
     }
 
@@ -91,6 +92,28 @@ impl Tree {
         Ok(true)
     }
 
+    /// Puts the key `to` in the place of `from`: the records of `from` are linked anew, and none is taken or given back.
+    ///
+    /// What it does is said where `from` is there and `to` is not.
+    pub fn replace<W: Words>(&self, w: &mut W, from: u64, to: u64) -> Result<(), Stop>
+        requires fits { FitsTree self.now (W.sight w.old).count }
+        ensures uses { UsesWords W.sight W.turns_into replace_reads 6 result w.old w.new }
+        ensures replaces { ChangesSeen W.sight result w.old w.new (ReplacesAll self.now from to) }
+    {
+        let Some(near) = self.nearest(w, from)? else {
+            return Ok(());
+        };
+        if near.key != from {
+            return Ok(());
+        }
+        let leaf = near.position.link;
+        let Some(over) = near.position.over else {
+            return w.write(leaf, to);
+        };
+        self.cut(w, over)?;
+        self.link_spare(w, to, leaf, over.at)
+    }
+
     /// The least key that is at least `from`.
     pub fn next<W: Words>(&self, w: &mut W, from: u64) -> Result<Option<u64>, Stop>
         requires fits { FitsTree self.now (W.sight w.old).count }
@@ -104,7 +127,7 @@ impl Tree {
             return Ok(Some(near.key));
         }
         let bit = key_bits::highest_difference(from, near.key);
-        let position = self.walk(w, from, bit + 1)?;
+        let position = self.place(w, from, bit + 1, near)?;
         if from < near.key {
             return self.least_key(w, position.link);
         }
@@ -140,7 +163,8 @@ impl Tree {
         requires fits { FitsTree self.now (W.sight w.old).count }
         requires position { FitsPosition self.now (W.sight w.old).count position }
         ensures uses { UsesWords W.sight W.turns_into 7 9 result w.old w.new }
-        ensures puts { ChangesSeen W.sight result w.old w.new (PutsBesideAll self.now key bit position) }
+        ensures puts { ChangesSeen W.sight result w.old w.new
+            (PutsBesideAll self.now key bit position) }
     {
         let first = w.read(self.inner.base)?;
         if !self.inner.has(first) {
@@ -171,7 +195,8 @@ impl Tree {
         requires fork { IsRecord self.now.inner fork }
         requires slot { position.slot < (W.sight w.old).count }
         ensures uses { UsesWords W.sight W.turns_into 0 5 result w.old w.new }
-        ensures shown { Shows W.sight result w.old w.new (linked_beside key bit leaf fork position) }
+        ensures shown { Shows W.sight result w.old w.new
+            (linked_beside key bit leaf fork position) }
     {
         let side = key_bits::side(key, bit);
         w.write(leaf, key)?;
@@ -193,10 +218,41 @@ impl Tree {
             w.write(self.root, 0)?;
             return Ok(());
         };
-        let beside = w.read(over.at + 3 - over.side)?;
-        w.write(over.slot, beside)?;
+        self.cut(w, over)?;
         self.inner.give(w, over.at)?;
         Ok(())
+    }
+
+    // Links the other side of an inner record in its place.
+    fn cut<W: Words>(&self, w: &mut W, over: PassedRecord) -> Result<(), Stop>
+        requires fits { FitsTree self.now (W.sight w.old).count }
+        requires inner { IsRecord self.now.inner over.at }
+        requires slot { over.slot < (W.sight w.old).count }
+        requires side { over.side < 2 }
+        ensures uses { UsesWords W.sight W.turns_into 1 1 result w.old w.new }
+        ensures relinks { ChangesSeen W.sight result w.old w.new (Relinks over) }
+    {
+        let beside = w.read(over.at + 3 - over.side)?;
+        w.write(over.slot, beside)
+    }
+
+    // Puts the key, which isn't there, into this leaf, and links it by this inner record. Neither is linked yet.
+    fn link_spare<W: Words>(&self, w: &mut W, key: u64, leaf: u64, fork: u64) -> Result<(), Stop>
+        requires fits { FitsTree self.now (W.sight w.old).count }
+        requires leaf { IsRecord self.now.leaves leaf }
+        requires fork { IsRecord self.now.inner fork }
+        ensures uses { UsesWords W.sight W.turns_into 259 5 result w.old w.new }
+        ensures links { ChangesSeen W.sight result w.old w.new (LinksSpare self.now key leaf fork) }
+    {
+        let Some(near) = self.nearest(w, key)? else {
+            return Ok(());
+        };
+        if near.key == key {
+            return Ok(());
+        }
+        let bit = key_bits::highest_difference(key, near.key);
+        let position = self.place(w, key, bit + 1, near)?;
+        self.link_beside(w, key, bit, leaf, fork, position)
     }
 
     // The leaf to which the bits of the key lead.
@@ -205,7 +261,8 @@ impl Tree {
         ensures uses { UsesWords W.sight W.turns_into 130 0 result w.old w.new }
         ensures position { IfOk result (λ r. IfSome r (λ near.
             FitsPosition self.now (W.sight w.old).count near.position)) }
-        ensures leaf { IfOk result (λ r. IfSome r (λ near. IsRecord self.now.leaves near.position.link)) }
+        ensures leaf { IfOk result (λ r. IfSome r
+            (λ near. IsRecord self.now.leaves near.position.link)) }
         ensures nearest { AnswersSeen W.sight result w.old w.new (FindsNearest self.now key) }
     {
         let position = self.walk(w, key, 0)?;
@@ -217,6 +274,30 @@ impl Tree {
             position,
             key: other,
         }))
+    }
+
+    // Where the bits of the key lead as long as the bit is at least `floor`: to their leaf, where the last inner record over it
+    // has such a bit, so that a second walk is needed only else.
+    fn place<W: Words>(
+        &self,
+        w: &mut W,
+        key: u64,
+        floor: u64,
+        near: NearestLeaf,
+    ) -> Result<TreePosition, Stop>
+        requires fits { FitsTree self.now (W.sight w.old).count }
+        requires position { FitsPosition self.now (W.sight w.old).count near.position }
+        ensures uses { UsesWords W.sight W.turns_into walk_reads 0 result w.old w.new }
+        ensures position { IfOk result (FitsPosition self.now (W.sight w.old).count) }
+        ensures walks { AnswersSeen W.sight result w.old w.new (PlacesBeside self.now key floor near) }
+    {
+        let Some(over) = near.position.over else {
+            return Ok(near.position);
+        };
+        if over.bit < floor {
+            return self.walk(w, key, floor);
+        }
+        Ok(near.position)
     }
 
     // Goes down from the root by the bits of the key, as long as the bit is at least `floor`.
@@ -254,8 +335,10 @@ impl Tree {
         requires fits { FitsTree self.now (W.sight w.old).count }
         requires position { FitsPosition self.now (W.sight w.old).count position }
         ensures uses { UsesWords W.sight W.turns_into 2 0 result w.old w.new }
-        ensures position { IfOk result (λ r. IfSome r (FitsPosition self.now (W.sight w.old).count)) }
-        ensures steps { AnswersSeen W.sight result w.old w.new (IsStep self.now key floor position) }
+        ensures position { IfOk result (λ r. IfSome r
+            (FitsPosition self.now (W.sight w.old).count)) }
+        ensures steps { AnswersSeen W.sight result w.old w.new
+            (IsStep self.now key floor position) }
     {
         if !self.inner.has(position.link) {
             return Ok(None);
@@ -270,6 +353,7 @@ impl Tree {
         let over = PassedRecord {
             at: position.link,
             slot: position.slot,
+            bit,
             side,
         };
         let turn = Tree::turn_after(position, side);

@@ -30,16 +30,16 @@ returns-in_default-clause-holds g c = λ bare array below r held.
 pub returns-in_err-write-2-clause-uses : goal.returns-in_err-write-2-clause-uses
 returns-in_err-write-2-clause-uses g c =
     let r = c.from_residual-in_err-write-2 in
-    let there = with_tree c.args.lay.now.index 0 403 (sym c.index.ensures.tree ∙ c.in-Some.is) in
+    let there = with_tree c.args.lay.now.index 0 392 (sym c.index.ensures.tree ∙ c.in-Some.is) in
     used_handed r.result r.ensures.1 (used_until (used_then c.in_ok-s_id.ensures.uses c.in_ok-was.ensures.uses) c.in_err-write-2.ensures.uses)
-    (omega (arith, there.1)) (by_index_least c.args.lay.now.index 1 17 1 (lit≤ tt) (lit≤ tt))
+    (omega (arith, there.1)) (by_index_least c.args.lay.now.index 1 7 1 (lit≤ tt) (lit≤ tt))
 
 pub returns-clause-uses : goal.returns-clause-uses
 returns-clause-uses g c =
     let stop = stop_of c.move_key.result in
     let tree = sym c.index.ensures.tree ∙ c.in-Some.is in
-    let reads = with_tree c.args.lay.now.index 0 403 tree in
-    let writes = with_tree c.args.lay.now.index 1 17 tree in
+    let reads = with_tree c.args.lay.now.index 0 392 tree in
+    let writes = with_tree c.args.lay.now.index 1 7 tree in
     used_more {stop = stop} (used_behind {stop = stop} (used_then c.in_ok-s_id.ensures.uses (used_then c.in_ok-was.ensures.uses c.in_ok-write-2.ensures.uses)) c.move_key.ensures.uses)
     (omega (arith, reads.1)) (omega (arith, writes.1))
 
