@@ -9,7 +9,7 @@ use std::io;
 use tatp_model::reply::Reply;
 
 /// No script has more views.
-const VIEWS: u64 = 16;
+pub const VIEWS: u64 = 16;
 
 /// Prints the entries of all views, view by view, and how many there are.
 pub fn print_all_entries(rt: &HostRuntime, stage: &Stage) -> io::Result<()> {

@@ -4,6 +4,7 @@ use crate::parts::{cut, numbers_in};
 use dude_base::redo::Redo;
 use dude_base::write::Write;
 use dude_core::Event;
+use pmem_trait::Call;
 use script_words::pair_of;
 use std::alloc::{AllocError, Global};
 use tatp_model::reply::Reply;
@@ -17,7 +18,7 @@ pub fn event_of(alloc: Global, text: &str) -> Result<Option<Event>, AllocError> 
         [] => Ok(plain_event(name)),
         [number] => Ok(numbered_event(name, *number, rest)),
         [first, second] => Ok(double_event(name, *first, *second)),
-        [page, frame, at, value] => Ok(fill_event(name, (*page, *frame), *at, *value)),
+        [page, frame, at] => Ok(fill_event(name, *page, *frame, *at)),
         _ => Ok(None),
     }
 }
@@ -33,6 +34,7 @@ fn plain_event(name: &str) -> Option<Event> {
         "TakeTurn" => Some(Event::TakeTurn),
         "GiveTurn" => Some(Event::GiveTurn { failed: false }),
         "FailTurn" => Some(Event::GiveTurn { failed: true }),
+        "Fence" => Some(Event::Device { call: Call::Fence }),
         _ => None,
     }
 }
@@ -47,7 +49,7 @@ fn numbered_event(name: &str, number: u64, rest: &str) -> Option<Event> {
         "RaiseReproduced" => Some(Event::RaiseReproduced { value: number }),
         _ => match lock_event(name, number) {
             Some(event) => Some(event),
-            None => page_event(name, number),
+            None => page_or_call(name, number),
         },
     }
 }
@@ -61,6 +63,23 @@ fn lock_event(name: &str, number: u64) -> Option<Event> {
         "Store" => Some(Event::Store { at: number }),
         "Release" => Some(Event::Release { lock: number }),
         "Restore" => Some(Event::Restore { lock: number }),
+        _ => None,
+    }
+}
+
+fn page_or_call(name: &str, number: u64) -> Option<Event> {
+    match call_of(name, number) {
+        Some(call) => Some(Event::Device { call }),
+        None => page_event(name, number),
+    }
+}
+
+/// A call on the medium with one number.
+fn call_of(name: &str, number: u64) -> Option<Call> {
+    match name {
+        "Read" => Some(Call::Read(number)),
+        "Flush" => Some(Call::Flush(number)),
+        "Tell" => Some(Call::Tell(number)),
         _ => None,
     }
 }
@@ -91,18 +110,19 @@ fn double_event(name: &str, first: u64, second: u64) -> Option<Event> {
             page: first,
             frame: second,
         }),
+        "Put" => Some(Event::Device {
+            call: Call::Put {
+                at: first,
+                value: second,
+            },
+        }),
         _ => None,
     }
 }
 
-fn fill_event(name: &str, place: (u64, u64), at: u64, value: u64) -> Option<Event> {
+fn fill_event(name: &str, page: u64, frame: u64, at: u64) -> Option<Event> {
     match name {
-        "Fill" => Some(Event::Fill {
-            page: place.0,
-            frame: place.1,
-            at,
-            value,
-        }),
+        "Fill" => Some(Event::Fill { page, frame, at }),
         _ => None,
     }
 }

@@ -1,7 +1,9 @@
-//! Scripts of the machine of running transactions, of its steps on a table and of the map of pages and frames, played line by line:
-//! what happened, and what is found, is printed.
+//! Scripts of the machine of running transactions with its medium, of its steps on a table and of the map of pages and frames, played
+//! line by line: what happened, and what is found, is printed.
 #![tactic(auto)]
 
+mod call_lists;
+mod digest;
 mod entries;
 mod events;
 mod facts;
@@ -14,7 +16,9 @@ mod parts;
 mod play;
 mod stage;
 mod steps;
+mod stores;
 mod trouble;
+mod whole_calls;
 mod words;
 
 use play::Play;

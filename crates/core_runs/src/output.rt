@@ -1,5 +1,6 @@
 //! What is printed: words with numbers behind them.
 
+use pmem_trait::Call;
 use std::io;
 
 /// That a line is no command.
@@ -42,4 +43,15 @@ pub fn print_pairs(rt: &HostRuntime, words: &str, pairs: &[(u64, u64)]) -> io::R
 /// A place with its value behind a space.
 pub fn print_pair(rt: &HostRuntime, at: u64, value: u64) -> io::Result<()> {
     print!(rt; " {at}={value}")
+}
+
+/// A call on the medium, as a script has it.
+pub fn print_call(rt: &HostRuntime, call: &Call) -> io::Result<()> {
+    match call {
+        Call::Read(at) => print_numbers(rt, "Read", &[*at]),
+        Call::Put { at, value } => print_numbers(rt, "Put", &[*at, *value]),
+        Call::Flush(line) => print_numbers(rt, "Flush", &[*line]),
+        Call::Fence => rt.println("Fence"),
+        Call::Tell(number) => print_numbers(rt, "Tell", &[*number]),
+    }
 }

@@ -59,6 +59,31 @@ impl Stage {
         said_of(core_step(self.alloc, &mut self.core, who, event))
     }
 
+    /// The sizes of the image.
+    pub fn sizes(&self) -> Sizes {
+        self.core.store().place().sizes()
+    }
+
+    /// The home word as the last whole call of the back left it, if there is such a word.
+    pub fn home_word(&self, at: u64) -> Option<u64> {
+        let store = self.core.store();
+        if at < store.place().sizes().pages * PAGE {
+            Some(store.home_word(at))
+        } else {
+            None
+        }
+    }
+
+    /// The slot behind the last bundle of the ring, if there is such a ring.
+    pub fn next_slot(&self, ring: u64) -> Option<u64> {
+        let store = self.core.store();
+        if ring < store.place().sizes().rings {
+            Some(store.next(ring))
+        } else {
+            None
+        }
+    }
+
     /// What the word holds, if there is such a word.
     pub fn found(&self, word: CoreWord) -> Option<u64> {
         if self.core.has_word(word) {

@@ -1,17 +1,20 @@
 //! The events of views, and what views, words and frames have.
 
+use crate::digest::digest_of;
 use crate::entries::print_all_entries;
 use crate::events::event_of;
 use crate::facts::print_fact;
 use crate::output::{print_maybe, print_no_command, print_numbers, print_pair};
 use crate::parts::{cut, numbers_in};
 use crate::stage::{Stage, place_in};
+use crate::stores::ask_store;
+use crate::whole_calls::make_whole;
 use crate::words::word_of;
 use dude_base::limits::PAGE;
 use dude_core::{CoreWord, Event};
 use std::io;
 
-/// Prints what a word or a frame has, or all entries.
+/// Prints what a word, a frame or the store has, or all entries.
 pub fn ask_stage(
     rt: &HostRuntime,
     stage: &Stage,
@@ -21,12 +24,13 @@ pub fn ask_stage(
 ) -> io::Result<()> {
     match verb {
         "entries" => print_all_entries(rt, stage),
+        "digest" => print_numbers(rt, verb, &[digest_of(stage)]),
         "holds" => match word_of(cut(name).0, numbers) {
             Some(word) => print_maybe(rt, "holds", stage.found(word)),
             None => print_no_command(rt),
         },
         "frame" => print_frame(rt, stage, numbers),
-        _ => print_no_command(rt),
+        _ => ask_store(rt, stage, verb, numbers),
     }
 }
 
@@ -46,7 +50,7 @@ pub fn ask_view(
             Some(view) => print_fact(rt, view, rest),
             None => rt.println("no view"),
         },
-        _ => print_no_command(rt),
+        _ => make_whole(rt, stage, verb, who, rest),
     }
 }
 
@@ -83,7 +87,7 @@ fn make(rt: &HostRuntime, stage: &mut Stage, who: u64, event: &str) -> io::Resul
     }
 }
 
-/// Fills home words of a page, in a row, with their opening values.
+/// Fills home words of a page, in a row.
 fn fill(rt: &HostRuntime, stage: &mut Stage, who: u64, words: &str) -> io::Result<()> {
     let numbers = numbers_in(rt.alloc(), words)?;
     let [page, frame, first, last] = numbers.as_slice() else {
@@ -92,24 +96,13 @@ fn fill(rt: &HostRuntime, stage: &mut Stage, who: u64, words: &str) -> io::Resul
     let (page, frame) = (*page, *frame);
     let mut count = 0_u64;
     for at in *first..=*last {
-        let word = fill_word(stage, who, (page, frame), at);
+        let word = stage.make(who, &Event::Fill { page, frame, at });
         if word != "allowed" {
             return print_numbers(rt, word, &[at]);
         }
         count = count.saturating_add(1);
     }
     print_numbers(rt, "allowed", &[count])
-}
-
-/// Fills a home word of a page with its opening value, into a frame.
-fn fill_word(stage: &mut Stage, who: u64, place: (u64, u64), at: u64) -> &'static str {
-    let event = Event::Fill {
-        page: place.0,
-        frame: place.1,
-        at,
-        value: stage.opening_word(at),
-    };
-    stage.make(who, &event)
 }
 
 /// Prints the words of a frame that aren't the opening words of the page.

@@ -1,6 +1,6 @@
 -- What is done to the data of a store is done to the store that it stands for.
-use Rattle.std.proofs.Common.{◌≡◌, ◌≢◌, ◌==◌, ℕ, zero, suc, ◌+◌, ◌*◌, ◌<◌, ◌≤◌, nat_lt, max, List, [], ◌∷◌, ◌++◌, length, take, map, replicate, get_or, set, refl, sym, ap, ◌∙◌, arith, eq-eqb, ne_eqb, inl, inr, get_or-set_same, get_or-set_other, length-append, append_assoc, mul-le-mul_right}
-use Rattle.std.specs.Prelude.{slice_index, if◌then◌else◌}
+use Rattle.std.proofs.Common.{◌≡◌, ◌≢◌, ℕ, zero, suc, ◌+◌, ◌*◌, ◌<◌, ◌≤◌, nat_lt, max, List, [], ◌∷◌, ◌++◌, length, take, map, replicate, get_or, set, refl, sym, ap, ◌∙◌, arith, eq-eqb, ne_eqb, inl, inr, get_or-set_same, get_or-set_other, length-append, append_assoc, mul-le-mul_right}
+use Rattle.std.specs.Prelude.{slice_index}
 use Rattle.std.specs.List.{filter}
 use Rattle.std.proofs.lemmas.Bool.{cases_eq}
 use Rattle.std.proofs.lemmas.List.FromFn.{length-map-range_with_len}
@@ -15,22 +15,20 @@ use Rattle.pmem_trait.specs.declared.call.Call.TheVariants.{Read, Put, Flush, Fe
 use Rattle.pmem_trait.specs.Words.{State as MediumState, value_of, after, after_all}
 use Rattle.pmem_trait.proofs.Laws.{after_all_then, after_each_prefix}
 use Rattle.redo_record.specs.Record.{cells_for}
-use Rattle.redo_record.specs.Fits.{Logged}
 use Rattle.redo_record.specs.RingLaws.{slot_after}
 use Rattle.redo_record.specs.AppendLaw.{logged_as}
 use Rattle.redo_record.specs.BackCalls.{read_page_calls}
-use Rattle.redo_record.specs.BackLaws.{with_last, released_upto}
 use Rattle.redo_record.specs.LogState.{RingRecords, HoldsLog}
 use Rattle.redo_record.proofs.HeldLog.{read_page_law}
 use Rattle.core_events.specs.Setups.{Setup}
 use Rattle.core_events.specs.Keyed.{change}
 use Rattle.core_medium.specs.BoxBundles.{bundle_in}
-use Rattle.core_medium.specs.Stores.{Store, medium_of}
+use Rattle.core_medium.specs.Stores.{medium_of}
 use Rattle.core_medium.specs.BackCalls.{BackCall, persisting, announcing, reproducing, reading, MayCall, calls_of, adding, waiting_as, device_after}
-use Rattle.core_medium.specs.KeptStore.{opening_medium, start_machine}
+use Rattle.core_medium.specs.KeptStore.{opening_medium}
 use Rattle.core_medium.proofs.Devices.{take_front}
-use Rattle.dude_core.specs.StoreData.{RingData, StoreData, no_ring, ring_at, records_at, log_of, tells, start_data}
-use Rattle.dude_core.specs.Effects.{effect_calls, called, rested, added, ring_released, data_after}
+use Rattle.dude_core.specs.StoreData.{RingData, StoreData, no_ring, ring_at, records_at, log_of, tells}
+use Rattle.dude_core.specs.Effects.{added, ring_released, data_after}
 use Rattle.dude_core.specs.Stands.{store_of, effect_of}
 use Rattle.dude_core.specs.DataLaws.{LawOfStartData, LawOfEffectCalls, LawOfEffects, LawOfTold, LawOfOnMedium}
 

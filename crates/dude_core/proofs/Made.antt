@@ -1,37 +1,59 @@
 -- What a step that was made, or not, leaves.
-use Rattle.std.proofs.Common.{◌≡◌, ◌≤◌, ℕ, List, Result, Ok, Err, OnOk, OnErr, ◌∷◌, [], refl, sym, subst}
+use Rattle.std.proofs.Common.{◌≡◌, ◌≤◌, ℕ, List, Result, Ok, Err, OnOk, OnErr, sym, ap, subst, ◌∙◌, arith}
 use Rattle.dude_base.specs.declared.run.Run.{Run}
 use Rattle.dude_base.specs.declared.sizes.Sizes.{Sizes}
 use Rattle.core_events.specs.Setups.{Setup, IsSetup}
 use Rattle.core_events.specs.Words.{State}
-use Rattle.core_events.specs.Partings.{Step, event, parting, joining, Leads, start}
-use Rattle.core_events.specs.Kept.{Kept}
-use Rattle.core_events.specs.Persisted.{RecordsLead, DurablePersisted}
-use Rattle.core_events.proofs.Keeps.{steps_keep}
-use Rattle.core_events.proofs.Persists.{step_persists, start_persists}
-use Rattle.core_events.proofs.Start.{start_keeps}
+use Rattle.core_events.specs.Partings.{start}
+use Rattle.dude_base.specs.Sizes.{IsAccepted}
+use Rattle.core_medium.specs.Stores.{Store}
+use Rattle.core_medium.specs.Machines.{MachineStep, MachineLeads}
+use Rattle.core_medium.specs.KeptStore.{MachineKept, HasPlaces, opening_medium}
+use Rattle.core_medium.proofs.Keeps.{step_keeps}
+use Rattle.core_medium.proofs.Openings.{opens}
+use Rattle.core_medium.proofs.Start.{machine_start}
+use Rattle.dude_core.specs.Chains.{writes_in}
+use Rattle.dude_core.specs.StoreData.{StoreData, start_data}
+use Rattle.dude_core.specs.Stands.{machine_over}
+use Rattle.dude_core.proofs.DataEffects.{start_law}
+use Rattle.dude_core.specs.CoreState.{CoreState}
 use Rattle.dude_core.specs.RunSetups.{setup_of}
 use Rattle.dude_core.specs.MadeCores.{FitsImage}
 
--- a step that the records allow too is one of the machine
-step_of_machine : (z : Setup) (s : Step) (c d : State) → RecordsLead z c s d → Leads z c s d
-step_of_machine z (event who e) c d h = h.0
-step_of_machine z (parting who draws) c d h = h
-step_of_machine z (joining who other) c d h = h
+-- the same, over data; after a refusal words, views and data are as they were
+pub core_kept : {A B : Type 0} (z : Setup) (c c2 : State) (a a2 : StoreData) (s : MachineStep) (r : Result A B) → MachineKept z (machine_over z c a)
+    → OnOk r (MachineLeads z (machine_over z c a) s (machine_over z c2 a2)) → OnErr r (c2 ≡ c) → OnErr r (a2 ≡ a) → MachineKept z (machine_over z c2 a2)
+core_kept z c c2 a a2 s (Ok x) k ok err same = step_keeps z (machine_over z c a) (machine_over z c2 a2) s k ok
+core_kept z c c2 a a2 s (Err x) k ok err same = subst (λ (b : StoreData). MachineKept z (machine_over z c2 b)) (sym same) (subst (λ (d : State). MachineKept z (machine_over z d a)) (sym err) k)
 
-pub kept_after : {A B : Type 0} (z : Setup) (c d : State) (s : Step) (r : Result A B) → Kept z c → OnOk r (RecordsLead z c s d) → OnErr r (d ≡ c) → Kept z d
-kept_after z c d s (Ok a) k ok err = steps_keep z (s ∷ []) c d k (d, step_of_machine z s c d ok, refl)
-kept_after z c d s (Err b) k ok err = subst (Kept z) (sym err) k
+-- a core whose words and store are as they were is as it was
+pub core_same : {A B : Type 0} (z : Setup) (c c2 : State) (a a2 : StoreData) (core : CoreState) (r : Result A B) → record { setup = z; state = c; store = a } ≡ core
+    → OnErr r (c2 ≡ c) → OnErr r (a2 ≡ a) → OnErr r (record { setup = z; state = c2; store = a2 } ≡ core)
+core_same z c c2 a a2 core (Ok x) is err same = tt
+core_same z c c2 a a2 core (Err x) is err same =
+    let by_state : State → CoreState = λ s. record { setup = z; state = s; store = a2 } in
+    let by_store : StoreData → CoreState = λ s. record { setup = z; state = c; store = s } in
+    ap by_state err ∙ (ap by_store same ∙ is)
 
-pub persisted_after : {A B : Type 0} (z : Setup) (c d : State) (s : Step) (r : Result A B) → DurablePersisted z c → OnOk r (RecordsLead z c s d) → OnErr r (d ≡ c) → DurablePersisted z d
-persisted_after z c d s (Ok a) k ok err = step_persists z s c d k ok
-persisted_after z c d s (Err b) k ok err = subst (DurablePersisted z) (sym err) k
+-- the machine at the start is kept
+pub kept_at_start : (z : Setup) (s : Sizes) (c : State) (a : StoreData) → IsSetup z → IsAccepted s → HasPlaces z s → c ≡ start z → a ≡ start_data z s → MachineKept z (machine_over z c a)
+kept_at_start z s c a within accepted places c_is a_is =
+    subst (λ (b : StoreData). MachineKept z (machine_over z c b)) (sym a_is)
+    (subst (λ (d : State). MachineKept z (machine_over z d (start_data z s))) (sym c_is)
+    (subst (λ (b : Store). MachineKept z (record { core = start z; store = b })) (sym (start_law z s))
+    (machine_start z s (opening_medium z s) within (opens z s within accepted places))))
 
-pub kept_at_start : (z : Setup) (c : State) → IsSetup z → c ≡ start z → Kept z c
-kept_at_start z c within is = subst (Kept z) (sym is) (start_keeps z within)
+-- a core that is made over an image is kept: there is a ring for each thread
+pub core_at_start : (words : List ℕ) (sizes : Sizes) (run : Run) (threads number : ℕ) (z : Setup) (c : State) (a : StoreData) → z ≡ setup_of words sizes.pages run threads number → IsSetup z → IsAccepted sizes → threads ≤ sizes.rings
+    → c ≡ start z → a ≡ start_data z sizes → MachineKept z (machine_over z c a)
+core_at_start words sizes run threads number z c a z_is within accepted le c_is a_is =
+    let many : z.threads ≡ threads = ap (λ (y : Setup). y.threads) z_is in
+    let pages : sizes.pages ≡ z.pages = sym (ap (λ (y : Setup). y.pages) z_is) in
+    kept_at_start z sizes c a within accepted (record { rings = omega arith; pages = pages }) c_is a_is
 
-pub persisted_at_start : (z : Setup) (c : State) → c ≡ start z → DurablePersisted z c
-persisted_at_start z c is = subst (DurablePersisted z) (sym is) (start_persists z)
+-- no bundle waits at the start
+pub none_waits : (z : Setup) (sizes : Sizes) (a : StoreData) (room : ℕ) → a ≡ start_data z sizes → writes_in a.waiting ≤ room
+none_waits z sizes a room is = let none : writes_in a.waiting ≡ 0 = ap (λ (d : StoreData). writes_in d.waiting) is in omega arith
 
 -- a run whose setup is one fits an image that has a ring for each thread
 pub fits_image : (words : List ℕ) (sizes : Sizes) (run : Run) (threads number : ℕ) → IsSetup (setup_of words sizes.pages run threads number) → threads ≤ sizes.rings → FitsImage sizes run threads

@@ -7,10 +7,15 @@ use Rattle.core_events.specs.Setups.{Setup}
 use Rattle.core_events.specs.Views.{View, Word, the_threads, the_clock, the_turn, the_durable, the_reproduced, the_lock, the_entry, the_touch, the_cell, the_box}
 use Rattle.core_events.specs.Words.{State, found, put}
 use Rattle.core_events.specs.Events.{Event, name, word_after, view_after}
-use Rattle.core_events.specs.Conditions.{May, Fits, IsAllowed}
+use Rattle.core_events.specs.Conditions.{May}
+use Rattle.core_medium.specs.Machines.{Meets}
 use Rattle.core_events.proofs.Lists.{there, at_index}
 use Rattle.dude_core.specs.Named.{Tells}
-use Rattle.dude_core.specs.StateSteps.{moved}
+use Rattle.dude_core.specs.MadeCalls.{HasTurnAt}
+use Rattle.dude_core.specs.Turns.{HasTurn}
+use Rattle.dude_core.specs.StoreData.{StoreData}
+use Rattle.dude_core.specs.Stands.{store_of, machine_over}
+use Rattle.dude_core.specs.StateSteps.{MayMake, moved}
 
 pub inside_there : (l m : List View) (i : ℕ) (v : View) → l ≡ m → get_elem? m i ≡ some v → i < length l
 inside_there l m i v e at = there l i v (ap (λ (k : List View). get_elem? k i) e ∙ at)
@@ -21,14 +26,19 @@ same_there l m i v u e at is =
     let here : get_elem? l i ≡ some v = ap (λ (k : List View). get_elem? k i) e ∙ at in
     some-injective u v (sym (at_index l i u (there l i v here) is) ∙ here)
 
-module _ (z : Setup) (c : State) (who : ℕ) (e : Event) (u : View) where
-  pub allowed_tells : (b : Bool) → get_elem? c.views who ≡ some u → May z e u → Tells b (Fits z e c u) → Tells b ((v : View) × IsAllowed z c who e v)
-  allowed_tells true at may h = (u, record { is_there = at; may = may; fits = h })
-  allowed_tells false at may h = λ t. h (subst (λ (v : View). Fits z e c v) (some-injective t.0 u (sym t.1.is_there ∙ at)) t.1.fits)
+module _ (z : Setup) (c : State) (a : StoreData) (who : ℕ) (e : Event) (u : View) where
+  pub met_tells : (b : Bool) → get_elem? c.views who ≡ some u → May z e u → Tells b (Meets z e c (store_of z a) u) → Tells b (MayMake z (machine_over z c a) who e)
+  met_tells true at may h = (u, record { is_there = at; may = may; meets = h })
+  met_tells false at may h = λ t. h (subst (λ (v : View). Meets z e c (store_of z a) v) (some-injective t.0 u (sym t.1.is_there ∙ at)) t.1.meets)
 
-  pub not_allowed : (b : Bool) → b ≡ false → get_elem? c.views who ≡ some u → Tells b (May z e u) → Tells b ((v : View) × IsAllowed z c who e v)
-  not_allowed true is at h = absurd (cc)
-  not_allowed false is at h = λ t. h (subst (λ (v : View). May z e v) (some-injective t.0 u (sym t.1.is_there ∙ at)) t.1.may)
+  pub not_met : (b : Bool) → b ≡ false → get_elem? c.views who ≡ some u → Tells b (May z e u) → Tells b (MayMake z (machine_over z c a) who e)
+  not_met true is at h = absurd (cc)
+  not_met false is at h = λ t. h (subst (λ (v : View). May z e v) (some-injective t.0 u (sym t.1.is_there ∙ at)) t.1.may)
+
+-- the view that is there has the turn, or none there has it
+pub turn_tells : (c : State) (who : ℕ) (u : View) (b : Bool) → get_elem? c.views who ≡ some u → Tells b (HasTurn u) → Tells b ((v : View) × HasTurnAt c who v)
+turn_tells c who u true at h = (u, (at, h))
+turn_tells c who u false at h = λ t. h (subst HasTurn (some-injective t.0 u (sym t.1.0 ∙ at)) t.1.1)
 
 -- what is put into a word leaves the views and the records, whatever they are
 put_words : (c : State) (w : Word) (n : ℕ) (vs : List View) (rs ps : List RedoRecord) → put (record c { views = vs; records = rs; persisted = ps }) w n ≡ record (put c w n) { views = vs; records = rs; persisted = ps }

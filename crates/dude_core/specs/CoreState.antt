@@ -1,14 +1,20 @@
 -- What a core is seen as.
 use Rattle.core_events.specs.Setups.{Setup}
 use Rattle.core_events.specs.Words.{State}
-use Rattle.core_events.specs.Partings.{Step}
-use Rattle.core_events.specs.Persisted.{RecordsLead}
+use Rattle.core_medium.specs.Machines.{Machine, MachineStep, MachineLeads}
+use Rattle.dude_core.specs.StoreData.{StoreData}
+use Rattle.dude_core.specs.Stands.{machine_over}
 
--- what the machine was set up with, and the state that it is in
+-- what the machine was set up with, the state that it is in, and the store behind it
 pub record CoreState : Type 0 where
   pub setup : Setup
   pub state : State
+  pub store : StoreData
 
--- the step is allowed in the core c, also by what is persisted, and leads to the state of d
-abbrev pub LeadsTo : CoreState → Step → CoreState → Type 0
-LeadsTo c s d = RecordsLead c.setup c.state s d.state
+-- the core as a machine of the definitions
+abbrev pub machine_of : CoreState → Machine
+machine_of c = machine_over c.setup c.state c.store
+
+-- the step is allowed in the core c, and leads to the words, the views and the store of d
+abbrev pub LeadsTo : CoreState → MachineStep → CoreState → Type 0
+LeadsTo c s d = MachineLeads c.setup (machine_of c) s (machine_of d)

@@ -3,7 +3,6 @@ use Rattle.std.specs.Prelude.{◌≡◌, ◌↔◌, ℕ, ◌<◌, List, ◌∷�
 use Rattle.dude_base.specs.declared.sizes.Sizes.{Sizes}
 use Rattle.dude_base.specs.Records.{RedoRecord}
 use Rattle.pmem_trait.specs.declared.call.Call.{Call}
-use Rattle.pmem_trait.specs.Words.{after_all}
 use Rattle.redo_record.specs.LogState.{HoldsLog}
 use Rattle.core_events.specs.Setups.{Setup}
 use Rattle.core_medium.specs.KeptLog.{IsOnMedium}

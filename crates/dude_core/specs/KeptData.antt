@@ -2,8 +2,7 @@
 use Rattle.std.specs.Prelude.{◌≡◌, ◌*◌, ◌≤◌, ◌<◌, All, length}
 use Rattle.dude_base.specs.declared.limits.TheConstants.{PAGE}
 use Rattle.dude_base.specs.Records.{HasNumbers}
-use Rattle.redo_record.specs.Waiting.{Waiting}
-use Rattle.dude_core.specs.StoreData.{RingData, AreInside}
+use Rattle.dude_core.specs.StoreData.{AreInside}
 use Rattle.dude_core.specs.declared.store.Store.TheInside.{Inside}
 
 -- Each ring of the image is there, with its next slot in it, and the home; a waiting bundle has numbers that transactions may

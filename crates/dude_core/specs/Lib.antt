@@ -14,7 +14,6 @@ pub mod SetupKept
 pub mod Named
 pub mod RunSetups
 pub mod Partings
-pub mod Values
 pub mod CallFits
 pub mod PageReads
 pub mod StoreData
@@ -22,3 +21,11 @@ pub mod Effects
 pub mod KeptData
 pub mod Stands
 pub mod DataLaws
+pub mod Chains
+pub mod NextCalls
+pub mod ReplayRooms
+pub mod Gathers
+pub mod MadeCalls
+pub mod DroppedReads
+pub mod Turns
+pub mod KeptCores

@@ -9,6 +9,7 @@ use Rattle.core_events.specs.Partings.{start}
 use Rattle.dude_core.specs.RunSetups.{setup_of}
 use Rattle.dude_core.specs.declared.core_fault.CoreFault.{CoreFault}
 use Rattle.dude_core.specs.declared.core_fault.CoreFault.TheVariants.{Size, NoMemory}
+use Rattle.dude_core.specs.StoreData.{start_data}
 use Rattle.dude_core.specs.CoreState.{CoreState}
 
 -- there is a thread and at most one for each ring, and the run is within its limits
@@ -27,10 +28,10 @@ RefusesSize r sizes run threads = IsErrOf r (size_fault sizes run) ↔ (FitsImag
 abbrev pub IsFaultOf : Sizes → Run → CoreFault → Type 0
 IsFaultOf sizes run fault = (fault ≡ size_fault sizes run) ⊎ (fault ≡ NoMemory)
 
--- the core at the start, of a setup
-abbrev pub core_of : Setup → CoreState
-core_of z = record { setup = z; state = start z }
+-- the core at the start, of a setup and an image of these sizes
+abbrev pub core_of : Setup → Sizes → CoreState
+core_of z sizes = record { setup = z; state = start z; store = start_data z sizes }
 
 -- the core at the start of a run with so many threads, over these home words and this number
 abbrev pub IsCoreAt : List ℕ → Sizes → Run → ℕ → ℕ → CoreState → Type 0
-IsCoreAt words sizes run threads number core = core ≡ core_of (setup_of words sizes.pages run threads number)
+IsCoreAt words sizes run threads number core = core ≡ core_of (setup_of words sizes.pages run threads number) sizes

@@ -6,11 +6,11 @@ use Rattle.core_events.specs.Setups.{Setup}
 use Rattle.core_events.specs.Views.{View}
 use Rattle.core_events.specs.Words.{State, found, put}
 use Rattle.core_events.specs.Events.{Event, name, word_after, view_after}
-use Rattle.core_events.specs.Conditions.{May, IsAllowed}
-use Rattle.core_events.specs.Partings.{Step, event}
-use Rattle.core_events.specs.Persisted.{RecordsAllow, RecordsLead}
+use Rattle.core_events.specs.Conditions.{May}
+use Rattle.core_events.specs.Partings.{Step, Leads, event}
 use Rattle.core_events.specs.Telling.{IsSeated, WordTold}
 use Rattle.dude_core.specs.declared.deed.Deed.{Deed}
+use Rattle.core_medium.specs.Machines.{Machine, MachineStep, on_words, IsMet, MachineLeads}
 use Rattle.dude_core.specs.Named.{event_of}
 use Rattle.dude_core.specs.declared.core_refusal.CoreRefusal.{CoreRefusal}
 use Rattle.dude_core.specs.declared.core_refusal.CoreRefusal.TheVariants.{Off}
@@ -19,17 +19,29 @@ use Rattle.dude_core.specs.declared.core_refusal.CoreRefusal.TheVariants.{Off}
 abbrev pub event_by : ℕ → Deed → Step
 event_by who d = event who (event_of d)
 
--- the definitions, or what is persisted, don't allow the step
-abbrev pub IsOffAt : Setup → State → Step → Type 0
-IsOffAt z c s = (d : State) → RecordsLead z c s d → ⊥
+-- the same, as a step of the machine with its medium
+abbrev pub machine_step : ℕ → Deed → MachineStep
+machine_step who d = on_words (event_by who d)
 
--- a call is refused as off exactly where the step isn't allowed
+-- the definitions don't allow the split or the join
+abbrev pub IsOffAt : Setup → State → Step → Type 0
+IsOffAt z c s = (d : State) → Leads z c s d → ⊥
+
+-- a split or a join is refused as off exactly where it isn't allowed
 abbrev pub IsOffOnlyAt : {A : Type 0} → Result A CoreRefusal → Setup → State → Step → Type 0
 IsOffOnlyAt r z c s = IsErrOf r Off ↔ IsOffAt z c s
 
--- the view `who` may make the event, by the definitions and by what is persisted
-abbrev pub MayMake : Setup → State → ℕ → Event → Type 0
-MayMake z c who e = ((v : View) × IsAllowed z c who e v) × RecordsAllow z e c
+-- the definitions don't allow the step
+abbrev pub IsOffIn : Setup → Machine → MachineStep → Type 0
+IsOffIn z m s = (n : Machine) → MachineLeads z m s n → ⊥
+
+-- a call is refused as off exactly where the step isn't allowed
+abbrev pub IsOffOnlyIn : {A : Type 0} → Result A CoreRefusal → Setup → Machine → MachineStep → Type 0
+IsOffOnlyIn r z m s = IsErrOf r Off ↔ IsOffIn z m s
+
+-- the view `who` may make the event
+abbrev pub MayMake : Setup → Machine → ℕ → Event → Type 0
+MayMake z m who e = (v : View) × IsMet z m who e v
 
 -- the view `who` may make the event, and knows what it needs of the word
 pub record IsReady (z : Setup) (c : State) (who : ℕ) (e : Event) : Type 0 where

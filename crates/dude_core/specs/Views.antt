@@ -1,13 +1,12 @@
 -- What is said of the view with a number, in a list of views or in a state, and what splits, joins and events make of the lists.
-use Rattle.std.specs.Prelude.{◌≡◌, ◌≢◌, ℕ, ◌-◌, ◌<◌, ◌≤◌, true, List, [], ◌∷◌, ◌++◌, slice_index, slice_index_or, slice_set}
+use Rattle.std.specs.Prelude.{◌≡◌, ◌≢◌, ℕ, ◌-◌, ◌<◌, List, [], ◌∷◌, ◌++◌, slice_index, slice_index_or, slice_set}
 use mathlib.Core.Option.{some}
 use lib.ListN.{get_elem?}
 use Rattle.dude_base.specs.declared.limits.TheConstants.{MAX_NUMBER}
 use Rattle.dude_base.specs.Records.{RedoRecord}
 use Rattle.core_events.specs.Setups.{Setup, frame_in}
-use Rattle.core_events.specs.Views.{View, Word, Entry}
+use Rattle.core_events.specs.Views.{View, Word}
 use Rattle.core_events.specs.Words.{State, found}
-use Rattle.core_events.specs.Entries.{value_at, writes_of, all_entries}
 use Rattle.core_events.specs.Events.{Event, name, view_after, thread_of}
 use Rattle.core_events.specs.Conditions.{no_record}
 use Rattle.core_events.specs.Partings.{newcomer, left_of, both_of}
@@ -55,14 +54,6 @@ first_view z = newcomer z (z.threads - 1) (MAX_NUMBER - z.first)
 -- no entry of a page names the frame
 abbrev pub NoneNames : Setup → List ℕ → ℕ → Type 0
 NoneNames z entries frame = (p : ℕ) → p < z.pages → 0 < slice_index entries p → frame_in (slice_index entries p) ≢ frame
-
--- where it is known what the medium gives, x is the value of the home word i at the reproduced number
-abbrev pub IsReproduced : Setup → State → ℕ → ℕ → Type 0
-IsReproduced z c i x = z.is_told ≡ true → x ≡ value_at z.opening (all_entries c.views) c.reproduced i
-
--- no entry wrote with a number over `least` and up to `most`
-abbrev pub NothingWritten : List Entry → ℕ → ℕ → Type 0
-NothingWritten es least most = (n : ℕ) → least < n → n ≤ most → writes_of es n ≡ []
 
 -- ---- records that leave their boxes
 -- the record at the place joins those that left their boxes

@@ -1,19 +1,20 @@
 //! Events as those that a view makes by itself, a group at a time.
 
-ghost use Rattle.std.specs.Prelude.{◌≡◌, ◌≢◌, IfSome, IfNone};
+ghost use Rattle.std.specs.Prelude.{◌≡◌, ◌≢◌, ℕ, List, IfSome, IfNone};
 ghost use Rattle.dude_core.specs.Named.{event_of, of_read, of_write, of_turn, of_page};
-ghost use Rattle.dude_core.specs.Steps.{IsEventOf, group_of, parting_group, reading, writing, turning, paging};
+ghost use Rattle.dude_core.specs.Steps.{IsEventOf, group_of, other_group, reading, writing, turning, paging};
 
 use crate::about::About;
 use crate::deed::{Deed, PageDeed, ReadDeed, TurnDeed, WriteDeed};
 use crate::event::Event;
+use crate::store::Store;
 use dude_base::redo::Redo;
 use dude_base::write_list::WriteList;
 
 /// The event as one that a view makes by itself.
-pub(crate) fn deed_of(event: &Event) -> Deed
-    requires { group_of event.now ≢ parting_group }
-    ensures { IsEventOf event.now (event_of result) }
+pub(crate) fn deed_of(event: &Event, store: &Store) -> Deed
+    requires { group_of event.now ≢ other_group }
+    ensures { IsEventOf store.now.read event.now (event_of result) }
 {
     if let Some(deed) = read_deed(event) {
         return Deed::Read(deed);
@@ -24,14 +25,15 @@ pub(crate) fn deed_of(event: &Event) -> Deed
     if let Some(deed) = turn_deed(event) {
         return Deed::Turn(deed);
     }
-    match page_deed(event) {
+    match page_deed(event, store) {
         Some(deed) => Deed::Page(deed),
         None => unreachable!(),
     }
 }
 
 fn read_deed(event: &Event) -> Option<ReadDeed>
-    ensures some { IfSome result (λ deed. IsEventOf event.now (of_read deed)) }
+    ensures some { IfSome result (λ deed. (read : List (ℕ × ℕ))
+        → IsEventOf read event.now (of_read deed)) }
     ensures none { IfNone result (group_of event.now ≢ reading) }
 {
     match event {
@@ -59,7 +61,8 @@ fn read_deed(event: &Event) -> Option<ReadDeed>
 }
 
 fn write_deed(event: &Event) -> Option<WriteDeed>
-    ensures some { IfSome result (λ deed. IsEventOf event.now (of_write deed)) }
+    ensures some { IfSome result (λ deed. (read : List (ℕ × ℕ))
+        → IsEventOf read event.now (of_write deed)) }
     ensures none { IfNone result (group_of event.now ≢ writing) }
 {
     match event {
@@ -83,7 +86,8 @@ fn write_deed(event: &Event) -> Option<WriteDeed>
 }
 
 fn turn_deed(event: &Event) -> Option<TurnDeed>
-    ensures some { IfSome result (λ deed. IsEventOf event.now (of_turn deed)) }
+    ensures some { IfSome result (λ deed. (read : List (ℕ × ℕ))
+        → IsEventOf read event.now (of_turn deed)) }
     ensures none { IfNone result (group_of event.now ≢ turning) }
 {
     match event {
@@ -105,8 +109,8 @@ fn turn_deed(event: &Event) -> Option<TurnDeed>
     }
 }
 
-fn page_deed(event: &Event) -> Option<PageDeed>
-    ensures some { IfSome result (λ deed. IsEventOf event.now (of_page deed)) }
+fn page_deed(event: &Event, store: &Store) -> Option<PageDeed>
+    ensures some { IfSome result (λ deed. IsEventOf store.now.read event.now (of_page deed)) }
     ensures none { IfNone result (group_of event.now ≢ paging) }
 {
     match event {
@@ -116,16 +120,11 @@ fn page_deed(event: &Event) -> Option<PageDeed>
         Event::Touch { page } => Some(PageDeed::Touch { page: *page }),
         Event::LoadTouch { page } => Some(PageDeed::LoadTouch { page: *page }),
         Event::Evict { page } => Some(PageDeed::Evict { page: *page }),
-        Event::Fill {
-            page,
-            frame,
-            at,
-            value,
-        } => Some(PageDeed::Fill {
+        Event::Fill { page, frame, at } => Some(PageDeed::Fill {
             page: *page,
             frame: *frame,
             at: *at,
-            value: *value,
+            value: store.word_read(*at).unwrap_or(0),
         }),
         Event::Show { page, frame } => Some(PageDeed::Show {
             page: *page,

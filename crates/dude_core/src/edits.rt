@@ -6,10 +6,12 @@ ghost use Rattle.dude_base.specs.declared.limits.TheConstants.{PAGE as PAGE_WORD
 ghost use Rattle.dude_base.specs.Records.{HasNumbers};
 ghost use Rattle.dude_base.specs.Writes.{overwritten};
 ghost use Rattle.core_events.specs.Events.{unfilled};
+ghost use Rattle.dude_core.specs.DroppedReads.{dropped_from};
 ghost use Rattle.dude_core.specs.StoreData.{no_ring};
 ghost use Rattle.dude_core.specs.Effects.{called, rested, added, ring_released};
 ghost use Rattle.dude_core.specs.Effects.{called_by, left_of, appends, replays, reads_page};
 
+use crate::dropped::Dropped;
 use crate::logged_bundle::LoggedBundle;
 use crate::ring::Ring;
 use crate::store::Store;
@@ -96,6 +98,17 @@ impl Store {
         self.made.push_reserved(call);
         self.since = self.made.len() as u64;
         Ok(())
+    }
+
+    /// This is dropped of the words read.
+    pub(crate) fn drop_reads(&mut self, dropped: Dropped)
+        ensures { self.new ≡ record self.old { read = dropped_from dropped self.old.read } }
+    {
+        match dropped {
+            Dropped::Nothing => {}
+            Dropped::Everything => self.forget_reads(),
+            Dropped::OfPage(page) => self.forget_page(page),
+        }
     }
 
     /// What was read is dropped.

@@ -1,8 +1,5 @@
 //! What a transaction leaves.
 
-ghost use Rattle.std.specs.Prelude.{◌≡◌, ◌⊎◌, ◌==◌, ◌&&◌, ◌≤◌, true};
-ghost use Rattle.dude_base.specs.Writes.{written};
-
 use crate::about::About;
 use crate::pairs::Pairs;
 use dude_base::write_list::WriteList;
@@ -29,35 +26,4 @@ impl Model for Entry {
     ghost Value = { Entry };
 
     ghost view = { λ a. record { number = a.number; wrote = a.wrote; about = a.about; reads = a.reads; writes = a.writes } };
-}
-
-impl Entry {
-    // Its number, where it wrote with one up to `most` that is over `last`; else `last`.
-    pub(crate) fn later_number(&self, last: u64, most: u64) -> u64
-        requires { last ≤ most }
-        ensures upto { result ≤ most }
-        ensures from { last ≤ result }
-        ensures later { self.now.wrote ≡ true → self.now.number ≤ most → self.now.number ≤ result }
-        ensures which { (result ≡ last) ⊎ ((self.now.wrote ≡ true) × (self.now.number ≡ result)) }
-    {
-        if self.wrote && self.number <= most {
-            last.max(self.number)
-        } else {
-            last
-        }
-    }
-
-    // Whether it wrote with this number.
-    pub(crate) fn wrote_with(&self, number: u64) -> bool
-        ensures { result ≡ (self.now.wrote && (self.now.number == number)) }
-    {
-        self.wrote && self.number == number
-    }
-
-    // What it put into the home word.
-    pub(crate) fn written(&self, at: u64) -> Option<u64>
-        ensures { result ≡ written self.now.writes at }
-    {
-        self.writes.find(at)
-    }
 }

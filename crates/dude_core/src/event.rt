@@ -1,6 +1,7 @@
 //! The events of the machine, each with what it names.
 
 use dude_base::redo::Redo;
+use pmem_trait::Call;
 use tatp_model::reply::Reply;
 use tatp_model::request::Request;
 
@@ -97,15 +98,18 @@ pub enum Event {
     Evict {
         page: u64,
     },
-    /// A home word of the page gets its value at the reproduced number, in the frame.
+    /// A home word of the page gets the value that was read of it, in the frame.
     Fill {
         page: u64,
         frame: u64,
         at: u64,
-        value: u64,
     },
     Show {
         page: u64,
         frame: u64,
+    },
+    /// One call on the medium, the next one of a call of the back.
+    Device {
+        call: Call,
     },
 }

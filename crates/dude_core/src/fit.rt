@@ -1,6 +1,7 @@
 //! How calls that were made, and one more, go on a list.
 
-ghost use Rattle.dude_core.specs.CallFits.{IsFit};
+ghost use Rattle.std.specs.Prelude.{IfSome, IfNone};
+ghost use Rattle.dude_core.specs.CallFits.{IsFit, IsFront, IsApart};
 
 use crate::call_list::CallList;
 use pmem_trait::Call;
@@ -36,5 +37,17 @@ pub fn fit_of<L: CallList>(list: &L, made: &[Call], call: Call) -> Fit
         Fit::Whole
     } else {
         Fit::Front
+    }
+}
+
+/// Whether the call, behind those made, ends the list; `None` where they aren't its first calls.
+pub(crate) fn ends_by<L: CallList>(list: &L, made: &[Call], call: Call) -> Option<bool>
+    ensures some { IfSome result (IsFront (L.calls list.now) made.now call) }
+    ensures none { IfNone result (IsApart (L.calls list.now) made.now call) }
+{
+    match fit_of(list, made, call) {
+        Fit::Apart => None,
+        Fit::Front => Some(false),
+        Fit::Whole => Some(true),
     }
 }

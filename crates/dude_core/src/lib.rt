@@ -1,5 +1,5 @@
-//! The machine of running transactions, as a pure machine: one event after another, each where the
-//! definitions allow it.
+//! The machine of running transactions with its medium, as a pure machine: one event after another,
+//! single calls on the medium among them, each where the definitions allow it.
 //!
 //! It has the views of its threads, and over vectors the state that decides of each event whether a view may make it: which
 //! word it is a step on, what becomes of that word, and what becomes of the view. No thread is here; a table that threads
@@ -17,6 +17,7 @@ mod append_list;
 mod box_event;
 pub mod boxes;
 mod call_list;
+mod chain_writes;
 mod conditions;
 mod core_fault;
 pub mod core_refusal;
@@ -24,19 +25,27 @@ mod core_word;
 mod data_laws;
 pub mod deed;
 mod deeds;
+mod device;
+mod device_event;
+mod dropped;
+mod drops;
 mod edits;
 pub mod entry;
 mod event;
 mod first_lists;
 mod fit;
-mod fits;
+mod gathered;
+mod gathering;
 pub mod hand;
 mod laws;
+mod leading;
 mod logged_bundle;
 mod machine;
+mod meets;
 mod moves;
 mod named;
 mod names;
+mod next_calls;
 mod notes;
 pub mod numbers;
 mod page_reads;
@@ -50,6 +59,8 @@ mod queries;
 mod reading;
 mod reads;
 mod record_places;
+mod replay_room;
+mod replaying;
 mod reproduce_list;
 mod ring;
 mod scans;
@@ -65,7 +76,6 @@ pub mod transaction;
 pub mod turn;
 mod turning;
 mod turns;
-mod values;
 pub mod view;
 pub mod view_pages;
 mod view_partings;

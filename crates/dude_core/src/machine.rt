@@ -2,10 +2,9 @@
 
 ghost use Rattle.std.specs.Prelude.{◌≡◌, ◌*◌, ◌≤◌, length, slice_get, option_map, IfOk, IfErr, OnOk, OnErr};
 ghost use Rattle.core_events.specs.Setups.{IsSetup};
-ghost use Rattle.core_events.specs.Kept.{Kept};
-ghost use Rattle.core_events.specs.Persisted.{DurablePersisted};
-ghost use Rattle.dude_core.specs.StateSteps.{IsOffOnlyAt};
-ghost use Rattle.dude_core.specs.CoreState.{CoreState, LeadsTo};
+ghost use Rattle.core_medium.specs.KeptStore.{MachineKept};
+ghost use Rattle.dude_core.specs.StateSteps.{IsOffOnlyIn};
+ghost use Rattle.dude_core.specs.CoreState.{CoreState, machine_of, LeadsTo};
 ghost use Rattle.dude_core.specs.MadeCores.{size_fault};
 ghost use Rattle.dude_core.specs.Steps.{step_of};
 
@@ -14,30 +13,38 @@ use crate::core_refusal::CoreRefusal;
 use crate::core_word::CoreWord;
 use crate::event::Event;
 use crate::named::word_of;
+use crate::replay_room::ReplayRoom;
 use crate::setup::Setup;
 use crate::state::State;
 use crate::steps::step;
+use crate::store::Store;
 use crate::view::View;
 use dude_base::limits::PAGE;
+use dude_base::place::Place;
 use dude_base::run::Run;
 use dude_base::sizes::Sizes;
 use std::alloc::Global;
 use std::marker::Model;
 
-/// The machine: what it is set up with, within its limits, and its state, which is kept. No medium is
-/// beside it: a record that left its box counts as persisted.
+/// The machine with its medium: what it is set up with, within its limits, its state and the store
+/// behind it, which are kept; and room for the writes of bundles that are reproduced.
 #[derive(Drop)]
 pub struct Core {
     setup: Setup,
     state: State,
+    store: Store,
+    room: ReplayRoom,
 }
 
 impl Model for Core {
+    ghost use Rattle.dude_core.specs.CoreState.{CoreState};
+    ghost use Rattle.dude_core.specs.KeptCores.{IsKeptCore};
+
     ghost Value = { CoreState };
 
-    ghost view = { λ a. record { setup = a.setup; state = a.state } };
+    ghost view = { λ a. record { setup = a.setup; state = a.state; store = a.store } };
 
-    ghost invariant = { λ a. IsSetup a.setup × Kept a.setup a.state × DurablePersisted a.setup a.state };
+    ghost invariant = { IsKeptCore };
 }
 
 impl Core {
@@ -63,8 +70,7 @@ impl Core {
         requires number { number ≤ MAX_NUMBER }
         ensures made { IfOk result (IsCoreAt words.items sizes.now run.now threads number) }
         ensures setup { IfOk result (λ core. IsSetup core.setup) }
-        ensures kept { IfOk result (λ core. Kept core.setup core.state) }
-        ensures persisted { IfOk result (λ core. DurablePersisted core.setup core.state) }
+        ensures kept { IfOk result (λ core. MachineKept core.setup (machine_of core)) }
         ensures size { RefusesSize result sizes.now run.now threads }
         ensures fault { IfErr result (IsFaultOf sizes.now run.now) }
     {
@@ -74,7 +80,14 @@ impl Core {
         match Setup::new(words, sizes.pages, run, threads, number) {
             Some(setup) => {
                 let state = State::start(alloc, &setup)?;
-                Ok(Core { setup, state })
+                let store = Store::start(alloc, &setup, &Place::of(sizes))?;
+                let room = ReplayRoom::new(alloc, 0)?;
+                Ok(Core {
+                    setup,
+                    state,
+                    store,
+                    room,
+                })
             }
             None => Err(size_fault(sizes, run)),
         }
@@ -111,6 +124,13 @@ impl Core {
     {
         self.state.view(who)
     }
+
+    /// The store behind the words: the log, the calls made on the medium, and what was read of it.
+    pub fn store(&self) -> &Store
+        ensures { result.now ≡ self.now.store }
+    {
+        &self.store
+    }
 }
 
 fn size_fault(sizes: &Sizes, run: &Run) -> CoreFault
@@ -122,15 +142,24 @@ fn size_fault(sizes: &Sizes, run: &Run) -> CoreFault
     }
 }
 
-/// Makes an event by the view `who`. It is `Off` exactly where the definitions, or what is
-/// persisted, don't allow it; after an `Err` the core is as it was.
+/// Makes an event by the view `who`. It is `Off` exactly where the definitions don't allow it;
+/// after an `Err` the core is as it was.
 pub fn core_step(alloc: Global, core: &mut Core, who: u64, event: &Event) -> Result<(), CoreRefusal>
-    ensures ok { OnOk result (LeadsTo core.old (step_of who event.now) core.new) }
+    ensures ok { OnOk result
+        (LeadsTo core.old (step_of core.old.store.read who event.now) core.new) }
     ensures setup { core.new.setup ≡ core.old.setup }
-    ensures kept { Kept core.new.setup core.new.state }
-    ensures persisted { DurablePersisted core.new.setup core.new.state }
+    ensures kept { MachineKept core.new.setup (machine_of core.new) }
     ensures err { OnErr result (core.new ≡ core.old) }
-    ensures off { IsOffOnlyAt result core.old.setup core.old.state (step_of who event.now) }
+    ensures off { IsOffOnlyIn result core.old.setup (machine_of core.old)
+        (step_of core.old.store.read who event.now) }
 {
-    step(&mut core.state, alloc, &core.setup, who, event)
+    step(
+        &mut core.state,
+        &mut core.store,
+        &mut core.room,
+        alloc,
+        &core.setup,
+        who,
+        event,
+    )
 }

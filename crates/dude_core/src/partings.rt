@@ -2,8 +2,7 @@
 
 ghost use Rattle.std.specs.Prelude.{◌≡◌, OnOk, OnErr};
 ghost use Rattle.core_events.specs.Views.{View as Seen};
-ghost use Rattle.core_events.specs.Partings.{MaySplit, MayJoin, parting, joining};
-ghost use Rattle.core_events.specs.Persisted.{RecordsLead};
+ghost use Rattle.core_events.specs.Partings.{MaySplit, MayJoin, Leads, parting, joining};
 ghost use Rattle.core_events.specs.Kept.{Kept};
 ghost use Rattle.dude_core.specs.Named.{Tells};
 ghost use Rattle.dude_core.specs.StateSteps.{IsOffOnlyAt};
@@ -24,7 +23,7 @@ impl State {
         who: u64,
         draws: u64,
     ) -> Result<(), CoreRefusal>
-        ensures ok { OnOk result (RecordsLead z.now self.old (parting who draws) self.new) }
+        ensures ok { OnOk result (Leads z.now self.old (parting who draws) self.new) }
         ensures err { OnErr result (self.new ≡ self.old) }
         ensures off { IsOffOnlyAt result z.now self.old (parting who draws) }
     {
@@ -47,7 +46,7 @@ impl State {
         other: u64,
     ) -> Result<(), CoreRefusal>
         requires { Kept z.now self.old }
-        ensures ok { OnOk result (RecordsLead z.now self.old (joining who other) self.new) }
+        ensures ok { OnOk result (Leads z.now self.old (joining who other) self.new) }
         ensures err { OnErr result (self.new ≡ self.old) }
         ensures off { IsOffOnlyAt result z.now self.old (joining who other) }
     {

@@ -7,6 +7,7 @@ ghost use Rattle.core_events.specs.Keyed.{find, or_else};
 ghost use Rattle.core_events.specs.Events.{is_good, looked_word, thread_of, next_box, pinned_frame, kept_entry};
 ghost use Rattle.core_events.specs.Conditions.{IsIdle, IsUndrawn, IsSteady, IsUndecided, HasThread, LooksGood, LooksUnowned, Owns, Pins, Writes, KeepsFrame};
 ghost use Rattle.dude_core.specs.Named.{Tells};
+ghost use Rattle.dude_core.specs.Turns.{HasTurn};
 
 use crate::setup::{Setup, without_pins};
 use crate::view::View;
@@ -20,6 +21,13 @@ impl View {
             Some(_) => !self.part.is_spent,
             None => false,
         }
+    }
+
+    /// Whether it isn't spent, and has a thread's number and the turn.
+    pub fn has_turn(&self) -> bool
+        ensures { Tells result (HasTurn self.now) }
+    {
+        self.is_awake() && self.turn.has_it
     }
 
     /// The thread's number; 0 where it has none.

@@ -7,10 +7,12 @@ ghost use Rattle.core_events.specs.Views.{View as Seen};
 ghost use Rattle.core_events.specs.Events.{next_box};
 ghost use Rattle.core_events.specs.Conditions.{IsAllowed, record_of, no_record};
 ghost use Rattle.core_events.specs.Partings.{Leads};
-ghost use Rattle.core_events.specs.Persisted.{RecordsLead};
 ghost use Rattle.core_events.specs.Kept.{Kept};
-ghost use Rattle.dude_core.specs.Named.{Tells, event_of};
-ghost use Rattle.dude_core.specs.StateSteps.{IsOffOnlyAt, MayMake, event_by};
+ghost use Rattle.core_medium.specs.KeptStore.{MachineKept};
+ghost use Rattle.core_medium.specs.Machines.{MachineLeads};
+ghost use Rattle.dude_core.specs.Named.{event_of};
+ghost use Rattle.dude_core.specs.StateSteps.{IsOffOnlyIn, event_by, machine_step};
+ghost use Rattle.dude_core.specs.Stands.{machine_over};
 ghost use Rattle.dude_core.specs.Views.{OfView, HasBoxInside, persisted_from, HasForgotten};
 
 use crate::box_event::BoxEvent;
@@ -19,37 +21,41 @@ use crate::deed::Deed;
 use crate::record_places::record_at;
 use crate::setup::Setup;
 use crate::state::State;
+use crate::store::Store;
 use dude_base::redo::Redo;
 use std::alloc::{AllocError, Global};
 
 impl State {
     /// Makes an event of the view `who` that a view makes by itself. It is `Off` exactly where the
-    /// definitions, or what is persisted, don't allow it. After an `Err` the state is as it was.
+    /// definitions don't allow it. After an `Err` state and store are as they were.
     pub fn make(
         &mut self,
+        store: &mut Store,
         alloc: Global,
         z: &Setup,
         who: u64,
         deed: &Deed,
     ) -> Result<(), CoreRefusal>
-        requires { Kept z.now self.old }
-        ensures ok { OnOk result (RecordsLead z.now self.old (event_by who deed.now) self.new) }
+        requires { MachineKept z.now (machine_over z.now self.old store.old) }
+        ensures waiting { store.new.waiting ≡ store.old.waiting }
+        ensures ok { OnOk result (MachineLeads z.now (machine_over z.now self.old store.old)
+            (machine_step who deed.now) (machine_over z.now self.new store.new)) }
         ensures err { OnErr result (self.new ≡ self.old) }
-        ensures off { IsOffOnlyAt result z.now self.old (event_by who deed.now) }
+        ensures same { OnErr result (store.new ≡ store.old) }
+        ensures off { IsOffOnlyIn result z.now (machine_over z.now self.old store.old)
+            (machine_step who deed.now) }
     {
-        if !self.may_make(z, who, deed) {
+        if !self.may_make(store, z, who, deed) {
             return Err(CoreRefusal::Off);
         }
+        let dropped = self.drops(z, who, deed);
         match self.enact(alloc, z, who, deed) {
-            Ok(()) => Ok(()),
+            Ok(()) => {
+                store.drop_reads(dropped);
+                Ok(())
+            }
             Err(AllocError) => Err(CoreRefusal::NoMemory),
         }
-    }
-
-    fn may_make(&self, z: &Setup, who: u64, deed: &Deed) -> bool
-        ensures { Tells result (MayMake z.now self.now who (event_of deed.now)) }
-    {
-        self.allows(z, who, deed) && self.records_allow(z, deed)
     }
 
     // Makes an event that is allowed.

@@ -1,33 +1,49 @@
-//! An event made on the state.
+//! An event made on the state and its store.
 
-ghost use Rattle.std.specs.Prelude.{◌≡◌, ◌↔◌, OnOk, OnErr, IsErrOf};
-ghost use Rattle.core_events.specs.Persisted.{RecordsLead};
-ghost use Rattle.core_events.specs.Kept.{Kept};
-ghost use Rattle.dude_core.specs.StateSteps.{IsOffAt};
+ghost use Rattle.std.specs.Prelude.{◌≡◌, ◌≤◌, OnOk, OnErr};
+ghost use Rattle.core_medium.specs.KeptStore.{MachineKept};
+ghost use Rattle.core_medium.specs.Machines.{MachineLeads};
+ghost use Rattle.dude_core.specs.Chains.{writes_in};
+ghost use Rattle.dude_core.specs.StateSteps.{IsOffOnlyIn};
+ghost use Rattle.dude_core.specs.Stands.{machine_over};
 ghost use Rattle.dude_core.specs.Steps.{step_of};
 
 use crate::core_refusal::CoreRefusal;
 use crate::deeds::deed_of;
+use crate::device_event::make_device;
 use crate::event::Event;
+use crate::replay_room::ReplayRoom;
 use crate::setup::Setup;
 use crate::state::State;
+use crate::store::Store;
 use std::alloc::Global;
 
 pub(crate) fn step(
     state: &mut State,
+    store: &mut Store,
+    room: &mut ReplayRoom,
     alloc: Global,
     z: &Setup,
     who: u64,
     event: &Event,
 ) -> Result<(), CoreRefusal>
-    requires { Kept z.now state.old }
-    ensures ok { OnOk result (RecordsLead z.now state.old (step_of who event.now) state.new) }
+    requires kept { MachineKept z.now (machine_over z.now state.old store.old) }
+    requires room { writes_in store.old.waiting ≤ room.old.room }
+    ensures room { writes_in store.new.waiting ≤ room.new.room }
+    ensures ok { OnOk result (MachineLeads z.now (machine_over z.now state.old store.old)
+        (step_of store.old.read who event.now) (machine_over z.now state.new store.new)) }
     ensures err { OnErr result (state.new ≡ state.old) }
-    ensures off { IsErrOf result CoreRefusal.Off ↔ IsOffAt z.now state.old (step_of who event.now) }
+    ensures same { OnErr result (store.new ≡ store.old) }
+    ensures off { IsOffOnlyIn result z.now (machine_over z.now state.old store.old)
+        (step_of store.old.read who event.now) }
 {
     match event {
         Event::Split { draws } => state.split(alloc, z, who, *draws),
         Event::Join { other } => state.join(alloc, z, who, *other),
-        _ => state.make(alloc, z, who, &deed_of(event)),
+        Event::Device { call } => make_device(state, store, room, alloc, z, who, *call),
+        _ => {
+            let deed = deed_of(event, store);
+            state.make(store, alloc, z, who, &deed)
+        }
     }
 }

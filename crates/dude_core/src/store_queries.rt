@@ -20,7 +20,8 @@ use pmem_trait::Call;
 impl Store {
     /// Where the parts of the image stand.
     pub fn place(&self) -> Place
-        ensures { result ≡ self.now.sizes }
+        ensures place { result ≡ self.now.sizes }
+        ensures rings { length self.now.rings ≡ self.now.sizes.rings }
     {
         self.place
     }

@@ -1,4 +1,4 @@
-use Rattle.std.proofs.Common.{◌≡◌, ◌<◌, ◌≤◌, ℕ, suc, ◌∷◌, [], ◌++◌, List, length, drop, get_or, ap, ◌∙◌, arith, rules}
+use Rattle.std.proofs.Common.{◌≡◌, ◌<◌, ◌≤◌, suc, ◌∷◌, ◌++◌, List, length, drop, get_or, ap, ◌∙◌, arith, rules}
 use Rattle.std.proofs.lemmas.Option.{get_or_from_slice_get}
 use Rattle.pmem_trait.specs.declared.call.Call.{Call}
 use Rattle.dude_core.specs.CallFits.{GoesOn}

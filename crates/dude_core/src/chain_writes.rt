@@ -1,0 +1,48 @@
+//! The writes of waiting bundles that lead from one number to another.
+
+ghost use Rattle.std.specs.Prelude.{◌≡◌, ◌+◌, ◌≤◌, ◌++◌, All, MatchBool, length};
+ghost use Rattle.dude_base.specs.Records.{HasNumbers};
+ghost use Rattle.dude_base.specs.Writes.{HasDistinctPlaces};
+ghost use Rattle.redo_record.specs.Waiting.{AreDisjoint, IsEnd};
+ghost use Rattle.dude_core.specs.Chains.{writes_in, HasTaken};
+
+use crate::leading::bundle_behind;
+use crate::waiting_bundle::WaitingBundle;
+use dude_base::bundle::Bundle;
+use group_combine::Group;
+
+/// Takes the writes of the waiting bundles that lead from one number to another; whether there are
+/// such bundles.
+pub(crate) fn take_chain(out: &mut Group, waiting: &[WaitingBundle], from: u64, number: u64) -> bool
+    requires numbers { All (λ w. HasNumbers w.redo) waiting.now }
+    requires distinct { AreDisjoint waiting.now }
+    requires room { writes_in waiting.now ≤ out.old.room }
+    ensures room { out.new.room ≡ out.old.room }
+    ensures taken { MatchBool result (HasTaken waiting.now from number out.new.taken)
+        (IsEnd waiting.now from number → ⊥) }
+{
+    out.clear();
+    let mut end = from;
+    while end < number {
+        match bundle_behind(waiting, end) {
+            Some(bundle) => {
+                take_bundle(bundle, out);
+                end = bundle.last();
+            }
+            None => return false,
+        }
+    }
+    end == number
+}
+
+// Takes the writes of a bundle.
+fn take_bundle(bundle: &Bundle, out: &mut Group)
+    requires { length out.old.taken + length bundle.now.writes ≤ out.old.room }
+    ensures taken { out.new.taken ≡ out.old.taken ++ bundle.now.writes }
+    ensures room { out.new.room ≡ out.old.room }
+    ensures distinct { HasDistinctPlaces bundle.now.writes }
+{
+    for k in 0..bundle.len() {
+        out.take(bundle.write_at(k));
+    }
+}
