@@ -33,7 +33,8 @@ pub fn read_files<F: Files, S: AsStr>(
         files.old files.new) }
 
     // Where the files are visible, a missing one is answered before a bad one, and a bad one is never passed over.
-    ensures missing { MissingStops (F.sight files.old) (request_files (map S.text names.now)) result }
+    ensures missing { MissingStops (F.sight files.old) (request_files (map S.text names.now))
+        result }
     ensures bad { BadStops (F.sight files.old) (request_files (map S.text names.now)) result }
 {
     let mut wanted = Vec::new(alloc);

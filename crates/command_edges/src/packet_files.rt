@@ -23,10 +23,12 @@ pub fn read_packet_files<F: Files, S: AsStr>(
 ) -> Result<Vec<FileText>, Fault>
     ensures reads { ReadsInOrder (packet_files (map S.text names.now)) (result_err result)
         (F.sight files.old) (F.sight files.new) }
-    ensures read { IfOk result (AreTextsOf (F.sight files.old) (packet_files (map S.text names.now))) }
+    ensures read { IfOk result (AreTextsOf (F.sight files.old)
+        (packet_files (map S.text names.now))) }
     ensures cause { IfErr result (IsReadFault F.sight (packet_files (map S.text names.now))
         files.old files.new) }
-    ensures missing { MissingStops (F.sight files.old) (packet_files (map S.text names.now)) result }
+    ensures missing { MissingStops (F.sight files.old) (packet_files (map S.text names.now))
+        result }
 {
     let mut wanted = Vec::new(alloc);
     want_files(FileKind::Packets, names, &mut wanted)?;

@@ -32,10 +32,12 @@ pub fn read_printed_run<F: Files, S: AsStr>(
     names: &[S],
     files: &mut F,
 ) -> Result<PrintedRun, Fault>
-    ensures reads { ReadsInOrder (audit_files printed.now (map S.text names.now)) (result_err result)
+    ensures reads { ReadsInOrder (audit_files printed.now (map S.text names.now))
+        (result_err result)
         (F.sight files.old) (F.sight files.new) }
     ensures read { IfOk result (AreOfRun (F.sight files.old) printed.now (map S.text names.now)) }
-    ensures cause { IfErr result (IsFileFault F.sight (audit_files printed.now (map S.text names.now))
+    ensures cause { IfErr result (IsFileFault F.sight
+        (audit_files printed.now (map S.text names.now))
         files.old files.new) }
     ensures missing { MissingStops (F.sight files.old)
         (audit_files printed.now (map S.text names.now)) result }

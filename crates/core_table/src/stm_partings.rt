@@ -35,7 +35,8 @@ impl<S, X, K, P: SlotRule<S, X, K>> Stm<S, X, K, P> {
     pub fn split(&self, seat: &mut Seat<S, X>, draws: u64) -> Seat<S, X>
         requires seat { BelongsTo self.now.events seat.old }
         requires can { CanSplit seat.old.me.0.view draws }
-        requires slots { OutlastsSplit (P.fact self.now.events.key) self.now.events.setup draws P.beside }
+        requires slots { OutlastsSplit (P.fact self.now.events.key) self.now.events.setup draws
+            P.beside }
         ensures seat { NowKnows self.now.events seat.old seat.new (known_left draws seat.old.me.0) }
         ensures other { IsSplitOff P.beside self.now.events draws result }
     {

@@ -110,7 +110,8 @@ impl ReorderBuffer {
 
     /// Keeps only the packets that end over this number.
     pub fn release(&mut self, number: u64)
-        ensures kept { self.new.kept.items ≡ filter (λ c. nat_lt number c.last) self.old.kept.items }
+        ensures kept { self.new.kept.items ≡ filter (λ c. nat_lt number c.last)
+            self.old.kept.items }
         ensures room { self.new.room ≡ self.old.room }
     {
         self.kept.retain(|c| c.last() > number);

@@ -12,7 +12,8 @@ use pmem_trait::{Failed, Medium, settle_group};
 fn save<M: Medium>(m: &mut M, value: u64, tell: bool) -> Result<(), Failed>
     requires { 16 ≤ (M.sight m.old).len }
     ensures len { (M.sight m.new).len ≡ (M.sight m.old).len }
-    ensures made { CallsMade (save_calls value tell) (is_ok result) (M.sight m.old) (M.sight m.new) }
+    ensures made { CallsMade (save_calls value tell) (is_ok result) (M.sight m.old)
+        (M.sight m.new) }
 {
     settle_group(m, &[(0, value)], &[0])?;
     if !tell {
