@@ -8,7 +8,7 @@ ghost use Rattle.tree_index.specs.Tree.{FitsTree};
 
 use crate::page::Page;
 use crate::stopping::Stopping;
-use crate::trees::take_tree_call;
+use crate::trees::{move_key, take_tree_call};
 use hash_table::put::Put;
 use hash_table::table::Table;
 use record_heap::pool::Pool;
@@ -46,6 +46,7 @@ pub fn take_call(words: &mut Stopping, name: &str, numbers: &[u64]) -> Result<An
         ("put" | "drop" | "next", [key]) if words.len() == TABLE_WORDS => {
             take_tree_call(words, name, *key)
         }
+        ("move", [from, to]) if words.len() == TABLE_WORDS => move_key(words, *from, *to),
         _ if words.len() == TABLE_WORDS => take_pool_call(words, name, numbers),
         _ => Ok(("no command", None)),
     }

@@ -53,6 +53,14 @@ pub fn take_tree_call(words: &mut Stopping, name: &str, key: u64) -> Result<Answ
     }
 }
 
+/// Puts a key of the tree in the place of another one.
+pub fn move_key(words: &mut Stopping, from: u64, to: u64) -> Result<Answer, Stop>
+    requires { FitsTree TREE (stopping_sight words.old).count }
+{
+    TREE.replace(words, from, to)?;
+    Ok(("moved", None))
+}
+
 /// What became of a key.
 fn put_text(put: TreePut) -> &'static str {
     match put {
@@ -116,7 +124,8 @@ pub fn say_tree_calls(alloc: Global, leaves: u64, seed: u64, calls: u64, page: &
     }
 }
 
-/// How often a key was stored, there, without room, removed, not there, found and not found; or the call whose answers differ.
+/// How often a key was stored, there, without room, removed, not there, found, not found and replaced; or the call whose answers
+/// differ.
 fn compare_calls(
     alloc: Global,
     tree: &Tree,
@@ -124,30 +133,72 @@ fn compare_calls(
     words: Flat,
     seed: u64,
     calls: u64,
-) -> Result<Result<[u64; 7], u64>, AllocError>
+) -> Result<Result<[u64; 8], u64>, AllocError>
     requires { FitsTree tree.now size }
 {
     let mut words = words;
     let mut keys = BTreeSet::new(alloc);
-    let mut counts = [0u64; 7];
+    let mut counts = [0u64; 8];
     let mut random = seed;
     for call in 0..calls {
         random = next_random(random);
-        let key = random_key(random);
-        let kind = random >> 40 & 3;
-        let Some(answer) = call_sized(tree, size, &mut words, kind, key) else {
+        let Some(place) = compare_call(tree, size, &mut words, &mut keys, random)? else {
             return Ok(Err(call));
         };
-        if call_set(&mut keys, tree.leaves.count, kind, key)? != answer {
-            return Ok(Err(call));
-        }
-        let place = answer.0 as usize;
-        if place < 7 {
-            counts[place] = counts[place].wrapping_add(1);
+        if place < 8 {
+            counts[place as usize] = counts[place as usize].wrapping_add(1);
         }
         let _record = words.take(call);
     }
     Ok(Ok(counts))
+}
+
+/// The place of the count of what the tree and the set answer to a call. None where they differ.
+fn compare_call(
+    tree: &Tree,
+    size: u64,
+    words: &mut Flat,
+    keys: &mut BTreeSet<u64>,
+    random: u64,
+) -> Result<Option<u64>, AllocError>
+    requires { FitsTree tree.now size }
+{
+    let key = random_key(random);
+    let kind = random >> 40 & 3;
+    if kind == 3 {
+        let other = random_key(next_random(random));
+        return replace_in_both(tree, size, words, keys, key, other);
+    }
+    let Some(answer) = call_sized(tree, size, words, kind, key) else {
+        return Ok(None);
+    };
+    if call_set(keys, tree.leaves.count, kind, key)? != answer {
+        return Ok(None);
+    }
+    Ok(Some(answer.0))
+}
+
+/// Puts one key in the place of another, where that one is there and this one isn't. Answers a place behind all counts where
+/// it isn't so, and None where the tree stops.
+fn replace_in_both(
+    tree: &Tree,
+    size: u64,
+    words: &mut Flat,
+    keys: &mut BTreeSet<u64>,
+    from: u64,
+    to: u64,
+) -> Result<Option<u64>, AllocError>
+    requires { FitsTree tree.now size }
+{
+    if !keys.contains(&from) || keys.contains(&to) {
+        return Ok(Some(8));
+    }
+    if words.len() != size || tree.replace(words, from, to).is_err() {
+        return Ok(None);
+    }
+    keys.remove(&from);
+    keys.insert(to)?;
+    Ok(Some(7))
 }
 
 /// Another number, by three shifts.
