@@ -31,5 +31,4 @@ pub mod Start
 pub mod Telling
 pub mod ReadOut
 pub mod OneCommit
-pub mod Persists
 pub mod Plain

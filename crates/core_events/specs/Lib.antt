@@ -17,7 +17,6 @@ pub mod KeptTurn
 pub mod KeptPages
 pub mod Layers
 pub mod Kept
-pub mod Persisted
 pub mod Telling
 pub mod Plain
 pub mod OneCommit

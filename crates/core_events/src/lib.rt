@@ -6,7 +6,6 @@
 mod kept;
 mod laws;
 mod one_commit;
-mod persisted;
 mod told;
 
 pub use kept::{law_of_keeping, law_of_steps};
@@ -15,5 +14,4 @@ pub use laws::{
     law_of_turn, law_of_values,
 };
 pub use one_commit::law_of_a_commit;
-pub use persisted::law_of_persisted;
 pub use told::{law_of_telling, law_of_views};
