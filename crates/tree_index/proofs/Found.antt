@@ -5,14 +5,17 @@ use Rattle.std.proofs.lemmas.List.Elements.{All-contains, All-from_recursion, Al
 use Rattle.record_heap.specs.Pool.{IsPool, IsRecord}
 use Rattle.record_heap.proofs.Records.{each_is_record}
 use Rattle.tree_index.specs.declared.tree.NearestLeaf.{NearestLeaf}
+use Rattle.tree_index.specs.declared.tree.PassedRecord.{PassedRecord}
+use Rattle.tree_index.specs.declared.tree.Trail.{Trail}
 use Rattle.tree_index.specs.declared.tree.TreePosition.{TreePosition}
 use Rattle.tree_index.specs.declared.tree.Tree.{Tree}
 use Rattle.tree_index.specs.Shape.{Shape, Leaf, Fork, IsRadix, forks_of, keys_in, keys_of, leaves_of, least_of, link_of}
 use Rattle.tree_index.specs.Tree.{FindsNext, FitsTree, IsNext, IsTree}
 use Rattle.tree_index.specs.Path.{Frame, OnZeros, OnOnes, GoesBy, plug, over_of, slot_of, turn_of}
-use Rattle.tree_index.specs.Walk.{EndsBelow, FindsLeast, HasRecords, IsHeld, IsIn, LeadsTo, PlacesBeside, Reaches, StaysAtRoot, WalksTo}
+use Rattle.tree_index.specs.Walk.{EndsBelow, FindsLeast, FitsPosition, HasRecords, IsBelowFrom, IsFrom, IsHeld, IsIn, IsUnder, LeadsTo, Passes, PlacesBeside, Reaches, StaysAtRoot, WalksAlong, WalksTo}
 use Rattle.tree_index.proofs.Frees.{none_is_not}
 use Rattle.tree_index.proofs.Nexts.{next_above, next_below, next_here, turn_key}
+use Rattle.tree_index.proofs.Walks.{passed_by}
 use Rattle.tree_index.proofs.Shapes.{first_among, other_among, radix_inside, radix_more, reached_key, reach_along}
 
 -- ---- the records of a lawful tree
@@ -52,16 +55,16 @@ near_leaf tree words key shape position r =
     (leaf.0, leaf.1 ∙ sym (reach_along key 0 r.path r.part r.steps) ∙ ap (λ s. reached_key key s) (sym r.is))
 
 -- a walk that led to no leaf found no tree
-pub no_tree : {tree : Tree} {words : List ℕ} {key : ℕ} {position : TreePosition} → WalksTo tree key 0 words position → (IsRecord tree.leaves position.link → ⊥) → (whole : Shape) → ¬ IsIn tree words whole
-no_tree {tree} {words} {key} {position} walk none whole there = none (near_leaf tree words key whole position (walk whole there)).0
+pub no_tree : {tree : Tree} {words : List ℕ} {key : ℕ} {trail : Trail} → WalksAlong tree key 0 words trail → (IsRecord tree.leaves trail.last.link → ⊥) → (whole : Shape) → ¬ IsIn tree words whole
+no_tree {tree} {words} {key} {trail} walk none whole there = none (near_leaf tree words key whole trail.last (walk whole there).last).0
 
 -- one that led to a leaf didn't stay at an empty root
-pub some_tree : {tree : Tree} {n : ℕ} (words : List ℕ) {position : TreePosition} → FitsTree tree n → StaysAtRoot tree words position → IsRecord tree.leaves position.link → slice_index words tree.root ≢ 0
-some_tree {tree} words fits empty leaf none = omega (arith, fits.leaves.not_at_zero 0 (subst (IsRecord tree.leaves) (ap (λ (p : TreePosition). p.link) (empty none)) leaf))
+pub some_tree : {tree : Tree} {n : ℕ} (words : List ℕ) (trail : Trail) → FitsTree tree n → StaysAtRoot tree words trail → IsRecord tree.leaves trail.last.link → slice_index words tree.root ≢ 0
+some_tree {tree} words trail fits empty leaf none = omega (arith, fits.leaves.not_at_zero 0 (subst (IsRecord tree.leaves) (ap (λ (p : TreePosition). p.link) (empty none)) leaf))
 
 -- the key found is the one to which the bits of the key lead
 pub near_key : {tree : Tree} {words : List ℕ} {key : ℕ} {near : NearestLeaf} (shape : Shape) → IsIn tree words shape → LeadsTo tree key words near → near.key ≡ reached_key key shape
-near_key {tree} {words} {key} {near} shape there leads = leads.read ∙ (near_leaf tree words key shape near.position (leads.walk shape there)).1
+near_key {tree} {words} {key} {near} shape there leads = leads.read ∙ (near_leaf tree words key shape near.trail.last (leads.walk shape there).last).1
 
 -- where a walk found no tree there is no key
 pub no_shape : {tree : Tree} {words free_leaves free_inner : List ℕ} (shape : Option Shape) → IsTree tree words shape free_leaves free_inner → ((whole : Shape) → ¬ IsIn tree words whole) → shape ≡ None
@@ -106,20 +109,41 @@ leaf_ends : (floor : ℕ) (shape : Shape) → EndsBelow 0 shape → EndsBelow fl
 leaf_ends floor (Leaf at key) ends = tt
 leaf_ends floor (Fork at bit zeros ones) ends = absurd (omega (arith, ends))
 
--- with such a bit over the leaf, or none, a walk down to `floor` stands where the first one does
-pub stays_placed : {tree : Tree} {words : List ℕ} {key : ℕ} {near : NearestLeaf} (floor : ℕ) → IfSome near.position.over (λ over. floor ≤ over.bit) → PlacesBeside tree key floor near words near.position
-stays_placed {tree} {words} {key} {near} floor high = λ leads whole there.
-    let r = leads.walk whole there in
-    record {
-      path = r.path;
-      part = r.part;
-      is = r.is;
-      at = r.at;
-      steps = goes_from key floor r.path r.part (subst (IsRadix 64) r.is there.radix) r.steps
-          (last_of tree.root floor r.path (subst (λ o. IfSome o (λ over. floor ≤ over.bit)) (ap (λ (p : TreePosition). p.over) r.at) high));
-      held = r.held;
-      ends = leaf_ends floor r.part r.ends;
-    }
+steps_from : {tree : Tree} {words : List ℕ} {key : ℕ} {whole : Shape} {position : TreePosition} (floor : ℕ) → IsIn tree words whole → IsFrom floor position → (passes : Passes tree key 0 words whole position) → GoesBy key floor passes.path
+steps_from {tree} {key = key} floor there high passes =
+    goes_from key floor passes.path passes.part (subst (IsRadix 64) passes.is there.radix) passes.steps
+    (last_of tree.root floor passes.path (subst (IsFrom floor) passes.at high))
+
+-- with such a bit over a position, or none, a walk down to `floor` passes it
+placed : {tree : Tree} {words : List ℕ} {key : ℕ} {whole : Shape} {position : TreePosition} (floor : ℕ) → IsIn tree words whole → IsFrom floor position → (passes : Passes tree key 0 words whole position) → EndsBelow floor passes.part → Reaches tree key floor words whole position
+placed floor there high passes ends = record {
+  path = passes.path;
+  part = passes.part;
+  is = passes.is;
+  at = passes.at;
+  steps = steps_from floor there high passes;
+  held = passes.held;
+  ends = ends;
+}
+
+-- with such a bit over the leaf, or none, it stands where the first one does
+pub stays_placed : {tree : Tree} {words : List ℕ} {key : ℕ} {near : NearestLeaf} (floor : ℕ) → IsFrom floor near.trail.last → PlacesBeside tree key floor near words near.trail.last
+stays_placed floor high = λ leads whole there.
+    let reached = (leads.walk whole there).last in
+    placed floor there high (passed_by reached) (leaf_ends floor reached.part reached.ends)
+
+fork_ends : {tree : Tree} {n : ℕ} → FitsTree tree n → (words : List ℕ) (floor at : ℕ) (shape : Shape) → IsHeld tree words shape → at ≡ link_of shape → IsRecord tree.inner at → slice_index words at < floor → EndsBelow floor shape
+fork_ends {tree} fits words floor at (Leaf place key) held here inner low = tt
+fork_ends {tree} fits words floor at (Fork place bit zeros ones) held here inner low = omega (arith, low, ap (λ x. slice_index words x) here, held.words.0)
+
+-- where the last inner record over a position has a lesser bit, but not the one before it, it stands at that record's link
+pub placed_over : {tree : Tree} {n : ℕ} {words : List ℕ} {key : ℕ} {whole : Shape} {upper lower : TreePosition} (floor : ℕ) → FitsTree tree n → IsIn tree words whole → FitsPosition tree n lower → IsUnder words upper lower → IsBelowFrom floor lower → IsFrom floor upper → Passes tree key 0 words whole upper → Reaches tree key floor words whole upper
+placed_over {tree} {n} {words} {key} {whole} {upper} {lower} floor fits there inside under low high passes =
+    let over = low.0 in
+    let same = subst (λ o. IfSome o (λ (over : PassedRecord). (over.at ≡ upper.link) × (over.bit ≡ slice_index words over.at))) low.1 under in
+    let inner = (subst (λ o. IfSome o (λ (passed : PassedRecord). IsRecord tree.inner passed.at × (passed.slot < n) × (passed.side < 2))) low.1 inside.over).0 in
+    placed floor there high passes
+    (fork_ends fits words floor over.at passes.part passes.held (same.0 ∙ ap (λ (p : TreePosition). p.link) passes.at) inner (omega (arith, low.2, same.1)))
 
 no_turn : (path : List Frame) → turn_of path ≡ None → turn_key path ≡ None
 no_turn [] none = refl

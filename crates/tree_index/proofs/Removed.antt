@@ -135,18 +135,18 @@ dropped {tree} fits old middle new free_leaves free_inner key size path (Leaf at
     (dropped_leaf fits old middle new free_leaves free_inner key at size path (subst (λ x. IsTree tree old (Some (plug path (Leaf at x))) free_leaves free_inner) same lawful) goes cuts gives)
 
 -- what `unlink` and `give` did
-there_in : {tree : Tree} {n : ℕ} {key : ℕ} {near : NearestLeaf} {old middle new : List ℕ} → FitsTree tree n → length old ≡ n → LeadsTo tree key old near → near.key ≡ key → Unlinks tree near.position.over old middle tt → GivesLeaf tree near.position.link middle new → (shape : Option Shape) (free_leaves free_inner : List ℕ) → IsTree tree old shape free_leaves free_inner → Drops tree key shape free_leaves free_inner old new
+there_in : {tree : Tree} {n : ℕ} {key : ℕ} {near : NearestLeaf} {old middle new : List ℕ} → FitsTree tree n → length old ≡ n → LeadsTo tree key old near → near.key ≡ key → Unlinks tree near.trail.last.over old middle tt → GivesLeaf tree near.trail.last.link middle new → (shape : Option Shape) (free_leaves free_inner : List ℕ) → IsTree tree old shape free_leaves free_inner → Drops tree key shape free_leaves free_inner old new
 there_in fits size leads same unlinks gives None free_leaves free_inner lawful = absurd (leads.some lawful.rooted)
 there_in {tree} {n} {key} {near} {old} {middle} {new} fits size leads same unlinks gives (Some shape) free_leaves free_inner lawful =
     let there = tree_in shape lawful in
-    let reached = leads.walk shape there in
+    let reached = (leads.walk shape there).last in
     let itself : reached_key key reached.part ≡ key = sym (near_key shape there leads ∙ ap (λ s. reached_key key s) reached.is ∙ reach_along key 0 reached.path reached.part reached.steps) ∙ same in
     subst (λ s. Drops tree key (Some s) free_leaves free_inner old new) (sym reached.is)
     (dropped fits old middle new free_leaves free_inner key size reached.path reached.part reached.ends (subst (λ s. IsTree tree old (Some s) free_leaves free_inner) reached.is lawful) reached.steps itself
     (subst (λ o. Unlinks tree o old middle tt) (ap (λ (p : TreePosition). p.over) reached.at) unlinks) (subst (λ x. GivesLeaf tree x middle new) (ap (λ (p : TreePosition). p.link) reached.at) gives))
 
 -- the key was there
-pub removes_there : {tree : Tree} {n : ℕ} {key : ℕ} {near : NearestLeaf} {old middle new : List ℕ} → FitsTree tree n → length old ≡ n → LeadsTo tree key old near → near.key ≡ key → Unlinks tree near.position.over old middle tt → GivesLeaf tree near.position.link middle new → RemovesAll tree key old new true
+pub removes_there : {tree : Tree} {n : ℕ} {key : ℕ} {near : NearestLeaf} {old middle new : List ℕ} → FitsTree tree n → length old ≡ n → LeadsTo tree key old near → near.key ≡ key → Unlinks tree near.trail.last.over old middle tt → GivesLeaf tree near.trail.last.link middle new → RemovesAll tree key old new true
 removes_there fits size leads same unlinks gives = λ shape free_leaves free_inner lawful. there_in fits size leads same unlinks gives shape free_leaves free_inner lawful
 
 -- where a walk found no tree there is no key

@@ -136,15 +136,15 @@ replaced {tree} fits old middle new free_leaves free_inner from to size path (Le
     (replaced_leaf fits old middle new free_leaves free_inner from to at size path (subst (λ x. IsTree tree old (Some (plug path (Leaf at x))) free_leaves free_inner) same lawful) goes moves
     (subst (λ x. ¬ Contains (keys_of (plug path (Leaf at x))) to) same absent))
 
-there_in : {tree : Tree} {n : ℕ} {from to : ℕ} {near : NearestLeaf} {old new : List ℕ} (middle : List ℕ) → FitsTree tree n → length old ≡ n → LeadsTo tree from old near → near.key ≡ from → MovesLeaf tree near.position.over near.position.link to old middle new → (shape : Option Shape) (free_leaves free_inner : List ℕ) → IsTree tree old shape free_leaves free_inner → ¬ Contains (keys_in shape) to → Replaces tree from to shape free_leaves free_inner old new
+there_in : {tree : Tree} {n : ℕ} {from to : ℕ} {near : NearestLeaf} {old new : List ℕ} (middle : List ℕ) → FitsTree tree n → length old ≡ n → LeadsTo tree from old near → near.key ≡ from → MovesLeaf tree near.trail.last.over near.trail.last.link to old middle new → (shape : Option Shape) (free_leaves free_inner : List ℕ) → IsTree tree old shape free_leaves free_inner → ¬ Contains (keys_in shape) to → Replaces tree from to shape free_leaves free_inner old new
 there_in middle fits size leads same moves None free_leaves free_inner lawful absent = absurd (leads.some lawful.rooted)
 there_in {tree} {n} {from} {to} {near} {old} {new} middle fits size leads same moves (Some shape) free_leaves free_inner lawful absent =
     let there = tree_in shape lawful in
-    let reached = leads.walk shape there in
+    let reached = (leads.walk shape there).last in
     let itself : reached_key from reached.part ≡ from = sym (near_key shape there leads ∙ ap (λ s. reached_key from s) reached.is ∙ reach_along from 0 reached.path reached.part reached.steps) ∙ same in
     subst (λ s. Replaces tree from to (Some s) free_leaves free_inner old new) (sym reached.is)
     (replaced fits old middle new free_leaves free_inner from to size reached.path reached.part reached.ends (subst (λ s. IsTree tree old (Some s) free_leaves free_inner) reached.is lawful) reached.steps itself
-    (subst (λ x. MovesLeaf tree (over_of tree.root reached.path) x to old middle new) (ap (λ (p : TreePosition). p.link) reached.at) (subst (λ o. MovesLeaf tree o near.position.link to old middle new) (ap (λ (p : TreePosition). p.over) reached.at) moves))
+    (subst (λ x. MovesLeaf tree (over_of tree.root reached.path) x to old middle new) (ap (λ (p : TreePosition). p.link) reached.at) (subst (λ o. MovesLeaf tree o near.trail.last.link to old middle new) (ap (λ (p : TreePosition). p.over) reached.at) moves))
     (subst (λ s. ¬ Contains (keys_of s) to) reached.is absent))
 
 key_in : {tree : Tree} {old free_leaves free_inner : List ℕ} {from : ℕ} {near : NearestLeaf} → LeadsTo tree from old near → near.key ≡ from → (shape : Option Shape) → IsTree tree old shape free_leaves free_inner → Contains (keys_in shape) from
@@ -152,7 +152,7 @@ key_in leads same None lawful = absurd (leads.some lawful.rooted)
 key_in {from = from} leads same (Some shape) lawful = subst (λ y. Contains (keys_of shape) y) (sym (near_key shape (tree_in shape lawful) leads) ∙ same) (reach_in from shape)
 
 -- the first key was there
-pub replaces_there : {tree : Tree} {n : ℕ} {from to : ℕ} {near : NearestLeaf} {old new : List ℕ} (middle : List ℕ) → FitsTree tree n → length old ≡ n → LeadsTo tree from old near → near.key ≡ from → MovesLeaf tree near.position.over near.position.link to old middle new → ReplacesAll tree from to old new tt
+pub replaces_there : {tree : Tree} {n : ℕ} {from to : ℕ} {near : NearestLeaf} {old new : List ℕ} (middle : List ℕ) → FitsTree tree n → length old ≡ n → LeadsTo tree from old near → near.key ≡ from → MovesLeaf tree near.trail.last.over near.trail.last.link to old middle new → ReplacesAll tree from to old new tt
 replaces_there middle fits size leads same moves = λ shape free_leaves free_inner lawful.
     ((λ none. absurd (none (key_in leads same shape lawful))), λ there absent. there_in middle fits size leads same moves shape free_leaves free_inner lawful absent)
 

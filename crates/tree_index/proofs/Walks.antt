@@ -3,11 +3,12 @@ use Rattle.std.proofs.Common.{◌≡◌, ℕ, zero, suc, ◌+◌, ◌-◌, ◌<�
 use Rattle.record_heap.specs.Pool.{IsRecord}
 use Rattle.tree_index.specs.declared.tree.Tree.{Tree}
 use Rattle.tree_index.specs.declared.tree.PassedRecord.{PassedRecord}
+use Rattle.tree_index.specs.declared.tree.Trail.{Trail}
 use Rattle.tree_index.specs.declared.tree.TreePosition.{TreePosition}
 use Rattle.tree_index.specs.Shape.{Shape, Leaf, Fork, IsRadix, bit_of, least_of, link_of}
 use Rattle.tree_index.specs.Tree.{FitsTree}
 use Rattle.tree_index.specs.Path.{Frame, OnZeros, OnOnes, plug, GoesBy, slot_of, over_of, turn_of}
-use Rattle.tree_index.specs.Walk.{EndsBelow, FitsPosition, IsHeld, IsIn, IsStep, Reaches, GoesToZeros, turn_by, start_at, step_by}
+use Rattle.tree_index.specs.Walk.{EndsBelow, FitsPosition, FitsTrail, IsHeld, IsIn, IsStep, IsUnder, Passes, Reaches, GoesToZeros, Trails, turn_by, start_at, step_by}
 use Rattle.tree_index.proofs.Shapes.{radix_more, bit_small}
 
 -- a leaf is no inner record
@@ -66,7 +67,7 @@ pub record Stands (tree : Tree) (key floor : ℕ) (words : List ℕ) (whole : Sh
   pub held : IsHeld tree words shape
   pub radix : IsRadix (64 - n) shape
 
-pub stands_none : (tree : Tree) (key floor link : ℕ) (words : List ℕ) (whole : Shape) → IsIn tree words whole → link ≡ slice_index words tree.root → Stands tree key floor words whole 0 (start_at tree link)
+stands_none : (tree : Tree) (key floor link : ℕ) (words : List ℕ) (whole : Shape) → IsIn tree words whole → link ≡ slice_index words tree.root → Stands tree key floor words whole 0 (start_at tree link)
 stands_none tree key floor link words whole there read = record { path = []; shape = whole; is = refl; at = ap (λ l. start_at tree l) (read ∙ there.link); steps = tt; held = there.held; radix = there.radix }
 
 abbrev passed : ℕ → ℕ → ℕ → ℕ → Option PassedRecord
@@ -115,7 +116,7 @@ stands_step {tree} fits key floor words whole n position next step path (Fork at
       }
     ]
 
-pub stands_more : {tree : Tree} {count : ℕ} → FitsTree tree count → (key floor : ℕ) (words : List ℕ) (whole : Shape) (n : ℕ) (position next : TreePosition) → IsStep tree key floor position words (Some next) → Stands tree key floor words whole n position → Stands tree key floor words whole (n + 1) next
+stands_more : {tree : Tree} {count : ℕ} → FitsTree tree count → (key floor : ℕ) (words : List ℕ) (whole : Shape) (n : ℕ) (position next : TreePosition) → IsStep tree key floor position words (Some next) → Stands tree key floor words whole n position → Stands tree key floor words whole (n + 1) next
 stands_more fits key floor words whole n position next step s = stands_step fits key floor words whole n position next step s.path s.shape s.is s.at s.steps s.held s.radix
 
 ends_step : (tree : Tree) (key floor : ℕ) (words : List ℕ) (position : TreePosition) → IsStep tree key floor position words None → (shape : Shape) → position.link ≡ link_of shape → IsHeld tree words shape → EndsBelow floor shape
@@ -134,17 +135,67 @@ reaches s ends = record {
   ends = ends;
 }
 
+-- ---- the positions on the way
+
+-- what a walk reached it passed
+abbrev pub passed_by : {tree : Tree} {key floor : ℕ} {words : List ℕ} {whole : Shape} {position : TreePosition} → Reaches tree key floor words whole position → Passes tree key floor words whole position
+passed_by r = record { path = r.path; part = r.part; is = r.is; at = r.at; steps = r.steps; held = r.held }
+
+passed_on : {tree : Tree} {key floor n : ℕ} {words : List ℕ} {whole : Shape} {position : TreePosition} → Stands tree key floor words whole n position → Passes tree key floor words whole position
+passed_on s = record { path = s.path; part = s.shape; is = s.is; at = s.at; steps = s.steps; held = s.held }
+
+-- After n steps a walk for the key stands at the last position of this trail, and passed the two others.
+pub record Trailing (tree : Tree) (key floor : ℕ) (words : List ℕ) (whole : Shape) (n : ℕ) (trail : Trail) : Type 0 where
+  pub last : Stands tree key floor words whole n trail.last
+  pub second : Passes tree key floor words whole trail.second
+  pub third : Passes tree key floor words whole trail.third
+  pub last_under : IsUnder words trail.second trail.last
+  pub second_under : IsUnder words trail.third trail.second
+
+abbrev trail_of : TreePosition → TreePosition → TreePosition → Trail
+trail_of last second third = record { last = last; second = second; third = third }
+
+pub trailing_none : (tree : Tree) (key floor link : ℕ) (words : List ℕ) (whole : Shape) → IsIn tree words whole → link ≡ slice_index words tree.root → Trailing tree key floor words whole 0 (trail_of (start_at tree link) (start_at tree link) (start_at tree link))
+trailing_none tree key floor link words whole there read =
+    let stands = stands_none tree key floor link words whole there read in
+    record { last = stands; second = passed_on stands; third = passed_on stands; last_under = tt; second_under = tt }
+
+-- the words named where a walk begins
+pub start_fits : (tree : Tree) (n link : ℕ) → tree.root < n → FitsTrail tree n (trail_of (start_at tree link) (start_at tree link) (start_at tree link))
+start_fits tree n link low =
+    let start : FitsPosition tree n (start_at tree link) = record { slot = low; turn = tt; over = tt } in
+    record { last = start; second = start; third = start }
+
+next_under : (tree : Tree) (key floor : ℕ) (words : List ℕ) (position next : TreePosition) → IsStep tree key floor position words (Some next) → IsUnder words position next
+next_under tree key floor words position next step =
+    subst (λ (p : TreePosition). IsUnder words position p) (sym step.2) (refl, refl)
+
+pub trailing_more : {tree : Tree} {count : ℕ} → FitsTree tree count → (key floor : ℕ) (words : List ℕ) (whole : Shape) (n : ℕ) (trail : Trail) (next : TreePosition) → IsStep tree key floor trail.last words (Some next) → Trailing tree key floor words whole n trail → Trailing tree key floor words whole (n + 1) (trail_of next trail.last trail.second)
+trailing_more {tree} fits key floor words whole n trail next step t = record {
+  last = stands_more fits key floor words whole n trail.last next step t.last;
+  second = passed_on t.last;
+  third = t.second;
+  last_under = next_under tree key floor words trail.last next step;
+  second_under = t.last_under;
+}
+
 -- where there is no further step
-pub stands_end : {tree : Tree} {key floor n : ℕ} {words : List ℕ} {whole : Shape} {position : TreePosition} → IsStep tree key floor position words None → Stands tree key floor words whole n position → Reaches tree key floor words whole position
+stands_end : {tree : Tree} {key floor n : ℕ} {words : List ℕ} {whole : Shape} {position : TreePosition} → IsStep tree key floor position words None → Stands tree key floor words whole n position → Reaches tree key floor words whole position
 stands_end {tree} {key} {floor} {n} {words} {whole} {position} none s = reaches s (ends_step tree key floor words position none s.shape (ap (λ (p : TreePosition). p.link) s.at) s.held)
+
+pub trailing_end : {tree : Tree} {key floor n : ℕ} {words : List ℕ} {whole : Shape} {trail : Trail} → IsStep tree key floor trail.last words None → Trailing tree key floor words whole n trail → Trails tree key floor words whole trail
+trailing_end none t = record { last = stands_end none t.last; second = t.second; third = t.third; last_under = t.last_under; second_under = t.second_under }
 
 ends_out : (floor : ℕ) (shape : Shape) → IsRadix 0 shape → EndsBelow floor shape
 ends_out floor (Leaf at k) radix = tt
 ends_out floor (Fork at bit zeros ones) radix = absurd (omega (arith, radix.0))
 
 -- or after 64 steps
-pub stands_out : {tree : Tree} {key floor n : ℕ} {words : List ℕ} {whole : Shape} {position : TreePosition} → 64 ≤ n → Stands tree key floor words whole n position → Reaches tree key floor words whole position
+stands_out : {tree : Tree} {key floor n : ℕ} {words : List ℕ} {whole : Shape} {position : TreePosition} → 64 ≤ n → Stands tree key floor words whole n position → Reaches tree key floor words whole position
 stands_out {tree} {key} {floor} {n} {words} {whole} {position} all s = reaches s (ends_out floor s.shape (radix_more (64 - n) 0 s.shape (omega (arith, all)) s.radix))
+
+pub trailing_out : {tree : Tree} {key floor n : ℕ} {words : List ℕ} {whole : Shape} {trail : Trail} → 64 ≤ n → Trailing tree key floor words whole n trail → Trails tree key floor words whole trail
+trailing_out all t = record { last = stands_out all t.last; second = t.second; third = t.third; last_under = t.last_under; second_under = t.second_under }
 
 -- a step that was made is one by the bit that was read
 pub steps_on : (tree : Tree) (words : List ℕ) (key floor : ℕ) (position : TreePosition) (bit side link : ℕ) (turn : Option ℕ) → IsRecord tree.inner position.link → bit ≡ slice_index words position.link → floor ≤ bit → side ≡ bit_of key bit → link ≡ slice_index words (position.link + 2 + side) → turn ≡ turn_by side position.link position.turn

@@ -2,6 +2,8 @@
 use Rattle.std.specs.Prelude.{◌≡◌, ◌≢◌, ℕ, zero, suc, ◌+◌, ◌<◌, ◌≤◌, List, Option, Some, None, IfSome, slice_index}
 use Rattle.record_heap.specs.Pool.{IsRecord}
 use Rattle.tree_index.specs.declared.tree.NearestLeaf.{NearestLeaf}
+use Rattle.tree_index.specs.declared.tree.PassedRecord.{PassedRecord}
+use Rattle.tree_index.specs.declared.tree.Trail.{Trail}
 use Rattle.tree_index.specs.declared.tree.TreePosition.{TreePosition}
 use Rattle.tree_index.specs.declared.tree.Tree.{Tree}
 use Rattle.tree_index.specs.Path.{Frame, GoesBy, over_of, plug, slot_of, turn_of}
@@ -58,6 +60,20 @@ pub record FitsPosition (tree : Tree) (n : ℕ) (position : TreePosition) : Type
   pub turn : IfSome position.turn (λ word. word < n)
   pub over : IfSome position.over (λ passed. IsRecord tree.inner passed.at × (passed.slot < n) × (passed.side < 2))
 
+-- as well those of all positions of a trail
+pub record FitsTrail (tree : Tree) (n : ℕ) (trail : Trail) : Type 0 where
+  pub last : FitsPosition tree n trail.last
+  pub second : FitsPosition tree n trail.second
+  pub third : FitsPosition tree n trail.third
+
+-- the bit of the last inner record passed, where there is one, is at least `floor`
+abbrev pub IsFrom : ℕ → TreePosition → Type 0
+IsFrom floor position = IfSome position.over (λ over. floor ≤ over.bit)
+
+-- there is one, and its bit is below
+abbrev pub IsBelowFrom : ℕ → TreePosition → Type 0
+IsBelowFrom floor position = (over : PassedRecord) × (position.over ≡ Some over) × (over.bit < floor)
+
 -- where a walk begins, with this link in the word of the root
 abbrev pub start_at : Tree → ℕ → TreePosition
 start_at tree link = record { slot = tree.root; link = link; over = None; turn = None }
@@ -96,15 +112,40 @@ pub record Reaches (tree : Tree) (key floor : ℕ) (array : List ℕ) (whole : S
 abbrev pub WalksTo : Tree → ℕ → ℕ → List ℕ → TreePosition → Type 0
 WalksTo tree key floor array position = (whole : Shape) → IsIn tree array whole → Reaches tree key floor array whole position
 
+-- A walk for the key passed this position: there is a path to it, by the bits of the key, and part of the shape stands there.
+pub record Passes (tree : Tree) (key floor : ℕ) (array : List ℕ) (whole : Shape) (position : TreePosition) : Type 0 where
+  pub path : List Frame
+  pub part : Shape
+  pub is : whole ≡ plug path part
+  pub at : position ≡ record { slot = slot_of tree.root path; link = link_of part; over = over_of tree.root path; turn = turn_of path }
+  pub steps : GoesBy key floor path
+  pub held : IsHeld tree array part
+
+-- the last inner record that was passed before the lower position, where there is one, is the one that the upper position links
+abbrev pub IsUnder : List ℕ → TreePosition → TreePosition → Type 0
+IsUnder array upper lower = IfSome lower.over (λ over. (over.at ≡ upper.link) × (over.bit ≡ slice_index array over.at))
+
+-- A walk for the key reached the last position of this trail, by way of the two others.
+pub record Trails (tree : Tree) (key floor : ℕ) (array : List ℕ) (whole : Shape) (trail : Trail) : Type 0 where
+  pub last : Reaches tree key floor array whole trail.last
+  pub second : Passes tree key floor array whole trail.second
+  pub third : Passes tree key floor array whole trail.third
+  pub last_under : IsUnder array trail.second trail.last
+  pub second_under : IsUnder array trail.third trail.second
+
+-- in every way in which the array has a tree, a walk for the key went along this trail
+abbrev pub WalksAlong : Tree → ℕ → ℕ → List ℕ → Trail → Type 0
+WalksAlong tree key floor array trail = (whole : Shape) → IsIn tree array whole → Trails tree key floor array whole trail
+
 -- where the word of the root is 0, the walk stays there
-abbrev pub StaysAtRoot : Tree → List ℕ → TreePosition → Type 0
-StaysAtRoot tree array position = slice_index array tree.root ≡ 0 → position ≡ start_at tree 0
+abbrev pub StaysAtRoot : Tree → List ℕ → Trail → Type 0
+StaysAtRoot tree array trail = slice_index array tree.root ≡ 0 → trail.last ≡ start_at tree 0
 
 -- The bits of the key lead to this position, where a leaf stands, and to the key in it. The tree is not empty.
 pub record LeadsTo (tree : Tree) (key : ℕ) (array : List ℕ) (near : NearestLeaf) : Type 0 where
-  pub leaf : IsRecord tree.leaves near.position.link
-  pub read : near.key ≡ slice_index array near.position.link
-  pub walk : WalksTo tree key 0 array near.position
+  pub leaf : IsRecord tree.leaves near.trail.last.link
+  pub read : near.key ≡ slice_index array near.trail.last.link
+  pub walk : WalksAlong tree key 0 array near.trail
   pub some : slice_index array tree.root ≢ 0
 
 -- where this is the leaf to which the bits of the key lead, a walk for the key down to this floor reached the position

@@ -1,11 +1,11 @@
 //! A crit-bit tree over an array of words: a key is inserted, removed, replaced, and the next one found.
 
-ghost use Rattle.std.specs.Prelude.{◌+◌, ◌<◌, ◌^◌, ◌≡◌, IfOk, IfSome};
+ghost use Rattle.std.specs.Prelude.{◌+◌, ◌<◌, ◌^◌, ◌≡◌, IfOk, IfSome, MatchBool};
 ghost use Rattle.word_space.specs.Steps.{AnswersSeen, ChangesSeen, Shows, UsesWords};
 ghost use Rattle.record_heap.specs.Pool.{IsRecord};
 ghost use Rattle.tree_index.specs.Linking.{LinksSpare, PutsBesideAll, PutsFirstAll, Relinks, Unlinks, linked_beside};
 ghost use Rattle.tree_index.specs.Tree.{FindsNext, FitsTree, InsertsAll, RemovesAll, ReplacesAll};
-ghost use Rattle.tree_index.specs.Walk.{FindsLeast, FindsNearest, FitsPosition, GoesToZeros, IsStep, PlacesBeside, StaysAtRoot, WalksTo, insert_reads, least_reads, next_reads, remove_reads, replace_reads, turn_by, walk_reads};
+ghost use Rattle.tree_index.specs.Walk.{FindsLeast, FindsNearest, FitsPosition, FitsTrail, GoesToZeros, IsBelowFrom, IsFrom, IsStep, PlacesBeside, StaysAtRoot, WalksAlong, insert_reads, least_reads, next_reads, remove_reads, replace_reads, turn_by, walk_reads};
 
 use crate::key_bits;
 use crate::tree_put::TreePut;
@@ -47,11 +47,32 @@ struct TreePosition {
     turn: Option<u64>,
 }
 
+/// The position where a walk ended, and the two over it, as far as there are such: those at the links of the last two inner
+/// records passed. A walk that doesn't go as far down mostly ends at one of them.
+#[derive(Clone, Copy)]
+struct Trail {
+    last: TreePosition,
+    second: TreePosition,
+    third: TreePosition,
+}
+
 /// The leaf to which the bits of a key lead, and the key in it.
 #[derive(Clone, Copy)]
 struct NearestLeaf {
-    position: TreePosition,
+    trail: Trail,
     key: u64,
+}
+
+impl TreePosition {
+    // Whether the bit of the last inner record passed, where there is one, is at least `floor`.
+    fn is_from(&self, floor: u64) -> bool
+        ensures { MatchBool result (IsFrom floor self.now) (IsBelowFrom floor self.now) }
+    {
+        match self.over {
+            Some(over) => over.bit >= floor,
+            None => true,
+        }
+    }
 }
 
 impl Tree {
@@ -87,8 +108,8 @@ impl Tree {
         if near.key != key {
             return Ok(false);
         }
-        self.unlink(w, near.position)?;
-        self.leaves.give(w, near.position.link)?;
+        self.unlink(w, near.trail.last)?;
+        self.leaves.give(w, near.trail.last.link)?;
         Ok(true)
     }
 
@@ -106,8 +127,8 @@ impl Tree {
         if near.key != from {
             return Ok(());
         }
-        let leaf = near.position.link;
-        let Some(over) = near.position.over else {
+        let leaf = near.trail.last.link;
+        let Some(over) = near.trail.last.over else {
             return w.write(leaf, to);
         };
         self.cut(w, over)?;
@@ -259,25 +280,22 @@ impl Tree {
     fn nearest<W: Words>(&self, w: &mut W, key: u64) -> Result<Option<NearestLeaf>, Stop>
         requires fits { FitsTree self.now (W.sight w.old).count }
         ensures uses { UsesWords W.sight W.turns_into 130 0 result w.old w.new }
-        ensures position { IfOk result (λ r. IfSome r (λ near.
-            FitsPosition self.now (W.sight w.old).count near.position)) }
+        ensures trail { IfOk result (λ r. IfSome r (λ near.
+            FitsTrail self.now (W.sight w.old).count near.trail)) }
         ensures leaf { IfOk result (λ r. IfSome r
-            (λ near. IsRecord self.now.leaves near.position.link)) }
+            (λ near. IsRecord self.now.leaves near.trail.last.link)) }
         ensures nearest { AnswersSeen W.sight result w.old w.new (FindsNearest self.now key) }
     {
-        let position = self.walk(w, key, 0)?;
-        if !self.leaves.has(position.link) {
+        let trail = self.walk(w, key, 0)?;
+        if !self.leaves.has(trail.last.link) {
             return Ok(None);
         }
-        let other = w.read(position.link)?;
-        Ok(Some(NearestLeaf {
-            position,
-            key: other,
-        }))
+        let other = w.read(trail.last.link)?;
+        Ok(Some(NearestLeaf { trail, key: other }))
     }
 
-    // Where the bits of the key lead as long as the bit is at least `floor`: to their leaf, where the last inner record over it
-    // has such a bit, so that a second walk is needed only else.
+    // Where the bits of the key lead as long as the bit is at least `floor`: to their leaf, or to one of the two positions over
+    // it. Where the last inner records over these have lesser bits, a second walk is needed.
     fn place<W: Words>(
         &self,
         w: &mut W,
@@ -286,42 +304,61 @@ impl Tree {
         near: NearestLeaf,
     ) -> Result<TreePosition, Stop>
         requires fits { FitsTree self.now (W.sight w.old).count }
-        requires position { FitsPosition self.now (W.sight w.old).count near.position }
+        requires trail { FitsTrail self.now (W.sight w.old).count near.trail }
         ensures uses { UsesWords W.sight W.turns_into walk_reads 0 result w.old w.new }
         ensures position { IfOk result (FitsPosition self.now (W.sight w.old).count) }
-        ensures walks { AnswersSeen W.sight result w.old w.new (PlacesBeside self.now key floor near) }
+        ensures walks { AnswersSeen W.sight result w.old w.new
+            (PlacesBeside self.now key floor near) }
     {
-        let Some(over) = near.position.over else {
-            return Ok(near.position);
-        };
-        if over.bit < floor {
-            return self.walk(w, key, floor);
+        let Trail {
+            last,
+            second,
+            third,
+        } = near.trail;
+        if last.is_from(floor) {
+            return Ok(last);
         }
-        Ok(near.position)
+        if second.is_from(floor) {
+            return Ok(second);
+        }
+        if third.is_from(floor) {
+            return Ok(third);
+        }
+        let again = self.walk(w, key, floor)?;
+        Ok(again.last)
     }
 
     // Goes down from the root by the bits of the key, as long as the bit is at least `floor`.
-    fn walk<W: Words>(&self, w: &mut W, key: u64, floor: u64) -> Result<TreePosition, Stop>
+    fn walk<W: Words>(&self, w: &mut W, key: u64, floor: u64) -> Result<Trail, Stop>
         requires fits { FitsTree self.now (W.sight w.old).count }
         ensures uses { UsesWords W.sight W.turns_into walk_reads 0 result w.old w.new }
-        ensures position { IfOk result (FitsPosition self.now (W.sight w.old).count) }
-        ensures walks { AnswersSeen W.sight result w.old w.new (WalksTo self.now key floor) }
+        ensures trail { IfOk result (FitsTrail self.now (W.sight w.old).count) }
+        ensures walks { AnswersSeen W.sight result w.old w.new (WalksAlong self.now key floor) }
         ensures empty { AnswersSeen W.sight result w.old w.new (StaysAtRoot self.now) }
     {
         let link = w.read(self.root)?;
-        let mut position = TreePosition {
+        let start = TreePosition {
             slot: self.root,
             link,
             over: None,
             turn: None,
         };
+        let mut trail = Trail {
+            last: start,
+            second: start,
+            third: start,
+        };
         for _ in 0..64u64 {
-            let Some(next) = self.step(w, key, floor, position)? else {
-                return Ok(position);
+            let Some(next) = self.step(w, key, floor, trail.last)? else {
+                return Ok(trail);
             };
-            position = next;
+            trail = Trail {
+                last: next,
+                second: trail.last,
+                third: trail.second,
+            };
         }
-        Ok(position)
+        Ok(trail)
     }
 
     // One step down, or None where the walk is at its end.

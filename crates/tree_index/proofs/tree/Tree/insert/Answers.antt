@@ -6,7 +6,7 @@ use Rattle.tree_index.specs.declared.tree.NearestLeaf.{NearestLeaf}
 use Rattle.tree_index.specs.declared.tree_put.TreePut.TheVariants.{There}
 use Rattle.tree_index.specs.Linking.{PutsBesideAll, PutsFirstAll}
 use Rattle.tree_index.specs.Tree.{FitsTree, InsertsAll}
-use Rattle.tree_index.specs.Walk.{FindsNearest, FitsPosition, LeadsTo, WalksTo}
+use Rattle.tree_index.specs.Walk.{FindsNearest, FitsPosition, FitsTrail, LeadsTo, WalksTo}
 use Rattle.tree_index.proofs.EmptyTree.{inserts_first}
 use Rattle.tree_index.proofs.Inserted.{inserts_beside, inserts_there}
 use Rattle.tree_index.proofs.tree.Tree.insert.Goals as goal
@@ -45,8 +45,8 @@ place-requires g c =
     let count = c.in_ok-near.ensures.uses.count in
     record {
       fits = subst (FitsTree c.args.self.now) (sym count) c.requires.fits;
-      position = subst (λ n. FitsPosition c.args.self.now n c.in-Some.near.position) (sym count)
-          (subst (λ o. IfSome o (λ (near : NearestLeaf). FitsPosition c.args.self.now (g.W.Words.sight c.args.w.now).count near.position)) c.in-Some.is c.in_ok-near.ensures.position);
+      trail = subst (λ n. FitsTrail c.args.self.now n c.in-Some.near.trail) (sym count)
+          (subst (λ o. IfSome o (λ (near : NearestLeaf). FitsTrail c.args.self.now (g.W.Words.sight c.args.w.now).count near.trail)) c.in-Some.is c.in_ok-near.ensures.trail);
     }
 
 pub returns-in_err-position : goal.returns-in_err-position

@@ -4,7 +4,7 @@ use Rattle.word_space.proofs.Runs.{below_before, below_behind, length_shown, sho
 use Rattle.tree_index.specs.declared.tree.NearestLeaf.{NearestLeaf}
 use Rattle.tree_index.specs.Tree.{FitsTree}
 use Rattle.tree_index.specs.Linking.{linked_beside}
-use Rattle.tree_index.specs.Walk.{FindsNearest, FitsPosition, LeadsTo, WalksTo}
+use Rattle.tree_index.specs.Walk.{FindsNearest, FitsTrail, LeadsTo, WalksTo}
 use Rattle.tree_index.proofs.Replaced.{links_none, links_spare, links_there, when_shown}
 use Rattle.tree_index.proofs.tree.Tree.link_spare.Goals as goal
 
@@ -23,8 +23,8 @@ place-requires g c =
     let count = c.in_ok-near.ensures.uses.count in
     record {
       fits = subst (FitsTree c.args.self.now) (sym count) c.requires.fits;
-      position = subst (λ n. FitsPosition c.args.self.now n c.in-Some.near.position) (sym count)
-          (subst (λ o. IfSome o (λ (near : NearestLeaf). FitsPosition c.args.self.now (g.W.Words.sight c.args.w.now).count near.position)) c.in-Some.is c.in_ok-near.ensures.position);
+      trail = subst (λ n. FitsTrail c.args.self.now n c.in-Some.near.trail) (sym count)
+          (subst (λ o. IfSome o (λ (near : NearestLeaf). FitsTrail c.args.self.now (g.W.Words.sight c.args.w.now).count near.trail)) c.in-Some.is c.in_ok-near.ensures.trail);
     }
 
 pub returns-clause-links : goal.returns-clause-links

@@ -4,7 +4,7 @@ use Rattle.word_space.specs.Sights.{shown}
 use Rattle.word_space.proofs.Runs.{below_before, below_behind, shown_same, used_behind, used_handed, used_more, used_then, used_until}
 use Rattle.tree_index.specs.declared.tree.NearestLeaf.{NearestLeaf}
 use Rattle.tree_index.specs.Tree.{FitsTree}
-use Rattle.tree_index.specs.Walk.{FindsLeast, FindsNearest, FitsPosition, LeadsTo, WalksTo}
+use Rattle.tree_index.specs.Walk.{FindsLeast, FindsNearest, FitsTrail, LeadsTo, WalksTo}
 use Rattle.tree_index.proofs.Found.{next_equal, next_less, next_no_turn, next_none, next_turn}
 use Rattle.tree_index.proofs.tree.Tree.next.Goals as goal
 
@@ -30,8 +30,8 @@ place-requires g c =
     let count = c.in_ok-near.ensures.uses.count in
     record {
       fits = subst (FitsTree c.args.self.now) (sym count) c.requires.fits;
-      position = subst (λ n. FitsPosition c.args.self.now n c.in-Some.near.position) (sym count)
-          (subst (λ o. IfSome o (λ (near : NearestLeaf). FitsPosition c.args.self.now (g.W.Words.sight c.args.w.now).count near.position)) c.in-Some.is c.in_ok-near.ensures.position);
+      trail = subst (λ n. FitsTrail c.args.self.now n c.in-Some.near.trail) (sym count)
+          (subst (λ o. IfSome o (λ (near : NearestLeaf). FitsTrail c.args.self.now (g.W.Words.sight c.args.w.now).count near.trail)) c.in-Some.is c.in_ok-near.ensures.trail);
     }
 
 pub returns-in_err-position : goal.returns-in_err-position

@@ -6,7 +6,7 @@ use Rattle.record_heap.specs.Pool.{FitsPool, IsRecord}
 use Rattle.tree_index.specs.declared.tree.NearestLeaf.{NearestLeaf}
 use Rattle.tree_index.specs.Linking.{Unlinks}
 use Rattle.tree_index.specs.Tree.{FitsTree, RemovesAll}
-use Rattle.tree_index.specs.Walk.{FindsNearest, FitsPosition}
+use Rattle.tree_index.specs.Walk.{FindsNearest, FitsPosition, FitsTrail}
 use Rattle.tree_index.proofs.Removed.{removes_none, removes_other, removes_there}
 use Rattle.tree_index.proofs.tree.Tree.remove.Goals as goal
 
@@ -36,7 +36,7 @@ unlink-requires g c =
     let count = c.in_ok-near.ensures.uses.count in
     record {
       fits = subst (FitsTree c.args.self.now) (sym count) c.requires.fits;
-      position = subst (λ n. FitsPosition c.args.self.now n c.in-Some.near.position) (sym count) (subst (λ o. IfSome o (λ (near : NearestLeaf). FitsPosition c.args.self.now (g.W.Words.sight c.args.w.now).count near.position)) c.in-Some.is c.in_ok-near.ensures.position);
+      position = subst (λ n. FitsPosition c.args.self.now n c.in-Some.near.trail.last) (sym count) (subst (λ o. IfSome o (λ (near : NearestLeaf). FitsTrail c.args.self.now (g.W.Words.sight c.args.w.now).count near.trail)) c.in-Some.is c.in_ok-near.ensures.trail).last;
     }
 
 pub returns-in_err-unlink : goal.returns-in_err-unlink
@@ -45,7 +45,7 @@ returns-in_err-unlink g c = let r = c.from_residual-in_err-unlink in record { us
 pub give-requires : goal.give-requires
 give-requires g c = record {
   fits = subst (FitsPool c.args.self.now.leaves) (sym (c.in_ok-unlink.ensures.uses.count ∙ c.in_ok-near.ensures.uses.count)) c.requires.fits.leaves;
-  «record» = subst (λ o. IfSome o (λ (near : NearestLeaf). IsRecord c.args.self.now.leaves near.position.link)) c.in-Some.is c.in_ok-near.ensures.leaf;
+  «record» = subst (λ o. IfSome o (λ (near : NearestLeaf). IsRecord c.args.self.now.leaves near.trail.last.link)) c.in-Some.is c.in_ok-near.ensures.leaf;
 }
 
 pub returns-in_err-give : goal.returns-in_err-give
@@ -66,5 +66,5 @@ returns-clause-removes g c = λ array below.
     let middle = shown (g.W.Words.sight c.unlink.new.w) array in
     removes_there c.requires.fits (length_shown (below_before near_step.uses below_near))
     (subst (λ o. FindsNearest tree c.args.key old o) c.in-Some.is (near_step.nearest array below_near)) c.if-near-key.false
-    (subst (λ ws. Unlinks tree c.in-Some.near.position.over ws middle tt) (shown_same near_step.uses array) (unlink_step.unlinks array below_unlink))
+    (subst (λ ws. Unlinks tree c.in-Some.near.trail.last.over ws middle tt) (shown_same near_step.uses array) (unlink_step.unlinks array below_unlink))
     (give_step.gives array below)

@@ -30,8 +30,8 @@ returns-in_default-over-clause-replaces g c = when_shown c.write.result _ _ (λ 
     let new = shown (g.W.Words.sight c.write.new.self) array in
     replaces_there new c.requires.fits (length_shown (below_before near_step.uses below_near))
     (subst (λ o. FindsNearest tree c.args.from old o) c.in-Some.is (near_step.nearest array below_near)) c.if-near-from.false
-    (subst (λ o. MovesLeaf tree o c.in-Some.near.position.link c.args.to old new new) (sym c.in_default-over.is)
-    (shows array ∙ ap (λ ws. slice_set ws c.in-Some.near.position.link c.args.to) (shown_same near_step.uses array)))) c.write.ensures.shown
+    (subst (λ o. MovesLeaf tree o c.in-Some.near.trail.last.link c.args.to old new new) (sym c.in_default-over.is)
+    (shows array ∙ ap (λ ws. slice_set ws c.in-Some.near.trail.last.link c.args.to) (shown_same near_step.uses array)))) c.write.ensures.shown
 
 pub returns-clause-uses : goal.returns-clause-uses
 returns-clause-uses g c = used_more (used_behind (used_then c.in_ok-near.ensures.uses c.in_ok-cut.ensures.uses) c.link_spare.ensures.uses) (lit≤ tt) (lit≤ tt)
@@ -49,5 +49,5 @@ returns-clause-replaces g c = IfOk-weaker c.link_spare.result _ _ (λ done links
     let new = shown (g.W.Words.sight c.link_spare.new.w) array in
     replaces_there middle c.requires.fits (length_shown (below_before near_step.uses below_near))
     (subst (λ o. FindsNearest tree c.args.from old o) c.in-Some.is (near_step.nearest array below_near)) c.if-near-from.false
-    (subst (λ o. MovesLeaf tree o c.in-Some.near.position.link c.args.to old middle new) (sym c.in-Some-over.is)
+    (subst (λ o. MovesLeaf tree o c.in-Some.near.trail.last.link c.args.to old middle new) (sym c.in-Some-over.is)
     (subst (λ ws. Relinks over ws middle tt) (shown_same near_step.uses array) (cut_step.relinks array below_cut), links array below))) c.link_spare.ensures.links
