@@ -5,6 +5,7 @@ pub mod Crashes
 pub mod Heads
 pub mod Images
 pub mod Keeps
+pub mod Marks
 pub mod WholeCalls
 pub mod PageReads
 pub mod Start

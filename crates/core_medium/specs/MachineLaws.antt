@@ -1,5 +1,5 @@
 -- What the laws of the machine with its medium say.
-use Rattle.std.specs.Prelude.{◌≡◌, ℕ, ◌+◌, ◌*◌, ◌<◌, ◌≤◌, true, false, List, [], ◌++◌, length, map, All, AllPairs, Some, slice_index}
+use Rattle.std.specs.Prelude.{◌≡◌, ℕ, ◌+◌, ◌*◌, ◌<◌, ◌≤◌, true, false, ◌⊎◌, List, [], ◌++◌, Contains, length, map, All, AllPairs, Some, slice_index}
 use mathlib.Core.Option.{some}
 use lib.ListN.{get_elem?}
 use Rattle.dude_base.specs.declared.limits.TheConstants.{PAGE}
@@ -11,6 +11,7 @@ use Rattle.dude_base.specs.Writes.{overwritten}
 use Rattle.pmem_trait.specs.declared.call.Call.{Call}
 use Rattle.pmem_trait.specs.Words.{State as MediumState, EveryImage}
 use Rattle.redo_record.specs.BackCalls.{read_page_calls}
+use Rattle.redo_record.specs.Waiting.{Waiting}
 use Rattle.core_events.specs.Setups.{Setup, IsSetup}
 use Rattle.core_events.specs.Keyed.{find}
 use Rattle.core_events.specs.Views.{View}
@@ -19,7 +20,7 @@ use Rattle.core_events.specs.Conditions.{HasThread}
 use Rattle.core_events.specs.Partings.{AllLead, start}
 use Rattle.core_medium.specs.Stores.{Store, medium_of}
 use Rattle.core_medium.specs.BackCalls.{BackCall, reading, MayCall, calls_of, store_behind}
-use Rattle.core_medium.specs.Machines.{Machine, MachineStep, device, AllMachineLead, words_of}
+use Rattle.core_medium.specs.Machines.{Machine, MachineStep, MachineLeads, device, AllMachineLead, words_of}
 use Rattle.core_medium.specs.KeptStore.{MachineKept, HasPlaces, IsStart, opening_medium, start_machine}
 use Rattle.core_medium.specs.Crash.{RecoversToValues}
 use Rattle.core_medium.specs.Images.{ImagesHave}
@@ -44,14 +45,29 @@ LawOfMachines = (z : Setup) (ss : List MachineStep) (m : Machine) → IsReached 
 abbrev pub LawOfWordSteps : Type 0
 LawOfWordSteps = (z : Setup) (ss : List MachineStep) (m : Machine) → IsReached z ss m → AllLead z (start z) (words_of ss) m.core
 
--- after every list of steps every image of the medium recovers to an end and to the values at it
+-- every image of a kept machine's medium recovers to an end and to the values at it
+abbrev pub LawOfKeptCrashes : Type 0
+LawOfKeptCrashes = (z : Setup) (m : Machine) (len : ℕ) → MachineKept z m → image_words m.store.log.sizes ≤ len
+    → EveryImage len (RecoversToValues z m) (medium_of m.store)
+
+-- so does every one after every list of steps
 abbrev pub LawOfCrashes : Type 0
 LawOfCrashes = (z : Setup) (ss : List MachineStep) (m : Machine) (len : ℕ) → IsReached z ss m → image_words m.store.log.sizes ≤ len
     → EveryImage len (RecoversToValues z m) (medium_of m.store)
 
--- after every list of steps each word may hold what the log and the call under way say, and nothing else
+-- each word of a kept machine's medium may hold what the log and the call under way say, and nothing else
+abbrev pub LawOfKeptImages : Type 0
+LawOfKeptImages = (z : Setup) (m : Machine) → MachineKept z m → ImagesHave z m
+
+-- so may each one after every list of steps
 abbrev pub LawOfImages : Type 0
 LawOfImages = (z : Setup) (ss : List MachineStep) (m : Machine) → IsReached z ss m → ImagesHave z m
+
+-- a step settles the mark only at the last number of a bundle that waited
+abbrev pub LawOfMarks : Type 0
+LawOfMarks = (z : Setup) (s : MachineStep) (m n : Machine) → MachineLeads z m s n
+    → (n.store.log.reproduced ≡ m.store.log.reproduced)
+    ⊎ ((w : Waiting) × Contains m.store.log.waiting w × (w.redo.last ≡ n.store.log.reproduced))
 
 -- A call of the back that is allowed can be made to its end, call by call on the medium, by the view that has the turn: from where these
 -- calls are left of it

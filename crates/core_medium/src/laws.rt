@@ -1,7 +1,7 @@
 //! What every list of steps leaves, and what every crash after it.
 
 ghost use Rattle.core_medium.specs.MachineLaws.{LawOfStart, LawOfMachines, LawOfWordSteps};
-ghost use Rattle.core_medium.specs.MachineLaws.{LawOfCrashes, LawOfImages};
+ghost use Rattle.core_medium.specs.MachineLaws.{LawOfCrashes, LawOfKeptCrashes, LawOfImages, LawOfKeptImages, LawOfMarks};
 ghost use Rattle.core_medium.specs.MachineLaws.{LawOfWholeCalls, LawOfPageReads};
 ghost use Rattle.core_medium.specs.MachineLaws.{LawOfCombinedWrites};
 
@@ -21,16 +21,24 @@ pub fn law_of_word_steps()
     ensures { LawOfWordSteps }
 {}
 
-/// After every list of steps every image of the medium recovers to a number, which is an end, and
-/// to the values at it; each number up to it is posted, and no greater one was told.
+/// Of a kept machine, and so after every list of steps, every image of the medium recovers to a
+/// number, which is an end, and to the values at it; each number up to it is posted, and no greater
+/// one was told.
 pub fn law_of_crashes()
-    ensures { LawOfCrashes }
+    ensures kept { LawOfKeptCrashes }
+    ensures reached { LawOfCrashes }
 {}
 
-/// After every list of steps each word of the medium may hold what the log and the call under way
-/// say, and nothing else.
+/// Of a kept machine, and so after every list of steps, each word of the medium may hold what the
+/// log and the call under way say, and nothing else.
 pub fn law_of_images()
-    ensures { LawOfImages }
+    ensures kept { LawOfKeptImages }
+    ensures reached { LawOfImages }
+{}
+
+/// The mark is settled at ends of bundles alone.
+pub fn law_of_marks()
+    ensures { LawOfMarks }
 {}
 
 /// A call of the back that is allowed can be made to its end by the view that has the turn, call by
