@@ -1,6 +1,5 @@
 -- What was found in front of the boxes of threads: which of it is taken first, and by which looks it was found.
 use Rattle.std.specs.Prelude.{◌≡◌, ◌≢◌, ◌==◌, ◌↔◌, ℕ, zero, suc, ◌<◌, ◌≤◌, ltb, Bool, IsTrue, List, MatchBool, slice_index, if◌then◌else◌}
-use Rattle.dude_base.specs.declared.limits.TheConstants.{MAX_RINGS}
 use Rattle.core_events.specs.Setups.{Setup}
 use Rattle.core_events.specs.Views.{View}
 use Rattle.core_events.specs.Events.{see_full, view_after}
@@ -31,9 +30,10 @@ pub record IsFirstWith (fronts : List ℕ) (threads number thread : ℕ) : Type 
   pub has : slice_index fronts thread ≡ number
   pub first : NoneHas fronts thread number
 
--- the front of each thread whose place ahead isn't its next one is LEFT, and each other front is as before
-abbrev pub AreLeft : List ℕ → List ℕ → List ℕ → List ℕ → Type 0
-AreLeft ahead next old new = (u : ℕ) → u < MAX_RINGS → slice_index new u ≡ (if slice_index ahead u == slice_index next u then slice_index old u else LEFT)
+-- The front of each of the first so many threads of the list is LEFT, and each other front is as before
+pub record AreLeft (threads : List ℕ) (count : ℕ) (old new : List ℕ) : Type 0 where
+  pub left : (i : ℕ) → i < count → slice_index new (slice_index threads i) ≡ LEFT
+  pub others : (u : ℕ) → ((i : ℕ) → i < count → slice_index threads i ≢ u) → slice_index new u ≡ slice_index old u
 
 -- ---- looks
 -- One look at a box found a number, and it is told whether it is this one

@@ -1,6 +1,8 @@
 //! Records in hand whose numbers follow one another, and the bundle that joins them.
 
-ghost use Rattle.std.specs.Prelude.{◌≡◌, ◌<◌, true, false, length, slice_index};
+ghost use Rattle.std.specs.Prelude.{◌≡◌, ◌<◌, ◌≤◌, true, false, length, slice_index, MatchBool};
+ghost use Rattle.dude_base.specs.Joins.{places_of};
+ghost use Rattle.redo_record.specs.Record.{cells_for};
 ghost use Rattle.stm_turns.specs.Gathered.{BeginsWith, LeavesNext, TakesNext};
 
 use crate::places::next_place;
@@ -59,7 +61,7 @@ impl Gathering {
         ensures stays { result ≡ false → self.new ≡ self.old }
         ensures refused { result ≡ false → LeavesNext redo.now cells self.old }
     {
-        if self.count > MAX_SPAN || cells < cells_for(self.bundle.places_with(redo)) {
+        if self.count > MAX_SPAN || !self.has_cells(redo, cells) {
             return false;
         }
         if self.bundle.add(redo).is_err() {
@@ -69,5 +71,17 @@ impl Gathering {
         self.count += 1;
         self.ahead[thread as usize] = next_place(self.ahead[thread as usize], boxes);
         true
+    }
+
+    // Whether so many cells are enough for the bundle with this record. Their words are compared only where the two lists might
+    // be too long.
+    fn has_cells(&self, redo: &Redo, cells: u64) -> bool
+        ensures { MatchBool result (cells_for (places_of self.now.bundle redo.now) ≤ cells)
+            (cells < cells_for (places_of self.now.bundle redo.now)) }
+    {
+        if cells_for(self.bundle.len() + redo.len()) <= cells {
+            return true;
+        }
+        cells_for(self.bundle.places_with(redo)) <= cells
     }
 }

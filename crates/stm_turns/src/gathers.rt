@@ -1,6 +1,6 @@
 //! Records of consecutive numbers are taken out of the boxes of all threads.
 
-ghost use Rattle.std.specs.Prelude.{◌≡◌, ◌<◌, ◌≤◌, ℕ, IfSome, IfNone, length, slice_index, slice_set};
+ghost use Rattle.std.specs.Prelude.{◌≡◌, ◌<◌, ◌≤◌, ◌+◌, ℕ, true, false, IfSome, IfNone, length, slice_index, slice_set};
 ghost use Rattle.stm_turns.specs.Bundles.{InTurnWith, SteppedWith};
 ghost use Rattle.stm_turns.specs.Gathered.{BeginsAlike};
 ghost use Rattle.stm_turns.specs.InFront.{AreFound, AreFoundAgain, FindsFront, FindsWhereNone, IsFirstWith, NoneHas};
@@ -119,6 +119,8 @@ fn join<M: Medium>(
     requires thread { thread < events.now.setup.threads }
     ensures step { SteppedWith M.sight events.now seat.old seat.new home.now gathering.new }
     ensures alike { BeginsAlike gathering.old gathering.new }
+    ensures took { result ≡ true → gathering.new.count ≡ gathering.old.count + 1 }
+    ensures left { result ≡ false → gathering.new ≡ gathering.old }
 {
     let place = gathering.ahead[thread as usize];
     let number = gathering.bundle.last() + 1;
@@ -171,6 +173,8 @@ fn join_next<M: Medium>(
     requires with { InTurnWith M.sight events.now seat.old home.now gathering.old }
     ensures step { SteppedWith M.sight events.now seat.old seat.new home.now gathering.new }
     ensures alike { BeginsAlike gathering.old gathering.new }
+    ensures took { result ≡ true → gathering.new.count ≡ gathering.old.count + 1 }
+    ensures left { result ≡ false → gathering.new ≡ gathering.old }
 {
     let number = gathering.bundle.last() + 1;
     let Some(thread) = thread_with(fronts, events.threads(), number) else {
@@ -195,6 +199,8 @@ fn join_next_posted<M: Medium>(
     requires with { InTurnWith M.sight events.now seat.old home.now gathering.old }
     ensures step { SteppedWith M.sight events.now seat.old seat.new home.now gathering.new }
     ensures alike { BeginsAlike gathering.old gathering.new }
+    ensures took { result ≡ true → gathering.new.count ≡ gathering.old.count + 1 }
+    ensures left { result ≡ false → gathering.new ≡ gathering.old }
 {
     if join_next(events, seat, home, gathering, fronts) {
         return true;

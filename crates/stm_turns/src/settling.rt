@@ -1,7 +1,7 @@
 //! The records of full boxes are persisted in bundles, and made durable and reproduced.
 
-ghost use Rattle.std.specs.Prelude.{◌≡◌, ◌≤◌, ◌<◌, ℕ, [], IfOk, IfSome, IfNone, false};
-ghost use Rattle.dude_base.specs.declared.limits.TheConstants.{MAX_RINGS};
+ghost use Rattle.std.specs.Prelude.{◌≡◌, ◌≤◌, ◌<◌, ◌+◌, ℕ, [], slice_index, IfOk, IfSome, IfNone, false};
+ghost use Rattle.dude_base.specs.declared.limits.TheConstants.{MAX_RINGS, MAX_SPAN};
 ghost use Rattle.back_store.specs.BackView.{state_of};
 ghost use Rattle.stm_turns.specs.Bundles.{NextIsNotDrawn};
 ghost use Rattle.stm_turns.specs.InFront.{AreLeft, IsLeast, NoneToTake};
@@ -38,14 +38,15 @@ fn least(fronts: &Fronts, threads: u64) -> Option<u64>
     least
 }
 
-/// Nothing is taken any more from threads whose records stay in their boxes.
-fn leave(fronts: &mut Fronts, gathering: &Gathering, next: &Fronts)
-    ensures { AreLeft gathering.now.ahead next.now fronts.old fronts.new }
+/// Nothing is taken any more from threads whose records were in hand, and stay in their boxes.
+fn leave(fronts: &mut Fronts, gathering: &Gathering)
+    requires few { gathering.now.count ≤ MAX_SPAN + 1 }
+    requires threads { (i : ℕ) → i < gathering.now.count
+        → slice_index gathering.now.threads i < MAX_RINGS }
+    ensures { AreLeft gathering.now.threads gathering.now.count fronts.old fronts.new }
 {
-    for thread in 0..MAX_RINGS as usize {
-        if gathering.ahead[thread] != next[thread] {
-            fronts[thread] = LEFT;
-        }
+    for k in 0..gathering.count as usize {
+        fronts[gathering.threads[k] as usize] = LEFT;
     }
 }
 
@@ -74,7 +75,7 @@ fn persist_from<M: Medium>(
     look_behind(events, seat, home, &gathering, fronts, thread);
     gather(events, seat, home, &mut gathering, fronts);
     if !persist_bundle(events, seat, home, &gathering, durable)? {
-        leave(fronts, &gathering, &home.next);
+        leave(fronts, &gathering);
     }
     Ok(())
 }

@@ -1,5 +1,5 @@
-use Rattle.stm_turns.proofs.Fronts.{LeftBelow}
+use Rattle.stm_turns.specs.InFront.{AreLeft}
 use Rattle.stm_turns.proofs.settling.leave.Given as goal
 
-abbrev pub invariant-loop-thread : goal.invariant-loop-thread
-invariant-loop-thread l = record { left : LeftBelow l.gathering.ahead l.next l.fn.fronts l.fronts l.thread }
+abbrev pub invariant-loop-k : goal.invariant-loop-k
+invariant-loop-k l = record { left : AreLeft l.gathering.threads l.k l.fn.fronts l.fronts }

@@ -1,6 +1,8 @@
-use Rattle.std.proofs.Common.{◌∙◌, [], ap}
+use Rattle.std.proofs.Common.{◌∙◌, [], ap, arith}
 use Rattle.core_events.specs.Setups.{Setup}
+use Rattle.stm_slots.specs.Opening.{setup_of}
 use Rattle.stm_turns.proofs.Bundling.{with_of}
+use Rattle.stm_turns.proofs.Fronts.{hand_below}
 use Rattle.stm_turns.proofs.NextRecords.{looked_with}
 use Rattle.stm_turns.proofs.Seats.{advanced}
 use Rattle.stm_turns.proofs.Settled.{begun, begun_steps, bundle_steps}
@@ -42,3 +44,13 @@ returns-else-not-branch-clause-step g c =
     let t = c.args.events.now in let sight = g.M.Medium.sight in let a = c.see_front in let s = c.in-Some.ensures.step in let h = c.args.home.now in let q = c.begin-gathering.result in let b = c.look_behind in let x = c.gather in let y = c.persist_bundle in
     bundle_steps sight t c.args.durable.now y.new.durable c.args.seat.now a.new.seat b.new.seat x.new.seat y.new.seat h y.new.home q x.new.gathering
     (begun_steps sight t c.args.seat.now a.new.seat h c.args.thread c.boxes.result c.in-Some.redo q s (c.boxes.ensures ∙ ap (λ (v : Setup). v.boxes) s.turn.setup) c.begin-gathering.ensures) b.ensures.step x.ensures.step y.ensures.step
+
+pub leave-requires-clause-few : goal.leave-requires-clause-few
+leave-requires-clause-few g c = c.gather.ensures.step.gathered.few
+
+pub leave-requires-clause-threads : goal.leave-requires-clause-threads
+leave-requires-clause-threads g c = λ i low.
+    let gathered = c.gather.ensures.step.gathered in
+    let wide = c.requires.turn.holding.wide in
+    let below = hand_below (setup_of g.M.Medium.sight c.args.events.now.key) c.gather.new.gathering.threads c.gather.new.gathering.count 0 c.args.home.now.next c.gather.new.gathering.ahead c.gather.ensures.step.hand gathered.threads gathered.fronts i (omega arith) low in
+    omega (arith, below, wide)
