@@ -6,7 +6,7 @@
 
 It fails on a crate, a module, a public call or a public type without a sentence, a definition without a comment, a name in
 a clause or a definition that it can't find, a call or a clause of docs/PROMISES.md that isn't there, and a dead link, also of a
-document. It reads crates.txt, the documents, and of each crate src/, specs/ and the first lines of proofs/.
+document. It reads crates.txt, the documents, of the tour both pictures, and of each crate src/, specs/ and the first lines of proofs/.
 """
 import html
 import json
@@ -20,6 +20,8 @@ from contracts import FIELD, TOP, WORD, Book, Definition, bounds_of, cited_in, c
 
 OUT = f"{TOP}/out/book"
 
+# The heading below which the tour tells of the machine.
+MACHINE = "\n## A transaction's way, on threads\n"
 # Where each tower of the tour's picture stands on a wide page.
 PLACES = ["program program program threads", "runs runs runs threads", "images log home threads", "texts log home threads", "base base base base", "tests tests tests tests"]
 # The clause that the book begins with: its crate, its call, its name, and the definition that it cites.
@@ -79,7 +81,7 @@ search();
 
 
 def page(name, title, body):
-    top = '<nav><a href="index.html">Contract book</a><a href="headline.html">The headline</a><a href="promises.html">Promises</a><a href="safe.html">Safe and total</a><a href="words.html">All words</a></nav>'
+    top = '<nav><a href="index.html">Contract book</a><a href="headline.html">The headline</a><a href="promises.html">Promises</a><a href="machine.html">The machine</a><a href="safe.html">Safe and total</a><a href="words.html">All words</a></nav>'
     with open(f"{OUT}/{name}", "w", encoding="utf-8") as it:
         it.write(
             f'<!doctype html><html lang="en"><head><meta charset="utf-8"><meta name="viewport" content="width=device-width, initial-scale=1">'
@@ -261,6 +263,22 @@ def write_promises(book):
     page("promises.html", "Promises", f"{body}<table><tr><th>Promise</th><th>Public call</th><th>Clause</th></tr>{rows}</table>")
 
 
+def write_machine(book):
+    """What the tour says of the machine of running transactions with its medium, and its picture."""
+    with open(f"{TOP}/docs/TOUR.md", encoding="utf-8") as it:
+        told = it.read().partition(MACHINE)[2].partition("\n|")[0].strip("\n")
+    if not told:
+        book.miss(f"docs/TOUR.md: no {MACHINE.strip()}")
+    body = ""
+    for part in re.split(r"\n\n+(?=\S)|(?<=\S)\n\n+(?= )", told):
+        if part.startswith("    "):
+            body += f"<pre>{html.escape(textwrap.dedent(part))}</pre>"
+        else:
+            body += "<p>" + re.sub(r"[*](\w+(?: \w+)*)[*]", r"<em>\1</em>", prose(" ".join(part.split()))) + "</p>"
+    links = [("core_step", "dude_core"), ("law_of_machines", "core_medium"), ("law_of_crashes", "core_medium"), ("law_of_marks", "core_medium")]
+    page("machine.html", "The machine", body + names_of([(name, f"{crate}.html#{name}") for name, crate in links]))
+
+
 def write_safety(book):
     """What each public call may take: memory, through which of its arguments, and handles."""
     fields, keeping = keepers_among(book.sources)
@@ -324,6 +342,7 @@ def write(book):
         write_crate(book, crate)
     write_headline(book)
     write_promises(book)
+    write_machine(book)
     write_safety(book)
     front = (
         "<p>Each public call, with what it asks and what it gives; each definition that a clause cites, with its sentence and its text, down to the bottom. "

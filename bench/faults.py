@@ -31,6 +31,7 @@ import recover
 HERE = os.path.dirname(os.path.abspath(__file__))
 # The sizes of a small image and of one with more pages than the fewest frames that a run may have, and their words at most.
 SMALL, SMALL_WORDS = ("8", "96", "2", "16"), 1232
+INDEXED_WORDS = 1360
 WIDE, WIDE_WORDS = ("40", "480", "4", "16"), 8192
 REQUESTS = 12
 
@@ -78,11 +79,11 @@ class Table:
             told.writelines(line for line in errors if line.startswith("durable ") and line.endswith("\n"))
         return status
 
-    def made(self, image, sizes, words, *commands):
-        """Makes an image of so many words, and carries some commands out, which end well."""
+    def made(self, image, sizes, words, *commands, form="format"):
+        """Makes an image of so many words by the command `form`, and carries some commands out, which end well."""
         with open(image, "wb") as file:
             file.truncate(8 * words)
-        for command in [("format", *sizes), *commands]:
+        for command in [(form, *sizes), *commands]:
             if self.call(image, command):
                 raise Wrong(f"{' '.join(command)} didn't end well")
 
@@ -236,6 +237,8 @@ def cases(table):
     table.made("opening", SMALL, SMALL_WORDS)
     table.made("filled", SMALL, SMALL_WORDS, ("run", "one.csv", "two.csv"))
     table.made("wide", WIDE, WIDE_WORDS)
+    table.made("indexed", SMALL, INDEXED_WORDS, form="xformat")
+    table.made("moved", SMALL, INDEXED_WORDS, ("run", "one.csv", "two.csv"), form="xformat")
     shutil.copy("opening", "first_version")
     with_version_1("first_version")
     # Records that wait: a run whose last write of the image fails.
@@ -250,7 +253,7 @@ def cases(table):
     table.call("audited", ("run", "one.csv"))
     shutil.copy("output", "printed.txt")
     shutil.copy("opening", "step")
-    table.dumps = {name: table.dump(name) for name in ("opening", "filled", "first_version", "waiting")}
+    table.dumps = {name: table.dump(name) for name in ("opening", "filled", "first_version", "waiting", "moved")}
     with open("led.csv") as file:
         for number, line in enumerate([line for line in file if line != "SYNC\n"], 1):
             with open("step.csv", "w") as step:
@@ -261,20 +264,24 @@ def cases(table):
     return [
         Case("format", "filled", ("format", *SMALL)),
         Case("format of a new file", None, ("format", *SMALL)),
+        Case("xformat", "moved", ("xformat", *SMALL)),
         Case("fresh", None, ("fresh", "8", "one.csv")),
         Case("recover", "filled", ("recover",), same),
         Case("recover of records that wait", "waiting", ("recover",), same),
         Case("recover of version 1", "first_version", ("recover",), same),
         Case("dump", "waiting", ("dump",), same),
+        Case("locate", "moved", ("locate", "1", "4294967295", "8"), same),
         Case("audit", "opening", ("audit", "printed.txt", "one.csv"), same),
         Case("run of one file", "opening", ("run", "one.csv")),
         Case("run of two files", "waiting", ("run", "one.csv", "two.csv")),
+        Case("run with an index", "indexed", ("run", "one.csv", "two.csv")),
         Case("run with few frames", "wide", ("run", "--frames", "32", "one.csv", "two.csv"), ("run", "one.csv", "two.csv")),
         Case("run on version 1", "first_version", ("run", "one.csv", "two.csv")),
         Case("stream of one file", "opening", ("stream", "one.csv"), ("run", "one.csv")),
         Case("stream of two files", "waiting", ("stream", "one.csv", "two.csv"), ("run", "one.csv", "two.csv")),
         Case("stream with few frames", "wide", ("stream", "--frames", "32", "one.csv", "two.csv"), ("run", "one.csv", "two.csv")),
         Case("drive", "opening", ("drive", "7", "20", "2")),
+        Case("drive with an index", "indexed", ("drive", "7", "20", "2")),
         Case("ship", "opening", ("ship", "one.csv"), ("run", "one.csv")),
         Case("follow", "opening", ("follow", "packets.bin"), ("leader",)),
     ]
