@@ -67,8 +67,10 @@ holds 'a full output is told' [ "$(tail -n 1 err)" = output ]
 "$program" new.img recover > out 2> /dev/full
 holds 'a full standard error ends with 6' [ $? = 6 ]
 holds 'nothing is printed then' [ ! -s out ]
-"$program" new.img recover 2> err | true
-holds 'a closed pipe ends with 7' [ "${PIPESTATUS[0]}" = 7 ]
+exec 8> >(:)
+wait $!
+"$program" new.img recover >&8 2> err
+holds 'a closed pipe ends with 7' [ $? = 7 ]
 "$program" new.img recover > out 2>&-
 holds 'a closed standard error ends with 6' [ $? = 6 ]
 try 0 'last 1' 'durable 1' new.img recover
@@ -102,8 +104,9 @@ try 5 '' 'frames 14, pages 15' streamed.img stream --frames 14 good.csv
 "$program" streamed.img stream good.csv > /dev/full 2> err
 holds 'a stream into a full output ends with 7' [ $? = 7 ]
 holds 'what a stream into a full output did is durable' [ "$(head -n -1 err | tail -n 1)" = 'durable 3' ]
-"$program" streamed.img stream good.csv 2> err | true
-holds 'a stream into a closed pipe ends with 7' [ "${PIPESTATUS[0]}" = 7 ]
+"$program" streamed.img stream good.csv >&8 2> err
+holds 'a stream into a closed pipe ends with 7' [ $? = 7 ]
+exec 8>&-
 try 0 'last 4' 'durable 4' streamed.img recover
 "$program" streamed.img stream good.csv good.csv > out 2> err < /dev/null
 holds 'a stream of a file twice ends with 0' [ $? = 0 ]
@@ -153,15 +156,21 @@ exec 9>&-
 holds 'a locked image stays' cmp -s new.img before.img
 
 # A second process on an image that is driven: each command ends at once, and the image has what the first process told.
+# The first process stands still meanwhile, so that it can't end before them; that it goes on is seen by what it tells then.
 "$program" kept.img format 1000 12000 8 256 > out 2> err < /dev/null
 "$program" kept.img drive 1 99999 8 > drive.out 2> drive.err < /dev/null & driver=$!
 for _ in $(seq 1000); do grep -q durable drive.err && break; sleep 0.01; done
+kill -STOP "$driver"
 for words in dump recover 'run good.csv' 'drive 1 5 2' 'format 8 96 2 16'; do
   begun=$(date +%s%N)
   try 6 '' 'device' kept.img $words
   holds "beside a drive, $words ends within a second" [ $(($(date +%s%N) - begun)) -lt 1000000000 ]
 done
-holds 'the drive goes on beside the others' kill -9 "$driver"
+count=$(wc -l < drive.err)
+kill -CONT "$driver"
+for _ in $(seq 1000); do [ "$(wc -l < drive.err)" -gt "$count" ] && break; sleep 0.01; done
+holds 'the drive goes on beside the others' [ "$(wc -l < drive.err)" -gt "$count" ]
+kill -9 "$driver" 2> /dev/null
 wait "$driver" 2> /dev/null
 told=$(sed -n 's/^durable //p' drive.err | tail -n 1)
 "$program" kept.img recover > out 2> err < /dev/null
