@@ -20,7 +20,7 @@ export GLIBC_TUNABLES=glibc.malloc.hugetlb=1
 "$program" indexed.img xformat "$subscribers" 120000 4 256 > /dev/null 2>&1
 for file in 1 2; do
   awk -v file="$file" -v count="$count" -v subscribers="$subscribers" 'BEGIN {
-    for (i = 0; i < count; i++) printf "UPDATE_LOCATION,%015d,%d\n", 1 + (2 * (i * 7919 % (subscribers / 2)) + file - 1), i * 104729 % 4294967296
+    for (i = 0; i < count; i++) printf "UPDATE_LOCATION,%015d,%.0f\n", 1 + (2 * (i * 7919 % (subscribers / 2)) + file - 1), i * 104729 % 4294967296
   }' > "$file.csv"
 done
 
