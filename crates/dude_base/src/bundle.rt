@@ -1,6 +1,7 @@
 //! What the log has for consecutive numbers.
 
-ghost use Rattle.std.specs.Prelude.{◌≡◌, ◌<◌, ◌≤◌, ◌↔◌, All, IsTrue, length, slice_get, OnOk, OnErr, IfErr};
+ghost use Rattle.std.specs.Prelude.{◌≡◌, ◌<◌, ◌≤◌, ◌↔◌, All, IsTrue, length, slice_get, OnOk, OnErr, IfErr, IfSome, IfNone};
+ghost use Rattle.dude_base.specs.declared.limits.TheConstants.{MAX_BUNDLE_WRITES as MOST_WRITES};
 ghost use Rattle.dude_base.specs.Joins.{CanJoin, LawOfJoining, Refuses, places_of};
 ghost use Rattle.dude_base.specs.Records.{IsBundle, bundle_of, first_of, with_next};
 ghost use Rattle.dude_base.specs.Writes.{overwritten};
@@ -151,12 +152,29 @@ impl Bundle {
         if self.span >= MAX_SPAN {
             return Err(NoJoin::Long { span: self.span });
         }
-        let places = self.places_with(r);
-        if places > MAX_BUNDLE_WRITES {
+        if let Some(places) = self.too_many_places(r) {
             return Err(NoJoin::Broad { places });
         }
         self.take(r);
         Ok(())
+    }
+
+    // How many words the two write together, where these are too many for a bundle. They are compared only where the two lists
+    // might be too long.
+    fn too_many_places(&self, r: &Redo) -> Option<u64>
+        ensures some { IfSome result (λ places.
+            (places ≡ places_of self.now r.now) × (MOST_WRITES < places)) }
+        ensures none { IfNone result (places_of self.now r.now ≤ MOST_WRITES) }
+    {
+        if self.len() + r.len() <= MAX_BUNDLE_WRITES {
+            return None;
+        }
+        let places = self.places_with(r);
+        if places > MAX_BUNDLE_WRITES {
+            Some(places)
+        } else {
+            None
+        }
     }
 
     // Takes a record that fits.

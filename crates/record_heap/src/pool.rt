@@ -20,6 +20,9 @@ pub struct Pool {
     pub count: u64,
 }
 
+/// The words of a record of most pools. They are a case of their own, since by a constant nothing is divided.
+const ROW_WORDS: u64 = 4;
+
 /// The words of a pool's header: the link of the first free record, and how many are taken.
 #[derive(Clone, Copy)]
 struct Header {
@@ -37,6 +40,9 @@ impl Pool {
             return false;
         }
         let offset = at - self.first;
+        if self.size == ROW_WORDS {
+            return offset % ROW_WORDS == 0 && offset / ROW_WORDS < self.count;
+        }
         offset % self.size == 0 && offset / self.size < self.count
     }
 
