@@ -1,4 +1,5 @@
 pub mod Apart
+pub mod Bits
 pub mod Dropped
 pub mod EmptyTree
 pub mod Fits

@@ -17,10 +17,5 @@ pub fn highest_difference(a: u64, b: u64) -> u64
     ensures above { a / 2 ^ (result + 1) ≡ b / 2 ^ (result + 1) }
     ensures here { a / 2 ^ result ≢ b / 2 ^ result }
 {
-    for bit in 0..64 {
-        if a >> bit >> 1 == b >> bit >> 1 {
-            return bit;
-        }
-    }
-    63
+    63 - u64::from((a ^ b).leading_zeros())
 }

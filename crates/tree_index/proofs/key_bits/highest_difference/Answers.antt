@@ -1,9 +1,11 @@
-use Rattle.std.proofs.Common.{sym, ◌∙◌}
-use Rattle.tree_index.proofs.Numbers.{half}
+use Rattle.tree_index.proofs.Bits.{highest}
 use Rattle.tree_index.proofs.key_bits.highest_difference.Goals as goal
 
-pub returns-then-a-bit-clause-above : goal.returns-then-a-bit-clause-above
-returns-then-a-bit-clause-above c = half c.loop-bit.bit c.args.a ∙ c.if-a-bit.true ∙ sym (half c.loop-bit.bit c.args.b)
+pub overflow_sub-result : goal.overflow_sub-result
+overflow_sub-result c = (highest c.args.a c.args.b c.from.result c.ranges.a.fits c.ranges.b.fits c.requires.differ c.from.ensures).few
 
-pub loop-bit-preserved : goal.loop-bit-preserved
-loop-bit-preserved c = λ same. c.if-a-bit.false (sym (half c.loop-bit.bit c.args.a) ∙ same ∙ half c.loop-bit.bit c.args.b)
+pub returns-clause-above : goal.returns-clause-above
+returns-clause-above c = (highest c.args.a c.args.b c.from.result c.ranges.a.fits c.ranges.b.fits c.requires.differ c.from.ensures).above
+
+pub returns-clause-here : goal.returns-clause-here
+returns-clause-here c = (highest c.args.a c.args.b c.from.result c.ranges.a.fits c.ranges.b.fits c.requires.differ c.from.ensures).here
