@@ -1,6 +1,6 @@
 //! A transaction as words.
 
-ghost use Rattle.std.specs.Prelude.{◌≡◌, ◌<◌, ◌≤◌, ◌+◌, MatchBool};
+ghost use Rattle.std.specs.Prelude.{◌≡◌, ◌<◌, ◌≤◌, ◌+◌, IsTrue, MatchBool, vec_len, vec_capacity};
 ghost use Rattle.pmem_trait.specs.Faults.{up_to_last};
 ghost use Rattle.dude_base.specs.Writes.{put_write, IsWide};
 
@@ -16,6 +16,15 @@ use dude_base::write::Write;
 use dude_base::write_list::WriteList;
 use word_space::stop::Stop;
 use word_space::words::Words;
+
+// Makes room for one read more, where there is none.
+fn make_room(reads: &mut Vec<(u64, u64)>) -> bool
+    ensures items { reads.new.items ≡ reads.old.items }
+    ensures len { vec_len reads.new ≡ vec_len reads.old }
+    ensures room { IsTrue result → vec_len reads.new < vec_capacity reads.new }
+{
+    reads.len() < reads.capacity() || reads.reserve(1).is_ok()
+}
 
 // Whether a write of the word `at` would be of a word too many.
 fn is_wide(writes: &WriteList, at: u64) -> bool
@@ -74,7 +83,7 @@ impl<'a, S, X, K, P: TransactionRule<S, X, K>> Words for TxOver<'a, S, X, K, P, 
         if let Some(value) = self.writes.find(at) {
             return Ok(value);
         }
-        if self.lists.items.reserve(1).is_err() {
+        if !make_room(&mut self.lists.items) {
             self.stopped = Some(Stop::NoMemory);
             return Err(Stop::NoMemory);
         }

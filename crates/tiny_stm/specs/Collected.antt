@@ -73,10 +73,12 @@ pub record HasPlace (table : List ℕ) (entries cells i : ℕ) : Type 0 where
 abbrev pub HasPlaces : List ℕ → ℕ → ℕ → ℕ → Type 0
 HasPlaces table entries cells count = (i : ℕ) → i < count → HasPlace table entries cells i
 
--- the word is the one in the frame, where the page of the home word i is in one; else it is as it was
-pub record IsLastWord (table : List ℕ) (entries cells i was word : ℕ) : Type 0 where
-  pub shown : 0 < entry_at table entries i → word ≡ slice_index table (shown_at table entries cells i)
-  pub absent : entry_at table entries i ≡ 0 → word ≡ was
+-- so many words from `first` on are those of a table from `cells` on, and all others are as they were
+pub record IsPageCopied (table : List ℕ) (cells first count : ℕ) (old new : List ℕ) : Type 0 where
+  pub size : length new ≡ length old
+  pub copied : (k : ℕ) → k < count → slice_index new (first + k) ≡ slice_index table (cells + k)
+  pub before : (i : ℕ) → i < first → slice_index new i ≡ slice_index old i
+  pub behind : (i : ℕ) → first + count ≤ i → slice_index new i ≡ slice_index old i
 
 -- the first so many words of pages in frames are copied, and all others are as they were
 pub record AreCopied (table : List ℕ) (entries cells : ℕ) (old : List ℕ) (upto : ℕ) (new : List ℕ) : Type 0 where

@@ -1,12 +1,13 @@
 //! The last pass ends the transactions.
 
-ghost use Rattle.std.specs.Prelude.{◌≡◌, ◌*◌, ◌<◌, ◌≤◌, [], length};
+ghost use Rattle.std.specs.Prelude.{◌≡◌, ◌+◌, ◌*◌, ◌%◌, ◌<◌, ◌≤◌, [], length};
+ghost use Rattle.dude_base.specs.declared.limits.TheConstants.{PAGE as PAGE_WORDS};
 ghost use Rattle.std.specs.Mem.Slots.{IsFull, slots_filled, slots_items, slots_len};
 ghost use Rattle.std.specs.Vec.{vec_capacity, vec_len};
 ghost use Rattle.tiny_stm.specs.FirstSlots.{IsHomeSlot};
 ghost use Rattle.std.specs.List.Sorted.{IsNonDecreasingBy, IsPermutation};
 ghost use Rattle.tiny_stm.specs.Posts.{number_of};
-ghost use Rattle.tiny_stm.specs.Collected.{AreCollected, AreCopied, AreOnce, HasPlace, HasPlaces, IsLastWord, with_slot};
+ghost use Rattle.tiny_stm.specs.Collected.{AreCollected, AreCopied, AreOnce, HasPlaces, IsPageCopied, with_slot};
 
 use crate::closed::Closed;
 use crate::home_words::words_of;
@@ -115,32 +116,36 @@ fn copy_shown<M: Medium>(
 )
     requires full { IsFull table.now.words }
     requires places { HasPlaces (slots_items table.now.words) entries cells (length words.old) }
+    requires whole { length words.old % PAGE_WORDS ≡ 0 }
     ensures { AreCopied (slots_items table.now.words) entries cells words.old (length words.old)
         words.new }
 {
-    for at in 0..words.len() {
-        words[at] = last_word(table, entries, cells, at, words[at]);
+    for page in 0..words.len() / PAGE as usize {
+        let entry = table.word(entries + page);
+        if entry != 0 {
+            let frame = (entry / ENTRY).saturating_sub(1) as usize;
+            copy_page(table, cells + frame * PAGE as usize, page, words);
+        }
     }
 }
 
-/// The word in the frame, where the page of this home word is in one; else the one that it was.
-fn last_word<M: Medium>(
+/// Copies the words of a page from the frame that begins at this place.
+fn copy_page<M: Medium>(
     table: &EndedTable<Slot<M>, Global>,
-    entries: usize,
     cells: usize,
-    at: usize,
-    was: u64,
-) -> u64
+    page: usize,
+    words: &mut [u64],
+)
     requires full { IsFull table.now.words }
-    requires place { HasPlace (slots_items table.now.words) entries cells at }
-    ensures { IsLastWord (slots_items table.now.words) entries cells at was result }
+    requires frame { cells + PAGE_WORDS ≤ length (slots_items table.now.words) }
+    requires page { page * PAGE_WORDS + PAGE_WORDS ≤ length words.old }
+    ensures { IsPageCopied (slots_items table.now.words) cells (page * PAGE_WORDS) PAGE_WORDS
+        words.old words.new }
 {
-    let entry = table.word(entries + at / PAGE as usize);
-    if entry == 0 {
-        return was;
+    let first = page * PAGE as usize;
+    for k in 0..PAGE as usize {
+        words[first + k] = table.word(cells + k);
     }
-    let frame = (entry / ENTRY).saturating_sub(1) as usize;
-    table.word(cells + (frame * PAGE as usize + at % PAGE as usize))
 }
 
 /// Sorts by number.
