@@ -2,7 +2,6 @@
 use Rattle.std.proofs.Common.{◌≡◌, ℕ, zero, suc, ◌+◌, ◌<◌, ◌≤◌, Bool, true, false, List, [], ◌∷◌, ◌++◌, length, take, drop, map, refl, ap, ap₂, sym, ◌∙◌, subst, arith, ⊎_elim, append_assoc}
 use Rattle.std.specs.Prelude.{not, IsTrue, Any, slice_index, ⊤}
 use Rattle.std.specs.List.{All, AllPairs, AllZip, Contains, enumerate_from, filter, flat_map, range_with_len, sum_by}
-use Rattle.std.specs.Vec.{vec_capacity}
 use Rattle.std.proofs.lemmas.List.{append-nil, length-map, length-take-le, length_push, map-append, get_or_at, take-append-drop, take_all}
 use Rattle.std.proofs.lemmas.List.Concat.{length-flat_map}
 use Rattle.std.proofs.lemmas.List.Elements.{All-nil, All-cons, All-head, All-tail, All-append, All-contains, All-weaker, filter-append}
@@ -31,7 +30,7 @@ use Rattle.run_workers.specs.declared.work_end.WorkEnd.TheVariants.{Whole, SetAs
 use Rattle.run_workers.specs.WorkEnd.{rank}
 use Rattle.run_workers.specs.Working.{IsSynced}
 use Rattle.run_workers.specs.Job.{HasWorked, requests_of}
-use Rattle.run_workers.specs.Jobs.{HasRoom, HaveWorked, MayJoin, request_count}
+use Rattle.run_workers.specs.Jobs.{FirstHasRoom, HasRoom, HaveWorked, MayJoin, request_count}
 use Rattle.run_workers.specs.Joined.{AreCounted, AreJoined, AreServed, LawOfJobs, parts_by}
 
 -- ---- ends
@@ -324,19 +323,22 @@ module _ {X K : Type 0} (t : TableSight K) (s : Sizes) where
 pub law_jobs : {X K : Type 0} (t : TableSight K) (s : Sizes) (files : List (List Request)) (jobs : List (Job X)) (joined : Joined X) → LawOfJobs t s files jobs joined
 law_jobs t s files jobs joined worked a = served t s files jobs joined worked a
 
+-- the room of the first one is enough for less
+first_fits : {X : Type 0} (count more : ℕ) (jobs : List (Job X)) → count ≤ more → FirstHasRoom more jobs → FirstHasRoom count jobs
+first_fits count more [] le h = tt
+first_fits count more (j ∷ js) le h = omega (arith, le, h)
+
 -- jobs that have worked may be joined, where there is room for what may be done
-pub may_join : {X K : Type 0} (t : TableSight K) (s : Sizes) (files : List (List Request)) (jobs old : Jobs X) → 0 < length files → HaveWorked t s files jobs.each.items → HasRoom files old
-    → jobs.done ≡ old.done → jobs.counts ≡ old.counts → MayJoin t jobs
-may_join t s files jobs old some worked room done counts =
+pub may_join : {X K : Type 0} (t : TableSight K) (s : Sizes) (files : List (List Request)) (jobs : Jobs X) → 0 < length files → HaveWorked t s files jobs.each.items → HasRoom files jobs → MayJoin t jobs
+may_join t s files jobs some worked room =
     let js = jobs.each.items in
     let few = few_all t s 0 files js (of_files t s [] files js worked.each worked.in_order) in
     let long = length-map js (λ j. j.file) in
     let count = ap length worked.in_order ∙ length-range_with_len 0 (length files) in
-    let had = room.done.1 in
     let counted = room.counts.1 in
     record {
       some = omega arith;
       rests = λ k d within. (worked.each k d within).has_done.rests;
-      done = (ap (λ v. v.items) done ∙ room.done.0, subst (λ v. sum_by (λ j. length j.done.items) js ≤ vec_capacity v) (sym done) (omega arith));
-      counts = (ap (λ v. v.items) counts ∙ room.counts.0, subst (λ v. length js ≤ vec_capacity v) (sym counts) (omega arith));
+      done = first_fits (sum_by (λ j. length j.done.items) js) (request_count files) js few room.done;
+      counts = (room.counts.0, omega arith);
     }

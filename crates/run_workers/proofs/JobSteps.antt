@@ -7,9 +7,12 @@ use Rattle.tatp_model.specs.declared.request.Request.{Request}
 use Rattle.tatp_model.specs.declared.done.Done.{Done}
 use Rattle.core_table.specs.Layout.{TableSight}
 use Rattle.request_attempts.specs.Tries.{IsServing}
+use Rattle.request_attempts.specs.Turns.{HasFailed}
 use Rattle.run_workers.specs.declared.job.Job.{Job}
+use Rattle.run_workers.specs.declared.work_end.WorkEnd.{WorkEnd}
+use Rattle.run_workers.specs.declared.work_end.WorkEnd.TheVariants.{Device}
 use Rattle.run_workers.specs.Job.{KeepsPlace}
-use Rattle.run_workers.specs.Steps.{HasTurned, IsAt}
+use Rattle.run_workers.specs.Steps.{EndsAt, HasTurned, IsAt}
 use Rattle.run_workers.specs.Working.{HasDone}
 use Rattle.run_workers.proofs.NextDone.{done_more, done_still}
 
@@ -43,7 +46,17 @@ module _ {X K : Type 0} (t : TableSight K) (s : Sizes) (requests : List Request)
 
   -- and the place is kept
   pub place_turned : (first : Job X) → KeepsPlace first old → new ≡ record old { pass = new.pass } → HasTurned t old.pass new.pass → KeepsPlace first new
-  place_turned first k is h = subst (λ (j : Job X). KeepsPlace first j) (sym is) (record { file = k.file; part = h.keeps.part ∙ k.part })
+  place_turned first k is h = subst (λ (j : Job X). KeepsPlace first j) (sym is) (record { file = k.file; part = h.keeps.part ∙ k.part; room = k.room })
+
+  -- a turn met a fault
+  pub failed_at : (end : WorkEnd) → end ≡ Device → new ≡ record old { pass = new.pass } → HasFailed t old.pass new.pass → EndsAt t s requests end new
+  failed_at end ends is h = subst (λ (j : Job X). EndsAt t s requests end j) (sym is) (record {
+    has_done = done_still t s old.file requests old.done.items old.pass at.has_done new.pass h.keeps.rests h.keeps.entries h.keeps.durable;
+    whole = λ e. absurd (let no : ⊥ = cc in no);
+    set_aside = λ e. absurd (let no : ⊥ = cc in no);
+    no_memory = λ e. absurd (let no : ⊥ = cc in no);
+    device = (λ _. h.fault, λ _. ends);
+  })
 
   -- replies were sent
   pub at_sent : new ≡ record old { outbox = new.outbox } → IsAt t s requests index new
@@ -51,4 +64,4 @@ module _ {X K : Type 0} (t : TableSight K) (s : Sizes) (requests : List Request)
 
 -- the place is kept by a request and by what is sent
 pub place_sent : {X : Type 0} (first job one two : Job X) → KeepsPlace first job → KeepsPlace job one → two ≡ record one { outbox = two.outbox } → KeepsPlace first two
-place_sent {X} first job one two a b is = subst (λ (j : Job X). KeepsPlace first j) (sym is) (record { file = b.file ∙ a.file; part = b.part ∙ a.part })
+place_sent {X} first job one two a b is = subst (λ (j : Job X). KeepsPlace first j) (sym is) (record { file = b.file ∙ a.file; part = b.part ∙ a.part; room = b.room ∙ a.room })

@@ -1,44 +1,52 @@
 -- What jobs did is put together, one job after another.
-use Rattle.std.proofs.Common.{◌≡◌, ℕ, ◌+◌, ◌<◌, ◌≤◌, ◌⊎◌, List, [], ◌∷◌, ◌++◌, length, get_or, take, map, refl, ap, sym, ◌∙◌, subst, arith, inl, inr, ⊎_elim}
+use Rattle.std.proofs.Common.{◌≡◌, ℕ, ◌+◌, ◌≤◌, ◌⊎◌, List, [], ◌∷◌, ◌++◌, length, map, refl, ap, sym, ◌∙◌, subst, arith, inl, inr, ⊎_elim}
 use Rattle.std.specs.List.{Contains, flat_map, sum_by}
-use Rattle.std.proofs.lemmas.List.{append-nil, map_push, take_more}
-use Rattle.std.proofs.lemmas.List.Concat.{flat_map-append, length-flat_map}
-use Rattle.std.proofs.lemmas.List.Elements.{All-nil, All-push, All-weaker, Contains-append_left, Contains-push}
-use Rattle.std.proofs.lemmas.List.Sums.{sum_by_more_le}
+use Rattle.std.proofs.lemmas.List.{map_push}
+use Rattle.std.proofs.lemmas.List.Concat.{length-flat_map}
+use Rattle.std.proofs.lemmas.List.Elements.{All-nil, All-cons, All-push, All-weaker, Contains-append_left, Contains-push}
+use Rattle.std.proofs.lemmas.List.Sums.{sum_by-append, sum_by-cons}
 use Rattle.tatp_model.specs.declared.done.Done.{Done}
+use Rattle.core_table.specs.Layout.{TableSight}
+use Rattle.stm_transactions.specs.Partings.{IsJoined}
+use Rattle.stm_transactions.specs.Passes.{IsResting}
 use Rattle.run_workers.specs.declared.job.Job.{Job}
+use Rattle.run_workers.specs.declared.joined.Joined.{Joined}
 use Rattle.run_workers.specs.declared.work_end.WorkEnd.{WorkEnd}
-use Rattle.run_workers.specs.declared.work_end.WorkEnd.TheVariants.{Whole}
+use Rattle.run_workers.specs.Joined.{TakesIn}
 use Rattle.run_workers.specs.WorkEnd.{IsWorst, rank}
+use Rattle.run_workers.proofs.PassesJoined.{flat_map_push, took_push}
 
--- without an end it is `Whole`
-pub worst_none : IsWorst [] Whole
-worst_none = record { among = inl refl; others = All-nil (λ e. rank e ≤ 0) }
+-- the one end there is
+pub worst_one : (e : WorkEnd) → IsWorst (e ∷ []) e
+worst_one e = record { among = inr (0, (omega arith), refl); others = All-cons (λ x. rank x ≤ rank e) e [] (omega arith) (All-nil (λ x. rank x ≤ rank e)) }
 
-module _ {X : Type 0} (js : List (Job X)) (i : ℕ) (j : Job X) (there : i < length js) (is : j ≡ get_or js i j) where
-  next : take (i + 1) js ≡ take i js ++ j ∷ []
-  next = take_more js i j there ∙ ap (λ (x : Job X). take i js ++ x ∷ []) (sym is)
+-- one more end
+worst_push : (ends : List WorkEnd) (e other r : WorkEnd) → IsWorst ends e → (r ≡ e) ⊎ (r ≡ other) → rank e ≤ rank r → rank other ≤ rank r → IsWorst (ends ++ other ∷ []) r
+worst_push ends e other r h either first second = record {
+  among = ⊎_elim
+      (λ same. ⊎_elim (λ whole. inl (same ∙ whole)) (λ c. inr (Contains-append_left ends (other ∷ []) r (subst (Contains ends) (sym same) c))) h.among)
+      (λ its. inr (subst (Contains (ends ++ other ∷ [])) (sym its) (Contains-push ends other)))
+      either;
+  others = All-push (λ x. rank x ≤ rank r) ends other (All-weaker (λ x. rank x ≤ rank e) (λ x. rank x ≤ rank r) (λ x u. omega arith) ends h.others) second;
+}
 
-  pub done_further : flat_map (λ (x : Job X). x.done.items) (take (i + 1) js) ≡ flat_map (λ (x : Job X). x.done.items) (take i js) ++ j.done.items
-  done_further = ap (flat_map (λ (x : Job X). x.done.items)) next ∙ flat_map-append (λ (x : Job X). x.done.items) (take i js) (j ∷ []) ∙ ap (λ (l : List Done). flat_map (λ (x : Job X). x.done.items) (take i js) ++ l) (append-nil j.done.items)
+module _ {X : Type 0} where
+  abbrev done_of : Job X → List Done
+  done_of job = job.done.items
 
-  pub counts_further : map (λ (x : Job X). length x.done.items) (take (i + 1) js) ≡ map (λ (x : Job X). length x.done.items) (take i js) ++ length j.done.items ∷ []
-  counts_further = ap (map (λ (x : Job X). length x.done.items)) next ∙ map_push (λ (x : Job X). length x.done.items) (take i js) j
+  abbrev count_of : Job X → ℕ
+  count_of job = length job.done.items
 
-  pub room_further : length (flat_map (λ (x : Job X). x.done.items) (take i js)) + length j.done.items ≤ sum_by (λ (x : Job X). length x.done.items) js
-  room_further =
-      let l = length-flat_map (λ (x : Job X). x.done.items) (take i js) in
-      let m = sum_by_more_le (λ (x : Job X). length x.done.items) js i j there in
-      let n = ap (λ (x : Job X). length x.done.items) is in omega arith
+  -- one more job was taken in
+  pub taken_in : {K : Type 0} (t : TableSight K) (job : Job X) (old new : Joined X) → IsResting t job.pass → IsJoined t old.pass job.pass new.pass → new.done.items ≡ old.done.items ++ job.done.items
+      → new.counts.items ≡ old.counts.items ++ length job.done.items ∷ [] → (new.end ≡ old.end) ⊎ (new.end ≡ job.end) → rank old.end ≤ rank new.end → rank job.end ≤ rank new.end → TakesIn t job old new
+  taken_in t job old new rests pass done counts either first second js h = record {
+    pass = took_push t js job old.pass new.pass h.pass rests pass;
+    done = done ∙ ap (λ (l : List Done). l ++ job.done.items) h.done ∙ sym (flat_map_push done_of js job);
+    counts = counts ∙ ap (λ (l : List ℕ). l ++ length job.done.items ∷ []) h.counts ∙ sym (map_push count_of js job);
+    end = subst (λ (l : List WorkEnd). IsWorst l new.end) (sym (map_push (λ (x : Job X). x.end) js job)) (worst_push (map (λ (x : Job X). x.end) js) old.end job.end new.end h.end either first second);
+  }
 
-  pub end_further : (e r : WorkEnd) → IsWorst (map (λ (x : Job X). x.end) (take i js)) e → (r ≡ e) ⊎ (r ≡ j.end) → rank e ≤ rank r → rank j.end ≤ rank r → IsWorst (map (λ (x : Job X). x.end) (take (i + 1) js)) r
-  end_further e r h either first second =
-      let ends = map (λ (x : Job X). x.end) (take i js) in
-      let more : map (λ (x : Job X). x.end) (take (i + 1) js) ≡ ends ++ j.end ∷ [] = ap (map (λ (x : Job X). x.end)) next ∙ map_push (λ (x : Job X). x.end) (take i js) j in
-      subst (λ (l : List WorkEnd). IsWorst l r) (sym more) (record {
-        among = ⊎_elim
-            (λ same. ⊎_elim (λ whole. inl (same ∙ whole)) (λ c. inr (Contains-append_left ends (j.end ∷ []) r (subst (Contains ends) (sym same) c))) h.among)
-            (λ its. inr (subst (Contains (ends ++ j.end ∷ [])) (sym its) (Contains-push ends j.end)))
-            either;
-        others = All-push (λ x. rank x ≤ rank r) ends j.end (All-weaker (λ x. rank x ≤ rank e) (λ x. rank x ≤ rank r) (λ x u. omega arith) ends h.others) second;
-      })
+  -- there is room for what the next one did
+  pub done_fits : (js rest all : List (Job X)) (job : Job X) → js ++ job ∷ rest ≡ all → length (flat_map done_of js) + length job.done.items ≤ sum_by count_of all
+  done_fits js rest all job whole = omega (arith, length-flat_map done_of js, ap (sum_by count_of) whole, sum_by-append count_of js (job ∷ rest), sum_by-cons count_of job rest)

@@ -12,7 +12,13 @@ use Rattle.core_table.specs.Layout.{TableSight}
 use Rattle.stm_transactions.specs.Passes.{pass_view}
 use Rattle.run_workers.specs.declared.job.Job.{Job}
 use Rattle.run_workers.specs.Job.{HasWorkedOn, IsJobOf, KeepPlaces, thread_count}
-use Rattle.run_workers.specs.Jobs.{AreFresh, HaveWorked}
+use Rattle.run_workers.specs.Jobs.{AreFresh, FirstHasRoom, HaveWorked}
+
+-- the first one's list has the room that it had
+pub first_kept : {X : Type 0} (count : ℕ) (old new : List (Job X)) → length new ≡ length old → KeepPlaces old new → FirstHasRoom count old → FirstHasRoom count new
+first_kept count old [] long keeps h = tt
+first_kept count [] (n ∷ ns) long keeps h = absurd (omega arith)
+first_kept count (o ∷ os) (n ∷ ns) long keeps h = omega (arith, h, (keeps 0 o (omega arith)).room)
 
 module _ {X K : Type 0} (t : TableSight K) (files : List (List Request)) where
   pub jobs_of : (jobs : List (Job X)) → AreFresh t files jobs → All (IsJobOf t files) jobs

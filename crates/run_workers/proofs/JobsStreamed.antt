@@ -2,6 +2,7 @@
 use Rattle.std.proofs.Common.{◌≡◌, ℕ, suc, ◌+◌, ◌<◌, List, [], ◌∷◌, length, take, map, get_or, refl, sym, ap, ap₂, ◌∙◌, arith, subst}
 use Rattle.std.specs.Prelude.{All, Option, None, Some, IfSome}
 use Rattle.std.specs.List.{enumerate_from, sum_by}
+use Rattle.std.specs.Vec.{vec_capacity}
 use Rattle.std.proofs.lemmas.List.{get_or-map, length-map}
 use Rattle.std.proofs.lemmas.List.Elements.{All-cons, All-nil}
 use Rattle.std.proofs.lemmas.List.FromFn.{get_or-range_with_len, length-range_with_len}
@@ -22,7 +23,7 @@ use Rattle.dude_stream.specs.Streams.{AreFirst}
 use Rattle.run_workers.specs.declared.job.Job.{Job}
 use Rattle.run_workers.specs.declared.joined.Joined.{Joined}
 use Rattle.run_workers.specs.Job.{HasWorked, IsFresh, requests_of, thread_count}
-use Rattle.run_workers.specs.Jobs.{AreFresh, AreJobs, HaveWorked}
+use Rattle.run_workers.specs.Jobs.{AreFresh, AreJobs, FirstHasRoom, HaveWorked}
 use Rattle.run_workers.specs.Joined.{AreJoined}
 use Rattle.run_workers.specs.Sending.{IsSameLane, KeepLanes, SendFirst}
 use Rattle.run_workers.specs.Lanes.{AreLanes, AreOpen, AreOpenLanes, HasReceivedOf, HaveBoxes, HaveReceived, HaveSameWork, IsLaneOf, OpensTo}
@@ -53,6 +54,12 @@ module _ {X : Type 0} where
   same_all P apart old new long same h k d within =
       let here : k < length old = omega arith in
       subst P (sym (same k d here)) (apart (get_or old k d) (get_or new k d).outbox (h k d here))
+
+  -- the first one's list has the room that it had
+  pub first_still : (count : ℕ) (old new : List (Job X)) → length new ≡ length old → HaveSameWork old new → FirstHasRoom count old → FirstHasRoom count new
+  first_still count old [] long same h = tt
+  first_still count [] (n ∷ ns) long same h = absurd (omega arith)
+  first_still count (o ∷ os) (n ∷ ns) long same h = omega (arith, h, ap (λ (j : Job X). vec_capacity j.done) (same 0 o (omega arith)))
 
 module _ {X K : Type 0} (t : TableSight K) (files : List (List Request)) where
   same_jobs : (holds : List Request → Job X → Type 0) → ((r : List Request) (j : Job X) (b : Option Outbox) → holds r j → holds r (record j { outbox = b })) → (old new : List (Job X)) → length new ≡ length old → HaveSameWork old new

@@ -1,11 +1,13 @@
 -- Passes are split off one, are joined, and come back.
 use Rattle.std.proofs.Common.{◌≡◌, ℕ, zero, suc, ◌+◌, ◌-◌, ◌*◌, ◌<◌, ◌≤◌, Bool, true, false, List, [], ◌∷◌, ◌++◌, length, get_or, take, map, Option, Some, refl, ap, ap₂, sym, ◌∙◌, subst, arith, ⊎_elim, append_assoc, length-append}
 use Rattle.std.specs.Prelude.{Any, max, ◌||◌}
-use Rattle.std.specs.List.{All, range_with_len, sum_by}
+use Rattle.std.specs.List.{All, flat_map, range_with_len, sum_by}
 use Rattle.std.specs.Vec.{vec_capacity}
 use Rattle.std.proofs.lemmas.Bool.{cases_Bool, true≢false}
 use Rattle.std.proofs.lemmas.List.{append-nil, get_or-map, map_push, take-map, take_more}
-use Rattle.std.proofs.lemmas.List.Elements.{All-nil, All-cons, All-head, All-push, All-weaker}
+use Rattle.std.proofs.lemmas.List.Concat.{flat_map-append}
+use Rattle.std.proofs.lemmas.List.Elements.{All-nil, All-cons, All-head, All-push, All-weaker, Contains-append_left, Contains-push_cases}
+use Rattle.std.proofs.lemmas.List.Quantifiers.{Any-push}
 use Rattle.std.proofs.lemmas.List.Sums.{sum_by-cons, sum_by-drop_more, sum_by-take-le, sum_by_push}
 use Rattle.tatp_model.specs.declared.request.Request.{Request}
 use Rattle.run_order.proofs.Pairs.{all_before, all_behind}
@@ -31,6 +33,10 @@ both_count v w thread is =
     let c : length (thread_list w.part.thread) ≡ 1 = ap (λ (o : Option ℕ). length (thread_list o)) is in
     let d : one_if w.part.thread ≡ 1 = ap one_if is in
     omega arith
+
+-- the elements of one more list
+pub flat_map_push : {A B : Type 0} (f : A → List B) (xs : List A) (x : A) → flat_map f (xs ++ x ∷ []) ≡ flat_map f xs ++ f x
+flat_map_push f xs x = flat_map-append f xs (x ∷ []) ∙ ap (λ l. flat_map f xs ++ l) (append-nil (f x))
 
 or_false : (b : Bool) → (b || false) ≡ b
 or_false true = refl
@@ -81,46 +87,31 @@ module _ {X K : Type 0} (t : TableSight K) where
       only (zero, x, within, is, met) = ap (λ (y : Job X). y.pass.numbers.met_fault) is ∙ met
       only (suc n, x, within, is, met) = absurd (omega (arith, within))
 
-  pub took_next : (job : Job X) (popped : List (Job X)) (q r : PassSight X) → IsResting t job.pass → TookIn t popped q → IsJoined t job.pass q r → TookIn t (job ∷ popped) r
-  took_next job popped q r rests h j =
+  pub took_push : (js : List (Job X)) (job : Job X) (p r : PassSight X) → TookIn t js p → IsResting t job.pass → IsJoined t p job.pass r → TookIn t (js ++ job ∷ []) r
+  took_push js job p r h rests j =
       let n = j.numbers in
-      let durable : r.numbers.durable ≡ max job.pass.numbers.durable q.numbers.durable = ap (λ (x : PassNumbers). x.durable) n in
-      let met : r.numbers.met_fault ≡ (job.pass.numbers.met_fault || q.numbers.met_fault) = ap (λ (x : PassNumbers). x.met_fault) n in
+      let durable : r.numbers.durable ≡ max p.numbers.durable job.pass.numbers.durable = ap (λ (x : PassNumbers). x.durable) n in
+      let met : r.numbers.met_fault ≡ (p.numbers.met_fault || job.pass.numbers.met_fault) = ap (λ (x : PassNumbers). x.met_fault) n in
       record {
         rests = j.rests;
-        threads = ap thread_count j.view ∙ both_count (pass_view job.pass) (pass_view q) q.numbers.thread h.rests.numbers.of.its ∙ ap (λ (m : ℕ). count_of job + m) h.threads ∙ sym (sum_by-cons count_of job popped);
-        entries = ap (λ (v : View). v.entries) j.view ∙ ap (λ (l : List Entry). entries_of job ++ l) h.entries;
-        left = ap (λ (x : PassNumbers). x.left) n ∙ ap (λ (m : ℕ). left_in job + m) h.left ∙ sym (sum_by-cons left_in job popped);
-        durable = All-cons (λ (x : Job X). x.pass.numbers.durable ≤ r.numbers.durable) job popped (omega arith)
-            (All-weaker (λ (x : Job X). x.pass.numbers.durable ≤ q.numbers.durable) (λ (x : Job X). x.pass.numbers.durable ≤ r.numbers.durable) (λ x u. omega arith) popped h.durable);
+        threads = ap thread_count j.view ∙ both_count (pass_view p) (pass_view job.pass) job.pass.numbers.thread rests.numbers.of.its ∙ ap (λ (m : ℕ). m + count_of job) h.threads ∙ sym (sum_by_push count_of js job);
+        entries = ap (λ (v : View). v.entries) j.view ∙ ap (λ (l : List Entry). l ++ entries_of job) h.entries ∙ sym (flat_map_push entries_of js job);
+        left = ap (λ (x : PassNumbers). x.left) n ∙ ap (λ (m : ℕ). m + left_in job) h.left ∙ sym (sum_by_push left_in js job);
+        durable = All-push (λ (x : Job X). x.pass.numbers.durable ≤ r.numbers.durable) js job
+            (All-weaker (λ (x : Job X). x.pass.numbers.durable ≤ p.numbers.durable) (λ (x : Job X). x.pass.numbers.durable ≤ r.numbers.durable) (λ x u. omega arith) js h.durable) (omega arith);
         met_fault = (
-          (λ is. ⊎_elim (λ here. (0, job, (omega arith), refl, here)) (λ not_here. more (h.met_fault.0 (second not_here (sym met ∙ is)))) (cases_Bool job.pass.numbers.met_fault)),
-          (λ a. met ∙ back a),
+          (λ is. ⊎_elim (λ before. more (h.met_fault.0 before)) (λ not_before. Any-push HasMet js job (second not_before (sym met ∙ is))) (cases_Bool p.numbers.met_fault)),
+          (λ a. met ∙ ⊎_elim (λ c. or_left p.numbers.met_fault job.pass.numbers.met_fault (h.met_fault.1 (c.0, a.1, c.1, c.2, a.4)))
+              (λ same. or_right p.numbers.met_fault job.pass.numbers.met_fault (ap (λ (y : Job X). y.pass.numbers.met_fault) same ∙ a.4))
+              (Contains-push_cases js job a.1 (a.0, a.2, a.3))),
         );
       }
     where
-      second : job.pass.numbers.met_fault ≡ false → (job.pass.numbers.met_fault || q.numbers.met_fault) ≡ true → q.numbers.met_fault ≡ true
-      second absent is = subst (λ (b : Bool). (b || q.numbers.met_fault) ≡ true) absent is
+      second : p.numbers.met_fault ≡ false → (p.numbers.met_fault || job.pass.numbers.met_fault) ≡ true → job.pass.numbers.met_fault ≡ true
+      second absent is = subst (λ (b : Bool). (b || job.pass.numbers.met_fault) ≡ true) absent is
 
-      more : Any HasMet popped → Any HasMet (job ∷ popped)
-      more a = (suc a.0, a.1, (let w = a.2 in omega arith), a.3, a.4)
-
-      back : Any HasMet (job ∷ popped) → (job.pass.numbers.met_fault || q.numbers.met_fault) ≡ true
-      back (zero, x, within, is, met) = or_left job.pass.numbers.met_fault q.numbers.met_fault (ap (λ (y : Job X). y.pass.numbers.met_fault) is ∙ met)
-      back (suc n, x, within, is, met) = or_right job.pass.numbers.met_fault q.numbers.met_fault (h.met_fault.1 (n, x, (omega arith), is, met))
-
-  -- the last job was popped, and its pass took in the others
-  pub took_popped : (jobs left popped all : List (Job X)) (job : Job X) (p q : PassSight X) → jobs ≡ left ++ job ∷ [] → All (λ j. IsResting t j.pass) jobs → jobs ++ popped ≡ all → TookIn t popped p → IsJoined t job.pass p q
-      → All (λ j. IsResting t j.pass) left × ((more : List (Job X)) × (left ++ more ≡ all) × TookIn t more q)
-  took_popped jobs left popped all job p q parts rests whole h j =
-      let each = subst (λ (l : List (Job X)). All (λ x. IsResting t x.pass) l) parts rests in (
-        all_before (λ (x : Job X). IsResting t x.pass) left (job ∷ []) each,
-        (
-          job ∷ popped,
-          sym (append_assoc left (job ∷ []) popped) ∙ ap (λ (l : List (Job X)). l ++ popped) (sym parts) ∙ whole,
-          took_next job popped p q (All-head (λ (x : Job X). IsResting t x.pass) job [] (all_behind (λ (x : Job X). IsResting t x.pass) left (job ∷ []) each)) h j,
-        ),
-      )
+      more : Any HasMet js → Any HasMet (js ++ job ∷ [])
+      more a = let c = Contains-append_left js (job ∷ []) a.1 (a.0, a.2, a.3) in (c.0, a.1, c.1, c.2, a.4)
 
   -- ---- taken back
   pub back_next : (job : Job X) (popped : List (Job X)) (p q r : PassSight X) → IsResting t p → t.setup.first ≤ p.numbers.durable → IsNewcomer t job.pass → HasTakenBack t popped p q → IsJoined t q job.pass r → HasTakenBack t (job ∷ popped) p r
@@ -264,6 +255,11 @@ module _ {X K : Type 0} (t : TableSight K) where
       ordered : (l : List (List Request)) → 0 < length l → 0 ∷ range_with_len 1 (length l - 1) ≡ range_with_len 0 (length l)
       ordered [] some = absurd (omega arith)
       ordered (x ∷ xs) some = let e : suc (length xs) - 1 ≡ length xs = omega arith in ap (λ (n : ℕ). 0 ∷ range_with_len 1 n) e
+
+-- the first file has no more requests than all files
+pub first_count : (files : List (List Request)) → length (requests_of files 0) ≤ request_count files
+first_count [] = omega arith
+first_count (r ∷ rs) = omega (arith, sum_by-cons (λ (l : List Request). length l) r rs)
 
 -- files as they stand in memory
 module _ {A : Type 0} (items : A → List Request) where

@@ -31,10 +31,11 @@ pub record IsFresh {X K : Type 0} (t : TableSight K) (requests : List Request) (
 abbrev pub HasWorked : {X K : Type 0} → TableSight K → Sizes → List Request → Job X → Type 0
 HasWorked t s requests job = EndsWith t s job.file requests job.end job.done.items job.pass
 
--- it serves its file still, and its pass is whose it was
+-- it serves its file still, its pass is whose it was, and its list has the room that it had
 pub record KeepsPlace {X : Type 0} (old new : Job X) : Type 0 where
   pub file : new.file ≡ old.file
   pub part : (pass_view new.pass).part ≡ (pass_view old.pass).part
+  pub room : vec_capacity new.done ≡ vec_capacity old.done
 
 -- so it is of each
 abbrev pub KeepPlaces : {X : Type 0} → List (Job X) → List (Job X) → Type 0

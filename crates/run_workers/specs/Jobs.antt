@@ -1,5 +1,5 @@
 -- The jobs of all files.
-use Rattle.std.specs.Prelude.{◌≡◌, ℕ, ◌+◌, ◌*◌, ◌<◌, ◌≤◌, false, List, [], length, map, All, vec_capacity}
+use Rattle.std.specs.Prelude.{◌≡◌, ℕ, ◌+◌, ◌*◌, ◌<◌, ◌≤◌, ⊤, false, List, [], ◌∷◌, length, map, All, vec_capacity}
 use Rattle.std.specs.List.{range_with_len, sum_by}
 use Rattle.dude_base.specs.declared.sizes.Sizes.{Sizes}
 use Rattle.tatp_model.specs.declared.request.Request.{Request}
@@ -46,16 +46,21 @@ pub record MayWorkOn {K : Type 0} (t : TableSight K) (s : Sizes) (files : List (
   pub home : s.pages ≡ t.setup.pages
   pub in_range : All (All IsInRange) files
 
--- there is room for all that may be done, and for a count for each file
+-- the list of the first of these jobs has room for so many
+abbrev pub FirstHasRoom : {X : Type 0} → ℕ → List (Job X) → Type 0
+FirstHasRoom count [] = ⊤
+FirstHasRoom count (first ∷ others) = count ≤ vec_capacity first.done
+
+-- there is room for all that may be done, in the first job's list, and for a count for each file
 pub record HasRoom {X : Type 0} (files : List (List Request)) (jobs : Jobs X) : Type 0 where
-  pub done : (jobs.done.items ≡ []) × (request_count files ≤ vec_capacity jobs.done)
+  pub done : FirstHasRoom (request_count files) jobs.each.items
   pub counts : (jobs.counts.items ≡ []) × (length files ≤ vec_capacity jobs.counts)
 
--- the jobs' passes rest, and there is room for all that they did
+-- the jobs' passes rest, and there is room for all that they did, in the first one's list
 pub record MayJoin {X K : Type 0} (t : TableSight K) (jobs : Jobs X) : Type 0 where
   pub some : 0 < length jobs.each.items
   pub rests : All (λ job. IsResting t job.pass) jobs.each.items
-  pub done : (jobs.done.items ≡ []) × (sum_by (λ job. length job.done.items) jobs.each.items ≤ vec_capacity jobs.done)
+  pub done : FirstHasRoom (sum_by (λ job. length job.done.items) jobs.each.items) jobs.each.items
   pub counts : (jobs.counts.items ≡ []) × (length jobs.each.items ≤ vec_capacity jobs.counts)
 
 -- the pass q is p, with all threads, to which what was split off came back; it may split off fewer

@@ -1,5 +1,5 @@
 -- What all workers did together.
-use Rattle.std.specs.Prelude.{◌≡◌, ◌↔◌, ℕ, ◌+◌, ◌<◌, ◌≤◌, true, IsTrue, List, [], ◌∷◌, length, map, take, drop, All, Any, slice_index}
+use Rattle.std.specs.Prelude.{◌≡◌, ◌↔◌, ℕ, ◌+◌, ◌<◌, ◌≤◌, true, IsTrue, List, [], ◌∷◌, ◌++◌, length, map, take, drop, All, Any, slice_index}
 use Rattle.std.specs.List.{flat_map, sum_by}
 use Rattle.dude_base.specs.declared.sizes.Sizes.{Sizes}
 use Rattle.tatp_model.specs.declared.request.Request.{Request}
@@ -34,6 +34,10 @@ pub record AreJoined {X K : Type 0} (t : TableSight K) (jobs : List (Job X)) (jo
   pub done : joined.done.items ≡ flat_map (λ job. job.done.items) jobs
   pub counts : joined.counts.items ≡ map (λ job. length job.done.items) jobs
   pub end : IsWorst (map (λ job. job.end) jobs) joined.end
+
+-- one more job was taken in: what some jobs did is now what they and this one did
+abbrev pub TakesIn : {X K : Type 0} → TableSight K → Job X → Joined X → Joined X → Type 0
+TakesIn {X} t job old new = (jobs : List (Job X)) → AreJoined t jobs old → AreJoined t (jobs ++ job ∷ []) new
 
 -- ---- files that were served
 -- files in two parts, of which the first has so many requests

@@ -6,6 +6,7 @@ pub mod Steps
 pub mod Jobs
 pub mod Partings
 pub mod Joined
+pub mod Work
 pub mod Lanes
 pub mod Printed
 pub mod Streamed

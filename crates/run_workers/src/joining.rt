@@ -1,22 +1,19 @@
 //! The jobs come together: their passes are joined, and what they did is one list.
 
-ghost use Rattle.std.specs.Prelude.{◌≡◌, ◌++◌, ◌+◌, ◌<◌, ◌≤◌, [], length, map, All, vec_capacity, vec_len};
-ghost use Rattle.std.specs.List.{flat_map, sum_by};
+ghost use Rattle.std.specs.Prelude.{◌≡◌, ◌++◌, ◌+◌, ◌<◌, ◌≤◌, length, vec_capacity, vec_len};
 ghost use Rattle.stm_transactions.specs.Passes.{IsResting};
-ghost use Rattle.run_workers.specs.Joined.{AreJoined, TookIn};
+ghost use Rattle.run_workers.specs.Joined.{AreJoined, TakesIn};
 ghost use Rattle.run_workers.specs.Jobs.{MayJoin};
-ghost use Rattle.run_workers.specs.WorkEnd.{IsWorst};
 
 use crate::job::Job;
 use crate::jobs::Jobs;
 use crate::joined::Joined;
-use crate::work_end::WorkEnd;
 use core_table::stm::Stm;
-use stm_transactions::pass::Pass;
 use stm_transactions::rule::{TransactionRule, let_transact};
 use tatp_model::done::Done;
 
-/// Joins the passes of all jobs into one, and puts together what they did, in order of file and index. It takes no memory.
+/// Joins the passes of all jobs into one, and puts together what they did, in order of file and index. It takes no memory: the
+/// list of the first job is kept, and those of the others are put behind what it has.
 pub fn join_jobs<S, X, K, P: TransactionRule<S, X, K>>(
     stm: &Stm<S, X, K, P>,
     jobs: Jobs<X>,
@@ -24,23 +21,40 @@ pub fn join_jobs<S, X, K, P: TransactionRule<S, X, K>>(
     requires { MayJoin stm.now.events jobs }
     ensures { AreJoined stm.now.events jobs.each.items result }
 {
-    let Jobs {
-        each,
-        mut done,
-        mut counts,
-    } = jobs;
-    let mut end = WorkEnd::Whole;
-    for job in &each {
-        append(&mut done, &job.done);
-        counts.push_reserved(job.done.len() as u64);
-        end = end.worse(job.end);
-    }
-    let pass = join_passes(stm, each);
-    Joined {
-        pass,
-        done,
+    let Jobs { each, mut counts } = jobs;
+    let mut others = each.into_iter();
+    let Some(first) = others.next() else {
+        unreachable!()
+    };
+    counts.push_reserved(first.done.len() as u64);
+    let mut joined = Joined {
+        pass: first.pass,
+        done: first.done,
         counts,
-        end,
+        end: first.end,
+    };
+    while let Some(job) = others.next() {
+        joined.take_in(stm, job);
+    }
+    joined
+}
+
+impl<X> Joined<X> {
+    // Takes in one more job, for which there is room.
+    fn take_in<S, K, P: TransactionRule<S, X, K>>(&mut self, stm: &Stm<S, X, K, P>, job: Job<X>)
+        requires rests { IsResting stm.now.events self.old.pass }
+        requires other { IsResting stm.now.events job.pass }
+        requires done { vec_len self.old.done + length job.done.items ≤ vec_capacity self.old.done }
+        requires counts { vec_len self.old.counts < vec_capacity self.old.counts }
+        ensures joined { TakesIn stm.now.events job self.old self.new }
+        ensures done { vec_capacity self.new.done ≡ vec_capacity self.old.done }
+        ensures counts { vec_capacity self.new.counts ≡ vec_capacity self.old.counts }
+    {
+        let_transact(stm);
+        append(&mut self.done, &job.done);
+        self.counts.push_reserved(job.done.len() as u64);
+        self.end = self.end.worse(job.end);
+        self.pass.join(stm, job.pass);
     }
 }
 
@@ -53,26 +67,4 @@ fn append(done: &mut Vec<Done>, more: &[Done])
     for d in more {
         done.push_reserved(*d);
     }
-}
-
-// Joins the passes of these jobs, from the last one on.
-fn join_passes<S, X, K, P: TransactionRule<S, X, K>>(
-    stm: &Stm<S, X, K, P>,
-    mut jobs: Vec<Job<X>>,
-) -> Pass<X>
-    requires some { 0 < vec_len jobs }
-    requires rests { All (λ job. IsResting stm.now.events job.pass) jobs.items }
-    ensures { TookIn stm.now.events jobs.items result }
-{
-    let_transact(stm);
-    let Some(last) = jobs.pop() else {
-        unreachable!()
-    };
-    let mut pass = last.pass;
-    while let Some(job) = jobs.pop() {
-        let mut other = job.pass;
-        other.join(stm, pass);
-        pass = other;
-    }
-    pass
 }

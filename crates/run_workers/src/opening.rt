@@ -1,15 +1,15 @@
 //! Before the workers start: jobs, lanes, and the memory for what comes behind.
 
 ghost use Rattle.std.specs.Prelude.{◌≡◌, ◌≤◌, [], length, map, IfErr, IfOk, vec_capacity};
-ghost use Rattle.run_workers.specs.Jobs.{AreFresh, HasRoom, IsBack, MayShare};
+ghost use Rattle.run_workers.specs.Jobs.{HasRoom};
 ghost use Rattle.run_workers.specs.Lanes.{AreOpen, AreOpenLanes, IsOpenLane};
+ghost use Rattle.run_workers.specs.Work.{AreNew, CameBack, MaySplit, work_files};
 
 use crate::handing::hand_out;
 use crate::lanes::Lanes;
-use crate::make_jobs;
 use crate::no_memory::NoMemory;
 use crate::opened::Opened;
-use core_table::stm::Stm;
+use crate::work::Work;
 use dude_stream::{Lane, Outbox, Outlet};
 use std::alloc::{AllocError, Global};
 use stm_transactions::pass::Pass;
@@ -19,37 +19,33 @@ use tatp_model::request::Request;
 /// How many replies a lane takes while none is received.
 const ROOM: u64 = 64;
 
-/// Makes a job for each file, and a lane from it. All memory is taken here, and that of the lanes before a pass is split.
-pub(crate) fn open_all<S, X, K, P: TransactionRule<S, X, K>>(
-    alloc: Global,
-    stm: &Stm<S, X, K, P>,
-    files: &[Vec<Request>],
-    pass: Pass<X>,
-) -> Result<Opened<X>, NoMemory<X>>
-    requires { MayShare stm.now.events (map (λ f. f.items) files.now) pass }
-    ensures fresh { IfOk result (λ o.
-        AreFresh stm.now.events (map (λ f. f.items) files.now) o.jobs.each.items) }
-    ensures room { IfOk result (λ o. HasRoom (map (λ f. f.items) files.now) o.jobs) }
-    ensures lanes { IfOk result (λ o.
-        AreOpen (map (λ f. f.items) files.now) o.jobs.each.items o.outlets.items) }
-    ensures printed { IfOk result (λ o. o.printed.items ≡ []) }
-    ensures counts { IfOk result (λ o. length files.now ≤ vec_capacity o.printed) }
-    ensures err { IfErr result (λ e. IsBack stm.now.events pass e.pass) }
-{
-    let Ok(lanes) = open_lanes(alloc, files) else {
-        return Err(NoMemory { pass });
-    };
-    let Ok(printed) = Vec::with_capacity(alloc, files.len()) else {
-        return Err(NoMemory { pass });
-    };
-    let mut jobs = make_jobs(alloc, stm, files, pass)?;
-    let Lanes { outboxes, outlets } = lanes;
-    hand_out(outboxes, &mut jobs.each);
-    Ok(Opened {
-        jobs,
-        outlets,
-        printed,
-    })
+impl<'a, S, X, K, P: TransactionRule<S, X, K>, T, G> Work<'a, S, X, K, P, T, G> {
+    /// Makes a job for each file, and a lane from it. All memory is taken here, and that of the lanes before a pass is split.
+    pub(crate) fn open_all(&self, pass: Pass<X>) -> Result<Opened<X>, NoMemory<X>>
+        requires { MaySplit self.now pass }
+        ensures fresh { IfOk result (λ o. AreNew self.now o.jobs.each.items) }
+        ensures room { IfOk result (λ o. HasRoom (work_files self.now) o.jobs) }
+        ensures lanes { IfOk result (λ o.
+            AreOpen (work_files self.now) o.jobs.each.items o.outlets.items) }
+        ensures printed { IfOk result (λ o. o.printed.items ≡ []) }
+        ensures counts { IfOk result (λ o. length self.now.files.now ≤ vec_capacity o.printed) }
+        ensures err { IfErr result (λ e. CameBack self.now pass e.pass) }
+    {
+        let Ok(lanes) = open_lanes(self.alloc, self.files) else {
+            return Err(NoMemory { pass });
+        };
+        let Ok(printed) = Vec::with_capacity(self.alloc, self.files.len()) else {
+            return Err(NoMemory { pass });
+        };
+        let mut jobs = self.make_jobs(pass)?;
+        let Lanes { outboxes, outlets } = lanes;
+        hand_out(outboxes, &mut jobs.each);
+        Ok(Opened {
+            jobs,
+            outlets,
+            printed,
+        })
+    }
 }
 
 // A lane for each file.
