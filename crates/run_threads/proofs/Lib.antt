@@ -7,7 +7,7 @@ pub mod Opened
 pub mod Counts
 pub mod FilesServed
 pub mod RunEnded
-pub mod Begun
+pub mod BegunRuns
 pub mod Behind
 pub mod RestsRun
 pub mod ReopenedRun

@@ -4,6 +4,7 @@ pub mod HasRun
 pub mod Ran
 pub mod Streamed
 pub mod Starts
+pub mod Begun
 pub mod HasRests
 pub mod Served
 pub mod SetAside

@@ -1,39 +1,55 @@
-//! Transactions begin over a back that is at rest.
+//! Transactions begin over an opened image.
 
-ghost use Rattle.std.specs.Prelude.{◌≡◌, IfErr, IfOk};
+ghost use Rattle.std.specs.Prelude.{IfErr, IfOk};
 ghost use Rattle.back_store.specs.BackView.{state_of};
 ghost use Rattle.tiny_stm.specs.Fitting.{FitsStore};
-ghost use Rattle.tiny_stm.specs.Started.{IsAtRest, IsStarted};
-ghost use Rattle.tiny_stm.specs.Tables.{table_of};
+ghost use Rattle.tiny_stm.specs.Started.{IsAtRest};
+ghost use Rattle.run_threads.specs.Begun.{HasBegun};
+ghost use Rattle.run_threads.specs.Ran.{RanNothing};
 
-use back_store::Back;
+use crate::begun::Begun;
 use dude_base::run::Run;
+use dude_engine::{Ran, RanEnd};
+use dude_recover::Opened;
 use pmem_trait::Medium;
 use std::alloc::Global;
-use tiny_stm::stm::{Pass, Stm};
+use stm_slots::known_back;
+use tiny_stm::stm::Stm;
 use tiny_stm::stm_fault::StmFault;
 
-/// Begins to run transactions of so many threads over a back at rest, for which the run fits. On want of memory the back is
-/// given back.
+/// Begins to run transactions of so many threads over an opened image whose back is at rest, for which the run fits. On want
+/// of memory nothing is run.
 pub(crate) fn begin<M: Medium>(
     alloc: Global,
-    back: Back<M>,
-    words: Vec<u64>,
-    number: u64,
+    opened: Opened<M>,
     run: &Run,
     threads: u64,
-) -> Result<(Stm<M>, Pass), Back<M>>
-    requires rest { IsAtRest back words.items number }
-    requires fits { FitsStore (state_of back).log.sizes.rings (state_of back).log.sizes.pages
-        run.now threads }
-    ensures ok { IfOk result (λ r.
-        IsStarted M.sight back words.items number run.now threads (table_of r.0) r.1) }
-    ensures err { IfErr result (λ b. b ≡ back) }
+) -> Result<Begun<M>, Ran<M>>
+    requires rest { IsAtRest opened.back opened.words.items opened.number }
+    requires fits { FitsStore (state_of opened.back).log.sizes.rings
+        (state_of opened.back).log.sizes.pages run.now threads }
+    ensures ok { IfOk result (HasBegun opened run.now threads) }
+    ensures err { IfErr result (RanNothing opened) }
 {
+    let Opened {
+        back,
+        lay,
+        sizes: _,
+        words,
+        number,
+    } = opened;
     match Stm::new(alloc, back, words, number, run, threads) {
-        Ok(started) => Ok(started),
+        Ok((stm, pass)) => Ok(Begun { stm, pass, lay }),
         Err((fault, back, _)) => match fault {
-            StmFault::NoMemory => Err(back),
+            StmFault::NoMemory => {
+                known_back::start(&back);
+                Err(Ran {
+                    done: Vec::new(alloc),
+                    medium: back.into_medium(),
+                    end: RanEnd::NoMemory,
+                    last: number,
+                })
+            }
             StmFault::Size {
                 frames: _,
                 pages: _,

@@ -5,6 +5,7 @@
 mod answers;
 pub mod back_turns;
 mod beginning;
+mod begun;
 mod catching_up;
 mod ending;
 mod home;

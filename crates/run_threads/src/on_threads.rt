@@ -12,13 +12,12 @@ use crate::beginning::begin;
 use crate::ending::finish;
 use crate::serving::serve;
 use dude_base::run::Run;
-use dude_engine::{Ran, RanEnd};
+use dude_engine::Ran;
 use dude_recover::Opened;
 use pmem_trait::Medium;
 use request_attempts::gate::Gate;
 use std::alloc::Global;
 use std::thread::Threads;
-use stm_slots::known_back;
 use tatp_model::Request;
 
 /// Runs the requests of files, each file on a thread of its own, as transactions over shared pages. Whoever takes the turn
@@ -46,26 +45,12 @@ pub fn threaded<R: Threads + Sync, M: Medium + Send, G: Gate + Sync>(
     ensures end { EndsOnThreads opened (map (λ f. f.items) files.now) result.done.items result.end
         result.last (M.sight result.medium) }
 {
-    let Opened {
-        back,
-        lay,
-        sizes: _,
-        words,
-        number,
-    } = opened;
-    match begin(alloc, back, words, number, run, files.len() as u64) {
-        Ok((stm, pass)) => {
-            let served = serve(rt, alloc, stm, pass, &lay, files, gate);
+    match begin(alloc, opened, run, files.len() as u64) {
+        Ok(begun) => {
+            let lay = begun.lay;
+            let served = serve(rt, alloc, begun, files, gate);
             finish(alloc, served, lay, run.frames, files)
         }
-        Err(back) => {
-            known_back::start(&back);
-            Ran {
-                done: Vec::new(alloc),
-                medium: back.into_medium(),
-                end: RanEnd::NoMemory,
-                last: number,
-            }
-        }
+        Err(ran) => ran,
     }
 }

@@ -16,7 +16,6 @@ use crate::rest_lines::print_behind;
 use crate::stream_serving::serve_streaming;
 use crate::streamed_run::Streamed;
 use dude_base::run::Run;
-use dude_engine::{Ran, RanEnd};
 use dude_io::Sink;
 use dude_recover::Opened;
 use dude_stream::law_of_streams;
@@ -24,7 +23,6 @@ use pmem_trait::Medium;
 use request_attempts::gate::Gate;
 use std::alloc::Global;
 use std::thread::Threads;
-use stm_slots::known_back;
 use tatp_model::Request;
 
 /// Runs the requests of files as `threaded` does, while a printer hands the sink a line of each reply. Lines that aren't printed
@@ -54,17 +52,11 @@ pub fn streamed<R: Threads + Sync, M: Medium + Send, G: Gate + Sync, K: Sink + S
     ensures printed { Streams (is_whole result.ran.end) result.sink_failed
         result.ran.done.items result.ran.last (K.sight out.old) (K.sight out.new) }
 {
-    let Opened {
-        back,
-        lay,
-        sizes: _,
-        words,
-        number,
-    } = opened;
     law_of_streams();
-    match begin(alloc, back, words, number, run, files.len() as u64) {
-        Ok((stm, pass)) => {
-            let (served, printing) = serve_streaming(rt, alloc, stm, pass, &lay, files, gate, out);
+    match begin(alloc, opened, run, files.len() as u64) {
+        Ok(begun) => {
+            let lay = begun.lay;
+            let (served, printing) = serve_streaming(rt, alloc, begun, files, gate, out);
             let ran = finish(alloc, served, lay, run.frames, files);
             match printing {
                 Some(printing) => print_behind(alloc, ran, printing, out),
@@ -74,18 +66,9 @@ pub fn streamed<R: Threads + Sync, M: Medium + Send, G: Gate + Sync, K: Sink + S
                 },
             }
         }
-        Err(back) => {
-            known_back::start(&back);
-            let ran = Ran {
-                done: Vec::new(alloc),
-                medium: back.into_medium(),
-                end: RanEnd::NoMemory,
-                last: number,
-            };
-            Streamed {
-                ran,
-                sink_failed: false,
-            }
-        }
+        Err(ran) => Streamed {
+            ran,
+            sink_failed: false,
+        },
     }
 }

@@ -1,20 +1,20 @@
-use Rattle.std.proofs.Common.{map, refl, subst}
+use Rattle.std.proofs.Common.{map, subst}
 use Rattle.core_table.specs.Layout.{TableSight}
 use Rattle.run_workers.specs.Jobs.{IsBack}
 use Rattle.run_workers.specs.Joined.{AreServed}
 use Rattle.stm_slots.specs.declared.opening.Opening.{Opening}
-use Rattle.tiny_stm.specs.Tables.{table_of}
+use Rattle.run_threads.specs.Begun.{begun_table}
 use Rattle.run_threads.proofs.FilesServed.{has_served, none_served}
 use Rattle.run_threads.proofs.serving.serve.Goals as goal
 
 pub returns-in-Ok : goal.returns-in-Ok
 returns-in-Ok g c =
-    let files = map (λ f. f.items) c.args.files.now in let lay = c.args.lay.now in let joined = c.in-Ok.joined in
-    let served = subst (λ (t : TableSight (Opening g.row.M.Denot g.M.Medium)). AreServed t lay files joined) c.steps.ensures c.in-Ok.ensures.ok in
-    has_served g.M.Medium.sight (table_of c.args.stm) lay files (record { closed = c.close.result; done = joined.done; counts = joined.counts; end = joined.end }) c.requires.starts c.requires.setup joined served c.close.ensures refl refl refl
+    let files = map (λ f. f.items) c.args.files.now in let b = c.args.begun in let joined = c.in-Ok.joined in let r = c.by_workers.ensures in
+    let served = subst (λ (t : TableSight (Opening g.row.M.Denot g.M.Medium)). AreServed t b.lay files joined) c.steps.ensures c.in-Ok.ensures.ok in
+    has_served g.M.Medium.sight (begun_table b) b.lay files c.by_workers.result c.requires.starts c.requires.setup joined served r.closed r.done r.counts r.end
 
 pub returns-in-Err : goal.returns-in-Err
 returns-in-Err g c =
-    let files = map (λ f. f.items) c.args.files.now in let lay = c.args.lay.now in let left = c.in-Err.field-0.pass in
-    let back = subst (λ (t : TableSight (Opening g.row.M.Denot g.M.Medium)). IsBack t c.args.pass left) c.steps.ensures c.in-Err.ensures.err in
-    none_served g.M.Medium.sight (table_of c.args.stm) lay files _ c.requires.starts c.requires.setup c.args.pass left c.requires.pass.no_entry back c.close-in-Err.ensures c.new.ensures.items refl
+    let files = map (λ f. f.items) c.args.files.now in let b = c.args.begun in let left = c.in-Err.field-0.pass in let r = c.by_none.ensures in
+    let back = subst (λ (t : TableSight (Opening g.row.M.Denot g.M.Medium)). IsBack t b.pass left) c.steps.ensures c.in-Err.ensures.err in
+    none_served g.M.Medium.sight (begun_table b) b.lay files c.by_none.result c.requires.starts c.requires.setup b.pass left c.requires.pass.no_entry back r.closed r.none r.end

@@ -1,13 +1,12 @@
-use Rattle.std.proofs.Common.{◌<◌, [], length, map, refl, ap, arith}
+use Rattle.std.proofs.Common.{◌<◌, ◌∙◌, [], length, map, refl, sym, ap, arith}
 use Rattle.std.proofs.lemmas.List.{length-map}
 use Rattle.std.proofs.lemmas.List.Elements.{All-weaker}
 use Rattle.tatp_model.specs.declared.done.Done.{Done}
 use Rattle.tatp_model.specs.OneThread.{indexed_request_of}
-use Rattle.dude_engine.specs.declared.ran.RanEnd.TheVariants.{NoMemory}
-use Rattle.tiny_stm.specs.Tables.{table_of}
 use Rattle.run_workers.specs.Streamed.{HasStreamed}
 use Rattle.run_threads.specs.declared.printing.Printing.{Printing}
-use Rattle.run_threads.proofs.Begun.{frames_are, ran_nothing, ran_over}
+use Rattle.run_threads.specs.Begun.{begun_table}
+use Rattle.run_threads.proofs.BegunRuns.{frames_are, ran_nothing, ran_over}
 use Rattle.run_threads.proofs.Opened.{answers, at_rest, ends, moments, start, syncs}
 use Rattle.run_threads.proofs.StreamedRun.{inside_counted, none_is, ran_behind_lines, some_is, streamed_on, unprinted}
 use Rattle.run_threads.proofs.streaming.streamed.Goals as goal
@@ -17,15 +16,15 @@ begin-requires-clause-rest g c = at_rest c.args.opened c.args.run.now (length c.
 
 pub finish-ran-requires-clause-served : goal.finish-ran-requires-clause-served
 finish-ran-requires-clause-served g c =
-    let t = table_of c.in-Ok.stm in
-    (t.key, frames_are c.args.opened c.args.run.now (length c.args.files.now) c.requires.opened t c.in-Ok.pass c.in-Ok.ensures.ok, c.serve_streaming-served.ensures.served)
+    let t = begun_table c.in-Ok.begun in
+    (t.key, frames_are c.args.opened c.args.run.now (length c.args.files.now) c.requires.opened c.in-Ok.begun c.in-Ok.ensures.ok, c.serve_streaming-served.ensures.served)
 
 pub print_behind-requires : goal.print_behind-requires
 print_behind-requires g c =
     let o = c.args.opened in let run = c.args.run.now in let threads = length c.args.files.now in let opened = c.requires.opened in let held = c.requires.may.held in
-    let files = map (λ f. f.items) c.args.files.now in let r = c.finish-ran.result in let t = table_of c.in-Ok.stm in let started = c.in-Ok.ensures.ok in let served = c.serve_streaming-served in
+    let files = map (λ f. f.items) c.args.files.now in let r = c.finish-ran.result in let b = c.in-Ok.begun in let t = begun_table b in let begun = c.in-Ok.ensures.ok in let served = c.serve_streaming-served in
     let p = c.in-Some.printing in let s = g.K.Sink.sight c.args.out.now in let u = g.K.Sink.sight served.new.out in
-    let ran = ran_over o run threads opened t c.in-Ok.pass started held files r.done.items r.end r.last (g.M.Medium.sight r.medium) (c.finish-ran.ensures.ran t.key (frames_are o run threads opened t c.in-Ok.pass started) served.ensures.served) in
+    let ran = ran_over o run threads opened b begun held files r.done.items r.end r.last (g.M.Medium.sight r.medium) (c.finish-ran.ensures.ran t.key (frames_are o run threads opened b begun) served.ensures.served) in
     let h = some_is (λ (x : Printing). HasStreamed threads served.result.0.done.items x.printed.items x.stopped s u) served.result.1 p c.in-Some.is served.ensures.some in
     let inside = inside_counted files threads r.done.items served.result.0.done.items p.printed.items p.stopped s u (length-map c.args.files.now (λ f. f.items)) ran.numbers.held h in
     All-weaker (λ (d : Done). d.file < length p.printed.items) (λ (d : Done). d.file < p.printed.len) (λ d less. omega (arith, p.printed.ok.0)) r.done.items inside
@@ -33,9 +32,9 @@ print_behind-requires g c =
 pub returns-in-Some : goal.returns-in-Some
 returns-in-Some g c =
     let o = c.args.opened in let run = c.args.run.now in let threads = length c.args.files.now in let opened = c.requires.opened in let held = c.requires.may.held in
-    let files = map (λ f. f.items) c.args.files.now in let r = c.finish-ran.result in let t = table_of c.in-Ok.stm in let started = c.in-Ok.ensures.ok in let served = c.serve_streaming-served in
+    let files = map (λ f. f.items) c.args.files.now in let r = c.finish-ran.result in let b = c.in-Ok.begun in let t = begun_table b in let begun = c.in-Ok.ensures.ok in let served = c.serve_streaming-served in
     let p = c.in-Some.printing in let s = g.K.Sink.sight c.args.out.now in let u = g.K.Sink.sight served.new.out in let sight = g.M.Medium.sight in let new = c.print_behind.result.ran in
-    let ran = ran_over o run threads opened t c.in-Ok.pass started held files r.done.items r.end r.last (sight r.medium) (c.finish-ran.ensures.ran t.key (frames_are o run threads opened t c.in-Ok.pass started) served.ensures.served) in
+    let ran = ran_over o run threads opened b begun held files r.done.items r.end r.last (sight r.medium) (c.finish-ran.ensures.ran t.key (frames_are o run threads opened b begun) served.ensures.served) in
     let h = some_is (λ (x : Printing). HasStreamed threads served.result.0.done.items x.printed.items x.stopped s u) served.result.1 p c.in-Some.is served.ensures.some in
     let last = ran_behind_lines sight (start o run threads opened held) files r new c.print_behind.ensures.same ran in
     record {
@@ -49,9 +48,9 @@ returns-in-Some g c =
 pub returns-in-None : goal.returns-in-None
 returns-in-None g c =
     let o = c.args.opened in let run = c.args.run.now in let threads = length c.args.files.now in let opened = c.requires.opened in let held = c.requires.may.held in
-    let files = map (λ f. f.items) c.args.files.now in let r = c.finish-ran.result in let t = table_of c.in-Ok.stm in let started = c.in-Ok.ensures.ok in let served = c.serve_streaming-served in
+    let files = map (λ f. f.items) c.args.files.now in let r = c.finish-ran.result in let b = c.in-Ok.begun in let t = begun_table b in let begun = c.in-Ok.ensures.ok in let served = c.serve_streaming-served in
     let s = g.K.Sink.sight c.args.out.now in let u = g.K.Sink.sight served.new.out in let sight = g.M.Medium.sight in
-    let ran = ran_over o run threads opened t c.in-Ok.pass started held files r.done.items r.end r.last (sight r.medium) (c.finish-ran.ensures.ran t.key (frames_are o run threads opened t c.in-Ok.pass started) served.ensures.served) in
+    let ran = ran_over o run threads opened b begun held files r.done.items r.end r.last (sight r.medium) (c.finish-ran.ensures.ran t.key (frames_are o run threads opened b begun) served.ensures.served) in
     let none = none_is served.result.1 _ c.in-None.is served.ensures.none in
     record {
       replies = answers o run threads opened held files r.done.items r.end r.last (sight r.medium) ran;
@@ -64,12 +63,12 @@ returns-in-None g c =
 pub returns-in-Err : goal.returns-in-Err
 returns-in-Err g c =
     let o = c.args.opened in let run = c.args.run.now in let threads = length c.args.files.now in let opened = c.requires.opened in let held = c.requires.may.held in
-    let files = map (λ f. f.items) c.args.files.now in let done = c.new.result.items in let u = g.M.Medium.sight c.into_medium.result in let s = g.K.Sink.sight c.args.out.now in
-    let ran = ran_nothing o run threads opened held files c.in-Err.back c.in-Err.ensures.err c.start.ensures.known done c.new.ensures.items u (ap g.M.Medium.sight c.into_medium.ensures) in
+    let files = map (λ f. f.items) c.args.files.now in let r = c.in-Err.ran in let u = g.M.Medium.sight r.medium in let s = g.K.Sink.sight c.args.out.now in
+    let ran = ran_nothing o run threads opened held files r c.in-Err.ensures.err in
     record {
-      replies = answers o run threads opened held files done NoMemory o.number u ran;
-      syncs = syncs o run threads opened held files done NoMemory o.number u ran;
-      moments = moments o run threads opened held files done NoMemory o.number u ran;
-      end = ends o run threads opened held files done NoMemory o.number u ran;
-      printed = unprinted c.law_of_streams.ensures.stopped NoMemory (λ e. let no : ⊥ = cc in no) [] done o.number s s (ap (map indexed_request_of) c.new.ensures.items) refl;
+      replies = answers o run threads opened held files r.done.items r.end r.last u ran;
+      syncs = syncs o run threads opened held files r.done.items r.end r.last u ran;
+      moments = moments o run threads opened held files r.done.items r.end r.last u ran;
+      end = ends o run threads opened held files r.done.items r.end r.last u ran;
+      printed = unprinted c.law_of_streams.ensures.stopped r.end (λ whole. let e = sym c.in-Err.ensures.err.end ∙ whole in let no : ⊥ = cc in no) [] r.done.items r.last s s (ap (map indexed_request_of) c.in-Err.ensures.err.none) refl;
     }
