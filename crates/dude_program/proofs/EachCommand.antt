@@ -1,6 +1,5 @@
 -- How each command ends, from what its calls leave.
 use Rattle.std.proofs.Common.{◌≡◌, ◌⊎◌, Bool, false, ℕ, ◌+◌, ◌*◌, ◌≤◌, List, [], length, refl, sym, ◌∙◌, ap, subst, inl, inr, ⊎_elim, ◌<◌, arith, Option, Some, None}
-use Rattle.std.specs.List.{AllZip}
 use Rattle.std.specs.Prelude.{IfSome, min, unwrap_or}
 use Rattle.std.proofs.lemmas.Bool.{cases_lt}
 use Rattle.dude_base.specs.declared.limits.TheConstants.{DEFAULT_LOCKS, MAX_LOCKS, MAX_NUMBER, MIN_FRAMES}
@@ -18,7 +17,6 @@ use Rattle.back_store.specs.BackView.{sight_of}
 use Rattle.dude_recover.specs.declared.opened.Opened.{Opened}
 use Rattle.dude_recover.specs.Opened.{IsOpened}
 use Rattle.command_edges.specs.Command.{IsBetween, Meaning, Meaning.FreshRun, Meaning.FormatImage, Meaning.RunFiles, Meaning.StreamFiles, Meaning.RecoverImage, Meaning.DumpTables, Meaning.LocateRange, Meaning.DriveLoad, Meaning.AuditRun, Meaning.ShipFiles, Meaning.FollowFiles}
-use Rattle.command_edges.specs.Files.{OfFile}
 use Rattle.dude_engine.specs.Opening.{Opening}
 use Rattle.dude_engine.specs.Plain.{IsOpeningOf}
 use Rattle.dude_engine.specs.Requests.{request_count}
@@ -32,8 +30,7 @@ use Rattle.command_openings.proofs.OneOpening.{opening_with}
 use Rattle.dude_program.specs.Opening.{KnowsReadsOver, format_sizes, fresh_sizes, load_of, makes_image}
 use Rattle.dude_program.specs.Causes.{IsLeftOpened, MustRefuse, RefusesAudit, RefusesOpening, WantsFrames}
 use Rattle.dude_program.specs.Work.{AllowsFrames, HasFewNumbers, HasFrames, PrintsText, RefusesLoad, RefusesRun}
-use Rattle.dude_program.proofs.FilesRead.{all_judged}
-use Rattle.dude_program.proofs.Refusals.{one_requests, passes_if}
+use Rattle.dude_program.proofs.Refusals.{passes_if}
 use Rattle.dude_program.proofs.Endings.{CameBy}
 use Rattle.dude_program.proofs.Stops.{IsMaker, IsOpener}
 use Rattle.dude_program.proofs.Works.{as_opened}
@@ -112,24 +109,6 @@ dump_passes f opening why refuses = passes_if DumpTables f opening (λ line know
 
 pub locate_passes : (low high limit : ℕ) (f : FilesSight) (opening : Opening) (why : Fault) → MustRefuse (LocateRange low high limit) f opening why → ⊥
 locate_passes low high limit f opening why refuses = passes_if (LocateRange low high limit) f opening (λ line known no. no) (omega arith) (λ w no. no) (λ w no. no) (λ known n no. no.0) why refuses
-
-module _ (frames locks : Option ℕ) (names : List (List ℕ)) (f : FilesSight) (requests : List (List Request)) (read : AllZip (OfFile f) names requests) (number : ℕ) (as_many : number ≡ length names) where
-  pub run_passes : (opening : Opening) → number ≤ opening.sizes.rings → ((wanted : ℕ) → ¬ WantsFrames (RunFiles frames locks names) wanted opening.sizes.pages)
-      → opening.number + 65 * request_count requests ≤ MAX_NUMBER → (why : Fault) → MustRefuse (RunFiles frames locks names) f opening why → ⊥
-  run_passes opening rings none enough why refuses =
-      passes_if (RunFiles frames locks names) f opening (λ line known no. no) (omega (arith, rings, as_many)) none (λ w no. no)
-      (λ visible count few. let same : count ≡ request_count requests = few.1.2 ∙ ap request_count (one_requests (RunFiles frames locks names) f opening few.1.0 requests visible few.1.1 read) in
-      let over = few.2 in omega (arith, same, over, enough)) why refuses
-
-  pub run_refuses : (opening : Opening) (why : Fault) → RefusesRun (RunFiles frames locks names) number opening.sizes opening.number requests why → RefusesOpening (RunFiles frames locks names) f opening why
-  run_refuses opening (ManyFiles a b) r = (r.0 ∙ as_many, r.1, r.2, all_judged names)
-  run_refuses opening (Frames a b) r = (omega (arith, as_many, r.0), r.1, r.2)
-  run_refuses opening (Numbers a b) r = (omega (arith, as_many, r.0), r.1, (λ w no. no), r.2, (tt, (requests, read, r.3), r.4))
-  run_refuses opening why r = absurd r
-
-  pub run_came : (opening : Opening) (last : ℕ) (s t : Sight) → IsLeftOpened opening s t → (why : Fault) → RefusesRun (RunFiles frames locks names) number opening.sizes opening.number requests why
-      → CameBy (RunFiles frames locks names) f opening [] last s t (Some why) × (◌≡◌ {A = Option Fault} (Some why) (Some Device) → ⊥)
-  run_came opening last s t left why r = refused_by (RunFiles frames locks names) f opening refl (λ line no. no) last s t left why (run_refuses opening why r)
 
 module _ (seed count files : ℕ) (f : FilesSight) (opening : Opening) (requests : List (List Request)) (is : requests ≡ load_of opening.sizes.subscribers seed count files) where
   pub drive_passes : files ≤ opening.sizes.rings → files ≤ opening.sizes.subscribers → opening.number + 65 * request_count requests ≤ MAX_NUMBER

@@ -163,22 +163,10 @@ module _ {meaning : Meaning} {f g : FilesSight} (files : FilesRead meaning f g) 
   pub read_fits : FilesRefuse meaning f → ⊥
   read_fits refuse = elim refuse.why [ inl bad ↦ bad files.good | inr long ↦ long (files_in_limit f (command_files meaning) files.good) ]
 
--- the request files of `fresh`, `run` and `stream`
+-- the request file of `fresh`
 pub fresh_files : (subscribers : ℕ) (file : List ℕ) {f g : FilesSight} (lists : List (List Request)) → AllZip (OfFile f) (file ∷ []) lists
     → ReadsInOrder (request_files (file ∷ [])) None f g → FilesRead (FreshRun subscribers file) f g
 fresh_files subscribers file {f} lists read reads = record { good = all_good f (file ∷ []) lists read; reads = reads }
-
-pub run_files : (frames locks : Option ℕ) (names : List (List ℕ)) {f g : FilesSight} (lists : List (List Request)) → AllZip (OfFile f) names lists
-    → ReadsInOrder (request_files names) None f g → FilesRead (RunFiles frames locks names) f g
-run_files frames locks names {f} lists read reads = record { good = all_good f names lists read; reads = reads }
-
-pub stream_files : (frames locks : Option ℕ) (names : List (List ℕ)) {f g : FilesSight} (lists : List (List Request)) → AllZip (OfFile f) names lists
-    → ReadsInOrder (request_files names) None f g → FilesRead (StreamFiles frames locks names) f g
-stream_files frames locks names {f} lists read reads = record { good = all_good f names lists read; reads = reads }
-
-pub ship_files : (names : List (List ℕ)) {f g : FilesSight} (lists : List (List Request)) → AllZip (OfFile f) names lists
-    → ReadsInOrder (request_files names) None f g → FilesRead (ShipFiles names) f g
-ship_files names {f} lists read reads = record { good = all_good f names lists read; reads = reads }
 
 -- a command without files
 pub no_files : (meaning : Meaning) (f : FilesSight) → command_files meaning ≡ [] → FilesRead meaning f f

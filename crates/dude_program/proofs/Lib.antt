@@ -6,6 +6,7 @@ pub mod Contents
 pub mod Crashes
 pub mod EachCommand
 pub mod Endings
+pub mod FileCommands
 pub mod FilesRead
 pub mod FollowEnds
 pub mod FollowStops
@@ -13,9 +14,7 @@ pub mod Followed
 pub mod Led
 pub mod PacketsRead
 pub mod Refusals
-pub mod Shipments
 pub mod Stops
 pub mod StreamEnds
-pub mod Streams
 pub mod TakenPackets
 pub mod Works

@@ -6,6 +6,7 @@ pub mod Follow
 pub mod Headline
 pub mod Judging
 pub mod Opening
+pub mod Prepared
 pub mod Ship
 pub mod Shipping
 pub mod Streaming

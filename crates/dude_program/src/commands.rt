@@ -12,10 +12,10 @@ ghost use Rattle.dude_base.specs.Sizes.{AreTheSizes, IsFaultOf};
 ghost use Rattle.dude_program.specs.Opening.{format_sizes};
 ghost use Rattle.dude_program.specs.World.{world_of};
 
-use crate::checks::check_run;
 use crate::ended::Ended;
 use crate::load::{Load, make_load};
 use crate::output::{end_with_lines, end_with_summary, print_dump};
+use crate::prepared::{Prepared, prepare};
 use crate::run_options::RunOptions;
 use crate::worked::{idle, work, work_on_threads};
 use command_edges::read_files;
@@ -140,16 +140,8 @@ pub fn run<R: Threads + Sync, M: Medium + Send, F: Files, K: Sink, G: Gate + Syn
         (world_of (M.sight result.medium) (F.sight files.new) (K.sight out.new))
         result.done.items result.fault }
 {
-    let lists = match read_files(alloc, names, files) {
-        Ok(lists) => lists,
-        Err(fault) => return Ended::refused(alloc, fault, medium),
-    };
-    let opened = match open_and_announce(alloc, medium) {
-        Ok(opened) => opened,
-        Err((fault, medium)) => return Ended::refused(alloc, fault, medium),
-    };
-    match check_run(&opened, options.frames, &lists) {
-        Ok(()) => {
+    match prepare(alloc, options.frames, names, medium, files) {
+        Ok(Prepared { lists, opened }) => {
             let run = options.over(opened.sizes.pages);
             end_with_lines(
                 alloc,
@@ -157,7 +149,7 @@ pub fn run<R: Threads + Sync, M: Medium + Send, F: Files, K: Sink, G: Gate + Syn
                 out,
             )
         }
-        Err(fault) => Ended::refused(alloc, fault, opened.back.into_medium()),
+        Err(ended) => ended,
     }
 }
 

@@ -14,6 +14,7 @@ mod load;
 mod locate;
 mod locating;
 mod output;
+mod prepared;
 mod run_options;
 mod ship;
 mod shipping;

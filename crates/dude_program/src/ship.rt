@@ -11,11 +11,10 @@ ghost use Rattle.dude_program.specs.Ship.{bytes_of_packets};
 ghost use Rattle.dude_program.specs.Work.{EndsBy};
 ghost use Rattle.dude_program.specs.World.{world_of};
 
-use crate::checks::check_run;
 use crate::ended::Ended;
+use crate::prepared::{Prepared, prepare};
 use crate::shipping::{Shipping, work_and_ship};
-use command_edges::{Fault, print_text, read_files};
-use command_openings::open_and_announce;
+use command_edges::{Fault, print_text};
 use dude_base::bundle::Bundle;
 use dude_follow::write_packet;
 use dude_io::{Files, Sink};
@@ -78,16 +77,10 @@ pub fn ship<M: Medium, F: Files, K: Sink>(
         (world_of (M.sight result.medium) (F.sight files.new) (K.sight out.new))
         result.done.items result.fault }
 {
-    let lists = match read_files(alloc, names, files) {
-        Ok(lists) => lists,
-        Err(fault) => return Ended::refused(alloc, fault, medium),
-    };
-    let opened = match open_and_announce(alloc, medium) {
-        Ok(opened) => opened,
-        Err((fault, medium)) => return Ended::refused(alloc, fault, medium),
-    };
-    match check_run(&opened, None, &lists) {
-        Ok(()) => end_with_packets(alloc, work_and_ship(alloc, opened, &lists), out),
-        Err(fault) => Ended::refused(alloc, fault, opened.back.into_medium()),
+    match prepare(alloc, None, names, medium, files) {
+        Ok(Prepared { lists, opened }) => {
+            end_with_packets(alloc, work_and_ship(alloc, opened, &lists), out)
+        }
+        Err(ended) => ended,
     }
 }

@@ -8,7 +8,7 @@ ghost use Rattle.dude_engine.specs.Requests.{AreInRange, HasNumbersFor};
 ghost use Rattle.dude_program.specs.Shipping.{ShipsOpened};
 ghost use Rattle.dude_program.specs.Work.{RanOverOpened};
 
-use crate::worked::{Worked, fault_of};
+use crate::worked::Worked;
 use dude_base::bundle::Bundle;
 use dude_engine::shipped;
 use dude_recover::Opened;
@@ -39,14 +39,8 @@ pub fn work_and_ship<M: Medium>(
         → AreConsecutive opened.number result.packets.items result.worked.last }
 {
     let shipped = shipped(alloc, opened, files);
-    let ran = shipped.ran;
     Shipping {
-        worked: Worked {
-            done: ran.done,
-            medium: ran.medium,
-            last: ran.last,
-            fault: fault_of(ran.end),
-        },
+        worked: Worked::from_ran(shipped.ran),
         packets: shipped.packets,
     }
 }

@@ -10,12 +10,11 @@ ghost use Rattle.dude_program.specs.Ending.{Ends};
 ghost use Rattle.dude_program.specs.Streaming.{fault_of_stream};
 ghost use Rattle.dude_program.specs.World.{world_of};
 
-use crate::checks::check_run;
 use crate::ended::Ended;
+use crate::prepared::{Prepared, prepare};
 use crate::run_options::RunOptions;
 use crate::streaming::{Streaming, work_and_stream};
-use command_edges::{Fault, read_files};
-use command_openings::open_and_announce;
+use command_edges::Fault;
 use dude_io::{Files, Sink};
 use pmem_trait::Medium;
 use request_attempts::gate::Gate;
@@ -60,19 +59,11 @@ pub fn stream<R: Threads + Sync, M: Medium + Send, F: Files, K: Sink + Send, G: 
         (world_of (M.sight result.medium) (F.sight files.new) (K.sight out.new))
         result.done.items result.fault }
 {
-    let lists = match read_files(alloc, names, files) {
-        Ok(lists) => lists,
-        Err(fault) => return Ended::refused(alloc, fault, medium),
-    };
-    let opened = match open_and_announce(alloc, medium) {
-        Ok(opened) => opened,
-        Err((fault, medium)) => return Ended::refused(alloc, fault, medium),
-    };
-    match check_run(&opened, options.frames, &lists) {
-        Ok(()) => {
+    match prepare(alloc, options.frames, names, medium, files) {
+        Ok(Prepared { lists, opened }) => {
             let run = options.over(opened.sizes.pages);
             end_streamed(work_and_stream(rt, alloc, opened, &run, &lists, gate, out))
         }
-        Err(fault) => Ended::refused(alloc, fault, opened.back.into_medium()),
+        Err(ended) => ended,
     }
 }

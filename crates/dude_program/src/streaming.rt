@@ -9,7 +9,7 @@ ghost use Rattle.run_threads.specs.Ends.{IsAsOpened};
 ghost use Rattle.dude_program.specs.Streaming.{StreamsReplies};
 ghost use Rattle.dude_program.specs.Work.{RanOnThreads};
 
-use crate::worked::{Worked, fault_of};
+use crate::worked::Worked;
 use dude_base::run::Run;
 use dude_io::Sink;
 use dude_recover::Opened;
@@ -49,14 +49,8 @@ pub fn work_and_stream<R: Threads + Sync, M: Medium + Send, G: Gate + Sync, K: S
     ensures printed { StreamsReplies K.sight result out.old out.new }
 {
     let streamed = streamed(rt, alloc, opened, run, files, gate, out);
-    let ran = streamed.ran;
     Streaming {
-        worked: Worked {
-            done: ran.done,
-            medium: ran.medium,
-            last: ran.last,
-            fault: fault_of(ran.end),
-        },
+        worked: Worked::from_ran(streamed.ran),
         sink_failed: streamed.sink_failed,
     }
 }

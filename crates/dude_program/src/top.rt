@@ -1,6 +1,6 @@
 //! A command, carried out by its words; the contract of the whole program is here.
 
-ghost use Rattle.std.specs.Prelude.{◌≡◌, map, IfSome};
+ghost use Rattle.std.specs.Prelude.{◌≡◌, map};
 ghost use Rattle.std.specs.Rc.{rc_str_bytes};
 ghost use Rattle.pmem_trait.specs.Sights.{IsAtRest};
 ghost use Rattle.command_edges.specs.Command.{IsInLimits, meaning_of_command};
@@ -72,30 +72,18 @@ fn carry_out<R: Threads + Sync, M: Medium + Send, F: Files, K: Sink + Send, G: G
             frames,
             locks,
             files: names,
-        } => run(
-            rt,
-            alloc,
-            RunOptions { frames, locks },
-            names,
-            medium,
-            files,
-            out,
-            gate,
-        ),
+        } => {
+            let options = RunOptions { frames, locks };
+            run(rt, alloc, options, names, medium, files, out, gate)
+        }
         Command::Stream {
             frames,
             locks,
             files: names,
-        } => stream(
-            rt,
-            alloc,
-            RunOptions { frames, locks },
-            names,
-            medium,
-            files,
-            out,
-            gate,
-        ),
+        } => {
+            let options = RunOptions { frames, locks };
+            stream(rt, alloc, options, names, medium, files, out, gate)
+        }
         Command::Recover => recover(alloc, medium, out),
         Command::Dump => dump(alloc, medium, out),
         Command::Locate { low, high, limit } => {

@@ -11,7 +11,7 @@ ghost use Rattle.dude_program.specs.Work.{RanOnThreads, RanOverOpened, fault_of_
 
 use command_edges::Fault;
 use dude_base::run::Run;
-use dude_engine::{RanEnd, plain};
+use dude_engine::{Ran, RanEnd, plain};
 use dude_recover::Opened;
 use pmem_trait::Medium;
 use request_attempts::gate::Gate;
@@ -30,8 +30,25 @@ pub struct Worked<M> {
     pub fault: Option<Fault>,
 }
 
-/// The fault that a run ended with, if any.
-pub fn fault_of(end: RanEnd) -> Option<Fault>
+impl<M> Worked<M> {
+    /// What became of them in this run.
+    pub fn from_ran(ran: Ran<M>) -> Worked<M>
+        ensures done { result.done ≡ ran.done }
+        ensures medium { result.medium ≡ ran.medium }
+        ensures last { result.last ≡ ran.last }
+        ensures fault { result.fault ≡ fault_of_end ran.end }
+    {
+        Worked {
+            done: ran.done,
+            medium: ran.medium,
+            last: ran.last,
+            fault: fault_of(ran.end),
+        }
+    }
+}
+
+// The fault that a run ended with, if any.
+fn fault_of(end: RanEnd) -> Option<Fault>
     ensures { result ≡ fault_of_end end }
 {
     match end {
@@ -49,13 +66,7 @@ pub fn work<M: Medium>(alloc: Global, opened: Opened<M>, files: &[Vec<Request>])
     requires numbers { HasNumbersFor opened.number (requests_in files.now) }
     ensures { RanOverOpened M.sight opened files.now result }
 {
-    let ran = plain(alloc, opened, files);
-    Worked {
-        done: ran.done,
-        medium: ran.medium,
-        last: ran.last,
-        fault: fault_of(ran.end),
-    }
+    Worked::from_ran(plain(alloc, opened, files))
 }
 
 /// Runs the requests of files over an opened image, each file on a thread of its own. Each transaction passes the gate.
@@ -76,13 +87,7 @@ pub fn work_on_threads<R: Threads + Sync, M: Medium + Send, G: Gate + Sync>(
     requires numbers { HasNumbersFor opened.number (requests_in files.now) }
     ensures { RanOnThreads M.sight opened run.now files.now result }
 {
-    let ran = threaded(rt, alloc, opened, run, files, gate);
-    Worked {
-        done: ran.done,
-        medium: ran.medium,
-        last: ran.last,
-        fault: fault_of(ran.end),
-    }
+    Worked::from_ran(threaded(rt, alloc, opened, run, files, gate))
 }
 
 /// An opened image with no requests.
