@@ -17,7 +17,9 @@ mod play;
 mod stage;
 mod steps;
 mod stores;
+mod sum;
 mod trouble;
+mod view_digest;
 mod whole_calls;
 mod words;
 

@@ -2,18 +2,21 @@
 
 ghost use Rattle.std.specs.Prelude.{◌≡◌, length};
 
+use crate::sum::Sum;
 use dude_base::limits::{MAX_NUMBER, PAGE};
 use dude_base::run::Run;
 use dude_base::sizes::Sizes;
 use dude_core::{Core, CoreFault, CoreRefusal, CoreWord, Event, core_step};
 use std::alloc::Global;
 
-/// A machine, and what its first home word was.
+/// A machine, what its first home word and its number were at the start, and the sum of all calls made on its medium.
 #[derive(Drop)]
 pub struct Stage {
     pub alloc: Global,
     pub core: Core,
     first_word: u64,
+    first: u64,
+    made: Sum,
 }
 
 impl Stage {
@@ -44,6 +47,8 @@ impl Stage {
                 alloc,
                 core,
                 first_word,
+                first: number,
+                made: Sum::new(),
             })),
             Err(fault) => Err(fault),
         }
@@ -54,9 +59,30 @@ impl Stage {
         self.first_word.saturating_add(at)
     }
 
+    /// The number at the start.
+    pub fn first(&self) -> u64 {
+        self.first
+    }
+
+    /// The sum of all calls made on the medium.
+    pub fn calls_made(&self) -> u64 {
+        self.made.total()
+    }
+
     /// Makes the event by this view, and says in a word whether it is allowed.
     pub fn make(&mut self, who: u64, event: &Event) -> &'static str {
-        said_of(core_step(self.alloc, &mut self.core, who, event))
+        let outcome = core_step(self.alloc, &mut self.core, who, event);
+        if outcome.is_ok() {
+            self.add_call(event);
+        }
+        said_of(outcome)
+    }
+
+    /// Adds the call on the medium that was made, if the event is one.
+    fn add_call(&mut self, event: &Event) {
+        if let Event::Device { call } = event {
+            self.made.add_call(call);
+        }
     }
 
     /// The sizes of the image.
@@ -81,6 +107,26 @@ impl Stage {
             Some(store.next(ring))
         } else {
             None
+        }
+    }
+
+    /// Whether there is such a ring, with room for so many cells more.
+    pub fn has_room(&self, ring: u64, cells: u64) -> bool {
+        let store = self.core.store();
+        if ring < store.place().sizes().rings {
+            store.has_room(ring, cells)
+        } else {
+            false
+        }
+    }
+
+    /// Whether there is such a ring, and the number is over all that its bundles cover.
+    pub fn is_newest(&self, ring: u64, number: u64) -> bool {
+        let store = self.core.store();
+        if ring < store.place().sizes().rings {
+            store.is_newest(ring, number)
+        } else {
+            false
         }
     }
 
