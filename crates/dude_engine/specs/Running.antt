@@ -222,7 +222,7 @@ abbrev pub HasRoomToNote : {M : Type 0} {ghosts : Ghosts M} → Run M ghosts →
 HasRoomToNote run = vec_len run.done < vec_capacity run.done
 
 -- A request of this file may be served.
-pub record MayServe {M : Type 0} {ghosts : Ghosts M} (file : ℕ) (run : Run M ghosts) : Type 0 where
+pub record MayServeFrom {M : Type 0} {ghosts : Ghosts M} (file : ℕ) (run : Run M ghosts) : Type 0 where
   -- the run is ready
   pub ready : IsReady run
   -- there is room to note it

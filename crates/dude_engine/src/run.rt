@@ -9,7 +9,7 @@ ghost use Rattle.log_numbered.specs.RunLog.{log_durable, log_end, log_last};
 ghost use Rattle.log_numbered.specs.KeptBundles.{HasRoomToKeep};
 ghost use Rattle.dude_engine.specs.Requests.{AreInRange, HasLength, HasNumberEach, request_count};
 ghost use Rattle.dude_engine.specs.Keeping.{LeavesKept};
-ghost use Rattle.dude_engine.specs.Running.{HasRoomToNote, IsAtStart, IsChanging, IsReady, LeavesOn, LeavesRun, MakesRun, MayServe, NotesTurn, NotesUnless, NumbersNoMore, PerformsFiles, SettlesRun, silent_done};
+ghost use Rattle.dude_engine.specs.Running.{HasRoomToNote, IsAtStart, IsChanging, IsReady, LeavesOn, LeavesRun, MakesRun, MayServeFrom, NotesTurn, NotesUnless, NumbersNoMore, PerformsFiles, SettlesRun, silent_done};
 
 use crate::run_fault::RunFault;
 use log_numbered::{KeptBundles, RunLog};
@@ -94,7 +94,7 @@ impl<M: Medium> Run<M> {
 
     /// Serves one request. Where the medium fails as the bundle before its record is persisted, it is noted as done too.
     fn serve(&mut self, file: u64, index: u64, request: &Request) -> Result<(), RunFault>
-        requires may { MayServe file self.old }
+        requires may { MayServeFrom file self.old }
         requires in_range { IsInRange request.now }
         ensures leaves { LeavesRun result self.old self.new }
         ensures kept { LeavesKept result self.old self.new }
@@ -125,7 +125,7 @@ impl<M: Medium> Run<M> {
 
     // Performs a request on the tables, and logs what it changed.
     fn perform(&mut self, file: u64, index: u64, request: &Request) -> Result<(), RunFault>
-        requires may { MayServe file self.old }
+        requires may { MayServeFrom file self.old }
         requires keep { HasRoomToKeep self.old.packets }
         requires in_range { IsInRange request.now }
         requires no_sync { is_sync request.now ≡ false }

@@ -4,6 +4,7 @@ ghost use Rattle.std.specs.Prelude.{◌<◌, ◌↔◌, IsTrue, IfOk, IfSome};
 ghost use Rattle.word_space.specs.Steps.{AnswersSeen, ChangesSeen, Shows, UsesWords, WritesAsMany};
 ghost use Rattle.record_heap.specs.Pool.{CountsTaken, FitsPool, GivesBack, IsFirstFree, HasHeader, IsRecord, TakesFree, take_writes, with_header};
 
+use dude_base::limits::ROW_WORDS;
 use word_space::stop::Stop;
 use word_space::words::Words;
 
@@ -19,9 +20,6 @@ pub struct Pool {
     pub size: u64,
     pub count: u64,
 }
-
-/// The words of a record of most pools. They are a case of their own, since by a constant nothing is divided.
-const ROW_WORDS: u64 = 4;
 
 /// The words of a pool's header: the link of the first free record, and how many are taken.
 #[derive(Clone, Copy)]
@@ -40,6 +38,7 @@ impl Pool {
             return false;
         }
         let offset = at - self.first;
+        // Most records have this size, and by a constant nothing is divided.
         if self.size == ROW_WORDS {
             return offset % ROW_WORDS == 0 && offset / ROW_WORDS < self.count;
         }

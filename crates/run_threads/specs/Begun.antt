@@ -24,7 +24,7 @@ module _ {M : Type 0} {ghosts : Ghosts M} where
     pub lay : b.lay ≡ o.lay
 
   -- They may serve these files: they start over an idle back with a lawful home, and their pass may be split for the files.
-  pub record MayServe (files : List (List Request)) (b : Begun M ghosts) : Type 0 where
+  pub record IsBegunFor (files : List (List Request)) (b : Begun M ghosts) : Type 0 where
     pub starts : StartsOver ghosts.sight (begun_table b).key b.lay
     pub setup : (begun_table b).setup ≡ setup_of ghosts.sight (begun_table b).key
     pub may : MayWorkOn (begun_table b) b.lay files

@@ -1,7 +1,7 @@
 //! Files are served on threads over a back, and the transactions are closed.
 
 ghost use Rattle.std.specs.Prelude.{map};
-ghost use Rattle.run_threads.specs.Begun.{MayServe, begun_table};
+ghost use Rattle.run_threads.specs.Begun.{IsBegunFor, begun_table};
 ghost use Rattle.run_threads.specs.Served.{HasServed};
 
 use crate::back_turns::BackTurns;
@@ -24,7 +24,7 @@ pub(crate) fn serve<R: Threads + Sync, M: Medium + Send, G: Gate + Sync>(
     files: &[Vec<Request>],
     gate: &G,
 ) -> Served<M>
-    requires { MayServe (map (λ f. f.items) files.now) begun }
+    requires { IsBegunFor (map (λ f. f.items) files.now) begun }
     ensures { HasServed M.sight (begun_table begun).key begun.lay (map (λ f. f.items) files.now)
         result }
 {

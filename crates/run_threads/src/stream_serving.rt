@@ -3,7 +3,7 @@
 ghost use Rattle.std.specs.Prelude.{◌≡◌, IfNone, IfSome, length, map};
 ghost use Rattle.run_workers.specs.Streamed.{HasStreamed};
 ghost use Rattle.run_workers.specs.declared.work_end.WorkEnd.TheVariants.{NoMemory as NoMemoryEnd};
-ghost use Rattle.run_threads.specs.Begun.{MayServe, begun_table};
+ghost use Rattle.run_threads.specs.Begun.{IsBegunFor, begun_table};
 ghost use Rattle.run_threads.specs.Served.{HasServed};
 
 use crate::back_turns::BackTurns;
@@ -29,7 +29,7 @@ pub(crate) fn serve_streaming<R: Threads + Sync, M: Medium + Send, G: Gate + Syn
     gate: &G,
     out: &mut K,
 ) -> (Served<M>, Option<Printing>)
-    requires { MayServe (map (λ f. f.items) files.now) begun }
+    requires { IsBegunFor (map (λ f. f.items) files.now) begun }
     ensures served { HasServed M.sight (begun_table begun).key begun.lay
         (map (λ f. f.items) files.now) result.0 }
     ensures some { IfSome result.1 (λ p. HasStreamed (length files.now) result.0.done.items

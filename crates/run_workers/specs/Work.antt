@@ -25,8 +25,8 @@ module _ {S X K P T G : Type 0} where
 
   -- ---- one file
   -- the home is the table's, and each of these requests is in range
-  abbrev pub MayServe : Work S X K P T G → List Request → Type 0
-  MayServe w requests = MayWork (work_table w) w.lay.now requests
+  abbrev pub MayServeRequests : Work S X K P T G → List Request → Type 0
+  MayServeRequests w requests = MayWork (work_table w) w.lay.now requests
 
   -- nothing of these requests is done yet
   abbrev pub IsNew : Work S X K P T G → List Request → Job X → Type 0
@@ -89,7 +89,8 @@ module _ {S X K P T G : Type 0} where
     pub sent : SendsFirst new
     pub worked : IsOverOfFile w new
 
-  -- The workers of these jobs have ended: each job serves its file still, sends into its lane still, and sent just the first so many replies
+  -- The workers of these jobs have ended: each one's requests are done as far as it went, it serves its file still,
+  -- sends into its lane still, and sent just the first so many replies.
   pub record HaveEnded (w : Work S X K P T G) (old new : List (Job X)) : Type 0 where
     pub worked : AreOver w new
     pub places : KeepPlaces old new

@@ -7,7 +7,7 @@ ghost use Rattle.run_workers.specs.declared.work_end.WorkEnd.TheVariants.{Device
 ghost use Rattle.run_workers.specs.Job.{KeepsPlace};
 ghost use Rattle.run_workers.specs.Sending.{DoesMore, IsSameLane, SendsFirst};
 ghost use Rattle.run_workers.specs.Steps.{HasTurned};
-ghost use Rattle.run_workers.specs.Work.{EndsSo, IsNew, IsOver, IsServedTo, MayServe, work_table};
+ghost use Rattle.run_workers.specs.Work.{EndsSo, IsNew, IsOver, IsServedTo, MayServeRequests, work_table};
 
 use crate::job::Job;
 use crate::work::Work;
@@ -38,7 +38,7 @@ impl<
     /// further call is made. After every eighth request it takes a turn. Replies are sent as the lane takes them, and at the
     /// end the count of ended workers rises.
     pub fn work(&self, requests: &[Request], ended: &AtomicU64, job: &mut Job<X>)
-        requires may { MayServe self.now requests.now }
+        requires may { MayServeRequests self.now requests.now }
         requires fresh { IsNew self.now requests.now job.old }
         requires sent { SendsFirst job.old }
         ensures place { KeepsPlace job.old job.new }
@@ -56,7 +56,7 @@ impl<
 
     // Serves the requests up to the first one that isn't served.
     fn serve_all(&self, requests: &[Request], job: &mut Job<X>) -> Result<(), WorkEnd>
-        requires may { MayServe self.now requests.now }
+        requires may { MayServeRequests self.now requests.now }
         requires fresh { IsNew self.now requests.now job.old }
         requires sent { SendsFirst job.old }
         ensures place { KeepsPlace job.old job.new }
@@ -81,7 +81,7 @@ impl<
         index: usize,
         job: &mut Job<X>,
     ) -> Result<(), WorkEnd>
-        requires may { MayServe self.now requests.now }
+        requires may { MayServeRequests self.now requests.now }
         requires at { IsServedTo self.now requests.now index job.old }
         requires there { index < length requests.now }
         ensures place { KeepsPlace job.old job.new }
