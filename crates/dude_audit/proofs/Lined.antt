@@ -6,9 +6,7 @@ use Rattle.std.proofs.lemmas.List.{drop-take, length-take, take-append-drop}
 use Rattle.std.proofs.lemmas.List.Elements.{All-nil, All-cons, All-append, All-drop}
 use Rattle.dude_base.specs.declared.limits.TheConstants.{MAX_NUMBER}
 use Rattle.tatp_text.specs.Output.{last_line}
-use Rattle.dude_audit.specs.declared.head.Head.{Head}
 use Rattle.dude_audit.specs.Bytes.{HasNo, IsFirstAt}
-use Rattle.dude_audit.specs.Head.{IsHead}
 use Rattle.dude_audit.specs.Line.{line_bytes, BeginsWithLine}
 use Rattle.dude_audit.proofs.Numerals.{one_split, decimal_no, absent_not}
 
@@ -35,22 +33,30 @@ pub no_head : (bytes : List ℕ) (to : ℕ) → IsFirstAt 10 bytes to → ((n : 
 no_head bytes to first none n text more small whole is =
     none n text small (one_split 10 (take to bytes) (decimal n ++ 32 ∷ text) (drop (to + 1) bytes) more first.before (front_whole n text small whole) (sym first.splits ∙ is ∙ line_split n text more)).0
 
--- bytes whose bytes up to the first LF have a number in front
-pub begins_with : (bytes : List ℕ) (to : ℕ) (head : Head) → IsFirstAt 10 bytes to → IsHead (take to bytes) head → BeginsWithLine bytes (record { number = head.number; from = head.from; to = to })
-begins_with bytes to head first is =
+-- bytes whose bytes up to the first LF are a number, a space and what is from this place on
+begins_at : (bytes : List ℕ) (to from number : ℕ) → IsFirstAt 10 bytes to → number ≤ MAX_NUMBER → from ≤ length (take to bytes) → take to bytes ≡ decimal number ++ 32 ∷ drop from (take to bytes)
+    → BeginsWithLine bytes (record { number = number; from = from; to = to })
+begins_at bytes to from number first small within splits =
     let long : length (take to bytes) ≡ to = (let w = first.within in omega (arith, length-take to bytes, w)) in
-    let rises : head.from ≤ to = (let w = is.within in omega (arith, w, long)) in
-    let same : drop head.from (take to bytes) ≡ take (to - head.from) (drop head.from bytes) =
-    (let e : head.from + (to - head.from) ≡ to = omega (arith, rises) in subst (λ (k : ℕ). drop head.from (take k bytes) ≡ take (to - head.from) (drop head.from bytes)) e (drop-take head.from (to - head.from) bytes)) in
-    let text : List ℕ = take (to - head.from) (drop head.from bytes) in
-    let front : take to bytes ≡ decimal head.number ++ 32 ∷ text = is.splits ∙ ap (λ (l : List ℕ). decimal head.number ++ 32 ∷ l) same in
+    let rises : from ≤ to = omega (arith, within, long) in
+    let same : drop from (take to bytes) ≡ take (to - from) (drop from bytes) =
+    (let e : from + (to - from) ≡ to = omega (arith, rises) in subst (λ (k : ℕ). drop from (take k bytes) ≡ take (to - from) (drop from bytes)) e (drop-take from (to - from) bytes)) in
+    let text : List ℕ = take (to - from) (drop from bytes) in
+    let front : take to bytes ≡ decimal number ++ 32 ∷ text = splits ∙ ap (λ (l : List ℕ). decimal number ++ 32 ∷ l) same in
     record {
-      small = is.small;
+      small = small;
       rises = rises;
       within = first.within;
-      whole = subst (HasNo 10) same (All-drop (λ b. b ≡ 10 → ⊥) head.from (take to bytes) first.before);
-      is = first.splits ∙ ap (λ (l : List ℕ). l ++ 10 ∷ drop (to + 1) bytes) front ∙ sym (line_split head.number text (drop (to + 1) bytes));
+      whole = subst (HasNo 10) same (All-drop (λ b. b ≡ 10 → ⊥) from (take to bytes) first.before);
+      is = first.splits ∙ ap (λ (l : List ℕ). l ++ 10 ∷ drop (to + 1) bytes) front ∙ sym (line_split number text (drop (to + 1) bytes));
     }
+
+-- bytes whose bytes up to the first LF have a number up to their first space
+pub begins_with : (bytes : List ℕ) (to space number : ℕ) → IsFirstAt 10 bytes to → IsFirstAt 32 (take to bytes) space → (number ≤ MAX_NUMBER) × (take space (take to bytes) ≡ decimal number)
+    → BeginsWithLine bytes (record { number = number; from = space + 1; to = to })
+begins_with bytes to space number first behind said =
+    let within = behind.within in
+    begins_at bytes to (space + 1) number first said.0 (omega (arith, within)) (behind.splits ∙ ap (λ (l : List ℕ). l ++ 32 ∷ drop (space + 1) (take to bytes)) said.1)
 
 -- ---- the last line
 

@@ -1,13 +1,13 @@
 -- Lines that say what was done in a run that one thread gives.
-use Rattle.std.specs.Prelude.{ℕ, ◌≡◌, ◌≤◌, ◌↔◌, true, IsTrue, List, map, All, codes}
+use Rattle.std.specs.Prelude.{ℕ, ◌≡◌, ◌↔◌, true, List, map, All, codes}
 use Rattle.std.specs.List.{AllZip}
 use Rattle.tatp_model.specs.declared.request.Request.{Request}
 use Rattle.tatp_model.specs.declared.done.Done.{Done}
 use Rattle.tatp_model.specs.Database.{Database}
-use Rattle.tatp_model.specs.OneThread.{is_sync, indexed_request_of, indexed_requests_from, AllAreDone, RepliesOfOneThread}
-use Rattle.run_order.specs.Runs.{SyncsFollow}
+use Rattle.tatp_model.specs.OneThread.{indexed_request_of, indexed_requests_from}
 use Rattle.tatp_text.specs.Reply.{reply_text}
 use Rattle.dude_audit.specs.declared.claim.Claim.{Claim}
+use Rattle.dude_audit.specs.PrintedRun.{RunsAsOneThread}
 use Rattle.dude_audit.specs.Claim.{text_of, claimed_request_of, claims_sync, SaysWrote}
 
 -- These are the lines of the requests of the files, one for each in order of file and index. A line says `DURABLE` exactly
@@ -28,9 +28,4 @@ pub record IsLineOf (printed : List ℕ) (c : Claim) (d : Done) : Type 0 where
 pub record IsOneThreadRun (first limit : ℕ) (db : Database) (files : List (List Request)) (printed : List ℕ) (claims : List Claim) (last : ℕ) : Type 0 where
   pub done : List Done
   pub lines : AllZip (IsLineOf printed) claims done
-  pub all : AllAreDone files done
-  pub replies : RepliesOfOneThread first limit db files done
-  pub syncs_from : All (λ d. IsTrue (is_sync d.request) → first ≤ d.number) done
-  pub syncs_follow : SyncsFollow done
-  pub none_over : All (λ d. d.number ≤ last) done
-  pub from : first ≤ last
+  pub run : RunsAsOneThread first limit db files done last

@@ -226,11 +226,13 @@ module _ (first limit : ℕ) (db : Database) (files : List (List Request)) (prin
     done = done;
     lines = zip_mapped (IsLineOf printed) made claims
         (All-weaker (Contains claims) (λ c. IsLineOf printed c (made c)) (λ c there. record { request = refl; number = refl; text = text_here c there }) claims (All-contains_itself claims));
-    all = all;
-    replies = one_thread;
-    syncs_from = All-map (λ d. is_sync d.request ≡ true → first ≤ d.number) made claims (keeps_each (λ c. claims_sync c ≡ true → first ≤ c.number) (λ earlier c k sync. k.from));
-    syncs_follow = pairs_mapped (λ d e. d.file ≡ e.file → is_sync e.request ≡ true → d.number ≤ e.number) made claims
-        (pairs_weaker IsBehind (λ c d. c.file ≡ d.file → claims_sync d ≡ true → c.number ≤ d.number) claims (λ c d b file sync. b.synced sync file) behind);
-    none_over = All-map (λ d. d.number ≤ last) made claims passes.ends.none_over;
-    from = passes.ends.from;
+    run = record {
+      all = all;
+      replies = one_thread;
+      syncs_from = All-map (λ d. is_sync d.request ≡ true → first ≤ d.number) made claims (keeps_each (λ c. claims_sync c ≡ true → first ≤ c.number) (λ earlier c k sync. k.from));
+      syncs_follow = pairs_mapped (λ d e. d.file ≡ e.file → is_sync e.request ≡ true → d.number ≤ e.number) made claims
+          (pairs_weaker IsBehind (λ c d. c.file ≡ d.file → claims_sync d ≡ true → c.number ≤ d.number) claims (λ c d b file sync. b.synced sync file) behind);
+      none_over = All-map (λ d. d.number ≤ last) made claims passes.ends.none_over;
+      from = passes.ends.from;
+    };
   }

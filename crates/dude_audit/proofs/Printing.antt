@@ -32,7 +32,7 @@ use Rattle.dude_audit.specs.Reading.{Fits, IsReadLine, claim_bytes, BeginsWithLi
 use Rattle.dude_audit.proofs.Numerals.{one_split}
 use Rattle.dude_audit.proofs.Lined.{line_unique, last_whole, last_split}
 use Rattle.dude_audit.specs.Blanks.{AreBlanks}
-use Rattle.dude_audit.specs.PrintedRun.{IsPrintedRun}
+use Rattle.dude_audit.specs.PrintedRun.{IsPrintedRun, RunsAsOneThread}
 use Rattle.dude_audit.proofs.Files.{all_unmapped, all_indexed}
 use Rattle.dude_audit.proofs.Necessary.{any_claim}
 use Rattle.dude_audit.proofs.Shown.{Shown, shown_reply}
@@ -106,27 +106,27 @@ module _ (first limit : ℕ) (db : Database) (files : List (List Request)) (prin
   asked d = not (is_sync d.request)
 
   done_ranges : All (λ d. IsInRange d.request) done
-  done_ranges = all_unmapped (λ (r : IndexedRequest). IsInRange r.request) indexed_request_of done (subst (λ (l : List IndexedRequest). All (λ (r : IndexedRequest). IsInRange r.request) l) (sym run.all) (all_indexed 0 files ranges))
+  done_ranges = all_unmapped (λ (r : IndexedRequest). IsInRange r.request) indexed_request_of done (subst (λ (l : List IndexedRequest). All (λ (r : IndexedRequest). IsInRange r.request) l) (sym run.run.all) (all_indexed 0 files ranges))
 
-  order_ranges : All (λ d. IsInRange d.request) run.replies.order
-  order_ranges = All-permutation (λ (d : Done). IsInRange d.request) (filter asked done) run.replies.order run.replies.printed.same (All-filter asked (λ (d : Done). IsInRange d.request) done done_ranges)
+  order_ranges : All (λ d. IsInRange d.request) run.run.replies.order
+  order_ranges = All-permutation (λ (d : Done). IsInRange d.request) (filter asked done) run.run.replies.order run.run.replies.printed.same (All-filter asked (λ (d : Done). IsInRange d.request) done done_ranges)
 
-  all_answered : All (AnsweredInOrder limit) run.replies.order
-  all_answered = answered limit db run.replies.order (record { order = in_order; room = room }) order_ranges run.replies.one_thread
+  all_answered : All (AnsweredInOrder limit) run.run.replies.order
+  all_answered = answered limit db run.run.replies.order (record { order = in_order; room = room }) order_ranges run.run.replies.one_thread
 
   prints_one : (d : Done) → Contains done d → Prints d
   prints_one d there =
-      let small : d.number ≤ MAX_NUMBER = (let u = All-contains (λ d. d.number ≤ run.last) done d run.none_over there in let s = run.small in omega (arith, u, s)) in
+      let small : d.number ≤ MAX_NUMBER = (let u = All-contains (λ d. d.number ≤ run.last) done d run.run.none_over there in let s = run.small in omega (arith, u, s)) in
       ⊎_elim
       (λ sync.
-      let durable : d.reply ≡ Durable = (All-contains (λ d. (d.reply ≡ Durable) × (d.wrote ≡ false)) (filter (λ (d : Done). is_sync d.request) done) d run.replies.syncs (contains_filter (λ (d : Done). is_sync d.request) done d there sync)).0 in
+      let durable : d.reply ≡ Durable = (All-contains (λ d. (d.reply ≡ Durable) × (d.wrote ≡ false)) (filter (λ (d : Done). is_sync d.request) done) d run.run.replies.syncs (contains_filter (λ (d : Done). is_sync d.request) done d there sync)).0 in
       record {
         small = small;
         whole = subst (λ (r : Reply). HasNo 10 (reply_text r)) (sym durable) durable_whole;
         syncs = (λ is. ap reply_text durable, λ is. sync);
       })
       (λ ask.
-      let a = All-contains (AnsweredInOrder limit) run.replies.order d all_answered (Contains-permutation (filter asked done) run.replies.order d run.replies.printed.same (contains_filter asked done d there (not_from_false (is_sync d.request) ask))) in
+      let a = All-contains (AnsweredInOrder limit) run.run.replies.order d all_answered (Contains-permutation (filter asked done) run.run.replies.order d run.run.replies.printed.same (contains_filter asked done d there (not_from_false (is_sync d.request) ask))) in
       let shown : Shown d.reply = subst Shown (sym a.reply) (shown_reply limit a.base d.request a.order ask) in
       record {
         small = small;
@@ -151,12 +151,7 @@ pub printed_from : (first limit : ℕ) (db : Database) (files : List (List Reque
 printed_from first limit db files printed blanks claims last lines run = record {
   done = run.done;
   last = last;
-  all = run.all;
-  replies = run.replies;
-  syncs_from = run.syncs_from;
-  syncs_follow = run.syncs_follow;
-  none_over = run.none_over;
-  from = run.from;
+  run = run.run;
   small = lines.small;
   printed_so = lines.is ∙ ap (λ (l : List ℕ). l ++ last_line last) (same_bytes printed claims run.done run.lines);
 }
@@ -167,7 +162,7 @@ module _ (first limit : ℕ) (db : Database) (files : List (List Request)) (prin
 
   -- the blanks' requests are those that were done
   same_requests : map claimed_request_of blanks ≡ map indexed_request_of run.done
-  same_requests = are.requests ∙ sym run.all
+  same_requests = are.requests ∙ sym run.run.all
 
   -- the output of a run is lines that are those of a one-thread run
   pub run_of_lines : (claims : List Claim) (last : ℕ) → AreLines blanks printed claims last → IsOneThreadRun first limit db files printed claims last
@@ -177,12 +172,7 @@ module _ (first limit : ℕ) (db : Database) (files : List (List Request)) (prin
       record {
         done = run.done;
         lines = both.0;
-        all = run.all;
-        replies = run.replies;
-        syncs_from = run.syncs_from;
-        syncs_follow = run.syncs_follow;
-        none_over = subst (λ (n : ℕ). All (λ d. d.number ≤ n) run.done) (sym ends) run.none_over;
-        from = subst (λ (n : ℕ). first ≤ n) (sym ends) run.from;
+        run = subst (λ (n : ℕ). RunsAsOneThread first limit db files run.done n) (sym ends) run.run;
       }
 
   -- behind the first lines stand the others

@@ -18,20 +18,26 @@ use Rattle.dude_audit.specs.declared.verdict.Verdict.{Verdict}
 use Rattle.dude_audit.specs.declared.verdict.Verdict.TheVariants.{Yes, No}
 use Rattle.dude_audit.specs.Verdict.{HasVerdict}
 
--- The bytes are the output of a run of all requests of the files, from a database and a number on, where at most `limit` call rows
--- may stand.
-pub record IsPrintedRun (first limit : ℕ) (db : Database) (files : List (List Request)) (printed : List ℕ) : Type 0 where
-  pub done : List Done
-  pub last : ℕ
+-- This was done in a run of all requests of the files, from a database and a number on, where at most `limit` call rows may
+-- stand, and the run ended with this last number.
+pub record RunsAsOneThread (first limit : ℕ) (db : Database) (files : List (List Request)) (done : List Done) (last : ℕ) : Type 0 where
   -- all is done, and answered as by one thread along the printed order
   pub all : AllAreDone files done
   pub replies : RepliesOfOneThread first limit db files done
   -- a `SYNC` has no number under the first one, nor under an earlier one of its file
   pub syncs_from : All (λ d. IsTrue (is_sync d.request) → first ≤ d.number) done
   pub syncs_follow : SyncsFollow done
-  -- no number is over the last one, which has at most 48 bits
+  -- no number is over the last one
   pub none_over : All (λ d. d.number ≤ last) done
   pub from : first ≤ last
+
+-- The bytes are the output of a run of all requests of the files, from a database and a number on, where at most `limit` call rows
+-- may stand.
+pub record IsPrintedRun (first limit : ℕ) (db : Database) (files : List (List Request)) (printed : List ℕ) : Type 0 where
+  pub done : List Done
+  pub last : ℕ
+  pub run : RunsAsOneThread first limit db files done last
+  -- the last number has at most 48 bits
   pub small : last ≤ MAX_NUMBER
   -- the bytes are what is printed of it
   pub printed_so : printed ≡ output_of done last

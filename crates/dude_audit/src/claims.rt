@@ -1,12 +1,10 @@
 //! The verdict on the lines of a printed run.
 
-ghost use Rattle.std.specs.Prelude.{◌≡◌, ◌≤◌, ◌↔◌, All, AllPairs, IfOk, IfSome, IfNone, IsTrue, not, filter, length};
+ghost use Rattle.std.specs.Prelude.{◌≡◌, ◌≤◌, ◌↔◌, AllPairs, IfOk, IsTrue, not, filter, length};
 ghost use Rattle.tatp_model.specs.Database.{database_of, IsInOrder};
-ghost use Rattle.tatp_model.specs.Request.{IsInRange};
-ghost use Rattle.dude_audit.specs.Claim.{IsWithin, claims_sync};
+ghost use Rattle.dude_audit.specs.Claim.{claims_sync};
 ghost use Rattle.dude_audit.specs.Order.{AreApart, AreOfRun, IsClaimOrder};
-ghost use Rattle.dude_audit.specs.Walk.{TextsAlong};
-ghost use Rattle.dude_audit.specs.Verdict.{IsLastOf, IsWrongLine, HasVerdict};
+ghost use Rattle.dude_audit.specs.Verdict.{IsLastOf, HasVerdict};
 
 use crate::Claim;
 use crate::copy::copied;
@@ -43,30 +41,6 @@ fn order_of(alloc: Global, claims: &[Claim]) -> Result<Vec<Claim>, AllocError>
     Ok(order)
 }
 
-// The line of the first request of the order whose text isn't that of one thread's reply.
-fn wrong_line(
-    alloc: Global,
-    start: &Tables,
-    limit: u64,
-    order: &[Claim],
-    printed: &[u8],
-) -> Result<Option<u64>, AllocError>
-    requires in_range { All (λ c. IsInRange c.request) order.now }
-    requires within { All (IsWithin (length printed.now)) order.now }
-    requires in_order { IsInOrder (database_of start.now) }
-    requires room { length (database_of start.now).calls ≤ limit }
-    ensures right { IfOk result (λ answer. IfNone answer
-        (TextsAlong printed.now limit (database_of start.now) order.now)) }
-    ensures wrong { IfOk result (λ answer. IfSome answer
-        (IsWrongLine printed.now limit (database_of start.now) order.now)) }
-{
-    let mut tables = copied(alloc, start)?;
-    match first_wrong(alloc, &mut tables, limit, order, printed)? {
-        Some(at) => Ok(Some(order[at].line)),
-        None => Ok(None),
-    }
-}
-
 /// The verdict on the lines of a printed run.
 pub(crate) fn audit_claims(
     alloc: Global,
@@ -94,8 +68,11 @@ pub(crate) fn audit_claims(
         });
     }
     let order = order_of(alloc, claims)?;
-    match wrong_line(alloc, start, limit, &order, printed)? {
-        Some(line) => Ok(Verdict::No { line }),
+    let mut tables = copied(alloc, start)?;
+    match first_wrong(alloc, &mut tables, limit, &order, printed)? {
+        Some(at) => Ok(Verdict::No {
+            line: order[at].line,
+        }),
         None => Ok(Verdict::Yes),
     }
 }

@@ -6,7 +6,6 @@ mod bytes;
 mod claim;
 mod claims;
 mod copy;
-mod head;
 mod judge;
 mod last;
 mod laws;

@@ -3,8 +3,7 @@
 ghost use Rattle.std.specs.Prelude.{IfSome, IfNone};
 ghost use Rattle.dude_audit.specs.Line.{BeginsWithLine, BeginsWithNoLine};
 
-use crate::bytes::find_byte;
-use crate::head::read_head;
+use crate::bytes::{find_byte, numeral};
 
 /// A line: its number, and where its text begins and ends.
 #[derive(Clone, Copy)]
@@ -20,10 +19,12 @@ pub(crate) fn read_line(bytes: &[u8]) -> Option<Line>
     ensures none { IfNone result (BeginsWithNoLine bytes.now) }
 {
     let to = find_byte(bytes, b'\n')?;
-    let head = read_head(&bytes[..to])?;
+    let line = &bytes[..to];
+    let space = find_byte(line, b' ')?;
+    let number = numeral(&line[..space])?;
     Some(Line {
-        number: head.number,
-        from: head.from,
+        number,
+        from: space + 1,
         to,
     })
 }
