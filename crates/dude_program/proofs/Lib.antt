@@ -11,6 +11,7 @@ pub mod FilesRead
 pub mod FollowEnds
 pub mod FollowStops
 pub mod Followed
+pub mod IdleCommands
 pub mod Led
 pub mod PacketsRead
 pub mod Refusals

@@ -1,35 +1,22 @@
 -- How a command ends that prints while it runs.
-use Rattle.std.proofs.Common.{◌≡◌, ◌⊎◌, ℕ, Bool, true, false, IsTrue, List, drop, take, refl, sym, subst, inl, inr, arith, Option, Some, None}
+use Rattle.std.proofs.Common.{◌≡◌, ◌⊎◌, ℕ, Bool, true, false, IsTrue, List, sym, subst, inl, inr, Option, Some, None}
 use Rattle.std.specs.Option.{is_none}
-use Rattle.std.proofs.lemmas.List.{length-drop, take-append-drop}
 use Rattle.pmem_trait.specs.Sights.{Sight}
 use Rattle.tatp_model.specs.declared.done.Done.{Done}
 use Rattle.dude_io.specs.Files.{FilesSight}
-use Rattle.dude_io.specs.Sink.{SinkSight, TookPart}
+use Rattle.dude_io.specs.Sink.{SinkSight}
 use Rattle.dude_stream.specs.Streams.{IsStreamText, Streams}
 use Rattle.command_edges.specs.Command.{Meaning}
 use Rattle.dude_engine.specs.Opening.{Opening}
 use Rattle.command_edges.specs.declared.fault.Fault.{Fault}
 use Rattle.command_edges.specs.declared.fault.Fault.TheVariants.{Device, Output, Memory}
-use Rattle.command_edges.specs.Printing.{StopsIn}
+use Rattle.command_edges.proofs.Prints.{part_stops}
 use Rattle.dude_program.specs.World.{SinkStays, world_of}
 use Rattle.dude_program.specs.Opening.{prints_early}
 use Rattle.dude_program.specs.Headline.{StopsPrinting, TookPrefix}
 use Rattle.dude_program.specs.Ending.{Ends}
 use Rattle.dude_program.specs.Streaming.{fault_of_stream}
 use Rattle.dude_program.proofs.Endings.{Came, Outputs, ends_at_device, ends_at_memory, ends_printed, sink_took}
-
--- a sink that failed in a text took a prefix of it
-stops_in : {text : List ℕ} {k l : SinkSight} → TookPart text k l → StopsIn text k l Output
-stops_in {text} part = record {
-  prefix = take part.n text;
-  rest = drop part.n text;
-  split = sym (take-append-drop part.n text);
-  some = omega (arith, part.less, length-drop part.n text);
-  took = part.took;
-  cause = λ is. part.cause;
-  only = inl refl;
-}
 
 -- a run that isn't whole printed some of a text
 some_of : (done : List Done) (last : ℕ) (failed : Bool) (k l : SinkSight) → Streams false failed done last k l → (text : List ℕ) × IsStreamText done last text × TookPrefix k l text
@@ -58,7 +45,7 @@ module _ {meaning : Meaning} {f g : FilesSight} {opening : Opening} {done : List
   -- a whole run printed all, or the sink failed
   ends_whole : (failed : Bool) → Came meaning f g opening done last None s t → Streams true failed done last k l → Ends meaning (world_of s f k) (world_of t g l) done (fault_of_stream None failed)
   ends_whole false came streams = ends_printed streams.0 None None came (λ whole. outputs streams.0 streams.1) streams.2
-  ends_whole true came streams = ends_printed streams.0 None (Some Output) came (λ whole. outputs streams.0 streams.1) (inl (stops_in streams.2))
+  ends_whole true came streams = ends_printed streams.0 None (Some Output) came (λ whole. outputs streams.0 streams.1) (inl (part_stops _ streams.2))
 
   -- What the run came to and what was printed decide how the command ends.
   pub ends_streamed : (earlier : Option Fault) (failed : Bool) → (earlier ≡ None) ⊎ (earlier ≡ Some Device) ⊎ (earlier ≡ Some Memory) → Came meaning f g opening done last earlier s t

@@ -66,31 +66,14 @@ AreOutOfLimits (Some frames) wanted pages = (wanted ≡ frames) × ¬ IsFrom (mi
 
 -- The frames asked for are out of their limits.
 abbrev pub WantsFrames : Meaning → ℕ → ℕ → Type 0
-WantsFrames (FreshRun subscribers file) wanted pages = ⊥
-WantsFrames (FormatImage indexed subscribers calls rings cells) wanted pages = ⊥
 WantsFrames (RunFiles frames locks files) wanted pages = AreOutOfLimits frames wanted pages
 WantsFrames (StreamFiles frames locks files) wanted pages = AreOutOfLimits frames wanted pages
-WantsFrames RecoverImage wanted pages = ⊥
-WantsFrames DumpTables wanted pages = ⊥
-WantsFrames (LocateRange low high limit) wanted pages = ⊥
-WantsFrames (DriveLoad seed count number) wanted pages = ⊥
-WantsFrames (AuditRun printed files) wanted pages = ⊥
-WantsFrames (ShipFiles files) wanted pages = ⊥
-WantsFrames (FollowFiles files) wanted pages = ⊥
+WantsFrames _ wanted pages = ⊥
 
 -- the command is a load of more files than there are subscribers
 abbrev pub WantsSubscribers : Meaning → ℕ → ℕ → Type 0
-WantsSubscribers (FreshRun made file) subscribers wanted = ⊥
-WantsSubscribers (FormatImage indexed made calls rings cells) subscribers wanted = ⊥
-WantsSubscribers (RunFiles frames locks files) subscribers wanted = ⊥
-WantsSubscribers (StreamFiles frames locks files) subscribers wanted = ⊥
-WantsSubscribers RecoverImage subscribers wanted = ⊥
-WantsSubscribers DumpTables subscribers wanted = ⊥
-WantsSubscribers (LocateRange low high limit) subscribers wanted = ⊥
 WantsSubscribers (DriveLoad seed count number) subscribers wanted = (wanted ≡ number) × (subscribers < number)
-WantsSubscribers (AuditRun printed files) subscribers wanted = ⊥
-WantsSubscribers (ShipFiles files) subscribers wanted = ⊥
-WantsSubscribers (FollowFiles files) subscribers wanted = ⊥
+WantsSubscribers _ subscribers wanted = ⊥
 
 -- whether the numbers of the command may run out
 abbrev pub DrawsNumbers : Meaning → Type 0
@@ -114,31 +97,13 @@ WantsNumbers meaning files opening count =
 
 -- an audit says no, and names this line
 abbrev pub RefusesAudit : Meaning → FilesSight → Opening → ℕ → Type 0
-RefusesAudit (FreshRun subscribers file) files opening line = ⊥
-RefusesAudit (FormatImage indexed subscribers calls rings cells) files opening line = ⊥
-RefusesAudit (RunFiles frames locks names) files opening line = ⊥
-RefusesAudit (StreamFiles frames locks names) files opening line = ⊥
-RefusesAudit RecoverImage files opening line = ⊥
-RefusesAudit DumpTables files opening line = ⊥
-RefusesAudit (LocateRange low high limit) files opening line = ⊥
-RefusesAudit (DriveLoad seed count number) files opening line = ⊥
 RefusesAudit (AuditRun printed names) files opening line = IsRefusedRun printed names files opening line
-RefusesAudit (ShipFiles names) files opening line = ⊥
-RefusesAudit (FollowFiles names) files opening line = ⊥
+RefusesAudit _ files opening line = ⊥
 
 -- packets of the command's files are refused behind the opening, for this
 abbrev pub RefusesPackets : Meaning → FilesSight → Opening → Fault → Type 0
-RefusesPackets (FreshRun subscribers file) files opening why = ⊥
-RefusesPackets (FormatImage indexed subscribers calls rings cells) files opening why = ⊥
-RefusesPackets (RunFiles frames locks names) files opening why = ⊥
-RefusesPackets (StreamFiles frames locks names) files opening why = ⊥
-RefusesPackets RecoverImage files opening why = ⊥
-RefusesPackets DumpTables files opening why = ⊥
-RefusesPackets (LocateRange low high limit) files opening why = ⊥
-RefusesPackets (DriveLoad seed count number) files opening why = ⊥
-RefusesPackets (AuditRun printed names) files opening why = ⊥
-RefusesPackets (ShipFiles names) files opening why = ⊥
 RefusesPackets (FollowFiles names) files opening why = IsRefusedDelivery names files opening why
+RefusesPackets _ files opening why = ⊥
 
 -- Why the opened image, or the one that was only read, is refused: the first of these that fits.
 abbrev pub RefusesOpening : Meaning → FilesSight → Opening → Fault → Type 0

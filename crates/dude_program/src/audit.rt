@@ -8,10 +8,10 @@ ghost use Rattle.command_edges.specs.Fault.{status_of};
 ghost use Rattle.command_edges.specs.Files.{AreInRange};
 ghost use Rattle.command_openings.specs.ImageRead.{OnlyReadsImage, opening_read};
 ghost use Rattle.command_edges.specs.Command.{Meaning.AuditRun};
+ghost use Rattle.dude_program.specs.Ended.{EndedAs};
 ghost use Rattle.dude_program.specs.Ending.{Ends};
 ghost use Rattle.dude_program.specs.Judging.{IsAnswerFor, IsAnswerOn};
 ghost use Rattle.dude_program.specs.Work.{EndsBy};
-ghost use Rattle.dude_program.specs.World.{world_of};
 
 use crate::ended::Ended;
 use command_edges::{Fault, PrintedRun, print_text, read_printed_run};
@@ -75,10 +75,8 @@ pub fn audit<M: Medium, F: Files, K: Sink>(
 ) -> Ended<M>
     requires settled { IsAtRest (M.sight medium) }
     ensures status { result.status ≡ status_of result.fault }
-    ensures ends { Ends (AuditRun printed.now (map rc_str_bytes names.now))
-        (world_of (M.sight medium) (F.sight files.old) (K.sight out.old))
-        (world_of (M.sight result.medium) (F.sight files.new) (K.sight out.new))
-        result.done.items result.fault }
+    ensures ends { EndedAs (Ends (AuditRun printed.now (map rc_str_bytes names.now)))
+        M.sight F.sight K.sight medium files.old files.new out.old out.new result }
 {
     let run = match read_printed_run(alloc, printed, names, files) {
         Ok(run) => run,

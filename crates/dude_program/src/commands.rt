@@ -5,12 +5,11 @@ ghost use Rattle.std.specs.Rc.{rc_str_bytes};
 ghost use Rattle.dude_base.specs.declared.limits.TheConstants.{MAX_LOCKS, MAX_RINGS};
 ghost use Rattle.pmem_trait.specs.Sights.{IsAtRest};
 ghost use Rattle.command_edges.specs.Command.{IsBetween, Meaning.FreshRun, Meaning.FormatImage, Meaning.RunFiles, Meaning.RecoverImage, Meaning.DumpTables, Meaning.DriveLoad};
-ghost use Rattle.dude_io.specs.Files.{FilesSight};
 ghost use Rattle.command_edges.specs.Fault.{status_of};
+ghost use Rattle.dude_program.specs.Ended.{EndedAs, EndedWithoutFiles};
 ghost use Rattle.dude_program.specs.Ending.{Ends};
 ghost use Rattle.dude_base.specs.Sizes.{AreTheSizes, IsFaultOf};
 ghost use Rattle.dude_program.specs.Opening.{format_sizes};
-ghost use Rattle.dude_program.specs.World.{world_of};
 
 use crate::ended::Ended;
 use crate::load::{Load, make_load};
@@ -52,10 +51,8 @@ pub fn fresh<M: Medium, F: Files, K: Sink>(
     requires settled { IsAtRest (M.sight medium) }
     requires subscribers { IsBetween 1 10_000 subscribers }
     ensures status { result.status ≡ status_of result.fault }
-    ensures ends { Ends (FreshRun subscribers file.now)
-        (world_of (M.sight medium) (F.sight files.old) (K.sight out.old))
-        (world_of (M.sight result.medium) (F.sight files.new) (K.sight out.new))
-        result.done.items result.fault }
+    ensures ends { EndedAs (Ends (FreshRun subscribers file.now))
+        M.sight F.sight K.sight medium files.old files.new out.old out.new result }
 {
     let Ok(sizes) = Sizes::of(subscribers, 12 * subscribers, 1, 16) else {
         unreachable!()
@@ -105,11 +102,9 @@ pub fn format<M: Medium, K: Sink>(
     requires rings { IsBetween 1 MAX_RINGS counts.rings }
     requires cells { IsBetween 16 4_096 counts.cells }
     ensures status { result.status ≡ status_of result.fault }
-    ensures ends { (f : FilesSight) → Ends
-        (FormatImage counts.indexed counts.subscribers counts.calls counts.rings counts.cells)
-        (world_of (M.sight medium) f (K.sight out.old))
-        (world_of (M.sight result.medium) f (K.sight out.new))
-        result.done.items result.fault }
+    ensures ends { EndedWithoutFiles (Ends (FormatImage counts.indexed counts.subscribers
+        counts.calls counts.rings counts.cells))
+        M.sight K.sight medium out.old out.new result }
 {
     let Ok(sizes) = sizes_of(counts) else {
         unreachable!()
@@ -135,10 +130,9 @@ pub fn run<R: Threads + Sync, M: Medium + Send, F: Files, K: Sink, G: Gate + Syn
     requires locks { IfSome options.locks (IsBetween 1 MAX_LOCKS) }
     requires some { 0 < length names.now }
     ensures status { result.status ≡ status_of result.fault }
-    ensures ends { Ends (RunFiles options.frames options.locks (map rc_str_bytes names.now))
-        (world_of (M.sight medium) (F.sight files.old) (K.sight out.old))
-        (world_of (M.sight result.medium) (F.sight files.new) (K.sight out.new))
-        result.done.items result.fault }
+    ensures ends { EndedAs
+        (Ends (RunFiles options.frames options.locks (map rc_str_bytes names.now)))
+        M.sight F.sight K.sight medium files.old files.new out.old out.new result }
 {
     match prepare(alloc, options.frames, names, medium, files) {
         Ok(Prepared { lists, opened }) => {
@@ -157,10 +151,8 @@ pub fn run<R: Threads + Sync, M: Medium + Send, F: Files, K: Sink, G: Gate + Syn
 pub fn recover<M: Medium, K: Sink>(alloc: Global, medium: M, out: &mut K) -> Ended<M>
     requires settled { IsAtRest (M.sight medium) }
     ensures status { result.status ≡ status_of result.fault }
-    ensures ends { (f : FilesSight) → Ends RecoverImage
-        (world_of (M.sight medium) f (K.sight out.old))
-        (world_of (M.sight result.medium) f (K.sight out.new))
-        result.done.items result.fault }
+    ensures ends { EndedWithoutFiles (Ends RecoverImage)
+        M.sight K.sight medium out.old out.new result }
 {
     match open_and_announce(alloc, medium) {
         Ok(opened) => end_with_lines(alloc, idle(alloc, opened), out),
@@ -172,10 +164,8 @@ pub fn recover<M: Medium, K: Sink>(alloc: Global, medium: M, out: &mut K) -> End
 pub fn dump<M: Medium, K: Sink>(alloc: Global, medium: M, out: &mut K) -> Ended<M>
     requires settled { IsAtRest (M.sight medium) }
     ensures status { result.status ≡ status_of result.fault }
-    ensures ends { (f : FilesSight) → Ends DumpTables
-        (world_of (M.sight medium) f (K.sight out.old))
-        (world_of (M.sight result.medium) f (K.sight out.new))
-        result.done.items result.fault }
+    ensures ends { EndedWithoutFiles (Ends DumpTables)
+        M.sight K.sight medium out.old out.new result }
 {
     match open_and_announce(alloc, medium) {
         Ok(opened) => {
@@ -199,10 +189,8 @@ pub fn drive<R: Threads + Sync, M: Medium + Send, K: Sink, G: Gate + Sync>(
     requires count { load.count ≤ 99_999 }
     requires files { IsBetween 1 MAX_RINGS load.files }
     ensures status { result.status ≡ status_of result.fault }
-    ensures ends { (f : FilesSight) → Ends (DriveLoad load.seed load.count load.files)
-        (world_of (M.sight medium) f (K.sight out.old))
-        (world_of (M.sight result.medium) f (K.sight out.new))
-        result.done.items result.fault }
+    ensures ends { EndedWithoutFiles (Ends (DriveLoad load.seed load.count load.files))
+        M.sight K.sight medium out.old out.new result }
 {
     let opened = match open_and_announce(alloc, medium) {
         Ok(opened) => opened,

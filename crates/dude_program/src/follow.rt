@@ -7,6 +7,7 @@ ghost use Rattle.command_edges.specs.Command.{Meaning.FollowFiles};
 ghost use Rattle.command_edges.specs.Fault.{status_of};
 ghost use Rattle.dude_follow.specs.Follower.{follower_sizes};
 ghost use Rattle.dude_follow.specs.Packets.{IsPacket};
+ghost use Rattle.dude_program.specs.Ended.{EndedAs};
 ghost use Rattle.dude_program.specs.Ending.{Ends};
 ghost use Rattle.dude_program.specs.Follow.{FollowsFiles, followed_text};
 ghost use Rattle.dude_program.specs.Taking.{FollowerRests, IsDropCount, IsPacketsFault, MeansPackets, TakesList, TakesText, TakesTexts};
@@ -158,10 +159,8 @@ pub fn follow<M: Medium, F: Files, K: Sink>(
     requires settled { IsAtRest (M.sight medium) }
     requires some { 0 < length names.now }
     ensures status { result.status ≡ status_of result.fault }
-    ensures ends { Ends (FollowFiles (map rc_str_bytes names.now))
-        (world_of (M.sight medium) (F.sight files.old) (K.sight out.old))
-        (world_of (M.sight result.medium) (F.sight files.new) (K.sight out.new))
-        result.done.items result.fault }
+    ensures ends { EndedAs (Ends (FollowFiles (map rc_str_bytes names.now)))
+        M.sight F.sight K.sight medium files.old files.new out.old out.new result }
     ensures follows { FollowsFiles (map rc_str_bytes names.now)
         (world_of (M.sight medium) (F.sight files.old) (K.sight out.old))
         (world_of (M.sight result.medium) (F.sight files.new) (K.sight out.new)) result.fault }

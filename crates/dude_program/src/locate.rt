@@ -5,10 +5,9 @@ ghost use Rattle.pmem_trait.specs.Sights.{IsAtRest};
 ghost use Rattle.command_edges.specs.Command.{Meaning.LocateRange};
 ghost use Rattle.command_edges.specs.Fault.{status_of};
 ghost use Rattle.command_edges.specs.Located.{located_text};
-ghost use Rattle.dude_io.specs.Files.{FilesSight};
+ghost use Rattle.dude_program.specs.Ended.{EndedWithoutFiles};
 ghost use Rattle.dude_program.specs.Ending.{Ends};
 ghost use Rattle.dude_program.specs.Work.{EndsBy};
-ghost use Rattle.dude_program.specs.World.{world_of};
 
 use crate::ended::Ended;
 use crate::locating::{LocationRange, find_located};
@@ -29,10 +28,8 @@ pub fn locate<M: Medium, K: Sink>(
     requires low { range.low < 2 ^ 32 }
     requires high { range.high < 2 ^ 32 }
     ensures status { result.status ≡ status_of result.fault }
-    ensures ends { (f : FilesSight) → Ends (LocateRange range.low range.high range.limit)
-        (world_of (M.sight medium) f (K.sight out.old))
-        (world_of (M.sight result.medium) f (K.sight out.new))
-        result.done.items result.fault }
+    ensures ends { EndedWithoutFiles (Ends (LocateRange range.low range.high range.limit))
+        M.sight K.sight medium out.old out.new result }
 {
     let opened = match open_and_announce(alloc, medium) {
         Ok(opened) => opened,

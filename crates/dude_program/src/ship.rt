@@ -6,10 +6,10 @@ ghost use Rattle.dude_base.specs.Records.{HasNumbers};
 ghost use Rattle.pmem_trait.specs.Sights.{IsAtRest};
 ghost use Rattle.command_edges.specs.Command.{Meaning.ShipFiles};
 ghost use Rattle.command_edges.specs.Fault.{status_of};
+ghost use Rattle.dude_program.specs.Ended.{EndedAs};
 ghost use Rattle.dude_program.specs.Ending.{Ends};
 ghost use Rattle.dude_program.specs.Ship.{bytes_of_packets};
 ghost use Rattle.dude_program.specs.Work.{EndsBy};
-ghost use Rattle.dude_program.specs.World.{world_of};
 
 use crate::ended::Ended;
 use crate::prepared::{Prepared, prepare};
@@ -72,10 +72,8 @@ pub fn ship<M: Medium, F: Files, K: Sink>(
 ) -> Ended<M>
     requires settled { IsAtRest (M.sight medium) }
     ensures status { result.status ≡ status_of result.fault }
-    ensures ends { Ends (ShipFiles (map rc_str_bytes names.now))
-        (world_of (M.sight medium) (F.sight files.old) (K.sight out.old))
-        (world_of (M.sight result.medium) (F.sight files.new) (K.sight out.new))
-        result.done.items result.fault }
+    ensures ends { EndedAs (Ends (ShipFiles (map rc_str_bytes names.now)))
+        M.sight F.sight K.sight medium files.old files.new out.old out.new result }
 {
     match prepare(alloc, None, names, medium, files) {
         Ok(Prepared { lists, opened }) => {

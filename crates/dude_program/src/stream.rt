@@ -6,9 +6,9 @@ ghost use Rattle.dude_base.specs.declared.limits.TheConstants.{MAX_LOCKS};
 ghost use Rattle.pmem_trait.specs.Sights.{IsAtRest};
 ghost use Rattle.command_edges.specs.Command.{IsBetween, Meaning.StreamFiles};
 ghost use Rattle.command_edges.specs.Fault.{status_of};
+ghost use Rattle.dude_program.specs.Ended.{EndedAs};
 ghost use Rattle.dude_program.specs.Ending.{Ends};
 ghost use Rattle.dude_program.specs.Streaming.{fault_of_stream};
-ghost use Rattle.dude_program.specs.World.{world_of};
 
 use crate::ended::Ended;
 use crate::prepared::{Prepared, prepare};
@@ -54,10 +54,9 @@ pub fn stream<R: Threads + Sync, M: Medium + Send, F: Files, K: Sink + Send, G: 
     requires locks { IfSome options.locks (IsBetween 1 MAX_LOCKS) }
     requires some { 0 < length names.now }
     ensures status { result.status ≡ status_of result.fault }
-    ensures ends { Ends (StreamFiles options.frames options.locks (map rc_str_bytes names.now))
-        (world_of (M.sight medium) (F.sight files.old) (K.sight out.old))
-        (world_of (M.sight result.medium) (F.sight files.new) (K.sight out.new))
-        result.done.items result.fault }
+    ensures ends { EndedAs
+        (Ends (StreamFiles options.frames options.locks (map rc_str_bytes names.now)))
+        M.sight F.sight K.sight medium files.old files.new out.old out.new result }
 {
     match prepare(alloc, options.frames, names, medium, files) {
         Ok(Prepared { lists, opened }) => {

@@ -5,6 +5,7 @@ ghost use Rattle.std.specs.Rc.{rc_str_bytes};
 ghost use Rattle.pmem_trait.specs.Sights.{IsAtRest};
 ghost use Rattle.command_edges.specs.Command.{IsInLimits, meaning_of_command};
 ghost use Rattle.command_edges.specs.Fault.{status_of};
+ghost use Rattle.dude_program.specs.Ended.{EndedAs};
 ghost use Rattle.dude_program.specs.Ending.{CausesByWords, Ends, EndsByWords, FollowsByWords, HasOwnTheorem, HeadlineByWords, RefusesNoCommand};
 ghost use Rattle.dude_program.specs.World.{world_of};
 
@@ -40,10 +41,8 @@ fn carry_out<R: Threads + Sync, M: Medium + Send, F: Files, K: Sink + Send, G: G
     requires settled { IsAtRest (M.sight medium) }
     requires limits { IsInLimits command.now }
     ensures status { result.status ≡ status_of result.fault }
-    ensures ends { Ends (meaning_of_command command.now)
-        (world_of (M.sight medium) (F.sight files.old) (K.sight out.old))
-        (world_of (M.sight result.medium) (F.sight files.new) (K.sight out.new))
-        result.done.items result.fault }
+    ensures ends { EndedAs (Ends (meaning_of_command command.now))
+        M.sight F.sight K.sight medium files.old files.new out.old out.new result }
     ensures own { HasOwnTheorem (meaning_of_command command.now)
         (world_of (M.sight medium) (F.sight files.old) (K.sight out.old))
         (world_of (M.sight result.medium) (F.sight files.new) (K.sight out.new)) result.fault }
@@ -118,18 +117,12 @@ pub fn dude<R: Threads + Sync, M: Medium + Send, F: Files, K: Sink + Send>(
 ) -> Ended<M>
     requires settled { IsAtRest (M.sight medium) }
     ensures status { result.status ≡ status_of result.fault }
-    ensures refused { RefusesNoCommand (map rc_str_bytes words.now)
-        (world_of (M.sight medium) (F.sight files.old) (K.sight out.old))
-        (world_of (M.sight result.medium) (F.sight files.new) (K.sight out.new))
-        result.done.items result.fault }
-    ensures headline { HeadlineByWords (map rc_str_bytes words.now)
-        (world_of (M.sight medium) (F.sight files.old) (K.sight out.old))
-        (world_of (M.sight result.medium) (F.sight files.new) (K.sight out.new))
-        result.done.items result.fault }
-    ensures causes { CausesByWords (map rc_str_bytes words.now)
-        (world_of (M.sight medium) (F.sight files.old) (K.sight out.old))
-        (world_of (M.sight result.medium) (F.sight files.new) (K.sight out.new))
-        result.done.items result.fault }
+    ensures refused { EndedAs (RefusesNoCommand (map rc_str_bytes words.now))
+        M.sight F.sight K.sight medium files.old files.new out.old out.new result }
+    ensures headline { EndedAs (HeadlineByWords (map rc_str_bytes words.now))
+        M.sight F.sight K.sight medium files.old files.new out.old out.new result }
+    ensures causes { EndedAs (CausesByWords (map rc_str_bytes words.now))
+        M.sight F.sight K.sight medium files.old files.new out.old out.new result }
     ensures follows { FollowsByWords (map rc_str_bytes words.now)
         (world_of (M.sight medium) (F.sight files.old) (K.sight out.old))
         (world_of (M.sight result.medium) (F.sight files.new) (K.sight out.new)) result.fault }
@@ -150,10 +143,8 @@ pub fn dude_watched<R: Threads + Sync, M: Medium + Send, F: Files, K: Sink + Sen
 ) -> Ended<M>
     requires settled { IsAtRest (M.sight medium) }
     ensures status { result.status ≡ status_of result.fault }
-    ensures ends { EndsByWords (map rc_str_bytes words.now)
-        (world_of (M.sight medium) (F.sight files.old) (K.sight out.old))
-        (world_of (M.sight result.medium) (F.sight files.new) (K.sight out.new))
-        result.done.items result.fault }
+    ensures ends { EndedAs (EndsByWords (map rc_str_bytes words.now))
+        M.sight F.sight K.sight medium files.old files.new out.old out.new result }
 {
     match command_of(alloc, words) {
         Ok(Some(command)) => carry_out(rt, alloc, &command, medium, files, out, gate),

@@ -3,16 +3,13 @@ use Rattle.command_edges.specs.Command.{Meaning.RecoverImage}
 use Rattle.dude_program.proofs.FilesRead.{no_files}
 use Rattle.dude_program.proofs.Endings.{ends_printed}
 use Rattle.dude_program.proofs.Stops.{ends_at_open, unless_opened}
-use Rattle.dude_program.proofs.Came.{opened_old, came_idle}
-use Rattle.dude_program.proofs.EachCommand.{idle_prints, is_opening_of, opening_of, recover_opens, recover_passes}
+use Rattle.dude_program.proofs.EachCommand.{idle_prints, recover_opens, recover_passes}
+use Rattle.dude_program.proofs.IdleCommands.{came_opened}
 use Rattle.dude_program.proofs.commands.recover.Goals as goal
 
 pub returns-in-Ok-clause-ends : goal.returns-in-Ok-clause-ends
 returns-in-Ok-clause-ends g c f =
-    let o = c.in-Ok.opened in
-    let opened = c.in-Ok.ensures.opened in
-    let is_open = c.in-Ok.ensures.is_open (opening_of o opened) (is_opening_of o opened) in
-    let came = came_idle (no_files RecoverImage f refl) (opened_old (recover_opens _) refl is_open.0 is_open.1) refl (λ opens why refuses. recover_passes f (opening_of o opened) why refuses) in
+    let came = came_opened RecoverImage g.M.Medium.sight c.args.medium c.in-Ok.opened c.in-Ok.ensures.opened c.in-Ok.ensures.is_open f recover_opens refl refl refl recover_passes in
     rw (c.end_with_lines.ensures.medium, c.end_with_lines.ensures.done, c.idle.ensures.medium, c.idle.ensures.done)
     (ends_printed _ _ _ came (λ whole. (refl, tt)) (idle_prints _ _ _ c.idle.ensures.done c.idle.ensures.last c.idle.ensures.fault c.end_with_lines.ensures.printed))
 

@@ -1,28 +1,14 @@
-use Rattle.std.proofs.Common.{ℕ, ◌*◌, ◌∙◌, [], None, refl, sym, ap, subst}
+use Rattle.std.proofs.Common.{◌*◌, ◌∙◌, refl, sym, ap, subst}
 use Rattle.dude_base.specs.declared.sizes.Sizes.{Sizes}
-use Rattle.pmem_trait.specs.declared.medium.Medium.{Ghosts}
-use Rattle.pmem_trait.specs.Sights.{Sight}
-use Rattle.dude_io.specs.Files.{FilesSight}
-use Rattle.back_store.specs.BackView.{medium_of}
-use Rattle.dude_recover.specs.declared.opened.Opened.{Opened}
-use Rattle.dude_recover.specs.Opened.{IsOpened}
-use Rattle.command_openings.specs.Opens.{OpensOwn}
 use Rattle.tatp_layout.specs.StandsFor.{IsLawful, StandsFor}
 use Rattle.tatp_core.specs.Located.{Locates}
 use Rattle.command_edges.specs.Command.{Meaning.LocateRange}
 use Rattle.dude_program.proofs.FilesRead.{no_files}
-use Rattle.dude_program.proofs.Endings.{Came, ends_printed, ends_untold}
+use Rattle.dude_program.proofs.Endings.{ends_printed, ends_untold}
 use Rattle.dude_program.proofs.Stops.{ends_at_open, unless_opened}
-use Rattle.dude_program.proofs.Came.{opened_old, came_idle}
-use Rattle.dude_program.proofs.EachCommand.{locate_opens, locate_passes, is_opening_of, opening_of}
+use Rattle.dude_program.proofs.EachCommand.{locate_opens, locate_passes}
+use Rattle.dude_program.proofs.IdleCommands.{came_opened}
 use Rattle.dude_program.proofs.locate.locate.Goals as goal
-
--- what an opened image gives it, before the subscribers are printed
-came_located : {M : Type 0} {ghosts : Ghosts M} (sight : M → Sight) (medium : M) (o : Opened M ghosts) (opened : IsOpened o) → OpensOwn sight medium o → (low high limit : ℕ) (f : FilesSight)
-    → Came (LocateRange low high limit) f f (opening_of o opened) [] o.number None (sight medium) (sight (medium_of o.back))
-came_located sight medium o opened is_open low high limit f =
-    let at = is_open (opening_of o opened) (is_opening_of o opened) in
-    came_idle (no_files (LocateRange low high limit) f refl) (opened_old (locate_opens low high limit _) refl at.0 at.1) refl (λ opens why refuses. locate_passes low high limit f (opening_of o opened) why refuses)
 
 pub find_located-requires : goal.find_located-requires
 find_located-requires g c =
@@ -39,7 +25,7 @@ returns-in-Ok-find_located-clause-ends g c f =
     let r = c.args.range in
     let o = c.in-Ok.opened in
     let opened = c.in-Ok.ensures.opened in
-    let came = came_located g.M.Medium.sight c.args.medium o opened c.in-Ok.ensures.is_open r.low r.high r.limit f in
+    let came = came_opened (LocateRange r.low r.high r.limit) g.M.Medium.sight c.args.medium o opened c.in-Ok.ensures.is_open f (locate_opens r.low r.high r.limit) refl refl refl (locate_passes r.low r.high r.limit) in
     let located = subst (Locates r.low r.high r.limit opened.lawful.0.subscribers) (sym c.deref.ensures.value) (c.in-Ok-find_located.ensures opened.lawful.0 (subst (λ (s : Sizes). StandsFor s o.words.items opened.lawful.0) (sym opened.layout) opened.lawful.1)) in
     rw (c.new-in-Ok-find_located.ensures.medium, c.new-in-Ok-find_located.ensures.done, c.new-in-Ok-find_located.ensures.fault, c.into_medium.ensures, c.new.ensures.items)
     (ends_printed _ _ _ came (λ whole. ((c.deref.result.now, located, refl), tt)) c.print_found-fault.ensures)
@@ -47,7 +33,8 @@ returns-in-Ok-find_located-clause-ends g c f =
 pub returns-in-Err-find_located-clause-ends : goal.returns-in-Err-find_located-clause-ends
 returns-in-Err-find_located-clause-ends g c f =
     let r = c.args.range in
-    let came = came_located g.M.Medium.sight c.args.medium c.in-Ok.opened c.in-Ok.ensures.opened c.in-Ok.ensures.is_open r.low r.high r.limit f in
+    let came =
+    came_opened (LocateRange r.low r.high r.limit) g.M.Medium.sight c.args.medium c.in-Ok.opened c.in-Ok.ensures.opened c.in-Ok.ensures.is_open f (locate_opens r.low r.high r.limit) refl refl refl (locate_passes r.low r.high r.limit) in
     rw (c.refused-in-Err-find_located.ensures.medium, c.refused-in-Err-find_located.ensures.done, c.refused-in-Err-find_located.ensures.fault, c.into_medium-in-Err-find_located.ensures)
     (ends_untold came)
 
