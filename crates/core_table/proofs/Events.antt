@@ -17,7 +17,7 @@ use Rattle.atomic_table.specs.Seated.{TableId}
 use Rattle.atomic_table.specs.declared.shared.Seat.{Seat}
 use Rattle.core_table.specs.Places.{index, count}
 use Rattle.core_table.specs.Layout.{TableSight}
-use Rattle.core_table.specs.Steps.{Rests, BelongsTo}
+use Rattle.core_table.specs.Steps.{Does, Puts, Rests, MayAct, IsForeseen, StepsAt, MayStepAt, IsBlind}
 use Rattle.core_table.specs.Known.{Known, view_of, beside_of, known_after}
 use Rattle.core_table.specs.Rules.{Holds, Outlasts, Foreseen, Acts}
 use Rattle.core_table.proofs.Flat.{flat_found, flat_put, placed}
@@ -92,22 +92,28 @@ module _ {S X K : Type 0} (setup_of : K → Setup) (fact_of : K → State → Li
   setup_is : setup_of t.key ≡ t.setup
   setup_is = setup_of_key setup_of t key id same
 
-  pub step_acting : (e : Event) (f : ℕ → ℕ) (then : ℕ → Me S (Known X) → Type 0) (slots place : ℕ) (seat : Seat S (Known X)) → BelongsTo t seat → May t.setup e seat.me.0.view → Foreseen (fact_of t.key) t.setup e seat.id seat.me.0
-      → place ≡ index t.setup (name t.setup e seat.me.0.view)
-      → ((n : ℕ) → n < 2 ^ 64 → IsTold t.setup e seat.me.0.view n → f n ≡ word_after e seat.me.0.view n)
-      → Acts (fact_of t.key) t.setup e seat.id seat.me then
-      → (seat.table_id ≡ id) × (place < id.words) × Allows (Holds (fact_of key) (setup_of key)) slots seat.id seat.me place f then
-  step_acting e f then slots place seat belongs may fits at word acts =
-      let inside : IsInside t.setup (name t.setup e seat.me.0.view) = word_inside t.setup e seat.me.0.view belongs.small.some_lock belongs.seated may in (
-        belongs.table ∙ sym (ap (λ (u : TableSight K). u.id) same),
-        (let lt = placed t.setup (name t.setup e seat.me.0.view) inside in let w : id.words ≡ count t.setup = wide ∙ (ap (λ (k : K). count (setup_of k)) key_is ∙ ap count setup_is) in omega arith),
-        rw (at, key_is, setup_is) (by_acting (fact_of t.key) t.setup e f then slots seat.id seat.me inside may fits word acts),
-      )
+  -- the step at this place that makes f of the word may tell this
+  abbrev pub MayTell : ℕ → Seat S (Known X) → (ℕ → ℕ) → (ℕ → Me S (Known X) → Type 0) → Type 0
+  MayTell place seat f then = (seat.table_id ≡ id) × (place < id.words) × Allows (Holds (fact_of key) (setup_of key)) id.slots seat.id seat.me place f then
 
-  pub step_allowed : (e : Event) (f : ℕ → ℕ) (then : ℕ → Me S (Known X) → Type 0) (slots place : ℕ) (seat : Seat S (Known X)) → BelongsTo t seat → May t.setup e seat.me.0.view → Foreseen (fact_of t.key) t.setup e seat.id seat.me.0 → Outlasts (fact_of t.key) t.setup e
-      → place ≡ index t.setup (name t.setup e seat.me.0.view)
-      → ((n : ℕ) → n < 2 ^ 64 → IsTold t.setup e seat.me.0.view n → f n ≡ word_after e seat.me.0.view n)
-      → ((n : ℕ) → IsTold t.setup e seat.me.0.view n → then n (known_after t.setup e seat.me.0 n, seat.me.1))
-      → (seat.table_id ≡ id) × (place < id.words) × Allows (Holds (fact_of key) (setup_of key)) slots seat.id seat.me place f then
-  step_allowed e f then slots place seat belongs may fits outlasts at word told =
-      step_acting e f then slots place seat belongs may fits at word (by_keeping (fact_of t.key) t.setup e then seat.id seat.me outlasts told)
+  module _ (z : Setup) (e : Event) (place : ℕ) (seat : Seat S (Known X)) (at : StepsAt t e seat z place) (fits : IsForeseen fact_of t e seat) (f : ℕ → ℕ) (word : (n : ℕ) → n < 2 ^ 64 → IsTold t.setup e seat.me.0.view n → f n ≡ word_after e seat.me.0.view n) where
+    pub step_acting : (then : ℕ → Me S (Known X) → Type 0) → MayAct fact_of t e seat then → MayTell place seat f then
+    step_acting then may =
+        let inside : IsInside t.setup (name t.setup e seat.me.0.view) = word_inside t.setup e seat.me.0.view may.seat.small.some_lock may.seat.seated may.may in (
+          may.seat.table ∙ sym (ap (λ (u : TableSight K). u.id) same),
+          (let lt = placed t.setup (name t.setup e seat.me.0.view) inside in let at_place = at.place in let w : id.words ≡ count t.setup = wide ∙ (ap (λ (k : K). count (setup_of k)) key_is ∙ ap count setup_is) in omega arith),
+          rw (at.place, key_is, setup_is) (by_acting (fact_of t.key) t.setup e f then id.slots seat.id seat.me inside may.may fits word may.acts),
+        )
+
+  -- an event that moves no slot
+  module _ (z : Setup) (e : Event) (place : ℕ) (seat : Seat S (Known X)) (may : MayStepAt fact_of t e seat z place) (f : ℕ → ℕ) (word : (n : ℕ) → n < 2 ^ 64 → IsTold t.setup e seat.me.0.view n → f n ≡ word_after e seat.me.0.view n) where
+    step_keeping : (then : ℕ → Me S (Known X) → Type 0) → ((n : ℕ) → IsTold t.setup e seat.me.0.view n → then n (known_after t.setup e seat.me.0 n, seat.me.1)) → MayTell place seat f then
+    step_keeping then told =
+        step_acting z e place seat may.at may.fits f word then (record { seat = may.may.seat; may = may.may.may; acts = by_keeping (fact_of t.key) t.setup e then seat.id seat.me may.may.slots told })
+
+    pub step_does : MayTell place seat f (Does z e seat.me)
+    step_does = step_keeping (Does z e seat.me) (λ n told. rw may.at.setup (refl, told))
+
+    pub step_puts : IsBlind t e seat → MayTell place seat f (λ _ w. Puts z e seat.me w)
+    step_puts blind = step_keeping (λ _ w. Puts z e seat.me w)
+        (λ n told. rw may.at.setup (ap (λ (v : View). (record { view = v; beside = seat.me.0.beside; made = e ∷ seat.me.0.made }, seat.me.1)) (blind n), told.after))

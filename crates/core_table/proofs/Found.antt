@@ -1,39 +1,48 @@
 -- What a step that was made leaves of its seat, and what a join leaves.
-use Rattle.std.proofs.Common.{◌≡◌, ℕ, refl, ◌∙◌}
+use Rattle.std.proofs.Common.{◌≡◌, ℕ, List, refl, ◌∙◌}
+use mathlib.Core.Option.{Option}
 use Rattle.atomic_table.specs.declared.shared.Seat.{Seat}
 use Rattle.core_events.specs.Setups.{Setup}
+use Rattle.core_events.specs.Words.{State}
 use Rattle.core_events.specs.Events.{Event}
 use Rattle.core_table.specs.Layout.{TableSight}
 use Rattle.core_table.specs.Known.{Known}
-use Rattle.core_table.specs.Steps.{BelongsTo, Does, Puts, Rests, IsAfter, HasMade, HasFound, NowKnows}
+use Rattle.core_table.specs.Steps.{BelongsTo, MayStepAt, Does, Puts, Rests, StepFinds, StepMakes, NowKnows}
 
-module _ {S X K : Type 0} (t : TableSight K) (z : Setup) (e : Event) (old new : Seat S (Known X)) (n : ℕ) (setup : z ≡ t.setup) (does : Does z e old.me n new.me) where
-  pub view_after_step : IsAfter t e old new n
-  view_after_step = rw (does.0, setup) refl
+module _ {S X K : Type 0} (slot_fact : K → State → List X → List (Option S) → Type 0) (t : TableSight K) (z : Setup) (e : Event) (old new : Seat S (Known X)) (i : ℕ) (may : MayStepAt slot_fact t e old z i) where
+  setup : z ≡ t.setup
+  setup = may.at.setup
 
-  pub found_by_step : BelongsTo t old → new.table_id ≡ old.table_id → new.id ≡ old.id → HasFound t e old new n
-  found_by_step seat table id = record {
-    made = record {
-      belongs = record { table = table ∙ seat.table; small = seat.small; seated = rw (does.0, ← setup) does.1.after };
-      id = id;
-      beside = rw does.0 refl;
-      slots = rw does.0 refl;
-      made = rw does.0 refl;
+  seat : BelongsTo t old
+  seat = may.may.seat
+
+  -- a step that is told the number that it found
+  pub found_by_step : (n : ℕ) → (new.table_id ≡ old.table_id) × (new.id ≡ old.id) × Does z e old.me n new.me → StepFinds t e old new n
+  found_by_step n (table, id, does) = record {
+    view = rw (does.0, setup) refl;
+    found = record {
+      made = record {
+        belongs = record { table = table ∙ seat.table; small = seat.small; seated = rw (does.0, ← setup) does.1.after };
+        id = id;
+        beside = rw does.0 refl;
+        slots = rw does.0 refl;
+        made = rw does.0 refl;
+      };
+      told = rw (← setup) does.1;
     };
-    told = rw (← setup) does.1;
   }
 
-module _ {S X K : Type 0} (t : TableSight K) (z : Setup) (e : Event) (old new : Seat S (Known X)) (setup : z ≡ t.setup) (puts : Puts z e old.me new.me) where
-  pub view_after_store : IsAfter t e old new 0
-  view_after_store = rw (puts.0, setup) refl
-
-  pub made_by_store : BelongsTo t old → new.table_id ≡ old.table_id → new.id ≡ old.id → HasMade t e old new
-  made_by_store seat table id = record {
-    belongs = record { table = table ∙ seat.table; small = seat.small; seated = rw (← setup) puts.1 };
-    id = id;
-    beside = rw puts.0 refl;
-    slots = rw puts.0 refl;
-    made = rw puts.0 refl;
+  -- a store, which isn't told it
+  pub made_by_store : (new.table_id ≡ old.table_id) × (new.id ≡ old.id) × Puts z e old.me new.me → StepMakes t e old new
+  made_by_store (table, id, puts) = record {
+    view = rw (puts.0, setup) refl;
+    made = record {
+      belongs = record { table = table ∙ seat.table; small = seat.small; seated = rw (← setup) puts.1 };
+      id = id;
+      beside = rw puts.0 refl;
+      slots = rw puts.0 refl;
+      made = rw puts.0 refl;
+    };
   }
 
 -- a seat knows k after a join, and rests in a load behind it

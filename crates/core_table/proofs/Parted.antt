@@ -14,14 +14,14 @@ use Rattle.core_events.proofs.Keeps.{split_keeps, join_keeps}
 use Rattle.atomic_table.specs.Seated.{TableId}
 use Rattle.core_table.specs.Places.{count}
 use Rattle.core_table.specs.Layout.{TableSight}
-use Rattle.core_table.specs.Known.{Known, view_of, beside_of}
+use Rattle.core_table.specs.Known.{Known, known_with, view_of, beside_of}
 use Rattle.core_table.specs.Rules.{Holds, OutlastsSplit, OutlastsJoin}
 use Rattle.core_table.specs.Seats.{CanSplit, CanJoin, known_left, known_both}
 
 module _ {S X : Type 0} (slot_fact : State → List X → List (Option S) → Type 0) (z : Setup) (x : X) where
-  pub by_split : (id draws : ℕ) (k : Known X) → CanSplit k.view draws → OutlastsSplit slot_fact z draws x → Splits (Holds slot_fact z) id k (known_left draws k) (record { view = newcomer z 0 draws; beside = x; made = [] })
+  pub by_split : (id draws : ℕ) (k : Known X) → CanSplit k.view draws → OutlastsSplit slot_fact z draws x → Splits (Holds slot_fact z) id k (known_left draws k) (known_with (newcomer z 0 draws) x)
   by_split id draws k can outlasts s h at =
-      let c : State = h.core in let new : Known X = record { view = newcomer z 0 draws; beside = x; made = [] } in
+      let c : State = h.core in let new : Known X = known_with (newcomer z 0 draws) x in
       let is_there : get_elem? c.views id ≡ some k.view = rw (← h.views) (at_map view_of s.views id k at) in
       let may : MaySplit c id k.view draws = record { is_there = is_there; live = can.live; split_left = can.split_left; draws_left = can.draws_left } in
       record {
@@ -34,9 +34,9 @@ module _ {S X : Type 0} (slot_fact : State → List X → List (Option S) → Ty
             (outlasts c id k.view (map beside_of s.views) s.homes h.kept may h.slots);
       }
 
-  pub by_join : (id other : ℕ) (k l : Known X) → CanJoin k.view l.view → OutlastsJoin slot_fact z x → Joins (Holds slot_fact z) id k other l (known_both k l) (record { view = spent z; beside = x; made = [] })
+  pub by_join : (id other : ℕ) (k l : Known X) → CanJoin k.view l.view → OutlastsJoin slot_fact z x → Joins (Holds slot_fact z) id k other l (known_both k l) (known_with (spent z) x)
   by_join id other k l can outlasts s h at apart at2 =
-      let c : State = h.core in let gone : Known X = record { view = spent z; beside = x; made = [] } in let both : Known X = known_both k l in
+      let c : State = h.core in let gone : Known X = known_with (spent z) x in let both : Known X = known_both k l in
       let is_there : get_elem? c.views id ≡ some k.view = rw (← h.views) (at_map view_of s.views id k at) in
       let before : get_elem? s.views other ≡ some l = sym (set_else s.views id other both apart) ∙ at2 in
       let other_there : get_elem? c.views other ≡ some l.view = rw (← h.views) (at_map view_of s.views other l before) in

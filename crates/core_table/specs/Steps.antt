@@ -9,7 +9,7 @@ use Rattle.core_events.specs.Events.{Event, name, word_after, view_after}
 use Rattle.core_events.specs.Conditions.{May}
 use Rattle.core_events.specs.Partings.{newcomer, start}
 use Rattle.core_events.specs.Telling.{IsSeated, IsTold}
-use Rattle.core_table.specs.Known.{Known, known_after}
+use Rattle.core_table.specs.Known.{Known, known_with, known_after}
 use Rattle.core_table.specs.Layout.{TableSight, IsSmall, IsSameStart}
 use Rattle.core_table.specs.Places.{index, count}
 use Rattle.core_table.specs.Rules.{Holds, Outlasts, Foreseen, Acts}
@@ -58,6 +58,11 @@ module _ {S X K : Type 0} (t : TableSight K) (e : Event) (s : Seat S (Known X)) 
   abbrev pub place_at : ℕ
   place_at = index t.setup (name t.setup e s.me.0.view)
 
+  -- the setup is that of the table, and the place that of the word that the event of the seat is a step on
+  pub record StepsAt (z : Setup) (i : ℕ) : Type 0 where
+    pub setup : z ≡ t.setup
+    pub place : i ≡ place_at
+
   -- whatever number the event may find in its word, this becomes of it
   abbrev pub WordBecomes : (ℕ → ℕ) → Type 0
   WordBecomes f = (n : ℕ) → IsTold t.setup e s.me.0.view n → word_after e s.me.0.view n ≡ f n
@@ -78,6 +83,12 @@ module _ {S X K : Type 0} (t : TableSight K) (e : Event) (s : Seat S (Known X)) 
   abbrev pub IsAfter : Seat S (Known X) → ℕ → Type 0
   IsAfter new n = new.me.0.view ≡ view_after t.setup e s.me.0.view n
 
+-- The seat may make the event by a step at this place, and the state has what the event asks of it beside the view
+pub record MayStepAt {S X K : Type 0} (slot_fact : K → State → List X → List (Option S) → Type 0) (t : TableSight K) (e : Event) (s : Seat S (Known X)) (z : Setup) (i : ℕ) : Type 0 where
+  pub at : StepsAt t e s z i
+  pub may : MayStep slot_fact t e s
+  pub fits : IsForeseen slot_fact t e s
+
 -- The seat made the event, and keeps its number, what it has beside its view, and its slots
 pub record HasMade {S X K : Type 0} (t : TableSight K) (e : Event) (old new : Seat S (Known X)) : Type 0 where
   pub belongs : BelongsTo t new
@@ -90,6 +101,16 @@ pub record HasMade {S X K : Type 0} (t : TableSight K) (e : Event) (old new : Se
 pub record HasFound {S X K : Type 0} (t : TableSight K) (e : Event) (old new : Seat S (Known X)) (n : ℕ) : Type 0 where
   pub made : HasMade t e old new
   pub told : IsTold t.setup e old.me.0.view n
+
+-- The step was the event, which found the number n: the view after it, and what that tells
+pub record StepFinds {S X K : Type 0} (t : TableSight K) (e : Event) (old new : Seat S (Known X)) (n : ℕ) : Type 0 where
+  pub view : IsAfter t e old new n
+  pub found : HasFound t e old new n
+
+-- The step was the event, and isn't told what it found: the view after it, and what else is known of the seat
+pub record StepMakes {S X K : Type 0} (t : TableSight K) (e : Event) (old new : Seat S (Known X)) : Type 0 where
+  pub view : IsAfter t e old new 0
+  pub made : HasMade t e old new
 
 -- the seat is of the same table, and has the same number
 abbrev pub IsSameSeat : {S X : Type 0} → Seat S (Known X) → Seat S (Known X) → Type 0
@@ -115,12 +136,12 @@ module _ {S X K : Type 0} (setup_of : K → Setup) (x : X) (t : TableSight K) wh
     pub key_is : t.key ≡ key
     pub setup_is : t.setup ≡ setup_of key
     pub belongs : BelongsTo t s
-    pub me : s.me ≡ (record { view = opener (setup_of key); beside = x; made = [] }, [])
+    pub me : s.me ≡ (known_with (opener (setup_of key)) x, [])
 
 module _ {S X K : Type 0} (x : X) (t : TableSight K) where
   -- a seat that was split off with so many draws, and has x beside its view
   abbrev pub IsSplitOff : ℕ → Seat S (Known X) → Type 0
-  IsSplitOff draws s = BelongsTo t s × (s.me ≡ (record { view = newcomer t.setup 0 draws; beside = x; made = [] }, []))
+  IsSplitOff draws s = BelongsTo t s × (s.me ≡ (known_with (newcomer t.setup 0 draws) x, []))
 
 -- the seat is of this table, has kept its number and its slots, and knows this
 abbrev pub NowKnows : {S X K : Type 0} → TableSight K → Seat S (Known X) → Seat S (Known X) → Known X → Type 0

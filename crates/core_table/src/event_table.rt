@@ -3,12 +3,15 @@
 use crate::known::Known;
 use crate::law::Law;
 use crate::slot_rule::SlotRule;
-use atomic_table::Table;
+use atomic_table::{Refused, Table};
 use std::alloc::Global;
 use std::marker::Model;
 
 /// What a thread makes its steps with.
 pub type Seat<S, X> = atomic_table::Seat<S, Known<X>>;
+
+/// A table that was made, with its first seat; where memory is wanting, the slots come back.
+pub type Opened<T, S, X> = Result<(T, Seat<S, X>), Refused<S, Global>>;
 
 /// The words of the machine, on a table with slots of the type `S`.
 #[derive(Drop)]

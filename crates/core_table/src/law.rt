@@ -11,11 +11,11 @@ pub struct Law<P> {
 }
 
 impl<S, X, K, P: SlotRule<S, X, K>> TableRule<S, Known<X>, K> for Law<P> {
-    ghost use Rattle.std.specs.Prelude.{[]};
+    ghost use Rattle.core_table.specs.Known.{known_with};
     ghost use Rattle.core_table.specs.Rules.{Holds};
     ghost use Rattle.core_table.specs.Seats.{opener};
 
     ghost holds = { λ key. Holds (P.fact key) (P.setup key) };
 
-    ghost first = { λ key. record { view = opener (P.setup key); beside = P.beside; made = [] } };
+    ghost first = { λ key. known_with (opener (P.setup key)) P.beside };
 }

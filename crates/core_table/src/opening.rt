@@ -6,7 +6,7 @@ ghost use Rattle.core_events.specs.Partings.{first_entries, start};
 ghost use Rattle.core_table.specs.Places.{flat};
 ghost use Rattle.core_table.specs.Steps.{MayOpen, IsOpened};
 
-use crate::event_table::{EventTable, Seat};
+use crate::event_table::{EventTable, Opened};
 use crate::places::ENTRY;
 use crate::slot_rule::SlotRule;
 use crate::terms::Terms;
@@ -17,12 +17,7 @@ use std::alloc::{AllocError, Global};
 impl<S, X, K, P: SlotRule<S, X, K>> EventTable<S, X, K, P> {
     /// The table of this key at the start, with the sizes and words of these terms, these slots,
     /// and its first seat. Where memory is wanting the slots come back.
-    pub fn new(
-        alloc: Global,
-        key: &K,
-        terms: &Terms,
-        slots: Vec<S>,
-    ) -> Result<(EventTable<S, X, K, P>, Seat<S, X>), Refused<S, Global>>
+    pub fn new(alloc: Global, key: &K, terms: &Terms, slots: Vec<S>) -> Opened<Self, S, X>
         requires may { MayOpen P.setup P.fact P.beside key.now terms.now slots.items }
         ensures ok { IfOk result (λ r. IsOpened P.setup P.beside r.0 key.now r.1) }
         ensures err { IfErr result (λ r. r.slots.items ≡ slots.items) }

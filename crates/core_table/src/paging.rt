@@ -3,7 +3,7 @@
 ghost use Rattle.std.specs.Prelude.{◌≡◌, Some};
 ghost use Rattle.core_events.specs.Keyed.{find};
 ghost use Rattle.core_events.specs.Events.{entry, evict, fill, load_touch, pin, show, touch, unpin};
-ghost use Rattle.core_table.specs.Steps.{MayStep, IsForeseen, IsAfter, HasMade, HasFound};
+ghost use Rattle.core_table.specs.Steps.{MayStep, IsForeseen, StepFinds, StepMakes};
 
 use crate::event_table::Seat;
 use crate::places::ENTRY;
@@ -15,83 +15,70 @@ impl<S, X, K, P: SlotRule<S, X, K>> Stm<S, X, K, P> {
     /// Loads the entry of a page.
     pub fn entry(&self, seat: &mut Seat<S, X>, page: u64) -> u64
         requires may { MayStep P.fact self.now.events (entry page) seat.old }
-        ensures view { IsAfter self.now.events (entry page) seat.old seat.new result }
-        ensures found { HasFound self.now.events (entry page) seat.old seat.new result }
+        ensures { StepFinds self.now.events (entry page) seat.old seat.new result }
     {
         self.events
             .load_as::<Brand, u64>(seat, self.events.entry_place(page), &page)
     }
 
-    /// Pins a page, whose entry was `kept`.
-    pub fn pin(&self, seat: &mut Seat<S, X>, page: u64, kept: u64) -> u64
-        requires kept { find seat.old.me.0.view.paging.entries page ≡ Some kept }
-        requires may { MayStep P.fact self.now.events (pin page) seat.old }
-        ensures view { IsAfter self.now.events (pin page) seat.old seat.new result }
-        ensures found { HasFound self.now.events (pin page) seat.old seat.new result }
-    {
-        // Where the word is `kept`, it is the entry of a frame, and far from wrapping.
-        self.events.exchange_as::<Brand, u64>(
-            seat,
-            self.events.entry_place(page),
-            kept,
-            kept.wrapping_add(1),
-            &page,
-        )
-    }
-
-    /// Takes the pin of a page back.
-    pub fn unpin(&self, seat: &mut Seat<S, X>, page: u64) -> u64
-        requires may { MayStep P.fact self.now.events (unpin page) seat.old }
-        ensures view { IsAfter self.now.events (unpin page) seat.old seat.new result }
-        ensures found { HasFound self.now.events (unpin page) seat.old seat.new result }
+    /// Loads the touch of a page.
+    pub fn load_touch(&self, seat: &mut Seat<S, X>, page: u64) -> u64
+        requires may { MayStep P.fact self.now.events (load_touch page) seat.old }
+        ensures { StepFinds self.now.events (load_touch page) seat.old seat.new result }
     {
         self.events
-            .subtract_as::<Brand, u64>(seat, self.events.entry_place(page), 1, &page)
+            .load_as::<Brand, u64>(seat, self.events.touch_place(page), &page)
     }
 
     /// Raises the touch of a page to the number.
     pub fn touch(&self, seat: &mut Seat<S, X>, page: u64, number: u64)
         requires number { seat.old.me.0.view.tx.hand.number ≡ number }
         requires may { MayStep P.fact self.now.events (touch page) seat.old }
-        ensures view { IsAfter self.now.events (touch page) seat.old seat.new 0 }
-        ensures made { HasMade self.now.events (touch page) seat.old seat.new }
+        ensures { StepMakes self.now.events (touch page) seat.old seat.new }
     {
         self.events
             .raise_as::<Brand, u64>(seat, self.events.touch_place(page), number, &page);
     }
 
-    /// Loads the touch of a page.
-    pub fn load_touch(&self, seat: &mut Seat<S, X>, page: u64) -> u64
-        requires may { MayStep P.fact self.now.events (load_touch page) seat.old }
-        ensures view { IsAfter self.now.events (load_touch page) seat.old seat.new result }
-        ensures found { HasFound self.now.events (load_touch page) seat.old seat.new result }
+    /// Pins a page, whose entry was `kept`.
+    pub fn pin(&self, seat: &mut Seat<S, X>, page: u64, kept: u64) -> u64
+        requires kept { find seat.old.me.0.view.paging.entries page ≡ Some kept }
+        requires may { MayStep P.fact self.now.events (pin page) seat.old }
+        ensures { StepFinds self.now.events (pin page) seat.old seat.new result }
+    {
+        let place = self.events.entry_place(page);
+        // Where the word is `kept`, it is the entry of a frame, and far from wrapping.
+        let pinned = kept.wrapping_add(1);
+        self.events
+            .exchange_as::<Brand, u64>(seat, place, kept, pinned, &page)
+    }
+
+    /// Takes the pin of a page back.
+    pub fn unpin(&self, seat: &mut Seat<S, X>, page: u64) -> u64
+        requires may { MayStep P.fact self.now.events (unpin page) seat.old }
+        ensures { StepFinds self.now.events (unpin page) seat.old seat.new result }
     {
         self.events
-            .load_as::<Brand, u64>(seat, self.events.touch_place(page), &page)
+            .subtract_as::<Brand, u64>(seat, self.events.entry_place(page), 1, &page)
     }
 
     /// Makes a page absent, whose entry was `kept`, unless it is pinned.
     pub fn evict(&self, seat: &mut Seat<S, X>, page: u64, kept: u64) -> u64
         requires kept { find seat.old.me.0.view.paging.entries page ≡ Some kept }
         requires may { MayStep P.fact self.now.events (evict page) seat.old }
-        ensures view { IsAfter self.now.events (evict page) seat.old seat.new result }
-        ensures found { HasFound self.now.events (evict page) seat.old seat.new result }
+        ensures { StepFinds self.now.events (evict page) seat.old seat.new result }
     {
-        self.events.exchange_as::<Brand, u64>(
-            seat,
-            self.events.entry_place(page),
-            kept / ENTRY * ENTRY,
-            0,
-            &page,
-        )
+        let place = self.events.entry_place(page);
+        let unpinned = kept / ENTRY * ENTRY;
+        self.events
+            .exchange_as::<Brand, u64>(seat, place, unpinned, 0, &page)
     }
 
     /// Stores a home word of an absent page in a free frame.
     pub fn fill(&self, seat: &mut Seat<S, X>, page: u64, frame: u64, at: u64, value: u64)
         requires may { MayStep P.fact self.now.events (fill page frame at value) seat.old }
         requires fits { IsForeseen P.fact self.now.events (fill page frame at value) seat.old }
-        ensures view { IsAfter self.now.events (fill page frame at value) seat.old seat.new 0 }
-        ensures made { HasMade self.now.events (fill page frame at value) seat.old seat.new }
+        ensures { StepMakes self.now.events (fill page frame at value) seat.old seat.new }
     {
         self.events.store_as::<Brand, (u64, u64, u64, u64)>(
             seat,
@@ -104,8 +91,7 @@ impl<S, X, K, P: SlotRule<S, X, K>> Stm<S, X, K, P> {
     /// Stores the entry of a page whose words are all filled in this frame.
     pub fn show(&self, seat: &mut Seat<S, X>, page: u64, frame: u64)
         requires may { MayStep P.fact self.now.events (show page frame) seat.old }
-        ensures view { IsAfter self.now.events (show page frame) seat.old seat.new 0 }
-        ensures made { HasMade self.now.events (show page frame) seat.old seat.new }
+        ensures { StepMakes self.now.events (show page frame) seat.old seat.new }
     {
         self.events.store_as::<Brand, (u64, u64)>(
             seat,

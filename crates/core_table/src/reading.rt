@@ -5,7 +5,7 @@ ghost use Rattle.core_events.specs.Setups.{page_of};
 ghost use Rattle.core_events.specs.Keyed.{find};
 ghost use Rattle.core_table.specs.Abouts.{finishing};
 ghost use Rattle.core_events.specs.Events.{begin, check, extend, load, look, number};
-ghost use Rattle.core_table.specs.Steps.{MayStep, IsAfter, HasFound};
+ghost use Rattle.core_table.specs.Steps.{MayStep, StepFinds};
 
 use crate::event_table::Seat;
 use crate::places::{CLOCK, THREADS};
@@ -19,8 +19,7 @@ impl<S, X, K, P: SlotRule<S, X, K>> Stm<S, X, K, P> {
     /// Draws a number for the thread of this seat.
     pub fn number(&self, seat: &mut Seat<S, X>) -> u64
         requires may { MayStep P.fact self.now.events number seat.old }
-        ensures view { IsAfter self.now.events number seat.old seat.new result }
-        ensures found { HasFound self.now.events number seat.old seat.new result }
+        ensures { StepFinds self.now.events number seat.old seat.new result }
     {
         self.events.add_as::<Brand, ()>(seat, THREADS, 1, &())
     }
@@ -28,8 +27,7 @@ impl<S, X, K, P: SlotRule<S, X, K>> Stm<S, X, K, P> {
     /// Begins a transaction at the clock, its snapshot.
     pub fn clock(&self, seat: &mut Seat<S, X>) -> u64
         requires may { MayStep P.fact self.now.events begin seat.old }
-        ensures view { IsAfter self.now.events begin seat.old seat.new result }
-        ensures found { HasFound self.now.events begin seat.old seat.new result }
+        ensures { StepFinds self.now.events begin seat.old seat.new result }
     {
         self.events.load_as::<Brand, ()>(seat, CLOCK, &())
     }
@@ -37,8 +35,7 @@ impl<S, X, K, P: SlotRule<S, X, K>> Stm<S, X, K, P> {
     /// Begins an extension of the snapshot to the clock.
     pub fn extend(&self, seat: &mut Seat<S, X>) -> u64
         requires may { MayStep P.fact self.now.events extend seat.old }
-        ensures view { IsAfter self.now.events extend seat.old seat.new result }
-        ensures found { HasFound self.now.events extend seat.old seat.new result }
+        ensures { StepFinds self.now.events extend seat.old seat.new result }
     {
         self.events.load_as::<Brand, ()>(seat, CLOCK, &())
     }
@@ -46,8 +43,7 @@ impl<S, X, K, P: SlotRule<S, X, K>> Stm<S, X, K, P> {
     /// Looks at a lock.
     pub fn look(&self, seat: &mut Seat<S, X>, lock: u64) -> u64
         requires may { MayStep P.fact self.now.events (look lock) seat.old }
-        ensures view { IsAfter self.now.events (look lock) seat.old seat.new result }
-        ensures found { HasFound self.now.events (look lock) seat.old seat.new result }
+        ensures { StepFinds self.now.events (look lock) seat.old seat.new result }
     {
         self.events
             .load_as::<Brand, u64>(seat, self.events.lock_place(lock), &lock)
@@ -57,8 +53,7 @@ impl<S, X, K, P: SlotRule<S, X, K>> Stm<S, X, K, P> {
     pub fn load(&self, seat: &mut Seat<S, X>, at: u64, frame: u64) -> u64
         requires frame { find seat.old.me.0.view.paging.pins (page_of at) ≡ Some frame }
         requires may { MayStep P.fact self.now.events (load at) seat.old }
-        ensures view { IsAfter self.now.events (load at) seat.old seat.new result }
-        ensures found { HasFound self.now.events (load at) seat.old seat.new result }
+        ensures { StepFinds self.now.events (load at) seat.old seat.new result }
     {
         self.events
             .load_as::<Brand, u64>(seat, self.events.cell_place(frame, at), &at)
@@ -67,8 +62,7 @@ impl<S, X, K, P: SlotRule<S, X, K>> Stm<S, X, K, P> {
     /// Looks at a lock again.
     pub fn check(&self, seat: &mut Seat<S, X>, lock: u64) -> u64
         requires may { MayStep P.fact self.now.events (check lock) seat.old }
-        ensures view { IsAfter self.now.events (check lock) seat.old seat.new result }
-        ensures found { HasFound self.now.events (check lock) seat.old seat.new result }
+        ensures { StepFinds self.now.events (check lock) seat.old seat.new result }
     {
         self.events
             .load_as::<Brand, u64>(seat, self.events.lock_place(lock), &lock)
@@ -85,9 +79,7 @@ impl<S, X, K, P: SlotRule<S, X, K>> Stm<S, X, K, P> {
     ) -> u64
         requires may { MayStep P.fact self.now.events
             (finishing file index request.now reply.now) seat.old }
-        ensures view { IsAfter self.now.events
-            (finishing file index request.now reply.now) seat.old seat.new result }
-        ensures found { HasFound self.now.events
+        ensures { StepFinds self.now.events
             (finishing file index request.now reply.now) seat.old seat.new result }
     {
         self.events

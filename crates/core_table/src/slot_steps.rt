@@ -4,7 +4,7 @@
 ghost use Rattle.std.specs.Prelude.{◌≡◌, ◌==◌, ◌∷◌};
 ghost use prog.Atomic.{either};
 ghost use Rattle.atomic_table.specs.Table.{rest};
-ghost use Rattle.core_table.specs.Steps.{MayAct, IsForeseen, place_at, WordBecomes, WordRises, IsSameSeat, HasSlot};
+ghost use Rattle.core_table.specs.Steps.{MayAct, IsForeseen, StepsAt, WordBecomes, WordRises, IsSameSeat, HasSlot};
 
 use crate::event_table::{EventTable, Seat};
 use crate::plays::{DoesWithSlots, PutsWithSlots};
@@ -19,10 +19,9 @@ impl<S, X, K, P: SlotRule<S, X, K>> EventTable<S, X, K, P> {
         place: usize,
         _about: &T,
     ) -> u64
-        requires setup { E.setup ≡ self.now.setup }
+        requires at { StepsAt self.now E.event seat.old E.setup place }
         requires may { MayAct P.fact self.now E.event seat.old E.then }
         requires fits { IsForeseen P.fact self.now E.event seat.old }
-        requires place { place ≡ place_at self.now E.event seat.old }
         requires word { WordBecomes self.now E.event seat.old (λ n. n) }
         ensures seat { IsSameSeat seat.old seat.new }
         ensures then { E.then result seat.new.me }
@@ -38,10 +37,9 @@ impl<S, X, K, P: SlotRule<S, X, K>> EventTable<S, X, K, P> {
         new: u64,
         _about: &T,
     )
-        requires setup { E.setup ≡ self.now.setup }
+        requires at { StepsAt self.now E.event seat.old E.setup place }
         requires may { MayAct P.fact self.now E.event seat.old (λ n. E.then 0) }
         requires fits { IsForeseen P.fact self.now E.event seat.old }
-        requires place { place ≡ place_at self.now E.event seat.old }
         requires word { WordBecomes self.now E.event seat.old (λ n. new) }
         ensures seat { IsSameSeat seat.old seat.new }
         ensures then { E.then 0 seat.new.me }
@@ -60,10 +58,9 @@ impl<S, X, K, P: SlotRule<S, X, K>> EventTable<S, X, K, P> {
         new: u64,
         _about: &T,
     ) -> u64
-        requires setup { E.setup ≡ self.now.setup }
+        requires at { StepsAt self.now E.event seat.old E.setup place }
         requires may { MayAct P.fact self.now E.event seat.old E.then }
         requires fits { IsForeseen P.fact self.now E.event seat.old }
-        requires place { place ≡ place_at self.now E.event seat.old }
         requires word { WordBecomes self.now E.event seat.old (λ n. either (n == old) new n) }
         ensures seat { IsSameSeat seat.old seat.new }
         ensures then { E.then result seat.new.me }
@@ -81,10 +78,9 @@ impl<S, X, K, P: SlotRule<S, X, K>> EventTable<S, X, K, P> {
         more: u64,
         _about: &T,
     ) -> u64
-        requires setup { E.setup ≡ self.now.setup }
+        requires at { StepsAt self.now E.event seat.old E.setup place }
         requires may { MayAct P.fact self.now E.event seat.old E.then }
         requires fits { IsForeseen P.fact self.now E.event seat.old }
-        requires place { place ≡ place_at self.now E.event seat.old }
         requires word { WordRises self.now E.event seat.old more }
         ensures seat { IsSameSeat seat.old seat.new }
         ensures then { E.then result seat.new.me }

@@ -1,8 +1,8 @@
 //! The atomic steps, each once, for any event that is a step of its form.
 
-ghost use Rattle.std.specs.Prelude.{◌≡◌, ◌==◌, max};
+ghost use Rattle.std.specs.Prelude.{◌==◌, max};
 ghost use prog.Atomic.{either};
-ghost use Rattle.core_table.specs.Steps.{MayStep, IsForeseen, place_at, WordBecomes, WordRises, WordFalls, IsBlind, IsAfter, HasMade, HasFound};
+ghost use Rattle.core_table.specs.Steps.{MayStepAt, WordBecomes, WordRises, WordFalls, IsBlind, StepFinds, StepMakes};
 
 use crate::choice::Choice;
 use crate::event_table::{EventTable, Seat};
@@ -12,27 +12,19 @@ use crate::slot_rule::SlotRule;
 impl<S, X, K, P: SlotRule<S, X, K>> EventTable<S, X, K, P> {
     /// A load that is the event of `E`. The event is picked from `_about`.
     pub fn load_as<E: Choice, T>(&self, seat: &mut Seat<S, X>, place: usize, _about: &T) -> u64
-        requires setup { E.setup ≡ self.now.setup }
-        requires may { MayStep P.fact self.now E.event seat.old }
-        requires fits { IsForeseen P.fact self.now E.event seat.old }
-        requires place { place ≡ place_at self.now E.event seat.old }
+        requires may { MayStepAt P.fact self.now E.event seat.old E.setup place }
         requires word { WordBecomes self.now E.event seat.old (λ n. n) }
-        ensures view { IsAfter self.now E.event seat.old seat.new result }
-        ensures found { HasFound self.now E.event seat.old seat.new result }
+        ensures { StepFinds self.now E.event seat.old seat.new result }
     {
         self.table.shared.load::<Does<E>>(seat, place)
     }
 
     /// A store that is the event of `E`.
     pub fn store_as<E: Choice, T>(&self, seat: &mut Seat<S, X>, place: usize, new: u64, _about: &T)
-        requires setup { E.setup ≡ self.now.setup }
-        requires may { MayStep P.fact self.now E.event seat.old }
-        requires fits { IsForeseen P.fact self.now E.event seat.old }
-        requires place { place ≡ place_at self.now E.event seat.old }
+        requires may { MayStepAt P.fact self.now E.event seat.old E.setup place }
         requires word { WordBecomes self.now E.event seat.old (λ n. new) }
         requires blind { IsBlind self.now E.event seat.old }
-        ensures view { IsAfter self.now E.event seat.old seat.new 0 }
-        ensures made { HasMade self.now E.event seat.old seat.new }
+        ensures { StepMakes self.now E.event seat.old seat.new }
     {
         self.table.shared.store::<Puts<E>>(seat, place, new)
     }
@@ -46,13 +38,9 @@ impl<S, X, K, P: SlotRule<S, X, K>> EventTable<S, X, K, P> {
         new: u64,
         _about: &T,
     ) -> u64
-        requires setup { E.setup ≡ self.now.setup }
-        requires may { MayStep P.fact self.now E.event seat.old }
-        requires fits { IsForeseen P.fact self.now E.event seat.old }
-        requires place { place ≡ place_at self.now E.event seat.old }
+        requires may { MayStepAt P.fact self.now E.event seat.old E.setup place }
         requires word { WordBecomes self.now E.event seat.old (λ n. either (n == old) new n) }
-        ensures view { IsAfter self.now E.event seat.old seat.new result }
-        ensures found { HasFound self.now E.event seat.old seat.new result }
+        ensures { StepFinds self.now E.event seat.old seat.new result }
     {
         self.table
             .shared
@@ -67,13 +55,9 @@ impl<S, X, K, P: SlotRule<S, X, K>> EventTable<S, X, K, P> {
         more: u64,
         _about: &T,
     ) -> u64
-        requires setup { E.setup ≡ self.now.setup }
-        requires may { MayStep P.fact self.now E.event seat.old }
-        requires fits { IsForeseen P.fact self.now E.event seat.old }
-        requires place { place ≡ place_at self.now E.event seat.old }
+        requires may { MayStepAt P.fact self.now E.event seat.old E.setup place }
         requires word { WordRises self.now E.event seat.old more }
-        ensures view { IsAfter self.now E.event seat.old seat.new result }
-        ensures found { HasFound self.now E.event seat.old seat.new result }
+        ensures { StepFinds self.now E.event seat.old seat.new result }
     {
         self.table.shared.fetch_add::<Does<E>>(seat, place, more)
     }
@@ -86,13 +70,9 @@ impl<S, X, K, P: SlotRule<S, X, K>> EventTable<S, X, K, P> {
         less: u64,
         _about: &T,
     ) -> u64
-        requires setup { E.setup ≡ self.now.setup }
-        requires may { MayStep P.fact self.now E.event seat.old }
-        requires fits { IsForeseen P.fact self.now E.event seat.old }
-        requires place { place ≡ place_at self.now E.event seat.old }
+        requires may { MayStepAt P.fact self.now E.event seat.old E.setup place }
         requires word { WordFalls self.now E.event seat.old less }
-        ensures view { IsAfter self.now E.event seat.old seat.new result }
-        ensures found { HasFound self.now E.event seat.old seat.new result }
+        ensures { StepFinds self.now E.event seat.old seat.new result }
     {
         self.table.shared.fetch_sub::<Does<E>>(seat, place, less)
     }
@@ -105,13 +85,9 @@ impl<S, X, K, P: SlotRule<S, X, K>> EventTable<S, X, K, P> {
         least: u64,
         _about: &T,
     ) -> u64
-        requires setup { E.setup ≡ self.now.setup }
-        requires may { MayStep P.fact self.now E.event seat.old }
-        requires fits { IsForeseen P.fact self.now E.event seat.old }
-        requires place { place ≡ place_at self.now E.event seat.old }
+        requires may { MayStepAt P.fact self.now E.event seat.old E.setup place }
         requires word { WordBecomes self.now E.event seat.old (λ n. max n least) }
-        ensures view { IsAfter self.now E.event seat.old seat.new result }
-        ensures found { HasFound self.now E.event seat.old seat.new result }
+        ensures { StepFinds self.now E.event seat.old seat.new result }
     {
         self.table.shared.fetch_max::<Does<E>>(seat, place, least)
     }

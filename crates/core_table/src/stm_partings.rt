@@ -6,23 +6,18 @@ ghost use Rattle.core_table.specs.Rules.{OutlastsSplit, OutlastsJoin};
 ghost use Rattle.core_table.specs.Seats.{CanSplit, CanJoin, known_left, known_both};
 ghost use Rattle.core_table.specs.Steps.{BelongsTo, MayOpen, IsOpened, IsSplitOff, NowKnows, HasCounts, EndsWith};
 
-use crate::event_table::{EventTable, Seat};
+use crate::event_table::{EventTable, Opened, Seat};
 use crate::slot_rule::SlotRule;
 use crate::stm::Stm;
 use crate::terms::Terms;
-use atomic_table::{Closed, Refused};
+use atomic_table::Closed;
 use std::alloc::Global;
 use std::marker::Brand;
 
 impl<S, X, K, P: SlotRule<S, X, K>> Stm<S, X, K, P> {
     /// The words at the start, by this key and these terms, these slots, and the first seat. Where
     /// memory is wanting the slots come back.
-    pub fn new(
-        alloc: Global,
-        key: &K,
-        terms: &Terms,
-        slots: Vec<S>,
-    ) -> Result<(Stm<S, X, K, P>, Seat<S, X>), Refused<S, Global>>
+    pub fn new(alloc: Global, key: &K, terms: &Terms, slots: Vec<S>) -> Opened<Self, S, X>
         requires may { MayOpen P.setup P.fact P.beside key.now terms.now slots.items }
         ensures ok { IfOk result (λ r. IsOpened P.setup P.beside r.0.events key.now r.1) }
         ensures err { IfErr result (λ r. r.slots.items ≡ slots.items) }

@@ -2,7 +2,7 @@
 
 ghost use Rattle.std.specs.Prelude.{◌≡◌, Some};
 ghost use Rattle.core_events.specs.Events.{empty_box, give_turn, post, raise_durable, raise_reproduced, see_box, see_full, take_turn};
-ghost use Rattle.core_table.specs.Steps.{MayStep, IsForeseen, IsAfter, HasMade, HasFound};
+ghost use Rattle.core_table.specs.Steps.{MayStep, IsForeseen, StepFinds, StepMakes};
 
 use crate::event_table::Seat;
 use crate::places::{DURABLE, REPRODUCED, TURN};
@@ -16,8 +16,7 @@ impl<S, X, K, P: SlotRule<S, X, K>> Stm<S, X, K, P> {
         requires thread { seat.old.me.0.view.part.thread ≡ Some thread }
         requires place { seat.old.me.0.view.box.next ≡ place }
         requires may { MayStep P.fact self.now.events see_box seat.old }
-        ensures view { IsAfter self.now.events see_box seat.old seat.new result }
-        ensures found { HasFound self.now.events see_box seat.old seat.new result }
+        ensures { StepFinds self.now.events see_box seat.old seat.new result }
     {
         self.events
             .load_as::<Brand, ()>(seat, self.events.box_place(thread, place), &())
@@ -29,8 +28,7 @@ impl<S, X, K, P: SlotRule<S, X, K>> Stm<S, X, K, P> {
         requires place { seat.old.me.0.view.box.next ≡ place }
         requires number { seat.old.me.0.view.tx.hand.number ≡ number }
         requires may { MayStep P.fact self.now.events post seat.old }
-        ensures view { IsAfter self.now.events post seat.old seat.new 0 }
-        ensures made { HasMade self.now.events post seat.old seat.new }
+        ensures { StepMakes self.now.events post seat.old seat.new }
     {
         self.events
             .store_as::<Brand, ()>(seat, self.events.box_place(thread, place), number, &())
@@ -40,8 +38,7 @@ impl<S, X, K, P: SlotRule<S, X, K>> Stm<S, X, K, P> {
     pub fn take_turn(&self, seat: &mut Seat<S, X>, thread: u64) -> u64
         requires thread { seat.old.me.0.view.part.thread ≡ Some thread }
         requires may { MayStep P.fact self.now.events take_turn seat.old }
-        ensures view { IsAfter self.now.events take_turn seat.old seat.new result }
-        ensures found { HasFound self.now.events take_turn seat.old seat.new result }
+        ensures { StepFinds self.now.events take_turn seat.old seat.new result }
     {
         self.events
             .exchange_as::<Brand, ()>(seat, TURN, 0, thread + 1, &())
@@ -50,8 +47,7 @@ impl<S, X, K, P: SlotRule<S, X, K>> Stm<S, X, K, P> {
     /// Gives the turn back; `failed` says whether it met a fault.
     pub fn give_turn(&self, seat: &mut Seat<S, X>, failed: bool)
         requires may { MayStep P.fact self.now.events (give_turn failed) seat.old }
-        ensures view { IsAfter self.now.events (give_turn failed) seat.old seat.new 0 }
-        ensures made { HasMade self.now.events (give_turn failed) seat.old seat.new }
+        ensures { StepMakes self.now.events (give_turn failed) seat.old seat.new }
     {
         self.events.store_as::<Brand, bool>(seat, TURN, 0, &failed)
     }
@@ -59,8 +55,7 @@ impl<S, X, K, P: SlotRule<S, X, K>> Stm<S, X, K, P> {
     /// Loads the word of a box, while the turn is had.
     pub fn see_full(&self, seat: &mut Seat<S, X>, thread: u64, place: u64) -> u64
         requires may { MayStep P.fact self.now.events (see_full thread place) seat.old }
-        ensures view { IsAfter self.now.events (see_full thread place) seat.old seat.new result }
-        ensures found { HasFound self.now.events (see_full thread place) seat.old seat.new result }
+        ensures { StepFinds self.now.events (see_full thread place) seat.old seat.new result }
     {
         self.events.load_as::<Brand, (u64, u64)>(
             seat,
@@ -73,8 +68,7 @@ impl<S, X, K, P: SlotRule<S, X, K>> Stm<S, X, K, P> {
     pub fn empty_box(&self, seat: &mut Seat<S, X>, thread: u64, place: u64)
         requires may { MayStep P.fact self.now.events (empty_box thread place) seat.old }
         requires fits { IsForeseen P.fact self.now.events (empty_box thread place) seat.old }
-        ensures view { IsAfter self.now.events (empty_box thread place) seat.old seat.new 0 }
-        ensures made { HasMade self.now.events (empty_box thread place) seat.old seat.new }
+        ensures { StepMakes self.now.events (empty_box thread place) seat.old seat.new }
     {
         self.events.store_as::<Brand, (u64, u64)>(
             seat,
@@ -88,21 +82,18 @@ impl<S, X, K, P: SlotRule<S, X, K>> Stm<S, X, K, P> {
     pub fn raise_durable(&self, seat: &mut Seat<S, X>, value: u64)
         requires may { MayStep P.fact self.now.events (raise_durable value) seat.old }
         requires fits { IsForeseen P.fact self.now.events (raise_durable value) seat.old }
-        ensures view { IsAfter self.now.events (raise_durable value) seat.old seat.new 0 }
-        ensures made { HasMade self.now.events (raise_durable value) seat.old seat.new }
+        ensures { StepMakes self.now.events (raise_durable value) seat.old seat.new }
     {
-        self.events
-            .store_as::<Brand, u64>(seat, DURABLE, value, &value)
+        self.events.store_as::<Brand, ()>(seat, DURABLE, value, &())
     }
 
     /// Stores the reproduced number. What the home has is left to the user's fact.
     pub fn raise_reproduced(&self, seat: &mut Seat<S, X>, value: u64)
         requires may { MayStep P.fact self.now.events (raise_reproduced value) seat.old }
         requires fits { IsForeseen P.fact self.now.events (raise_reproduced value) seat.old }
-        ensures view { IsAfter self.now.events (raise_reproduced value) seat.old seat.new 0 }
-        ensures made { HasMade self.now.events (raise_reproduced value) seat.old seat.new }
+        ensures { StepMakes self.now.events (raise_reproduced value) seat.old seat.new }
     {
         self.events
-            .store_as::<Brand, u64>(seat, REPRODUCED, value, &value)
+            .store_as::<Brand, ()>(seat, REPRODUCED, value, &())
     }
 }

@@ -6,7 +6,7 @@ ghost use Rattle.core_events.specs.Setups.{page_of};
 ghost use Rattle.core_events.specs.Keyed.{find};
 ghost use Rattle.core_table.specs.Abouts.{drawing};
 ghost use Rattle.core_events.specs.Events.{decide, release, restore, store, take, first_lock};
-ghost use Rattle.core_table.specs.Steps.{MayStep, IsAfter, HasMade, HasFound};
+ghost use Rattle.core_table.specs.Steps.{MayStep, StepFinds, StepMakes};
 
 use crate::event_table::Seat;
 use crate::places::CLOCK;
@@ -23,8 +23,7 @@ impl<S, X, K, P: SlotRule<S, X, K>> Stm<S, X, K, P> {
         requires seen { seat.old.me.0.view.tx.look ≡ Some (lock, seen) }
         requires thread { seat.old.me.0.view.part.thread ≡ Some thread }
         requires may { MayStep P.fact self.now.events (take lock) seat.old }
-        ensures view { IsAfter self.now.events (take lock) seat.old seat.new result }
-        ensures found { HasFound self.now.events (take lock) seat.old seat.new result }
+        ensures { StepFinds self.now.events (take lock) seat.old seat.new result }
     {
         self.events.exchange_as::<Brand, u64>(
             seat,
@@ -47,9 +46,7 @@ impl<S, X, K, P: SlotRule<S, X, K>> Stm<S, X, K, P> {
     ) -> u64
         requires may { MayStep P.fact self.now.events
             (drawing file index request.now reply.now writes.now) seat.old }
-        ensures view { IsAfter self.now.events
-            (drawing file index request.now reply.now writes.now) seat.old seat.new result }
-        ensures found { HasFound self.now.events
+        ensures { StepFinds self.now.events
             (drawing file index request.now reply.now writes.now) seat.old seat.new result }
     {
         self.events
@@ -65,8 +62,7 @@ impl<S, X, K, P: SlotRule<S, X, K>> Stm<S, X, K, P> {
     pub fn decide(&self, seat: &mut Seat<S, X>, lock: u64) -> u64
         requires lock { lock ≡ first_lock seat.old.me.0.view.tx.owned }
         requires may { MayStep P.fact self.now.events decide seat.old }
-        ensures view { IsAfter self.now.events decide seat.old seat.new result }
-        ensures found { HasFound self.now.events decide seat.old seat.new result }
+        ensures { StepFinds self.now.events decide seat.old seat.new result }
     {
         self.events
             .load_as::<Brand, ()>(seat, self.events.lock_place(lock), &())
@@ -77,8 +73,7 @@ impl<S, X, K, P: SlotRule<S, X, K>> Stm<S, X, K, P> {
         requires frame { find seat.old.me.0.view.paging.pins (page_of at) ≡ Some frame }
         requires value { written seat.old.me.0.view.tx.hand.writes at ≡ Some value }
         requires may { MayStep P.fact self.now.events (store at) seat.old }
-        ensures view { IsAfter self.now.events (store at) seat.old seat.new 0 }
-        ensures made { HasMade self.now.events (store at) seat.old seat.new }
+        ensures { StepMakes self.now.events (store at) seat.old seat.new }
     {
         self.events
             .store_as::<Brand, u64>(seat, self.events.cell_place(frame, at), value, &at)
@@ -88,8 +83,7 @@ impl<S, X, K, P: SlotRule<S, X, K>> Stm<S, X, K, P> {
     pub fn release(&self, seat: &mut Seat<S, X>, lock: u64, number: u64)
         requires number { seat.old.me.0.view.tx.hand.number ≡ number }
         requires may { MayStep P.fact self.now.events (release lock) seat.old }
-        ensures view { IsAfter self.now.events (release lock) seat.old seat.new 0 }
-        ensures made { HasMade self.now.events (release lock) seat.old seat.new }
+        ensures { StepMakes self.now.events (release lock) seat.old seat.new }
     {
         self.events
             .store_as::<Brand, u64>(seat, self.events.lock_place(lock), 2 * number, &lock)
@@ -99,8 +93,7 @@ impl<S, X, K, P: SlotRule<S, X, K>> Stm<S, X, K, P> {
     pub fn restore(&self, seat: &mut Seat<S, X>, lock: u64, old: u64)
         requires old { find seat.old.me.0.view.tx.owned lock ≡ Some old }
         requires may { MayStep P.fact self.now.events (restore lock) seat.old }
-        ensures view { IsAfter self.now.events (restore lock) seat.old seat.new 0 }
-        ensures made { HasMade self.now.events (restore lock) seat.old seat.new }
+        ensures { StepMakes self.now.events (restore lock) seat.old seat.new }
     {
         self.events
             .store_as::<Brand, u64>(seat, self.events.lock_place(lock), old, &lock)

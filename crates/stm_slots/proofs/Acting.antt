@@ -62,6 +62,13 @@ module _ {M : Type 0} {ghosts : Ghosts M} (sight : M → Sight) (o : Opening M g
       get None = a
       get (Some h) = h
 
+  -- what a seat keeps last decides, and a stage that is the same keeps the rule
+  pub kept_last : {s now : Stage} (xs : List Beside) (id : ℕ) (y1 y2 : Beside) (homes : List (Maybe (Slot M ghosts))) (hands : Hands) → now ≡ s → SlotsKeptBy sight o s (set (set xs id y1) id y2) homes hands → SlotsKept sight o now (set xs id y2) homes
+  kept_last {s} xs id y1 y2 homes hands same kept = record {
+    hands = hands;
+    kept = subst (λ st. SlotsKeptBy sight o st (set xs id y2) homes hands) (sym same) (subst (λ ys. SlotsKeptBy sight o s ys homes hands) (set-set xs id y1 y2) kept);
+  }
+
   -- ---- the turn is taken
   module _ (c : State) (id : ℕ) (v : View) where
     abbrev staged : ℕ → List Owner → Stage
@@ -238,11 +245,7 @@ module _ {M : Type 0} {ghosts : Ghosts M} (sight : M → Sight) (o : Opening M g
             takes i (Record r),
             y2,
             s.3,
-            record {
-              hands = record now { boxes = (i, r) ∷ hands.boxes };
-              kept = subst (λ st. SlotsKeptBy sight o st (set xs id y2) (set homes i none) (record now { boxes = (i, r) ∷ hands.boxes })) (sym (look_stage c t j there_v))
-                  (subst (λ ys. SlotsKeptBy sight o (stage_of c) ys (set homes i none) (record now { boxes = (i, r) ∷ hands.boxes })) (set-set xs id y1 y2) s.4);
-            },
+            kept_last xs id y1 y2 (set homes i none) (record now { boxes = (i, r) ∷ hands.boxes }) (look_stage c t j there_v) s.4,
             (λ told. record {
               told = told;
               view = refl;
@@ -334,12 +337,8 @@ module _ {M : Type 0} {ghosts : Ghosts M} (sight : M → Sight) (o : Opening M g
           gives,
           y2,
           tt,
-          record {
-            hands = record now { boxes = left };
-            kept = subst (λ st. SlotsKeptBy sight o st (set xs id y2) (homes_after homes me.1 gives) (record now { boxes = left })) (sym (look_stage c t j there_v))
-                (subst (λ cs. SlotsKeptBy sight o (stage_of c) (set xs id y2) (homes_after homes cs gives) (record now { boxes = left })) (sym slots)
-                (subst (λ ys. SlotsKeptBy sight o (stage_of c) ys (set homes i (some (Record r))) (record now { boxes = left })) (set-set xs id y1 y2) put));
-          },
+          subst (λ cs. fact (after z c id v (see_full t j)) (set xs id y2) (homes_after homes cs gives)) (sym slots)
+              (kept_last xs id y1 y2 (set homes i (some (Record r))) (record now { boxes = left }) (look_stage c t j there_v) put),
           (λ told. record { told = told; view = refl; beside = refl; slots = ap (λ (cs : List (ℕ × Slot M ghosts)). carried_after cs gives) slots }),
         )
 
@@ -366,12 +365,8 @@ module _ {M : Type 0} {ghosts : Ghosts M} (sight : M → Sight) (o : Opening M g
           gives,
           y2,
           tt,
-          record {
-            hands = last;
-            kept = subst (λ st. SlotsKeptBy sight o st (set xs id y2) (homes_after homes me.1 gives) last) (sym same)
-                (subst (λ cs. SlotsKeptBy sight o gone (set xs id y2) (homes_after homes cs gives) last) (sym slots)
-                (subst (λ ys. SlotsKeptBy sight o gone ys (set homes i (some Empty)) last) (set-set xs id y1 y2) done));
-          },
+          subst (λ cs. fact (after z c id v (empty_box t j)) (set xs id y2) (homes_after homes cs gives)) (sym slots)
+              (kept_last xs id y1 y2 (set homes i (some Empty)) last same done),
           (λ told. record { told = told; view = refl; beside = refl; slots = ap (λ (cs : List (ℕ × Slot M ghosts)). carried_after cs gives) slots }),
         )
 
@@ -398,11 +393,7 @@ module _ {M : Type 0} {ghosts : Ghosts M} (sight : M → Sight) (o : Opening M g
           keeps,
           y2,
           tt,
-          record {
-            hands = record now { shown = d };
-            kept = subst (λ st. SlotsKeptBy sight o st (set xs id y2) homes (record now { shown = d })) (sym same)
-                (subst (λ ys. SlotsKeptBy sight o (record (stage_of c) { reproduced = d }) ys homes (record now { shown = d })) (set-set xs id y1 y2)
-                (raised_reproduced sight o (stage_of c) (set xs id y1) homes now kept (boxes_sized z c k) id (owner_of v) y1 at_v (now_at c xs homes k f id v x there_v at has hands is m follows) d le (some_turn z c k id v there_v has) (alone z c k id v there_v has)));
-          },
+          kept_last xs id y1 y2 homes (record now { shown = d }) same
+              (raised_reproduced sight o (stage_of c) (set xs id y1) homes now kept (boxes_sized z c k) id (owner_of v) y1 at_v (now_at c xs homes k f id v x there_v at has hands is m follows) d le (some_turn z c k id v there_v has) (alone z c k id v there_v has)),
           (λ told. record { told = told; view = refl; beside = refl; slots = refl }),
         )

@@ -30,7 +30,7 @@ use Rattle.stm_slots.specs.Rule.{SlotsKeptBy}
 use Rattle.stm_slots.specs.declared.slot.Slot.{Slot}
 use Rattle.stm_slots.specs.declared.slot.Slot.TheVariants.{Empty, Record}
 use Rattle.stm_slots.specs.declared.opening.Opening.{Opening}
-use Rattle.stm_slots.proofs.Listing.{lists_taken}
+use Rattle.stm_slots.proofs.Listing.{lists_moved, lists_taken}
 use Rattle.stm_slots.proofs.Wording.{mapped_on, held_by}
 use Rattle.stm_slots.proofs.Taken.{contains_here, contains_more, contains_either}
 use Rattle.stm_slots.proofs.Queueing.{place_on, place_here, way_to, queue_left, queue_other, word_left, word_other}
@@ -325,26 +325,19 @@ module _ {M : Type 0} {ghosts : Ghosts M} (sight : M → Sight) (o : Opening M g
       still_boxed m q other b = (set_else s.boxes front_box m 0 other ∙ b.0, set_else s.records front_box m no_record other ∙ b.1)
 
       lists2 : ListsKept z s2 hands.lists left
-      lists2 = record {
-        lawful = k.lists.lawful;
-        rings = k.lists.rings;
-        pages = k.lists.pages;
-        durable = k.lists.durable;
-        reproduced = k.lists.reproduced;
-        fault = k.lists.fault;
-        persisted = All-cons (λ (q : RedoRecord). HasRecord hands.lists.records q.number × (writes_in hands.lists.records q.number ≡ q.writes)) r s.persisted (handed, writes) k.lists.persisted;
-        handed = λ n has. dite (ℕ_discrete n r.number)
-            (λ e. inl (subst (HasRecord (r ∷ s.persisted)) (sym e) (has_here r s.persisted)))
-            (λ other. ⊎_elim
-            (λ p. inl (has_more r s.persisted n p))
-            (λ b. inr (b.0, still_boxed b.0 (record { number = n; writes = writes_in hands.lists.records n }) (λ e. other (some-injective n r.number (sym b.1.0 ∙ (ap (get_elem? s.boxes) e ∙ front_hand.0.0)))) b.1))
-            (k.lists.handed n has));
-        in_hand = λ alive m n at pos has. let b = box_else m n at pos in let q = k.lists.in_hand alive m n b.1 pos has in ⊎_elim (λ e. absurd (b.0 e)) (λ stays. (q.0, stays)) (leaves.stays m q.0 q.1);
-        ordered = λ alive. let w = k.lists.ordered alive in record {
-          boxed = λ u j n q lu lj at pos lacks among. w.boxed u j n q lu lj (box_else (box_of z u j) n at pos).1 pos lacks among;
-          opened = w.opened;
-        };
-      }
+      lists2 = lists_moved z s s2 hands.lists hands.boxes left k.lists k.lists.durable k.lists.reproduced k.lists.fault
+          (All-cons (λ (q : RedoRecord). HasRecord hands.lists.records q.number × (writes_in hands.lists.records q.number ≡ q.writes)) r s.persisted (handed, writes) k.lists.persisted)
+          (λ n has. dite (ℕ_discrete n r.number)
+          (λ e. inl (subst (HasRecord (r ∷ s.persisted)) (sym e) (has_here r s.persisted)))
+          (λ other. ⊎_elim
+          (λ p. inl (has_more r s.persisted n p))
+          (λ b. inr (b.0, still_boxed b.0 (record { number = n; writes = writes_in hands.lists.records n }) (λ e. other (some-injective n r.number (sym b.1.0 ∙ (ap (get_elem? s.boxes) e ∙ front_hand.0.0)))) b.1))
+          (k.lists.handed n has)))
+          (λ alive m n at pos has. let b = box_else m n at pos in let q = k.lists.in_hand alive m n b.1 pos has in ⊎_elim (λ e. absurd (b.0 e)) (λ stays. (q.0, stays)) (leaves.stays m q.0 q.1))
+          (λ alive. let w = k.lists.ordered alive in record {
+            boxed = λ u j n q lu lj at pos lacks among. w.boxed u j n q lu lj (box_else (box_of z u j) n at pos).1 pos lacks among;
+            opened = w.opened;
+          })
 
       pub emptied : SlotsKeptBy sight o s2 (set xs id (record x { turn = Some hands2 })) (set homes front_box (some Empty)) hands2
       emptied =

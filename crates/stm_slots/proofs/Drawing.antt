@@ -25,7 +25,7 @@ use Rattle.stm_slots.specs.Rule.{BoxSlots, SlotsKeptBy}
 use Rattle.stm_slots.specs.declared.slot.Slot.{Slot}
 use Rattle.stm_slots.specs.declared.slot.Slot.TheVariants.{Empty, Record}
 use Rattle.stm_slots.specs.declared.opening.Opening.{Opening}
-use Rattle.stm_slots.proofs.Listing.{lists_owned}
+use Rattle.stm_slots.proofs.Listing.{lists_moved, lists_owned}
 use Rattle.stm_slots.proofs.Wording.{mapped_on, held_on}
 use Rattle.stm_slots.proofs.Queueing.{place_more, not_all, queue_longer, queue_beside, word_beside}
 
@@ -230,27 +230,19 @@ module _ {M : Type 0} {ghosts : Ghosts M} (sight : M → Sight) (o : Opening M g
       not_here i m at pos_m e = let zero_m : 0 ≡ m = some-injective 0 m (sym open_box.0 ∙ (ap (get_elem? s.boxes) (sym e) ∙ at)) in absurd (omega arith)
 
       posted_lists : ListsKept z s2 hands.lists hands.boxes
-      posted_lists = record {
-        lawful = k.lists.lawful;
-        rings = k.lists.rings;
-        pages = k.lists.pages;
-        durable = k.lists.durable;
-        reproduced = k.lists.reproduced;
-        fault = faults_in w2 refl;
-        persisted = k.lists.persisted;
-        handed = λ n has. ⊎_elim inl (λ b. inr (b.0, still_boxed b.0 (record { number = n; writes = writes_in hands.lists.records n }) (not_here b.0 n b.1.0 (some_numbers n has)) b.1)) (k.lists.handed n has);
-        in_hand = λ alive i m at pos_m has. ⊎_elim
-            (λ e. absurd (not_handed (subst (HasRecord hands.lists.records) (sym e.1) has)))
-            (λ e. k.lists.in_hand alive i m e.1 pos_m has)
-            (at_set s.boxes box i r.number m at);
-        ordered = λ alive. let w = k.lists.ordered alive in record {
-          boxed = λ u j m q lu lj at pos_m lacks among. ⊎_elim
-              (λ e. let same = (box_same z.boxes u t j v.next lj (near id v at_v) e.0).0 in let lt = w.opened id t v q at_v of_v pos_v (subst (λ (d : ℕ). Contains (waiting_of_ring hands.lists.state d) q) same among) in let is = e.1 in omega arith)
-              (λ e. w.boxed u j m q lu lj e.1 pos_m lacks among)
-              (at_set s.boxes box (box_of z u j) r.number m at);
-          opened = λ j u p q at of_u pos_p among. ⊎_elim (λ e. absurd (let n = ap (λ (a : Owner). a.number) e.1 in omega arith)) (λ e. w.opened j u p q e.1 of_u pos_p among) (at_set s.owners id j w2 p at);
-        };
-      }
+      posted_lists = lists_moved z s s2 hands.lists hands.boxes hands.boxes k.lists k.lists.durable k.lists.reproduced (faults_in w2 refl) k.lists.persisted
+          (λ n has. ⊎_elim inl (λ b. inr (b.0, still_boxed b.0 (record { number = n; writes = writes_in hands.lists.records n }) (not_here b.0 n b.1.0 (some_numbers n has)) b.1)) (k.lists.handed n has))
+          (λ alive i m at pos_m has. ⊎_elim
+          (λ e. absurd (not_handed (subst (HasRecord hands.lists.records) (sym e.1) has)))
+          (λ e. k.lists.in_hand alive i m e.1 pos_m has)
+          (at_set s.boxes box i r.number m at))
+          (λ alive. let w = k.lists.ordered alive in record {
+            boxed = λ u j m q lu lj at pos_m lacks among. ⊎_elim
+                (λ e. let same = (box_same z.boxes u t j v.next lj (near id v at_v) e.0).0 in let lt = w.opened id t v q at_v of_v pos_v (subst (λ (d : ℕ). Contains (waiting_of_ring hands.lists.state d) q) same among) in let is = e.1 in omega arith)
+                (λ e. w.boxed u j m q lu lj e.1 pos_m lacks among)
+                (at_set s.boxes box (box_of z u j) r.number m at);
+            opened = λ j u p q at of_u pos_p among. ⊎_elim (λ e. absurd (let n = ap (λ (a : Owner). a.number) e.1 in omega arith)) (λ e. w.opened j u p q e.1 of_u pos_p among) (at_set s.owners id j w2 p at);
+          })
 
       posted_boxes : BoxSlots sight z s2 hands.boxes (set homes box (some (Record r)))
       posted_boxes = record {

@@ -1,7 +1,7 @@
 -- A page leaves its frame, or comes into one, by the holder of the turn: as acts, with which the rule of the slots is kept.
 use Rattle.std.proofs.Common.{◌≡◌, ◌≢◌, ℕ, ◌*◌, ◌<◌, true, List, ◌∷◌, map, get_or, set, refl, sym, ap, ◌∙◌, subst, eq-eqb, ne_eqb, arith}
 use Rattle.std.specs.Prelude.{Option, Some, None}
-use Rattle.std.proofs.lemmas.List.{set-set, set-get_or}
+use Rattle.std.proofs.lemmas.List.{set-get_or}
 use mathlib.Core.Option.{Option as Maybe, some}
 use mathlib.Core.Logic.{dite}
 use native.Mathlib.Decide.{ℕ_discrete}
@@ -36,7 +36,7 @@ use Rattle.stm_slots.specs.declared.slot.Slot.{Slot}
 use Rattle.stm_slots.specs.declared.opening.Opening.{Opening}
 use Rattle.stm_slots.proofs.Staged.{some_turn, alone}
 use Rattle.stm_slots.proofs.Mapping.{map_left, map_shown, map_turned, remapped}
-use Rattle.stm_slots.proofs.Acting.{now_kept, now_at}
+use Rattle.stm_slots.proofs.Acting.{kept_last, now_kept, now_at}
 
 -- an absent page has the entry 0
 absent_word : (o : Option ℕ) (pins n : ℕ) → o ≡ None → n ≡ entry_word o pins → n ≡ 0
@@ -59,25 +59,27 @@ module _ {M : Type 0} {ghosts : Ghosts M} (sight : M → Sight) (o : Opening M g
     abbrev x : Beside
     x = me.0.beside
 
+    -- the holder of the turn keeps this map at last, where the entries are these, and nothing else changed that the rule reads
+    keeps_map : (c s : State) (xs : List Beside) (homes : List (Maybe (Slot M ghosts))) (k : Kept z c) (there_v : get_elem? c.views id ≡ some v) (at : get_elem? xs id ≡ some x) (f : fact c xs homes) (entries : List ℕ) (w : PageMap) → IsMapped z (record (stage_of c) { entries = entries }) w
+        → stage_of s ≡ record (stage_of c) { entries = entries } → fact s (set xs id (record x { turn = Some (record now { map = w }) })) homes
+    keeps_map c s xs homes k there_v at f entries w mapped same =
+        let y1 : Beside = record x { turn = Some now } in
+        kept_last sight o xs id y1 (record x { turn = Some (record now { map = w }) }) homes (record now { map = w }) same
+        (remapped sight o (stage_of c) (set xs id y1) homes now (now_kept sight o c xs homes k f id v x there_v at has hands is m follows) id y1 (now_at sight o c xs homes k f id v x there_v at has hands is m follows) (alone z c k id v there_v has) (some_turn z c k id v there_v has) entries w mapped)
+
     -- ---- the entry is looked at, where the hand of the map may have moved
     pub entry_acts : (w : PageMap) → w.pages ≡ now.map.pages → w.frames ≡ now.map.frames → (IsOneToOne now.map → IsOneToOne w) → Acts fact z (entry p) id me (MappedTo sight o (entry p) now (λ n. w) me)
     entry_acts w pages frames lawful c xs homes k allowed at f =
         let there_v = allowed.is_there in let n : ℕ = get_or c.entries p 0 in
         let kept = now_kept sight o c xs homes k f id v x there_v at has hands is m follows in
         let mapped : IsMapped z (record (stage_of c) { entries = c.entries }) w = map_turned z (stage_of c) now.map w kept.pages pages frames lawful in
-        let y1 : Beside = record x { turn = Some now } in let y2 : Beside = record x { turn = Some (record now { map = w }) } in
-        let made = remapped sight o (stage_of c) (set xs id y1) homes now kept id y1 (now_at sight o c xs homes k f id v x there_v at has hands is m follows) (alone z c k id v there_v has) (some_turn z c k id v there_v has) c.entries w mapped in
         let same : stage_of (after z c id v (entry p)) ≡ stage_of c =
         ap (λ es. record (stage_of c) { entries = es; owners = map owner_of (set c.views id (view_after z (entry p) v n)) }) (set-get_or c.entries p 0)
         ∙ ap (λ os. record (stage_of c) { owners = os }) (unmoved owner_of c.views id v (view_after z (entry p) v n) there_v refl) in (
           keeps,
-          y2,
+          record x { turn = Some (record now { map = w }) },
           tt,
-          record {
-            hands = record now { map = w };
-            kept = subst (λ st. SlotsKeptBy sight o st (set xs id y2) homes (record now { map = w })) (sym same)
-                (subst (λ ys. SlotsKeptBy sight o (stage_of c) ys homes (record now { map = w })) (set-set xs id y1 y2) made);
-          },
+          keeps_map c (after z c id v (entry p)) xs homes k there_v at f c.entries w mapped same,
           (λ told. record { told = told; view = refl; beside = refl; slots = refl }),
         )
 
@@ -104,19 +106,13 @@ module _ {M : Type 0} {ghosts : Ghosts M} (sight : M → Sight) (o : Opening M g
       evict_made e =
           let some_entry : 0 < n = omega arith in
           let mapped = map_left z (stage_of c) now.map kept.pages p inside (let l = (kept_sized z c k).entries in omega arith) some_entry fewer in
-          let y1 : Beside = record x { turn = Some now } in let y2 : Beside = record x { turn = Some (record now { map = map_with now.map (frame_in n) None }) } in
-          let made = remapped sight o (stage_of c) (set xs id y1) homes now kept id y1 (now_at sight o c xs homes k f id v x allowed.is_there at has hands is m follows) (alone z c k id v allowed.is_there has) (some_turn z c k id v allowed.is_there has) (set c.entries p 0) (map_with now.map (frame_in n) None) mapped in
           let same : stage_of (after z c id v (evict p)) ≡ record (stage_of c) { entries = set c.entries p 0 } =
           ap (λ w. record (stage_of c) { entries = set c.entries p w; owners = map owner_of (set c.views id (view_after z (evict p) v n)) }) (rw (eq-eqb n (without_pins (kept_entry v p)) e) refl)
           ∙ ap (λ os. record (stage_of c) { entries = set c.entries p 0; owners = os }) (unmoved owner_of c.views id v (view_after z (evict p) v n) allowed.is_there refl) in (
             keeps,
-            y2,
+            record x { turn = Some (record now { map = map_with now.map (frame_in n) None }) },
             tt,
-            record {
-              hands = record now { map = map_with now.map (frame_in n) None };
-              kept = subst (λ st. SlotsKeptBy sight o st (set xs id y2) homes (record now { map = map_with now.map (frame_in n) None })) (sym same)
-                  (subst (λ ys. SlotsKeptBy sight o (record (stage_of c) { entries = set c.entries p 0 }) ys homes (record now { map = map_with now.map (frame_in n) None })) (set-set xs id y1 y2) made);
-            },
+            keeps_map c (after z c id v (evict p)) xs homes k allowed.is_there at f (set c.entries p 0) (map_with now.map (frame_in n) None) mapped same,
             (λ told. record { told = told; view = refl; beside = ap (λ mp. record x { turn = Some (record now { map = mp }) }) (sym map_is); slots = refl }),
           )
         where
@@ -157,17 +153,11 @@ module _ {M : Type 0} {ghosts : Ghosts M} (sight : M → Sight) (o : Opening M g
         let frame : frame_in (get_or c.entries q 0) ≡ some_frame.0 = ap frame_in entry_is ∙ frame_of_entry some_frame.0 (total (pins_at q) (map pins_of c.views)) (few_pins z k.ghost_is c l.threads l.pages q) in
         filled.1 q (some_frame.1 ∙ ap (λ r. Some r) (sym frame ∙ named))) in
         let mapped = map_shown z (stage_of c) now.map kept.pages p inside (let s = (kept_sized z c k).entries in omega arith) g absent below free in
-        let y1 : Beside = record x { turn = Some now } in let y2 : Beside = record x { turn = Some (record now { map = map_with now.map g (Some p) }) } in
-        let made = remapped sight o (stage_of c) (set xs id y1) homes now kept id y1 (now_at sight o c xs homes k f id v x there_v at has hands is m follows) (alone z c k id v there_v has) (some_turn z c k id v there_v has) (set c.entries p (entry_with g 0)) (map_with now.map g (Some p)) mapped in
         let same : stage_of (after z c id v (show p g)) ≡ record (stage_of c) { entries = set c.entries p (entry_with g 0) } =
         ap (λ os. record (stage_of c) { entries = set c.entries p (entry_with g 0); owners = os }) (unmoved owner_of c.views id v (view_after z (show p g) v (get_or c.entries p 0)) there_v refl) in (
           keeps,
-          y2,
+          record x { turn = Some (record now { map = map_with now.map g (Some p) }) },
           tt,
-          record {
-            hands = record now { map = map_with now.map g (Some p) };
-            kept = subst (λ st. SlotsKeptBy sight o st (set xs id y2) homes (record now { map = map_with now.map g (Some p) })) (sym same)
-                (subst (λ ys. SlotsKeptBy sight o (record (stage_of c) { entries = set c.entries p (entry_with g 0) }) ys homes (record now { map = map_with now.map g (Some p) })) (set-set xs id y1 y2) made);
-          },
+          keeps_map c (after z c id v (show p g)) xs homes k there_v at f (set c.entries p (entry_with g 0)) (map_with now.map g (Some p)) mapped same,
           (λ told. record { told = told; view = refl; beside = refl; slots = refl }),
         )
