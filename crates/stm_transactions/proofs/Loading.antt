@@ -13,7 +13,7 @@ use Rattle.core_events.proofs.Lists.{find_head}
 use Rattle.stm_transactions.specs.Looks.{AreUpTo, HasGoodLook, HasNoLook, InConflict, IsReading, Within}
 use Rattle.stm_transactions.specs.Pins.{IsPinning, Paged}
 use Rattle.stm_transactions.specs.Reads.{AfterRead, Like}
-use Rattle.stm_transactions.specs.Running.{IsRunning, Runs}
+use Rattle.stm_transactions.specs.Running.{IsRunning}
 use Rattle.stm_transactions.proofs.Extending.{within_on}
 use Rattle.stm_transactions.specs.Seats.{HasRisen}
 
@@ -41,17 +41,6 @@ module _ (z : Setup) (thread snapshot : ℕ) (reads : List (ℕ × ℕ)) (writes
     covered = r.covered;
     few = r.few;
   }
-
-pub runs_after : (rs : List (ℕ × ℕ)) (s2 : ℕ) (pins2 : List (ℕ × ℕ)) (v w : View) → AfterRead rs s2 pins2 v w → Runs v w
-runs_after rs s2 pins2 v w a = record {
-  part = ap (λ (x : View). x.part) a.rest;
-  draws = ap (λ (x : View). x.draws) a.rest;
-  drawn = ap (λ (x : View). x.drawn) a.rest;
-  box = ap (λ (x : View). x.box) a.rest;
-  turn = ap (λ (x : View). x.turn) a.rest;
-  entries = ap (λ (x : View). x.entries) a.rest;
-  counted = a.counted;
-}
 
 -- ---- the parts of a read
 like_from : (x y r : Transaction) → y ≡ r → Like x r → Like x y

@@ -60,12 +60,6 @@ distinct_drop ws zero d = d
 distinct_drop [] (suc k) d = d
 distinct_drop (w ∷ ws) (suc k) d = distinct_drop ws k (distinct_rest w ws d)
 
-pub drop_all : (ws : List Write) (k : ℕ) → length ws ≤ k → drop k ws ≡ []
-drop_all [] zero le = refl
-drop_all [] (suc k) le = refl
-drop_all (w ∷ ws) zero le = absurd (omega arith)
-drop_all (w ∷ ws) (suc k) le = drop_all ws k (omega arith)
-
 -- what is written is one of the writes
 pub among : (ws : List Write) (i x : ℕ) → written ws i ≡ Some x → (k : ℕ) × (k < length ws) × ((d : Write) → (get_or ws k d).at ≡ i)
 among [] i x e = absurd cc

@@ -18,7 +18,7 @@ use Rattle.stm_transactions.specs.declared.lost.Lost.TheVariants.{Out, Busy, Con
 use Rattle.stm_transactions.specs.CommitEnds.{HasEntered, HasLost, HasEnded, IsLost, has_writes}
 use Rattle.stm_transactions.specs.declared.pass_numbers.PassNumbers.{PassNumbers}
 use Rattle.stm_transactions.specs.Numbers.{after_draw, with_refusals}
-use Rattle.stm_transactions.specs.Passes.{Describes, IsResting, entry_numbers, greatest, is_given}
+use Rattle.stm_transactions.specs.Passes.{Describes, IsResting, PassSight, entry_numbers, greatest, is_given}
 use Rattle.stm_transactions.proofs.Rests.{given_rests, refused_describes}
 use Rattle.stm_transactions.specs.Counts.{after_commit}
 
@@ -119,9 +119,14 @@ module _ (z : Setup) (f : PassNumbers) (v : View) (t : Describes z f v) (snapsho
 
 -- ---- the pass
 -- the numbers that go back, by the calls that made them
-pub counted_as : (refused : ℕ) (ws : List Write) (f g h : PassNumbers) (wrote : Bool) (r q : Result ℕ Lost) (boxes count : ℕ) → h ≡ with_refusals refused g → g ≡ after_commit wrote r boxes f → wrote ≡ has_writes ws → r ≡ q → boxes ≡ count
+counted_as : (refused : ℕ) (ws : List Write) (f g h : PassNumbers) (wrote : Bool) (r q : Result ℕ Lost) (boxes count : ℕ) → h ≡ with_refusals refused g → g ≡ after_commit wrote r boxes f → wrote ≡ has_writes ws → r ≡ q → boxes ≡ count
     → h ≡ with_refusals refused (after_commit (has_writes ws) q count f)
 counted_as refused ws f g h wrote r q boxes count eh eg ew er eb = rw (eh, eg, ew, er, eb) refl
+
+-- the pass has its seat back, with these numbers
+pub given_as : {S X : Type 0} (s : Seat S (Known X)) (p : PassSight X) (refused : ℕ) (ws : List Write) (f g h : PassNumbers) (wrote : Bool) (r q : Result ℕ Lost) (boxes count : ℕ) → p ≡ is_given s h → h ≡ with_refusals refused g → g ≡ after_commit wrote r boxes f → wrote ≡ has_writes ws → r ≡ q → boxes ≡ count
+    → p ≡ is_given s (with_refusals refused (after_commit (has_writes ws) q count f))
+given_as s p refused ws f g h wrote r q boxes count given eh eg ew er eb = given ∙ ap (λ (n : PassNumbers). is_given s n) (counted_as refused ws f g h wrote r q boxes count eh eg ew er eb)
 
 -- the seat goes back to the pass, with these numbers and so many refusals more
 pub rests_with : {S X K : Type 0} (t : TableSight K) (s : Seat S (Known X)) (k : ℕ) (g : PassNumbers) (v : View) → BelongsTo t s → IsIdle s.me.0.view → s.me.0.view.turn ≡ v.turn → v.turn.has_it ≡ false → Describes t.setup g s.me.0.view → IsResting t (is_given s (with_refusals k g))

@@ -20,7 +20,7 @@ use Rattle.stm_transactions.specs.Settles.{IsLeaving, IsReleasing, IsStoring, Is
 use Rattle.stm_transactions.specs.Pairs.{pairs_of}
 use Rattle.stm_transactions.specs.Seats.{IsLive}
 use Rattle.stm_transactions.proofs.Pins.{still_live}
-use Rattle.stm_transactions.proofs.Pairs.{found_some, find_pairs, absent_first, distinct_rest, without_last, drop_next, distinct_drop, drop_all, among}
+use Rattle.stm_transactions.proofs.Pairs.{found_some, find_pairs, absent_first, distinct_rest, without_last, drop_next, distinct_drop, among}
 
 -- ---- of a list that goes by one after the other, its k-th element
 module _ (l : List Write) (list : IsWriteList l) (k : ℕ) (x : Write) (is : slice_get l k ≡ Some x) where
@@ -43,9 +43,6 @@ pub record Stores (k : ℕ) (ws : List Write) (v w : View) : Type 0 where
   pub done : (j : ℕ) (d : Write) → j < k → has w.tx.hand.stored (get_or ws j d).at ≡ true
 
 module _ (z : Setup) (ws frames : List Write) (v : View) (s : IsStoring z ws frames v) (list : IsWriteList ws) where
-  pub store_start : Stores 0 ws v v
-  store_start = record { rest = refl; done = λ j d lt. absurd (omega arith) }
-
   module _ (k : ℕ) (w : View) (t : Stores k ws v w) (x : Write) (is : slice_get ws k ≡ Some x) (lt : k < length ws) where
     at_is : (d : Write) → get_or ws k d ≡ x
     at_is d = get_or_from_slice_get ws k x d is
@@ -92,30 +89,25 @@ module _ (z : Setup) (ws frames : List Write) (v : View) (s : IsStoring z ws fra
     }
 
 -- ---- locks are given back
--- the view that had the locks from the k-th on has given that one back
-lock_gone : (held : List Write) (v : View) → IsWriteList held → (k : ℕ) (w : View) → w ≡ record v { tx = record v.tx { owned = pairs_of (drop k held) } } → (x : Write) → slice_get held k ≡ Some x
-    → record w { tx = record w.tx { owned = without w.tx.owned x.at } } ≡ record v { tx = record v.tx { owned = pairs_of (drop (k + 1) held) } }
-lock_gone held v list k w now x is = ap (λ (u : View). record u { tx = record u.tx { owned = without u.tx.owned x.at } }) now ∙ ap (λ (l : List (ℕ × ℕ)). record v { tx = record v.tx { owned = l } }) (next_gone held list k x is)
+-- a view that has the locks from the k-th on
+module _ (held : List Write) (v : View) (list : IsWriteList held) (k : ℕ) (w : View) (now : w ≡ record v { tx = record v.tx { owned = pairs_of (drop k held) } }) (x : Write) (is : slice_get held k ≡ Some x) where
+  pub lock_there : find w.tx.owned x.at ≡ Some x.value
+  lock_there = ap (λ (u : View). find u.tx.owned x.at) now ∙ next_there held list k x is
+
+  -- and gave that one back
+  lock_gone : record w { tx = record w.tx { owned = without w.tx.owned x.at } } ≡ record v { tx = record v.tx { owned = pairs_of (drop (k + 1) held) } }
+  lock_gone = ap (λ (u : View). record u { tx = record u.tx { owned = without u.tx.owned x.at } }) now ∙ ap (λ (l : List (ℕ × ℕ)). record v { tx = record v.tx { owned = l } }) (next_gone held list k x is)
 
 module _ (z : Setup) (number : ℕ) (held : List Write) (v : View) (s : IsReleasing number held v) (list : IsWriteList held) where
-  pub release_start : v ≡ record v { tx = record v.tx { owned = pairs_of (drop 0 held) } }
-  release_start = ap (λ (l : List (ℕ × ℕ)). record v { tx = record v.tx { owned = l } }) s.owned_are
-
   module _ (k : ℕ) (w : View) (now : w ≡ record v { tx = record v.tx { owned = pairs_of (drop k held) } }) (x : Write) (is : slice_get held k ≡ Some x) where
-    owned_x : find w.tx.owned x.at ≡ Some x.value
-    owned_x = ap (λ (u : View). find u.tx.owned x.at) now ∙ next_there held list k x is
-
-    pub release_number : w.tx.hand.number ≡ number
-    release_number = ap (λ (u : View). u.tx.hand.number) now ∙ s.number_is
-
     pub release_may : IsSeated z w → May z (release x.at) w
     release_may seated = record {
       live = (still_live v w (ap (λ (u : View). u.part) now) s.its).live;
       threaded = (still_live v w (ap (λ (u : View). u.part) now) s.its).threaded;
-      named = (seated.owned x.at x.value owned_x).0;
+      named = (seated.owned x.at x.value (lock_there held v list k w now x is)).0;
       can = (
         ap (λ (u : View). u.tx.hand.decided) now ∙ s.decided,
-        (x.value, owned_x),
+        (x.value, lock_there held v list k w now x is),
         (λ i y e lock.
             let m = among v.tx.hand.writes i y (ap (λ (u : View). written u.tx.hand.writes i) (sym now) ∙ e) in
             ap (λ (u : View). has u.tx.hand.stored i) now ∙ subst (λ (j : ℕ). has v.tx.hand.stored j ≡ true) (m.2 x) (s.stored m.0 x m.1)),
@@ -125,24 +117,15 @@ module _ (z : Setup) (number : ℕ) (held : List Write) (v : View) (s : IsReleas
     pub release_more : (y : View) → y ≡ view_after z (release x.at) w 0 → y ≡ record v { tx = record v.tx { owned = pairs_of (drop (k + 1) held) } }
     release_more y e = e ∙ lock_gone held v list k w now x is
 
-  pub release_end : (k : ℕ) (w : View) → w ≡ record v { tx = record v.tx { owned = pairs_of (drop k held) } } → length held ≤ k → w ≡ record v { tx = record v.tx { owned = [] } }
-  release_end k w now le = now ∙ ap (λ (l : List Write). record v { tx = record v.tx { owned = pairs_of l } }) (drop_all held k le)
-
 -- ---- the touches
 pub record Touches (k : ℕ) (frames : List Write) (v w : View) : Type 0 where
   pub rest : w ≡ record v { paging = record v.paging { touched = w.paging.touched } }
   pub done : (j : ℕ) (d : Write) → j < k → has w.paging.touched (get_or frames j d).at ≡ true
 
 module _ (z : Setup) (number : ℕ) (frames : List Write) (v : View) (s : IsTouching number frames v) (list : IsWriteList frames) where
-  pub touch_start : Touches 0 frames v v
-  touch_start = record { rest = refl; done = λ j d lt. absurd (omega arith) }
-
   module _ (k : ℕ) (w : View) (t : Touches k frames v w) (x : Write) (is : slice_get frames k ≡ Some x) (lt : k < length frames) where
     frame_is : (d : Write) → get_or frames k d ≡ x
     frame_is d = get_or_from_slice_get frames k x d is
-
-    pub touch_number : w.tx.hand.number ≡ number
-    touch_number = ap (λ (u : View). u.tx.hand.number) t.rest ∙ s.number_is
 
     page : IsWrittenPage v.tx.hand.writes x
     page = subst (λ (y : Write). IsWrittenPage v.tx.hand.writes y) (frame_is x) (s.written_pages k x lt)
@@ -173,9 +156,6 @@ module _ (z : Setup) (number : ℕ) (frames : List Write) (v : View) (s : IsTouc
 
 -- ---- pins are taken back
 module _ (z : Setup) (frames : List Write) (v : View) (s : IsLeaving frames v) (list : IsWriteList frames) where
-  pub unpin_start : v ≡ record v { paging = record v.paging { pins = pairs_of (drop 0 frames) } }
-  unpin_start = ap (λ (l : List (ℕ × ℕ)). record v { paging = record v.paging { pins = l } }) s.pins_are
-
   module _ (k : ℕ) (w : View) (now : w ≡ record v { paging = record v.paging { pins = pairs_of (drop k frames) } }) (x : Write) (is : slice_get frames k ≡ Some x) (lt : k < length frames) where
     pin_of : find w.paging.pins x.at ≡ Some x.value
     pin_of = ap (λ (u : View). find u.paging.pins x.at) now ∙ next_there frames list k x is
@@ -203,28 +183,14 @@ module _ (z : Setup) (frames : List Write) (v : View) (s : IsLeaving frames v) (
     unpin_more n y e =
         e ∙ (ap (λ (u : View). record u { paging = record u.paging { pins = without u.paging.pins x.at } }) now ∙ ap (λ (l : List (ℕ × ℕ)). record v { paging = record v.paging { pins = l } }) (next_gone frames list k x is))
 
-  pub unpin_end : (k : ℕ) (w : View) → w ≡ record v { paging = record v.paging { pins = pairs_of (drop k frames) } } → length frames ≤ k → w ≡ record v { paging = record v.paging { pins = [] } }
-  unpin_end k w now le = now ∙ ap (λ (l : List Write). record v { paging = record v.paging { pins = pairs_of l } }) (drop_all frames k le)
-
 -- ---- locks get their old words
 module _ (z : Setup) (held : List Write) (v : View) (s : IsUndone held v) (list : IsWriteList held) where
-  pub restore_start : v ≡ record v { tx = record v.tx { owned = pairs_of (drop 0 held) } }
-  restore_start = ap (λ (l : List (ℕ × ℕ)). record v { tx = record v.tx { owned = l } }) s.owned_are
-
   module _ (k : ℕ) (w : View) (now : w ≡ record v { tx = record v.tx { owned = pairs_of (drop k held) } }) (x : Write) (is : slice_get held k ≡ Some x) where
-    pub restore_old : find w.tx.owned x.at ≡ Some x.value
-    restore_old = ap (λ (u : View). find u.tx.owned x.at) now ∙ next_there held list k x is
-
     pub restore_may : IsSeated z w → May z (restore x.at) w
-    restore_may seated = record {
-      live = (still_live v w (ap (λ (u : View). u.part) now) s.its).live;
-      threaded = (still_live v w (ap (λ (u : View). u.part) now) s.its).threaded;
-      named = (seated.owned x.at x.value restore_old).0;
-      can = ((x.value, restore_old), ⊎_elim (λ h. inl (ap (λ (u : View). u.tx.hand.void) now ∙ h)) (λ n. inr (ap (λ (u : View). u.tx.hand.number) now ∙ n)) s.may);
-    }
+    restore_may seated =
+        let there = lock_there held v list k w now x is in let its = still_live v w (ap (λ (u : View). u.part) now) s.its in
+        let can = ⊎_elim (λ h. inl (ap (λ (u : View). u.tx.hand.void) now ∙ h)) (λ n. inr (ap (λ (u : View). u.tx.hand.number) now ∙ n)) s.may in
+        record { live = its.live; threaded = its.threaded; named = (seated.owned x.at x.value there).0; can = ((x.value, there), can) }
 
     pub restore_more : (y : View) → y ≡ view_after z (restore x.at) w 0 → y ≡ record v { tx = record v.tx { owned = pairs_of (drop (k + 1) held) } }
     restore_more y e = e ∙ lock_gone held v list k w now x is
-
-  pub restore_end : (k : ℕ) (w : View) → w ≡ record v { tx = record v.tx { owned = pairs_of (drop k held) } } → length held ≤ k → w ≡ record v { tx = record v.tx { owned = [] } }
-  restore_end k w now le = now ∙ ap (λ (l : List Write). record v { tx = record v.tx { owned = pairs_of l } }) (drop_all held k le)

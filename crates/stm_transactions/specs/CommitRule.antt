@@ -8,9 +8,8 @@ use Rattle.atomic_table.specs.declared.shared.Seat.{Seat}
 use Rattle.core_table.specs.Known.{Known}
 use Rattle.core_table.specs.Layout.{TableSight}
 use Rattle.core_table.specs.Rules.{Outlasts}
-use Rattle.core_table.specs.Steps.{BelongsTo}
 use Rattle.stm_transactions.specs.Boxes.{without_box}
-use Rattle.stm_transactions.specs.Seats.{OutlastsReading}
+use Rattle.stm_transactions.specs.Seats.{KeepsSeat, OutlastsReading}
 
 -- The fact of the slots outlasts each step by which a transaction reads, and ends, but for the draw and the post of a number.
 pub record OutlastsEnding {S X K : Type 0} (slot_fact : K → State → List X → List (Option S) → Type 0) (t : TableSight K) : Type 0 where
@@ -24,8 +23,5 @@ pub record OutlastsEnding {S X K : Type 0} (slot_fact : K → State → List X �
 
 -- The seat is of this table as before, and has what it had beside its view, and its slots, but for that of its next box, which it gave
 -- where a draw takes it.
-pub record GivesBack {S X K : Type 0} (taken : List S) (t : TableSight K) (old new : Seat S (Known X)) : Type 0 where
-  pub belongs : BelongsTo t new
-  pub id : new.id ≡ old.id
-  pub beside : new.me.0.beside ≡ old.me.0.beside
-  pub slots : new.me.1 ≡ without_box taken old.me.1
+abbrev pub GivesBack : {S X K : Type 0} → List S → TableSight K → Seat S (Known X) → Seat S (Known X) → Type 0
+GivesBack taken t old new = KeepsSeat t (without_box taken old.me.1) old new

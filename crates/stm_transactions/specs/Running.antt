@@ -1,4 +1,4 @@
--- A transaction that runs, as its view has it, and what of the view stays meanwhile.
+-- A transaction that runs, as its view has it.
 use Rattle.std.specs.Prelude.{◌≡◌, ℕ, ◌*◌, ◌<◌, ◌≤◌, true, false, List, length, All, is_some}
 use Rattle.dude_base.specs.declared.limits.TheConstants.{PAGE}
 use Rattle.dude_base.specs.declared.write.Write.{Write}
@@ -8,7 +8,7 @@ use Rattle.core_events.specs.Keyed.{find}
 use Rattle.core_events.specs.Views.{View}
 use Rattle.core_events.specs.Conditions.{IsSteady}
 use Rattle.stm_transactions.specs.Looks.{AreUpTo}
-use Rattle.stm_transactions.specs.Seats.{HasNotFallen, IsOf}
+use Rattle.stm_transactions.specs.Seats.{IsOf}
 
 -- a transaction that runs, with what it keeps of its view
 pub record IsRunning (z : Setup) (thread snapshot : ℕ) (reads : List (ℕ × ℕ)) (writes : List Write) (held pins : List (ℕ × ℕ)) (v : View) : Type 0 where
@@ -25,13 +25,3 @@ pub record IsRunning (z : Setup) (thread snapshot : ℕ) (reads : List (ℕ × �
   pub inside : All (λ w. w.at < z.pages * PAGE) writes
   pub covered : All (λ w. is_some (find held (lock_of z w.at)) ≡ true) writes
   pub few : length held ≤ length writes
-
--- what of the view stays while a transaction runs
-pub record Runs (v w : View) : Type 0 where
-  pub part : w.part ≡ v.part
-  pub draws : w.draws ≡ v.draws
-  pub drawn : w.drawn ≡ v.drawn
-  pub box : w.box ≡ v.box
-  pub turn : w.turn ≡ v.turn
-  pub entries : w.entries ≡ v.entries
-  pub counted : HasNotFallen v.count w.count

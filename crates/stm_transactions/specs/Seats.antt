@@ -20,12 +20,16 @@ HasRisen old new = one_more old ≤ new
 abbrev pub HasNotFallen : ℕ → ℕ → Type 0
 HasNotFallen old new = up_to_last old ≤ new
 
--- The seat is of this table as before, and has what it had beside its view, and its slots.
-pub record Stays {S X K : Type 0} (t : TableSight K) (old new : Seat S (Known X)) : Type 0 where
+-- The seat is of this table as before, and has what it had beside its view, and just these slots.
+pub record KeepsSeat {S X K : Type 0} (t : TableSight K) (left : List (ℕ × S)) (old new : Seat S (Known X)) : Type 0 where
   pub belongs : BelongsTo t new
   pub id : new.id ≡ old.id
   pub beside : new.me.0.beside ≡ old.me.0.beside
-  pub slots : new.me.1 ≡ old.me.1
+  pub slots : new.me.1 ≡ left
+
+-- it has the slots that it had
+abbrev pub Stays : {S X K : Type 0} → TableSight K → Seat S (Known X) → Seat S (Known X) → Type 0
+Stays t old new = KeepsSeat t old.me.1 old new
 
 -- The fact of the slots outlasts each step by which a transaction pins, looks, reads and takes locks.
 pub record OutlastsReading {S X K : Type 0} (slot_fact : K → State → List X → List (MaybeSlot S) → Type 0) (t : TableSight K) : Type 0 where

@@ -1,13 +1,12 @@
 //! What a draw and a post do with the slots of boxes, by the rule of the slots.
 
+use crate::served::Served;
 use core_table::event_table::Seat;
 use core_table::slot_rule::{AnySlots, SlotRule};
 use core_table::stm::Stm;
 use core_table::terms::Terms;
 use dude_base::redo::Redo;
 use dude_base::write_list::WriteList;
-use tatp_model::reply::Reply;
-use tatp_model::request::Request;
 
 /// A rule of slots that has a draw, which may take the slot of the thread's next box, and a post,
 /// which gives it with the record.
@@ -17,26 +16,23 @@ pub trait BoxRule<S, X, K>: SlotRule<S, X, K> + Sized {
     ghost use Rattle.core_events.specs.Conditions.{May, record_of};
     ghost use Rattle.core_table.specs.Steps.{BelongsTo};
     ghost use Rattle.stm_transactions.specs.Boxes.{HasBox, TakesBox, GivesBox};
-    ghost use Rattle.core_table.specs.Abouts.{drawing};
+    ghost use Rattle.stm_transactions.specs.CommitEnds.{draw_for};
 
     /// What stands in the slot that a draw takes; nothing, where it takes none.
     ghost taken: { List S };
 
-    /// Draws the next number, for these writes.
+    /// Draws the next number, for what is served and these writes.
     fn draw(
         stm: &Stm<S, X, K, Self>,
         seat: &mut Seat<S, X>,
-        file: u64,
-        index: u64,
-        request: &Request,
-        reply: &Reply,
+        served: &Served,
         writes: &WriteList,
     ) -> u64
         requires seat { BelongsTo stm.now.events seat.old }
-        requires may { May stm.now.events.setup
-            (drawing file index request.now reply.now writes.now) seat.old.me.0.view }
-        ensures drew { TakesBox taken stm.now.events
-            (drawing file index request.now reply.now writes.now) seat.old seat.new result };
+        requires may { May stm.now.events.setup (draw_for served.now writes.now)
+            seat.old.me.0.view }
+        ensures drew { TakesBox taken stm.now.events (draw_for served.now writes.now)
+            seat.old seat.new result };
 
     /// Posts the record of the open number in the thread's next box, and ends the transaction.
     fn post(stm: &Stm<S, X, K, Self>, seat: &mut Seat<S, X>, thread: u64, place: u64, redo: Redo)
@@ -57,13 +53,17 @@ impl<S> BoxRule<S, (), Terms> for AnySlots {
     fn draw(
         stm: &Stm<S, (), Terms, Self>,
         seat: &mut Seat<S, ()>,
-        file: u64,
-        index: u64,
-        request: &Request,
-        reply: &Reply,
+        served: &Served,
         writes: &WriteList,
     ) -> u64 {
-        stm.draw(seat, file, index, request, reply, writes)
+        stm.draw(
+            seat,
+            served.file,
+            served.index,
+            served.request,
+            served.reply,
+            writes,
+        )
     }
 
     fn post(

@@ -1,6 +1,7 @@
 //! The draw and the post of slots that hold records.
 
 use crate::box_rule::BoxRule;
+use crate::served::Served;
 use core_table::event_table::Seat;
 use core_table::places::CLOCK;
 use core_table::stm::Stm;
@@ -24,21 +25,20 @@ impl<M: Medium> BoxRule<Slot<M>, Beside, Opening<M>> for KeptSlots<M> {
     fn draw(
         stm: &Stm<Slot<M>, Beside, Opening<M>, Self>,
         seat: &mut Seat<Slot<M>, Beside>,
-        file: u64,
-        index: u64,
-        request: &Request,
-        reply: &Reply,
+        served: &Served,
         writes: &WriteList,
     ) -> u64 {
         // The setup is that of the key.
         let _boxes = stm.events.box_count();
+        let about = (
+            served.file,
+            served.index,
+            served.request,
+            served.reply,
+            writes,
+        );
         stm.events
-            .add_by::<Brand, (u64, u64, &Request, &Reply, &WriteList)>(
-                seat,
-                CLOCK,
-                1,
-                &(file, index, request, reply, writes),
-            )
+            .add_by::<Brand, (u64, u64, &Request, &Reply, &WriteList)>(seat, CLOCK, 1, &about)
     }
 
     fn post(

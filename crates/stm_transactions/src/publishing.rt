@@ -45,15 +45,7 @@ pub fn publish<S, X, K, P: BoxRule<S, X, K>>(
     ensures ok { IfOk result (Enters served.now commit.now stm.now.events seat.old seat.new) }
     ensures err { IfErr result (IsLostBy commit.now stm.now.events seat.old seat.new) }
 {
-    let number = P::draw(
-        stm,
-        seat,
-        served.file,
-        served.index,
-        served.request,
-        served.reply,
-        commit.writes,
-    ) + 1;
+    let number = P::draw(stm, seat, served, commit.writes) + 1;
     if let Err(BadLock { lock, seen }) = validate(
         stm,
         seat,

@@ -9,7 +9,6 @@ use Rattle.back_store.specs.BackView.{HasCause, state_of}
 use Rattle.back_store.specs.declared.back.Back.{Back}
 use Rattle.back_store.specs.declared.back_fault.BackFault.{BackFault}
 use Rattle.back_store.specs.declared.back_fault.BackFault.TheVariants.{RingFull, Device, Dead}
-use Rattle.stm_turns.specs.Bundles.{IsAliveUnless}
 use Rattle.stm_turns.specs.Turns.{FailsBy, IsFaultOf, LivesBy}
 use Rattle.stm_turns.proofs.Calling.{alive_unless, not_true}
 use Rattle.stm_turns.proofs.Past.{full_or_dead, full_or_device}
@@ -59,7 +58,3 @@ err_still {X} result answer fault v w x was same before after is = let f = subst
 
 pub lives_still : {X Y : Type 0} (result : Result X BackFault) (answer : Result Y BackFault) (fault : BackFault) (v w x : BackState) → result ≡ Err fault → IsErrAnd answer (λ e. e ≡ fault) → v.dead ≡ false → w.dead ≡ false → LivesBy result v x → LivesBy answer w x
 lives_still result answer fault v w x was same before after is = (err_still result answer fault v w x was same before after is.0, no_ok answer fault x same)
-
--- a back that was alive answers no Dead
-pub never_dead : (result : Result (Unit {0}) BackFault) (v : BackState) → result ≡ Err Dead → IsAliveUnless result v → ⊥
-never_dead result v is life = subst (λ (r : Result (Unit {0}) BackFault). IsAliveUnless r v) is life

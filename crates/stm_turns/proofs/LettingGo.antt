@@ -1,5 +1,5 @@
 -- All records in hand go, one after another.
-use Rattle.std.proofs.Common.{◌≡◌, ℕ, ◌+◌, ◌<◌, List, [], ◌∷◌, get_or, set, sym, ap, ◌∙◌, subst, arith}
+use Rattle.std.proofs.Common.{◌≡◌, ℕ, ◌+◌, ◌<◌, List, [], ◌∷◌, get_or, set, refl, sym, ap, ◌∙◌, subst, arith}
 use Rattle.pmem_trait.specs.Sights.{Sight}
 use Rattle.pmem_trait.specs.declared.medium.Medium.{Ghosts}
 use Rattle.atomic_table.specs.Table.{turned}
@@ -65,6 +65,15 @@ module _ {M : Type 0} {ghosts : Ghosts M} (sight : M → Sight) (t : TableSight 
       fresh = λ none. absurd (omega arith);
     }
 
+  -- no record is left in hand
+  none_left : (old new : TurnSeat) (h : TheHome M ghosts) (slots : List (ℕ × Slot M ghosts)) → slots ≡ slots_out sight z [] → WentOver sight t old new → (i : IsLetting sight t new h [] slots) → i.holding.stale.records ≡ i.holding.records → Stepped sight t old new h []
+  none_left old new h slots are went i fresh = record {
+    id = went.id;
+    turn = record { belongs = i.belongs; setup = i.setup; holding = i.holding; slots = i.slots_are ∙ are; same = fresh; in_hand = λ p among. absurd (contains_none p among) };
+    view = went.view;
+    handed = went.handed;
+  }
+
   -- ---- boxes are emptied
   module _ (old mid : TurnSeat) (h : TheHome M ghosts) (threads : List ℕ) (count i : ℕ) where
     pub may_empty_next : (left : List Held) → AreThreads threads count i left → i < count → HasEmptied sight t i old mid h left → MayEmptyFirst sight t mid h (get_or threads i 0)
@@ -78,12 +87,7 @@ module _ {M : Type 0} {ghosts : Ghosts M} (sight : M → Sight) (t : TableSight 
         (left, are.1, record { went = went_then old mid new e.went s.went; may = s.may; fresh = λ some. s.fresh (omega arith) })
 
     pub emptied_all : (left : List Held) → AreThreads threads count i left → i ≡ count → 0 < count → HasEmptied sight t i old mid h left → Stepped sight t old mid h []
-    emptied_all [] are end some e = record {
-      id = e.went.id;
-      turn = record { belongs = e.may.letting.belongs; setup = e.may.letting.setup; holding = e.may.letting.holding; slots = e.may.letting.slots_are; same = e.fresh (omega arith); in_hand = λ p among. absurd (contains_none p among) };
-      view = e.went.view;
-      handed = e.went.handed;
-    }
+    emptied_all [] are end some e = none_left old mid h (slots_let sight t []) refl e.went e.may.letting (e.fresh (omega arith))
     emptied_all (p ∷ left) are end some e = absurd (let c = threads_count threads count (i + 1) left are.1 in omega arith)
 
   -- ---- records are put back
@@ -99,12 +103,7 @@ module _ {M : Type 0} {ghosts : Ghosts M} (sight : M → Sight) (t : TableSight 
         (left, are.1, record { went = went_then old mid new e.went s.went; may = s.may; fresh = λ some. s.fresh (omega arith) })
 
     pub put_all : (left : List Held) → AreThreads threads count i left → i ≡ count → 0 < count → HasPutBack sight t i old mid h places left → Stepped sight t old mid h []
-    put_all [] are end some e = record {
-      id = e.went.id;
-      turn = record { belongs = e.may.letting.belongs; setup = e.may.letting.setup; holding = e.may.letting.holding; slots = e.may.letting.slots_are; same = e.fresh (omega arith); in_hand = λ p among. absurd (contains_none p among) };
-      view = e.went.view;
-      handed = e.went.handed;
-    }
+    put_all [] are end some e = none_left old mid h (slots_let sight t []) refl e.went e.may.letting (e.fresh (omega arith))
     put_all (p ∷ left) are end some e = absurd (let c = threads_count threads count (i + 1) left are.1 in omega arith)
 
     -- where a record is left, its thread and place are ones that there are

@@ -55,12 +55,22 @@ pub turned_me : {S V : Type 0} (m mid w : Me S V) → mid ≡ m → w ≡ (mid.0
 turned_me {S} {V} m mid w same is = is ∙ ap (λ (a : Me S V). (a.0, turned a.1)) same
 
 -- a slot that is in front is one
+pub same_front : {S : Type 0} (c l1 l2 : List (ℕ × S)) (k j : ℕ) (a b : S) → c ≡ (k, a) ∷ l1 → c ≡ (j, b) ∷ l2 → a ≡ b
+same_front {S} c l1 l2 k j a b e1 e2 = let e : (k, a) ∷ l1 ≡ (j, b) ∷ l2 = sym e1 ∙ e2 in let p : (k, a) ≡ (j, b) = cc in ap (λ (x : ℕ × S). x.1) p
+
 module _ {M : Type 0} {ghosts : Ghosts M} where
   pub same_home : (c l1 l2 : List (ℕ × Slot M ghosts)) (k j : ℕ) (a b : TheHome M ghosts) → c ≡ (k, Home a) ∷ l1 → c ≡ (j, Home b) ∷ l2 → a ≡ b
-  same_home c l1 l2 k j a b e1 e2 = let e : (k, Home a) ∷ l1 ≡ (j, Home b) ∷ l2 = sym e1 ∙ e2 in let p : (k, Home a) ≡ (j, Home b) = cc in let q : Home a ≡ Home b = ap (λ (x : ℕ × Slot M ghosts). x.1) p in cc
+  same_home c l1 l2 k j a b e1 e2 = let q : Home a ≡ Home b = same_front c l1 l2 k j (Home a) (Home b) e1 e2 in cc
 
   pub same_record : (c l1 l2 : List (ℕ × Slot M ghosts)) (k j : ℕ) (a b : RedoRecord) → c ≡ (k, Record a) ∷ l1 → c ≡ (j, Record b) ∷ l2 → a ≡ b
-  same_record c l1 l2 k j a b e1 e2 = let e : (k, Record a) ∷ l1 ≡ (j, Record b) ∷ l2 = sym e1 ∙ e2 in let p : (k, Record a) ≡ (j, Record b) = cc in let q : Record a ≡ Record b = ap (λ (x : ℕ × Slot M ghosts). x.1) p in cc
+  same_record c l1 l2 k j a b e1 e2 = let q : Record a ≡ Record b = same_front c l1 l2 k j (Record a) (Record b) e1 e2 in cc
+
+  -- one that has a back isn't empty, and has no record
+  pub home_or_empty : (h : TheHome M ghosts) → Home h ≡ Empty → ⊥
+  home_or_empty h e = cc
+
+  pub home_or_record : (h : TheHome M ghosts) (r : RedoRecord) → Home h ≡ Record r → ⊥
+  home_or_record h r e = cc
 
 module _ {M : Type 0} {ghosts : Ghosts M} (sight : M → Sight) (t : TableSight (Opening M ghosts)) where
   abbrev z : Setup

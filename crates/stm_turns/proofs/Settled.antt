@@ -28,13 +28,14 @@ use Rattle.stm_slots.proofs.Taken.{contains_here}
 use Rattle.stm_turns.specs.Bundles.{InTurnWith, NextIsNotDrawn, SteppedWith}
 use Rattle.stm_turns.specs.Gathered.{BeginsWith, IsGathered}
 use Rattle.stm_turns.specs.Holding.{Held, boxes_held, hands_of}
-use Rattle.stm_turns.specs.Turns.{Advanced, EndsSettled, HandedBelow, InTurn, IsAnnounced, IsNoLess, IsOwn, IsPast, KeepsPast, RisesTo, Stepped, SteppedOn, found_in, raised_view, settled_view}
+use Rattle.stm_turns.specs.Turns.{Advanced, AdvancedOn, EndsSettled, HandedBelow, InTurn, IsAnnounced, IsNoLess, IsOwn, IsPast, KeepsPast, RisesTo, Stepped, SteppedOn, found_in, raised_view, settled_view}
 use Rattle.stm_turns.specs.declared.gathering.Gathering.{Gathering}
 use Rattle.stm_turns.proofs.Calling.{lanes_of_threads, not_true}
 use Rattle.stm_turns.proofs.Gatherings.{gathered_one}
 use Rattle.stm_turns.proofs.Past.{past_small}
 use Rattle.stm_turns.proofs.Bundling.{then_advanced_bare, then_with, with_of}
 use Rattle.stm_turns.proofs.NextRecords.{looked_with}
+use Rattle.stm_turns.proofs.Seats.{then_advanced}
 
 -- where all is announced and in the home, the next number wasn't handed over
 next_lacks : (first : ℕ) (v : BackState) (rs : List RedoRecord) → LawfulLists first (lists v rs) → (n : ℕ) → IsAnnounced v n → v.log.reproduced ≡ n → LacksRecord rs (n + 1)
@@ -111,9 +112,21 @@ module _ {M : Type 0} {ghosts : Ghosts M} (sight : M → Sight) (t : TableSight 
       record { hand = found_in thread h.next (Some r); step = s; gathered = begun_gathered seat h thread boxes r g s.turn same b }
 
   -- a bundle was gathered and persisted, or its records are in their boxes again
-  pub bundle_steps : (before after : ℕ) (old seat looked gathered new : TurnSeat) (h h2 : TheHome M ghosts) (g g2 : Gathering) → SteppedWith sight t old seat h g → SteppedOn sight t seat looked h h → SteppedWith sight t looked gathered h g2 → Advanced sight t before after gathered new h2 [] → Advanced sight t before after old new h2 []
+  bundle_steps : (before after : ℕ) (old seat looked gathered new : TurnSeat) (h h2 : TheHome M ghosts) (g g2 : Gathering) → SteppedWith sight t old seat h g → SteppedOn sight t seat looked h h → SteppedWith sight t looked gathered h g2 → Advanced sight t before after gathered new h2 [] → Advanced sight t before after old new h2 []
   bundle_steps before after old seat looked gathered new h h2 g g2 a b c d =
       then_advanced_bare sight t before after old gathered new h h2 g2 (then_with sight t old looked gathered h h g g2 (then_with sight t old seat looked h h g g a (looked_with sight t seat h g (with_of sight t old seat h g a) looked b)) c) d
+
+  -- one that begins with the front record of a thread
+  pub front_steps : (before after : ℕ) (old seat looked gathered new : TurnSeat) (h h2 : TheHome M ghosts) (thread boxes : ℕ) (r : RedoRecord) (g g2 : Gathering) → Stepped sight t old seat h (found_in thread h.next (Some r)) → boxes ≡ t.setup.boxes → BeginsWith thread r h.next boxes g
+      → SteppedOn sight t seat looked h h → SteppedWith sight t looked gathered h g2 → Advanced sight t before after gathered new h2 [] → Advanced sight t before after old new h2 []
+  front_steps before after old seat looked gathered new h h2 thread boxes r g g2 s same b =
+      bundle_steps before after old seat looked gathered new h h2 g g2 (begun_steps old seat h thread boxes r g s (same ∙ ap (λ (y : Setup). y.boxes) s.turn.setup) b)
+
+  -- and all that leads on was announced and reproduced
+  pub front_settled : (before mid after : ℕ) (old seat looked gathered put new : TurnSeat) (h h2 h3 : TheHome M ghosts) (thread boxes : ℕ) (r : RedoRecord) (g g2 : Gathering) → Stepped sight t old seat h (found_in thread h.next (Some r)) → boxes ≡ t.setup.boxes → BeginsWith thread r h.next boxes g
+      → SteppedOn sight t seat looked h h → SteppedWith sight t looked gathered h g2 → Advanced sight t before mid gathered put h2 [] → AdvancedOn sight t mid after put new h2 h3 → Advanced sight t before after old new h3 []
+  front_settled before mid after old seat looked gathered put new h h2 h3 thread boxes r g g2 s same b l x y d =
+      let whole = front_steps before mid old seat looked gathered put h h2 thread boxes r g g2 s same b l x y in then_advanced sight t before mid after old put new h2 h3 [] [] whole (d [] whole.turn)
 
   -- the durable number that a seat knows is that of the back still
   pub still_settled : (old new : TurnSeat) (h : TheHome M ghosts) (n : ℕ) → EndsSettled old h n → settled_view new.me.0.view ≡ settled_view old.me.0.view → EndsSettled new h n

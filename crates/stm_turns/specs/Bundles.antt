@@ -1,13 +1,12 @@
 -- The seat with the turn and a gathering: what persists, and what of it stays.
-use Rattle.std.specs.Prelude.{◌≡◌, ◌≢◌, ℕ, ◌+◌, ◌<◌, true, false, List, [], ◌∷◌, ◌++◌, Option, Result, Ok, Err, slice_set}
+use Rattle.std.specs.Prelude.{◌≡◌, ◌≢◌, ℕ, ◌+◌, ◌<◌, Bool, true, false, List, [], ◌∷◌, ◌++◌, Option, Result, Ok, Err, slice_set}
 use Rattle.std.specs.List.{Contains}
-use Rattle.dude_base.specs.Records.{RedoBundle, RedoRecord, first_of}
+use Rattle.dude_base.specs.Records.{RedoBundle, RedoRecord}
 use Rattle.pmem_trait.specs.Sights.{Sight}
 use Rattle.pmem_trait.specs.declared.medium.Medium.{Ghosts}
-use Rattle.back_store.specs.Back.{BackState, IsRingFull, ring_full}
+use Rattle.back_store.specs.Back.{BackState, IsRingFull}
 use Rattle.back_store.specs.BackView.{state_of}
 use Rattle.back_store.specs.declared.back_fault.BackFault.{BackFault}
-use Rattle.back_store.specs.declared.back_fault.BackFault.TheVariants.{RingFull, Device, Dead}
 use Rattle.atomic_table.specs.declared.shared.Seat.{Seat}
 use Rattle.core_events.specs.Keyed.{has}
 use Rattle.core_table.specs.Known.{Known}
@@ -31,23 +30,9 @@ use Rattle.stm_turns.specs.declared.gathering.Gathering.{Gathering}
 abbrev pub NextIsNotDrawn : {S : Type 0} → Seat S (Known Beside) → ℕ → Type 0
 NextIsNotDrawn seat n = has seat.me.0.view.drawn (n + 1) ≡ false
 
--- the back, which was alive, is so still unless the device failed
-abbrev pub IsAliveUnless : Result (Unit {0}) BackFault → BackState → Type 0
-IsAliveUnless (Ok done) v = v.dead ≡ false
-IsAliveUnless (Err Device) v = v.dead ≡ true
-IsAliveUnless (Err Dead) v = ⊥
-IsAliveUnless (Err (RingFull used need)) v = v.dead ≡ false
-
 -- the ring had no room for the bundle, and nothing changed
 abbrev pub FoundFull : ℕ → RedoBundle → BackState → BackState → Type 0
 FoundFull ring b v w = (w ≡ v) × IsRingFull v ring b
-
--- where the ring was full nothing changed, the first number of the bundle isn't the next one to reproduce, and the fault has both counts of cells
-abbrev pub IsLate : Result (Unit {0}) BackFault → ℕ → RedoBundle → BackState → BackState → Type 0
-IsLate (Err (RingFull used need)) ring b v w = FoundFull ring b v w × (v.log.reproduced + 1 < first_of b) × (RingFull used need ≡ ring_full v ring b)
-IsLate (Ok done) ring b v w = Unit {0}
-IsLate (Err Device) ring b v w = Unit {0}
-IsLate (Err Dead) ring b v w = Unit {0}
 
 -- All that leads on is announced and in the home, and the ring still has no room for the bundle
 pub record IsFullStill (ring : ℕ) (b : RedoBundle) (v : BackState) : Type 0 where
@@ -70,12 +55,11 @@ module _ {M : Type 0} {ghosts : Ghosts M} (sight : M → Sight) (t : TableSight 
     pub step : Stepped sight t old new h hand
     pub gathered : IsGathered (setup_of sight t.key) h.next (state_of h.back).log.sizes.cells hand g
 
-  -- a bundle whose ring was full stays in hand
-  abbrev pub SteppedBy : Result (Unit {0}) BackFault → Seat (Slot M ghosts) (Known Beside) → Seat (Slot M ghosts) (Known Beside) → TheHome M ghosts → Gathering → Type 0
-  SteppedBy (Ok done) old new h g = Stepped sight t old new h []
-  SteppedBy (Err Device) old new h g = Stepped sight t old new h []
-  SteppedBy (Err Dead) old new h g = Stepped sight t old new h []
-  SteppedBy (Err (RingFull used need)) old new h g = SteppedWith old new h g
+  -- a bundle that was persisted, or met a fault, is in hand no more; one whose ring was full stays
+  abbrev pub SteppedBy : Result Bool BackFault → Seat (Slot M ghosts) (Known Beside) → Seat (Slot M ghosts) (Known Beside) → TheHome M ghosts → Gathering → Type 0
+  SteppedBy (Ok true) old new h g = Stepped sight t old new h []
+  SteppedBy (Ok false) old new h g = SteppedWith old new h g
+  SteppedBy (Err fault) old new h g = Stepped sight t old new h []
 
   -- ---- a look for a number
   -- The seat may look for the number at a place of a thread's boxes: no record in hand has it

@@ -24,7 +24,7 @@ use Rattle.stm_slots.specs.Lists.{IsSettled}
 use Rattle.stm_slots.specs.Opening.{setup_of}
 use Rattle.stm_slots.specs.declared.home.Home.{Home as TheHome}
 use Rattle.stm_slots.specs.declared.slot.Slot.{Slot}
-use Rattle.stm_slots.specs.declared.slot.Slot.TheVariants.{Record, Home}
+use Rattle.stm_slots.specs.declared.slot.Slot.TheVariants.{Record}
 use Rattle.stm_slots.specs.declared.opening.Opening.{Opening}
 use Rattle.stm_turns.specs.Holding.{Held, Holding, IsInHand, slots_out}
 
@@ -88,11 +88,7 @@ abbrev pub IsPast : BackState → ℕ → ℕ → Type 0
 IsPast v thread n = (n ≤ v.log.durable) ⊎ ((q : RedoBundle) × Contains (waiting_of_ring v thread) q × (n ≤ q.last))
 
 module _ {M : Type 0} {ghosts : Ghosts M} where
-  -- the slot that a seat took last has what a back's slot has
-  abbrev pub FrontHome : List (ℕ × Slot M ghosts) → ℕ → Type 0
-  FrontHome slots k = (h : TheHome M ghosts) × (slots ≡ (k, Home h) ∷ rest slots)
-
-  -- it has a record
+  -- the slot that a seat took last has a record
   abbrev pub FrontRecord : List (ℕ × Slot M ghosts) → ℕ → Type 0
   FrontRecord slots k = (r : RedoRecord) × (slots ≡ (k, Record r) ∷ rest slots)
 
@@ -164,11 +160,6 @@ module _ {M : Type 0} {ghosts : Ghosts M} (sight : M → Sight) (t : TableSight 
 
 -- ---- what a call of the back leaves
 module _ {M : Type 0} {ghosts : Ghosts M} where
-  -- the number is announced, and the view knows it as durable
-  pub record TellsDurable (seat : Seat (Slot M ghosts) (Known Beside)) (h : TheHome M ghosts) (n : ℕ) : Type 0 where
-    pub is : IsAnnounced (state_of h.back) n
-    pub durable : seat.me.0.view.turn.durable ≡ n
-
   -- all up to the number is announced and in the home
   pub record EndsSettled (seat : Seat (Slot M ghosts) (Known Beside)) (h : TheHome M ghosts) (n : ℕ) : Type 0 where
     pub is : IsAnnounced (state_of h.back) n

@@ -2,7 +2,7 @@
 
 ghost use Rattle.std.specs.Prelude.{IfOk, OnOk};
 ghost use Rattle.back_store.specs.BackView.{state_of};
-ghost use Rattle.stm_turns.specs.Turns.{AdvancedOn, EndsSettled, FailsBy, HasHome, IsAnnounced, KeepsPast, KeepsPlaces, SteppedOn, TellsDurable};
+ghost use Rattle.stm_turns.specs.Turns.{AdvancedOn, EndsSettled, FailsBy, HasHome, IsAnnounced, KeepsPast, KeepsPlaces, SteppedOn};
 
 use crate::raises::{raise_durable, raise_reproduced};
 use crate::slots::SlotSeat;
@@ -12,30 +12,8 @@ use stm_slots::home::Home;
 use stm_slots::known_back;
 use stm_slots::slots_rule::Events;
 
-/// Announces the number to which waiting records lead, and raises the durable word to it. `durable`
-/// is the durable number that the seat knows.
-pub fn announce<M: Medium>(
-    events: &Events<M>,
-    seat: &mut SlotSeat<M>,
-    home: &mut Home<M>,
-    durable: &mut u64,
-) -> Result<u64, BackFault>
-    requires turn { HasHome M.sight events.now seat.old home.old }
-    ensures step { AdvancedOn M.sight events.now durable.old durable.new
-        seat.old seat.new home.old home.new }
-    ensures ok { IfOk result (λ n. TellsDurable seat.new home.new n) }
-    ensures past { OnOk result (KeepsPast (state_of home.old.back) (state_of home.new.back)) }
-    ensures places { KeepsPlaces home.old home.new }
-    ensures cause { FailsBy result (state_of home.old.back) (state_of home.new.back) }
-{
-    let number = known_back::announce(&mut home.back)?;
-    raise_durable(events, seat, home, number);
-    *durable = number;
-    Ok(number)
-}
-
 /// Reproduces all that is durable, and raises the reproduced word.
-pub fn reproduce<M: Medium>(
+fn reproduce<M: Medium>(
     events: &Events<M>,
     seat: &mut SlotSeat<M>,
     home: &mut Home<M>,
@@ -54,8 +32,8 @@ pub fn reproduce<M: Medium>(
     Ok(number)
 }
 
-/// Announces all that leads on, and reproduces it. `durable` is the durable number that the seat
-/// knows.
+/// Announces the number to which waiting records lead, raises the durable word to it, and reproduces
+/// all up to it. `durable` is the durable number that the seat knows.
 pub fn catch_up<M: Medium>(
     events: &Events<M>,
     seat: &mut SlotSeat<M>,
@@ -70,6 +48,8 @@ pub fn catch_up<M: Medium>(
     ensures places { KeepsPlaces home.old home.new }
     ensures cause { FailsBy result (state_of home.old.back) (state_of home.new.back) }
 {
-    announce(events, seat, home, durable)?;
+    let number = known_back::announce(&mut home.back)?;
+    raise_durable(events, seat, home, number);
+    *durable = number;
     reproduce(events, seat, home)
 }

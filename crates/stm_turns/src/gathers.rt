@@ -161,6 +161,30 @@ pub fn look_behind<M: Medium>(
     fronts[thread as usize] = if is_new { number } else { 0 };
 }
 
+/// The first thread that has the number behind the bundle in front, if need be after one more look at
+/// the boxes that were empty: it may have been posted since.
+fn thread_with_next<M: Medium>(
+    events: &Events<M>,
+    seat: &mut SlotSeat<M>,
+    home: &Home<M>,
+    gathering: &Gathering,
+    fronts: &mut Fronts,
+) -> Option<u64>
+    requires with { InTurnWith M.sight events.now seat.old home.now gathering.now }
+    ensures step { SteppedOn M.sight events.now seat.old seat.new home.now home.now }
+    ensures some { IfSome result (IsFirstWith fronts.new events.now.setup.threads
+        (gathering.now.bundle.last + 1)) }
+    ensures none { IfNone result (NoneHas fronts.new events.now.setup.threads
+        (gathering.now.bundle.last + 1)) }
+{
+    let last = gathering.bundle.last();
+    if let Some(thread) = thread_with(fronts, events.threads(), last + 1) {
+        return Some(thread);
+    }
+    look_again(events, seat, home, &gathering.ahead, last, fronts);
+    thread_with(fronts, events.threads(), last + 1)
+}
+
 /// Takes the record of the next number, where it stands in front of some thread's boxes and the
 /// bundle takes it. Answers whether it did.
 fn join_next<M: Medium>(
@@ -176,8 +200,7 @@ fn join_next<M: Medium>(
     ensures took { result ≡ true → gathering.new.count ≡ gathering.old.count + 1 }
     ensures left { result ≡ false → gathering.new ≡ gathering.old }
 {
-    let number = gathering.bundle.last() + 1;
-    let Some(thread) = thread_with(fronts, events.threads(), number) else {
+    let Some(thread) = thread_with_next(events, seat, home, gathering, fronts) else {
         return false;
     };
     if !join(events, seat, home, gathering, thread) {
@@ -185,29 +208,6 @@ fn join_next<M: Medium>(
     }
     look_behind(events, seat, home, gathering, fronts, thread);
     true
-}
-
-/// Takes the record of the next number as `join_next` does, if need be after one more look at the
-/// boxes that were empty: it may have been posted since.
-fn join_next_posted<M: Medium>(
-    events: &Events<M>,
-    seat: &mut SlotSeat<M>,
-    home: &Home<M>,
-    gathering: &mut Gathering,
-    fronts: &mut Fronts,
-) -> bool
-    requires with { InTurnWith M.sight events.now seat.old home.now gathering.old }
-    ensures step { SteppedWith M.sight events.now seat.old seat.new home.now gathering.new }
-    ensures alike { BeginsAlike gathering.old gathering.new }
-    ensures took { result ≡ true → gathering.new.count ≡ gathering.old.count + 1 }
-    ensures left { result ≡ false → gathering.new ≡ gathering.old }
-{
-    if join_next(events, seat, home, gathering, fronts) {
-        return true;
-    }
-    let last = gathering.bundle.last();
-    look_again(events, seat, home, &gathering.ahead, last, fronts);
-    join_next(events, seat, home, gathering, fronts)
 }
 
 /// Takes the records of the numbers that follow, as long as the next one stands in front of some
@@ -224,7 +224,7 @@ pub fn gather<M: Medium>(
     ensures alike { BeginsAlike gathering.old gathering.new }
 {
     for _ in 0..MAX_SPAN {
-        if !join_next_posted(events, seat, home, gathering, fronts) {
+        if !join_next(events, seat, home, gathering, fronts) {
             return;
         }
     }

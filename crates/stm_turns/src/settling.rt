@@ -143,36 +143,6 @@ fn persist_next<M: Medium>(
     Ok(Some(catch_up(events, seat, home, durable)?))
 }
 
-/// Goes on as long as the number behind the announced one stands in front of the own boxes.
-fn persist_own<M: Medium>(
-    events: &Events<M>,
-    seat: &mut SlotSeat<M>,
-    home: &mut Home<M>,
-    own: u64,
-    settled: u64,
-    durable: &mut u64,
-) -> Result<u64, BackFault>
-    requires turn { InTurn M.sight events.now seat.old home.old [] }
-    requires own { IsOwn own seat.old }
-    requires thread { own < events.now.setup.threads }
-    requires settled { EndsSettled seat.old home.old settled }
-    ensures step { Advanced M.sight events.now durable.old durable.new
-        seat.old seat.new home.new [] }
-    ensures ok { IfOk result (λ n. EndsSettled seat.new home.new n) }
-    ensures next { IfOk result (λ n. NextIsNotDrawn seat.new n) }
-    ensures cause { FailsBy result (state_of home.old.back) (state_of home.new.back) }
-{
-    let mut number = settled;
-    // Each bundle begins with a greater number than the one before.
-    for _look in 0..MAX_NUMBER + 1 {
-        match persist_next(events, seat, home, own, number, durable)? {
-            Some(next) => number = next,
-            None => return Ok(number),
-        }
-    }
-    unreachable!()
-}
-
 /// Persists what the boxes of all threads have, in bundles of consecutive numbers, and makes all
 /// that leads on durable and reproduced.
 pub fn settle<M: Medium>(
@@ -193,6 +163,14 @@ pub fn settle<M: Medium>(
     ensures cause { FailsBy result (state_of home.old.back) (state_of home.new.back) }
 {
     persist_all(events, seat, home, durable)?;
-    let number = catch_up(events, seat, home, durable)?;
-    persist_own(events, seat, home, own, number, durable)
+    let mut number = catch_up(events, seat, home, durable)?;
+    // As long as the number behind the announced one stands in front of the own boxes. Each bundle
+    // begins with a greater number than the one before.
+    for _look in 0..MAX_NUMBER + 1 {
+        match persist_next(events, seat, home, own, number, durable)? {
+            Some(next) => number = next,
+            None => return Ok(number),
+        }
+    }
+    unreachable!()
 }

@@ -3,34 +3,18 @@
 ghost use Rattle.std.specs.Prelude.{◌≡◌, ◌∷◌};
 ghost use Rattle.atomic_table.specs.Table.{rest};
 ghost use Rattle.core_table.specs.Steps.{IsSameSeat};
-ghost use Rattle.stm_slots.specs.declared.slot.Slot.TheVariants.{Empty, Home as HomeSlot, Record};
-ghost use Rattle.stm_turns.specs.Turns.{FrontHome, FrontRecord};
+ghost use Rattle.stm_slots.specs.declared.slot.Slot.TheVariants.{Empty, Record};
+ghost use Rattle.stm_turns.specs.Turns.{FrontRecord};
 
 use core_table::event_table::Seat;
 use dude_base::redo::Redo;
 use pmem_trait::Medium;
 use stm_slots::beside::Beside;
-use stm_slots::home::Home;
 use stm_slots::slot::Slot;
 use stm_slots::slots_rule::Events;
 
 /// A seat of the table of running transactions.
 pub type SlotSeat<M> = Seat<Slot<M>, Beside>;
-
-/// Takes what the back's slot has.
-pub fn take_home<M: Medium>(events: &Events<M>, seat: &mut SlotSeat<M>, slot: usize) -> Home<M>
-    requires table { seat.old.table_id ≡ events.now.id }
-    requires front { FrontHome seat.old.me.1 slot }
-    ensures same { IsSameSeat seat.old seat.new }
-    ensures me { seat.new.me ≡ (seat.old.me.0, (slot, Empty) ∷ rest seat.old.me.1) }
-    ensures was { seat.old.me.1 ≡ (slot, HomeSlot result) ∷ rest seat.old.me.1 }
-{
-    match events.change_slot(seat, slot, Slot::Empty) {
-        Slot::Home(home) => home,
-        Slot::Empty => unreachable!(),
-        Slot::Record(_redo) => unreachable!(),
-    }
-}
 
 /// Takes the record of a box.
 pub fn take_record<M: Medium>(events: &Events<M>, seat: &mut SlotSeat<M>, slot: usize) -> Redo

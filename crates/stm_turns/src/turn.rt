@@ -1,6 +1,6 @@
 //! The turn is taken and given.
 
-ghost use Rattle.std.specs.Prelude.{◌≡◌, true, [], IfOk, IfErr};
+ghost use Rattle.std.specs.Prelude.{◌≡◌, true, [], IfOk, IfErr, OnErr};
 ghost use Rattle.back_store.specs.BackView.{state_of};
 ghost use Rattle.core_events.specs.Conditions.{May};
 ghost use Rattle.core_events.specs.Events.{give_turn as turn_given, take_turn as turn_taken};
@@ -8,7 +8,7 @@ ghost use Rattle.core_table.specs.Steps.{BelongsTo, IsAfter};
 ghost use Rattle.stm_slots.specs.Lists.{IsSettled};
 ghost use Rattle.stm_turns.specs.Turns.{HasTaken, InTurn, IsBare, IsOthers};
 
-use crate::slots::{SlotSeat, lay, take_home};
+use crate::slots::{SlotSeat, lay};
 use core_table::places::TURN;
 use pmem_trait::Medium;
 use std::marker::Brand;
@@ -29,13 +29,18 @@ pub fn take_turn<M: Medium>(
     ensures id { seat.new.id ≡ seat.old.id }
     ensures ok { IfOk result (λ home. HasTaken M.sight events.now seat.old seat.new home) }
     ensures err { IfErr result (λ seen. IsOthers events.now seen seat.old seat.new) }
+    ensures left { OnErr result (IsBare events.now seat.old seat.new) }
 {
     let slot = events.box_count();
     let seen = events.exchange_by::<Brand, ()>(seat, TURN, 0, thread + 1, &());
     if seen != 0 {
         return Err(seen);
     }
-    Ok(take_home(events, seat, slot))
+    match events.change_slot(seat, slot, Slot::Empty) {
+        Slot::Home(home) => Ok(home),
+        Slot::Empty => unreachable!(),
+        Slot::Record(_redo) => unreachable!(),
+    }
 }
 
 /// Puts the back into its slot and gives the turn; `failed` says whether it met a fault.

@@ -8,21 +8,21 @@ loop-init g c =
     let t = c.args.events.now in let sight = g.M.Medium.sight in let seat = c.args.seat.now in let h = c.args.home.now in let w = c.requires.with in let q = c.args.gathering.now in
     record { step = put_with sight t seat h q w seat (same_turn sight t seat h w.hand w.turn); alike = alike q }
 
-pub join_next_posted-requires : goal.join_next_posted-requires
-join_next_posted-requires g c =
+pub join_next-requires : goal.join_next-requires
+join_next-requires g c =
     let l = c.loop in record { with = with_of g.M.Medium.sight c.args.events.now c.args.seat.now l.seat c.args.home.now l.gathering l.invariant.step }
 
-pub returns-then-not-join_next_posted-clause-step : goal.returns-then-not-join_next_posted-clause-step
-returns-then-not-join_next_posted-clause-step g c =
-    let l = c.loop in let x = c.join_next_posted in
+pub returns-then-not-join_next-clause-step : goal.returns-then-not-join_next-clause-step
+returns-then-not-join_next-clause-step g c =
+    let l = c.loop in let x = c.join_next in
     then_with g.M.Medium.sight c.args.events.now c.args.seat.now l.seat x.new.seat c.args.home.now c.args.home.now l.gathering x.new.gathering l.invariant.step x.ensures.step
 
-pub returns-then-not-join_next_posted-clause-alike : goal.returns-then-not-join_next_posted-clause-alike
-returns-then-not-join_next_posted-clause-alike g c = let l = c.loop in let x = c.join_next_posted in alike_then c.args.gathering.now l.gathering x.new.gathering l.invariant.alike x.ensures.alike
+pub returns-then-not-join_next-clause-alike : goal.returns-then-not-join_next-clause-alike
+returns-then-not-join_next-clause-alike g c = let l = c.loop in let x = c.join_next in alike_then c.args.gathering.now l.gathering x.new.gathering l.invariant.alike x.ensures.alike
 
 pub loop-preserved : goal.loop-preserved
 loop-preserved g c =
-    let l = c.loop in let x = c.join_next_posted in
+    let l = c.loop in let x = c.join_next in
     record {
       step = then_with g.M.Medium.sight c.args.events.now c.args.seat.now l.seat x.new.seat c.args.home.now c.args.home.now l.gathering x.new.gathering l.invariant.step x.ensures.step;
       alike = alike_then c.args.gathering.now l.gathering x.new.gathering l.invariant.alike x.ensures.alike;

@@ -6,9 +6,6 @@ use Rattle.stm_turns.proofs.WholeTurns.{bare_from, has_pumped, has_failed, none_
 use Rattle.stm_turns.proofs.Seats.{advanced, same_turn}
 use Rattle.stm_turns.proofs.pumping.pump.Goals as goal
 
-pub returns-in-Err-clause-left : goal.returns-in-Err-clause-left
-returns-in-Err-clause-left g c = let e = c.in-Err.ensures.err in record { belongs = e.belongs; id = c.take_turn.ensures.id; slots = e.bare }
-
 pub give_turn-requires-clause-turn : goal.give_turn-requires-clause-turn
 give_turn-requires-clause-turn g c = c.in-Ok.ensures.ok.in_turn
 

@@ -5,7 +5,7 @@ use Rattle.stm_turns.proofs.Bundling.{with_of}
 use Rattle.stm_turns.proofs.Fronts.{hand_below}
 use Rattle.stm_turns.proofs.NextRecords.{looked_with}
 use Rattle.stm_turns.proofs.Seats.{advanced}
-use Rattle.stm_turns.proofs.Settled.{begun, begun_steps, bundle_steps}
+use Rattle.stm_turns.proofs.Settled.{begun, front_steps}
 use Rattle.stm_turns.proofs.settling.persist_from.Goals as goal
 
 pub returns-in_default-clause-step : goal.returns-in_default-clause-step
@@ -29,21 +29,21 @@ persist_bundle-requires-clause-with g c =
 
 pub returns-in_err-persist_bundle-clause-step : goal.returns-in_err-persist_bundle-clause-step
 returns-in_err-persist_bundle-clause-step g c =
-    let t = c.args.events.now in let sight = g.M.Medium.sight in let a = c.see_front in let s = c.in-Some.ensures.step in let h = c.args.home.now in let q = c.begin-gathering.result in let b = c.look_behind in let x = c.gather in let y = c.persist_bundle in
-    bundle_steps sight t c.args.durable.now y.new.durable c.args.seat.now a.new.seat b.new.seat x.new.seat y.new.seat h y.new.home q x.new.gathering
-    (begun_steps sight t c.args.seat.now a.new.seat h c.args.thread c.boxes.result c.in-Some.redo q s (c.boxes.ensures ∙ ap (λ (v : Setup). v.boxes) s.turn.setup) c.begin-gathering.ensures) b.ensures.step x.ensures.step y.ensures.step
+    let a = c.see_front in let s = c.in-Some in let h = c.args.home.now in let b = c.look_behind in let x = c.gather in let y = c.persist_bundle in
+    front_steps g.M.Medium.sight c.args.events.now c.args.durable.now y.new.durable c.args.seat.now a.new.seat b.new.seat x.new.seat y.new.seat h y.new.home c.args.thread c.boxes.result s.redo c.begin-gathering.result x.new.gathering
+    s.ensures.step c.boxes.ensures c.begin-gathering.ensures b.ensures.step x.ensures.step y.ensures.step
 
 pub returns-then-not-branch-clause-step : goal.returns-then-not-branch-clause-step
 returns-then-not-branch-clause-step g c =
-    let t = c.args.events.now in let sight = g.M.Medium.sight in let a = c.see_front in let s = c.in-Some.ensures.step in let h = c.args.home.now in let q = c.begin-gathering.result in let b = c.look_behind in let x = c.gather in let y = c.persist_bundle in
-    bundle_steps sight t c.args.durable.now y.new.durable c.args.seat.now a.new.seat b.new.seat x.new.seat y.new.seat h y.new.home q x.new.gathering
-    (begun_steps sight t c.args.seat.now a.new.seat h c.args.thread c.boxes.result c.in-Some.redo q s (c.boxes.ensures ∙ ap (λ (v : Setup). v.boxes) s.turn.setup) c.begin-gathering.ensures) b.ensures.step x.ensures.step y.ensures.step
+    let a = c.see_front in let s = c.in-Some in let h = c.args.home.now in let b = c.look_behind in let x = c.gather in let y = c.persist_bundle in
+    front_steps g.M.Medium.sight c.args.events.now c.args.durable.now y.new.durable c.args.seat.now a.new.seat b.new.seat x.new.seat y.new.seat h y.new.home c.args.thread c.boxes.result s.redo c.begin-gathering.result x.new.gathering
+    s.ensures.step c.boxes.ensures c.begin-gathering.ensures b.ensures.step x.ensures.step y.ensures.step
 
 pub returns-else-not-branch-clause-step : goal.returns-else-not-branch-clause-step
 returns-else-not-branch-clause-step g c =
-    let t = c.args.events.now in let sight = g.M.Medium.sight in let a = c.see_front in let s = c.in-Some.ensures.step in let h = c.args.home.now in let q = c.begin-gathering.result in let b = c.look_behind in let x = c.gather in let y = c.persist_bundle in
-    bundle_steps sight t c.args.durable.now y.new.durable c.args.seat.now a.new.seat b.new.seat x.new.seat y.new.seat h y.new.home q x.new.gathering
-    (begun_steps sight t c.args.seat.now a.new.seat h c.args.thread c.boxes.result c.in-Some.redo q s (c.boxes.ensures ∙ ap (λ (v : Setup). v.boxes) s.turn.setup) c.begin-gathering.ensures) b.ensures.step x.ensures.step y.ensures.step
+    let a = c.see_front in let s = c.in-Some in let h = c.args.home.now in let b = c.look_behind in let x = c.gather in let y = c.persist_bundle in
+    front_steps g.M.Medium.sight c.args.events.now c.args.durable.now y.new.durable c.args.seat.now a.new.seat b.new.seat x.new.seat y.new.seat h y.new.home c.args.thread c.boxes.result s.redo c.begin-gathering.result x.new.gathering
+    s.ensures.step c.boxes.ensures c.begin-gathering.ensures b.ensures.step x.ensures.step y.ensures.step
 
 pub leave-requires-clause-few : goal.leave-requires-clause-few
 leave-requires-clause-few g c = c.gather.ensures.step.gathered.few

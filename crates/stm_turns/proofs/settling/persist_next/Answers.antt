@@ -5,8 +5,8 @@ use Rattle.stm_turns.proofs.Bundling.{then_bare, with_of}
 use Rattle.stm_turns.proofs.Calling.{may_put_all}
 use Rattle.stm_turns.proofs.Faults.{err_still}
 use Rattle.stm_turns.proofs.NextRecords.{ahead_inside, looked_with}
-use Rattle.stm_turns.proofs.Seats.{advanced, then_advanced}
-use Rattle.stm_turns.proofs.Settled.{begun, begun_steps, bundle_steps, not_drawn_none, not_drawn_on, not_drawn_some, rises_on, still_settled}
+use Rattle.stm_turns.proofs.Seats.{advanced}
+use Rattle.stm_turns.proofs.Settled.{begun, begun_steps, front_settled, front_steps, not_drawn_none, not_drawn_on, not_drawn_some, rises_on, still_settled}
 use Rattle.std.proofs.Common.{◌∷◌, get_or}
 use Rattle.dude_base.specs.Records.{bundle_of, first_of}
 use Rattle.stm_turns.specs.Holding.{Held}
@@ -67,9 +67,9 @@ returns-then-number-clause-none g c =
 
 pub returns-in_err-persist_bundle-clause-step : goal.returns-in_err-persist_bundle-clause-step
 returns-in_err-persist_bundle-clause-step g c =
-    let t = c.args.events.now in let sight = g.M.Medium.sight in let a = c.see_front in let s = c.in-Some.ensures.step in let h = c.args.home.now in let q = c.begin-gathering.result in let b = c.look_at_all-fronts in let x = c.gather in let y = c.persist_bundle in
-    bundle_steps sight t c.args.durable.now y.new.durable c.args.seat.now a.new.seat b.new.seat x.new.seat y.new.seat h y.new.home q x.new.gathering
-    (begun_steps sight t c.args.seat.now a.new.seat h c.args.own c.boxes.result c.in-Some.redo q s (c.boxes.ensures ∙ ap (λ (v : Setup). v.boxes) s.turn.setup) c.begin-gathering.ensures) b.ensures.step x.ensures.step y.ensures.step
+    let a = c.see_front in let s = c.in-Some in let h = c.args.home.now in let b = c.look_at_all-fronts in let x = c.gather in let y = c.persist_bundle in
+    front_steps g.M.Medium.sight c.args.events.now c.args.durable.now y.new.durable c.args.seat.now a.new.seat b.new.seat x.new.seat y.new.seat h y.new.home c.args.own c.boxes.result s.redo c.begin-gathering.result x.new.gathering
+    s.ensures.step c.boxes.ensures c.begin-gathering.ensures b.ensures.step x.ensures.step y.ensures.step
 
 pub unreachable-requires : goal.unreachable-requires
 unreachable-requires g c =
@@ -79,17 +79,15 @@ unreachable-requires g c =
 
 pub returns-in_err-catch_up-clause-step : goal.returns-in_err-catch_up-clause-step
 returns-in_err-catch_up-clause-step g c =
-    let t = c.args.events.now in let sight = g.M.Medium.sight in let a = c.see_front in let s = c.in-Some.ensures.step in let h = c.args.home.now in let q = c.begin-gathering.result in let b = c.look_at_all-fronts in let x = c.gather in let y = c.persist_bundle in let d = c.catch_up in
-    let whole = bundle_steps sight t c.args.durable.now y.new.durable c.args.seat.now a.new.seat b.new.seat x.new.seat y.new.seat h y.new.home q x.new.gathering
-    (begun_steps sight t c.args.seat.now a.new.seat h c.args.own c.boxes.result c.in-Some.redo q s (c.boxes.ensures ∙ ap (λ (v : Setup). v.boxes) s.turn.setup) c.begin-gathering.ensures) b.ensures.step x.ensures.step y.ensures.step in
-    then_advanced sight t c.args.durable.now y.new.durable d.new.durable c.args.seat.now y.new.seat d.new.seat y.new.home d.new.home [] [] whole (d.ensures.step [] whole.turn)
+    let a = c.see_front in let s = c.in-Some in let h = c.args.home.now in let b = c.look_at_all-fronts in let x = c.gather in let y = c.persist_bundle in let d = c.catch_up in
+    front_settled g.M.Medium.sight c.args.events.now c.args.durable.now y.new.durable d.new.durable c.args.seat.now a.new.seat b.new.seat x.new.seat y.new.seat d.new.seat h y.new.home d.new.home c.args.own c.boxes.result s.redo c.begin-gathering.result x.new.gathering
+    s.ensures.step c.boxes.ensures c.begin-gathering.ensures b.ensures.step x.ensures.step y.ensures.step d.ensures.step
 
 pub returns-clause-step : goal.returns-clause-step
 returns-clause-step g c =
-    let t = c.args.events.now in let sight = g.M.Medium.sight in let a = c.see_front in let s = c.in-Some.ensures.step in let h = c.args.home.now in let q = c.begin-gathering.result in let b = c.look_at_all-fronts in let x = c.gather in let y = c.persist_bundle in let d = c.catch_up in
-    let whole = bundle_steps sight t c.args.durable.now y.new.durable c.args.seat.now a.new.seat b.new.seat x.new.seat y.new.seat h y.new.home q x.new.gathering
-    (begun_steps sight t c.args.seat.now a.new.seat h c.args.own c.boxes.result c.in-Some.redo q s (c.boxes.ensures ∙ ap (λ (v : Setup). v.boxes) s.turn.setup) c.begin-gathering.ensures) b.ensures.step x.ensures.step y.ensures.step in
-    then_advanced sight t c.args.durable.now y.new.durable d.new.durable c.args.seat.now y.new.seat d.new.seat y.new.home d.new.home [] [] whole (d.ensures.step [] whole.turn)
+    let a = c.see_front in let s = c.in-Some in let h = c.args.home.now in let b = c.look_at_all-fronts in let x = c.gather in let y = c.persist_bundle in let d = c.catch_up in
+    front_settled g.M.Medium.sight c.args.events.now c.args.durable.now y.new.durable d.new.durable c.args.seat.now a.new.seat b.new.seat x.new.seat y.new.seat d.new.seat h y.new.home d.new.home c.args.own c.boxes.result s.redo c.begin-gathering.result x.new.gathering
+    s.ensures.step c.boxes.ensures c.begin-gathering.ensures b.ensures.step x.ensures.step y.ensures.step d.ensures.step
 
 pub returns-clause-some : goal.returns-clause-some
 returns-clause-some g c =

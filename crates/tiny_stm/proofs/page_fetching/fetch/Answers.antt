@@ -3,9 +3,6 @@ use Rattle.stm_turns.proofs.WholeTurns.{bare_from, none_durable, others_durable,
 use Rattle.tiny_stm.proofs.Fetched.{has_failed, has_fetch_fault, has_fetched, turn_same, settled_comes}
 use Rattle.tiny_stm.proofs.page_fetching.fetch.Goals as goal
 
-pub returns-in-Err-clause-left : goal.returns-in-Err-clause-left
-returns-in-Err-clause-left g c = let e = c.in-Err.ensures.err in record { belongs = e.belongs; id = c.take_turn.ensures.id; slots = e.bare }
-
 pub give_turn-requires-clause-turn : goal.give_turn-requires-clause-turn
 give_turn-requires-clause-turn g c = c.in-Ok.ensures.ok.in_turn
 

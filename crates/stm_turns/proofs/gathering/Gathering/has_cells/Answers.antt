@@ -1,7 +1,6 @@
-use Rattle.std.proofs.Common.{◌≡◌, ◌+◌, ◌≤◌, ◌∙◌, ap, subst, arith, length}
+use Rattle.std.proofs.Common.{◌+◌, ◌≤◌, arith, length}
 use Rattle.dude_base.specs.Joins.{places_of}
 use Rattle.dude_base.proofs.Joining.{length-put_all}
-use Rattle.redo_record.specs.Record.{cells_for}
 use Rattle.stm_turns.proofs.gathering.Gathering.has_cells.Goals as goal
 
 pub returns-then-cells_for-cells : goal.returns-then-cells_for-cells

@@ -1,7 +1,7 @@
 use Rattle.std.proofs.Common.{◌≤◌, ℕ, []}
 use Rattle.back_store.specs.BackView.{state_of}
 use Rattle.stm_turns.specs.Turns.{Advanced, EndsSettled, IsPast}
-use Rattle.stm_turns.proofs.settling.persist_own.Given as goal
+use Rattle.stm_turns.proofs.settling.settle.Given as goal
 
 -- each bundle raised the greatest number that is past
 abbrev pub invariant-loop-look : goal.invariant-loop-look
