@@ -63,7 +63,7 @@ fn is_bare(tree: &Tree, keys: &[u64], a: &[u64]) -> bool
     a[tree.root as usize] == 0 && keys.is_empty()
 }
 
-// Takes in what the word links, and answers which word comes next, if one does.
+// Takes in what the word links, an inner record or a leaf, and answers which word comes next, if one does.
 fn follow(
     tree: &Tree,
     keys: &[u64],
@@ -78,11 +78,24 @@ fn follow(
     ensures more { OnOk result (MeetsMore seen.old seen.new) }
     ensures fault { IfErr result (IsCause (IsWrongOnWalk tree.now a.now keys.now)) }
 {
-    if !tree.inner.has(a[slot as usize]) {
-        return take_leaf(tree, keys, a, slot, seen);
+    let at = a[slot as usize];
+    if tree.inner.has(at) {
+        let zeros = go_down(tree, a, slot, seen)?;
+        return Ok(Some(zeros));
     }
-    let zeros = go_down(tree, a, slot, seen)?;
-    Ok(Some(zeros))
+    if !seen.leaves.marks.meet(&tree.leaves, at) {
+        return Err(CheckFault::NotDb { word: slot });
+    }
+    let key = a[at as usize];
+    if !is_known(keys, key) {
+        return Err(CheckFault::NotDb { word: at });
+    }
+    if !goes_by_turns(seen.above.as_slice(), key) {
+        return Err(CheckFault::NotDb { word: at });
+    }
+    seen.leaves.taken.take(at, key)?;
+    let next = turn_back(&mut seen.above, key)?;
+    Ok(next)
 }
 
 // Takes in the inner record that the word links, and answers the word that links its zeros.
@@ -105,38 +118,6 @@ fn go_down(tree: &Tree, a: &[u64], slot: u64, seen: &mut TreeSeen) -> Result<u64
     }
     seen.open_fork(at, bit)?;
     Ok(at + 2)
-}
-
-// Takes in the leaf that the word links, and answers which word comes next, if one does.
-fn take_leaf(
-    tree: &Tree,
-    keys: &[u64],
-    a: &[u64],
-    slot: u64,
-    seen: &mut TreeSeen,
-) -> Result<Option<u64>, CheckFault>
-    requires fits { FitsTree tree.now (length a.now) }
-    requires rising { IsNonDecreasing keys.now }
-    requires other { ¬ IsRecord tree.now.inner (slice_index a.now slot) }
-    requires knows { KnowsTurns tree.now a.now keys.now slot seen.old }
-    ensures knows { IfOk result (KnowsNext tree.now a.now keys.now seen.new) }
-    ensures more { OnOk result (MeetsMore seen.old seen.new) }
-    ensures fault { IfErr result (IsCause (IsWrongOnWalk tree.now a.now keys.now)) }
-{
-    let at = a[slot as usize];
-    if !seen.leaves.marks.meet(&tree.leaves, at) {
-        return Err(CheckFault::NotDb { word: slot });
-    }
-    let key = a[at as usize];
-    if !is_known(keys, key) {
-        return Err(CheckFault::NotDb { word: at });
-    }
-    if !goes_by_turns(seen.above.as_slice(), key) {
-        return Err(CheckFault::NotDb { word: at });
-    }
-    seen.leaves.taken.take(at, key)?;
-    let next = turn_back(&mut seen.above, key)?;
-    Ok(next)
 }
 
 // Whether the key is one of these.

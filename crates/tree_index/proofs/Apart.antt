@@ -1,7 +1,6 @@
 -- The words that a tree reads, and words apart from them.
 use Rattle.std.proofs.Common.{◌≡◌, ◌≢◌, ℕ, ◌+◌, ◌<◌, ◌⊎◌, inl, inr, List, [], ◌∷◌, ◌++◌, Contains, slice_index, refl, ◌∙◌, arith, eqb}
 use Rattle.std.proofs.lemmas.List.Elements.{Contains-append_left, Contains-append_right}
-use Rattle.std.proofs.lemmas.Bool.{cases_eq}
 use Rattle.std.proofs.lemmas.List.Sorted.{IsPermutation-middle}
 use Rattle.std.proofs.lemmas.Map.Keys.{IsDistinct-tail, IsDistinct-IsPermutation}
 use Rattle.std.specs.List.{IsDistinct}
@@ -12,6 +11,7 @@ use Rattle.tree_index.specs.declared.tree.Tree.{Tree}
 use Rattle.tree_index.specs.Shape.{Shape, Leaf, Fork, Holds, forks_of, leaves_of}
 use Rattle.tree_index.specs.Tree.{FitsTree, IsOutside}
 use Rattle.tree_index.specs.Path.{Frame, OnZeros, OnOnes, slot_of}
+use Rattle.tree_index.proofs.Frees.{beside_outside, leaf_beside, record_outside}
 use Rattle.tree_index.proofs.Paths.{Along, distinct_behind, first_differs, flips, forks_along, leaves_along}
 use Rattle.tree_index.proofs.Shapes.{first_among, other_among}
 
@@ -110,42 +110,14 @@ module _ {tree : Tree} {n : ℕ} (fits : FitsTree tree n) where
 
   -- the words that a tree reads are none that its pools use
   pub own_outside_leaves : (ls fs : List ℕ) (i : ℕ) → ((x : ℕ) → Contains ls x → IsRecord tree.leaves x) → ((x : ℕ) → Contains fs x → IsRecord tree.inner x) → IsOwn tree.root ls fs i → IsOutsidePool tree.leaves i
-  own_outside_leaves ls fs i leaf inner (inl is) = record {
-    first = omega (arith, fits.root_leaves.header, is);
-    live = omega (arith, fits.root_leaves.header, is);
-    links = λ x r. omega (arith, fits.root_leaves.records x r, fits.leaf_size, is);
-  }
-  own_outside_leaves ls fs i leaf inner (inr (inl c)) = record {
-    first = omega (arith, fits.leaves.apart i (leaf i c), fits.leaf_size);
-    live = omega (arith, fits.leaves.apart i (leaf i c), fits.leaf_size);
-    links = λ x r same. elim (cases_eq x i) [ inl e ↦ omega (arith, same, e) | inr differ ↦ omega (arith, records_apart r (leaf i c) differ, fits.leaf_size, same) ];
-  }
-  own_outside_leaves ls fs i leaf inner (inr (inr fork)) =
-      let beside = fits.records fork.0 (inner fork.0 fork.1) in
-      record {
-        first = omega (arith, beside.header, fits.inner_size, fork.4, fork.5);
-        live = omega (arith, beside.header, fits.inner_size, fork.4, fork.5);
-        links = λ x r. omega (arith, beside.records x r, fits.leaf_size, fits.inner_size, fork.4, fork.5);
-      }
+  own_outside_leaves ls fs i leaf inner (inl is) = beside_outside fits.root_leaves fits.leaves.size 0 (omega arith) (omega (arith, is))
+  own_outside_leaves ls fs i leaf inner (inr (inl c)) = record_outside fits.leaves (leaf i c) 0 (omega (arith, fits.leaf_size)) (omega arith) (omega arith)
+  own_outside_leaves ls fs i leaf inner (inr (inr fork)) = beside_outside (fits.records fork.0 (inner fork.0 fork.1)) fits.leaves.size fork.2 (omega (arith, fork.4, fits.inner_size)) fork.5
 
   pub own_outside_inner : (ls fs : List ℕ) (i : ℕ) → ((x : ℕ) → Contains ls x → IsRecord tree.leaves x) → ((x : ℕ) → Contains fs x → IsRecord tree.inner x) → IsOwn tree.root ls fs i → IsOutsidePool tree.inner i
-  own_outside_inner ls fs i leaf inner (inl is) = record {
-    first = omega (arith, fits.root_inner.header, is);
-    live = omega (arith, fits.root_inner.header, is);
-    links = λ x r. omega (arith, fits.root_inner.records x r, fits.inner_size, is);
-  }
-  own_outside_inner ls fs i leaf inner (inr (inl c)) = record {
-    first = omega (arith, fits.headers.records i (leaf i c), fits.leaf_size);
-    live = omega (arith, fits.headers.records i (leaf i c), fits.leaf_size);
-    links = λ x r. omega (arith, (fits.records x r).records i (leaf i c), fits.leaf_size, fits.inner_size);
-  }
-  own_outside_inner ls fs i leaf inner (inr (inr fork)) =
-      let there = inner fork.0 fork.1 in
-      record {
-        first = omega (arith, fits.inner.apart fork.0 there, fits.inner_size, fork.4, fork.5);
-        live = omega (arith, fits.inner.apart fork.0 there, fits.inner_size, fork.4, fork.5);
-        links = λ x r same. elim (cases_eq x fork.0) [ inl e ↦ fork.3 (omega (arith, same, e, fork.5)) | inr differ ↦ omega (arith, records_apart r there differ, fits.inner_size, fork.4, fork.5, same) ];
-      }
+  own_outside_inner ls fs i leaf inner (inl is) = beside_outside fits.root_inner fits.inner.size 0 (omega arith) (omega (arith, is))
+  own_outside_inner ls fs i leaf inner (inr (inl c)) = beside_outside (leaf_beside fits i (leaf i c)) fits.inner.size 0 (omega (arith, fits.leaf_size)) (omega arith)
+  own_outside_inner ls fs i leaf inner (inr (inr fork)) = record_outside fits.inner (inner fork.0 fork.1) fork.2 (omega (arith, fork.4, fits.inner_size)) fork.3 fork.5
 
   -- a word outside the tree is none of them
   pub own_not_outside : (ls fs : List ℕ) (i j : ℕ) → ((x : ℕ) → Contains ls x → IsRecord tree.leaves x) → ((x : ℕ) → Contains fs x → IsRecord tree.inner x) → IsOwn tree.root ls fs j → IsOutside tree i → i ≢ j

@@ -1,5 +1,5 @@
 -- What `remove` and `cut` do, in a lawful tree.
-use Rattle.std.proofs.Common.{◌≡◌, ◌≢◌, ℕ, ◌+◌, ◌<◌, inl, inr, List, [], ◌∷◌, ◌++◌, length, Contains, Some, None, slice_index, slice_set, refl, sym, ap, ◌∙◌, subst, arith, eqb, get_or-set_same}
+use Rattle.std.proofs.Common.{◌≡◌, ◌≢◌, ℕ, ◌<◌, inl, inr, List, [], ◌∷◌, ◌++◌, length, Contains, Some, None, slice_index, slice_set, refl, sym, ap, ◌∙◌, subst, arith, eqb, get_or-set_same}
 use Rattle.std.proofs.lemmas.List.Elements.{Contains-append_left, Contains-append_right}
 use Rattle.std.proofs.lemmas.List.Sorted.{Contains-permutation, IsPermutation-refl, IsPermutation-append_right, IsPermutation-cons, IsPermutation-middle, IsPermutation-sym, IsPermutation-trans, length_permutation}
 use Rattle.std.proofs.lemmas.Map.Keys.{IsDistinct-tail, IsDistinct-IsPermutation}
@@ -18,6 +18,7 @@ use Rattle.tree_index.specs.Tree.{Drops, FitsTree, IsTree, StaysOutside}
 use Rattle.tree_index.specs.Path.{Frame, OnZeros, OnOnes, GoesBy, HasLeafMore, plug, slot_of}
 use Rattle.tree_index.proofs.Apart.{IsOwn, along_same, holds_same, of_more, own_more, own_not_outside, own_outside_inner, own_outside_leaves, rest_apart, slot_own}
 use Rattle.tree_index.proofs.Found.{taken_record}
+use Rattle.tree_index.proofs.Frees.{given_stays, leaf_beside, leaf_header_beside}
 use Rattle.tree_index.proofs.Paths.{Along, closed, distinct_behind, flips, forks_along, keys_along, leaves_along, opened, plug_forks, plug_keys, plug_leaves, radix_plug}
 use Rattle.tree_index.proofs.Stored.{pool_moved}
 use Rattle.tree_index.proofs.Shapes.{follows, first_among, other_among, radix_more}
@@ -122,42 +123,11 @@ module _ {tree : Tree} {n : ℕ} (fits : FitsTree tree n) (old linked : List ℕ
         let of_inner = outside_inner i own in
         gives_leaf.changes.others i (of_leaves.links at at_is, (of_leaves.first, (of_leaves.live, tt))) ∙ gives_inner.changes.others i (of_inner.links over over_is, (of_inner.first, (of_inner.live, tt)))
 
-    -- each word of the other pool's give is outside
-    leaf_word_outside : (j : ℕ) → j < 2 → IsOutsidePool tree.inner (at + j)
-    leaf_word_outside j small = record {
-      first = omega (arith, fits.headers.records at at_is, fits.leaf_size, small);
-      live = omega (arith, fits.headers.records at at_is, fits.leaf_size, small);
-      links = λ x r. omega (arith, (fits.records x r).records at at_is, fits.leaf_size, fits.inner_size, small);
-    }
-
-    leaf_header_outside : (j : ℕ) → j < 2 → IsOutsidePool tree.inner (tree.leaves.base + j)
-    leaf_header_outside j small = record {
-      first = omega (arith, fits.headers.header, small);
-      live = omega (arith, fits.headers.header, small);
-      links = λ x r. omega (arith, (fits.records x r).header, fits.inner_size, small);
-    }
-
-    over_word_outside : (j : ℕ) → j < 2 → IsOutsidePool tree.leaves (over + j)
-    over_word_outside j small = record {
-      first = omega (arith, (fits.records over over_is).header, fits.inner_size, small);
-      live = omega (arith, (fits.records over over_is).header, fits.inner_size, small);
-      links = λ x r. omega (arith, (fits.records over over_is).records x r, fits.leaf_size, fits.inner_size, small);
-    }
-
-    inner_header_outside : (j : ℕ) → j < 2 → IsOutsidePool tree.leaves (tree.inner.base + j)
-    inner_header_outside j small = record {
-      first = omega (arith, fits.headers.header, small);
-      live = omega (arith, fits.headers.header, small);
-      links = λ x r. omega (arith, fits.headers.records x r, fits.leaf_size, small);
-    }
-
     new_leaves : IsPool tree.leaves new (at ∷ free_leaves) (leaves_of beside ++ leaves_along path)
     new_leaves = pool_given (leaves_of whole) (leaves_of beside ++ leaves_along path) at lawful.leaves leaves_are gives_leaf
 
     new_inner : IsPool tree.inner new (over ∷ free_inner) (forks_of beside ++ forks_along path)
-    new_inner = pool_stays (same_pool {words = (at + 1) ∷ tree.leaves.base ∷ (tree.leaves.base + 1) ∷ []}
-        (leaf_word_outside 1 (omega arith), (subst (IsOutsidePool tree.inner) (let sum : tree.leaves.base + 0 ≡ tree.leaves.base = omega arith in sum) (leaf_header_outside 0 (omega arith)), (leaf_header_outside 1 (omega arith), tt))) gives_leaf.changes)
-        (pool_given (forks_of whole) (forks_of beside ++ forks_along path) over lawful.inner forks_are gives_inner)
+    new_inner = given_stays gives_leaf (leaf_header_beside fits) (leaf_beside fits at at_is) fits.leaves.size fits.inner.size (pool_given (forks_of whole) (forks_of beside ++ forks_along path) over lawful.inner forks_are gives_inner)
 
     outside : StaysOutside tree old new
     outside = record {
@@ -193,21 +163,48 @@ module _ {tree : Tree} {n : ℕ} (fits : FitsTree tree n) (old linked : List ℕ
           others = outside;
         }
 
--- ---- the two cases of the last inner record
+-- ---- the last inner record of a path, on either side
+
+-- what stands on its other side
+abbrev pub beside_in : Frame → Shape
+beside_in (OnZeros over bit ones) = ones
+beside_in (OnOnes over bit zeros) = zeros
+
+-- its place
+abbrev pub place_in : Frame → ℕ
+place_in (OnZeros over bit ones) = over
+place_in (OnOnes over bit zeros) = over
+
+leaves_past : (frame : Frame) (path : List Frame) → leaves_along (frame ∷ path) ≡ leaves_of (beside_in frame) ++ leaves_along path
+leaves_past (OnZeros over bit ones) path = refl
+leaves_past (OnOnes over bit zeros) path = refl
+
+forks_past : (frame : Frame) (path : List Frame) → forks_along (frame ∷ path) ≡ place_in frame ∷ (forks_of (beside_in frame) ++ forks_along path)
+forks_past (OnZeros over bit ones) path = refl
+forks_past (OnOnes over bit zeros) path = refl
+
+keys_past : (frame : Frame) (path : List Frame) → keys_along (frame ∷ path) ≡ keys_of (beside_in frame) ++ keys_along path
+keys_past (OnZeros over bit ones) path = refl
+keys_past (OnOnes over bit zeros) path = refl
+
+holds_past : (words : List ℕ) (root : ℕ) (frame : Frame) (path : List Frame) → Along words root (frame ∷ path) → Holds words (beside_in frame) × Along words root path
+holds_past words root (OnZeros over bit ones) path along = (along.2, along.4)
+holds_past words root (OnOnes over bit zeros) path along = (along.2, along.4)
+
+more_past : (key at : ℕ) (frame : Frame) (path : List Frame) → HasLeafMore key at (place_in frame) (plug path (beside_in frame)) (plug (frame ∷ path) (Leaf at key))
+more_past key at (OnZeros over bit ones) path = record { path = path; part = ones; bit = bit; without = refl; with_leaf = inl refl }
+more_past key at (OnOnes over bit zeros) path = record { path = path; part = zeros; bit = bit; without = refl; with_leaf = inr refl }
 
 -- the bits fall and the keys agree as before without the leaf
-module _ (path : List Frame) (key at over bit : ℕ) (beside : Shape) where
-  radix_past_zeros : IsRadix 64 (plug (OnZeros over bit beside ∷ path) (Leaf at key)) → GoesBy key 0 path → IsRadix 64 (plug path beside)
-  radix_past_zeros radix goes =
-      radix_plug key 0 64 path (Fork over bit (Leaf at key) beside) beside
-      (follows key 0 key 64 path (Fork over bit (Leaf at key) beside) radix goes (first_among key (keys_of beside)) refl) goes (omega arith)
-      (λ y c. inr (other_among y key (keys_of beside) c)) (λ m le r. radix_more bit m beside (omega (arith, r.0)) r.3) radix
-
-  radix_past_ones : IsRadix 64 (plug (OnOnes over bit beside ∷ path) (Leaf at key)) → GoesBy key 0 path → IsRadix 64 (plug path beside)
-  radix_past_ones radix goes =
-      radix_plug key 0 64 path (Fork over bit beside (Leaf at key)) beside
-      (follows key 0 key 64 path (Fork over bit beside (Leaf at key)) radix goes (Contains-append_right (keys_of beside) (key ∷ []) key (first_among key [])) refl) goes (omega arith)
-      (λ y c. inr (Contains-append_left (keys_of beside) (key ∷ []) y c)) (λ m le r. radix_more bit m beside (omega (arith, r.0)) r.2) radix
+radix_past : (key at : ℕ) (frame : Frame) (path : List Frame) → IsRadix 64 (plug (frame ∷ path) (Leaf at key)) → GoesBy key 0 (frame ∷ path) → IsRadix 64 (plug path (beside_in frame))
+radix_past key at (OnZeros over bit ones) path radix goes =
+    radix_plug key 0 64 path (Fork over bit (Leaf at key) ones) ones
+    (follows key 0 key 64 path (Fork over bit (Leaf at key) ones) radix goes.2 (first_among key (keys_of ones)) refl) goes.2 (omega arith)
+    (λ y c. inr (other_among y key (keys_of ones) c)) (λ m le r. radix_more bit m ones (omega (arith, r.0)) r.3) radix
+radix_past key at (OnOnes over bit zeros) path radix goes =
+    radix_plug key 0 64 path (Fork over bit zeros (Leaf at key)) zeros
+    (follows key 0 key 64 path (Fork over bit zeros (Leaf at key)) radix goes.2 (Contains-append_right (keys_of zeros) (key ∷ []) key (first_among key [])) refl) goes.2 (omega arith)
+    (λ y c. inr (Contains-append_left (keys_of zeros) (key ∷ []) y c)) (λ m le r. radix_more bit m zeros (omega (arith, r.0)) r.2) radix
 
 -- what is left of the tree, with the leaf and the last inner record beside it
 pub record SparesKey (tree : Tree) (old linked : List ℕ) (key at over : ℕ) (whole rest : Shape) (free_leaves free_inner : List ℕ) : Type 0 where
@@ -215,60 +212,39 @@ pub record SparesKey (tree : Tree) (old linked : List ℕ) (key at over : ℕ) (
   pub keys : IsPermutation (keys_of whole) (key ∷ keys_of rest)
   pub others : StaysOutside tree old linked
 
-module _ {tree : Tree} {n : ℕ} (fits : FitsTree tree n) (old : List ℕ) (path : List Frame) (free_leaves free_inner : List ℕ) (key at over bit : ℕ) (beside : Shape) (size : length old ≡ n) where
-  -- what is to be shown, where the last inner record is this one
-  abbrev pub SparesBy : Frame → Type 0
-  SparesBy frame =
-      IsTree tree old (Some (plug (frame ∷ path) (Leaf at key))) free_leaves free_inner → GoesBy key 0 (frame ∷ path)
-      → SparesKey tree old (slice_set old (slot_of tree.root path) (link_of beside)) key at over (plug (frame ∷ path) (Leaf at key)) (plug path beside) free_leaves free_inner
+-- The leaf is reached by way of this last inner record:
+module _ {tree : Tree} {n : ℕ} (fits : FitsTree tree n) (old : List ℕ) (path : List Frame) (frame : Frame) (free_leaves free_inner : List ℕ) (key at : ℕ) (size : length old ≡ n)
+    (lawful : IsTree tree old (Some (plug (frame ∷ path) (Leaf at key))) free_leaves free_inner) (goes : GoesBy key 0 (frame ∷ path)) where
+  -- the array with what stands beside the leaf linked in that record's place
+  abbrev linked_past : List ℕ
+  linked_past = slice_set old (slot_of tree.root path) (link_of (beside_in frame))
 
-  keys_left : (frame : Frame) → keys_along (frame ∷ path) ≡ keys_of beside ++ keys_along path → IsPermutation (keys_of (plug (frame ∷ path) (Leaf at key))) (key ∷ keys_of (plug path beside))
-  keys_left frame same = IsPermutation-trans _ _ _ (subst (λ ks. IsPermutation (keys_of (plug (frame ∷ path) (Leaf at key))) (key ∷ ks)) same (plug_keys (frame ∷ path) (Leaf at key))) (IsPermutation-cons key _ _ (IsPermutation-sym _ _ (plug_keys path beside)))
+  leaves_whole : IsPermutation (leaves_of (plug (frame ∷ path) (Leaf at key))) (at ∷ (leaves_of (beside_in frame) ++ leaves_along path))
+  leaves_whole = subst (λ ls. IsPermutation (leaves_of (plug (frame ∷ path) (Leaf at key))) (at ∷ ls)) (leaves_past frame path) (plug_leaves (frame ∷ path) (Leaf at key))
 
-  pub spares_zeros : SparesBy (OnZeros over bit beside)
-  spares_zeros lawful goes =
-      let open_up = opened old tree.root (OnZeros over bit beside ∷ path) (Leaf at key) lawful.rooted.0 lawful.rooted.1 in
-      let all = spared fits old (slice_set old (slot_of tree.root path) (link_of beside)) path (plug (OnZeros over bit beside ∷ path) (Leaf at key)) beside free_leaves free_inner at over (slot_of tree.root path) lawful size
-      (plug_leaves (OnZeros over bit beside ∷ path) (Leaf at key)) (plug_forks (OnZeros over bit beside ∷ path) (Leaf at key)) refl refl
-      open_up.0.4 open_up.0.2 (radix_past_zeros path key at over bit beside lawful.rooted.2 goes.2) in
-      record { spare = all.0; keys = keys_left (OnZeros over bit beside) refl; others = all.1 }
+  forks_whole : IsPermutation (forks_of (plug (frame ∷ path) (Leaf at key))) (place_in frame ∷ (forks_of (beside_in frame) ++ forks_along path))
+  forks_whole = subst (λ fs. IsPermutation (forks_of (plug (frame ∷ path) (Leaf at key))) fs) (forks_past frame path) (plug_forks (frame ∷ path) (Leaf at key))
 
-  pub spares_ones : SparesBy (OnOnes over bit beside)
-  spares_ones lawful goes =
-      let open_up = opened old tree.root (OnOnes over bit beside ∷ path) (Leaf at key) lawful.rooted.0 lawful.rooted.1 in
-      let all = spared fits old (slice_set old (slot_of tree.root path) (link_of beside)) path (plug (OnOnes over bit beside ∷ path) (Leaf at key)) beside free_leaves free_inner at over (slot_of tree.root path) lawful size
-      (plug_leaves (OnOnes over bit beside ∷ path) (Leaf at key)) (plug_forks (OnOnes over bit beside ∷ path) (Leaf at key)) refl refl
-      open_up.0.4 open_up.0.2 (radix_past_ones path key at over bit beside lawful.rooted.2 goes.2) in
-      record { spare = all.0; keys = keys_left (OnOnes over bit beside) refl; others = all.1 }
+  keys_whole : IsPermutation (keys_of (plug (frame ∷ path) (Leaf at key))) (key ∷ (keys_of (beside_in frame) ++ keys_along path))
+  keys_whole = subst (λ ks. IsPermutation (keys_of (plug (frame ∷ path) (Leaf at key))) (key ∷ ks)) (keys_past frame path) (plug_keys (frame ∷ path) (Leaf at key))
 
-module _ {tree : Tree} {n : ℕ} (fits : FitsTree tree n) (old middle new : List ℕ) (path : List Frame) (free_leaves free_inner : List ℕ) (key at over bit : ℕ) (beside : Shape) (size : length old ≡ n) where
-  -- what is to be shown, where the last inner record is this one
-  abbrev pub DropsBy : Frame → Type 0
-  DropsBy frame =
-      IsTree tree old (Some (plug (frame ∷ path) (Leaf at key))) free_leaves free_inner → GoesBy key 0 (frame ∷ path)
-      → Gives tree.inner over free_inner (forks_of (plug (frame ∷ path) (Leaf at key))) (slice_set old (slot_of tree.root path) (link_of beside)) middle
-      → Gives tree.leaves at free_leaves (leaves_of (plug (frame ∷ path) (Leaf at key))) middle new
-      → Drops tree key (Some (plug (frame ∷ path) (Leaf at key))) free_leaves free_inner old new
+  held_past : Holds old (beside_in frame) × Along old tree.root path
+  held_past = holds_past old tree.root frame path (opened old tree.root (frame ∷ path) (Leaf at key) lawful.rooted.0 lawful.rooted.1).0
 
-  pub drops_zeros : DropsBy (OnZeros over bit beside)
-  drops_zeros lawful goes gives_inner gives_leaf =
-      let open_up = opened old tree.root (OnZeros over bit beside ∷ path) (Leaf at key) lawful.rooted.0 lawful.rooted.1 in
-      let radix = lawful.rooted.2 in
-      drops fits old (slice_set old (slot_of tree.root path) (link_of beside)) path (plug (OnZeros over bit beside ∷ path) (Leaf at key)) beside free_leaves free_inner at over (slot_of tree.root path) lawful size
-      (plug_leaves (OnZeros over bit beside ∷ path) (Leaf at key)) (plug_forks (OnZeros over bit beside ∷ path) (Leaf at key)) refl refl middle new gives_inner gives_leaf
-      key open_up.0.4 open_up.0.2
-      (radix_past_zeros path key at over bit beside radix goes.2)
-      (plug_keys (OnZeros over bit beside ∷ path) (Leaf at key)) (record { path = path; part = beside; bit = bit; without = refl; with_leaf = inl refl })
+  radix_whole : IsRadix 64 (plug path (beside_in frame))
+  radix_whole = radix_past key at frame path lawful.rooted.2 goes
 
-  pub drops_ones : DropsBy (OnOnes over bit beside)
-  drops_ones lawful goes gives_inner gives_leaf =
-      let open_up = opened old tree.root (OnOnes over bit beside ∷ path) (Leaf at key) lawful.rooted.0 lawful.rooted.1 in
-      let radix = lawful.rooted.2 in
-      drops fits old (slice_set old (slot_of tree.root path) (link_of beside)) path (plug (OnOnes over bit beside ∷ path) (Leaf at key)) beside free_leaves free_inner at over (slot_of tree.root path) lawful size
-      (plug_leaves (OnOnes over bit beside ∷ path) (Leaf at key)) (plug_forks (OnOnes over bit beside ∷ path) (Leaf at key)) refl refl middle new gives_inner gives_leaf
-      key open_up.0.4 open_up.0.2
-      (radix_past_ones path key at over bit beside radix goes.2)
-      (plug_keys (OnOnes over bit beside ∷ path) (Leaf at key)) (record { path = path; part = beside; bit = bit; without = refl; with_leaf = inr refl })
+  pub spares_leaf : SparesKey tree old linked_past key at (place_in frame) (plug (frame ∷ path) (Leaf at key)) (plug path (beside_in frame)) free_leaves free_inner
+  spares_leaf =
+      let all = spared fits old linked_past path (plug (frame ∷ path) (Leaf at key)) (beside_in frame) free_leaves free_inner at (place_in frame) (slot_of tree.root path) lawful size leaves_whole forks_whole refl refl held_past.1 held_past.0 radix_whole in
+      record { spare = all.0; keys = IsPermutation-trans _ _ _ keys_whole (IsPermutation-cons key _ _ (IsPermutation-sym _ _ (plug_keys path (beside_in frame)))); others = all.1 }
+
+  -- where both records are given back
+  pub drops_leaf : (middle new : List ℕ) → Gives tree.inner (place_in frame) free_inner (forks_of (plug (frame ∷ path) (Leaf at key))) linked_past middle
+      → Gives tree.leaves at free_leaves (leaves_of (plug (frame ∷ path) (Leaf at key))) middle new → Drops tree key (Some (plug (frame ∷ path) (Leaf at key))) free_leaves free_inner old new
+  drops_leaf middle new gives_inner gives_leaf =
+      drops fits old linked_past path (plug (frame ∷ path) (Leaf at key)) (beside_in frame) free_leaves free_inner at (place_in frame) (slot_of tree.root path) lawful size leaves_whole forks_whole refl refl
+      middle new gives_inner gives_leaf key held_past.1 held_past.0 radix_whole keys_whole (more_past key at frame path)
 
 -- without an inner record the tree is emptied
 pub drops_last : {tree : Tree} {n : ℕ} → FitsTree tree n → (old middle new free_leaves free_inner : List ℕ) (key at : ℕ) → length old ≡ n → IsTree tree old (Some (Leaf at key)) free_leaves free_inner → middle ≡ slice_set old tree.root 0 → Gives tree.leaves at free_leaves (at ∷ []) middle new → Drops tree key (Some (Leaf at key)) free_leaves free_inner old new
@@ -280,16 +256,6 @@ drops_last {tree} {n} fits old middle new free_leaves free_inner key at size law
     let changes : ChangesOnly (tree.root ∷ []) old middle = subst (λ x. ChangesOnly (tree.root ∷ []) old x) (sym emptied) (changes_more tree.root 0 changes_none) in
     let of_leaves = own_outside_leaves fits [] [] tree.root leafs forks root_own in
     let of_inner = own_outside_inner fits [] [] tree.root leafs forks root_own in
-    let header : (j : ℕ) → j < 2 → IsOutsidePool tree.inner (tree.leaves.base + j) = λ j small. record {
-      first = omega (arith, fits.headers.header, small);
-      live = omega (arith, fits.headers.header, small);
-      links = λ x r. omega (arith, (fits.records x r).header, fits.inner_size, small);
-    } in
-    let leaf_link : IsOutsidePool tree.inner (at + 1) = record {
-      first = omega (arith, fits.headers.records at at_is, fits.leaf_size);
-      live = omega (arith, fits.headers.records at at_is, fits.leaf_size);
-      links = λ x r. omega (arith, (fits.records x r).records at at_is, fits.leaf_size, fits.inner_size);
-    } in
     record {
       before = Leaf at key;
       was = refl;
@@ -300,9 +266,7 @@ drops_last {tree} {n} fits old middle new free_leaves free_inner key at size law
       keys = IsPermutation-refl (key ∷ []);
       lawful = record {
         leaves = pool_given (at ∷ []) [] at lawful.leaves (IsPermutation-refl (at ∷ [])) gives;
-        inner = pool_stays (same_pool {words = (at + 1) ∷ tree.leaves.base ∷ (tree.leaves.base + 1) ∷ []}
-            (leaf_link, (subst (IsOutsidePool tree.inner) (let sum : tree.leaves.base + 0 ≡ tree.leaves.base = omega arith in sum) (header 0 (omega arith)), (header 1 (omega arith), tt))) gives.changes)
-            (pool_stays (same_pool {words = tree.root ∷ []} (of_inner, tt) changes) lawful.inner);
+        inner = given_stays gives (leaf_header_beside fits) (leaf_beside fits at at_is) fits.leaves.size fits.inner.size (pool_stays (same_pool {words = tree.root ∷ []} (of_inner, tt) changes) lawful.inner);
         rooted = gives.changes.others tree.root (of_leaves.links at at_is, (of_leaves.first, (of_leaves.live, tt))) ∙ ap (λ x. slice_index x tree.root) emptied ∙ get_or-set_same old tree.root 0 0 (omega (arith, fits.root, size));
       };
       others = record {

@@ -1,7 +1,10 @@
 -- What the walks of `next` found, in a lawful tree.
-use Rattle.std.proofs.Common.{◌≡◌, ◌≢◌, ℕ, ◌+◌, ◌/◌, ◌^◌, ◌<◌, ◌≤◌, IfSome, inl, inr, List, [], ◌∷◌, ◌++◌, Contains, Option, Some, None, unwrap_or, slice_index, refl, sym, ap, ◌∙◌, subst, arith}
+use Rattle.std.proofs.Common.{◌≡◌, ◌≢◌, ℕ, ◌+◌, ◌/◌, ◌^◌, ◌<◌, ◌≤◌, IfSome, inl, inr, List, [], ◌∷◌, ◌++◌, length, Contains, Option, Some, None, unwrap_or, slice_index, refl, sym, ap, ◌∙◌, subst, arith}
 use Rattle.std.proofs.lemmas.Bool.{cases_order}
 use Rattle.std.proofs.lemmas.List.Elements.{All-contains, All-from_recursion, All-nil, Contains-append_left, Contains-append_right}
+use Rattle.word_space.specs.Sights.{WordsSight, IsBelow, shown}
+use Rattle.word_space.specs.Steps.{WordsUsed}
+use Rattle.word_space.proofs.Runs.{below_before, length_shown, shown_same}
 use Rattle.record_heap.specs.Pool.{IsPool, IsRecord}
 use Rattle.record_heap.proofs.Records.{each_is_record}
 use Rattle.tree_index.specs.declared.tree.NearestLeaf.{NearestLeaf}
@@ -12,10 +15,9 @@ use Rattle.tree_index.specs.declared.tree.Tree.{Tree}
 use Rattle.tree_index.specs.Shape.{Shape, Leaf, Fork, IsRadix, forks_of, keys_in, keys_of, leaves_of, least_of, link_of}
 use Rattle.tree_index.specs.Tree.{FindsNext, FitsTree, IsNext, IsTree}
 use Rattle.tree_index.specs.Path.{Frame, OnZeros, OnOnes, GoesBy, plug, over_of, slot_of, turn_of}
-use Rattle.tree_index.specs.Walk.{EndsBelow, FindsLeast, FitsPosition, HasRecords, IsBelowFrom, IsFrom, IsHeld, IsIn, IsUnder, LeadsTo, Passes, PlacesBeside, Reaches, StaysAtRoot, WalksAlong, WalksTo}
+use Rattle.tree_index.specs.Walk.{EndsBelow, FindsLeast, FindsNearest, FitsPosition, FitsTrail, HasRecords, IsBelowFrom, IsFrom, IsHeld, IsIn, IsUnder, LeadsTo, Passes, PlacesBeside, Reaches, StaysAtRoot, WalksAlong, WalksTo}
 use Rattle.tree_index.proofs.Frees.{none_is_not}
 use Rattle.tree_index.proofs.Nexts.{next_above, next_below, next_here, turn_key}
-use Rattle.tree_index.proofs.Walks.{passed_by}
 use Rattle.tree_index.proofs.Shapes.{first_among, other_among, radix_inside, radix_more, reached_key, reach_along}
 
 -- ---- the records of a lawful tree
@@ -51,8 +53,8 @@ leaf_of tree words key position path (Fork at bit zeros ones) here held ends = a
 -- it is the leaf to which the key leads
 pub near_leaf : (tree : Tree) (words : List ℕ) (key : ℕ) (shape : Shape) (position : TreePosition) → Reaches tree key 0 words shape position → IsRecord tree.leaves position.link × (slice_index words position.link ≡ reached_key key shape)
 near_leaf tree words key shape position r =
-    let leaf = leaf_of tree words key position r.path r.part r.at r.held r.ends in
-    (leaf.0, leaf.1 ∙ sym (reach_along key 0 r.path r.part r.steps) ∙ ap (λ s. reached_key key s) (sym r.is))
+    let leaf = leaf_of tree words key position r.passes.path r.passes.part r.passes.at r.passes.held r.ends in
+    (leaf.0, leaf.1 ∙ sym (reach_along key 0 r.passes.path r.passes.part r.passes.steps) ∙ ap (λ s. reached_key key s) (sym r.passes.is))
 
 -- a walk that led to no leaf found no tree
 pub no_tree : {tree : Tree} {words : List ℕ} {key : ℕ} {trail : Trail} → WalksAlong tree key 0 words trail → (IsRecord tree.leaves trail.last.link → ⊥) → (whole : Shape) → ¬ IsIn tree words whole
@@ -117,12 +119,7 @@ steps_from {tree} {key = key} floor there high passes =
 -- with such a bit over a position, or none, a walk down to `floor` passes it
 placed : {tree : Tree} {words : List ℕ} {key : ℕ} {whole : Shape} {position : TreePosition} (floor : ℕ) → IsIn tree words whole → IsFrom floor position → (passes : Passes tree key 0 words whole position) → EndsBelow floor passes.part → Reaches tree key floor words whole position
 placed floor there high passes ends = record {
-  path = passes.path;
-  part = passes.part;
-  is = passes.is;
-  at = passes.at;
-  steps = steps_from floor there high passes;
-  held = passes.held;
+  passes = record { path = passes.path; part = passes.part; is = passes.is; at = passes.at; steps = steps_from floor there high passes; held = passes.held };
   ends = ends;
 }
 
@@ -130,7 +127,7 @@ placed floor there high passes ends = record {
 pub stays_placed : {tree : Tree} {words : List ℕ} {key : ℕ} {near : NearestLeaf} (floor : ℕ) → IsFrom floor near.trail.last → PlacesBeside tree key floor near words near.trail.last
 stays_placed floor high = λ leads whole there.
     let reached = (leads.walk whole there).last in
-    placed floor there high (passed_by reached) (leaf_ends floor reached.part reached.ends)
+    placed floor there high reached.passes (leaf_ends floor reached.passes.part reached.ends)
 
 fork_ends : {tree : Tree} {n : ℕ} → FitsTree tree n → (words : List ℕ) (floor at : ℕ) (shape : Shape) → IsHeld tree words shape → at ≡ link_of shape → IsRecord tree.inner at → slice_index words at < floor → EndsBelow floor shape
 fork_ends {tree} fits words floor at (Leaf place key) held here inner low = tt
@@ -179,54 +176,103 @@ turned_at tree words word (OnOnes at bit zeros ∷ path) shape turns held radix 
     let rest = turned_at tree words word path (Fork at bit zeros shape) turns held radix in
     record { ones = rest.ones; is = rest.is; link = rest.link; held = rest.held; radix = rest.radix }
 
-module _ {tree : Tree} {words : List ℕ} {key : ℕ} {near : NearestLeaf} (d : ℕ) (leads : LeadsTo tree key words near)
-    (above : key / 2 ^ (d + 1) ≡ near.key / 2 ^ (d + 1)) (here : key / 2 ^ d ≢ near.key / 2 ^ d) (again : TreePosition)
-    (walk : WalksTo tree key (d + 1) words again) where
-  -- the leaf to which the key leads is in what the second walk reached
-  same_leaf : (shape : Shape) → IsIn tree words shape → (r : Reaches tree key (d + 1) words shape again) → near.key ≡ reached_key key r.part
-  same_leaf shape there r = near_key shape there leads ∙ ap (λ s. reached_key key s) r.is ∙ reach_along key (d + 1) r.path r.part r.steps
+-- ---- what `nearest` and `place` told, seen over an array below the words after them
+
+-- behind reads alone the words are seen as before
+pub seen_unchanged : {S : Type 0} {sight : S → WordsSight} {turns_into : S → S → Type 0} {reads : ℕ} {old new : S} → WordsUsed sight turns_into reads 0 None old new → (P : List ℕ → List ℕ → Type 0)
+    → ((array : List ℕ) → IsBelow (sight new) array → P (shown (sight old) array) (shown (sight old) array)) → (array : List ℕ) → IsBelow (sight new) array → P (shown (sight old) array) (shown (sight new) array)
+seen_unchanged {sight = sight} {old = old} used P seen array below = subst (λ ws. P (shown (sight old) array) ws) (sym (shown_same used array)) (seen array below)
+
+-- the trail found was told to fit as many words as there are
+pub trail_fits : (tree : Tree) {n m : ℕ} {found : Option NearestLeaf} {near : NearestLeaf} → m ≡ n → found ≡ Some near → IfSome found (λ near. FitsTrail tree n near.trail) → FitsTrail tree m near.trail
+trail_fits tree {n} {near = near} same is fits = subst (λ k. FitsTrail tree k near.trail) (sym same) (subst (λ o. IfSome o (λ (near : NearestLeaf). FitsTrail tree n near.trail)) is fits)
+
+-- A key that isn't there has its place: the highest bit in which it differs from the key to which its bits lead, and the position
+-- where a walk for it down to that bit ends.
+pub record IsPlaced (tree : Tree) (key bit : ℕ) (near : NearestLeaf) (position : TreePosition) (n : ℕ) (words : List ℕ) : Type 0 where
+  pub size : length words ≡ n
+  pub leads : LeadsTo tree key words near
+  pub small : bit < 64
+  pub above : key / 2 ^ (bit + 1) ≡ near.key / 2 ^ (bit + 1)
+  pub differs : key / 2 ^ bit ≢ near.key / 2 ^ bit
+  pub walk : WalksTo tree key (bit + 1) words position
+
+module _ {S : Type 0} {sight : S → WordsSight} {turns_into : S → S → Type 0} (tree : Tree) (key : ℕ) {reads : ℕ} {found : Option NearestLeaf} {near : NearestLeaf} {old middle : S}
+    (used : WordsUsed sight turns_into reads 0 None old middle) (is : found ≡ Some near)
+    (nearest : (array : List ℕ) → IsBelow (sight middle) array → FindsNearest tree key (shown (sight old) array) found) where
+  pub near_leads : (array : List ℕ) → IsBelow (sight middle) array → LeadsTo tree key (shown (sight old) array) near
+  near_leads array below = subst (λ o. FindsNearest tree key (shown (sight old) array) o) is (nearest array below)
+
+  pub placed_by : {more : ℕ} {new : S} (bit : ℕ) (position : TreePosition) → WordsUsed sight turns_into more 0 None middle new
+      → ((array : List ℕ) → IsBelow (sight new) array → PlacesBeside tree key (bit + 1) near (shown (sight middle) array) position)
+      → bit < 64 → key / 2 ^ (bit + 1) ≡ near.key / 2 ^ (bit + 1) → key / 2 ^ bit ≢ near.key / 2 ^ bit
+      → (array : List ℕ) → IsBelow (sight new) array → IsPlaced tree key bit near position (sight old).count (shown (sight old) array)
+  placed_by bit position walked places small above differs array below =
+      let below_near = below_before walked below in
+      let leads = near_leads array below_near in
+      let same = shown_same used array in
+      record {
+        size = length_shown (below_before used below_near);
+        leads = leads;
+        small = small;
+        above = above;
+        differs = differs;
+        walk = subst (λ ws. WalksTo tree key (bit + 1) ws position) same (places array below (subst (λ ws. LeadsTo tree key ws near) (sym same) leads));
+      }
+
+-- Where a key has its place, the key to which its bits lead is in what the walk reached, and is its next one by it.
+module _ {tree : Tree} {words : List ℕ} {key d n : ℕ} {near : NearestLeaf} {again : TreePosition} (place : IsPlaced tree key d near again n words) where
+  same_leaf : (shape : Shape) → IsIn tree words shape → (r : Reaches tree key (d + 1) words shape again) → near.key ≡ reached_key key r.passes.part
+  same_leaf shape there r = near_key shape there place.leads ∙ ap (λ s. reached_key key s) r.passes.is ∙ reach_along key (d + 1) r.passes.path r.passes.part r.passes.steps
+
+  -- the key and what was reached agree above the bit, and differ from it on
+  pub agrees_above : (shape : Shape) → IsIn tree words shape → (r : Reaches tree key (d + 1) words shape again) → key / 2 ^ (d + 1) ≡ reached_key key r.passes.part / 2 ^ (d + 1)
+  agrees_above shape there r = place.above ∙ ap (λ y. y / 2 ^ (d + 1)) (same_leaf shape there r)
+
+  pub differs_here : (shape : Shape) → IsIn tree words shape → (r : Reaches tree key (d + 1) words shape again) → key / 2 ^ d ≢ reached_key key r.passes.part / 2 ^ d
+  differs_here shape there r e = place.differs (e ∙ ap (λ y. y / 2 ^ d) (sym (same_leaf shape there r)))
 
   less_in : {free_leaves free_inner : List ℕ} (shape : Option Shape) → IsTree tree words shape free_leaves free_inner → key < near.key → (r : Option ℕ) → FindsLeast tree again.link words r → IsNext (keys_in shape) key r
-  less_in None lawful less r finds = absurd (leads.some lawful.rooted)
+  less_in None lawful less r finds = absurd (place.leads.some lawful.rooted)
   less_in (Some shape) lawful less r finds =
       let there = tree_in shape lawful in
-      let reached = walk shape there in
+      let reached = place.walk shape there in
       let same = same_leaf shape there reached in
-      let radix = subst (IsRadix 64) reached.is there.radix in
-      subst (λ o. IsNext (keys_of shape) key o) (sym (finds reached.part reached.held (radix_inside 64 reached.path reached.part radix) (ap (λ (p : TreePosition). p.link) reached.at)))
-      (subst (λ s. IsNext (keys_of s) key (Some (least_of reached.part))) (sym reached.is)
-      (next_below key d 64 reached.path reached.part radix reached.steps reached.ends (above ∙ ap (λ y. y / 2 ^ (d + 1)) same) (λ e. here (e ∙ ap (λ y. y / 2 ^ d) (sym same))) (subst (λ y. key < y) same less)))
+      let radix = subst (IsRadix 64) reached.passes.is there.radix in
+      subst (λ o. IsNext (keys_of shape) key o) (sym (finds reached.passes.part reached.passes.held (radix_inside 64 reached.passes.path reached.passes.part radix) (ap (λ (p : TreePosition). p.link) reached.passes.at)))
+      (subst (λ s. IsNext (keys_of s) key (Some (least_of reached.passes.part))) (sym reached.passes.is)
+      (next_below key d 64 reached.passes.path reached.passes.part radix reached.passes.steps reached.ends (agrees_above shape there reached) (differs_here shape there reached) (subst (λ y. key < y) same less)))
 
   -- the key is less than the one that it leads to
   pub next_less : key < near.key → (r : Option ℕ) → FindsLeast tree again.link words r → FindsNext tree key words r
   next_less less r finds = λ shape free_leaves free_inner lawful. less_in shape lawful less r finds
 
-  more_turns : (shape : Shape) → IsIn tree words shape → (key < near.key → ⊥) → (reached : Reaches tree key (d + 1) words shape again) → IsNext (keys_of shape) key (turn_key reached.path)
+  more_turns : (shape : Shape) → IsIn tree words shape → (key < near.key → ⊥) → (reached : Reaches tree key (d + 1) words shape again) → IsNext (keys_of shape) key (turn_key reached.passes.path)
   more_turns shape there more reached =
       let same = same_leaf shape there reached in
-      let less : near.key < key = elim (cases_order key near.key) [ inl e ↦ absurd (here (ap (λ y. y / 2 ^ d) e)) | inr o ↦ elim o [ inl lt ↦ absurd (more lt) | inr gt ↦ gt ] ] in
-      subst (λ s. IsNext (keys_of s) key (turn_key reached.path)) (sym reached.is)
-      (next_above key d 64 reached.path reached.part (subst (IsRadix 64) reached.is there.radix) reached.steps reached.ends (above ∙ ap (λ y. y / 2 ^ (d + 1)) same) (λ e. here (e ∙ ap (λ y. y / 2 ^ d) (sym same))) (subst (λ y. y < key) same less))
+      let less : near.key < key = elim (cases_order key near.key) [ inl e ↦ absurd (place.differs (ap (λ y. y / 2 ^ d) e)) | inr o ↦ elim o [ inl lt ↦ absurd (more lt) | inr gt ↦ gt ] ] in
+      subst (λ s. IsNext (keys_of s) key (turn_key reached.passes.path)) (sym reached.passes.is)
+      (next_above key d 64 reached.passes.path reached.passes.part (subst (IsRadix 64) reached.passes.is there.radix) reached.passes.steps reached.ends (agrees_above shape there reached) (differs_here shape there reached) (subst (λ y. y < key) same less))
 
   no_turn_in : {free_leaves free_inner : List ℕ} (shape : Option Shape) → IsTree tree words shape free_leaves free_inner → (key < near.key → ⊥) → again.turn ≡ None → IsNext (keys_in shape) key None
-  no_turn_in None lawful more none = absurd (leads.some lawful.rooted)
+  no_turn_in None lawful more none = absurd (place.leads.some lawful.rooted)
   no_turn_in (Some shape) lawful more none =
       let there = tree_in shape lawful in
-      let reached = walk shape there in
-      subst (λ o. IsNext (keys_of shape) key o) (no_turn reached.path (sym (ap (λ (p : TreePosition). p.turn) reached.at) ∙ none)) (more_turns shape there more reached)
+      let reached = place.walk shape there in
+      subst (λ o. IsNext (keys_of shape) key o) (no_turn reached.passes.path (sym (ap (λ (p : TreePosition). p.turn) reached.passes.at) ∙ none)) (more_turns shape there more reached)
 
   -- it is greater, and the walk made no turn to the zeros
   pub next_no_turn : (key < near.key → ⊥) → again.turn ≡ None → FindsNext tree key words None
   next_no_turn more none = λ shape free_leaves free_inner lawful. no_turn_in shape lawful more none
 
   turn_in : {free_leaves free_inner : List ℕ} (shape : Option Shape) → IsTree tree words shape free_leaves free_inner → (key < near.key → ⊥) → (word : ℕ) → again.turn ≡ Some word → (link : ℕ) → link ≡ slice_index words word → (r : Option ℕ) → FindsLeast tree link words r → IsNext (keys_in shape) key r
-  turn_in None lawful more word turns link read r finds = absurd (leads.some lawful.rooted)
+  turn_in None lawful more word turns link read r finds = absurd (place.leads.some lawful.rooted)
   turn_in (Some shape) lawful more word turns link read r finds =
       let there = tree_in shape lawful in
-      let reached = walk shape there in
-      let whole : IsHeld tree words (plug reached.path reached.part) = subst (IsHeld tree words) reached.is there.held in
-      let radix = subst (IsRadix 64) reached.is there.radix in
-      let turned = turned_at tree words word reached.path reached.part (sym (ap (λ (p : TreePosition). p.turn) reached.at) ∙ turns) whole radix in
+      let reached = place.walk shape there in
+      let whole : IsHeld tree words (plug reached.passes.path reached.passes.part) = subst (IsHeld tree words) reached.passes.is there.held in
+      let radix = subst (IsRadix 64) reached.passes.is there.radix in
+      let turned = turned_at tree words word reached.passes.path reached.passes.part (sym (ap (λ (p : TreePosition). p.turn) reached.passes.at) ∙ turns) whole radix in
       subst (λ o. IsNext (keys_of shape) key o) (turned.is ∙ sym (finds turned.ones turned.held turned.radix (read ∙ turned.link))) (more_turns shape there more reached)
 
   -- or it made one

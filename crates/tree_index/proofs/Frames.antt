@@ -1,14 +1,16 @@
 -- A tree stays where none of the words that it uses changes.
-use Rattle.std.proofs.Common.{◌≡◌, ℕ, ◌+◌, ◌<◌, inl, inr, List, [], ◌∷◌, Contains, Option, Some, None, slice_index, sym, ap, ◌∙◌, arith}
+use Rattle.std.proofs.Common.{◌≡◌, ℕ, ◌+◌, ◌<◌, ◌≤◌, inl, inr, List, [], ◌∷◌, Contains, Option, Some, None, slice_index, sym, ap, ◌∙◌, arith}
 use Rattle.std.specs.List.{AllByRecursion}
+use Rattle.record_heap.specs.declared.pool.Pool.{Pool}
 use Rattle.record_heap.specs.Changes.{ChangesOnly}
 use Rattle.record_heap.specs.Pool.{IsRecord}
 use Rattle.record_heap.proofs.Frames.{IsOutsidePool, SamePool, none_of, pool_stays, same_pool, same_pool-then}
 use Rattle.tree_index.specs.declared.tree.Tree.{Tree}
 use Rattle.tree_index.specs.Shape.{Shape, forks_of, leaves_of}
-use Rattle.tree_index.specs.Tree.{FitsTree, IsOutside, IsTree}
+use Rattle.tree_index.specs.Tree.{FitsTree, IsBeside, IsOutside, IsTree}
 use Rattle.tree_index.proofs.Apart.{IsOf, holds_same}
 use Rattle.tree_index.proofs.Found.{taken_record}
+use Rattle.tree_index.proofs.Frees.{beside_outside}
 
 -- the words that a tree uses are the same in both arrays: those of the two pools, the root's, and those of the records
 pub record SameTree (tree : Tree) (a b : List ℕ) : Type 0 where
@@ -45,25 +47,16 @@ tree_stays {tree} {a} {b} (Some shape) same lawful = record {
   );
 }
 
-outside_leaves : {tree : Tree} {n : ℕ} → FitsTree tree n → (words : List ℕ) → AllByRecursion (IsOutside tree) words → AllByRecursion (IsOutsidePool tree.leaves) words
-outside_leaves fits [] all = tt
-outside_leaves fits (w ∷ words) all = (
-  record { first = omega (arith, all.0.leaves.header); live = omega (arith, all.0.leaves.header); links = λ x r. omega (arith, all.0.leaves.records x r, fits.leaf_size) },
-  outside_leaves fits words all.1,
-)
-
-outside_inner : {tree : Tree} {n : ℕ} → FitsTree tree n → (words : List ℕ) → AllByRecursion (IsOutside tree) words → AllByRecursion (IsOutsidePool tree.inner) words
-outside_inner fits [] all = tt
-outside_inner fits (w ∷ words) all = (
-  record { first = omega (arith, all.0.inner.header); live = omega (arith, all.0.inner.header); links = λ x r. omega (arith, all.0.inner.records x r, fits.inner_size) },
-  outside_inner fits words all.1,
-)
+-- words beside a pool are outside it
+all_outside : {tree : Tree} (pool : Pool) → 2 ≤ pool.size → ((w : ℕ) → IsOutside tree w → IsBeside pool w 1) → (words : List ℕ) → AllByRecursion (IsOutside tree) words → AllByRecursion (IsOutsidePool pool) words
+all_outside pool wide beside [] all = tt
+all_outside pool wide beside (w ∷ words) all = (beside_outside (beside w all.0) wide 0 (omega arith) (omega arith), all_outside pool wide beside words all.1)
 
 -- only words change that the tree doesn't use
 pub same_tree : {tree : Tree} {n : ℕ} {words a b : List ℕ} → FitsTree tree n → AllByRecursion (IsOutside tree) words → ChangesOnly words a b → SameTree tree a b
 same_tree {tree} {n} {words} fits outside changes = record {
-  leaves = same_pool (outside_leaves fits words outside) changes;
-  inner = same_pool (outside_inner fits words outside) changes;
+  leaves = same_pool (all_outside tree.leaves fits.leaves.size (λ w o. o.leaves) words outside) changes;
+  inner = same_pool (all_outside tree.inner fits.inner.size (λ w o. o.inner) words outside) changes;
   root = changes.others tree.root (none_of words tree.root (λ w (o : IsOutside tree w). o.root) outside);
   keys = λ x r. changes.others x (none_of words x (λ w (o : IsOutside tree w). omega (arith, o.leaves.records x r, fits.leaf_size)) outside);
   forks = λ x j r small. changes.others (x + j) (none_of words (x + j) (λ w (o : IsOutside tree w). omega (arith, o.inner.records x r, fits.inner_size, small)) outside);

@@ -3,7 +3,6 @@ use Rattle.std.proofs.Common.{◌≡◌, ◌≢◌, ℕ, ◌+◌, ◌-◌, ◌/�
 use Rattle.record_heap.specs.declared.pool.Pool.{Pool}
 use Rattle.record_heap.specs.Changes.{ChangesOnly}
 use Rattle.record_heap.specs.Pool.{IsPool, Takes}
-use Rattle.record_heap.proofs.Frames.{IsOutsidePool, pool_stays, same_pool}
 use Rattle.tree_index.specs.declared.tree.NearestLeaf.{NearestLeaf}
 use Rattle.tree_index.specs.declared.tree.TreePosition.{TreePosition}
 use Rattle.tree_index.specs.declared.tree.Tree.{Tree}
@@ -13,11 +12,11 @@ use Rattle.tree_index.specs.Linking.{PutsBeside, PutsBesideAll, StoresBeside, li
 use Rattle.tree_index.specs.Shape.{Shape, bit_of, forks_of, keys_in, keys_of, leaves_of, link_of}
 use Rattle.tree_index.specs.Tree.{FitsTree, Inserts, InsertsAll, IsRooted, IsTree, Stores}
 use Rattle.tree_index.specs.Path.{Frame, GoesBy, plug, slot_of}
-use Rattle.tree_index.specs.Walk.{EndsBelow, LeadsTo, Reaches, WalksTo}
-use Rattle.tree_index.proofs.Found.{near_key, tree_in}
-use Rattle.tree_index.proofs.Frees.{inner_stays, none_is_not}
+use Rattle.tree_index.specs.Walk.{EndsBelow, LeadsTo, Reaches}
+use Rattle.tree_index.proofs.Found.{IsPlaced, agrees_above, differs_here, near_key, tree_in}
+use Rattle.tree_index.proofs.Frees.{headed_stays, inner_stays, none_is_not}
 use Rattle.tree_index.proofs.Stored.{stores_ones, stores_zeros}
-use Rattle.tree_index.proofs.Shapes.{bit_small, reached_key, reach_along, reach_in, reach_there}
+use Rattle.tree_index.proofs.Shapes.{bit_small, reached_key, reach_in, reach_there}
 use Rattle.tree_index.proofs.Walks.{bit_cases}
 
 -- a record was taken
@@ -33,18 +32,6 @@ took pool taken at old new (x ∷ free) takes =
     let same : x ≡ at = sym (ap (λ o. unwrap_or o 0) takes.0) in
     record { left = free; first = ap (λ y. y ∷ free) same; lawful = subst (λ y. IsPool pool new free (y ∷ taken)) same takes.1; changes = takes.2 }
 
-header_outside_leaves : {tree : Tree} {n : ℕ} → FitsTree tree n → (k : ℕ) → k < 2 → IsOutsidePool tree.leaves (tree.inner.base + k)
-header_outside_leaves fits k small = record {
-  first = omega (arith, fits.headers.header, small);
-  live = omega (arith, fits.headers.header, small);
-  links = λ x r. omega (arith, fits.headers.records x r, fits.leaf_size, small);
-}
-
-leaves_stay : {tree : Tree} {n : ℕ} {free leaves old new : List ℕ} → FitsTree tree n → ChangesOnly (tree.inner.base ∷ (tree.inner.base + 1) ∷ []) old new → IsPool tree.leaves old free leaves → IsPool tree.leaves new free leaves
-leaves_stay {tree} fits changes lawful =
-    pool_stays (same_pool {words = tree.inner.base ∷ (tree.inner.base + 1) ∷ []}
-    (subst (λ i. IsOutsidePool tree.leaves i) (let sum : tree.inner.base + 0 ≡ tree.inner.base = omega arith in sum) (header_outside_leaves fits 0 (omega arith)), (header_outside_leaves fits 1 (omega arith), tt)) changes) lawful
-
 -- With a leaf and an inner record taken, which are linked at the position; all words but the headers' stand as before the taking:
 pub stored_from : {tree : Tree} {n : ℕ} → FitsTree tree n → (old second new : List ℕ) (path : List Frame) (rest : Shape) (free_leaves free_inner left_leaves left_inner : List ℕ) (key d leaf fork : ℕ) (position : TreePosition) → length old ≡ n → length second ≡ n → d < 64 → IsRooted old tree.root (Some (plug path rest)) → position.slot ≡ slot_of tree.root path → position.link ≡ link_of rest → GoesBy key (d + 1) path → EndsBelow (d + 1) rest → key / 2 ^ (d + 1) ≡ reached_key key rest / 2 ^ (d + 1) → key / 2 ^ d ≢ reached_key key rest / 2 ^ d
     → IsPool tree.leaves second left_leaves (leaf ∷ leaves_of (plug path rest)) → IsPool tree.inner second left_inner (fork ∷ forks_of (plug path rest))
@@ -55,10 +42,10 @@ stored_from {tree} {n} fits old second new path rest free_leaves free_inner left
     elim (bit_cases (bit_of key d) (bit_small key d)) [
       | inl none ↦ stores_zeros fits old second new path rest free_leaves free_inner left_leaves left_inner key d leaf fork 2 3 position.slot position.link rooted leaves inner took_both old_size size slot (omega arith) (omega arith) (omega arith) (omega arith) (omega arith)
           (wrote ∙ ap (λ x. put x (fork + 3 - bit_of key d)) (let sum : fork + 2 + bit_of key d ≡ fork + 2 = omega (arith, none) in sum) ∙ ap (λ y. put (fork + 2) y) (let sum : fork + 3 - bit_of key d ≡ fork + 3 = omega (arith, none) in sum))
-          small goes ends above differ none link refl refl took_leaf took_inner
+          small goes ends above differ link took_leaf took_inner none refl refl
       | inr one_bit ↦ stores_ones fits old second new path rest free_leaves free_inner left_leaves left_inner key d leaf fork 3 2 position.slot position.link rooted leaves inner took_both old_size size slot (omega arith) (omega arith) (omega arith) (omega arith) (omega arith)
           (wrote ∙ ap (λ x. put x (fork + 3 - bit_of key d)) (let sum : fork + 2 + bit_of key d ≡ fork + 3 = omega (arith, one_bit) in sum) ∙ ap (λ y. put (fork + 3) y) (let sum : fork + 3 - bit_of key d ≡ fork + 2 = omega (arith, one_bit) in sum))
-          small goes ends above differ one_bit link refl refl took_leaf took_inner
+          small goes ends above differ link took_leaf took_inner one_bit refl refl
     ]
 
 stored : {tree : Tree} {n : ℕ} → FitsTree tree n → (old new : List ℕ) (path : List Frame) (rest : Shape) (free_leaves free_inner : List ℕ) (key d : ℕ) (position : TreePosition) → length old ≡ n → d < 64 → IsTree tree old (Some (plug path rest)) free_leaves free_inner → position.slot ≡ slot_of tree.root path → position.link ≡ link_of rest → GoesBy key (d + 1) path → EndsBelow (d + 1) rest → key / 2 ^ (d + 1) ≡ reached_key key rest / 2 ^ (d + 1) → key / 2 ^ d ≢ reached_key key rest / 2 ^ d
@@ -67,7 +54,7 @@ stored {tree} {n} fits old new path rest free_leaves free_inner key d position s
     let one = took tree.leaves (leaves_of (plug path rest)) g.leaf old g.first free_leaves g.takes_leaf in
     let two = took tree.inner (forks_of (plug path rest)) g.fork g.first g.second free_inner (g.takes_inner (inner_stays fits g.leaf (leaves_of (plug path rest)) free_leaves g.takes_leaf lawful.inner)) in
     stored_from fits old g.second new path rest free_leaves free_inner one.left two.left key d g.leaf g.fork position size (two.changes.size ∙ one.changes.size ∙ size) small lawful.rooted slot link goes ends above differ
-    (leaves_stay fits two.changes one.lawful) two.lawful (λ i a b c e. two.changes.others i (c, (e, tt)) ∙ one.changes.others i (a, (b, tt))) one.first two.first g.wrote
+    (headed_stays fits.headers fits.leaves.size two.changes one.lawful) two.lawful (λ i a b c e. two.changes.others i (c, (e, tt)) ∙ one.changes.others i (a, (b, tt))) one.first two.first g.wrote
 
 -- the key was there
 there_in : {tree : Tree} {words free_leaves free_inner : List ℕ} {key : ℕ} {near : NearestLeaf} (shape : Option Shape) → IsTree tree words shape free_leaves free_inner → LeadsTo tree key words near → near.key ≡ key → Contains (keys_in shape) key
@@ -79,26 +66,24 @@ pub inserts_there : {tree : Tree} {words : List ℕ} {key : ℕ} {near : Nearest
 inserts_there leads same = λ shape free_leaves free_inner lawful. (there_in shape lawful leads same, refl)
 
 -- what `put_beside` did
-module _ {tree : Tree} {n : ℕ} {old : List ℕ} {key : ℕ} {near : NearestLeaf} (d : ℕ) (fits : FitsTree tree n) (size : length old ≡ n) (leads : LeadsTo tree key old near)
-    (small : d < 64) (above : key / 2 ^ (d + 1) ≡ near.key / 2 ^ (d + 1)) (here : key / 2 ^ d ≢ near.key / 2 ^ d) (again : TreePosition)
-    (walk : WalksTo tree key (d + 1) old again) (new : List ℕ) where
+module _ {tree : Tree} {old : List ℕ} {key d n : ℕ} {near : NearestLeaf} {again : TreePosition} (fits : FitsTree tree n) (place : IsPlaced tree key d near again n old) (new : List ℕ) where
   whole_inserts : (shape : Shape) (free_leaves free_inner : List ℕ) → IsTree tree old (Some shape) free_leaves free_inner → (put : TreePut) → PutsBeside tree key d again free_leaves (leaves_of shape) free_inner (forks_of shape) put old new → (reached : Reaches tree key (d + 1) old shape again) → Inserts tree key (Some shape) free_leaves free_inner put old new
   whole_inserts shape free_leaves free_inner lawful There done reached = absurd done
   whole_inserts shape free_leaves free_inner lawful Full done reached = (
-    (λ c. here (ap (λ y. y / 2 ^ d) (sym (reach_there key 64 shape lawful.rooted.2 c) ∙ sym (near_key shape (tree_in shape lawful) leads)))),
+    (λ c. place.differs (ap (λ y. y / 2 ^ d) (sym (reach_there key 64 shape lawful.rooted.2 c) ∙ sym (near_key shape (tree_in shape lawful) place.leads)))),
     elim done.0 [ inl none ↦ inl none | inr none ↦ inr ((λ e. none_is_not e), none) ],
     done.1,
   )
   whole_inserts shape free_leaves free_inner lawful Stored done reached =
-      let same : near.key ≡ reached_key key reached.part = near_key shape (tree_in shape lawful) leads ∙ ap (λ s. reached_key key s) reached.is ∙ reach_along key (d + 1) reached.path reached.part reached.steps in
-      subst (λ s. Stores tree key (Some s) free_leaves free_inner old new) (sym reached.is)
-      (stored fits old new reached.path reached.part free_leaves free_inner key d again size small (subst (λ s. IsTree tree old (Some s) free_leaves free_inner) reached.is lawful)
-      (ap (λ (p : TreePosition). p.slot) reached.at) (ap (λ (p : TreePosition). p.link) reached.at) reached.steps reached.ends (above ∙ ap (λ y. y / 2 ^ (d + 1)) same) (λ e. here (e ∙ ap (λ y. y / 2 ^ d) (sym same)))
-      (subst (λ s. StoresBeside tree key d again free_leaves (leaves_of s) free_inner (forks_of s) old new) reached.is done))
+      let there = tree_in shape lawful in
+      subst (λ s. Stores tree key (Some s) free_leaves free_inner old new) (sym reached.passes.is)
+      (stored fits old new reached.passes.path reached.passes.part free_leaves free_inner key d again place.size place.small (subst (λ s. IsTree tree old (Some s) free_leaves free_inner) reached.passes.is lawful)
+      (ap (λ (p : TreePosition). p.slot) reached.passes.at) (ap (λ (p : TreePosition). p.link) reached.passes.at) reached.passes.steps reached.ends (agrees_above place shape there reached) (differs_here place shape there reached)
+      (subst (λ s. StoresBeside tree key d again free_leaves (leaves_of s) free_inner (forks_of s) old new) reached.passes.is done))
 
   beside_in : (shape : Option Shape) (free_leaves free_inner : List ℕ) → IsTree tree old shape free_leaves free_inner → (put : TreePut) → PutsBesideAll tree key d again old new put → Inserts tree key shape free_leaves free_inner put old new
-  beside_in None free_leaves free_inner lawful put puts = absurd (leads.some lawful.rooted)
-  beside_in (Some shape) free_leaves free_inner lawful put puts = whole_inserts shape free_leaves free_inner lawful put (puts free_leaves (leaves_of shape) free_inner (forks_of shape) lawful.leaves lawful.inner) (walk shape (tree_in shape lawful))
+  beside_in None free_leaves free_inner lawful put puts = absurd (place.leads.some lawful.rooted)
+  beside_in (Some shape) free_leaves free_inner lawful put puts = whole_inserts shape free_leaves free_inner lawful put (puts free_leaves (leaves_of shape) free_inner (forks_of shape) lawful.leaves lawful.inner) (place.walk shape (tree_in shape lawful))
 
   pub inserts_beside : (put : TreePut) → PutsBesideAll tree key d again old new put → InsertsAll tree key old new put
   inserts_beside put puts = λ shape free_leaves free_inner lawful. beside_in shape free_leaves free_inner lawful put puts

@@ -18,8 +18,9 @@ use Rattle.tree_index.specs.Tree.{Drops, FitsTree, IsTree, RemovesAll}
 use Rattle.tree_index.specs.Path.{Frame, OnZeros, OnOnes, GoesBy, over_of, plug, slot_of}
 use Rattle.tree_index.specs.Walk.{EndsBelow, IsIn, LeadsTo}
 use Rattle.tree_index.proofs.Apart.{IsOwn, own_more, own_outside_inner, own_outside_leaves, slot_own}
-use Rattle.tree_index.proofs.Dropped.{drops_last, drops_ones, drops_zeros}
+use Rattle.tree_index.proofs.Dropped.{drops_last, drops_leaf}
 use Rattle.tree_index.proofs.Found.{near_key, no_shape, taken_record, tree_in}
+use Rattle.tree_index.proofs.Frees.{given_stays}
 use Rattle.tree_index.proofs.Paths.{first_differs, forks_along, leaves_along, opened, plug_forks, plug_leaves}
 use Rattle.tree_index.proofs.Shapes.{first_among, only_key, reached_key, reach_along, reach_there}
 
@@ -66,21 +67,6 @@ module _ {tree : Tree} {n : ℕ} (fits : FitsTree tree n) (old : List ℕ) (free
       let out = of_path i own in
       (pool_stays (same_pool {words = i ∷ []} (out.0, tt) (changes_more i v changes_none)) lawful.leaves, pool_stays (same_pool {words = i ∷ []} (out.1, tt) (changes_more i v changes_none)) lawful.inner)
 
--- giving an inner record back leaves the leaves as they were
-leaves_given : {tree : Tree} {n : ℕ} → FitsTree tree n → (over : ℕ) (free taken free_leaves leaves linked middle : List ℕ) → IsRecord tree.inner over → Gives tree.inner over free taken linked middle → IsPool tree.leaves linked free_leaves leaves → IsPool tree.leaves middle free_leaves leaves
-leaves_given {tree} fits over free taken free_leaves leaves linked middle over_is gives lawful =
-    let over_word : IsOutsidePool tree.leaves (over + 1) = record {
-      first = omega (arith, (fits.records over over_is).header, fits.inner_size);
-      live = omega (arith, (fits.records over over_is).header, fits.inner_size);
-      links = λ x r. omega (arith, (fits.records over over_is).records x r, fits.leaf_size, fits.inner_size);
-    } in
-    let header : (j : ℕ) → j < 2 → IsOutsidePool tree.leaves (tree.inner.base + j) = λ j small. record {
-      first = omega (arith, fits.headers.header, small);
-      live = omega (arith, fits.headers.header, small);
-      links = λ x r. omega (arith, fits.headers.records x r, fits.leaf_size, small);
-    } in
-    pool_stays (same_pool {words = (over + 1) ∷ tree.inner.base ∷ (tree.inner.base + 1) ∷ []} (over_word, (subst (IsOutsidePool tree.leaves) (let sum : tree.inner.base + 0 ≡ tree.inner.base = omega arith in sum) (header 0 (omega arith)), (header 1 (omega arith), tt))) gives.changes) lawful
-
 -- what `give` of the leaf does
 abbrev pub GivesLeaf : Tree → ℕ → List ℕ → List ℕ → Type 0
 GivesLeaf tree at middle new = (free taken : List ℕ) → IsPool tree.leaves middle free taken → ¬ Contains free at → Gives tree.leaves at free taken middle new
@@ -108,7 +94,7 @@ both_given {tree} fits old middle new free_leaves free_inner key at over bit sid
     (cuts free_inner (forks_of whole) (subst (λ x. IsPool tree.inner x free_inner (forks_of whole)) (sym linked) pools.1) (not_free free_inner (forks_of whole) (omega (arith, fits.inner_size)) lawful.inner over over_in)) in (
       inner_gives,
       gives free_leaves (leaves_of whole)
-          (leaves_given fits over free_inner (forks_of whole) free_leaves (leaves_of whole) (slice_set old slot (link_of beside)) middle (taken_record lawful.inner over over_in) inner_gives pools.0)
+          (given_stays inner_gives fits.headers (fits.records over (taken_record lawful.inner over over_in)) fits.inner.size fits.leaves.size pools.0)
           (not_free free_leaves (leaves_of whole) (omega (arith, fits.leaf_size)) lawful.leaves at at_in),
     )
 
@@ -121,12 +107,12 @@ dropped_leaf {tree} {n} fits old middle new free_leaves free_inner key at size (
     let open_up = opened old tree.root (OnZeros over bit beside ∷ path) (Leaf at key) lawful.rooted.0 lawful.rooted.1 in
     let link = ap (λ x. slice_index old x) (let sum : over + 3 - 0 ≡ over + 3 = omega arith in sum) ∙ open_up.0.1 in
     let both = both_given fits old middle new free_leaves free_inner key at over bit 0 (OnZeros over bit beside) path beside refl refl lawful link cuts gives in
-    drops_zeros fits old middle new path free_leaves free_inner key at over bit beside size lawful goes both.0 both.1
+    drops_leaf fits old path (OnZeros over bit beside) free_leaves free_inner key at size lawful goes middle new both.0 both.1
 dropped_leaf {tree} {n} fits old middle new free_leaves free_inner key at size (OnOnes over bit beside ∷ path) lawful goes cuts gives =
     let open_up = opened old tree.root (OnOnes over bit beside ∷ path) (Leaf at key) lawful.rooted.0 lawful.rooted.1 in
     let link = ap (λ x. slice_index old x) (let sum : over + 3 - 1 ≡ over + 2 = omega arith in sum) ∙ open_up.0.1 in
     let both = both_given fits old middle new free_leaves free_inner key at over bit 1 (OnOnes over bit beside) path beside refl refl lawful link cuts gives in
-    drops_ones fits old middle new path free_leaves free_inner key at over bit beside size lawful goes both.0 both.1
+    drops_leaf fits old path (OnOnes over bit beside) free_leaves free_inner key at size lawful goes middle new both.0 both.1
 
 dropped : {tree : Tree} {n : ℕ} → FitsTree tree n → (old middle new free_leaves free_inner : List ℕ) (key : ℕ) → length old ≡ n → (path : List Frame) (rest : Shape) → EndsBelow 0 rest → IsTree tree old (Some (plug path rest)) free_leaves free_inner → GoesBy key 0 path → reached_key key rest ≡ key → Unlinks tree (over_of tree.root path) old middle tt → GivesLeaf tree (link_of rest) middle new → Drops tree key (Some (plug path rest)) free_leaves free_inner old new
 dropped fits old middle new free_leaves free_inner key size path (Fork at bit zeros ones) ends lawful goes same cuts gives = absurd (omega (arith, ends))
@@ -140,10 +126,10 @@ there_in fits size leads same unlinks gives None free_leaves free_inner lawful =
 there_in {tree} {n} {key} {near} {old} {middle} {new} fits size leads same unlinks gives (Some shape) free_leaves free_inner lawful =
     let there = tree_in shape lawful in
     let reached = (leads.walk shape there).last in
-    let itself : reached_key key reached.part ≡ key = sym (near_key shape there leads ∙ ap (λ s. reached_key key s) reached.is ∙ reach_along key 0 reached.path reached.part reached.steps) ∙ same in
-    subst (λ s. Drops tree key (Some s) free_leaves free_inner old new) (sym reached.is)
-    (dropped fits old middle new free_leaves free_inner key size reached.path reached.part reached.ends (subst (λ s. IsTree tree old (Some s) free_leaves free_inner) reached.is lawful) reached.steps itself
-    (subst (λ o. Unlinks tree o old middle tt) (ap (λ (p : TreePosition). p.over) reached.at) unlinks) (subst (λ x. GivesLeaf tree x middle new) (ap (λ (p : TreePosition). p.link) reached.at) gives))
+    let itself : reached_key key reached.passes.part ≡ key = sym (near_key shape there leads ∙ ap (λ s. reached_key key s) reached.passes.is ∙ reach_along key 0 reached.passes.path reached.passes.part reached.passes.steps) ∙ same in
+    subst (λ s. Drops tree key (Some s) free_leaves free_inner old new) (sym reached.passes.is)
+    (dropped fits old middle new free_leaves free_inner key size reached.passes.path reached.passes.part reached.ends (subst (λ s. IsTree tree old (Some s) free_leaves free_inner) reached.passes.is lawful) reached.passes.steps itself
+    (subst (λ o. Unlinks tree o old middle tt) (ap (λ (p : TreePosition). p.over) reached.passes.at) unlinks) (subst (λ x. GivesLeaf tree x middle new) (ap (λ (p : TreePosition). p.link) reached.passes.at) gives))
 
 -- the key was there
 pub removes_there : {tree : Tree} {n : ℕ} {key : ℕ} {near : NearestLeaf} {old middle new : List ℕ} → FitsTree tree n → length old ≡ n → LeadsTo tree key old near → near.key ≡ key → Unlinks tree near.trail.last.over old middle tt → GivesLeaf tree near.trail.last.link middle new → RemovesAll tree key old new true

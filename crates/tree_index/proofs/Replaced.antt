@@ -1,5 +1,5 @@
 -- What `replace` finds and does, in a lawful tree.
-use Rattle.std.proofs.Common.{◌≡◌, ◌≢◌, ℕ, ◌+◌, ◌-◌, ◌/◌, ◌^◌, ◌<◌, inl, inr, List, [], ◌∷◌, length, Contains, drop, Option, Some, None, slice_index, slice_set, refl, sym, ap, ◌∙◌, subst, arith, false, get_or-set_same}
+use Rattle.std.proofs.Common.{◌≡◌, ℕ, ◌+◌, ◌-◌, inl, inr, List, [], ◌∷◌, length, Contains, drop, Option, Some, None, slice_index, slice_set, refl, sym, ap, ◌∙◌, subst, arith, false, get_or-set_same}
 use Rattle.std.specs.Prelude.{Result, Ok, Err, IfOk, OnOk}
 use Rattle.std.proofs.lemmas.List.Sorted.{Contains-permutation, IsPermutation-refl, IsPermutation-sym}
 use Rattle.record_heap.specs.Changes.{ChangesOnly}
@@ -14,10 +14,10 @@ use Rattle.tree_index.specs.Linking.{HasKeyMore, HasSpare, LinksSpare, Relinks, 
 use Rattle.tree_index.specs.Shape.{Shape, Leaf, Fork, forks_of, keys_in, keys_of, leaves_of, link_of}
 use Rattle.tree_index.specs.Tree.{FitsTree, IsTree, RemovesAll, Replaces, ReplacesAll, StaysOutside}
 use Rattle.tree_index.specs.Path.{Frame, OnZeros, OnOnes, GoesBy, over_of, plug, slot_of}
-use Rattle.tree_index.specs.Walk.{EndsBelow, IsIn, LeadsTo, WalksTo}
+use Rattle.tree_index.specs.Walk.{EndsBelow, IsIn, LeadsTo}
 use Rattle.tree_index.proofs.Apart.{IsOwn, own_not_outside, own_outside_inner, own_outside_leaves}
-use Rattle.tree_index.proofs.Dropped.{SparesKey, spares_ones, spares_zeros}
-use Rattle.tree_index.proofs.Found.{has_records, near_key, taken_record, tree_in}
+use Rattle.tree_index.proofs.Dropped.{SparesKey, spares_leaf}
+use Rattle.tree_index.proofs.Found.{IsPlaced, agrees_above, differs_here, has_records, near_key, taken_record, tree_in}
 use Rattle.tree_index.proofs.Inserted.{stored_from}
 use Rattle.tree_index.proofs.Paths.{opened}
 use Rattle.tree_index.proofs.Shapes.{first_among, other_among, reached_key, reach_along, reach_in}
@@ -41,18 +41,16 @@ spare_in {tree} leaf fork shape spare = record {
 }
 
 -- the two walks, and what was written
-pub links_spare : {tree : Tree} {n : ℕ} {old new : List ℕ} {key leaf fork : ℕ} {near : NearestLeaf} (d : ℕ) → FitsTree tree n → length old ≡ n → LeadsTo tree key old near
-    → d < 64 → key / 2 ^ (d + 1) ≡ near.key / 2 ^ (d + 1) → key / 2 ^ d ≢ near.key / 2 ^ d
-    → (again : TreePosition) → WalksTo tree key (d + 1) old again → new ≡ linked_beside key d leaf fork again old → LinksSpare tree key leaf fork old new tt
-links_spare {tree} {n} {old} {new} {key} {leaf} {fork} {near} d fits size leads small above here again walk wrote = λ shape free_leaves free_inner spare absent.
+pub links_spare : {tree : Tree} {old new : List ℕ} {key leaf fork d n : ℕ} {near : NearestLeaf} {again : TreePosition} → FitsTree tree n → IsPlaced tree key d near again n old
+    → new ≡ linked_beside key d leaf fork again old → LinksSpare tree key leaf fork old new tt
+links_spare {tree} {old} {new} {key} {leaf} {fork} {d} {again = again} fits place wrote = λ shape free_leaves free_inner spare absent.
     let there = spare_in leaf fork shape spare in
-    let reached = walk shape there in
-    let same : near.key ≡ reached_key key reached.part = near_key shape there leads ∙ ap (λ s. reached_key key s) reached.is ∙ reach_along key (d + 1) reached.path reached.part reached.steps in
-    let its = subst (λ s. HasSpare tree old leaf fork s free_leaves free_inner) reached.is spare in
-    let stores = stored_from fits old old new reached.path reached.part (leaf ∷ free_leaves) (fork ∷ free_inner) free_leaves free_inner key d leaf fork again size size small its.rooted
-    (ap (λ (p : TreePosition). p.slot) reached.at) (ap (λ (p : TreePosition). p.link) reached.at) reached.steps reached.ends (above ∙ ap (λ y. y / 2 ^ (d + 1)) same) (λ e. here (e ∙ ap (λ y. y / 2 ^ d) (sym same)))
+    let reached = place.walk shape there in
+    let its = subst (λ s. HasSpare tree old leaf fork s free_leaves free_inner) reached.passes.is spare in
+    let stores = stored_from fits old old new reached.passes.path reached.passes.part (leaf ∷ free_leaves) (fork ∷ free_inner) free_leaves free_inner key d leaf fork again place.size place.size place.small its.rooted
+    (ap (λ (p : TreePosition). p.slot) reached.passes.at) (ap (λ (p : TreePosition). p.link) reached.passes.at) reached.passes.steps reached.ends (agrees_above place shape there reached) (differs_here place shape there reached)
     its.leaves its.inner (λ i a b c e. refl) refl refl wrote in
-    subst (λ s. HasKeyMore tree key s free_leaves free_inner old new) (sym reached.is) (record {
+    subst (λ s. HasKeyMore tree key s free_leaves free_inner old new) (sym reached.passes.is) (record {
       after = stores.after;
       lawful = subst (λ xs. IsTree tree new (Some stores.after) xs free_inner) (sym (ap (λ (xs : List ℕ). drop 1 xs) stores.took_leaf))
           (subst (λ ys. IsTree tree new (Some stores.after) stores.left_leaves ys) (sym (ap (λ (ys : List ℕ). drop 1 ys) stores.grows.1)) stores.lawful);
@@ -122,12 +120,12 @@ replaced_leaf {tree} fits old middle new free_leaves free_inner from to at size 
     let open_up = opened old tree.root (OnZeros over bit beside ∷ path) (Leaf at from) lawful.rooted.0 lawful.rooted.1 in
     let link = ap (λ x. slice_index old x) (let sum : over + 3 - 0 ≡ over + 3 = omega arith in sum) ∙ open_up.0.1 in
     replaced_beside old (slice_set old (slot_of tree.root path) (link_of beside)) middle new free_leaves free_inner from to at over (plug (OnZeros over bit beside ∷ path) (Leaf at from)) (plug path beside)
-    (spares_zeros fits old path free_leaves free_inner from at over bit beside size lawful goes) (moves.0 ∙ ap (λ v. slice_set old (slot_of tree.root path) v) link) moves.1 absent
+    (spares_leaf fits old path (OnZeros over bit beside) free_leaves free_inner from at size lawful goes) (moves.0 ∙ ap (λ v. slice_set old (slot_of tree.root path) v) link) moves.1 absent
 replaced_leaf {tree} fits old middle new free_leaves free_inner from to at size (OnOnes over bit beside ∷ path) lawful goes moves absent =
     let open_up = opened old tree.root (OnOnes over bit beside ∷ path) (Leaf at from) lawful.rooted.0 lawful.rooted.1 in
     let link = ap (λ x. slice_index old x) (let sum : over + 3 - 1 ≡ over + 2 = omega arith in sum) ∙ open_up.0.1 in
     replaced_beside old (slice_set old (slot_of tree.root path) (link_of beside)) middle new free_leaves free_inner from to at over (plug (OnOnes over bit beside ∷ path) (Leaf at from)) (plug path beside)
-    (spares_ones fits old path free_leaves free_inner from at over bit beside size lawful goes) (moves.0 ∙ ap (λ v. slice_set old (slot_of tree.root path) v) link) moves.1 absent
+    (spares_leaf fits old path (OnOnes over bit beside) free_leaves free_inner from at size lawful goes) (moves.0 ∙ ap (λ v. slice_set old (slot_of tree.root path) v) link) moves.1 absent
 
 replaced : {tree : Tree} {n : ℕ} → FitsTree tree n → (old middle new free_leaves free_inner : List ℕ) (from to : ℕ) → length old ≡ n → (path : List Frame) (rest : Shape) → EndsBelow 0 rest → IsTree tree old (Some (plug path rest)) free_leaves free_inner → GoesBy from 0 path → reached_key from rest ≡ from → MovesLeaf tree (over_of tree.root path) (link_of rest) to old middle new → ¬ Contains (keys_of (plug path rest)) to → Replaces tree from to (Some (plug path rest)) free_leaves free_inner old new
 replaced fits old middle new free_leaves free_inner from to size path (Fork at bit zeros ones) ends lawful goes same moves absent = absurd (omega (arith, ends))
@@ -141,11 +139,11 @@ there_in middle fits size leads same moves None free_leaves free_inner lawful ab
 there_in {tree} {n} {from} {to} {near} {old} {new} middle fits size leads same moves (Some shape) free_leaves free_inner lawful absent =
     let there = tree_in shape lawful in
     let reached = (leads.walk shape there).last in
-    let itself : reached_key from reached.part ≡ from = sym (near_key shape there leads ∙ ap (λ s. reached_key from s) reached.is ∙ reach_along from 0 reached.path reached.part reached.steps) ∙ same in
-    subst (λ s. Replaces tree from to (Some s) free_leaves free_inner old new) (sym reached.is)
-    (replaced fits old middle new free_leaves free_inner from to size reached.path reached.part reached.ends (subst (λ s. IsTree tree old (Some s) free_leaves free_inner) reached.is lawful) reached.steps itself
-    (subst (λ x. MovesLeaf tree (over_of tree.root reached.path) x to old middle new) (ap (λ (p : TreePosition). p.link) reached.at) (subst (λ o. MovesLeaf tree o near.trail.last.link to old middle new) (ap (λ (p : TreePosition). p.over) reached.at) moves))
-    (subst (λ s. ¬ Contains (keys_of s) to) reached.is absent))
+    let itself : reached_key from reached.passes.part ≡ from = sym (near_key shape there leads ∙ ap (λ s. reached_key from s) reached.passes.is ∙ reach_along from 0 reached.passes.path reached.passes.part reached.passes.steps) ∙ same in
+    subst (λ s. Replaces tree from to (Some s) free_leaves free_inner old new) (sym reached.passes.is)
+    (replaced fits old middle new free_leaves free_inner from to size reached.passes.path reached.passes.part reached.ends (subst (λ s. IsTree tree old (Some s) free_leaves free_inner) reached.passes.is lawful) reached.passes.steps itself
+    (subst (λ x. MovesLeaf tree (over_of tree.root reached.passes.path) x to old middle new) (ap (λ (p : TreePosition). p.link) reached.passes.at) (subst (λ o. MovesLeaf tree o near.trail.last.link to old middle new) (ap (λ (p : TreePosition). p.over) reached.passes.at) moves))
+    (subst (λ s. ¬ Contains (keys_of s) to) reached.passes.is absent))
 
 key_in : {tree : Tree} {old free_leaves free_inner : List ℕ} {from : ℕ} {near : NearestLeaf} → LeadsTo tree from old near → near.key ≡ from → (shape : Option Shape) → IsTree tree old shape free_leaves free_inner → Contains (keys_in shape) from
 key_in leads same None lawful = absurd (leads.some lawful.rooted)

@@ -1,5 +1,5 @@
 -- What `insert` does to a tree that has keys, on plain arrays.
-use Rattle.std.proofs.Common.{◌≡◌, ◌≢◌, ℕ, ◌+◌, ◌*◌, ◌/◌, ◌^◌, ◌<◌, ◌≤◌, ◌⊎◌, inl, inr, List, [], ◌∷◌, ◌++◌, length, length-set, Contains, Some, slice_index, slice_set, refl, sym, ap, ◌∙◌, subst, arith, eqb, get_or-set_same, get_or-set_other}
+use Rattle.std.proofs.Common.{◌≡◌, ◌≢◌, ℕ, ◌+◌, ◌*◌, ◌/◌, ◌^◌, ◌<◌, ◌≤◌, ◌⊎◌, inl, inr, List, [], ◌∷◌, ◌++◌, length, length-set, All, Contains, Some, slice_index, slice_set, refl, sym, ap, ◌∙◌, subst, arith, eqb, get_or-set_same, get_or-set_other}
 use Rattle.std.proofs.lemmas.List.{append-nil}
 use Rattle.std.proofs.lemmas.List.Elements.{All-cons, All-nil, All-weaker, Contains-append_cases, Contains-append_left, Contains-append_right}
 use Rattle.std.proofs.lemmas.List.Sorted.{Contains-permutation, IsPermutation-refl, IsPermutation-to_front, IsPermutation-append_left, IsPermutation-append_right, IsPermutation-sym, IsPermutation-trans, IsPermutation-cons, length_permutation}
@@ -267,54 +267,49 @@ module _ {tree : Tree} {n : ℕ} (fits : FitsTree tree n) (old second new : List
   either_key_last : (y : ℕ) → Contains (keys_of rest ++ key ∷ []) y → (y ≡ key) ⊎ Contains (keys_of rest) y
   either_key_last y c = elim (Contains-append_cases (keys_of rest) (key ∷ []) y c) [ inl other ↦ inr other | inr first ↦ inl (only_key y key first) ]
 
-  -- the key has 0 in the bit
-  pub stores_zeros : d < 64 → GoesBy key (d + 1) path → EndsBelow (d + 1) rest → key / 2 ^ (d + 1) ≡ reached_key key rest / 2 ^ (d + 1) → key / 2 ^ d ≢ reached_key key rest / 2 ^ d → bit_of key d ≡ 0 → link ≡ link_of rest → k ≡ 2 → l ≡ 3 → free_leaves ≡ leaf ∷ left_leaves → free_inner ≡ fork ∷ left_inner → Stores tree key (Some (plug path rest)) free_leaves free_inner old new
-  stores_zeros small goes ends above differ zero_bit link_is k_is l_is took_leaf took_inner =
-      let radix = rooted.2 in
-      let inside = radix_inside 64 path rest radix in
-      let lower = ends_lower key d 64 rest inside ends above differ in
-      let agree = agree_below key d 64 rest inside ends above differ in
-      let high = key / 2 ^ (d + 1) in
-      let here : key / 2 ^ d ≡ 2 * high = omega (arith, from_bit d key, zero_bit) in
-      let there : reached_key key rest / 2 ^ d ≡ 2 * high + 1 = elim (bit_cases (bit_of (reached_key key rest) d) (bit_small (reached_key key rest) d)) [
-        | inl none ↦ absurd (differ (omega (arith, here, from_bit d (reached_key key rest), none, above)))
-        | inr one ↦ omega (arith, from_bit d (reached_key key rest), one, above)
-      ] in
-      stores_at (Fork fork d (Leaf leaf key) rest)
-      (λ i unread. ((λ e. unread.2 (omega (arith, e, l_is))), ((λ e. unread.1 (omega (arith, e, k_is))), (unread.0, (unread.3, tt))))) refl
-      (bit_word, subst (λ x. slice_index new (fork + x) ≡ leaf) k_is leaf_link, subst (λ x. slice_index new (fork + x) ≡ link_of rest) l_is (other_word ∙ link_is), key_word, rest_holds)
-      (IsPermutation-refl (leaf ∷ leaves_of rest)) (IsPermutation-refl (fork ∷ forks_of rest)) (IsPermutation-refl (key ∷ keys_of rest))
-      (radix_plug key (d + 1) 64 path rest (Fork fork d (Leaf leaf key) rest) (follows key (d + 1) (reached_key key rest) 64 path rest radix goes (reach_in key rest) above) goes (omega (arith, small)) either_key
-      (λ m le r. (
-        omega (arith, le),
-        (high, All-cons (λ y. y / 2 ^ d ≡ 2 * high) key [] here (All-nil (λ y. y / 2 ^ d ≡ 2 * high)), All-weaker (λ y. y / 2 ^ d ≡ reached_key key rest / 2 ^ d) (λ y. y / 2 ^ d ≡ 2 * high + 1) (λ y e. e ∙ there) (keys_of rest) agree),
-        tt,
-        radix_lower m d rest r lower,
-      )) radix)
-      (absent_key radix goes differ) (record { path = path; part = rest; bit = d; without = refl; with_leaf = inl refl }) took_leaf took_inner
+  module _ (small : d < 64) (goes : GoesBy key (d + 1) path) (ends : EndsBelow (d + 1) rest) (above : key / 2 ^ (d + 1) ≡ reached_key key rest / 2 ^ (d + 1)) (differ : key / 2 ^ d ≢ reached_key key rest / 2 ^ d)
+      (link_is : link ≡ link_of rest) (took_leaf : free_leaves ≡ leaf ∷ left_leaves) (took_inner : free_inner ≡ fork ∷ left_inner) where
+    -- what was reached has the other bit, and so have all its keys
+    agree : (bits : ℕ) → reached_key key rest / 2 ^ d ≡ bits → All (λ y. y / 2 ^ d ≡ bits) (keys_of rest)
+    agree bits there = All-weaker (λ y. y / 2 ^ d ≡ reached_key key rest / 2 ^ d) (λ y. y / 2 ^ d ≡ bits) (λ y e. e ∙ there) (keys_of rest) (agree_below key d 64 rest (radix_inside 64 path rest rooted.2) ends above differ)
 
-  -- or 1
-  pub stores_ones : d < 64 → GoesBy key (d + 1) path → EndsBelow (d + 1) rest → key / 2 ^ (d + 1) ≡ reached_key key rest / 2 ^ (d + 1) → key / 2 ^ d ≢ reached_key key rest / 2 ^ d → bit_of key d ≡ 1 → link ≡ link_of rest → k ≡ 3 → l ≡ 2 → free_leaves ≡ leaf ∷ left_leaves → free_inner ≡ fork ∷ left_inner → Stores tree key (Some (plug path rest)) free_leaves free_inner old new
-  stores_ones small goes ends above differ one_bit link_is k_is l_is took_leaf took_inner =
-      let radix = rooted.2 in
-      let inside = radix_inside 64 path rest radix in
-      let lower = ends_lower key d 64 rest inside ends above differ in
-      let agree = agree_below key d 64 rest inside ends above differ in
-      let high = key / 2 ^ (d + 1) in
-      let here : key / 2 ^ d ≡ 2 * high + 1 = omega (arith, from_bit d key, one_bit) in
-      let there : reached_key key rest / 2 ^ d ≡ 2 * high = elim (bit_cases (bit_of (reached_key key rest) d) (bit_small (reached_key key rest) d)) [
-        | inl none ↦ omega (arith, from_bit d (reached_key key rest), none, above)
-        | inr one ↦ absurd (differ (omega (arith, here, from_bit d (reached_key key rest), one, above)))
-      ] in
-      stores_at (Fork fork d rest (Leaf leaf key))
-      (λ i unread. ((λ e. unread.1 (omega (arith, e, l_is))), ((λ e. unread.2 (omega (arith, e, k_is))), (unread.0, (unread.4, tt))))) refl
-      (bit_word, subst (λ x. slice_index new (fork + x) ≡ link_of rest) l_is (other_word ∙ link_is), subst (λ x. slice_index new (fork + x) ≡ leaf) k_is leaf_link, rest_holds, key_word)
-      (IsPermutation-sym _ _ (IsPermutation-to_front (leaves_of rest) leaf)) (perm_same (fork ∷ forks_of rest) (fork ∷ (forks_of rest ++ [])) (ap (λ xs. fork ∷ xs) (sym (append-nil (forks_of rest))))) (IsPermutation-sym _ _ (IsPermutation-to_front (keys_of rest) key))
-      (radix_plug key (d + 1) 64 path rest (Fork fork d rest (Leaf leaf key)) (follows key (d + 1) (reached_key key rest) 64 path rest radix goes (reach_in key rest) above) goes (omega (arith, small)) either_key_last
-      (λ m le r. (
-        omega (arith, le),
-        (high, All-weaker (λ y. y / 2 ^ d ≡ reached_key key rest / 2 ^ d) (λ y. y / 2 ^ d ≡ 2 * high) (λ y e. e ∙ there) (keys_of rest) agree, All-cons (λ y. y / 2 ^ d ≡ 2 * high + 1) key [] here (All-nil (λ y. y / 2 ^ d ≡ 2 * high + 1))),
-        radix_lower m d rest r lower,
-        tt,
-      )) radix)
-      (absent_key radix goes differ) (record { path = path; part = rest; bit = d; without = refl; with_leaf = inr refl }) took_leaf took_inner
+    alone : (bits : ℕ) → key / 2 ^ d ≡ bits → All (λ y. y / 2 ^ d ≡ bits) (key ∷ [])
+    alone bits here = All-cons (λ y. y / 2 ^ d ≡ bits) key [] here (All-nil (λ y. y / 2 ^ d ≡ bits))
+
+    lower : (m : ℕ) → IsRadix m rest → IsRadix d rest
+    lower m r = radix_lower m d rest r (ends_lower key d 64 rest (radix_inside 64 path rest rooted.2) ends above differ)
+
+    radix_with : (shape : Shape) → ((y : ℕ) → Contains (keys_of shape) y → (y ≡ key) ⊎ Contains (keys_of rest) y) → ((m : ℕ) → d + 1 ≤ m → IsRadix m rest → IsRadix m shape) → IsRadix 64 (plug path shape)
+    radix_with shape either grows = radix_plug key (d + 1) 64 path rest shape (follows key (d + 1) (reached_key key rest) 64 path rest rooted.2 goes (reach_in key rest) above) goes (omega (arith, small)) either grows rooted.2
+
+    -- the key has 0 in the bit
+    pub stores_zeros : bit_of key d ≡ 0 → k ≡ 2 → l ≡ 3 → Stores tree key (Some (plug path rest)) free_leaves free_inner old new
+    stores_zeros zero_bit k_is l_is =
+        let high = key / 2 ^ (d + 1) in
+        let here : key / 2 ^ d ≡ 2 * high = omega (arith, from_bit d key, zero_bit) in
+        let there : reached_key key rest / 2 ^ d ≡ 2 * high + 1 = elim (bit_cases (bit_of (reached_key key rest) d) (bit_small (reached_key key rest) d)) [
+          | inl none ↦ absurd (differ (omega (arith, here, from_bit d (reached_key key rest), none, above)))
+          | inr one ↦ omega (arith, from_bit d (reached_key key rest), one, above)
+        ] in
+        stores_at (Fork fork d (Leaf leaf key) rest)
+        (λ i unread. ((λ e. unread.2 (omega (arith, e, l_is))), ((λ e. unread.1 (omega (arith, e, k_is))), (unread.0, (unread.3, tt))))) refl
+        (bit_word, subst (λ x. slice_index new (fork + x) ≡ leaf) k_is leaf_link, subst (λ x. slice_index new (fork + x) ≡ link_of rest) l_is (other_word ∙ link_is), key_word, rest_holds)
+        (IsPermutation-refl (leaf ∷ leaves_of rest)) (IsPermutation-refl (fork ∷ forks_of rest)) (IsPermutation-refl (key ∷ keys_of rest))
+        (radix_with (Fork fork d (Leaf leaf key) rest) either_key (λ m le r. (omega (arith, le), (high, alone (2 * high) here, agree (2 * high + 1) there), tt, lower m r)))
+        (absent_key rooted.2 goes differ) (record { path = path; part = rest; bit = d; without = refl; with_leaf = inl refl }) took_leaf took_inner
+
+    -- or 1
+    pub stores_ones : bit_of key d ≡ 1 → k ≡ 3 → l ≡ 2 → Stores tree key (Some (plug path rest)) free_leaves free_inner old new
+    stores_ones one_bit k_is l_is =
+        let high = key / 2 ^ (d + 1) in
+        let here : key / 2 ^ d ≡ 2 * high + 1 = omega (arith, from_bit d key, one_bit) in
+        let there : reached_key key rest / 2 ^ d ≡ 2 * high = elim (bit_cases (bit_of (reached_key key rest) d) (bit_small (reached_key key rest) d)) [
+          | inl none ↦ omega (arith, from_bit d (reached_key key rest), none, above)
+          | inr one ↦ absurd (differ (omega (arith, here, from_bit d (reached_key key rest), one, above)))
+        ] in
+        stores_at (Fork fork d rest (Leaf leaf key))
+        (λ i unread. ((λ e. unread.1 (omega (arith, e, l_is))), ((λ e. unread.2 (omega (arith, e, k_is))), (unread.0, (unread.4, tt))))) refl
+        (bit_word, subst (λ x. slice_index new (fork + x) ≡ link_of rest) l_is (other_word ∙ link_is), subst (λ x. slice_index new (fork + x) ≡ leaf) k_is leaf_link, rest_holds, key_word)
+        (IsPermutation-sym _ _ (IsPermutation-to_front (leaves_of rest) leaf)) (perm_same (fork ∷ forks_of rest) (fork ∷ (forks_of rest ++ [])) (ap (λ xs. fork ∷ xs) (sym (append-nil (forks_of rest))))) (IsPermutation-sym _ _ (IsPermutation-to_front (keys_of rest) key))
+        (radix_with (Fork fork d rest (Leaf leaf key)) either_key_last (λ m le r. (omega (arith, le), (high, agree (2 * high) there, alone (2 * high + 1) here), lower m r, tt)))
+        (absent_key rooted.2 goes differ) (record { path = path; part = rest; bit = d; without = refl; with_leaf = inr refl }) took_leaf took_inner

@@ -59,16 +59,14 @@ lowest_end {tree} {words} {whole} {n} {at} all low = lowest_leaf tree words (lea
 
 -- After n steps a walk for the key stands at this position.
 pub record Stands (tree : Tree) (key floor : ℕ) (words : List ℕ) (whole : Shape) (n : ℕ) (position : TreePosition) : Type 0 where
-  pub path : List Frame
-  pub shape : Shape
-  pub is : whole ≡ plug path shape
-  pub at : position ≡ record { slot = slot_of tree.root path; link = link_of shape; over = over_of tree.root path; turn = turn_of path }
-  pub steps : GoesBy key floor path
-  pub held : IsHeld tree words shape
-  pub radix : IsRadix (64 - n) shape
+  pub passes : Passes tree key floor words whole position
+  pub radix : IsRadix (64 - n) passes.part
 
 stands_none : (tree : Tree) (key floor link : ℕ) (words : List ℕ) (whole : Shape) → IsIn tree words whole → link ≡ slice_index words tree.root → Stands tree key floor words whole 0 (start_at tree link)
-stands_none tree key floor link words whole there read = record { path = []; shape = whole; is = refl; at = ap (λ l. start_at tree l) (read ∙ there.link); steps = tt; held = there.held; radix = there.radix }
+stands_none tree key floor link words whole there read = record {
+  passes = record { path = []; part = whole; is = refl; at = ap (λ l. start_at tree l) (read ∙ there.link); steps = tt; held = there.held };
+  radix = there.radix;
+}
 
 abbrev passed : ℕ → ℕ → ℕ → ℕ → Option PassedRecord
 passed at slot bit side = Some (record { at = at; slot = slot; bit = bit; side = side })
@@ -81,68 +79,38 @@ bit_cases zero small = inl refl
 bit_cases (suc zero) small = inr refl
 bit_cases (suc (suc n)) small = absurd (omega (arith, small))
 
+stands_by : {tree : Tree} {key floor n : ℕ} {words : List ℕ} {whole : Shape} {position : TreePosition} (path : List Frame) (part : Shape) → whole ≡ plug path part → position ≡ record { slot = slot_of tree.root path; link = link_of part; over = over_of tree.root path; turn = turn_of path } → GoesBy key floor path → IsHeld tree words part → IsRadix (64 - n) part → Stands tree key floor words whole n position
+stands_by path part is at steps held radix = record { passes = record { path = path; part = part; is = is; at = at; steps = steps; held = held }; radix = radix }
+
 stands_step : {tree : Tree} {count : ℕ} → FitsTree tree count → (key floor : ℕ) (words : List ℕ) (whole : Shape) (n : ℕ) (position next : TreePosition) → IsStep tree key floor position words (Some next) → (path : List Frame) (shape : Shape) → whole ≡ plug path shape → position ≡ record { slot = slot_of tree.root path; link = link_of shape; over = over_of tree.root path; turn = turn_of path } → GoesBy key floor path → IsHeld tree words shape → IsRadix (64 - n) shape → Stands tree key floor words whole (n + 1) next
 stands_step {tree} fits key floor words whole n position next step path (Leaf at k) is here goes held radix = absurd (leaf_apart fits at held.records (subst (IsRecord tree.inner) (ap (λ (p : TreePosition). p.link) here) step.0))
 stands_step {tree} fits key floor words whole n position next step path (Fork at bit zeros ones) is here goes held radix =
     let link : position.link ≡ at = ap (λ (p : TreePosition). p.link) here in
     let read : slice_index words position.link ≡ bit = ap (λ x. slice_index words x) link ∙ held.words.0 in
-    let led : next ≡ step_by words (placed (slot_of tree.root path) (over_of tree.root path) (turn_of path) at) (bit_of key bit) =
-    step.2 ∙ ap (λ b. step_by words position (bit_of key b)) read ∙ ap (λ p. step_by words p (bit_of key bit)) here in
+    let above = slot_of tree.root path in
+    let led : (side slot below : ℕ) → bit_of key bit ≡ side → at + 2 + side ≡ slot → slice_index words slot ≡ below → next ≡ placed slot (passed at above bit side) (turn_by side at (turn_of path)) below = λ side slot below by sum linked.
+    step.2 ∙ ap (λ b. step_by words position (bit_of key b)) read ∙ ap (λ p. step_by words p (bit_of key bit)) here
+    ∙ ap (λ s. step_by words (placed above (over_of tree.root path) (turn_of path) at) s) by
+    ∙ ap (λ b. placed (at + 2 + side) (passed at above b side) (turn_by side at (turn_of path)) (slice_index words (at + 2 + side))) held.words.0
+    ∙ ap (λ x. placed x (passed at above bit side) (turn_by side at (turn_of path)) (slice_index words x)) sum
+    ∙ ap (λ l. placed slot (passed at above bit side) (turn_by side at (turn_of path)) l) linked in
     let high : floor ≤ bit = omega (arith, step.1, read) in
     elim (bit_cases (bit_of key bit) (bit_small key bit)) [
-      | inl none ↦ record {
-        path = OnZeros at bit ones ∷ path;
-        shape = zeros;
-        is = is;
-        at = led ∙ ap (λ s. step_by words (placed (slot_of tree.root path) (over_of tree.root path) (turn_of path) at) s) none
-            ∙ ap (λ b. placed (at + 2 + 0) (passed at (slot_of tree.root path) b 0) (Some (at + 3)) (slice_index words (at + 2 + 0))) held.words.0
-            ∙ ap (λ x. placed x (passed at (slot_of tree.root path) bit 0) (Some (at + 3)) (slice_index words x)) (let sum : at + 2 + 0 ≡ at + 2 = omega arith in sum)
-            ∙ ap (λ l. placed (at + 2) (passed at (slot_of tree.root path) bit 0) (Some (at + 3)) l) held.words.1;
-        steps = (high, none, goes);
-        held = record { records = held.records.1; words = held.words.3 };
-        radix = radix_more bit (64 - (n + 1)) zeros (omega (arith, radix.0)) radix.2;
-      }
-      | inr one ↦ record {
-        path = OnOnes at bit zeros ∷ path;
-        shape = ones;
-        is = is;
-        at = led ∙ ap (λ s. step_by words (placed (slot_of tree.root path) (over_of tree.root path) (turn_of path) at) s) one
-            ∙ ap (λ b. placed (at + 2 + 1) (passed at (slot_of tree.root path) b 1) (turn_of path) (slice_index words (at + 2 + 1))) held.words.0
-            ∙ ap (λ x. placed x (passed at (slot_of tree.root path) bit 1) (turn_of path) (slice_index words x)) (let sum : at + 2 + 1 ≡ at + 3 = omega arith in sum)
-            ∙ ap (λ l. placed (at + 3) (passed at (slot_of tree.root path) bit 1) (turn_of path) l) held.words.2;
-        steps = (high, one, goes);
-        held = record { records = held.records.2; words = held.words.4 };
-        radix = radix_more bit (64 - (n + 1)) ones (omega (arith, radix.0)) radix.3;
-      }
+      | inl none ↦ stands_by (OnZeros at bit ones ∷ path) zeros is (led 0 (at + 2) (link_of zeros) none (omega arith) held.words.1) (high, none, goes)
+          (record { records = held.records.1; words = held.words.3 }) (radix_more bit (64 - (n + 1)) zeros (omega (arith, radix.0)) radix.2)
+      | inr one ↦ stands_by (OnOnes at bit zeros ∷ path) ones is (led 1 (at + 3) (link_of ones) one (omega arith) held.words.2) (high, one, goes)
+          (record { records = held.records.2; words = held.words.4 }) (radix_more bit (64 - (n + 1)) ones (omega (arith, radix.0)) radix.3)
     ]
 
 stands_more : {tree : Tree} {count : ℕ} → FitsTree tree count → (key floor : ℕ) (words : List ℕ) (whole : Shape) (n : ℕ) (position next : TreePosition) → IsStep tree key floor position words (Some next) → Stands tree key floor words whole n position → Stands tree key floor words whole (n + 1) next
-stands_more fits key floor words whole n position next step s = stands_step fits key floor words whole n position next step s.path s.shape s.is s.at s.steps s.held s.radix
+stands_more fits key floor words whole n position next step s = stands_step fits key floor words whole n position next step s.passes.path s.passes.part s.passes.is s.passes.at s.passes.steps s.passes.held s.radix
 
 ends_step : (tree : Tree) (key floor : ℕ) (words : List ℕ) (position : TreePosition) → IsStep tree key floor position words None → (shape : Shape) → position.link ≡ link_of shape → IsHeld tree words shape → EndsBelow floor shape
 ends_step tree key floor words position none (Leaf at k) link held = tt
 ends_step tree key floor words position none (Fork at bit zeros ones) link held =
     omega (arith, none (subst (IsRecord tree.inner) (sym link) held.records.0), ap (λ x. slice_index words x) link, held.words.0)
 
-reaches : {tree : Tree} {key floor n : ℕ} {words : List ℕ} {whole : Shape} {position : TreePosition} → (s : Stands tree key floor words whole n position) → EndsBelow floor s.shape → Reaches tree key floor words whole position
-reaches s ends = record {
-  path = s.path;
-  part = s.shape;
-  is = s.is;
-  at = s.at;
-  steps = s.steps;
-  held = s.held;
-  ends = ends;
-}
-
 -- ---- the positions on the way
-
--- what a walk reached it passed
-abbrev pub passed_by : {tree : Tree} {key floor : ℕ} {words : List ℕ} {whole : Shape} {position : TreePosition} → Reaches tree key floor words whole position → Passes tree key floor words whole position
-passed_by r = record { path = r.path; part = r.part; is = r.is; at = r.at; steps = r.steps; held = r.held }
-
-passed_on : {tree : Tree} {key floor n : ℕ} {words : List ℕ} {whole : Shape} {position : TreePosition} → Stands tree key floor words whole n position → Passes tree key floor words whole position
-passed_on s = record { path = s.path; part = s.shape; is = s.is; at = s.at; steps = s.steps; held = s.held }
 
 -- After n steps a walk for the key stands at the last position of this trail, and passed the two others.
 pub record Trailing (tree : Tree) (key floor : ℕ) (words : List ℕ) (whole : Shape) (n : ℕ) (trail : Trail) : Type 0 where
@@ -158,7 +126,7 @@ trail_of last second third = record { last = last; second = second; third = thir
 pub trailing_none : (tree : Tree) (key floor link : ℕ) (words : List ℕ) (whole : Shape) → IsIn tree words whole → link ≡ slice_index words tree.root → Trailing tree key floor words whole 0 (trail_of (start_at tree link) (start_at tree link) (start_at tree link))
 trailing_none tree key floor link words whole there read =
     let stands = stands_none tree key floor link words whole there read in
-    record { last = stands; second = passed_on stands; third = passed_on stands; last_under = tt; second_under = tt }
+    record { last = stands; second = stands.passes; third = stands.passes; last_under = tt; second_under = tt }
 
 -- the words named where a walk begins
 pub start_fits : (tree : Tree) (n link : ℕ) → tree.root < n → FitsTrail tree n (trail_of (start_at tree link) (start_at tree link) (start_at tree link))
@@ -173,7 +141,7 @@ next_under tree key floor words position next step =
 pub trailing_more : {tree : Tree} {count : ℕ} → FitsTree tree count → (key floor : ℕ) (words : List ℕ) (whole : Shape) (n : ℕ) (trail : Trail) (next : TreePosition) → IsStep tree key floor trail.last words (Some next) → Trailing tree key floor words whole n trail → Trailing tree key floor words whole (n + 1) (trail_of next trail.last trail.second)
 trailing_more {tree} fits key floor words whole n trail next step t = record {
   last = stands_more fits key floor words whole n trail.last next step t.last;
-  second = passed_on t.last;
+  second = t.last.passes;
   third = t.second;
   last_under = next_under tree key floor words trail.last next step;
   second_under = t.last_under;
@@ -181,7 +149,7 @@ trailing_more {tree} fits key floor words whole n trail next step t = record {
 
 -- where there is no further step
 stands_end : {tree : Tree} {key floor n : ℕ} {words : List ℕ} {whole : Shape} {position : TreePosition} → IsStep tree key floor position words None → Stands tree key floor words whole n position → Reaches tree key floor words whole position
-stands_end {tree} {key} {floor} {n} {words} {whole} {position} none s = reaches s (ends_step tree key floor words position none s.shape (ap (λ (p : TreePosition). p.link) s.at) s.held)
+stands_end {tree} {key} {floor} {n} {words} {whole} {position} none s = record { passes = s.passes; ends = ends_step tree key floor words position none s.passes.part (ap (λ (p : TreePosition). p.link) s.passes.at) s.passes.held }
 
 pub trailing_end : {tree : Tree} {key floor n : ℕ} {words : List ℕ} {whole : Shape} {trail : Trail} → IsStep tree key floor trail.last words None → Trailing tree key floor words whole n trail → Trails tree key floor words whole trail
 trailing_end none t = record { last = stands_end none t.last; second = t.second; third = t.third; last_under = t.last_under; second_under = t.second_under }
@@ -192,7 +160,7 @@ ends_out floor (Fork at bit zeros ones) radix = absurd (omega (arith, radix.0))
 
 -- or after 64 steps
 stands_out : {tree : Tree} {key floor n : ℕ} {words : List ℕ} {whole : Shape} {position : TreePosition} → 64 ≤ n → Stands tree key floor words whole n position → Reaches tree key floor words whole position
-stands_out {tree} {key} {floor} {n} {words} {whole} {position} all s = reaches s (ends_out floor s.shape (radix_more (64 - n) 0 s.shape (omega (arith, all)) s.radix))
+stands_out {tree} {key} {floor} {n} {words} {whole} {position} all s = record { passes = s.passes; ends = ends_out floor s.passes.part (radix_more (64 - n) 0 s.passes.part (omega (arith, all)) s.radix) }
 
 pub trailing_out : {tree : Tree} {key floor n : ℕ} {words : List ℕ} {whole : Shape} {trail : Trail} → 64 ≤ n → Trailing tree key floor words whole n trail → Trails tree key floor words whole trail
 trailing_out all t = record { last = stands_out all t.last; second = t.second; third = t.third; last_under = t.last_under; second_under = t.second_under }

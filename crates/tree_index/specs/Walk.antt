@@ -97,21 +97,6 @@ abbrev pub IsStep : Tree → ℕ → ℕ → TreePosition → List ℕ → Optio
 IsStep tree key floor position array None = IsRecord tree.inner position.link → slice_index array position.link < floor
 IsStep tree key floor position array (Some next) = IsRecord tree.inner position.link × (floor ≤ slice_index array position.link) × (next ≡ step_by array position (bit_of key (slice_index array position.link)))
 
--- A walk for the key reached this position: there is a path to it, by the bits of the key, and what stands there is a leaf or
--- an inner record of a bit below `floor`.
-pub record Reaches (tree : Tree) (key floor : ℕ) (array : List ℕ) (whole : Shape) (position : TreePosition) : Type 0 where
-  pub path : List Frame
-  pub part : Shape
-  pub is : whole ≡ plug path part
-  pub at : position ≡ record { slot = slot_of tree.root path; link = link_of part; over = over_of tree.root path; turn = turn_of path }
-  pub steps : GoesBy key floor path
-  pub held : IsHeld tree array part
-  pub ends : EndsBelow floor part
-
--- in every way in which the array has a tree, a walk for the key reached this position
-abbrev pub WalksTo : Tree → ℕ → ℕ → List ℕ → TreePosition → Type 0
-WalksTo tree key floor array position = (whole : Shape) → IsIn tree array whole → Reaches tree key floor array whole position
-
 -- A walk for the key passed this position: there is a path to it, by the bits of the key, and part of the shape stands there.
 pub record Passes (tree : Tree) (key floor : ℕ) (array : List ℕ) (whole : Shape) (position : TreePosition) : Type 0 where
   pub path : List Frame
@@ -120,6 +105,15 @@ pub record Passes (tree : Tree) (key floor : ℕ) (array : List ℕ) (whole : Sh
   pub at : position ≡ record { slot = slot_of tree.root path; link = link_of part; over = over_of tree.root path; turn = turn_of path }
   pub steps : GoesBy key floor path
   pub held : IsHeld tree array part
+
+-- A walk for the key reached this position: it passed it, and what stands there is a leaf or an inner record of a bit below `floor`.
+pub record Reaches (tree : Tree) (key floor : ℕ) (array : List ℕ) (whole : Shape) (position : TreePosition) : Type 0 where
+  pub passes : Passes tree key floor array whole position
+  pub ends : EndsBelow floor passes.part
+
+-- in every way in which the array has a tree, a walk for the key reached this position
+abbrev pub WalksTo : Tree → ℕ → ℕ → List ℕ → TreePosition → Type 0
+WalksTo tree key floor array position = (whole : Shape) → IsIn tree array whole → Reaches tree key floor array whole position
 
 -- the last inner record that was passed before the lower position, where there is one, is the one that the upper position links
 abbrev pub IsUnder : List ℕ → TreePosition → TreePosition → Type 0

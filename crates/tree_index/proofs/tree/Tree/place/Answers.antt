@@ -24,3 +24,6 @@ pub returns-then-is_from-3-clause-walks : goal.returns-then-is_from-3-clause-wal
 returns-then-is_from-3-clause-walks g c = λ array below leads whole there.
     let trail = leads.walk whole there in
     placed_over c.args.floor c.requires.fits there c.requires.trail.second trail.second_under c.if-is_from-2.ensures c.if-is_from-3.ensures trail.third
+
+pub returns-clause-walks : goal.returns-clause-walks
+returns-clause-walks g c = λ array below leads whole there. (c.in_ok-again.ensures.walks array below whole there).last

@@ -5,21 +5,18 @@ use Rattle.word_space.proofs.Runs.{below_before, below_behind, length_shown, sho
 use Rattle.tree_index.specs.Linking.{Relinks}
 use Rattle.tree_index.specs.Tree.{ReplacesAll}
 use Rattle.tree_index.specs.Walk.{FindsNearest}
+use Rattle.tree_index.proofs.Found.{near_leads, seen_unchanged}
 use Rattle.tree_index.proofs.Removed.{removes_none, removes_other}
 use Rattle.tree_index.proofs.Replaced.{MovesLeaf, replaces_absent, replaces_there, when_shown}
 use Rattle.tree_index.proofs.tree.Tree.replace.Goals as goal
 
 pub returns-in_default-clause-replaces : goal.returns-in_default-clause-replaces
-returns-in_default-clause-replaces g c = λ array below.
-    let old = shown (g.W.Words.sight c.args.w.now) array in
-    subst (λ new. ReplacesAll c.args.self.now c.args.from c.args.to old new tt) (sym (shown_same c.in_ok-near.ensures.uses array))
-    (replaces_absent (removes_none (subst (λ o. FindsNearest c.args.self.now c.args.from old o) c.in_default.is (c.in_ok-near.ensures.nearest array below))))
+returns-in_default-clause-replaces g c = seen_unchanged c.in_ok-near.ensures.uses (λ old new. ReplacesAll c.args.self.now c.args.from c.args.to old new tt) (λ array below.
+    replaces_absent (removes_none (subst (λ o. FindsNearest c.args.self.now c.args.from (shown (g.W.Words.sight c.args.w.now) array) o) c.in_default.is (c.in_ok-near.ensures.nearest array below))))
 
 pub returns-then-near-from-clause-replaces : goal.returns-then-near-from-clause-replaces
-returns-then-near-from-clause-replaces g c = λ array below.
-    let old = shown (g.W.Words.sight c.args.w.now) array in
-    subst (λ new. ReplacesAll c.args.self.now c.args.from c.args.to old new tt) (sym (shown_same c.in_ok-near.ensures.uses array))
-    (replaces_absent (removes_other (subst (λ o. FindsNearest c.args.self.now c.args.from old o) c.in-Some.is (c.in_ok-near.ensures.nearest array below)) c.if-near-from.true))
+returns-then-near-from-clause-replaces g c = seen_unchanged c.in_ok-near.ensures.uses (λ old new. ReplacesAll c.args.self.now c.args.from c.args.to old new tt) (λ array below.
+    replaces_absent (removes_other (near_leads c.args.self.now c.args.from c.in_ok-near.ensures.uses c.in-Some.is c.in_ok-near.ensures.nearest array below) c.if-near-from.true))
 
 pub returns-in_default-over-clause-replaces : goal.returns-in_default-over-clause-replaces
 returns-in_default-over-clause-replaces g c = when_shown c.write.result _ _ (λ shows done array below.
@@ -29,7 +26,7 @@ returns-in_default-over-clause-replaces g c = when_shown c.write.result _ _ (λ 
     let old = shown (g.W.Words.sight c.args.w.now) array in
     let new = shown (g.W.Words.sight c.write.new.self) array in
     replaces_there new c.requires.fits (length_shown (below_before near_step.uses below_near))
-    (subst (λ o. FindsNearest tree c.args.from old o) c.in-Some.is (near_step.nearest array below_near)) c.if-near-from.false
+    (near_leads tree c.args.from near_step.uses c.in-Some.is near_step.nearest array below_near) c.if-near-from.false
     (subst (λ o. MovesLeaf tree o c.in-Some.near.trail.last.link c.args.to old new new) (sym c.in_default-over.is)
     (shows array ∙ ap (λ ws. slice_set ws c.in-Some.near.trail.last.link c.args.to) (shown_same near_step.uses array)))) c.write.ensures.shown
 
@@ -48,6 +45,6 @@ returns-clause-replaces g c = IfOk-weaker c.link_spare.result _ _ (λ done links
     let middle = shown (g.W.Words.sight c.cut.new.w) array in
     let new = shown (g.W.Words.sight c.link_spare.new.w) array in
     replaces_there middle c.requires.fits (length_shown (below_before near_step.uses below_near))
-    (subst (λ o. FindsNearest tree c.args.from old o) c.in-Some.is (near_step.nearest array below_near)) c.if-near-from.false
+    (near_leads tree c.args.from near_step.uses c.in-Some.is near_step.nearest array below_near) c.if-near-from.false
     (subst (λ o. MovesLeaf tree o c.in-Some.near.trail.last.link c.args.to old middle new) (sym c.in-Some-over.is)
     (subst (λ ws. Relinks over ws middle tt) (shown_same near_step.uses array) (cut_step.relinks array below_cut), links array below))) c.link_spare.ensures.links
