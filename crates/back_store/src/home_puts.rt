@@ -59,6 +59,7 @@ fn put_home<M: Medium>(m: &mut M, place: &Place, group: &Group) -> Result<(), Fa
 }
 
 /// Makes the words that the writes of the group put durable.
+#[tactic(auto, using(pmem_trait::proofs::GroupRuns::grouping))]
 pub fn settle_home<M: Medium>(
     m: &mut M,
     place: &Place,

@@ -4,6 +4,7 @@ use Rattle.std.specs.Prelude.{OnOk}
 use Rattle.dude_base.specs.declared.sizes.Sizes.{Sizes}
 use Rattle.dude_base.specs.Records.{RedoBundle}
 use Rattle.dude_base.specs.Image.{image_words}
+use Rattle.pmem_trait.specs.declared.failed.Failed.{Failed}
 use Rattle.pmem_trait.specs.declared.medium.Medium.{Ghosts}
 use Rattle.pmem_trait.specs.Words.{EveryImage}
 use Rattle.pmem_trait.specs.Sights.{Sight, state_now}
@@ -16,7 +17,7 @@ use Rattle.log_numbered.specs.declared.kept_bundles.KeptBundles.{KeptBundles}
 use Rattle.log_numbered.specs.declared.run_log.RunLog.{RunLog}
 use Rattle.log_numbered.specs.Arrays.{RunArrays, RecoversIn, array_at, last_number}
 use Rattle.log_numbered.specs.KeptBundles.{LeadThrough, are_kept, kept_bundles}
-use Rattle.log_numbered.specs.Keeping.{EndsFrom, KeepsAll}
+use Rattle.log_numbered.specs.Keeping.{ClosesRun, EndsFrom, KeepsAll}
 use Rattle.log_numbered.specs.RunLog.{IsAlive, OpenLeads, log_end, log_last, log_medium, log_open, log_sizes}
 use Rattle.log_numbered.proofs.Keeping.{through_none}
 use Rattle.dude_engine.specs.declared.run.Run.{Run}
@@ -150,6 +151,33 @@ module _ {M : Type 0} {ghosts : Ghosts M} where
         (keeps_as opening words other run.log (words_of run.words) run.done.items (kept_bundles run.packets) keeps.arrays log_is words_are done_is bundles_are keeps.has keeps.opening_is keeps.keeps);
   }
 
+  -- such a run served some requests, and what follows comes to this
+  pub kept_served : (run other served later : Run M ghosts) (result : Result (Unit {0}) RunFault) → other.log ≡ run.log → other.lay ≡ run.lay → words_of other.words ≡ words_of run.words → other.done.items ≡ run.done.items
+      → are_kept other.packets ≡ are_kept run.packets → kept_bundles other.packets ≡ kept_bundles run.packets
+      → ((opening : Opening) (words : List ℕ) (s : Sight) → Runs opening words other s (run_sight other) → Runs opening words served s (run_sight served)) → LeavesKept (Ok tt) other served
+      → LeavesKept result served later → LeavesKept result run later
+  kept_served run other served later result log_is lay_is words_are done_is kept_is bundles_are left one rest =
+      kept_from run other later result log_is lay_is words_are done_is kept_is bundles_are (kept_then result other served later left one rest)
+
+  -- the log was told to persist its open bundle: that failed, or went well
+  pub kept_failed : (result : Result (Unit {0}) RunFault) {fault : Failed} (run : Run M ghosts) (log : RunLog M ghosts) (packets : KeptBundles) → result ≡ Err Device → ClosesRun (Err fault) run.log run.packets log packets
+      → LeavesKept result run (record run { log = log; packets = packets })
+  kept_failed result run log packets is closes = record {
+    kept = closes.keeps.kept;
+    all = λ kept opening words s runs keeps.
+        let later : Run M ghosts = record run { log = log; packets = packets } in
+        kept_device opening words result later s (run_sight later) is
+        (keeps_failed opening words later run.log log (words_of run.words) (words_of run.words) run.done.items run.done.items (kept_bundles packets) (λ a. a) keeps.arrays run.lay s (run_sight run) (run_sight later) runs (λ a has. has)
+        (closes.ends refl) closes.goes_on.sizes refl refl refl keeps.has keeps.opening_is (closes.keeps.all kept keeps.arrays keeps.keeps));
+  }
+
+  pub kept_closed : {number : ℕ} (run : Run M ghosts) (log : RunLog M ghosts) (packets : KeptBundles) → ClosesRun (Ok number) run.log run.packets log packets → LeavesKept (Ok tt) run (record run { log = log; packets = packets })
+  kept_closed run log packets closes = record {
+    kept = closes.keeps.kept;
+    all = λ kept opening words s runs keeps.
+        keeps_as opening words (record run { log = log; packets = packets }) log (words_of run.words) run.done.items (kept_bundles packets) keeps.arrays refl refl refl refl keeps.has keeps.opening_is (closes.keeps.all kept keeps.arrays keeps.keeps);
+  }
+
   -- from a run with other room for bundles
   module _ (run : Run M ghosts) (packets : KeptBundles) (kept : are_kept packets ≡ are_kept run.packets) (same : kept_bundles packets ≡ kept_bundles run.packets) where
     -- it keeps them still
@@ -168,6 +196,13 @@ module _ {M : Type 0} {ghosts : Ghosts M} where
       room = is.room;
       left = is.left;
       calls = serves_from (run_sight run) (run_sight later) run (record run { packets = packets }) later result refl refl refl is.calls;
+    }
+
+    -- it keeps them, where what follows does so
+    pub kept_over : (result : Result (Unit {0}) RunFault) (later : Run M ghosts) → LeavesKept result (record run { packets = packets }) later → LeavesKept result run later
+    kept_over result later is = record {
+      kept = is.kept ∙ kept;
+      all = λ were opening words s runs keeps. is.all (kept ∙ were) opening words s runs (keeps_reserved opening words keeps);
     }
 
     -- there was no memory for more

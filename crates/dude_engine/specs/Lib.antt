@@ -1,4 +1,5 @@
 pub mod Opening
+pub mod OneThread
 pub mod Endings
 pub mod Plain
 pub mod Requests

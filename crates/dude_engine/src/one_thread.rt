@@ -1,11 +1,12 @@
 //! The requests of files, run on one thread.
 
-ghost use Rattle.std.specs.Prelude.{◌≡◌, ◌≤◌, [], IsTrue, length, map};
+ghost use Rattle.std.specs.Prelude.{◌≡◌, ◌≤◌, [], length, map};
 ghost use Rattle.back_store.specs.BackView.{sight_of};
 ghost use Rattle.dude_recover.specs.Opened.{IsOpened};
 ghost use Rattle.redo_record.specs.Recovery.{AreConsecutive};
 ghost use Rattle.log_numbered.specs.KeptBundles.{are_kept, kept_bundles};
 ghost use Rattle.dude_engine.specs.declared.ran.RanEnd.TheVariants.{Whole};
+ghost use Rattle.dude_engine.specs.OneThread.{RunsFiles};
 ghost use Rattle.dude_engine.specs.Opening.{Opening};
 ghost use Rattle.dude_engine.specs.Requests.{AreInRange, HasNumberEach};
 ghost use Rattle.dude_engine.specs.Running.{end_by};
@@ -87,22 +88,9 @@ fn run_files<M: Medium>(
     requires in_range { AreInRange (map (λ f. f.items) files.now) }
     requires numbers { HasNumberEach opened.number (map (λ f. f.items) files.now) }
     requires none { kept_bundles packets ≡ [] }
-    ensures replies { (opening : Opening) → IsOpeningOf opened opening
-        → AnswersFiles opening (map (λ f. f.items) files.now) result.ran.done.items }
-    ensures syncs { TellsSyncs opened.number result.ran.done.items (sight_of opened.back)
-        (M.sight result.ran.medium) }
-    ensures moments { (opening : Opening) → IsOpeningOf opened opening
-        → RecoversOnTheRun opening opened.words.items result.ran.done.items (sight_of opened.back)
-        (M.sight result.ran.medium) }
-    ensures end { EndsAs opened (map (λ f. f.items) files.now) result.ran.done.items result.ran.end
-        result.ran.last (M.sight result.ran.medium) }
-    ensures packets { IsTrue (are_kept packets) → (opening : Opening) → IsOpeningOf opened opening
-        → Ships opening opened.words.items result.ran.done.items result.packets.items }
-    ensures persisted { IsTrue (are_kept packets) → (opening : Opening) → IsOpeningOf opened opening
-        → KeepsUp opening opened.words.items result.ran.done.items result.packets.items
-        (sight_of opened.back) (M.sight result.ran.medium) }
-    ensures whole { IsTrue (are_kept packets) → result.ran.end ≡ Whole
-        → AreConsecutive opened.number result.packets.items result.ran.last }
+    ensures { RunsFiles opened (map (λ f. f.items) files.now) (are_kept packets)
+        result.ran.done.items result.ran.end result.ran.last (M.sight result.ran.medium)
+        result.packets.items }
 {
     let number = opened.number;
     let mut run = Run {

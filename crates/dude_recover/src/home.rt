@@ -35,6 +35,7 @@ fn flush_home<M: Medium>(m: &mut M, place: &Place) -> Result<(), Failed>
 }
 
 /// Puts every word of the home, also one that is there already, and makes them durable.
+#[tactic(auto, using(pmem_trait::proofs::GroupRuns::grouping))]
 pub fn settle_home<M: Medium>(m: &mut M, place: &Place, words: &[u64]) -> Result<(), Failed>
     requires count { length words.now ≡ place.now.pages * PAGE }
     requires room { image_words place.now ≤ (M.sight m.old).len }

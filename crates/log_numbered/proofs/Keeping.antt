@@ -1,5 +1,6 @@
 -- The bundles that are kept are all that the log persisted, from call to call.
-use Rattle.std.proofs.Common.{◌≡◌, ℕ, zero, suc, ◌+◌, ◌<◌, ◌≤◌, Bool, true, false, IsTrue, if◌then◌else◌, List, [], ◌∷◌, ◌++◌, take, length, length-append, Option, Some, None, refl, sym, ap, ◌∙◌, subst, inl, inr, arith}
+use Rattle.std.proofs.Common.{◌≡◌, ℕ, zero, suc, ◌+◌, ◌<◌, ◌≤◌, Bool, true, false, IsTrue, if◌then◌else◌, List, [], ◌∷◌, ◌++◌, take, length, length-append, Option, Some, None, Result, Ok, Err, is_ok, refl, sym, ap, ◌∙◌, subst, inl, inr, arith}
+use Rattle.std.specs.Prelude.{IfOk}
 use Rattle.std.proofs.lemmas.Bool.{cases_lt}
 use Rattle.std.proofs.lemmas.List.{take-append-le, take_all}
 use Rattle.std.proofs.lemmas.List.Elements.{All-push}
@@ -8,6 +9,7 @@ use Rattle.dude_base.specs.declared.sizes.Sizes.{Sizes}
 use Rattle.dude_base.specs.declared.write.Write.{Write}
 use Rattle.dude_base.specs.Records.{RedoBundle, RedoRecord, bundle_of, first_of, with_next}
 use Rattle.dude_base.specs.Writes.{IsWriteList, overwritten}
+use Rattle.pmem_trait.specs.declared.failed.Failed.{Failed}
 use Rattle.pmem_trait.specs.declared.medium.Medium.{Ghosts}
 use Rattle.pmem_trait.specs.Words.{IsImage}
 use Rattle.pmem_trait.specs.Sights.{Sight, state_now}
@@ -19,15 +21,15 @@ use Rattle.log_numbered.specs.declared.kept_bundles.KeptBundles.{KeptBundles}
 use Rattle.log_numbered.specs.declared.open_bundle.OpenBundle.{OpenBundle}
 use Rattle.log_numbered.specs.declared.run_log.RunLog.{RunLog}
 use Rattle.log_numbered.specs.Arrays.{LeadsToLast, RecoversIn, RunArrays, array_at, last_number, with_writes}
-use Rattle.log_numbered.specs.Backs.{Any, LogGoesOn, RecoversAlong}
-use Rattle.log_numbered.specs.BundleLog.{kept_back}
+use Rattle.log_numbered.specs.Backs.{Any, LeadsUpTo, LogGoesOn, RecoversAlong}
+use Rattle.log_numbered.specs.BundleLog.{KeptGoesOn, KeptRecovers, kept_back, kept_sight}
 use Rattle.log_numbered.specs.KeptBundles.{IsPacket, LeadThrough, are_kept, bundles_with, kept_bundles}
-use Rattle.log_numbered.specs.Keeping.{EndsFrom, KeepsAll, KeepsOn}
-use Rattle.log_numbered.specs.RunLog.{FollowsOn, IsAlive, OpenLeads, RecoversOn, log_back, log_end, log_last, log_open, log_sizes}
+use Rattle.log_numbered.specs.Keeping.{ClosesRun, EndsFrom, KeepsAll, KeepsOn}
+use Rattle.log_numbered.specs.RunLog.{Closes, FollowsOn, IsAlive, OpenLeads, RecoversOn, RunGoesOn, RunRecovers, log_back, log_end, log_last, log_open, log_sight, log_sizes}
 use Rattle.log_numbered.proofs.Appending.{begun_leads, joined_leads}
 use Rattle.log_numbered.proofs.ArraysOfRuns.{array_stays, one_more}
-use Rattle.log_numbered.proofs.Closing.{opened}
-use Rattle.log_numbered.proofs.GoingOn.{visible_after}
+use Rattle.log_numbered.proofs.Closing.{closed_alive, opened, recovers_behind}
+use Rattle.log_numbered.proofs.GoingOn.{goes_then, if_ok_same, visible_after}
 
 -- ---- consecutive bundles
 
@@ -217,3 +219,30 @@ module _ {M : Type 0} {ghosts : Ghosts M} where
             (subst (λ (z : Sizes). RecoversIn z a (log_end m) before (state_now u).told image) sizes
             (at.each image (subst (λ (n : ℕ). IsImage n (state_now u) image) moments.later.len is)));
       }
+
+  -- ---- the open bundle is closed, and a call follows that persists nothing
+
+  -- the closing failed
+  pub closes_failed : (result : Result ℕ Failed) (k l : RunLog M ghosts) (old new : KeptBundles) → is_ok result ≡ false → RunGoesOn false k l → log_end l ≡ log_end k → RunRecovers (λ a. a) k l → KeepsOn false (λ a. a) k old l new → ClosesRun result k old l new
+  closes_failed (Ok number) k l old new failed goes end moments keeps = absurd (cc)
+  closes_failed (Err fault) k l old new failed goes end moments keeps = record {
+    goes_on = goes;
+    alive = λ ok. absurd (cc);
+    answer = tt;
+    moments = moments;
+    keeps = keeps;
+    ends = λ _. ends_still (λ a. a) k l (log_sight k) (log_sight l) end moments;
+  }
+
+  -- it went well
+  pub closes_behind : (result : Result ℕ Failed) (k m : RunLog M ghosts) (n : BundleLog M ghosts) (old new : KeptBundles) → IsAlive k
+      → log_last m ≡ log_last k → Closes k m → RunGoesOn true k m → RunRecovers (λ a. a) k m → KeepsOn true (λ a. a) k old m new
+      → n.end ≡ log_end m → KeptGoesOn (is_ok result) m.log n → KeptRecovers m.log n → (is_ok result ≡ true → LeadsUpTo (kept_back n) n.end) → IfOk result (λ number. number ≡ log_end m) → ClosesRun result k old (record m { log = n }) new
+  closes_behind result k m n old new alive last closed goes recovers keeps end goes_on moments leads answer = record {
+    goes_on = goes_then _ _ _ _ _ _ goes goes_on;
+    alive = λ ok. closed_alive (record m { log = n }) (log_last k) (leads ok) (end ∙ closed.end) last closed.none_open;
+    answer = if_ok_same result (log_end m) (log_last k) closed.end answer;
+    moments = recovers_behind k m (log_sight k) (log_sight m) (kept_sight n) alive closed.end goes.sizes closed.follows recovers moments;
+    keeps = keeps_behind (is_ok result) k m n old new end goes_on.sizes keeps;
+    ends = λ _. ends_closed k m (record m { log = n }) (log_sight k) (log_sight m) (kept_sight n) end goes.sizes goes closed.follows moments;
+  }

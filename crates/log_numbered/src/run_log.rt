@@ -1,6 +1,6 @@
 //! The log of a run: records are appended to bundles, and these announced, and brought home.
 
-ghost use Rattle.std.specs.Prelude.{◌≡◌, ◌≤◌, IfOk, OnOk, false, is_ok, true};
+ghost use Rattle.std.specs.Prelude.{◌≡◌, ◌≤◌, OnOk, false, is_ok, true};
 ghost use Rattle.dude_base.specs.declared.limits.TheConstants.{MAX_NUMBER};
 ghost use Rattle.dude_base.specs.Sizes.{IsAccepted};
 ghost use Rattle.dude_base.specs.Writes.{IsWriteList};
@@ -27,7 +27,7 @@ impl<M: Medium> RunLog<M> {
     ghost use Rattle.back_store.specs.Back.{idle};
     ghost use Rattle.back_store.specs.BackView.{state_of};
     ghost use Rattle.log_numbered.specs.Arrays.{with_writes};
-    ghost use Rattle.log_numbered.specs.Keeping.{FailsFrom, KeepsOn};
+    ghost use Rattle.log_numbered.specs.Keeping.{ClosesRun, FailsFrom, KeepsOn};
     ghost use Rattle.log_numbered.specs.RunLog.{AnnouncesRun, AppendsRecord, CheckpointsRun, Closes, FollowsOpened, IsAlive, IsNextRecord, JoinsOpen, NoneJoins, RunGoesOn, RunRecovers, StartsOn, log_durable, log_end, log_last, log_medium};
 
     /// The log of a run that starts on a back where nothing waits and all up to this number is durable and in the home.
@@ -127,17 +127,11 @@ impl<M: Medium> RunLog<M> {
     }
 
     /// Persists the open bundle, announces the last number, and answers it.
-    #[tactic(auto, using(crate::proofs::GoingOn::if_ok_same))]
     pub fn announce(&mut self, kept: &mut KeptBundles) -> Result<u64, Failed>
         requires alive { IsAlive self.old }
         requires room { HasRoomToKeep kept.old }
-        ensures goes_on { RunGoesOn (is_ok result) self.old self.new }
-        ensures alive { is_ok result ≡ true → IsAlive self.new }
-        ensures answer { IfOk result (λ number. number ≡ log_last self.old) }
+        ensures closes { ClosesRun result self.old kept.old self.new kept.new }
         ensures announces { OnOk result (AnnouncesRun self.old self.new) }
-        ensures moments { RunRecovers (λ a. a) self.old self.new }
-        ensures keeps { KeepsOn (is_ok result) (λ a. a) self.old kept.old self.new kept.new }
-        ensures ends { FailsFrom (is_ok result) (λ a. a) self.old self.new }
     {
         self.close(kept)?;
         self.log.announce()
@@ -145,17 +139,11 @@ impl<M: Medium> RunLog<M> {
 
     /// Persists the open bundle, announces the last number, and reproduces all that waits: the home is then the last array.
     /// Answers the number.
-    #[tactic(auto, using(crate::proofs::GoingOn::if_ok_same))]
     pub fn checkpoint(&mut self, kept: &mut KeptBundles) -> Result<u64, Failed>
         requires alive { IsAlive self.old }
         requires room { HasRoomToKeep kept.old }
-        ensures goes_on { RunGoesOn (is_ok result) self.old self.new }
-        ensures alive { is_ok result ≡ true → IsAlive self.new }
-        ensures answer { IfOk result (λ number. number ≡ log_last self.old) }
+        ensures closes { ClosesRun result self.old kept.old self.new kept.new }
         ensures checkpoints { OnOk result (CheckpointsRun self.old self.new) }
-        ensures moments { RunRecovers (λ a. a) self.old self.new }
-        ensures keeps { KeepsOn (is_ok result) (λ a. a) self.old kept.old self.new kept.new }
-        ensures ends { FailsFrom (is_ok result) (λ a. a) self.old self.new }
     {
         self.close(kept)?;
         self.log.checkpoint()

@@ -107,30 +107,6 @@ impl Ring {
         self.next = slot_after(&self.place, slot, cells);
     }
 
-    // Appends a record where there is room.
-    fn lay<M: Medium>(&mut self, m: &mut M, b: &Bundle) -> Result<(), RingFault>
-        requires may { MayAppend self.old b.now }
-        requires room { image_words self.old.sizes ≤ (M.sight m.old).len }
-        ensures len { (M.sight m.new).len ≡ (M.sight m.old).len }
-        ensures calls { AppendsBehind self.old b.now result (M.sight m.old) (M.sight m.new) }
-        ensures cause { HasAppendCause self.old b.now result (M.sight m.old) (M.sight m.new) }
-        ensures untouched { IsOverfull self.old b.now → m.new ≡ m.old }
-        ensures ring { self.new ≡ (if is_ok result then with_record b.now self.old else self.old) }
-    {
-        let used = self.used();
-        let need = cells_of(b);
-        if used + need > self.place.sizes().cells {
-            return Err(RingFault::Full { used, need });
-        }
-        match append_record(m, &mut self.calls, &self.place, self.ring, self.next, b) {
-            Ok(()) => {
-                self.note(b);
-                Ok(())
-            }
-            Err(Failed) => Err(RingFault::Device),
-        }
-    }
-
     /// Appends a record behind the others: its body is made durable, and then its head's tag.
     ///
     /// After `Device` the ring is as before, and the medium may hold the record's head: append nothing more.
@@ -147,7 +123,18 @@ impl Ring {
         // The sizes are accepted, and a bundle's writes are few and distinct.
         let _kept = &self.place;
         let _count = b.len();
-        self.lay(m, b)
+        let used = self.used();
+        let need = cells_of(b);
+        if used + need > self.place.sizes().cells {
+            return Err(RingFault::Full { used, need });
+        }
+        match append_record(m, &mut self.calls, &self.place, self.ring, self.next, b) {
+            Ok(()) => {
+                self.note(b);
+                Ok(())
+            }
+            Err(Failed) => Err(RingFault::Device),
+        }
     }
 
     /// Frees the cells of the records numbered up to `reproduced`.

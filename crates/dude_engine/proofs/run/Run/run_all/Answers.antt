@@ -1,11 +1,11 @@
-use Rattle.std.proofs.Common.{◌≡◌, ◌∙◌, refl, sym, subst, rules, map, List, Err}
+use Rattle.std.proofs.Common.{◌≡◌, ◌∙◌, refl, sym, subst, rules, map, List, Ok, Err}
 use Rattle.tatp_model.specs.declared.done.Done.{Done}
 use Rattle.word_space.specs.Flats.{words_of}
 use Rattle.log_numbered.specs.KeptBundles.{kept_bundles}
 use Rattle.log_numbered.specs.RunLog.{log_durable, log_last, log_medium, log_parts}
 use Rattle.run_order.proofs.Rounds.{Rounds, rounds_collect, rounds_first, rounds_rounds, rounds_start}
 use Rattle.dude_engine.specs.declared.run_fault.RunFault.TheVariants.{Device, NoMemory}
-use Rattle.dude_engine.proofs.Keeping.{keeps_as, keeps_failed, keeps_reserved, kept_device, kept_from, kept_full, kept_memory, kept_same, kept_then}
+use Rattle.dude_engine.proofs.Keeping.{keeps_as, kept_closed, kept_failed, kept_from, kept_full, kept_memory, kept_over, kept_same, kept_served}
 use Rattle.dude_engine.proofs.Serving.{runs_by}
 use Rattle.dude_engine.proofs.Steps.{failed_same, fault_on_ok, left_failed, left_memory, performs_failed, running_as, running_settled, settled_run}
 use Rattle.dude_engine.proofs.run.Run.run_all.Goals as goal
@@ -17,19 +17,19 @@ returns-in_err-checkpoint-clause-left g c opening words s run =
     let runs = c.in_ok-serve_all.ensures.leaves.left opening words s (running_as (sym c.reserve_exact.ensures.items) run) in
     left_failed opening words c.from_residual-in_err-checkpoint.result _ s _ is
     (failed_same opening words served.lay served.log c.checkpoint.new.self (words_of served.words) served.done.items s (g.M.Medium.sight (log_medium served.log)) (g.M.Medium.sight (log_medium c.checkpoint.new.self))
-    c.in_ok-serve_all.ensures.leaves.ready.alive c.in_err-checkpoint.ensures.goes_on c.checkpoint.ensures.moments runs)
+    c.in_ok-serve_all.ensures.leaves.ready.alive c.in_err-checkpoint.ensures.closes.goes_on c.checkpoint.ensures.closes.moments runs)
 
 pub returns-clause-left : goal.returns-clause-left
 returns-clause-left g c opening words s run =
     let runs = c.in_ok-serve_all.ensures.leaves.left opening words s (running_as (sym c.reserve_exact.ensures.items) run) in
     let ok = c.in_ok-checkpoint.ensures in
-    running_settled opening words _ _ c.checkpoint.new.self _ _ s _ (g.M.Medium.sight (log_medium c.checkpoint.new.self)) ok.checkpoints.tells.durable ok.goes_on c.checkpoint.ensures.moments runs ok.checkpoints.tells.last ok.checkpoints.tells.follows
+    running_settled opening words _ _ c.checkpoint.new.self _ _ s _ (g.M.Medium.sight (log_medium c.checkpoint.new.self)) ok.checkpoints.tells.durable ok.closes.goes_on c.checkpoint.ensures.closes.moments runs ok.checkpoints.tells.last ok.checkpoints.tells.follows
 
 pub returns-clause-settled : goal.returns-clause-settled
 returns-clause-settled g c opening words s run =
     let runs = c.in_ok-serve_all.ensures.leaves.left opening words s (running_as (sym c.reserve_exact.ensures.items) run) in
     let ok = c.in_ok-checkpoint.ensures in
-    settled_run opening words _ _ c.checkpoint.new.self _ _ s _ (g.M.Medium.sight (log_medium c.checkpoint.new.self)) ok.checkpoints.tells.durable ok.goes_on c.checkpoint.ensures.moments runs ok.checkpoints.ends ok.checkpoints.tells.told
+    settled_run opening words _ _ c.checkpoint.new.self _ _ s _ (g.M.Medium.sight (log_medium c.checkpoint.new.self)) ok.checkpoints.tells.durable ok.closes.goes_on c.checkpoint.ensures.closes.moments runs ok.checkpoints.ends ok.checkpoints.tells.told
 
 pub returns-clause-calls : goal.returns-clause-calls
 returns-clause-calls g c =
@@ -91,44 +91,20 @@ returns-in_err-serve_all-clause-kept g c =
 
 pub returns-in_err-reserve-clause-kept : goal.returns-in_err-reserve-clause-kept
 returns-in_err-reserve-clause-kept g c =
-    let self = c.args.self.now in
-    let served = c.serve_all.new.self in
     let is : c.from_residual-in_err-reserve.result ≡ Err NoMemory = search rules in
-    kept_from self (record c.args.self.now { done = c.reserve_exact.new.self }) _ c.from_residual-in_err-reserve.result refl refl refl c.reserve_exact.ensures.items refl refl
-    (kept_then c.from_residual-in_err-reserve.result (record c.args.self.now { done = c.reserve_exact.new.self }) served _ c.in_ok-serve_all.ensures.leaves.left c.in_ok-serve_all.ensures.kept
-    (kept_full served c.reserve.new.self c.reserve.ensures.kept c.reserve.ensures.bundles c.from_residual-in_err-reserve.result is))
+    kept_served c.args.self.now (record c.args.self.now { done = c.reserve_exact.new.self }) c.serve_all.new.self _ c.from_residual-in_err-reserve.result refl refl refl c.reserve_exact.ensures.items refl refl c.in_ok-serve_all.ensures.leaves.left c.in_ok-serve_all.ensures.kept
+    (kept_full c.serve_all.new.self c.reserve.new.self c.reserve.ensures.kept c.reserve.ensures.bundles c.from_residual-in_err-reserve.result is)
 
 pub returns-in_err-checkpoint-clause-kept : goal.returns-in_err-checkpoint-clause-kept
 returns-in_err-checkpoint-clause-kept g c =
-    let served = c.serve_all.new.self in
     let is : c.from_residual-in_err-checkpoint.result ≡ Err Device = search rules in
-    let failed = c.in_err-checkpoint.ensures in
-    record {
-      kept = failed.keeps.kept ∙ c.reserve.ensures.kept ∙ c.in_ok-serve_all.ensures.kept.kept;
-      all = λ kept opening words s run keeps.
-          let start = keeps_as opening words (record c.args.self.now { done = c.reserve_exact.new.self }) c.args.self.now.log (words_of c.args.self.now.words) c.args.self.now.done.items (kept_bundles c.args.self.now.packets) keeps.arrays refl refl c.reserve_exact.ensures.items refl keeps.has keeps.opening_is keeps.keeps in
-          let runs = running_as (sym c.reserve_exact.ensures.items) run in
-          let now = keeps_reserved served c.reserve.new.self c.reserve.ensures.kept c.reserve.ensures.bundles opening words (c.in_ok-serve_all.ensures.kept.all kept opening words s runs start) in
-          let all = failed.keeps.all (c.reserve.ensures.kept ∙ c.in_ok-serve_all.ensures.kept.kept ∙ kept) now.arrays now.keeps in
-          kept_device opening words c.from_residual-in_err-checkpoint.result _ s _ is
-          (keeps_failed opening words _ served.log c.checkpoint.new.self (words_of served.words) (words_of served.words) served.done.items served.done.items (kept_bundles c.checkpoint.new.kept) (λ a. a) now.arrays served.lay
-          s (g.M.Medium.sight (log_medium served.log)) (g.M.Medium.sight (log_medium c.checkpoint.new.self)) (c.in_ok-serve_all.ensures.leaves.left opening words s runs) (λ a has. has)
-          (failed.ends refl) failed.goes_on.sizes refl refl refl now.has now.opening_is all);
-    }
+    kept_served c.args.self.now (record c.args.self.now { done = c.reserve_exact.new.self }) c.serve_all.new.self _ c.from_residual-in_err-checkpoint.result refl refl refl c.reserve_exact.ensures.items refl refl c.in_ok-serve_all.ensures.leaves.left c.in_ok-serve_all.ensures.kept
+    (kept_over c.serve_all.new.self c.reserve.new.self c.reserve.ensures.kept c.reserve.ensures.bundles c.from_residual-in_err-checkpoint.result _ (kept_failed _ (record c.serve_all.new.self { packets = c.reserve.new.self }) c.checkpoint.new.self c.checkpoint.new.kept is c.in_err-checkpoint.ensures.closes))
 
 pub returns-clause-kept : goal.returns-clause-kept
 returns-clause-kept g c =
-    let served = c.serve_all.new.self in
-    let ok = c.in_ok-checkpoint.ensures in
-    record {
-      kept = ok.keeps.kept ∙ c.reserve.ensures.kept ∙ c.in_ok-serve_all.ensures.kept.kept;
-      all = λ kept opening words s run keeps.
-          let start = keeps_as opening words (record c.args.self.now { done = c.reserve_exact.new.self }) c.args.self.now.log (words_of c.args.self.now.words) c.args.self.now.done.items (kept_bundles c.args.self.now.packets) keeps.arrays refl refl c.reserve_exact.ensures.items refl keeps.has keeps.opening_is keeps.keeps in
-          let runs = running_as (sym c.reserve_exact.ensures.items) run in
-          let now = keeps_reserved served c.reserve.new.self c.reserve.ensures.kept c.reserve.ensures.bundles opening words (c.in_ok-serve_all.ensures.kept.all kept opening words s runs start) in
-          keeps_as opening words _ c.checkpoint.new.self (words_of served.words) served.done.items (kept_bundles c.checkpoint.new.kept) now.arrays refl refl refl refl now.has now.opening_is
-          (ok.keeps.all (c.reserve.ensures.kept ∙ c.in_ok-serve_all.ensures.kept.kept ∙ kept) now.arrays now.keeps);
-    }
+    kept_served c.args.self.now (record c.args.self.now { done = c.reserve_exact.new.self }) c.serve_all.new.self _ (Ok tt) refl refl refl c.reserve_exact.ensures.items refl refl c.in_ok-serve_all.ensures.leaves.left c.in_ok-serve_all.ensures.kept
+    (kept_over c.serve_all.new.self c.reserve.new.self c.reserve.ensures.kept c.reserve.ensures.bundles (Ok tt) _ (kept_closed (record c.serve_all.new.self { packets = c.reserve.new.self }) c.checkpoint.new.self c.checkpoint.new.kept c.in_ok-checkpoint.ensures.closes))
 
 pub returns-clause-end : goal.returns-clause-end
 returns-clause-end g c = c.in_ok-checkpoint.ensures.checkpoints.tells.end ∙ sym c.in_ok-checkpoint.ensures.checkpoints.tells.durable
